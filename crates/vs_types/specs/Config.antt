@@ -1,0 +1,29 @@
+-- What a configuration is, and what is wrong with numbers that are none.
+use Rattle.std.specs.Prelude.{ℕ, ◌<◌, ◌≤◌, ◌||◌, nat_lt, Option, Some, None, if◌then◌else◌}
+use Rattle.vs_types.specs.declared.depth.Depth.{Depth}
+use Rattle.vs_types.specs.declared.config.BadConfig.{BadConfig}
+use Rattle.vs_types.specs.declared.config.BadConfig.TheVariants.{Replicas, Threads, Tables}
+
+-- the parts of a configuration
+pub record Layout : Type 0 where
+  pub depth : Depth
+  pub replicas : ℕ
+  pub threads : ℕ
+  pub tables : ℕ
+
+-- 1 to 4 replicas, 1 to 64 threads, 1 to 4,096 tables for each replica
+pub record IsLayout (layout : Layout) : Type 0 where
+  pub some_replica : 1 ≤ layout.replicas
+  pub few_replicas : layout.replicas ≤ 4
+  pub some_thread : 1 ≤ layout.threads
+  pub few_threads : layout.threads ≤ 64
+  pub some_table : 1 ≤ layout.tables
+  pub few_tables : layout.tables ≤ 4096
+
+-- the first part that is out of its range
+abbrev pub config_fault : Layout → Option BadConfig
+config_fault layout =
+    if nat_lt layout.replicas 1 || nat_lt 4 layout.replicas then Some Replicas
+    else if nat_lt layout.threads 1 || nat_lt 64 layout.threads then Some Threads
+    else if nat_lt layout.tables 1 || nat_lt 4096 layout.tables then Some Tables
+    else None

@@ -1,0 +1,44 @@
+-- What a page-table entry means (Intel SDM volume 3A, chapter "Paging": formats of paging-structure entries in 4-level
+-- paging). CR0.WP = 1, EFER.NXE = 1; SMEP, SMAP and protection keys are off; physical addresses have 52 bits.
+use Rattle.std.specs.Prelude.{ℕ, suc, zero, ◌+◌, ◌*◌, ◌/◌, ◌%◌, ◌^◌, Bool, not, ◌||◌, ◌&&◌, ◌==◌, nat_le, if◌then◌else◌}
+use Rattle.std.specs.Int.{bit_at}
+use Rattle.vs_types.specs.Depth.{entry_bytes}
+use Rattle.vs_types.specs.declared.page.Rights.{Rights}
+use Rattle.vs_types.specs.declared.page.Size.{Size}
+use Rattle.vs_types.specs.declared.page.Size.TheVariants.{K4, M2, G1}
+use Rattle.vs_types.specs.declared.entry.Meaning.{Meaning}
+use Rattle.vs_types.specs.declared.entry.Meaning.TheVariants.{Absent, Reserved, Table, Leaf}
+
+abbrev is_set : ℕ → ℕ → Bool
+is_set word bit = bit_at word bit == 1
+
+-- bit 1 allows writes, bit 2 user accesses, and bit 63 forbids fetches
+abbrev pub rights_of : ℕ → Rights
+rights_of word = record { write = is_set word 1; user = is_set word 2; exec = not (is_set word 63) }
+
+-- whether a present word maps a page: in a page table always, at the two levels above where bit 7 is set
+abbrev is_leaf : ℕ → ℕ → Bool
+is_leaf level word = (level == 1) || (nat_le level 3 && is_set word 7)
+
+-- whether a present word has a reserved bit set: in a page one between bit 12, which is ignored, and the address; else bit 7
+abbrev has_reserved : ℕ → ℕ → Bool
+has_reserved level word = if is_leaf level word then not (word % entry_bytes level / 2 ^ 13 == 0) else is_set word 7
+
+-- the physical address in a word: its bits below 52, from those of a multiple of this size on
+abbrev address_in : ℕ → ℕ → ℕ
+address_in bytes word = word % 2 ^ 52 / bytes * bytes
+
+-- what a word means as an entry of a table of this level
+abbrev pub meaning : ℕ → ℕ → Meaning
+meaning level word =
+    if not (is_set word 0) then Absent
+    else if has_reserved level word then Reserved
+    else if is_leaf level word then Leaf (address_in (entry_bytes level) word) (rights_of word)
+    else Table (word % 2 ^ 52 / 2 ^ 12) (rights_of word)
+
+-- the size of the pages that entries of this level map
+abbrev pub size_at : ℕ → Size
+size_at zero = K4
+size_at (suc zero) = K4
+size_at (suc (suc zero)) = M2
+size_at (suc (suc (suc level))) = G1

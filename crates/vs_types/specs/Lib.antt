@@ -1,0 +1,9 @@
+pub mod Depth
+pub mod Faults
+pub mod Config
+pub mod Page
+pub mod Operation
+pub mod Query
+pub mod Space
+pub mod Step
+pub mod Entry

@@ -1,0 +1,18 @@
+-- Requests: which are well formed, and the first thing that is wrong with one.
+use Rattle.std.specs.Prelude.{not, Option, Some, None, if◌then◌else◌}
+use Rattle.vs_types.specs.Depth.{is_canonical, IsCanonical}
+use Rattle.vs_types.specs.Operation.{IsAction, action_fault}
+use Rattle.vs_types.specs.declared.depth.Depth.{Depth}
+use Rattle.vs_types.specs.declared.request.Query.{Query}
+use Rattle.vs_types.specs.declared.request.Query.TheVariants.{Update, Resolve}
+use Rattle.vs_types.specs.declared.op.BadOp.{BadOp}
+use Rattle.vs_types.specs.declared.op.BadOp.TheVariants.{NotCanonical}
+
+-- a well-formed request
+abbrev pub IsQuery : Depth → Query → Type 0
+IsQuery depth (Update action) = IsAction depth action
+IsQuery depth (Resolve address) = IsCanonical depth address
+
+abbrev pub query_fault : Depth → Query → Option BadOp
+query_fault depth (Update action) = action_fault depth action
+query_fault depth (Resolve address) = if not (is_canonical depth address) then Some NotCanonical else None

@@ -1,0 +1,93 @@
+ghost use Rattle.std.specs.Prelude.{◌≡◌};
+
+use crate::depth::Depth;
+use std::marker::Model;
+
+/// Why numbers make no configuration.
+#[derive(Clone, Copy, Debug, PartialEq, Eq)]
+pub enum BadConfig {
+    /// The replicas are not 1 to 4.
+    Replicas,
+    /// The threads are not 1 to 64.
+    Threads,
+    /// The tables are not 1 to 4,096.
+    Tables,
+}
+
+/// How a service is laid out: its depth, replicas, threads, and tables for each replica.
+#[derive(Clone, Copy, Debug, PartialEq, Eq)]
+pub struct Config {
+    depth: Depth,
+    replicas: u8,
+    threads: u16,
+    tables: u16,
+}
+
+impl Model for Config {
+    ghost use Rattle.vs_types.specs.Config.{Layout, IsLayout};
+
+    ghost Value = { Layout };
+
+    ghost view = { λ c. record { depth = c.depth; replicas = c.replicas; threads = c.threads; tables = c.tables } };
+
+    ghost invariant = { λ c. IsLayout (record { depth = c.depth; replicas = c.replicas; threads = c.threads; tables = c.tables }) };
+
+    ghost inverse = { λ l. record { depth = l.depth; replicas = l.replicas; threads = l.threads; tables = l.tables } };
+}
+
+impl Config {
+    ghost use Rattle.vs_types.specs.Config.{Layout, IsLayout, config_fault};
+    ghost use Rattle.vs_types.specs.Faults.{GivesUnless};
+
+    /// A configuration, or the first number that is out of its range.
+    pub fn new(depth: Depth, replicas: u8, threads: u16, tables: u16) -> Result<Config, BadConfig>
+        ensures { let layout : Layout = record { depth = depth; replicas = replicas; threads = threads; tables = tables } in
+            GivesUnless (config_fault layout) layout result }
+    {
+        if replicas < 1 || replicas > 4 {
+            return Err(BadConfig::Replicas);
+        }
+        if threads < 1 || threads > 64 {
+            return Err(BadConfig::Threads);
+        }
+        if tables < 1 || tables > 4096 {
+            return Err(BadConfig::Tables);
+        }
+        Ok(Config {
+            depth,
+            replicas,
+            threads,
+            tables,
+        })
+    }
+
+    pub fn depth(self) -> Depth
+        ensures { result ≡ self.depth }
+    {
+        self.depth
+    }
+
+    /// 1 to 4.
+    pub fn replicas(self) -> u8
+        ensures reads { result ≡ self.replicas }
+        ensures in_range { IsLayout self }
+    {
+        self.replicas
+    }
+
+    /// 1 to 64.
+    pub fn threads(self) -> u16
+        ensures reads { result ≡ self.threads }
+        ensures in_range { IsLayout self }
+    {
+        self.threads
+    }
+
+    /// 1 to 4,096, for each replica.
+    pub fn tables(self) -> u16
+        ensures reads { result ≡ self.tables }
+        ensures in_range { IsLayout self }
+    {
+        self.tables
+    }
+}

@@ -1,0 +1,45 @@
+ghost use Rattle.std.specs.Prelude.{◌≡◌, ◌↔◌, IsTrue};
+
+use crate::op::BadOp;
+
+/// How many levels of tables a translation goes through (Intel SDM volume 3A, chapter "Paging").
+#[derive(Clone, Copy, Debug, PartialEq, Eq)]
+pub enum Depth {
+    /// 4-level paging: 48 bits of an address are translated.
+    Four,
+}
+
+impl Depth {
+    ghost use Rattle.vs_types.specs.Depth.{levels, is_canonical};
+    ghost use Rattle.vs_types.specs.Operation.{base_fault};
+    ghost use Rattle.vs_types.specs.Faults.{GivesUnless};
+
+    /// The number of levels; the root is a table of the highest.
+    pub fn levels(self) -> u8
+        ensures { result ≡ levels self }
+    {
+        match self {
+            Depth::Four => 4,
+        }
+    }
+
+    /// Whether all bits of an address above the translated ones equal the highest translated one.
+    pub fn is_canonical(self, address: u64) -> bool
+        ensures { result ≡ is_canonical self address }
+    {
+        let half = 1u64 << (11 + 9 * self.levels());
+        address < half || address >= u64::MAX - half + 1
+    }
+
+    pub(crate) fn test_base(self, base: u64) -> Result<(), BadOp>
+        ensures { GivesUnless (base_fault self base) record {} result }
+    {
+        if !self.is_canonical(base) {
+            return Err(BadOp::NotCanonical);
+        }
+        if base % 4096 != 0 {
+            return Err(BadOp::Unaligned);
+        }
+        Ok(())
+    }
+}

@@ -1,0 +1,22 @@
+//! The words of an address space: pages, operations, requests and answers, and what a page-table entry means.
+//!
+//! Numbers are bytes unless a name says otherwise. No call of this crate takes memory or waits.
+#![tactic(auto)]
+
+mod answer;
+mod config;
+mod depth;
+mod entry;
+mod op;
+mod page;
+mod refusal;
+mod request;
+
+pub use answer::Answer;
+pub use config::{BadConfig, Config};
+pub use depth::Depth;
+pub use entry::Meaning;
+pub use op::{Action, BadOp, Op};
+pub use page::{Page, Rights, Size};
+pub use refusal::{Fail, Memory};
+pub use request::{Query, Request};

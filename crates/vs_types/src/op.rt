@@ -1,0 +1,117 @@
+ghost use Rattle.std.specs.Prelude.{◌≡◌};
+
+use crate::depth::Depth;
+use crate::page::{Page, Rights, Size};
+use std::marker::Model;
+
+/// Why an address or a page makes no operation: the first reason that holds.
+#[derive(Clone, Copy, Debug, PartialEq, Eq)]
+pub enum BadOp {
+    /// The address is not canonical.
+    NotCanonical,
+    /// A map's base is no multiple of its size, or another base none of 4,096.
+    Unaligned,
+    /// A map's physical address is no multiple of its size.
+    PhysUnaligned,
+    /// A map's page does not lie below physical 2^51.
+    PhysRange,
+}
+
+/// What an operation does to a space.
+#[derive(Clone, Copy, Debug, PartialEq, Eq)]
+pub enum Action {
+    /// Adds a page.
+    Map(Page),
+    /// Removes the page that begins at this address.
+    Unmap(u64),
+    /// Gives the page that begins at this address these rights.
+    Protect(u64, Rights),
+}
+
+/// A well-formed operation. Contracts see its action.
+#[derive(Clone, Copy, Debug, PartialEq, Eq)]
+pub struct Op {
+    action: Action,
+}
+
+impl Model for Op {
+    ghost use Rattle.vs_types.specs.declared.op.Action.{Action};
+    ghost use Rattle.vs_types.specs.declared.depth.Depth.TheVariants.{Four};
+    ghost use Rattle.vs_types.specs.Operation.{IsAction};
+
+    ghost Value = { Action };
+
+    ghost view = { λ o. o.action };
+
+    ghost invariant = { λ o. IsAction Four o.action };
+
+    ghost inverse = { λ a. record { action = a } };
+}
+
+impl Op {
+    ghost use Rattle.vs_types.specs.declared.depth.Depth.TheVariants.{Four};
+    ghost use Rattle.vs_types.specs.declared.page.Page.{Page};
+    ghost use Rattle.vs_types.specs.Operation.{IsAction, action_fault};
+    ghost use Rattle.vs_types.specs.Faults.{GivesUnless};
+
+    /// Maps the page at `base` to the physical address `phys`.
+    pub fn map(
+        depth: Depth,
+        base: u64,
+        size: Size,
+        phys: u64,
+        rights: Rights,
+    ) -> Result<Op, BadOp>
+        ensures { let page : Page = record { base = base; size = size; phys = phys; rights = rights } in
+            GivesUnless (action_fault depth (Action.Map page)) (Action.Map page) result }
+    {
+        if !depth.is_canonical(base) {
+            return Err(BadOp::NotCanonical);
+        }
+        if base % size.bytes() != 0 {
+            return Err(BadOp::Unaligned);
+        }
+        if phys % size.bytes() != 0 {
+            return Err(BadOp::PhysUnaligned);
+        }
+        if phys > Page::PHYS_END - size.bytes() {
+            return Err(BadOp::PhysRange);
+        }
+        Ok(Op {
+            action: Action::Map(Page {
+                base,
+                size,
+                phys,
+                rights,
+            }),
+        })
+    }
+
+    /// Removes the page that begins at `base`.
+    pub fn unmap(depth: Depth, base: u64) -> Result<Op, BadOp>
+        ensures { GivesUnless (action_fault depth (Action.Unmap base)) (Action.Unmap base) result }
+    {
+        depth.test_base(base)?;
+        Ok(Op {
+            action: Action::Unmap(base),
+        })
+    }
+
+    /// Gives the page that begins at `base` these rights and no others.
+    pub fn protect(depth: Depth, base: u64, rights: Rights) -> Result<Op, BadOp>
+        ensures { GivesUnless (action_fault depth (Action.Protect base rights)) (Action.Protect base rights) result }
+    {
+        depth.test_base(base)?;
+        Ok(Op {
+            action: Action::Protect(base, rights),
+        })
+    }
+
+    /// What it does.
+    pub fn action(self) -> Action
+        ensures reads { result ≡ self }
+        ensures well_formed { IsAction Four self }
+    {
+        self.action
+    }
+}

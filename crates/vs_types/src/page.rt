@@ -1,0 +1,65 @@
+ghost use Rattle.std.specs.Prelude.{◌≡◌};
+
+/// How many bytes a page has.
+#[derive(Clone, Copy, Debug, PartialEq, Eq)]
+pub enum Size {
+    /// 4,096 bytes.
+    K4,
+    /// 2,097,152 bytes.
+    M2,
+    /// 1,073,741,824 bytes.
+    G1,
+}
+
+/// What may be done at an address beside a supervisor's read, which is always allowed.
+#[derive(Clone, Copy, Debug, PartialEq, Eq)]
+pub struct Rights {
+    /// A write.
+    pub write: bool,
+    /// An access in user mode.
+    pub user: bool,
+    /// An instruction fetch.
+    pub exec: bool,
+}
+
+/// A run of addresses that is translated as one.
+#[derive(Clone, Copy, Debug, PartialEq, Eq)]
+pub struct Page {
+    /// The first address.
+    pub base: u64,
+    pub size: Size,
+    /// The physical address to which the first address is translated.
+    pub phys: u64,
+    pub rights: Rights,
+}
+
+impl Size {
+    ghost use Rattle.vs_types.specs.Page.{level_of, bytes_of};
+
+    /// 4,096, 2,097,152 or 1,073,741,824.
+    pub fn bytes(self) -> u64
+        ensures { result ≡ bytes_of self }
+    {
+        match self {
+            Size::K4 => 1 << 12,
+            Size::M2 => 1 << 21,
+            Size::G1 => 1 << 30,
+        }
+    }
+
+    /// The level of the tables that have the entries of such pages: 1 to 3.
+    pub fn level(self) -> u8
+        ensures { result ≡ level_of self }
+    {
+        match self {
+            Size::K4 => 1,
+            Size::M2 => 2,
+            Size::G1 => 3,
+        }
+    }
+}
+
+impl Page {
+    /// The first physical address that no page may have.
+    pub const PHYS_END: u64 = 1 << 51;
+}

@@ -1,0 +1,53 @@
+ghost use Rattle.std.specs.Prelude.{◌≡◌};
+ghost use Rattle.vs_types.specs.declared.refusal.Fail.TheVariants as fails;
+
+use std::alloc::{AllocError, AllocFailed};
+
+/// A growth of memory was refused.
+#[derive(Clone, Copy, Debug, PartialEq, Eq)]
+pub struct Memory;
+
+impl From<AllocError> for Memory {
+    fn from(_error: AllocError) -> Memory {
+        Memory
+    }
+}
+
+impl<T: Drop> From<AllocFailed<T>> for Memory {
+    fn from(_error: AllocFailed<T>) -> Memory {
+        Memory
+    }
+}
+
+/// Why a call that takes memory gave no answer.
+#[derive(Clone, Copy, Debug, PartialEq, Eq)]
+pub enum Fail<E> {
+    /// A growth of memory was refused. It may come before any other refusal.
+    Memory,
+    /// A refusal of the call's own.
+    Refused(E),
+}
+
+impl<E> From<Memory> for Fail<E> {
+    ghost from_gives = { λ _ fail. fail ≡ fails.Memory };
+
+    fn from(_error: Memory) -> Fail<E> {
+        Fail::Memory
+    }
+}
+
+impl<E> From<AllocError> for Fail<E> {
+    ghost from_gives = { λ _ fail. fail ≡ fails.Memory };
+
+    fn from(_error: AllocError) -> Fail<E> {
+        Fail::Memory
+    }
+}
+
+impl<T: Drop, E> From<AllocFailed<T>> for Fail<E> {
+    ghost from_gives = { λ _ fail. fail ≡ fails.Memory };
+
+    fn from(_error: AllocFailed<T>) -> Fail<E> {
+        Fail::Memory
+    }
+}
