@@ -55,13 +55,7 @@ impl Op {
     ghost use Rattle.vs_types.specs.Faults.{GivesUnless};
 
     /// Maps the page at `base` to the physical address `phys`.
-    pub fn map(
-        depth: Depth,
-        base: u64,
-        size: Size,
-        phys: u64,
-        rights: Rights,
-    ) -> Result<Op, BadOp>
+    pub fn map(depth: Depth, base: u64, size: Size, phys: u64, rights: Rights) -> Result<Op, BadOp>
         ensures { let page : Page = record { base = base; size = size; phys = phys; rights = rights } in
             GivesUnless (action_fault depth (Action.Map page)) (Action.Map page) result }
     {

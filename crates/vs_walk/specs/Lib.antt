@@ -1,0 +1,9 @@
+pub mod Memory
+pub mod Walk
+pub mod Traversal
+pub mod Dump
+pub use Rattle.vs_types.specs.Depth
+pub use Rattle.vs_types.specs.Page
+pub use Rattle.vs_types.specs.Space
+pub use Rattle.vs_types.specs.Step
+pub use Rattle.vs_types.specs.Entry
