@@ -1,0 +1,79 @@
+-- The calls of a trace: what they ask, how they are answered, and which was answered before another was made.
+use Rattle.std.specs.Prelude.{ℕ, ◌<◌, ◌==◌, slice_get, filter_map, Option, Some, None, option_and_then, IsSome, if◌then◌else◌}
+use Rattle.vs_types.specs.declared.answer.Answer.{Answer}
+use Rattle.vs_types.specs.declared.op.Action.{Action}
+use Rattle.vs_types.specs.declared.request.Query.{Query}
+use Rattle.vs_types.specs.declared.request.Query.TheVariants.{Update, Resolve}
+use Rattle.nr_trace.specs.Recording.{Recording}
+use Rattle.nr_trace.specs.declared.event.Event.{Event}
+use Rattle.nr_trace.specs.declared.event.Event.TheVariants.{Call, Reply}
+
+-- who makes a call, where, and what it asks
+pub record Made : Type 0 where
+  pub replica : ℕ
+  pub thread : ℕ
+  pub request : Query
+
+abbrev pub made_by : Event → Option Made
+made_by (Call replica thread request) = Some (record { replica = replica; thread = thread; request = request })
+made_by (Reply call at answer) = None
+
+-- the call of this number
+abbrev pub call_of : Recording → ℕ → Option Made
+call_of trace call = option_and_then made_by (slice_get trace.events call)
+
+abbrev pub operation_in : Query → Option Action
+operation_in (Update action) = Some action
+operation_in (Resolve address) = None
+
+abbrev pub address_in : Query → Option ℕ
+address_in (Update action) = None
+address_in (Resolve address) = Some address
+
+-- the operation of an update, and the address of a read
+abbrev pub operation_of : Recording → ℕ → Option Action
+operation_of trace call = option_and_then (λ made. operation_in made.request) (call_of trace call)
+
+abbrev pub address_of : Recording → ℕ → Option ℕ
+address_of trace call = option_and_then (λ made. address_in made.request) (call_of trace call)
+
+abbrev pub IsCall : Recording → ℕ → Type 0
+IsCall trace call = IsSome (call_of trace call)
+
+abbrev pub IsUpdate : Recording → ℕ → Type 0
+IsUpdate trace call = IsSome (operation_of trace call)
+
+abbrev pub IsRead : Recording → ℕ → Type 0
+IsRead trace call = IsSome (address_of trace call)
+
+-- what a reply says of its call
+pub record Answered : Type 0 where
+  pub call : ℕ
+  pub at : ℕ
+  pub answer : Answer
+
+abbrev pub reply_in : Event → Option Answered
+reply_in (Call replica thread request) = None
+reply_in (Reply call at answer) = Some (record { call = call; at = at; answer = answer })
+
+-- the reply that the event of this index is
+abbrev pub reply_of : Recording → ℕ → Option Answered
+reply_of trace index = option_and_then reply_in (slice_get trace.events index)
+
+abbrev names : ℕ → Answered → Option Answered
+names call reply = if reply.call == call then Some reply else None
+
+-- the first reply to a call
+abbrev pub reply_to : Recording → ℕ → Option Answered
+reply_to trace call = slice_get (filter_map (λ event. option_and_then (names call) (reply_in event)) trace.events) 0
+
+abbrev pub IsAnswered : Recording → ℕ → Type 0
+IsAnswered trace call = IsSome (reply_to trace call)
+
+-- the event of this index is a reply to the call
+abbrev pub Answers : Recording → ℕ → ℕ → Type 0
+Answers trace index call = IsSome (option_and_then (names call) (reply_of trace index))
+
+-- a reply to the first call stands before the second call is made
+abbrev pub Precedes : Recording → ℕ → ℕ → Type 0
+Precedes trace first second = IsCall trace second × (index : ℕ) × (index < second) × Answers trace index first

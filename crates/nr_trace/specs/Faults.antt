@@ -1,0 +1,138 @@
+-- The faults of a trace, as statements, and which comes first.
+use Rattle.std.specs.Prelude.{◌≡◌, ◌≢◌, ℕ, ◌<◌, ◌⊎◌, List, [], ◌∷◌, length, take, slice_get, Contains, Some, IsSome}
+use Rattle.std.specs.FinMap as finite
+use Rattle.std.specs.Ordering.{nat_cmp}
+use Rattle.std.specs.Cmp.Lexicographic.{slice_cmp}
+use Rattle.std.specs.declared.cmp.Ordering.TheVariants.{Less}
+use Rattle.vs_types.specs.Depth.{IsCanonical}
+use Rattle.vs_types.specs.Step.{look}
+use Rattle.vs_walk.specs.Walk.{walk, as_walk}
+use Rattle.vs_walk.specs.Traversal.{moves, reached, walk_fault}
+use Rattle.vs_walk.specs.Dump.{Image}
+use Rattle.vs_walk.specs.declared.walk.WalkFault.TheVariants as walks
+use Rattle.nr_trace.specs.Recording.{Recording}
+use Rattle.nr_trace.specs.Spelling.{Spells}
+use Rattle.nr_trace.specs.FirstFault.{HasFormatFault}
+use Rattle.nr_trace.specs.Calls.{Made, call_of, Answered, reply_of, reply_to, Answers, IsCall, IsUpdate, IsRead}
+use Rattle.nr_trace.specs.Orders.{before, space_after, answer_in, recorded_order, floor, known_by}
+use Rattle.nr_trace.specs.declared.fault.Fault.{Fault}
+use Rattle.nr_trace.specs.declared.fault.Fault.TheVariants.{Format, ThreadOpen, NoSuchCall, AnsweredTwice, NotAnUpdate, PlacedTwice, NotPlaced, PastLog, Early, WrongAnswer, PrefixPastLog, PrefixShort, MissingFrame, SharedFrame, ReservedBit, StrayFrame, Differs}
+
+-- the event is a call of a thread that has an earlier call with no reply before the event
+pub record OpensTwice (trace : Recording) (index : ℕ) : Type 0 where
+  pub made : Made
+  pub is_made : call_of trace index ≡ Some made
+  pub earlier : ℕ
+  pub earlier_made : Made
+  pub is_earlier : earlier < index
+  pub is_earlier_made : call_of trace earlier ≡ Some earlier_made
+  pub same_thread : earlier_made.thread ≡ made.thread
+  pub not_answered : (reply : ℕ) → reply < index → Answers trace reply earlier → ⊥
+
+-- the event is a reply, and what it says has the property
+abbrev pub IsReplyWith : Recording → ℕ → (Answered → Type 0) → Type 0
+IsReplyWith trace index P = (reply : Answered) × (reply_of trace index ≡ Some reply) × P reply
+
+-- the log has at the place a call with the property
+abbrev pub HasPlaced : Recording → ℕ → (ℕ → Type 0) → Type 0
+HasPlaced trace place P = (call : ℕ) × (slice_get trace.log place ≡ Some call) × P call
+
+-- the call stands in the recorded order behind this many entries: an update, answered or not, or an answered read
+abbrev pub StandsBehind : Recording → ℕ → ℕ → Type 0
+StandsBehind trace call entries =
+    (IsUpdate trace call × (slice_get trace.log entries ≡ Some call))
+    ⊎ (IsRead trace call × (reply : Answered) × (reply_to trace call ≡ Some reply) × (reply.at ≡ entries))
+
+-- an answered call whose answer the space does not give in the recorded order
+pub record IsWrong (trace : Recording) (call : ℕ) : Type 0 where
+  pub made : Made
+  pub is_made : call_of trace call ≡ Some made
+  pub reply : Answered
+  pub is_reply : reply_to trace call ≡ Some reply
+  pub differs : reply.answer ≢ answer_in trace.layout (space_after trace (before call (recorded_order trace))) made.request
+
+-- a reply to a call made at the replica, by which more entries are known than the dump has applied
+pub record RestsOnMore (trace : Recording) (replica : ℕ) (dump : Image) : Type 0 where
+  pub index : ℕ
+  pub reply : Answered
+  pub is_reply : reply_of trace index ≡ Some reply
+  pub made : Made
+  pub is_made : call_of trace reply.call ≡ Some made
+  pub here : made.replica ≡ replica
+  pub more : dump.applied < known_by trace reply
+
+-- the replica has a dump with the property
+abbrev pub HasDump : Recording → ℕ → (Image → Type 0) → Type 0
+HasDump trace replica P = (dump : Image) × (slice_get trace.dumps replica ≡ Some dump) × P dump
+
+-- the dump has the frame, and the way through its tables does not reach it
+abbrev pub IsStray : Recording → Image → ℕ → Type 0
+IsStray trace dump number = IsSome (finite.get dump.frames number) × (Contains (reached (moves trace.layout.depth dump.frames dump.root)) number → ⊥)
+
+-- the dump translates the address not as the space after the first places of the log, as many as it has applied
+abbrev pub TranslatesOtherwise : Recording → Image → ℕ → Type 0
+TranslatesOtherwise trace dump address =
+    IsCanonical trace.layout.depth address
+    × (walk trace.layout.depth dump.frames dump.root address ≢ as_walk (look (space_after trace (take dump.applied trace.log)) address))
+
+-- the least number with the property
+abbrev pub IsLeast : (ℕ → Type 0) → ℕ → Type 0
+IsLeast P n = P n × ((other : ℕ) → other < n → P other → ⊥)
+
+-- what each fault but that of the format says of a trace
+abbrev pub Holds : Recording → Fault → Type 0
+Holds trace (Format fault) = ⊥
+Holds trace (ThreadOpen index) = OpensTwice trace index
+Holds trace (NoSuchCall index) = IsReplyWith trace index (λ reply. (reply.call < index) × IsCall trace reply.call → ⊥)
+Holds trace (AnsweredTwice index) = IsReplyWith trace index (λ reply. (earlier : ℕ) × (earlier < index) × Answers trace earlier reply.call)
+Holds trace (NotAnUpdate place) = HasPlaced trace place (λ call. IsUpdate trace call → ⊥)
+Holds trace (PlacedTwice place) = HasPlaced trace place (λ call. (earlier : ℕ) × (earlier < place) × (slice_get trace.log earlier ≡ Some call))
+Holds trace (NotPlaced index) = IsReplyWith trace index (λ reply. IsUpdate trace reply.call × (slice_get trace.log reply.at ≢ Some reply.call))
+Holds trace (PastLog index) = IsReplyWith trace index (λ reply. IsRead trace reply.call × (length trace.log < reply.at))
+Holds trace (Early call) = (entries : ℕ) × StandsBehind trace call entries × (entries < floor trace call)
+Holds trace (WrongAnswer call) = IsWrong trace call
+Holds trace (PrefixPastLog replica) = HasDump trace replica (λ dump. length trace.log < dump.applied)
+Holds trace (PrefixShort replica) = HasDump trace replica (RestsOnMore trace replica)
+Holds trace (MissingFrame replica number) = HasDump trace replica (λ dump. walk_fault trace.layout.depth dump.frames dump.root ≡ Some (walks.Missing number))
+Holds trace (SharedFrame replica number) = HasDump trace replica (λ dump. walk_fault trace.layout.depth dump.frames dump.root ≡ Some (walks.Shared number))
+Holds trace (ReservedBit replica number index) = HasDump trace replica (λ dump. walk_fault trace.layout.depth dump.frames dump.root ≡ Some (walks.Reserved number index))
+Holds trace (StrayFrame replica number) = HasDump trace replica (λ dump. IsLeast (IsStray trace dump) number)
+Holds trace (Differs replica address) = HasDump trace replica (λ dump. IsLeast (TranslatesOtherwise trace dump) address)
+
+-- what each fault says of bytes
+abbrev pub HoldsOf : List ℕ → Fault → Type 0
+HoldsOf bytes (Format fault) = HasFormatFault bytes fault
+HoldsOf bytes fault = (trace : Recording) × Spells bytes trace × Holds trace fault
+
+-- where a fault stands: its pass, then its index in that pass, then its number. Answers are compared in the recorded order
+abbrev pub rank : Recording → Fault → List ℕ
+rank trace (Format fault) = 1 ∷ 0 ∷ 1 ∷ []
+rank trace (ThreadOpen index) = 2 ∷ index ∷ 2 ∷ []
+rank trace (NoSuchCall index) = 2 ∷ index ∷ 3 ∷ []
+rank trace (AnsweredTwice index) = 2 ∷ index ∷ 4 ∷ []
+rank trace (NotAnUpdate place) = 3 ∷ place ∷ 5 ∷ []
+rank trace (PlacedTwice place) = 3 ∷ place ∷ 6 ∷ []
+rank trace (NotPlaced index) = 4 ∷ index ∷ 7 ∷ []
+rank trace (PastLog index) = 4 ∷ index ∷ 8 ∷ []
+rank trace (Early call) = 5 ∷ call ∷ 9 ∷ []
+rank trace (WrongAnswer call) = 6 ∷ length (before call (recorded_order trace)) ∷ 10 ∷ []
+rank trace (PrefixPastLog replica) = 7 ∷ replica ∷ 11 ∷ []
+rank trace (PrefixShort replica) = 7 ∷ replica ∷ 12 ∷ []
+rank trace (MissingFrame replica number) = 7 ∷ replica ∷ 13 ∷ []
+rank trace (SharedFrame replica number) = 7 ∷ replica ∷ 14 ∷ []
+rank trace (ReservedBit replica number index) = 7 ∷ replica ∷ 15 ∷ []
+rank trace (StrayFrame replica number) = 7 ∷ replica ∷ 16 ∷ []
+rank trace (Differs replica address) = 7 ∷ replica ∷ 17 ∷ []
+
+abbrev pub Earlier : Recording → Fault → Fault → Type 0
+Earlier trace first second = slice_cmp nat_cmp (rank trace first) (rank trace second) ≡ Less
+
+-- the fault holds of the trace, and no earlier one does
+pub record IsFirst (trace : Recording) (fault : Fault) : Type 0 where
+  pub holds : Holds trace fault
+  pub none_earlier : (other : Fault) → Holds trace other → Earlier trace other fault → ⊥
+
+-- the fault is the first one of the bytes
+abbrev pub IsFirstOf : List ℕ → Fault → Type 0
+IsFirstOf bytes (Format fault) = HasFormatFault bytes fault
+IsFirstOf bytes fault = (trace : Recording) × Spells bytes trace × IsFirst trace fault

@@ -1,0 +1,77 @@
+-- Orders of the calls of a trace: which are legal, which a dump fits, and the one that the trace records.
+use Rattle.std.specs.Prelude.{◌≡◌, ℕ, zero, suc, ◌+◌, ◌≤◌, ◌==◌, ◌&&◌, ◌⊎◌, List, [], ◌∷◌, ◌++◌, length, take, slice_get, filter, filter_map, flat_map, map, Contains, Some, option_to_list, is_some, false, max, nat_eq}
+use Rattle.std.specs.Option.{option_map_or}
+use Rattle.std.specs.List.{IsDistinct, before_first, fold}
+use Rattle.vs_types.specs.Config.{Layout}
+use Rattle.vs_types.specs.Space.{Space, no_pages}
+use Rattle.vs_types.specs.Step.{step, look, after_all}
+use Rattle.vs_types.specs.declared.answer.Answer.{Answer}
+use Rattle.vs_types.specs.declared.op.Action.{Action}
+use Rattle.vs_types.specs.declared.request.Query.{Query}
+use Rattle.vs_types.specs.declared.request.Query.TheVariants.{Update, Resolve}
+use Rattle.vs_walk.specs.Walk.{TranslatesAs}
+use Rattle.vs_walk.specs.Dump.{Image}
+use Rattle.nr_trace.specs.Recording.{Recording}
+use Rattle.nr_trace.specs.Calls.{Made, call_of, operation_of, address_of, IsCall, IsUpdate, IsRead, Answered, reply_in, reply_to, IsAnswered, Precedes}
+
+-- the members of an order that stand before a call
+abbrev pub before : ℕ → List ℕ → List ℕ
+before call order = before_first (λ other. other == call) order
+
+-- the updates among some calls, and their operations
+abbrev pub updates : Recording → List ℕ → List ℕ
+updates trace calls = filter (λ call. is_some (operation_of trace call)) calls
+
+abbrev pub operations : Recording → List ℕ → List Action
+operations trace calls = filter_map (operation_of trace) calls
+
+-- the one sequential space of a trace, after the updates among these calls, in their order
+abbrev pub space_after : Recording → List ℕ → Space
+space_after trace calls = after_all trace.layout.depth trace.layout.tables no_pages (operations trace calls)
+
+-- what a request is answered in a space
+abbrev pub answer_in : Layout → Space → Query → Answer
+answer_in layout space (Update action) = (step layout.depth layout.tables space action).answer
+answer_in layout space (Resolve address) = look space address
+
+-- a legal order: distinct calls, all answered ones and some unanswered updates, in which a call answered before another was
+-- made comes first, and each answer is what the space gives after the updates that stand before
+pub record IsLegalOrder (trace : Recording) (order : List ℕ) : Type 0 where
+  pub once : IsDistinct nat_eq order
+  pub calls : (call : ℕ) → Contains order call → IsCall trace call
+  pub answered : (call : ℕ) → IsCall trace call → IsAnswered trace call → Contains order call
+  pub others : (call : ℕ) → Contains order call → IsAnswered trace call ⊎ IsUpdate trace call
+  pub precedence : (first second : ℕ) → Contains order first → Contains order second → Precedes trace first second → Contains (before second order) first
+  pub answers : (call : ℕ) (made : Made) (reply : Answered) → call_of trace call ≡ Some made → reply_to trace call ≡ Some reply
+      → reply.answer ≡ answer_in trace.layout (space_after trace (before call order)) made.request
+
+-- the dump of a replica fits an order: it translates as the space after the first updates, as many as it has applied, and
+-- among these are all on which an answer given at the replica rests
+pub record FitsOrder (trace : Recording) (order : List ℕ) (replica : ℕ) (dump : Image) : Type 0 where
+  pub enough : dump.applied ≤ length (updates trace order)
+  pub translates : TranslatesAs trace.layout.depth dump.frames dump.root (space_after trace (take dump.applied (updates trace order)))
+  pub own_updates : (call : ℕ) (made : Made) → call_of trace call ≡ Some made → made.replica ≡ replica → IsUpdate trace call → IsAnswered trace call
+      → Contains (take dump.applied (updates trace order)) call
+  pub own_reads : (call earlier : ℕ) (made : Made) → call_of trace call ≡ Some made → made.replica ≡ replica → IsRead trace call → IsAnswered trace call
+      → IsUpdate trace earlier → Contains (before call order) earlier → Contains (take dump.applied (updates trace order)) earlier
+
+-- the numbers below one
+abbrev pub below : ℕ → List ℕ
+below zero = []
+below (suc n) = below n ++ n ∷ []
+
+-- the answered reads that saw just this many entries, by call number
+abbrev pub reads_at : Recording → ℕ → List ℕ
+reads_at trace n = filter (λ call. is_some (address_of trace call) && option_map_or (λ reply. reply.at == n) (reply_to trace call) false) (below (length trace.events))
+
+-- the recorded order: updates by place, and each answered read behind the entries that it saw
+abbrev pub recorded_order : Recording → List ℕ
+recorded_order trace = flat_map (λ n. reads_at trace n ++ option_to_list (slice_get trace.log n)) (below (length trace.log + 1))
+
+-- how many entries are known by a reply: those up to the update's own, or those that the read saw
+abbrev pub known_by : Recording → Answered → ℕ
+known_by trace reply = option_map_or (λ action. reply.at + 1) (operation_of trace reply.call) reply.at
+
+-- the floor of a call: the most entries that are known by a reply before it was made
+abbrev pub floor : Recording → ℕ → ℕ
+floor trace call = fold max 0 (map (known_by trace) (filter_map reply_in (take call trace.events)))

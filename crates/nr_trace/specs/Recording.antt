@@ -1,0 +1,57 @@
+-- What a trace says, and the ranges of its numbers.
+use Rattle.std.specs.Prelude.{◌≡◌, ℕ, ◌<◌, ◌≤◌, ◌^◌, List, length, All}
+use Rattle.std.specs.FinMap as finite
+use Rattle.vs_types.specs.Config.{Layout, IsLayout}
+use Rattle.vs_types.specs.Query.{IsQuery}
+use Rattle.vs_types.specs.declared.answer.Answer.{Answer}
+use Rattle.vs_types.specs.declared.answer.Answer.TheVariants.{Done, Overlap, Full, Removed, NotMapped, Inside, Changed, Mapped}
+use Rattle.vs_walk.specs.Dump.{Image}
+use Rattle.nr_trace.specs.declared.event.Event.{Event}
+use Rattle.nr_trace.specs.declared.event.Event.TheVariants.{Call, Reply}
+
+-- the layout of the service, the call number at each place of the log, the events in order, and a dump of each replica
+pub record Recording : Type 0 where
+  pub layout : Layout
+  pub log : List ℕ
+  pub events : List Event
+  pub dumps : List Image
+
+-- the numbers of an answer are of 64 bits
+abbrev pub IsAnswer : Answer → Type 0
+IsAnswer Done = Unit {0}
+IsAnswer (Overlap base) = base < 2 ^ 64
+IsAnswer (Full need) = need < 2 ^ 64
+IsAnswer (Removed phys size rights) = phys < 2 ^ 64
+IsAnswer NotMapped = Unit {0}
+IsAnswer (Inside base) = base < 2 ^ 64
+IsAnswer (Changed rights) = Unit {0}
+IsAnswer (Mapped phys size rights) = phys < 2 ^ 64
+
+-- a call is of a replica and a thread that there are, and well formed; a reply may name any call and any place
+abbrev pub IsEvent : Layout → Event → Type 0
+IsEvent layout (Call replica thread request) = (replica < layout.replicas) × (thread < layout.threads) × IsQuery layout.depth request
+IsEvent layout (Reply call at answer) = (call < 2 ^ 32) × (at < 2 ^ 32) × IsAnswer answer
+
+-- 512 words of 64 bits
+pub record IsWords (words : List ℕ) : Type 0 where
+  pub whole : length words ≡ 512
+  pub each : All (λ word. word < 2 ^ 64) words
+
+-- 1 to 4,096 frames with numbers below 2 ^ 40; the root may have any number
+pub record IsImage (dump : Image) : Type 0 where
+  pub applied : dump.applied < 2 ^ 32
+  pub root : dump.root < 2 ^ 64
+  pub some_frame : 1 ≤ finite.len dump.frames
+  pub few_frames : finite.len dump.frames ≤ 4096
+  pub numbers : All (λ number. number < 2 ^ 40) (finite.keys dump.frames)
+  pub words : All IsWords (finite.values dump.frames)
+
+-- at most 65,536 places and 131,072 events, and one dump for each replica
+pub record IsRecording (trace : Recording) : Type 0 where
+  pub layout : IsLayout trace.layout
+  pub few_places : length trace.log ≤ 65536
+  pub log : All (λ call. call < 2 ^ 32) trace.log
+  pub few_events : length trace.events ≤ 131072
+  pub events : All (IsEvent trace.layout) trace.events
+  pub one_dump_each : length trace.dumps ≡ trace.layout.replicas
+  pub dumps : All IsImage trace.dumps

@@ -1,0 +1,57 @@
+/// What keeps bytes from spelling a trace: the first such thing in byte order.
+#[derive(Clone, Copy, Debug, PartialEq, Eq)]
+pub enum Format {
+    /// The bytes end before the trace does.
+    Truncated,
+    /// They do not begin with `NRVT`.
+    BadMagic,
+    /// The version is none that there is.
+    BadVersion,
+    /// A number of levels, replicas, threads, tables, places, events or frames is out of its range.
+    BadCount,
+    /// The event of this index is none, or is out of its range.
+    BadEvent(u32),
+    /// In the dump of this replica the number of the frame of this index does not rise, or is out of its range.
+    BadFrame(u8, u32),
+    /// Bytes stand behind the trace.
+    Trailing,
+}
+
+/// What is wrong with a recorded run. Calls and events are named by index, places by number, frames by number.
+#[derive(Clone, Copy, Debug, PartialEq, Eq)]
+pub enum Fault {
+    /// The bytes spell no trace.
+    Format(Format),
+    /// The event is a call of a thread whose earlier call has no reply yet.
+    ThreadOpen(u32),
+    /// The event is a reply to what is no earlier call.
+    NoSuchCall(u32),
+    /// The event is a reply to a call that has one already.
+    AnsweredTwice(u32),
+    /// The log has at this place what is no update.
+    NotAnUpdate(u32),
+    /// The log has at this place an update that stands at an earlier one.
+    PlacedTwice(u32),
+    /// The event is a reply that gives an update another place than its own.
+    NotPlaced(u32),
+    /// The event is a reply to a read that gives more entries than the log has.
+    PastLog(u32),
+    /// The call stands in the order before one that was answered before it was made.
+    Early(u32),
+    /// The call's answer is not that of the space there.
+    WrongAnswer(u32),
+    /// The replica's dump has taken more entries than the log has.
+    PrefixPastLog(u8),
+    /// The replica's dump has taken fewer entries than an answer given there rests on.
+    PrefixShort(u8),
+    /// The replica's dump lacks this frame.
+    MissingFrame(u8, u64),
+    /// The tables of the replica's dump lead to this frame twice.
+    SharedFrame(u8, u64),
+    /// In the replica's dump the word of this frame at this index has a reserved bit set.
+    ReservedBit(u8, u64, u16),
+    /// The tables of the replica's dump do not lead to this frame, the least such one.
+    StrayFrame(u8, u64),
+    /// The replica's dump translates this address, the least such one, not as the space does.
+    Differs(u8, u64),
+}
