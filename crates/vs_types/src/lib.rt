@@ -15,7 +15,7 @@ mod request;
 pub use answer::Answer;
 pub use config::{BadConfig, Config};
 pub use depth::Depth;
-pub use entry::Meaning;
+pub use entry::{Entry, Meaning};
 pub use op::{Action, BadOp, Op};
 pub use page::{Page, Rights, Size};
 pub use refusal::{Fail, Memory};
