@@ -7,6 +7,7 @@ mod answer;
 mod config;
 mod depth;
 mod entry;
+pub mod examples;
 mod op;
 mod page;
 mod refusal;
