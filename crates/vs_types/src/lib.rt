@@ -21,3 +21,6 @@ pub use op::{Action, BadOp, Op};
 pub use page::{Page, Rights, Size};
 pub use refusal::{Fail, Memory};
 pub use request::{Query, Request};
+
+#[cfg(test)]
+mod tests;
