@@ -1,5 +1,5 @@
 -- What a configuration is, and what is wrong with numbers that are none.
-use Rattle.std.specs.Prelude.{ℕ, ◌<◌, ◌≤◌, ◌||◌, nat_lt, Option, Some, None, if◌then◌else◌}
+use Rattle.std.specs.Prelude.{ℕ, ◌≤◌, ◌||◌, nat_lt, Option, Some, None, if◌then◌else◌}
 use Rattle.vs_types.specs.declared.depth.Depth.{Depth}
 use Rattle.vs_types.specs.declared.config.BadConfig.{BadConfig}
 use Rattle.vs_types.specs.declared.config.BadConfig.TheVariants.{Replicas, Threads, Tables}

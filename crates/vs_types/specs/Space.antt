@@ -1,6 +1,6 @@
 -- Spaces: finite sets of pages, no two of which cover one address. Each page stands under its base, so a space is a
 -- finite map, and two spaces with the same pages are equal.
-use Rattle.std.specs.Prelude.{◌≡◌, ◌≢◌, ℕ, suc, zero, ◌+◌, ◌-◌, ◌/◌, ◌*◌, ◌<◌, ◌≤◌, Bool, nat_eq, nat_lt, List, [], ◌∷◌, map, filter, find, Option, Some, None, IsTrue, IsFalse, min, option_map}
+use Rattle.std.specs.Prelude.{◌≡◌, ℕ, suc, zero, ◌+◌, ◌-◌, ◌/◌, nat_eq, nat_lt, List, [], ◌∷◌, map, filter, find, Option, Some, None, IsTrue, min}
 use Rattle.std.specs.Set.{distinct_count}
 use Rattle.std.specs.FinMap as finite
 use Rattle.std.specs.Ordering.{nat_cmp}

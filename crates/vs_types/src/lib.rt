@@ -7,6 +7,7 @@ mod answer;
 mod config;
 mod depth;
 mod entry;
+pub mod examples;
 mod op;
 mod page;
 mod refusal;
@@ -15,8 +16,11 @@ mod request;
 pub use answer::Answer;
 pub use config::{BadConfig, Config};
 pub use depth::Depth;
-pub use entry::Meaning;
+pub use entry::{Entry, Meaning};
 pub use op::{Action, BadOp, Op};
 pub use page::{Page, Rights, Size};
 pub use refusal::{Fail, Memory};
 pub use request::{Query, Request};
+
+#[cfg(test)]
+mod tests;

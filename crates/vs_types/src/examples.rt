@@ -1,0 +1,67 @@
+//! Worked examples: what the definitions give at numbers. The prover computes each.
+
+ghost use Rattle.std.specs.Prelude.{◌≡◌, ℕ, List, [], ◌∷◌, take, true, false};
+ghost use Rattle.vs_types.specs.declared.answer.Answer.TheVariants.{Changed, Done, Full, Inside, Mapped, NotMapped, Overlap, Removed};
+ghost use Rattle.vs_types.specs.declared.depth.Depth.TheVariants.{Four};
+ghost use Rattle.vs_types.specs.declared.entry.Meaning.TheVariants.{Leaf, Reserved, Table};
+ghost use Rattle.vs_types.specs.declared.page.Size.TheVariants.{G1, K4, M2};
+ghost use Rattle.vs_types.specs.Depth.{index_at, is_canonical};
+ghost use Rattle.vs_types.specs.Entry.{all_rights, leaf_word, meaning, table_word};
+ghost use Rattle.vs_types.specs.Examples.{answers, both_halves, look_after, no_rights, one_gigabyte, other_rights, past_three_tables, small_replaced, small_then_large, tables_after, user_and_exec, write_only};
+
+/// Pages at both ends of the addresses that are not canonical.
+pub fn both_halves_of_the_address_space()
+    ensures answers { answers Four 4096 both_halves ≡ Done ∷ Done ∷ [] }
+    ensures tables { tables_after Four 4096 both_halves ≡ 7 }
+    ensures low_index { index_at 4 0x7FFFFFFFF000 ≡ 255 }
+    ensures high_index { index_at 4 0xFFFF800000000000 ≡ 256 }
+    ensures last_low_address { look_after Four 4096 both_halves 0x7FFFFFFFFFFF ≡ Mapped 0x2FFF K4 all_rights }
+    ensures between { is_canonical Four 0x800000000000 ≡ false }
+{}
+
+/// A page that overlaps two is answered the base of the lower one.
+pub fn overlap_names_least_base()
+    ensures answers { answers Four 4096 small_then_large ≡ Done ∷ Done ∷ Overlap 0x40001000 ∷ [] }
+    ensures tables { tables_after Four 4096 small_then_large ≡ 5 }
+{}
+
+/// A page of 1 GiB, write only: an unmap in its midst names its base, and an address in it is translated.
+pub fn gigabyte_page()
+    ensures answers { answers Four 4096 one_gigabyte ≡ Done ∷ Inside 0x40000000 ∷ [] }
+    ensures tables { tables_after Four 4096 one_gigabyte ≡ 2 }
+    ensures inner_address { look_after Four 4096 one_gigabyte 0x40001234 ≡ Mapped 0x40001234 G1 write_only }
+{}
+
+/// With a limit of three tables, a map that needs a fourth names four; one that overlaps is told so first.
+pub fn full_names_its_need()
+    ensures answers { answers Four 3 past_three_tables ≡ Done ∷ Full 4 ∷ Overlap 0x200000 ∷ [] }
+    ensures tables { tables_after Four 3 past_three_tables ≡ 3 }
+{}
+
+/// A table is counted only where a page needs it.
+pub fn unmap_frees_tables()
+    ensures answers { answers Four 4096 small_replaced ≡ Done ∷ Removed 0x1000 K4 all_rights ∷ Done ∷ [] }
+    ensures with_small { tables_after Four 4096 (take 1 small_replaced) ≡ 4 }
+    ensures with_none { tables_after Four 4096 (take 2 small_replaced) ≡ 1 }
+    ensures with_large { tables_after Four 4096 small_replaced ≡ 3 }
+{}
+
+/// A protect gives a page other rights, and answers those from before.
+pub fn protect_changes_rights()
+    ensures answers { answers Four 4096 other_rights ≡ Done ∷ Changed write_only ∷ NotMapped ∷ [] }
+    ensures changed { look_after Four 4096 other_rights 0x1000 ≡ Mapped 0x5000 K4 user_and_exec }
+{}
+
+/// Words as entries: a page of 1 GiB, pages of 2 MiB with a reserved bit and with the ignored one beside it, a page of
+/// 4 KiB whose ignored bits are all set, a table, and a table of the highest level that has bit 7.
+pub fn entry_words()
+    ensures gigabyte { meaning 3 0x8000000040000083 ≡ Leaf 0x40000000 write_only }
+    ensures reserved_in_large { meaning 2 0x202087 ≡ Reserved }
+    ensures ignored_in_large { meaning 2 0x201087 ≡ Leaf 0x200000 all_rights }
+    ensures ignored_in_small { meaning 1 0x7FF0000000001FFF ≡ Leaf 0x1000 all_rights }
+    ensures table { meaning 4 0x2007 ≡ Table 2 all_rights }
+    ensures no_page_in_root { meaning 4 0x87 ≡ Reserved }
+    ensures written_gigabyte { leaf_word G1 0x40000000 write_only ≡ 0x8000000040000083 }
+    ensures written_small { leaf_word K4 0x7FFFFFFFFF000 no_rights ≡ 0x8007FFFFFFFFF001 }
+    ensures written_table { table_word 2 ≡ 0x2007 }
+{}

@@ -1,0 +1,117 @@
+use crate::{
+    Action, BadConfig, BadOp, Config, Depth, Entry, Fail, Meaning, Memory, Op, Page, Query,
+    Request, Rights, Size,
+};
+use std::alloc::{AllocError, AllocFailed};
+
+const ALL: Rights = Rights {
+    write: true,
+    user: true,
+    exec: true,
+};
+
+const WRITE: Rights = Rights {
+    write: true,
+    user: false,
+    exec: false,
+};
+
+const NONE: Rights = Rights {
+    write: false,
+    user: false,
+    exec: false,
+};
+
+#[test]
+fn operations_not_well_formed(rt: HostRuntime) {
+    let map = |base: u64, size: Size, phys: u64| Op::map(Depth::Four, base, size, phys, ALL);
+    assert_eq!(rt; map(0x800000000001, Size::K4, 1), Err(BadOp::NotCanonical));
+    assert_eq!(rt; map(0x1000, Size::M2, 0), Err(BadOp::Unaligned));
+    assert_eq!(rt; map(0x200000, Size::M2, 0x1000), Err(BadOp::PhysUnaligned));
+    assert_eq!(rt; map(0, Size::K4, 0x8000000000000), Err(BadOp::PhysRange));
+    let unmap = |base: u64| Op::unmap(Depth::Four, base);
+    assert_eq!(rt; unmap(0x800000000000), Err(BadOp::NotCanonical));
+    assert_eq!(rt; unmap(0xFFF), Err(BadOp::Unaligned));
+    let protect = |base: u64| Op::protect(Depth::Four, base, WRITE);
+    assert_eq!(rt; protect(0xFFFF7FFFFFFFF000), Err(BadOp::NotCanonical));
+    assert_eq!(rt; protect(0x1001), Err(BadOp::Unaligned));
+}
+
+#[test]
+fn operations(rt: HostRuntime) {
+    let page = Page {
+        base: 0,
+        size: Size::K4,
+        phys: 0x7FFFFFFFFF000,
+        rights: NONE,
+    };
+    let map = Op::map(Depth::Four, page.base, page.size, page.phys, page.rights);
+    assert_eq!(rt; map.map(|op| op.action()), Ok(Action::Map(page)));
+    let unmap = Op::unmap(Depth::Four, 0xFFFF800000000000);
+    assert_eq!(rt;
+        unmap.map(|op| op.action()),
+        Ok(Action::Unmap(0xFFFF800000000000))
+    );
+    let protect = Op::protect(Depth::Four, 0x1000, WRITE);
+    assert_eq!(rt;
+        protect.map(|op| op.action()),
+        Ok(Action::Protect(0x1000, WRITE))
+    );
+}
+
+#[test]
+fn requests(rt: HostRuntime) {
+    let resolve = |address: u64| Request::resolve(Depth::Four, address).map(
+        |request| request.query(),
+    );
+    assert_eq!(rt; resolve(0x7FFFFFFFFFFF), Ok(Query::Resolve(0x7FFFFFFFFFFF)));
+    assert_eq!(rt; resolve(0x800000000000), Err(BadOp::NotCanonical));
+    let op = Op::unmap(Depth::Four, 0x400000).expect(&rt, "a well-formed operation");
+    assert_eq!(rt; Request::update(op).query(), Query::Update(op));
+}
+
+#[test]
+fn configurations(rt: HostRuntime) {
+    let config = |replicas: u8, threads: u16, tables: u16| Config::new(
+        Depth::Four,
+        replicas,
+        threads,
+        tables,
+    );
+    assert_eq!(rt; config(0, 0, 0), Err(BadConfig::Replicas));
+    assert_eq!(rt; config(1, 65, 1), Err(BadConfig::Threads));
+    assert_eq!(rt; config(1, 1, 4097), Err(BadConfig::Tables));
+    let read = config(4, 64, 4096).map(|c| (c.depth(), c.replicas(), c.threads(), c.tables()));
+    assert_eq!(rt; read, Ok((Depth::Four, 4, 64, 4096)));
+    assert_eq!(rt; Depth::Four.levels(), 4);
+}
+
+#[test]
+fn entries(rt: HostRuntime) {
+    let large = Entry::leaf(Size::G1, 0x40000000, WRITE);
+    assert_eq!(rt; large.word(), 0x8000000040000083);
+    assert_eq!(rt;
+        large.read(Size::G1.level()),
+        Meaning::Leaf(0x40000000, WRITE)
+    );
+    let small = Entry::leaf(Size::K4, 0x7FFFFFFFFF000, NONE);
+    assert_eq!(rt; small.word(), 0x8007FFFFFFFFF001);
+    assert_eq!(rt; Entry::table(2), Entry::new(0x2007));
+    assert_eq!(rt; Entry::new(0x2007).read(4), Meaning::Table(2, ALL));
+    assert_eq!(rt; Entry::new(0x202087).read(2), Meaning::Reserved);
+    assert_eq!(rt; Entry::new(0).read(1), Meaning::Absent);
+}
+
+#[test]
+fn memory_refused(rt: HostRuntime) {
+    let plain: Memory = AllocError.into();
+    assert_eq!(rt; plain, Memory);
+    let pushed: Memory = AllocFailed { value: 7u8 }.into();
+    assert_eq!(rt; pushed, Memory);
+    let direct: Fail<BadOp> = AllocError.into();
+    assert_eq!(rt; direct, Fail::Memory);
+    let inserted: Fail<BadOp> = AllocFailed { value: 7u8 }.into();
+    assert_eq!(rt; inserted, Fail::Memory);
+    let passed_on: Fail<BadOp> = Memory.into();
+    assert_eq!(rt; passed_on, Fail::Memory);
+}
