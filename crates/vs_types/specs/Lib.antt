@@ -7,3 +7,4 @@ pub mod Query
 pub mod Space
 pub mod Step
 pub mod Entry
+pub mod Laws

@@ -7,6 +7,7 @@ mod answer;
 mod config;
 mod depth;
 mod entry;
+mod laws;
 mod op;
 mod page;
 mod refusal;
@@ -16,6 +17,9 @@ pub use answer::Answer;
 pub use config::{BadConfig, Config};
 pub use depth::Depth;
 pub use entry::Meaning;
+pub use laws::{
+    holds_is_listed, overlap_is_a_shared_address, step_keeps_spaces, well_formed_is_without_fault,
+};
 pub use op::{Action, BadOp, Op};
 pub use page::{Page, Rights, Size};
 pub use refusal::{Fail, Memory};

@@ -1,0 +1,4 @@
+pub mod Lists
+pub mod Pages
+pub mod Spaces
+pub mod Steps
