@@ -1,5 +1,5 @@
 -- How addresses look after a step.
-use Rattle.std.proofs.Common.{◌≡◌, ℕ, Bool, true, false, cond, nat_le, Option, Some, None, IsTrue, IsFalse, ◌↔◌, ◌≢◌, ◌⊎◌, inl, inr, ⊎_elim, refl, sym, ap, ◌∙◌, subst, arith}
+use Rattle.std.proofs.Common.{◌≡◌, ℕ, cond, Option, Some, None, IsTrue, IsFalse, refl, sym, ap, ◌∙◌, subst}
 use Rattle.std.specs.FinMap as finite
 use Rattle.vs_types.specs.declared.depth.Depth.{Depth}
 use Rattle.vs_types.specs.declared.page.Page.{Page}
@@ -7,13 +7,13 @@ use Rattle.vs_types.specs.declared.page.Rights.{Rights}
 use Rattle.vs_types.specs.declared.op.Action.{Action}
 use Rattle.vs_types.specs.declared.op.Action.TheVariants.{Map, Unmap, Protect}
 use Rattle.vs_types.specs.declared.answer.Answer.{Answer}
-use Rattle.vs_types.specs.declared.answer.Answer.TheVariants.{Done, Overlap, Full, Removed, NotMapped, Inside, Changed, Mapped}
+use Rattle.vs_types.specs.declared.answer.Answer.TheVariants.{Done, Removed, NotMapped, Changed}
 use Rattle.vs_types.specs.Laws.{as_in, LooksChanged, HasNewRights, changes}
-use Rattle.vs_types.specs.Page.{covers, overlaps, IsPage}
-use Rattle.vs_types.specs.Space.{Space, Holds, IsSpace, page_at, least_overlapped, table_count}
-use Rattle.vs_types.specs.Step.{Stepped, step, look}
+use Rattle.vs_types.specs.Page.{covers, IsPage}
+use Rattle.vs_types.specs.Space.{Space, Holds, IsSpace, page_at, least_overlapped}
+use Rattle.vs_types.specs.Step.{step, look}
 use Rattle.vs_types.proofs.Pages.{same_page, covers_base}
-use Rattle.vs_types.proofs.Spaces.{page_at_means, page_at_after_insert, page_at_after_remove, insert_cases, get_inserted, get_insert_other, remove_space, look_of_none}
+use Rattle.vs_types.proofs.Spaces.{page_at_means, page_at_after_insert, page_at_after_remove, get_inserted, get_insert_other, look_of_none}
 use Rattle.vs_types.proofs.Steps.{map_cases, unmap_cases, protect_cases, alone, protect_space, step_space}
 
 -- what the new space has at an address tells how it looks

@@ -1,5 +1,5 @@
 -- What pages cover.
-use Rattle.std.proofs.Common.{◌≡◌, ℕ, ◌+◌, ◌-◌, ◌*◌, ◌/◌, ◌%◌, ◌^◌, ◌<◌, ◌≤◌, max, Bool, true, false, IsTrue, ◌↔◌, ◌⊎◌, inl, inr, ⊎_elim, refl, sym, ap, subst, arith}
+use Rattle.std.proofs.Common.{◌≡◌, ℕ, ◌+◌, ◌-◌, ◌*◌, ◌%◌, ◌^◌, ◌<◌, ◌≤◌, max, IsTrue, ◌↔◌, ◌⊎◌, inl, inr, ⊎_elim, sym, ap, arith}
 use Rattle.std.proofs.lemmas.Bool.Decides.{nat_tests}
 use Rattle.std.proofs.Common.{nat_lt, nat_le, ◌||◌, ◌&&◌, ◌∙◌, add-zero, pow_pos, le_trans, lt_of_lt_of_le}
 use Rattle.std.proofs.lemmas.Nat.{pow-add, mod-mul-add}

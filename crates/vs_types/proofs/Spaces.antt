@@ -1,6 +1,6 @@
 -- Spaces read page by page and address by address.
-use Rattle.std.proofs.Common.{◌≡◌, ℕ, zero, suc, ◌+◌, ◌-◌, ◌<◌, ◌≤◌, Bool, true, false, ◌&&◌, cond, T, eqb, nat_cmp, List, [], ◌∷◌, map, Option, Some, None, Contains, IsTrue, ◌↔◌, ◌≢◌, ◌⊎◌, inl, inr, ⊎_elim, refl, sym, ap, ◌∙◌, subst, arith, find, filter}
-use Rattle.std.proofs.lemmas.Bool.{cases_Bool, cases_eq, eq-eqb, eqb-true, ne_eqb}
+use Rattle.std.proofs.Common.{◌≡◌, ℕ, ◌<◌, Bool, true, false, ◌&&◌, cond, T, eqb, nat_cmp, List, [], ◌∷◌, map, Some, None, Contains, IsTrue, ◌↔◌, ◌≢◌, ◌⊎◌, inl, inr, ⊎_elim, refl, sym, ap, ◌∙◌, subst, arith}
+use Rattle.std.proofs.lemmas.Bool.{cases_eq, eq-eqb, eqb-true, ne_eqb}
 use Rattle.std.proofs.lemmas.Bool.Decides.{nat_tests}
 use Rattle.std.specs.Cmp.{nat_cmp_total}
 use Rattle.std.specs.Ordering.{eq_by_cmp, is_lt}
@@ -8,14 +8,13 @@ use Rattle.std.specs.FinMap as finite
 use Rattle.std.specs.FinMap.Entries as entries
 use Rattle.vs_types.specs.declared.depth.Depth.{Depth}
 use Rattle.vs_types.specs.declared.page.Page.{Page}
-use Rattle.vs_types.specs.Page.{covers, overlaps, IsPage}
+use Rattle.vs_types.specs.Page.{covers, IsPage}
 use Rattle.vs_types.specs.Space.{Space, no_pages, pages, Holds, IsSpace, page_at}
 use Rattle.vs_types.specs.Step.{look}
 use Rattle.vs_types.specs.Laws.{as_in}
-use Rattle.vs_types.specs.declared.answer.Answer.TheVariants.{NotMapped, Mapped}
+use Rattle.vs_types.specs.declared.answer.Answer.TheVariants.{NotMapped}
 use Rattle.vs_types.specs.declared.depth.Depth.TheVariants.{Four}
 use Rattle.vs_types.proofs.Lists.{Contains-head, Contains-tail, Contains-cases, not_in_nil, find_found, find_nothing}
-use Rattle.vs_types.proofs.Pages.{covers_means, covers_base}
 
 -- two keys tie where they are equal
 pub same_key : (q k : ℕ) → eq_by_cmp nat_cmp q k ≡ eqb q k

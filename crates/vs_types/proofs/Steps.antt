@@ -1,22 +1,20 @@
 -- What a step does, case by case.
-use Rattle.std.proofs.Common.{◌≡◌, ℕ, zero, suc, ◌+◌, ◌-◌, ◌<◌, ◌≤◌, Bool, true, false, cond, if◌then◌else◌, eqb, nat_le, List, [], ◌∷◌, map, Option, Some, None, Contains, IsTrue, IsFalse, ◌↔◌, ◌≢◌, ◌⊎◌, inl, inr, ⊎_elim, refl, sym, ap, ◌∙◌, subst, arith, find, filter}
-use Rattle.std.proofs.lemmas.Bool.{cases_Bool, cases_eq, eq-eqb, eqb-true, ne_eqb}
+use Rattle.std.proofs.Common.{◌≡◌, ℕ, Bool, true, false, cond, if◌then◌else◌, nat_le, List, [], ◌∷◌, map, Some, None, Contains, IsTrue, ◌≢◌, ⊎_elim, refl, sym, ap, subst, filter}
+use Rattle.std.proofs.lemmas.Bool.{cases_Bool, cases_eq, eq-eqb, ne_eqb}
 use Rattle.std.specs.FinMap as finite
 use Rattle.vs_types.specs.declared.depth.Depth.{Depth}
 use Rattle.vs_types.specs.declared.page.Page.{Page}
 use Rattle.vs_types.specs.declared.page.Rights.{Rights}
 use Rattle.vs_types.specs.declared.op.Action.{Action}
 use Rattle.vs_types.specs.declared.op.Action.TheVariants.{Map, Unmap, Protect}
-use Rattle.vs_types.specs.declared.answer.Answer.{Answer}
-use Rattle.vs_types.specs.declared.answer.Answer.TheVariants.{Done, Overlap, Full, Removed, NotMapped, Inside, Changed, Mapped}
-use Rattle.vs_types.specs.Laws.{as_in, LooksChanged, HasNewRights, changes}
+use Rattle.vs_types.specs.declared.answer.Answer.TheVariants.{Done, Overlap, Full, Removed, NotMapped, Inside, Changed}
 use Rattle.vs_types.specs.Operation.{IsAction}
-use Rattle.vs_types.specs.Page.{covers, overlaps, IsPage}
+use Rattle.vs_types.specs.Page.{covers, overlaps}
 use Rattle.vs_types.specs.Space.{Space, pages, Holds, IsSpace, page_at, least, least_overlapped, table_count}
-use Rattle.vs_types.specs.Step.{Stepped, step, look}
+use Rattle.vs_types.specs.Step.{Stepped, step}
 use Rattle.vs_types.proofs.Lists.{Contains-cases, not_in_nil}
-use Rattle.vs_types.proofs.Pages.{covers_base, overlaps_shares}
-use Rattle.vs_types.proofs.Spaces.{holds_listed, page_at_means, page_at_same, insert_space, remove_space, page_at_after_insert, page_at_after_remove, insert_cases, remove_cases, get_inserted, get_insert_other, look_same}
+use Rattle.vs_types.proofs.Pages.{overlaps_shares}
+use Rattle.vs_types.proofs.Spaces.{holds_listed, page_at_means, insert_space, remove_space}
 
 -- the space with the page
 abbrev with_page : Space → Page → Space

@@ -1,10 +1,9 @@
 //! Laws of the definitions in `specs/`. Each function does nothing: its clauses say what holds of every space, page,
 //! operation and limit.
-ghost use Rattle.std.specs.Prelude.{◌≡◌, ◌≢◌, ℕ, ◌+◌, ◌-◌, ◌≤◌, ◌↔◌, Contains, IsTrue, IsFalse, Some, None};
+ghost use Rattle.std.specs.Prelude.{◌≡◌, ℕ, ◌≤◌, ◌↔◌, Contains, IsTrue, IsFalse, Some, None};
 ghost use Rattle.vs_types.specs.declared.depth.Depth.{Depth};
 ghost use Rattle.vs_types.specs.declared.page.Page.{Page};
 ghost use Rattle.vs_types.specs.declared.page.Rights.{Rights};
-ghost use Rattle.vs_types.specs.declared.page.Size.{Size};
 ghost use Rattle.vs_types.specs.declared.op.Action.{Action};
 ghost use Rattle.vs_types.specs.declared.request.Query.{Query};
 ghost use Rattle.vs_types.specs.declared.answer.Answer.{Answer};
@@ -74,7 +73,10 @@ pub fn spaces_that_look_alike_are_equal()
     ensures canonical { (limit : ℕ) (depth : Depth) (page : Page) (address : ℕ) → IsPageBelow limit depth page → IsTrue (covers page address) → IsCanonical depth address }
 {}
 
-/// A step never needs more tables than the limit, if the space before did not.
+/// A step never needs more tables than the limit, if the space before did not. An unmap never needs more tables than
+/// before, and a protect needs as many.
 pub fn step_keeps_the_limit()
-    ensures { (depth : Depth) (limit : ℕ) (space : Space) (action : Action) → IsSpace depth space → table_count depth space ≤ limit → table_count depth (step depth limit space action).space ≤ limit }
+    ensures limit { (depth : Depth) (limit : ℕ) (space : Space) (action : Action) → IsSpace depth space → table_count depth space ≤ limit → table_count depth (step depth limit space action).space ≤ limit }
+    ensures unmap { (depth : Depth) (limit : ℕ) (space : Space) (base : ℕ) → IsSpace depth space → table_count depth (step depth limit space (Action.Unmap base)).space ≤ table_count depth space }
+    ensures protect { (depth : Depth) (limit : ℕ) (space : Space) (base : ℕ) (rights : Rights) → IsSpace depth space → table_count depth (step depth limit space (Action.Protect base rights)).space ≡ table_count depth space }
 {}

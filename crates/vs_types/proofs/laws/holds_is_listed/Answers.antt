@@ -1,4 +1,3 @@
-use Rattle.std.proofs.Common.{ap}
 use Rattle.vs_types.proofs.Spaces.{holds_listed, page_at_means, no_pages_space, look_of_nothing, look_of_page}
 use Rattle.vs_types.proofs.laws.holds_is_listed.Goals as goal
 
