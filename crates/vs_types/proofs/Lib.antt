@@ -1,2 +1,9 @@
 pub mod Computing
 pub mod LeafWords
+pub mod Lists
+pub mod Pages
+pub mod Spaces
+pub mod Steps
+pub mod Looks
+pub mod Alike
+pub mod Tables

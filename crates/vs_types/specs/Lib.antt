@@ -8,3 +8,4 @@ pub mod Space
 pub mod Step
 pub mod Entry
 pub mod Examples
+pub mod Laws

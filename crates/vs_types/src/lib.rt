@@ -8,6 +8,7 @@ mod config;
 mod depth;
 mod entry;
 pub mod examples;
+mod laws;
 mod op;
 mod page;
 mod refusal;
@@ -17,6 +18,12 @@ pub use answer::Answer;
 pub use config::{BadConfig, Config};
 pub use depth::Depth;
 pub use entry::{Entry, Meaning};
+pub use laws::{
+    changed_changes_rights_alone, done_adds_the_page, holds_is_listed,
+    other_answers_leave_the_space, overlap_is_a_shared_address, removed_takes_the_page_away,
+    spaces_that_look_alike_are_equal, step_keeps_spaces, step_keeps_the_limit,
+    well_formed_is_without_fault,
+};
 pub use op::{Action, BadOp, Op};
 pub use page::{Page, Rights, Size};
 pub use refusal::{Fail, Memory};
