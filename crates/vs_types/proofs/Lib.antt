@@ -7,3 +7,4 @@ pub mod Steps
 pub mod Looks
 pub mod Alike
 pub mod Tables
+pub mod Refusals

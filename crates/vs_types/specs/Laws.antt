@@ -1,10 +1,10 @@
 -- What the laws of `src/laws.rt` say of two spaces.
-use Rattle.std.specs.Prelude.{◌≡◌, ◌≢◌, ℕ, ◌+◌, ◌-◌, Bool, true, false, IsTrue, IsFalse, ◌↔◌}
+use Rattle.std.specs.Prelude.{◌≡◌, ◌≢◌, ℕ, ◌+◌, ◌-◌, ◌<◌, ◌≤◌, Bool, true, false, IsTrue, IsFalse, ◌↔◌}
 use Rattle.vs_types.specs.declared.answer.Answer.{Answer}
 use Rattle.vs_types.specs.declared.answer.Answer.TheVariants.{Done, Overlap, Full, Removed, NotMapped, Inside, Changed, Mapped}
 use Rattle.vs_types.specs.declared.page.Page.{Page}
 use Rattle.vs_types.specs.declared.page.Rights.{Rights}
-use Rattle.vs_types.specs.Page.{covers}
+use Rattle.vs_types.specs.Page.{covers, overlaps}
 use Rattle.vs_types.specs.Space.{Space, Holds}
 use Rattle.vs_types.specs.Step.{look}
 
@@ -22,6 +22,16 @@ pub record HasNewRights (page : Page) (rights : Rights) (before after : Space) :
   pub held : Holds before page
   pub changed : Holds after (record page { rights = rights })
   pub others : (other : Page) → other.base ≢ page.base → Holds after other ↔ Holds before other
+
+-- the base of a page that this page overlaps, and no page that it overlaps begins below
+pub record IsLeastOverlapped (space : Space) (page : Page) (base : ℕ) : Type 0 where
+  pub overlapped : (q : Page) × Holds space q × (q.base ≡ base) × IsTrue (overlaps page q)
+  pub none_below : (q : Page) → Holds space q → IsTrue (overlaps page q) → base ≤ q.base
+
+-- the base of a page that has the address and begins below it
+pub record IsInside (space : Space) (address base : ℕ) : Type 0 where
+  pub covered : (q : Page) × Holds space q × (q.base ≡ base) × IsTrue (covers q address)
+  pub below : base < address
 
 -- whether an answer says that the space has changed
 abbrev pub changes : Answer → Bool

@@ -1,6 +1,6 @@
 //! Laws of the definitions in `specs/`. Each function does nothing: its clauses say what holds of every space, page,
 //! operation and limit.
-ghost use Rattle.std.specs.Prelude.{◌≡◌, ℕ, ◌≤◌, ◌↔◌, Contains, IsTrue, IsFalse, Some, None};
+ghost use Rattle.std.specs.Prelude.{◌≡◌, ℕ, ◌<◌, ◌≤◌, ◌↔◌, Contains, IsTrue, IsFalse, Some, None};
 ghost use Rattle.vs_types.specs.declared.depth.Depth.{Depth};
 ghost use Rattle.vs_types.specs.declared.page.Page.{Page};
 ghost use Rattle.vs_types.specs.declared.page.Rights.{Rights};
@@ -9,7 +9,7 @@ ghost use Rattle.vs_types.specs.declared.request.Query.{Query};
 ghost use Rattle.vs_types.specs.declared.answer.Answer.{Answer};
 ghost use Rattle.vs_types.specs.Config.{Layout, IsLayout, config_fault};
 ghost use Rattle.vs_types.specs.Depth.{IsCanonical};
-ghost use Rattle.vs_types.specs.Laws.{as_in, LooksChanged, HasNewRights, changes};
+ghost use Rattle.vs_types.specs.Laws.{as_in, LooksChanged, HasNewRights, changes, IsLeastOverlapped, IsInside};
 ghost use Rattle.vs_types.specs.Operation.{IsAction, action_fault};
 ghost use Rattle.vs_types.specs.Page.{covers, overlaps, IsPage, IsPageBelow};
 ghost use Rattle.vs_types.specs.Query.{IsQuery, query_fault};
@@ -65,6 +65,18 @@ pub fn changed_changes_rights_alone()
 /// After any answer but `Done`, `Removed` and `Changed` the space is the one before.
 pub fn other_answers_leave_the_space()
     ensures { (depth : Depth) (limit : ℕ) (space : Space) (action : Action) → IsFalse (changes (step depth limit space action).answer) → (step depth limit space action).space ≡ space }
+{}
+
+/// What the other answers of an operation say: `Overlap` names the least base of a page that is overlapped, `Full` more
+/// tables than the limit, `Inside` the base of a page that has the address and begins below it; and `NotMapped` is the
+/// answer exactly where the address is not mapped.
+pub fn refusals_say_why()
+    ensures overlap { (depth : Depth) (limit : ℕ) (space : Space) (page : Page) (base : ℕ) → IsSpace depth space → (step depth limit space (Action.Map page)).answer ≡ Answer.Overlap base → IsLeastOverlapped space page base }
+    ensures full { (depth : Depth) (limit : ℕ) (space : Space) (page : Page) (need : ℕ) → (step depth limit space (Action.Map page)).answer ≡ Answer.Full need → limit < need }
+    ensures unmap_inside { (depth : Depth) (limit : ℕ) (space : Space) (address base : ℕ) → IsSpace depth space → (step depth limit space (Action.Unmap address)).answer ≡ Answer.Inside base → IsInside space address base }
+    ensures protect_inside { (depth : Depth) (limit : ℕ) (space : Space) (address base : ℕ) (rights : Rights) → IsSpace depth space → (step depth limit space (Action.Protect address rights)).answer ≡ Answer.Inside base → IsInside space address base }
+    ensures unmap_not_mapped { (depth : Depth) (limit : ℕ) (space : Space) (address : ℕ) → IsSpace depth space → ((step depth limit space (Action.Unmap address)).answer ≡ Answer.NotMapped) ↔ (look space address ≡ Answer.NotMapped) }
+    ensures protect_not_mapped { (depth : Depth) (limit : ℕ) (space : Space) (address : ℕ) (rights : Rights) → IsSpace depth space → ((step depth limit space (Action.Protect address rights)).answer ≡ Answer.NotMapped) ↔ (look space address ≡ Answer.NotMapped) }
 {}
 
 /// Two spaces in which each canonical address looks the same are equal. The addresses of a page are canonical.
