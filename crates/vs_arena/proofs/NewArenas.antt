@@ -1,0 +1,36 @@
+-- An arena while it is made: whole frames, and the numbers of all of them.
+use Rattle.std.proofs.Common.{◌≡◌, ◌+◌, ◌<◌, ℕ, List, [], ◌∷◌, ◌++◌, length, get_or, refl, sym, ap, subst, ◌∙◌, inl, inr, arith}
+use Rattle.std.specs.Prelude.{All}
+use Rattle.std.proofs.lemmas.List.{length_push, get_or_push, get_or_append_left}
+use Rattle.std.proofs.lemmas.List.Elements.{All-push}
+use Rattle.std.proofs.lemmas.Bool.{cases_eq}
+use Rattle.vs_arena.specs.Store.{IsFrame, zeros}
+use Rattle.vs_arena.proofs.MarkedFrames.{IsFrame-zeros}
+
+-- this many frames, and their numbers from 0 on
+pub record HasMade (words : List (List ℕ)) (free : List ℕ) (n : ℕ) : Type 0 where
+  pub words_for_each : length words ≡ n
+  pub whole_frames : All IsFrame words
+  pub room_for_each : length free ≡ n
+  pub free_itself : (k : ℕ) → k < n → get_or free k 0 ≡ k
+
+pub HasMade-none : HasMade [] [] 0
+HasMade-none = record {
+  words_for_each = refl;
+  whole_frames = λ k d below. absurd (omega arith);
+  room_for_each = refl;
+  free_itself = λ k below. absurd (omega arith);
+}
+
+pub HasMade-push : (words : List (List ℕ)) (free : List ℕ) (n : ℕ) (own : List ℕ) → own ≡ zeros → HasMade words free n → HasMade (words ++ own ∷ []) (free ++ n ∷ []) (n + 1)
+HasMade-push words free n own cleared made = record {
+  words_for_each = length_push words own ∙ ap (λ k. k + 1) made.words_for_each;
+  whole_frames = All-push IsFrame words own made.whole_frames (subst IsFrame (sym cleared) IsFrame-zeros);
+  room_for_each = length_push free n ∙ ap (λ k. k + 1) made.room_for_each;
+  free_itself = λ k below. elim (cases_eq k n) as (λ _. get_or (free ++ n ∷ []) k 0 ≡ k) [
+    | inl last ↦ get_or_push free n 0 k (made.room_for_each ∙ sym last) ∙ sym last
+    | inr other ↦
+        let within : k < n = omega arith in
+        get_or_append_left free (n ∷ []) 0 k (omega (arith, made.room_for_each)) ∙ made.free_itself k within
+  ];
+}

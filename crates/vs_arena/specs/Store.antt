@@ -1,0 +1,36 @@
+-- Stores of page-table frames: the frames in use, each with its 512 words, under its index.
+use Rattle.std.specs.Prelude.{◌≡◌, ℕ, ◌+◌, ◌^◌, ◌<◌, ◌≤◌, List, [], length, replicate, unwrap_or, Some, None, IsSome, All}
+use Rattle.std.specs.FinMap as finite
+use Rattle.std.specs.Ordering.{nat_cmp}
+
+abbrev pub Store : Type 0
+Store = finite.FinMap nat_cmp (List ℕ)
+
+-- the frame of this index is in use
+abbrev pub IsInUse : Store → ℕ → Type 0
+IsInUse store index = IsSome (finite.get store index)
+
+-- the frame of this index isn't in use
+abbrev pub IsFree : Store → ℕ → Type 0
+IsFree store index = finite.get store index ≡ None
+
+-- the words of a frame in use
+abbrev pub words_of : Store → ℕ → List ℕ
+words_of store index = unwrap_or (finite.get store index) []
+
+-- a frame of zeros
+abbrev pub zeros : List ℕ
+zeros = replicate 512 0
+
+-- the words of a frame: 512 numbers of 64 bits
+pub record IsFrame (words : List ℕ) : Type 0 where
+  pub whole : length words ≡ 512
+  pub fit : All (λ word. word < 2 ^ 64) words
+
+-- the frames in use of a store with this base frame number and this capacity
+pub record IsStore (base size : ℕ) (store : Store) : Type 0 where
+  pub few_frames : size ≤ 4096
+  pub numbers_fit : base + size ≤ 2 ^ 40
+  pub within : (index : ℕ) → IsInUse store index → index < size
+  pub frames : (index : ℕ) (words : List ℕ) → finite.get store index ≡ Some words → IsFrame words
+  pub counted : finite.len store ≤ size

@@ -1,0 +1,49 @@
+ghost use Rattle.std.specs.Prelude.{◌≡◌, ◌<◌};
+ghost use Rattle.vs_arena.specs.Store.{zeros};
+
+use std::marker::Model;
+
+/// How many words a frame has.
+pub const FRAME_WORDS: usize = 512;
+
+/// The name of a frame of a store: its index, below 4,096. Contracts see the index.
+#[derive(Clone, Copy, Debug, PartialEq, Eq)]
+pub struct Frame {
+    index: u16,
+}
+
+impl Model for Frame {
+    ghost use Rattle.std.specs.Prelude.{ℕ, ◌<◌};
+
+    ghost Value = { ℕ };
+
+    ghost view = { λ f. f.index };
+
+    ghost invariant = { λ f. f.index < 4096 };
+
+    ghost inverse = { λ n. record { index = n } };
+}
+
+impl Frame {
+    pub(crate) fn at_index(index: u16) -> Frame
+        requires { index < 4096 }
+        ensures { result ≡ index }
+    {
+        Frame { index }
+    }
+
+    /// Its place in the store: 0 to 4,095.
+    pub fn index(self) -> u16
+        ensures reads { result ≡ self }
+        ensures in_range { self < 4096 }
+    {
+        self.index
+    }
+}
+
+/// The words of a frame that was just taken.
+pub(crate) fn cleared_words() -> [u64; FRAME_WORDS]
+    ensures { result ≡ zeros }
+{
+    [0; FRAME_WORDS]
+}

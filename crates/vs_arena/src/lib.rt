@@ -1,0 +1,14 @@
+//! Stores of page-table frames: which frames are in use, and the words of each.
+//!
+//! A frame is 4,096 bytes: 512 words of 64 bits. A frame number is a physical address divided by 4,096.
+#![tactic(auto)]
+
+mod frame;
+mod store;
+#[cfg(test)]
+mod tests;
+mod vec_arena;
+
+pub use frame::{FRAME_WORDS, Frame};
+pub use store::FrameStore;
+pub use vec_arena::VecArena;

@@ -1,0 +1,80 @@
+ghost use Rattle.std.specs.Prelude.{◌≡◌, ℕ, ◌+◌, ◌^◌, ◌<◌, ◌≤◌, IfSome, IfNone, slice_index, slice_set};
+ghost use Rattle.std.specs.FinMap as finite;
+ghost use Rattle.vs_arena.specs.Store.{Store, IsInUse, IsFree, words_of, zeros, IsStore};
+
+use crate::frame::{FRAME_WORDS, Frame};
+
+/// Frames to be taken and given back. A store has up to 4,096 frames; frame i has the number `base + i`, below 2^40.
+///
+/// No call takes memory or waits. Frames that a call doesn't name keep their words.
+pub trait FrameStore {
+    /// The frames in use, by index.
+    ghost frames: { Self → Store };
+
+    /// The number of frame 0.
+    ghost base: { Self → ℕ };
+
+    /// How many frames there are, in use or not.
+    ghost size: { Self → ℕ };
+
+    /// How many frames there are, in use or not: 0 to 4,096.
+    fn capacity(&self) -> usize
+        ensures reads { result ≡ size self.now }
+        ensures is_store { IsStore (base self.now) (size self.now) (frames self.now) };
+
+    /// How many frames are in use.
+    fn used(&self) -> usize
+        ensures counts { result ≡ finite.len (frames self.now) }
+        ensures at_most { result ≤ size self.now };
+
+    /// A frame that wasn't in use, now in use and all zero, or `None` where all are in use.
+    fn take(&mut self) -> Option<Frame>
+        ensures was_free { IfSome result (IsFree (frames self.old)) }
+        ensures within { IfSome result (λ f. f < size self.old) }
+        ensures cleared { IfSome result (λ f. frames self.new ≡ finite.insert (frames self.old) f zeros) }
+
+        ensures all_in_use { IfNone result (finite.len (frames self.old) ≡ size self.old) }
+        ensures unchanged { IfNone result (frames self.new ≡ frames self.old) }
+
+        ensures same_base { base self.new ≡ base self.old }
+        ensures same_size { size self.new ≡ size self.old };
+
+    /// Gives a frame back, so that it isn't in use.
+    fn give(&mut self, frame: Frame)
+        requires { IsInUse (frames self.old) frame }
+        ensures removed { frames self.new ≡ finite.remove (frames self.old) frame }
+        ensures same_base { base self.new ≡ base self.old }
+        ensures same_size { size self.new ≡ size self.old };
+
+    /// The word of a frame in use at an index below 512.
+    fn get(&self, frame: Frame, index: usize) -> u64
+        requires in_use { IsInUse (frames self.now) frame }
+        requires in_frame { index < 512 }
+        ensures { result ≡ slice_index (words_of (frames self.now) frame) index };
+
+    /// Writes one word of a frame in use, at an index below 512.
+    fn set(&mut self, frame: Frame, index: usize, word: u64)
+        requires in_use { IsInUse (frames self.old) frame }
+        requires in_frame { index < 512 }
+        ensures written { frames self.new
+            ≡ finite.insert (frames self.old) frame (slice_set (words_of (frames self.old) frame) index word) }
+        ensures same_base { base self.new ≡ base self.old }
+        ensures same_size { size self.new ≡ size self.old };
+
+    /// The words of a frame in use.
+    fn frame(&self, frame: Frame) -> &[u64; FRAME_WORDS]
+        requires { IsInUse (frames self.now) frame }
+        ensures { result.now ≡ words_of (frames self.now) frame };
+
+    /// The frame number of a frame in use.
+    fn number(&self, frame: Frame) -> u64
+        requires { IsInUse (frames self.now) frame }
+        ensures numbered { result ≡ base self.now + frame }
+        ensures in_range { result < 2 ^ 40 };
+
+    /// The frame in use with this frame number, or `None` where there is none.
+    fn at(&self, number: u64) -> Option<Frame>
+        ensures numbered { IfSome result (λ f. base self.now + f ≡ number) }
+        ensures in_use { IfSome result (IsInUse (frames self.now)) }
+        ensures unknown { IfNone result ((f : ℕ) → base self.now + f ≡ number → IsFree (frames self.now) f) };
+}

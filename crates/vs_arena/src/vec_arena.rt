@@ -1,0 +1,117 @@
+ghost use Rattle.std.specs.Prelude.{◌≡◌, ◌+◌, ◌^◌, ◌≤◌, IfOk};
+ghost use Rattle.std.specs.FinMap as finite;
+
+use crate::frame::{FRAME_WORDS, Frame, cleared_words};
+use crate::store::FrameStore;
+use std::alloc::Global;
+use std::marker::Model;
+use vs_types::Memory;
+
+/// A store of frames that lie in one vector. `new` takes all its memory: 4,099 bytes a frame.
+#[derive(Debug, Drop)]
+pub struct VecArena {
+    base: u64,
+    words: Vec<[u64; FRAME_WORDS]>,
+    /// Whether each frame is in use.
+    marks: Vec<bool>,
+    /// Its first `free_count` numbers are the frames that aren't in use.
+    free: Vec<u16>,
+    free_count: usize,
+}
+
+impl Model for VecArena {
+    ghost use Rattle.std.specs.Prelude.{length};
+    ghost use Rattle.vs_arena.specs.Arena.{Arena, arena_code, marked_frames, IsArena};
+
+    ghost Value = { Arena };
+
+    ghost coded = { arena_code };
+
+    ghost view = { λ a. record { base = a.base; size = length a.marks.items; frames = marked_frames a.marks.items a.words.items } };
+
+    ghost invariant = { λ a. IsArena a.base a.words.items a.marks.items a.free.items a.free_count };
+}
+
+impl VecArena {
+    /// A store of `n` frames of which none is in use; frame 0 has the number `base`. It can fail for want of memory.
+    pub fn new(alloc: Global, base: u64, n: usize) -> Result<VecArena, Memory>
+        requires few { n ≤ 4096 }
+        requires in_range { base + n ≤ 2 ^ 40 }
+        ensures { IfOk result (λ a. a ≡ record { base = base; size = n; frames = finite.empty }) }
+    {
+        let mut words = Vec::with_capacity(alloc, n)?;
+        let marks = vec![in alloc; false; n]?;
+        let mut free = Vec::with_capacity(alloc, n)?;
+        for index in 0..n {
+            words.push(cleared_words())?;
+            free.push(index as u16)?;
+        }
+        Ok(VecArena {
+            base,
+            words,
+            marks,
+            free,
+            free_count: n,
+        })
+    }
+}
+
+impl FrameStore for VecArena {
+    ghost frames = { λ a. a.frames };
+
+    ghost base = { λ a. a.base };
+
+    ghost size = { λ a. a.size };
+
+    fn capacity(&self) -> usize {
+        self.words.len()
+    }
+
+    fn used(&self) -> usize {
+        self.words.len() - self.free_count
+    }
+
+    fn take(&mut self) -> Option<Frame> {
+        if self.free_count == 0 {
+            return None;
+        }
+        self.free_count -= 1;
+        let index = self.free[self.free_count];
+        self.marks[index as usize] = true;
+        self.words[index as usize] = cleared_words();
+        Some(Frame::at_index(index))
+    }
+
+    fn give(&mut self, frame: Frame) {
+        let index = frame.index();
+        self.marks[index as usize] = false;
+        self.free[self.free_count] = index;
+        self.free_count += 1;
+    }
+
+    fn get(&self, frame: Frame, index: usize) -> u64 {
+        self.frame(frame)[index]
+    }
+
+    fn set(&mut self, frame: Frame, index: usize, word: u64) {
+        let words = &mut self.words[frame.index() as usize];
+        words[index] = word;
+    }
+
+    fn frame(&self, frame: Frame) -> &[u64; FRAME_WORDS] {
+        &self.words[frame.index() as usize]
+    }
+
+    fn number(&self, frame: Frame) -> u64 {
+        self.base + frame.index() as u64
+    }
+
+    fn at(&self, number: u64) -> Option<Frame> {
+        let index = number.checked_sub(self.base)? as usize;
+        if index < self.marks.len() && self.marks[index] {
+            Some(Frame::at_index(index as u16))
+        } else {
+            None
+        }
+    }
+}
