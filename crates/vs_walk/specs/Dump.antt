@@ -1,5 +1,5 @@
 -- Dumps: the page table of a replica as it was after some entries of the log.
-use Rattle.std.specs.Prelude.{◌≡◌, ℕ, List, refl}
+use Rattle.std.specs.Prelude.{◌≡◌, ℕ, ◌^◌, ◌<◌, ◌≤◌, List, All, IsTrue, length, refl}
 use Rattle.std.specs.Coded.{Coded, code_by, coded×, coded_ℕ, coded_list}
 use Rattle.std.specs.FinMap as finite
 use Rattle.std.specs.Ordering.{nat_cmp}
@@ -13,3 +13,21 @@ pub record Image : Type 0 where
 
 abbrev pub image_code : Coded Image
 image_code = code_by (ℕ × (ℕ × Memory)) (coded× coded_ℕ (coded× coded_ℕ (finite.code {R = nat_cmp} coded_ℕ (coded_list coded_ℕ)))) (λ d. (d.applied, (d.root, d.frames))) (λ p. record { applied = p.0; root = p.1.0; frames = p.1.1 }) (λ _. refl)
+
+-- the words of a frame: 512 of 64 bits
+pub record IsFrame (words : List ℕ) : Type 0 where
+  pub all_there : length words ≡ 512
+  pub fit : All (λ word. word < 2 ^ 64) words
+
+-- what the parts of a dump are: at most 4,096 frames, whose numbers rise
+pub record AreParts (applied root : ℕ) (frames : List (ℕ × List ℕ)) : Type 0 where
+  pub applied_fits : applied < 2 ^ 32
+  pub root_fits : root < 2 ^ 64
+  pub few : length frames ≤ 4096
+  pub rising : IsTrue (finite.is_sorted nat_cmp frames)
+  pub in_range : All (λ frame. frame.0 < 2 ^ 40) frames
+  pub whole : All (λ frame. IsFrame frame.1) frames
+
+-- what each dump is
+abbrev pub IsDump : Image → Type 0
+IsDump image = AreParts image.applied image.root (finite.entries image.frames)

@@ -2,6 +2,7 @@ pub mod Memory
 pub mod Walk
 pub mod Traversal
 pub mod Dump
+pub mod Examples
 pub use Rattle.vs_types.specs.Depth
 pub use Rattle.vs_types.specs.Page
 pub use Rattle.vs_types.specs.Space

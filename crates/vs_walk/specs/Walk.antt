@@ -7,6 +7,7 @@ use Rattle.vs_types.specs.Page.{joined}
 use Rattle.vs_types.specs.Space.{Space}
 use Rattle.vs_types.specs.Step.{look}
 use Rattle.vs_types.specs.Entry.{meaning, size_at}
+pub use Rattle.vs_types.specs.Entry.{all_rights}
 use Rattle.vs_types.specs.declared.depth.Depth.{Depth}
 use Rattle.vs_types.specs.declared.page.Rights.{Rights}
 use Rattle.vs_types.specs.declared.entry.Meaning.{Meaning}
@@ -16,10 +17,6 @@ use Rattle.vs_types.specs.declared.answer.Answer.TheVariants as answers
 use Rattle.vs_walk.specs.Memory.{Memory}
 use Rattle.vs_walk.specs.declared.walk.Walk.{Walk}
 use Rattle.vs_walk.specs.declared.walk.Walk.TheVariants.{NotMapped, Reserved, Missing, Mapped}
-
--- what no entry forbids
-abbrev pub all_rights : Rights
-all_rights = record { write = true; user = true; exec = true }
 
 -- the walk at an entry of a table of this level, where the entries above it allow these rights; below goes on in the next table
 abbrev pub walk_entry : ℕ → Rights → ℕ → (ℕ → Rights → Walk) → Meaning → Walk

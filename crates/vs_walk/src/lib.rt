@@ -4,9 +4,15 @@
 #![tactic(auto)]
 
 mod dump;
+pub mod examples;
 mod frames;
+mod laws;
 mod walk;
 
 pub use dump::Dump;
 pub use frames::{FRAME_WORDS, Frames};
-pub use walk::{Walk, WalkFault};
+pub use laws::{spaces_translate_without_fault, translates_as_one_space};
+pub use walk::{Walk, WalkFault, translate};
+
+#[cfg(test)]
+mod tests;

@@ -1,4 +1,11 @@
-use vs_types::{Rights, Size};
+ghost use Rattle.std.specs.Prelude.{◌≡◌, ◌≤◌, ◌%◌, ◌^◌};
+ghost use Rattle.vs_types.specs.Depth.{entry_bytes, index_at, IsCanonical};
+ghost use Rattle.vs_types.specs.Page.{joined};
+ghost use Rattle.vs_types.specs.Entry.{size_at};
+ghost use Rattle.vs_walk.specs.Walk.{walk};
+
+use crate::frames::Frames;
+use vs_types::{Depth, Entry, Meaning, Rights, Size};
 
 /// Where a walk through the tables ends (Intel SDM volume 3A, chapter "Paging").
 #[derive(Clone, Copy, Debug, PartialEq, Eq)]
@@ -22,4 +29,68 @@ pub enum WalkFault {
     Shared(u64),
     /// The word of this frame at this index, from 0 to 511, has a reserved bit set.
     Reserved(u64, u16),
+}
+
+/// Where the walk of a canonical address ends that begins at the table in the frame of number `root`. It takes no
+/// memory.
+pub fn translate<F: Frames>(frames: &F, root: u64, depth: Depth, address: u64) -> Walk
+    requires { IsCanonical depth address }
+    ensures { result ≡ walk depth (F.memory frames.now) root address }
+{
+    let mut number = root;
+    let mut rights = Rights {
+        write: true,
+        user: true,
+        exec: true,
+    };
+    let mut level = depth.levels();
+    while level > 0 {
+        let Some(words) = frames.words(number) else {
+            return Walk::Missing;
+        };
+        match Entry::new(words[index_at(level, address)]).read(level) {
+            Meaning::Absent => return Walk::NotMapped,
+            Meaning::Reserved => return Walk::Reserved,
+            Meaning::Leaf(phys, own) => {
+                let offset = address % (1 << (3 + 9 * level));
+                return Walk::Mapped(phys + offset, size_at(level), joined(rights, own));
+            }
+            Meaning::Table(next, own) => {
+                number = next;
+                rights = joined(rights, own);
+            }
+        }
+        level -= 1;
+    }
+    Walk::Missing
+}
+
+// The index of an address in a table of this level.
+fn index_at(level: u8, address: u64) -> usize
+    requires { level ≤ 5 }
+    ensures { result ≡ index_at level address }
+{
+    ((address >> (3 + 9 * level)) % 512) as usize
+}
+
+// The size of the pages that entries of this level map.
+fn size_at(level: u8) -> Size
+    ensures { result ≡ size_at level }
+{
+    match level {
+        0 | 1 => Size::K4,
+        2 => Size::M2,
+        _ => Size::G1,
+    }
+}
+
+// What both allow.
+fn joined(a: Rights, b: Rights) -> Rights
+    ensures { result ≡ joined a b }
+{
+    Rights {
+        write: a.write && b.write,
+        user: a.user && b.user,
+        exec: a.exec && b.exec,
+    }
 }

@@ -1,0 +1,4 @@
+pub mod Listed
+pub mod Neighbours
+pub mod Counts
+pub mod Tables

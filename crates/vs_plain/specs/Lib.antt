@@ -1,0 +1,10 @@
+pub mod Coded
+pub mod Listed
+pub mod PageMap
+pub mod Plain
+pub mod Tables
+pub use Rattle.vs_types.specs.Depth
+pub use Rattle.vs_types.specs.Page
+pub use Rattle.vs_types.specs.Operation
+pub use Rattle.vs_types.specs.Space
+pub use Rattle.vs_types.specs.Step

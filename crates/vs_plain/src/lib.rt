@@ -1,0 +1,12 @@
+//! The plain address space: the pages in an ordered map by base, with the table count kept beside them.
+//!
+//! Numbers are bytes unless a name says otherwise. `PlainSpace::apply` and `PlainSpace::pages` take memory.
+#![tactic(auto)]
+
+mod page_map;
+mod plain;
+
+pub use plain::PlainSpace;
+
+#[cfg(test)]
+mod tests;

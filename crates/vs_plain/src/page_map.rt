@@ -1,0 +1,123 @@
+ghost use Rattle.std.specs.Prelude.{◌≡◌, ◌+◌, ◌<◌, ◌≤◌, ◌||◌, None, IfOk, OnOk, OnErr};
+ghost use Rattle.std.specs.FinMap as finite;
+ghost use Rattle.vs_types.specs.Space.{no_pages, pages, least_overlapped, table_count, IsSpace};
+ghost use Rattle.vs_types.specs.Depth.{levels};
+ghost use Rattle.vs_types.specs.Page.{IsPage};
+ghost use Rattle.vs_plain.specs.Tables.{begins_in_stretch};
+ghost use Rattle.vs_plain.specs.PageMap.{IsLastUpTo, IsFirstFrom};
+
+use std::alloc::Global;
+use std::collections::BTreeMap;
+use std::marker::Model;
+use vs_types::{Depth, Memory, Page};
+
+/// Pages, each under its base. Contracts see the space that they make.
+#[derive(Debug, Drop)]
+pub(crate) struct PageMap {
+    alloc: Global,
+    by_base: BTreeMap<u64, Page>,
+}
+
+impl Model for PageMap {
+    ghost use Rattle.vs_types.specs.Space.{Space};
+    ghost use Rattle.vs_plain.specs.Coded.{space_code};
+    ghost use Rattle.vs_plain.specs.Listed.{IsByBase, listed_space};
+
+    ghost Value = { Space };
+
+    ghost coded = { space_code };
+
+    ghost view = { λ m. listed_space m.by_base.entries };
+
+    ghost invariant = { λ m. IsByBase m.by_base.entries };
+}
+
+/// Whether the page begins in the stretch that the address's table of this level covers.
+fn begins_in_stretch(level: u8, address: u64, page: Option<Page>) -> bool
+    requires { level < 5 }
+    ensures { result ≡ begins_in_stretch level address page }
+{
+    let shift = 12 + 9 * level;
+    match page {
+        Some(page) => page.base >> shift == address >> shift,
+        None => false,
+    }
+}
+
+/// Whether one of the pages next to the address begins in that stretch.
+fn shares_table(level: u8, address: u64, below: Option<Page>, above: Option<Page>) -> bool
+    requires { level < 5 }
+    ensures { result ≡ (begins_in_stretch level address below || begins_in_stretch level address above) }
+{
+    begins_in_stretch(level, address, below) || begins_in_stretch(level, address, above)
+}
+
+impl PageMap {
+    pub(crate) fn new(alloc: Global) -> PageMap
+        ensures { result ≡ no_pages }
+    {
+        PageMap {
+            alloc,
+            by_base: BTreeMap::new(alloc),
+        }
+    }
+
+    /// The page with the greatest base up to the address.
+    pub(crate) fn last_up_to(&self, address: u64) -> Option<Page>
+        ensures { IsLastUpTo self.now address result }
+    {
+        let (_, page) = self.by_base.range(..=address).next_back()?;
+        Some(*page)
+    }
+
+    /// The page with the least base from the address on.
+    pub(crate) fn first_from(&self, address: u64) -> Option<Page>
+        ensures { IsFirstFrom self.now address result }
+    {
+        let (_, page) = self.by_base.range(address..).next()?;
+        Some(*page)
+    }
+
+    /// Puts the page under its base, in the place of one that is there.
+    pub(crate) fn insert(&mut self, page: Page) -> Result<(), Memory>
+        ensures ok { OnOk result (self.new ≡ finite.insert self.old page.base page) }
+        ensures err { OnErr result (self.new ≡ self.old) }
+        ensures absent { OnErr result (finite.get self.old page.base ≡ None) }
+    {
+        self.by_base.insert(page.base, page)?;
+        Ok(())
+    }
+
+    /// Takes out the page that begins at `base`.
+    pub(crate) fn remove(&mut self, base: u64)
+        ensures { self.new ≡ finite.remove self.old base }
+    {
+        let _page = self.by_base.remove(&base);
+    }
+
+    /// How many tables the page needs beside those of the pages here, none of which it overlaps.
+    pub(crate) fn new_tables(&self, depth: Depth, page: Page) -> usize
+        requires is_space { IsSpace depth self.now }
+        requires well_formed { IsPage depth page }
+        requires free { least_overlapped self.now page ≡ None }
+        ensures more { result + table_count depth self.now ≡ table_count depth (finite.insert self.now page.base page) }
+        ensures few { result ≤ levels depth }
+    {
+        let below = self.last_up_to(page.base);
+        let above = self.first_from(page.base);
+        let mut count = 0;
+        for level in page.size.level()..depth.levels() {
+            if !shares_table(level, page.base, below, above) {
+                count += 1;
+            }
+        }
+        count
+    }
+
+    /// All pages, by rising base.
+    pub(crate) fn list(&self) -> Result<Vec<Page>, Memory>
+        ensures { IfOk result (λ v. v.items ≡ pages self.now) }
+    {
+        Ok(self.by_base.values().copied().collect(self.alloc)?)
+    }
+}

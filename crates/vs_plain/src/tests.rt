@@ -1,0 +1,205 @@
+use crate::PlainSpace;
+use std::process::Abort;
+use vs_types::{Answer, BadOp, Depth, Op, Page, Rights, Size};
+
+const ALL: Rights = Rights {
+    write: true,
+    user: true,
+    exec: true,
+};
+
+const WRITE: Rights = Rights {
+    write: true,
+    user: false,
+    exec: false,
+};
+
+const USER_AND_EXEC: Rights = Rights {
+    write: false,
+    user: true,
+    exec: true,
+};
+
+/// The answer; where memory is refused, that of a second try, before which the space must be unchanged.
+fn apply(rt: &impl Abort, space: &mut PlainSpace, op: Result<Op, BadOp>) -> Answer {
+    let op = op.expect(rt, "a well-formed operation");
+    let tables = space.tables();
+    let first = space.resolve(0);
+    if let Ok(answer) = space.apply(op) {
+        return answer;
+    }
+    assert_eq!(rt; space.tables(), tables);
+    assert_eq!(rt; space.resolve(0), first);
+    space.apply(op).expect(rt, "memory")
+}
+
+fn pages(rt: &impl Abort, space: &PlainSpace) -> Vec<Page> {
+    match space.pages() {
+        Ok(pages) => pages,
+        Err(_) => space.pages().expect(rt, "memory"),
+    }
+}
+
+fn map(rt: &impl Abort, space: &mut PlainSpace, base: u64, size: Size, phys: u64) -> Answer {
+    apply(rt, space, Op::map(Depth::Four, base, size, phys, ALL))
+}
+
+fn unmap(rt: &impl Abort, space: &mut PlainSpace, base: u64) -> Answer {
+    apply(rt, space, Op::unmap(Depth::Four, base))
+}
+
+fn protect(rt: &impl Abort, space: &mut PlainSpace, base: u64, rights: Rights) -> Answer {
+    apply(rt, space, Op::protect(Depth::Four, base, rights))
+}
+
+#[test]
+fn both_halves_of_the_address_space(rt: HostRuntime) {
+    let mut space = PlainSpace::new(rt.alloc(), 4096, Depth::Four);
+    assert_eq!(rt; space.depth(), Depth::Four);
+    assert_eq!(rt; space.tables(), 1);
+    assert_eq!(rt;
+        map(&rt, &mut space, 0x7FFFFFFFF000, Size::K4, 0x2000),
+        Answer::Done
+    );
+    assert_eq!(rt;
+        map(&rt, &mut space, 0xFFFF800000000000, Size::K4, 0x3000),
+        Answer::Done
+    );
+    assert_eq!(rt; space.tables(), 7);
+    assert_eq!(rt;
+        space.resolve(0x7FFFFFFFFFFF),
+        Answer::Mapped(0x2FFF, Size::K4, ALL)
+    );
+    assert_eq!(rt;
+        space.resolve(0xFFFF800000000000),
+        Answer::Mapped(0x3000, Size::K4, ALL)
+    );
+}
+
+#[test]
+fn last_page_of_the_address_space(rt: HostRuntime) {
+    let mut space = PlainSpace::new(rt.alloc(), 4096, Depth::Four);
+    assert_eq!(rt;
+        map(&rt, &mut space, 0xFFFFFFFFC0000000, Size::G1, 0),
+        Answer::Done
+    );
+    assert_eq!(rt;
+        space.resolve(u64::MAX),
+        Answer::Mapped(0x3FFFFFFF, Size::G1, ALL)
+    );
+    let overlap = Answer::Overlap(0xFFFFFFFFC0000000);
+    assert_eq!(rt;
+        map(&rt, &mut space, 0xFFFFFFFFFFFFF000, Size::K4, 0),
+        overlap
+    );
+}
+
+#[test]
+fn overlap_names_least_base(rt: HostRuntime) {
+    let mut space = PlainSpace::new(rt.alloc(), 4096, Depth::Four);
+    assert_eq!(rt;
+        map(&rt, &mut space, 0x40200000, Size::K4, 0x1000),
+        Answer::Done
+    );
+    assert_eq!(rt;
+        map(&rt, &mut space, 0x40001000, Size::K4, 0x2000),
+        Answer::Done
+    );
+    assert_eq!(rt; space.tables(), 5);
+    let overlap = Answer::Overlap(0x40001000);
+    assert_eq!(rt;
+        map(&rt, &mut space, 0x40000000, Size::G1, 0x40000000),
+        overlap
+    );
+    let page = |base: u64, phys: u64| Page {
+        base,
+        size: Size::K4,
+        phys,
+        rights: ALL,
+    };
+    let pages = pages(&rt, &space);
+    let listed = [page(0x40001000, 0x2000), page(0x40200000, 0x1000)];
+    assert_eq!(rt; pages.as_slice(), listed.as_slice());
+}
+
+#[test]
+fn gigabyte_page(rt: HostRuntime) {
+    let mut space = PlainSpace::new(rt.alloc(), 4096, Depth::Four);
+    let op = Op::map(Depth::Four, 0x40000000, Size::G1, 0x40000000, WRITE);
+    assert_eq!(rt; apply(&rt, &mut space, op), Answer::Done);
+    assert_eq!(rt; space.tables(), 2);
+    assert_eq!(rt;
+        unmap(&rt, &mut space, 0x40001000),
+        Answer::Inside(0x40000000)
+    );
+    let mapped = Answer::Mapped(0x40001234, Size::G1, WRITE);
+    assert_eq!(rt; space.resolve(0x40001234), mapped);
+}
+
+#[test]
+fn full_names_its_need(rt: HostRuntime) {
+    let mut space = PlainSpace::new(rt.alloc(), 3, Depth::Four);
+    assert_eq!(rt;
+        map(&rt, &mut space, 0x200000, Size::M2, 0x200000),
+        Answer::Done
+    );
+    assert_eq!(rt;
+        map(&rt, &mut space, 0x400000, Size::K4, 0x1000),
+        Answer::Full(4)
+    );
+    assert_eq!(rt;
+        map(&rt, &mut space, 0x200000, Size::K4, 0x1000),
+        Answer::Overlap(0x200000)
+    );
+    assert_eq!(rt; space.tables(), 3);
+}
+
+#[test]
+fn unmap_frees_tables(rt: HostRuntime) {
+    let mut space = PlainSpace::new(rt.alloc(), 4096, Depth::Four);
+    assert_eq!(rt;
+        map(&rt, &mut space, 0x400000, Size::K4, 0x1000),
+        Answer::Done
+    );
+    assert_eq!(rt; space.tables(), 4);
+    let removed = Answer::Removed(0x1000, Size::K4, ALL);
+    assert_eq!(rt; unmap(&rt, &mut space, 0x400000), removed);
+    assert_eq!(rt; space.tables(), 1);
+    assert_eq!(rt; space.resolve(0x400000), Answer::NotMapped);
+    assert_eq!(rt; unmap(&rt, &mut space, 0x400000), Answer::NotMapped);
+    assert_eq!(rt;
+        map(&rt, &mut space, 0x400000, Size::M2, 0x200000),
+        Answer::Done
+    );
+    assert_eq!(rt; space.tables(), 3);
+}
+
+#[test]
+fn protect_changes_rights(rt: HostRuntime) {
+    let mut space = PlainSpace::new(rt.alloc(), 4096, Depth::Four);
+    let op = Op::map(Depth::Four, 0x1000, Size::K4, 0x5000, WRITE);
+    assert_eq!(rt; apply(&rt, &mut space, op), Answer::Done);
+    assert_eq!(rt;
+        protect(&rt, &mut space, 0x1000, USER_AND_EXEC),
+        Answer::Changed(WRITE)
+    );
+    assert_eq!(rt;
+        space.resolve(0x1000),
+        Answer::Mapped(0x5000, Size::K4, USER_AND_EXEC)
+    );
+    assert_eq!(rt; protect(&rt, &mut space, 0x2000, ALL), Answer::NotMapped);
+    assert_eq!(rt; space.tables(), 4);
+}
+
+/// Many pages, so that the map grows more than once.
+#[test]
+fn many_pages(rt: HostRuntime) {
+    let mut space = PlainSpace::new(rt.alloc(), 4096, Depth::Four);
+    for place in 0..40u64 {
+        let base = place << 30;
+        assert_eq!(rt; space.resolve(base), Answer::NotMapped);
+        assert_eq!(rt; map(&rt, &mut space, base, Size::G1, base), Answer::Done);
+    }
+    assert_eq!(rt; pages(&rt, &space).len(), 40);
+    assert_eq!(rt; space.tables(), 2);
+}

@@ -1,0 +1,18 @@
+use Rattle.std.proofs.Common.{◌≡◌, ℕ, List, ap, ◌∙◌}
+use Rattle.std.specs.FinMap as finite
+use Rattle.std.specs.Ordering.{nat_cmp}
+use Rattle.vs_walk.proofs.Dumps.{no_frames, no_numbers}
+use Rattle.vs_walk.proofs.Held.{frame_rows}
+use Rattle.vs_walk.proofs.dump.Dump.new.Goals as goal
+
+made : (c : goal.After-new) → finite.from_sorted {R = nat_cmp} (frame_rows c.new.result.items) ≡ finite.empty
+made c = ap (λ frames. finite.from_sorted {R = nat_cmp} (frame_rows frames)) c.new.ensures.items ∙ no_frames
+
+pub returns-clause-made : goal.returns-clause-made
+returns-clause-made c = λ i. record { applied = c.args.applied; root = c.args.root; frames = made c i }
+
+pub returns-clause-numbers : goal.returns-clause-numbers
+returns-clause-numbers c = ap finite.keys (made c) ∙ no_numbers
+
+pub returns-clause-count : goal.returns-clause-count
+returns-clause-count c = ap finite.len (made c) ∙ finite.len-empty nat_cmp (List ℕ)

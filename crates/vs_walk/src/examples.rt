@@ -1,0 +1,43 @@
+//! Worked examples: what the definitions give at numbers.
+ghost use Rattle.std.specs.Prelude.{◌≡◌, List, [], ◌∷◌, Some, None};
+ghost use Rattle.vs_types.specs.declared.depth.Depth.TheVariants.{Four};
+ghost use Rattle.vs_types.specs.declared.page.Size.TheVariants.{K4, M2};
+ghost use Rattle.vs_walk.specs.declared.walk.Walk.TheVariants.{NotMapped, Reserved, Missing, Mapped};
+ghost use Rattle.vs_walk.specs.declared.walk.WalkFault.TheVariants as faults;
+ghost use Rattle.vs_walk.specs.Walk.{all_rights, walk};
+ghost use Rattle.vs_walk.specs.Traversal.{moves, reached, found, walk_fault};
+ghost use Rattle.vs_walk.specs.Examples.{page_tables, three_tables, one_table, two_empty_frames, one_empty_frame, write_and_exec};
+
+/// Tables of one page of 4 KiB: an address in it, one behind it, and the way through the tables.
+pub fn map_then_resolve()
+    ensures mapped { walk Four (page_tables 0x4007 0x1007) 1 0x400123 ≡ Mapped 0x1123 K4 all_rights }
+    ensures not_mapped { walk Four (page_tables 0x4007 0x1007) 1 0x401000 ≡ NotMapped }
+    ensures reached { reached (moves Four (page_tables 0x4007 0x1007) 1) ≡ 1 ∷ 2 ∷ 3 ∷ 4 ∷ [] }
+    ensures found { found (moves Four (page_tables 0x4007 0x1007) 1) ≡ record { base = 0x400000; size = K4; phys = 0x1000; rights = all_rights } ∷ [] }
+    ensures faultless { walk_fault Four (page_tables 0x4007 0x1007) 1 ≡ None }
+{}
+
+/// An entry above the leaf that keeps users out keeps them out of the page.
+pub fn dump_with_fewer_rights()
+    ensures { walk Four (page_tables 0x4003 0x1007) 1 0x400000 ≡ Mapped 0x1000 K4 write_and_exec }
+{}
+
+/// A leaf with each bit set that means nothing translates as one without them.
+pub fn ignored_bits_are_ignored()
+    ensures { walk Four (page_tables 0x4007 0x7FF0000000001FFF) 1 0x400123 ≡ Mapped 0x1123 K4 all_rights }
+{}
+
+/// What is wrong with tables that are no tree: a reserved bit, a table that leads to itself, a frame that is missing.
+/// Bit 12 of a page of 2 MiB means nothing, and a frame that nothing leads to is not reached.
+pub fn faulty_dumps()
+    ensures reserved_bit { walk_fault Four (three_tables 0x202087) 1 ≡ Some (faults.Reserved 3 1) }
+    ensures reserved_walk { walk Four (three_tables 0x202087) 1 0x200000 ≡ Reserved }
+    ensures other_page { walk_fault Four (three_tables 0x201087) 1 ≡ None }
+    ensures other_page_walk { walk Four (three_tables 0x201087) 1 0x200000 ≡ Mapped 0x200000 M2 all_rights }
+    ensures shared_frame { walk_fault Four (one_table 0x1007) 1 ≡ Some (faults.Shared 1) }
+    ensures missing_frame { walk_fault Four (one_table 0x2007) 1 ≡ Some (faults.Missing 2) }
+    ensures missing_walk { walk Four (one_table 0x2007) 1 0 ≡ Missing }
+    ensures stray_frame { walk_fault Four two_empty_frames 1 ≡ None }
+    ensures stray_reached { reached (moves Four two_empty_frames 1) ≡ 1 ∷ [] }
+    ensures missing_root { walk_fault Four one_empty_frame 5 ≡ Some (faults.Missing 5) }
+{}
