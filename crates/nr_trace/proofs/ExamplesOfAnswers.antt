@@ -1,0 +1,62 @@
+-- What the address space answers in the worked examples. The pages of a space are its entries, and those of a space that
+-- is made by inserts compute.
+use Rattle.std.proofs.Common.{◌≡◌, ℕ, ◌+◌, ◌-◌, nat_le, true, Option, Some, None, List, [], ◌∷◌, map, filter, find, length, refl, ap, sym, ◌∙◌, arith}
+use Rattle.std.specs.FinMap as finite
+use Rattle.std.specs.FinMap.Entries as kept
+use Rattle.std.specs.Ordering.{nat_cmp}
+use Rattle.std.specs.Cmp.{nat_cmp_total}
+use Rattle.vs_types.specs.Space.{Space, no_pages, least, least_overlapped, tables_of_levels, table_count}
+use Rattle.vs_types.specs.Page.{covers, overlaps}
+use Rattle.vs_types.specs.Step.{Stepped, step, look}
+use Rattle.vs_types.specs.declared.depth.Depth.TheVariants.{Four}
+use Rattle.vs_types.specs.declared.page.Size.TheVariants.{K4}
+use Rattle.vs_types.specs.declared.answer.Answer.{Answer}
+use Rattle.vs_types.specs.declared.page.Page.{Page}
+use Rattle.vs_types.specs.declared.answer.Answer.TheVariants.{Done, Mapped, NotMapped}
+use Rattle.nr_trace.specs.Orders.{space_after, answer_in}
+use Rattle.vs_walk.specs.Walk.{all_rights}
+use Rattle.nr_trace.specs.Examples.{map_then_resolve, map_page, map_it, resolve_it, looks_mapped}
+
+no_length : {A : Type 0} (xs : List A) → length xs ≡ 0 → xs ≡ []
+no_length [] e = refl
+no_length (x ∷ xs) e = absurd (omega arith)
+
+entries_empty : finite.entries no_pages ≡ []
+entries_empty = no_length _ (sym (finite.len-entries _) ∙ finite.len-empty nat_cmp Page)
+
+entries_insert : (space : Space) (k : ℕ) (v : Page) → finite.entries (finite.insert space k v) ≡ kept.put nat_cmp k v (finite.entries space)
+entries_insert space k v = finite.entries-insert nat_cmp_total space k v
+
+-- the page of `map_it`
+abbrev page : Page
+page = record { base = 0x400000; size = K4; phys = 0x1000; rights = all_rights }
+
+abbrev with_page : Space
+with_page = finite.insert no_pages 0x400000 page
+
+entries_with_page : finite.entries with_page ≡ (0x400000, page) ∷ []
+entries_with_page = entries_insert no_pages 0x400000 page ∙ ap (kept.put nat_cmp 0x400000 page) entries_empty
+
+none_overlapped : least_overlapped no_pages page ≡ None
+none_overlapped = ap (λ (es : List (ℕ × Page)). least (map (λ p. p.base) (filter (overlaps page) (map (λ e. e.1) es)))) entries_empty
+
+few_tables : (limit : ℕ) → nat_le (table_count Four with_page) limit ≡ nat_le 4 limit
+few_tables limit = ap (λ (es : List (ℕ × Page)). nat_le (1 + tables_of_levels 3 (map (λ e. e.1) es)) limit) entries_with_page
+
+maps : (limit : ℕ) → nat_le 4 limit ≡ true → step Four limit no_pages map_page ≡ record { space = with_page; answer = Done }
+maps limit enough =
+    let e = none_overlapped in
+    let f = few_tables limit ∙ enough in
+    rw (e, f) refl
+
+looks : look with_page 0x400123 ≡ looks_mapped
+looks = ap (λ (es : List (ℕ × Page)). looked_at (find (λ p. covers p 0x400123) (map (λ e. e.1) es))) entries_with_page where
+  looked_at : Option Page → Answer
+  looked_at None = NotMapped
+  looked_at (Some p) = Mapped (p.phys + (0x400123 - p.base)) p.size p.rights
+
+pub map_answer : answer_in map_then_resolve.layout (space_after map_then_resolve []) map_it ≡ Done
+map_answer = ap (λ (s : Stepped). s.answer) (maps 4 refl)
+
+pub resolve_answer : answer_in map_then_resolve.layout (space_after map_then_resolve (0 ∷ [])) resolve_it ≡ looks_mapped
+resolve_answer = ap (λ (s : Stepped). look s.space 0x400123) (maps 4 refl) ∙ looks

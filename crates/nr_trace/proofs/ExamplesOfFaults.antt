@@ -1,0 +1,82 @@
+-- One change to `map_then_resolve` makes one fault hold.
+use Rattle.std.proofs.Common.{◌≢◌, ℕ, zero, suc, ◌<◌, [], ◌∷◌, refl, ap, ◌∙◌, lit<, eqb, arith}
+use Rattle.std.proofs.lemmas.Bool.{false≢true}
+use Rattle.std.proofs.lemmas.Option.{none-some}
+use Rattle.vs_types.specs.declared.answer.Answer.{Answer}
+use Rattle.vs_types.specs.declared.answer.Answer.TheVariants.{Done, Mapped}
+use Rattle.vs_types.specs.declared.page.Size.TheVariants.{K4}
+use Rattle.nr_trace.specs.Calls.{Answers, IsCall}
+use Rattle.nr_trace.specs.Faults.{Holds}
+use Rattle.vs_walk.specs.Walk.{all_rights}
+use Rattle.nr_trace.specs.Examples.{map_it, resolve_it, looks_mapped, dump_of_page, with_log, with_replies, without_first_reply, with_applied}
+use Rattle.nr_trace.specs.declared.fault.Fault.TheVariants.{ThreadOpen, NoSuchCall, AnsweredTwice, NotAnUpdate, PlacedTwice, NotPlaced, PastLog, WrongAnswer, PrefixPastLog, PrefixShort}
+use Rattle.nr_trace.proofs.ExamplesOfAnswers.{resolve_answer}
+
+pub not_an_update : Holds (with_log (2 ∷ [])) (NotAnUpdate 0)
+not_an_update = (2, refl, λ h. cc)
+
+pub placed_twice : Holds (with_log (0 ∷ 0 ∷ [])) (PlacedTwice 1)
+placed_twice = (0, refl, (0, lit< tt, refl))
+
+pub not_placed : Holds (with_replies 1 2 1 0x1123) (NotPlaced 1)
+not_placed = (record { call = 0; at = 1; answer = Done }, refl, (refl, λ e. none-some 0 e))
+
+pub past_log : Holds (with_replies 0 2 2 0x1123) (PastLog 3)
+past_log = (record { call = 2; at = 2; answer = looks_mapped }, refl, (refl, lit< tt))
+
+pub no_such_call : Holds (with_replies 0 1 1 0x1123) (NoSuchCall 3)
+no_such_call = (record { call = 1; at = 1; answer = looks_mapped }, refl, λ h. no_call h.1) where
+  no_call : IsCall (with_replies 0 1 1 0x1123) 1 → ⊥
+  no_call h = cc
+
+pub answered_twice : Holds (with_replies 0 0 1 0x1123) (AnsweredTwice 3)
+answered_twice = (record { call = 0; at = 1; answer = looks_mapped }, refl, (1, lit< tt, refl))
+
+not_answered : (reply : ℕ) → reply < 1 → Answers without_first_reply reply 0 → ⊥
+not_answered zero l h = cc
+not_answered (suc n) l h = omega arith
+
+pub thread_open : Holds without_first_reply (ThreadOpen 1)
+thread_open = record {
+  made = record { replica = 0; thread = 0; request = resolve_it };
+  is_made = refl;
+  earlier = 0;
+  earlier_made = record { replica = 0; thread = 0; request = map_it };
+  is_earlier = lit< tt;
+  is_earlier_made = refl;
+  same_thread = refl;
+  not_answered = not_answered;
+}
+
+other_address : Mapped 0x1124 K4 all_rights ≢ looks_mapped
+other_address e = false≢true (ap (λ answer. eqb (address_of answer) 0x1123) e) where
+  address_of : Answer → ℕ
+  address_of (Mapped phys size rights) = phys
+  address_of _ = 0
+
+pub wrong_answer : Holds (with_replies 0 2 1 0x1124) (WrongAnswer 2)
+wrong_answer = record {
+  made = record { replica = 0; thread = 0; request = resolve_it };
+  is_made = refl;
+  reply = record { call = 2; at = 1; answer = Mapped 0x1124 K4 all_rights };
+  is_reply = refl;
+  differs = λ e. other_address (e ∙ resolve_answer);
+}
+
+pub prefix_past_log : Holds (with_applied 2) (PrefixPastLog 0)
+prefix_past_log = (record dump_of_page { applied = 2 }, refl, lit< tt)
+
+pub prefix_short : Holds (with_applied 0) (PrefixShort 0)
+prefix_short = (
+  record dump_of_page { applied = 0 },
+  refl,
+  record {
+    index = 1;
+    reply = record { call = 0; at = 0; answer = Done };
+    is_reply = refl;
+    made = record { replica = 0; thread = 0; request = map_it };
+    is_made = refl;
+    here = refl;
+    more = lit< tt;
+  },
+)

@@ -1,0 +1,69 @@
+-- The recording of `map_then_resolve` keeps all ranges.
+use Rattle.std.proofs.Common.{◌≡◌, ℕ, ◌-◌, ◌<◌, ◌≤◌, ◌^◌, List, [], ◌∷◌, length, map, replicate, All, refl, sym, subst, lit<, lit≤}
+use Rattle.std.specs.FinMap as finite
+use Rattle.std.proofs.lemmas.List.Elements.{All-from_recursion, All-cons, All-append, All-replicate}
+use Rattle.vs_types.specs.Config.{Layout, IsLayout}
+use Rattle.nr_trace.specs.Recording.{IsRecording, IsEvent, IsImage, IsWords}
+use Rattle.nr_trace.specs.Examples.{map_then_resolve, frames_of_page, dump_of_page, frame_with}
+use Rattle.nr_trace.specs.Spelling.{spelling, Spells}
+use Rattle.nr_trace.proofs.ExamplesOfSpelling.{entries_of_page, len_of_page}
+
+abbrev layout : Layout
+layout = map_then_resolve.layout
+
+frame_fits : (index word : ℕ) → length (frame_with index word) ≡ 512 → word < 2 ^ 64 → IsWords (frame_with index word)
+frame_fits index word l h = record {
+  whole = l;
+  each = All-append (λ w. w < 2 ^ 64) (replicate index 0) (word ∷ replicate (511 - index) 0) (All-replicate (λ w. w < 2 ^ 64) index 0 (lit< tt))
+      (All-cons (λ w. w < 2 ^ 64) word (replicate (511 - index) 0) h (All-replicate (λ w. w < 2 ^ 64) (511 - index) 0 (lit< tt)));
+}
+
+abbrev numbers : List ℕ
+numbers = 1 ∷ 2 ∷ 3 ∷ 4 ∷ []
+
+keys_fit : All (λ n. n < 2 ^ 40) (finite.keys frames_of_page)
+keys_fit = subst (λ (es : List (ℕ × List ℕ)). All (λ n. n < 2 ^ 40) (map (λ e. e.0) es)) (sym entries_of_page)
+    (All-from_recursion (λ n. n < 2 ^ 40) numbers (lit< tt, (lit< tt, (lit< tt, (lit< tt, tt)))))
+
+abbrev contents : List (List ℕ)
+contents = frame_with 0 0x2007 ∷ frame_with 0 0x3007 ∷ frame_with 2 0x4007 ∷ frame_with 0 0x1007 ∷ []
+
+words_fit : All IsWords (finite.values frames_of_page)
+words_fit = subst (λ (es : List (ℕ × List ℕ)). All IsWords (map (λ e. e.1) es)) (sym entries_of_page)
+    (All-from_recursion IsWords contents (frame_fits 0 0x2007 refl (lit< tt), (frame_fits 0 0x3007 refl (lit< tt), (frame_fits 2 0x4007 refl (lit< tt), (frame_fits 0 0x1007 refl (lit< tt), tt)))))
+
+dump_fits : IsImage dump_of_page
+dump_fits = record {
+  applied = lit< tt;
+  root = lit< tt;
+  some_frame = subst (λ n. 1 ≤ n) (sym len_of_page) (lit≤ tt);
+  few_frames = subst (λ n. n ≤ 4096) (sym len_of_page) (lit≤ tt);
+  numbers = keys_fit;
+  words = words_fit;
+}
+
+layout_fits : IsLayout layout
+layout_fits = record { some_replica = lit≤ tt; few_replicas = lit≤ tt; some_thread = lit≤ tt; few_threads = lit≤ tt; some_table = lit≤ tt; few_tables = lit≤ tt }
+
+pub in_range : IsRecording map_then_resolve
+in_range = record {
+  layout = layout_fits;
+  few_places = lit≤ tt;
+  log = All-from_recursion (λ call. call < 2 ^ 32) map_then_resolve.log (lit< tt, tt);
+  few_events = lit≤ tt;
+  events = All-from_recursion (IsEvent layout) map_then_resolve.events (
+    (lit< tt, lit< tt, record { canonical = refl; aligned = refl; phys_aligned = refl; phys_range = lit≤ tt }),
+    (
+      (lit< tt, lit< tt, tt),
+      (
+        (lit< tt, lit< tt, refl),
+        ((lit< tt, lit< tt, lit< tt), tt),
+      ),
+    ),
+  );
+  one_dump_each = refl;
+  dumps = All-from_recursion IsImage map_then_resolve.dumps (dump_fits, tt);
+}
+
+pub spelled : Spells (spelling map_then_resolve) map_then_resolve
+spelled = record { in_range = in_range; spelled = refl }

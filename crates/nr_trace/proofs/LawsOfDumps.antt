@@ -1,0 +1,175 @@
+-- Where no fault holds of a recording, each dump fits the recorded order.
+use Rattle.std.proofs.Common.{◌≡◌, ◌≢◌, ℕ, zero, suc, ◌<◌, ◌≤◌, ◌⊎◌, inl, inr, List, length, take, slice_get, Contains, Some, refl, ap, ap₂, sym, ◌∙◌, subst, arith}
+use Rattle.std.proofs.lemmas.Bool.{cases_eq, cases_lt, cases_order}
+use Rattle.vs_types.specs.Step.{look}
+use Rattle.vs_walk.specs.Dump.{Image}
+use Rattle.vs_walk.specs.Walk.{walk, as_walk, TranslatesAs}
+use Rattle.vs_walk.specs.declared.walk.Walk.{Walk}
+use Rattle.vs_walk.specs.declared.walk.Walk.TheVariants as walks
+use Rattle.nr_trace.specs.Recording.{Recording}
+use Rattle.nr_trace.specs.Codes.{size_code, rights_code}
+use Rattle.nr_trace.specs.Spelling.{AnswerFields}
+use Rattle.nr_trace.specs.Calls.{Made, call_of, IsUpdate, IsRead, Answered, reply_of, reply_to}
+use Rattle.nr_trace.specs.Orders.{below, before, updates, space_after, recorded_order, known_by, IsLegalOrder, FitsOrder}
+use Rattle.nr_trace.specs.Faults.{StandsBehind, IsLeast, TranslatesOtherwise, RestsOnMore}
+use Rattle.nr_trace.specs.Laws.{HasCleanLog, IsFaultless}
+use Rattle.nr_trace.specs.declared.fault.Fault.TheVariants.{ThreadOpen, NoSuchCall, AnsweredTwice, NotAnUpdate, PlacedTwice, NotPlaced, PastLog, Early, WrongAnswer, PrefixPastLog, PrefixShort, Differs}
+use Rattle.nr_trace.proofs.LawsOfUnits.{size_from, size_back, rights_from, rights_back}
+use Rattle.nr_trace.proofs.LawsOfLists.{In, Contains-from_in, in_from_Contains, in_either, in_filter}
+use Rattle.nr_trace.proofs.LawsOfCalls.{the_some, not_both, reply_event, answered_stands}
+use Rattle.nr_trace.proofs.LawsOfOrder.{saw, read_from_saw, blocks, in_blocks, earlier_reads, before_read, updates_of_order}
+use Rattle.nr_trace.proofs.LawsOfPrecedence.{in_taken, known_of_update, known_of_read, legal}
+
+-- ---- walks are one or not
+
+abbrev code_of : Walk → ℕ
+code_of walks.NotMapped = 0
+code_of walks.Reserved = 1
+code_of walks.Missing = 2
+code_of (walks.Mapped phys size rights) = 3
+
+abbrev none : AnswerFields
+none = record { size = 0; rights = 0; value = 0 }
+
+abbrev fields_of : Walk → AnswerFields
+fields_of walks.NotMapped = none
+fields_of walks.Reserved = none
+fields_of walks.Missing = none
+fields_of (walks.Mapped phys size rights) = record { size = size_code size; rights = rights_code rights; value = phys }
+
+abbrev walk_of : ℕ → AnswerFields → Walk
+walk_of zero f = walks.NotMapped
+walk_of (suc zero) f = walks.Reserved
+walk_of (suc (suc zero)) f = walks.Missing
+walk_of (suc (suc (suc n))) f = walks.Mapped f.value (size_from f.size) (rights_from f.rights)
+
+walk_back : (w : Walk) → walk_of (code_of w) (fields_of w) ≡ w
+walk_back walks.NotMapped = refl
+walk_back walks.Reserved = refl
+walk_back walks.Missing = refl
+walk_back (walks.Mapped phys size rights) = ap₂ (walks.Mapped phys) (size_back size) (rights_back rights)
+
+walk_apart : (a b : Walk) → code_of a ≡ code_of b → fields_of a ≡ fields_of b → a ≡ b
+walk_apart a b e f = sym (walk_back a) ∙ ap₂ walk_of e f ∙ walk_back b
+
+pub same_walk : (a b : Walk) → ((a ≢ b) → ⊥) → a ≡ b
+same_walk a b h =
+    by_parts (cases_eq (code_of a) (code_of b)) (cases_eq (fields_of a).size (fields_of b).size) (cases_eq (fields_of a).rights (fields_of b).rights) (cases_eq (fields_of a).value (fields_of b).value) where
+      by_parts : (code_of a ≡ code_of b) ⊎ (code_of a ≡ code_of b → ⊥)
+          → ((fields_of a).size ≡ (fields_of b).size) ⊎ ((fields_of a).size ≡ (fields_of b).size → ⊥)
+          → ((fields_of a).rights ≡ (fields_of b).rights) ⊎ ((fields_of a).rights ≡ (fields_of b).rights → ⊥)
+          → ((fields_of a).value ≡ (fields_of b).value) ⊎ ((fields_of a).value ≡ (fields_of b).value → ⊥)
+          → a ≡ b
+      by_parts (inl c) (inl s) (inl r) (inl v) = walk_apart a b c (λ i. record { size = s i; rights = r i; value = v i })
+      by_parts (inr n) s r v = absurd (h (λ e. n (ap code_of e)))
+      by_parts (inl c) (inr n) r v = absurd (h (λ e. n (ap (λ x. (fields_of x).size) e)))
+      by_parts (inl c) (inl s) (inr n) v = absurd (h (λ e. n (ap (λ x. (fields_of x).rights) e)))
+      by_parts (inl c) (inl s) (inl r) (inr n) = absurd (h (λ e. n (ap (λ x. (fields_of x).value) e)))
+
+-- ---- where none is the least, there is none
+
+none_up_to : (P : ℕ → Type 0) → ((n : ℕ) → IsLeast P n → ⊥) → (n k : ℕ) → k < n → P k → ⊥
+none_up_to P no_least zero k l p = omega arith
+none_up_to P no_least (suc n) k l p = by_order (λ j m q. none_up_to P no_least n j m q) (cases_order k n) where
+  by_order : ((j : ℕ) → j < n → P j → ⊥) → (k ≡ n) ⊎ ((k < n) ⊎ (n < k)) → ⊥
+  by_order less (inl e) = no_least n (subst P e p, less)
+  by_order less (inr (inl m)) = less k m p
+  by_order less (inr (inr m)) = omega arith
+
+pub none_from_no_least : (P : ℕ → Type 0) → ((n : ℕ) → IsLeast P n → ⊥) → (n : ℕ) → P n → ⊥
+none_from_no_least P no_least n p = none_up_to P no_least (suc n) n (omega arith) p
+
+-- ---- dumps
+
+pub clean_if_faultless : (trace : Recording) → IsFaultless trace → HasCleanLog trace
+clean_if_faultless trace faultless = record {
+  no_thread_open = λ i h. faultless (ThreadOpen i) h;
+  no_such_call = λ i h. faultless (NoSuchCall i) h;
+  none_twice = λ i h. faultless (AnsweredTwice i) h;
+  updates_alone = λ i h. faultless (NotAnUpdate i) h;
+  placed_once = λ i h. faultless (PlacedTwice i) h;
+  all_placed = λ i h. faultless (NotPlaced i) h;
+  none_past_log = λ i h. faultless (PastLog i) h;
+}
+
+pub legal_if_faultless : (trace : Recording) → IsFaultless trace → IsLegalOrder trace (recorded_order trace)
+legal_if_faultless trace faultless = legal trace (clean_if_faultless trace faultless) (λ call h. faultless (Early call) h) (λ call h. faultless (WrongAnswer call) h)
+
+-- the dump has applied what an answer given at its replica rests on
+known_applied : (trace : Recording) (replica : ℕ) (dump : Image) (call : ℕ) (made : Made) (reply : Answered) → (RestsOnMore trace replica dump → ⊥)
+    → call_of trace call ≡ Some made → made.replica ≡ replica → reply_to trace call ≡ Some reply → (known_by trace reply ≤ dump.applied) × (reply.call ≡ call)
+known_applied trace replica dump call made reply no_more is_made here is_reply = (by_order (cases_lt dump.applied (known_by trace reply)), event.2) where
+  event : (index : ℕ) × (reply_of trace index ≡ Some reply) × (reply.call ≡ call)
+  event = reply_event trace call reply is_reply
+
+  by_order : (dump.applied < known_by trace reply) ⊎ (known_by trace reply ≤ dump.applied) → known_by trace reply ≤ dump.applied
+  by_order (inl l) = absurd (no_more (record { index = event.0; reply = reply; is_reply = event.1; made = made; is_made = ap (call_of trace) event.2 ∙ is_made; here = here; more = l }))
+  by_order (inr l) = l
+
+pub dump_translates : (trace : Recording) (dump : Image) → ((address : ℕ) → IsLeast (TranslatesOtherwise trace dump) address → ⊥) → TranslatesAs trace.layout.depth dump.frames dump.root (space_after trace (take dump.applied trace.log))
+dump_translates trace dump none_differs address canonical =
+    same_walk (walk trace.layout.depth dump.frames dump.root address) (as_walk (look (space_after trace (take dump.applied trace.log)) address))
+    (λ apart. none_from_no_least (TranslatesOtherwise trace dump) none_differs address (canonical, apart))
+
+-- the places that a dump has applied
+abbrev Applied : Recording → Image → ℕ → Type 0
+Applied trace dump call = Contains (take dump.applied trace.log) call
+
+applied_place : (trace : Recording) (dump : Image) (place call : ℕ) → place < dump.applied → slice_get trace.log place ≡ Some call → Applied trace dump call
+applied_place trace dump place call l e = Contains-from_in call (take dump.applied trace.log) (in_taken trace.log place dump.applied call l e)
+
+own_update : (trace : Recording) (dump : Image) (call : ℕ) (reply : Answered) → IsUpdate trace call → reply.call ≡ call → known_by trace reply ≤ dump.applied → StandsBehind trace call reply.at → Applied trace dump call
+own_update trace dump call reply u g l (inl (v, e)) =
+    let k = known_of_update trace reply (subst (IsUpdate trace) (sym g) u) in
+    applied_place trace dump reply.at call (omega arith) e
+own_update trace dump call reply u g l (inr r) = absurd (not_both trace call u r.0)
+
+earlier_update : (trace : Recording) (dump : Image) (call earlier : ℕ) (reply : Answered) → HasCleanLog trace → IsRead trace call → reply_to trace call ≡ Some reply → reply.call ≡ call → known_by trace reply ≤ dump.applied → reply.at ≤ length trace.log
+    → IsUpdate trace earlier → In earlier (before call (recorded_order trace)) → Applied trace dump earlier
+earlier_update trace dump call earlier reply clean r is_reply g l within u i =
+    let k = known_of_read trace reply (subst (IsRead trace) (sym g) r) in
+    by_side (omega arith) (in_either earlier (blocks trace reply.at) (earlier_reads trace reply.at call) (subst (In earlier) (before_read trace reply.at call clean within (r, reply, is_reply, refl)) i)) where
+      by_stand : (m : ℕ) → m < dump.applied → StandsBehind trace earlier m → Applied trace dump earlier
+      by_stand m m_less (inl (v, e)) = applied_place trace dump m earlier m_less e
+      by_stand m m_less (inr s) = absurd (not_both trace earlier u s.0)
+
+      by_side : reply.at ≤ dump.applied → In earlier (blocks trace reply.at) ⊎ In earlier (earlier_reads trace reply.at call) → Applied trace dump earlier
+      by_side at_most (inl j) =
+          let (m, m_less, h) = in_blocks trace reply.at earlier clean j in
+          by_stand m (omega arith) h
+      by_side at_most (inr j) = absurd (not_both trace earlier u (read_from_saw trace reply.at earlier (in_filter (saw trace reply.at) earlier (below call) j).1).0)
+
+pub fits_if_faultless : (trace : Recording) (replica : ℕ) (dump : Image) → IsFaultless trace → slice_get trace.dumps replica ≡ Some dump → FitsOrder trace (recorded_order trace) replica dump
+fits_if_faultless trace replica dump faultless is = record {
+  enough = subst (λ (log : List ℕ). dump.applied ≤ length log) (sym log_is) (by_order (cases_lt (length trace.log) dump.applied));
+  translates = subst (λ (log : List ℕ). TranslatesAs trace.layout.depth dump.frames dump.root (space_after trace (take dump.applied log))) (sym log_is)
+      (dump_translates trace dump (λ address h. faultless (Differs replica address) (dump, is, h)));
+  own_updates = λ call made is_made here u answered. in_log call (of_update call made is_made here u (the_some (reply_to trace call) answered));
+  own_reads = λ call earlier made is_made here r answered u i. in_log earlier (of_read call earlier made is_made here r (the_some (reply_to trace call) answered) u i);
+} where
+  clean : HasCleanLog trace
+  clean = clean_if_faultless trace faultless
+
+  log_is : updates trace (recorded_order trace) ≡ trace.log
+  log_is = updates_of_order trace clean
+
+  by_order : (length trace.log < dump.applied) ⊎ (dump.applied ≤ length trace.log) → dump.applied ≤ length trace.log
+  by_order (inl l) = absurd (faultless (PrefixPastLog replica) (dump, is, l))
+  by_order (inr l) = l
+
+  no_more : RestsOnMore trace replica dump → ⊥
+  no_more h = faultless (PrefixShort replica) (dump, is, h)
+
+  in_log : (call : ℕ) → Applied trace dump call → Contains (take dump.applied (updates trace (recorded_order trace))) call
+  in_log call h = subst (λ (log : List ℕ). Contains (take dump.applied log) call) (sym log_is) h
+
+  of_update : (call : ℕ) (made : Made) → call_of trace call ≡ Some made → made.replica ≡ replica → IsUpdate trace call → (reply : Answered) × (reply_to trace call ≡ Some reply) → Applied trace dump call
+  of_update call made is_made here u (reply, e) =
+      let known = known_applied trace replica dump call made reply no_more is_made here e in
+      own_update trace dump call reply u known.1 known.0 (answered_stands trace call reply clean e).0
+
+  of_read : (call earlier : ℕ) (made : Made) → call_of trace call ≡ Some made → made.replica ≡ replica → IsRead trace call → (reply : Answered) × (reply_to trace call ≡ Some reply) → IsUpdate trace earlier
+      → Contains (before call (recorded_order trace)) earlier → Applied trace dump earlier
+  of_read call earlier made is_made here r (reply, e) u i =
+      let known = known_applied trace replica dump call made reply no_more is_made here e in
+      earlier_update trace dump call earlier reply clean r e known.1 known.0 (answered_stands trace call reply clean e).1 u (in_from_Contains earlier (before call (recorded_order trace)) i)

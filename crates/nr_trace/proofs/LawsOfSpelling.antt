@@ -1,0 +1,91 @@
+-- Bytes spell at most one trace.
+use Rattle.std.proofs.Common.{◌≡◌, ℕ, ◌<◌, ◌^◌, List, [], ◌∷◌, ◌++◌, length, drop, map, ap, sym, ◌∙◌}
+use Rattle.std.specs.Prelude.{flat_map}
+use Rattle.std.specs.List.{AllByRecursion}
+use Rattle.std.specs.FinMap as finite
+use Rattle.std.proofs.lemmas.List.{append_assoc}
+use Rattle.std.proofs.lemmas.List.Elements.{recursion_from_All}
+use Rattle.vs_walk.specs.Dump.{Image}
+use Rattle.nr_trace.specs.Recording.{Recording, IsRecording, IsWords, IsImage, IsEvent}
+use Rattle.nr_trace.specs.Spelling.{spelling, Spells, log_word, event, dump, frame_number, frame_words}
+use Rattle.nr_trace.specs.FirstFault.{Counts, IsCounts, Head, IsHead}
+use Rattle.nr_trace.proofs.LawsOfUnits.{ToldApart, counts_of, counts_apart, head_of, heads_apart, frame_numbers_apart, words_apart, lists_apart, log_words_apart, events_apart}
+
+abbrev pub Frame : Type 0
+Frame = ℕ × List ℕ
+
+abbrev pub FrameFits : Frame → Type 0
+FrameFits frame = (frame.0 < 2 ^ 40) × IsWords frame.1
+
+abbrev pub frame : Frame → List ℕ
+frame f = frame_number f.0 ++ frame_words f.1
+
+pub frames_apart : ToldApart FrameFits frame
+frames_apart a b us vs h k e =
+    let f = sym (append_assoc (frame_number a.0) (frame_words a.1) us) ∙ e ∙ append_assoc (frame_number b.0) (frame_words b.1) vs in
+    let number = frame_numbers_apart a.0 b.0 _ _ h.0 k.0 f in
+    let words = words_apart a.1 b.1 us vs h.1 k.1 number.1 in
+    (λ i. (number.0 i, words.0 i), words.1)
+
+both_parts : (P : ℕ → Type 0) (Q : List ℕ → Type 0) (frames : List Frame) → AllByRecursion P (map (λ f. f.0) frames) → AllByRecursion Q (map (λ f. f.1) frames)
+    → AllByRecursion (λ (f : Frame). P f.0 × Q f.1) frames
+both_parts P Q [] h k = tt
+both_parts P Q (f ∷ fs) h k = ((h.0, k.0), both_parts P Q fs h.1 k.1)
+
+pub image_frames_fit : (image : Image) → IsImage image → AllByRecursion FrameFits (finite.entries image.frames)
+image_frames_fit image h = both_parts (λ n. n < 2 ^ 40) IsWords (finite.entries image.frames) (recursion_from_All _ _ h.numbers) (recursion_from_All _ _ h.words)
+
+abbrev pub head_in : Image → Head
+head_in image = record { applied = image.applied; frames = finite.len image.frames; root = image.root }
+
+pub head_fits : (image : Image) → IsImage image → IsHead (head_in image)
+head_fits image h = record { applied = h.applied; some_frame = h.some_frame; few_frames = h.few_frames; root = h.root }
+
+abbrev pub frames_of : Image → List ℕ
+frames_of image = flat_map frame (finite.entries image.frames)
+
+pub images_apart : ToldApart IsImage dump
+images_apart a b us vs h k e =
+    let f = sym (append_assoc (head_of (head_in a)) (frames_of a) us) ∙ e ∙ append_assoc (head_of (head_in b)) (frames_of b) vs in
+    let heads = heads_apart (head_in a) (head_in b) (frames_of a ++ us) (frames_of b ++ vs) (head_fits a h) (head_fits b k) f in
+    let lengths = sym (finite.len-entries a.frames) ∙ ap (λ (head : Head). head.frames) heads.0 ∙ finite.len-entries b.frames in
+    let entries = lists_apart FrameFits frame frames_apart (finite.entries a.frames) (finite.entries b.frames) us vs (image_frames_fit a h) (image_frames_fit b k) lengths heads.1 in
+    let frames = finite.same_entries_map a.frames b.frames entries.0 in
+    (λ i. record { applied = (heads.0 i).applied; root = (heads.0 i).root; frames = frames i }, entries.1)
+
+abbrev pub counts_in : Recording → Counts
+counts_in trace = record { layout = trace.layout; places = length trace.log; events = length trace.events }
+
+pub counts_fit : (trace : Recording) → IsRecording trace → IsCounts (counts_in trace)
+counts_fit trace h = record { layout = h.layout; few_places = h.few_places; few_events = h.few_events }
+
+abbrev pub logs : Recording → List ℕ
+logs trace = flat_map log_word trace.log
+
+abbrev pub events : Recording → List ℕ
+events trace = flat_map event trace.events
+
+abbrev pub dumps : Recording → List ℕ
+dumps trace = flat_map dump trace.dumps
+
+-- the spelling behind the magic and the version
+abbrev pub numbered : Recording → List ℕ
+numbered trace = counts_of (counts_in trace) ++ (logs trace ++ (events trace ++ dumps trace))
+
+pub spelling_behind_version : (trace : Recording) → drop 6 (spelling trace) ≡ numbered trace
+spelling_behind_version trace = ap (λ rest. counts_of (counts_in trace) ++ rest) (append_assoc (logs trace) (events trace) (dumps trace))
+
+recordings_apart : (s t : Recording) → IsRecording s → IsRecording t → spelling s ≡ spelling t → s ≡ t
+recordings_apart s t h k e =
+    let f : numbered s ≡ numbered t = sym (spelling_behind_version s) ∙ ap (drop 6) e ∙ spelling_behind_version t in
+    let counts = counts_apart (counts_in s) (counts_in t) _ _ (counts_fit s h) (counts_fit t k) f in
+    let layout = ap (λ (c : Counts). c.layout) counts.0 in
+    let log = lists_apart (λ call. call < 2 ^ 32) log_word log_words_apart s.log t.log _ _ (recursion_from_All _ _ h.log) (recursion_from_All _ _ k.log) (ap (λ (c : Counts). c.places) counts.0) counts.1 in
+    let in_one : AllByRecursion (IsEvent s.layout) t.events = rw (← layout) at (recursion_from_All (IsEvent t.layout) t.events k.events) in
+    let calls = lists_apart (IsEvent s.layout) event (events_apart s.layout h.layout) s.events t.events _ _ (recursion_from_All _ _ h.events) in_one (ap (λ (c : Counts). c.events) counts.0) log.1 in
+    let lengths = h.one_dump_each ∙ ap (λ (c : Counts). c.layout.replicas) counts.0 ∙ sym k.one_dump_each in
+    let images = lists_apart IsImage dump images_apart s.dumps t.dumps [] [] (recursion_from_All _ _ h.dumps) (recursion_from_All _ _ k.dumps) lengths (ap (λ rest. rest ++ []) calls.1) in
+    λ i. record { layout = layout i; log = log.0 i; events = calls.0 i; dumps = images.0 i }
+
+pub one_trace : (bytes : List ℕ) (s t : Recording) → Spells bytes s → Spells bytes t → s ≡ t
+one_trace bytes s t h k = recordings_apart s t h.in_range k.in_range (sym h.spelled ∙ k.spelled)

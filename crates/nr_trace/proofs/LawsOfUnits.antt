@@ -1,0 +1,357 @@
+-- Each unit's spelling has a fixed length, and what fits is told apart by its spelling, whatever stands behind it.
+use Rattle.std.proofs.Common.{◌≡◌, ℕ, zero, suc, ◌*◌, ◌<◌, ◌^◌, ◌%◌, Bool, true, false, List, [], ◌∷◌, ◌++◌, length, refl, ap, ap₂, sym, ◌∙◌, arith}
+use Rattle.std.specs.Prelude.{flat_map}
+use Rattle.std.specs.List.{AllByRecursion}
+use Rattle.std.specs.Int.{w8, w16, w32, w64, to_be_bytes, from_be_bytes}
+use Rattle.std.proofs.lemmas.Nat.{from_be_bytes-to_be_bytes_2, from_be_bytes-to_be_bytes_4, from_be_bytes-to_be_bytes_8}
+use Rattle.std.proofs.lemmas.List.{append_assoc, length-append}
+use Rattle.std.proofs.lemmas.List.Elements.{recursion_from_All}
+use Rattle.std.proofs.lemmas.Bool.Decides.{nat_tests}
+use Rattle.vs_types.specs.Config.{Layout, IsLayout}
+use Rattle.vs_types.specs.Depth.{levels, IsCanonical}
+use Rattle.vs_types.specs.Query.{IsQuery}
+use Rattle.vs_types.specs.declared.depth.Depth.{Depth}
+use Rattle.vs_types.specs.declared.depth.Depth.TheVariants.{Four}
+use Rattle.vs_types.specs.declared.page.Rights.{Rights}
+use Rattle.vs_types.specs.declared.page.Size.{Size}
+use Rattle.vs_types.specs.declared.page.Size.TheVariants.{K4, M2, G1}
+use Rattle.vs_types.specs.declared.op.Action.TheVariants.{Map, Unmap, Protect}
+use Rattle.vs_types.specs.declared.request.Query.{Query}
+use Rattle.vs_types.specs.declared.request.Query.TheVariants.{Update, Resolve}
+use Rattle.vs_types.specs.declared.answer.Answer.{Answer}
+use Rattle.vs_types.specs.declared.answer.Answer.TheVariants.{Done, Overlap, Full, Removed, NotMapped, Inside, Changed, Mapped}
+use Rattle.nr_trace.specs.Codes.{kind_code, size_code, rights_code, answer_code}
+use Rattle.nr_trace.specs.Recording.{IsAnswer, IsEvent, IsWords}
+use Rattle.nr_trace.specs.Spelling.{RequestFields, request_fields, AnswerFields, answer_fields, counts, log_word, event, dump_head, frame_number, frame_words}
+use Rattle.nr_trace.specs.FirstFault.{Counts, IsCounts, Head, IsHead}
+use Rattle.nr_trace.specs.declared.event.Event.{Event}
+use Rattle.nr_trace.specs.declared.event.Event.TheVariants.{Call, Reply}
+
+-- two values that fit are one if their spellings begin one list, and then what stands behind is one too
+abbrev pub ToldApart : {A : Type 0} → (A → Type 0) → (A → List ℕ) → Type 0
+ToldApart {A} Fits spelled = (a b : A) (us vs : List ℕ) → Fits a → Fits b → spelled a ++ us ≡ spelled b ++ vs → (a ≡ b) × (us ≡ vs)
+
+-- ---- numbers
+
+fronts_same : (xs ys us vs : List ℕ) → length xs ≡ length ys → xs ++ us ≡ ys ++ vs → (xs ≡ ys) × (us ≡ vs)
+fronts_same [] [] us vs l e = (refl, e)
+fronts_same [] (y ∷ ys) us vs l e = absurd (omega arith)
+fronts_same (x ∷ xs) [] us vs l e = absurd (omega arith)
+fronts_same (x ∷ xs) (y ∷ ys) us vs l e =
+    let h : x ≡ y = cc in
+    let t : xs ++ us ≡ ys ++ vs = cc in
+    let r = fronts_same xs ys us vs (omega arith) t in
+    (ap₂ ◌∷◌ h r.0, r.1)
+
+pub number_8 : ToldApart (λ n. n < 2 ^ 8) (to_be_bytes w8)
+number_8 a b us vs h k e =
+    let r = fronts_same (to_be_bytes w8 a) (to_be_bytes w8 b) us vs refl e in
+    let first : a % 256 ≡ b % 256 = cc in
+    (omega arith, r.1)
+
+pub number_16 : ToldApart (λ n. n < 2 ^ 16) (to_be_bytes w16)
+number_16 a b us vs h k e =
+    let r = fronts_same (to_be_bytes w16 a) (to_be_bytes w16 b) us vs refl e in
+    (sym (from_be_bytes-to_be_bytes_2 a h) ∙ ap (from_be_bytes w16) r.0 ∙ from_be_bytes-to_be_bytes_2 b k, r.1)
+
+pub number_32 : ToldApart (λ n. n < 2 ^ 32) (to_be_bytes w32)
+number_32 a b us vs h k e =
+    let r = fronts_same (to_be_bytes w32 a) (to_be_bytes w32 b) us vs refl e in
+    (sym (from_be_bytes-to_be_bytes_4 a h) ∙ ap (from_be_bytes w32) r.0 ∙ from_be_bytes-to_be_bytes_4 b k, r.1)
+
+pub number_64 : ToldApart (λ n. n < 2 ^ 64) (to_be_bytes w64)
+number_64 a b us vs h k e =
+    let r = fronts_same (to_be_bytes w64 a) (to_be_bytes w64 b) us vs refl e in
+    (sym (from_be_bytes-to_be_bytes_8 a h) ∙ ap (from_be_bytes w64) r.0 ∙ from_be_bytes-to_be_bytes_8 b k, r.1)
+
+-- ---- codes, and the way back from each
+
+abbrev pub size_from : ℕ → Size
+size_from zero = K4
+size_from (suc zero) = M2
+size_from (suc (suc n)) = G1
+
+pub size_back : (size : Size) → size_from (size_code size) ≡ size
+size_back K4 = refl
+size_back M2 = refl
+size_back G1 = refl
+
+pub size_few : (size : Size) → size_code size < 3
+size_few K4 = omega arith
+size_few M2 = omega arith
+size_few G1 = omega arith
+
+abbrev pub rights_from : ℕ → Rights
+rights_from zero = record { write = false; user = false; exec = false }
+rights_from (suc zero) = record { write = true; user = false; exec = false }
+rights_from (suc (suc zero)) = record { write = false; user = true; exec = false }
+rights_from (suc (suc (suc zero))) = record { write = true; user = true; exec = false }
+rights_from (suc (suc (suc (suc zero)))) = record { write = false; user = false; exec = true }
+rights_from (suc (suc (suc (suc (suc zero))))) = record { write = true; user = false; exec = true }
+rights_from (suc (suc (suc (suc (suc (suc zero)))))) = record { write = false; user = true; exec = true }
+rights_from (suc (suc (suc (suc (suc (suc (suc n))))))) = record { write = true; user = true; exec = true }
+
+rights_back_by : (write user exec : Bool) → rights_from (rights_code (record { write = write; user = user; exec = exec })) ≡ record { write = write; user = user; exec = exec }
+rights_back_by false false false = refl
+rights_back_by true false false = refl
+rights_back_by false true false = refl
+rights_back_by true true false = refl
+rights_back_by false false true = refl
+rights_back_by true false true = refl
+rights_back_by false true true = refl
+rights_back_by true true true = refl
+
+pub rights_back : (rights : Rights) → rights_from (rights_code rights) ≡ rights
+rights_back rights = rights_back_by rights.write rights.user rights.exec
+
+rights_few_by : (write user exec : Bool) → rights_code (record { write = write; user = user; exec = exec }) < 8
+rights_few_by false false false = omega arith
+rights_few_by true false false = omega arith
+rights_few_by false true false = omega arith
+rights_few_by true true false = omega arith
+rights_few_by false false true = omega arith
+rights_few_by true false true = omega arith
+rights_few_by false true true = omega arith
+rights_few_by true true true = omega arith
+
+pub rights_few : (rights : Rights) → rights_code rights < 8
+rights_few rights = rights_few_by rights.write rights.user rights.exec
+
+abbrev request_from : ℕ → RequestFields → Query
+request_from zero f = Update (Map (record { base = f.address; size = size_from f.size; phys = f.physical; rights = rights_from f.rights }))
+request_from (suc zero) f = Update (Unmap f.address)
+request_from (suc (suc zero)) f = Update (Protect f.address (rights_from f.rights))
+request_from (suc (suc (suc n))) f = Resolve f.address
+
+request_back : (request : Query) → request_from (kind_code request) (request_fields request) ≡ request
+request_back (Update (Map page)) = ap₂ (λ (size : Size) (rights : Rights). Update (Map (record { base = page.base; size = size; phys = page.phys; rights = rights }))) (size_back page.size) (rights_back page.rights)
+request_back (Update (Unmap base)) = refl
+request_back (Update (Protect base rights)) = ap (λ (rights : Rights). Update (Protect base rights)) (rights_back rights)
+request_back (Resolve address) = refl
+
+abbrev answer_from : ℕ → AnswerFields → Answer
+answer_from zero f = Done
+answer_from (suc zero) f = Overlap f.value
+answer_from (suc (suc zero)) f = Full f.value
+answer_from (suc (suc (suc zero))) f = Removed f.value (size_from f.size) (rights_from f.rights)
+answer_from (suc (suc (suc (suc zero)))) f = NotMapped
+answer_from (suc (suc (suc (suc (suc zero))))) f = Inside f.value
+answer_from (suc (suc (suc (suc (suc (suc zero)))))) f = Changed (rights_from f.rights)
+answer_from (suc (suc (suc (suc (suc (suc (suc n))))))) f = Mapped f.value (size_from f.size) (rights_from f.rights)
+
+answer_back : (answer : Answer) → answer_from (answer_code answer) (answer_fields answer) ≡ answer
+answer_back Done = refl
+answer_back (Overlap base) = refl
+answer_back (Full need) = refl
+answer_back (Removed phys size rights) = ap₂ (Removed phys) (size_back size) (rights_back rights)
+answer_back NotMapped = refl
+answer_back (Inside base) = refl
+answer_back (Changed rights) = ap Changed (rights_back rights)
+answer_back (Mapped phys size rights) = ap₂ (Mapped phys) (size_back size) (rights_back rights)
+
+-- ---- the ranges of fields
+
+pub canonical_fits : (depth : Depth) (address : ℕ) → IsCanonical depth address → address < 2 ^ 64
+canonical_fits Four address h = grind (arith, nat_tests)
+
+-- the fields of a request or an answer fit the bytes that they have
+pub record RequestFits (code : ℕ) (fields : RequestFields) : Type 0 where
+  pub kind : code < 4
+  pub size : fields.size < 3
+  pub rights : fields.rights < 8
+  pub address : fields.address < 2 ^ 64
+  pub physical : fields.physical < 2 ^ 64
+
+pub request_fits : (depth : Depth) (request : Query) → IsQuery depth request → RequestFits (kind_code request) (request_fields request)
+request_fits depth (Update (Map page)) h = record { kind = omega arith; size = size_few page.size; rights = rights_few page.rights; address = canonical_fits depth page.base h.canonical; physical = omega (arith, h.phys_range) }
+request_fits depth (Update (Unmap base)) h = record { kind = omega arith; size = omega arith; rights = omega arith; address = canonical_fits depth base h.canonical; physical = omega arith }
+request_fits depth (Update (Protect base rights)) h = record { kind = omega arith; size = omega arith; rights = rights_few rights; address = canonical_fits depth base h.canonical; physical = omega arith }
+request_fits depth (Resolve address) h = record { kind = omega arith; size = omega arith; rights = omega arith; address = canonical_fits depth address h; physical = omega arith }
+
+pub record AnswerFits (code : ℕ) (fields : AnswerFields) : Type 0 where
+  pub kind : code < 8
+  pub size : fields.size < 3
+  pub rights : fields.rights < 8
+  pub value : fields.value < 2 ^ 64
+
+pub answer_fits : (answer : Answer) → IsAnswer answer → AnswerFits (answer_code answer) (answer_fields answer)
+answer_fits Done h = record { kind = omega arith; size = omega arith; rights = omega arith; value = omega arith }
+answer_fits (Overlap base) h = record { kind = omega arith; size = omega arith; rights = omega arith; value = h }
+answer_fits (Full need) h = record { kind = omega arith; size = omega arith; rights = omega arith; value = h }
+answer_fits (Removed phys size rights) h = record { kind = omega arith; size = size_few size; rights = rights_few rights; value = h }
+answer_fits NotMapped h = record { kind = omega arith; size = omega arith; rights = omega arith; value = omega arith }
+answer_fits (Inside base) h = record { kind = omega arith; size = omega arith; rights = omega arith; value = h }
+answer_fits (Changed rights) h = record { kind = omega arith; size = omega arith; rights = rights_few rights; value = omega arith }
+answer_fits (Mapped phys size rights) h = record { kind = omega arith; size = size_few size; rights = rights_few rights; value = h }
+
+-- ---- events
+
+pub request_apart : (depth : Depth) (a b : Query) → IsQuery depth a → IsQuery depth b → kind_code a ≡ kind_code b → request_fields a ≡ request_fields b → a ≡ b
+request_apart depth a b h k e f = sym (request_back a) ∙ ap₂ request_from e f ∙ request_back b
+
+pub answer_apart : (a b : Answer) → answer_code a ≡ answer_code b → answer_fields a ≡ answer_fields b → a ≡ b
+answer_apart a b e f = sym (answer_back a) ∙ ap₂ answer_from e f ∙ answer_back b
+
+abbrev call_bytes : ℕ → ℕ → ℕ → RequestFields → List ℕ
+call_bytes replica thread kind fields =
+    to_be_bytes w8 replica ++ (to_be_bytes w16 thread ++ (to_be_bytes w8 kind ++ (to_be_bytes w8 fields.size
+    ++ (to_be_bytes w8 fields.rights ++ (to_be_bytes w8 0 ++ (to_be_bytes w64 fields.address ++ to_be_bytes w64 fields.physical))))))
+
+pub record CallFits (replica thread kind : ℕ) (fields : RequestFields) : Type 0 where
+  pub replica_fits : replica < 2 ^ 8
+  pub thread_fits : thread < 2 ^ 16
+  pub fields_fit : RequestFits kind fields
+
+record SameCall (a b c d e f : ℕ) (g h : RequestFields) (us vs : List ℕ) : Type 0 where
+  replica : a ≡ b
+  thread : c ≡ d
+  kind : e ≡ f
+  fields : g ≡ h
+  rest : us ≡ vs
+
+calls_apart : (a b c d e f : ℕ) (g h : RequestFields) (us vs : List ℕ) → CallFits a c e g → CallFits b d f h
+    → call_bytes a c e g ++ us ≡ call_bytes b d f h ++ vs → SameCall a b c d e f g h us vs
+calls_apart a b c d e f g h us vs x y is =
+    let r1 = number_8 a b _ _ x.replica_fits y.replica_fits is in
+    let r2 = number_16 c d _ _ x.thread_fits y.thread_fits r1.1 in
+    let r3 = number_8 e f _ _ (omega (arith, x.fields_fit.kind)) (omega (arith, y.fields_fit.kind)) r2.1 in
+    let r4 = number_8 g.size h.size _ _ (omega (arith, x.fields_fit.size)) (omega (arith, y.fields_fit.size)) r3.1 in
+    let r5 = number_8 g.rights h.rights _ _ (omega (arith, x.fields_fit.rights)) (omega (arith, y.fields_fit.rights)) r4.1 in
+    let r6 = number_8 0 0 _ _ (omega arith) (omega arith) r5.1 in
+    let r7 = number_64 g.address h.address _ _ x.fields_fit.address y.fields_fit.address r6.1 in
+    let r8 = number_64 g.physical h.physical us vs x.fields_fit.physical y.fields_fit.physical r7.1 in
+    record { replica = r1.0; thread = r2.0; kind = r3.0; fields = λ i. record { size = r4.0 i; rights = r5.0 i; address = r7.0 i; physical = r8.0 i }; rest = r8.1 }
+
+abbrev reply_bytes : ℕ → AnswerFields → ℕ → ℕ → List ℕ
+reply_bytes code fields call at =
+    to_be_bytes w8 code ++ (to_be_bytes w8 fields.size ++ (to_be_bytes w8 fields.rights
+    ++ (to_be_bytes w32 call ++ (to_be_bytes w32 at ++ (to_be_bytes w32 0 ++ to_be_bytes w64 fields.value)))))
+
+pub record ReplyFits (code : ℕ) (fields : AnswerFields) (call at : ℕ) : Type 0 where
+  pub fields_fit : AnswerFits code fields
+  pub call_fits : call < 2 ^ 32
+  pub at_fits : at < 2 ^ 32
+
+record SameReply (a b : ℕ) (c d : AnswerFields) (e f g h : ℕ) (us vs : List ℕ) : Type 0 where
+  code : a ≡ b
+  fields : c ≡ d
+  call : e ≡ f
+  at : g ≡ h
+  rest : us ≡ vs
+
+replies_apart : (a b : ℕ) (c d : AnswerFields) (e f g h : ℕ) (us vs : List ℕ) → ReplyFits a c e g → ReplyFits b d f h
+    → reply_bytes a c e g ++ us ≡ reply_bytes b d f h ++ vs → SameReply a b c d e f g h us vs
+replies_apart a b c d e f g h us vs x y is =
+    let r1 = number_8 a b _ _ (omega (arith, x.fields_fit.kind)) (omega (arith, y.fields_fit.kind)) is in
+    let r2 = number_8 c.size d.size _ _ (omega (arith, x.fields_fit.size)) (omega (arith, y.fields_fit.size)) r1.1 in
+    let r3 = number_8 c.rights d.rights _ _ (omega (arith, x.fields_fit.rights)) (omega (arith, y.fields_fit.rights)) r2.1 in
+    let r4 = number_32 e f _ _ x.call_fits y.call_fits r3.1 in
+    let r5 = number_32 g h _ _ x.at_fits y.at_fits r4.1 in
+    let r6 = number_32 0 0 _ _ (omega arith) (omega arith) r5.1 in
+    let r7 = number_64 c.value d.value us vs x.fields_fit.value y.fields_fit.value r6.1 in
+    record { code = r1.0; fields = λ i. record { size = r2.0 i; rights = r3.0 i; value = r7.0 i }; call = r4.0; at = r5.0; rest = r7.1 }
+
+pub call_fits : (layout : Layout) (replica thread : ℕ) (request : Query) → IsLayout layout → IsEvent layout (Call replica thread request) → CallFits replica thread (kind_code request) (request_fields request)
+call_fits layout replica thread request l h =
+    let r : replica < layout.replicas = h.0 in
+    let t : thread < layout.threads = h.1 in
+    record { replica_fits = omega (arith, l.few_replicas); thread_fits = omega (arith, l.few_threads); fields_fit = request_fits layout.depth request h.2 }
+
+pub reply_fits : (layout : Layout) (call at : ℕ) (answer : Answer) → IsEvent layout (Reply call at answer) → ReplyFits (answer_code answer) (answer_fields answer) call at
+reply_fits layout call at answer h = record { fields_fit = answer_fits answer h.2; call_fits = h.0; at_fits = h.1 }
+
+tags_differ : (us vs : List ℕ) → to_be_bytes w8 0 ++ us ≡ to_be_bytes w8 1 ++ vs → ⊥
+tags_differ us vs e =
+    let r = number_8 0 1 us vs (omega arith) (omega arith) e in
+    let h : 0 ≡ 1 = r.0 in
+    omega arith
+
+pub length-event : (e : Event) → length (event e) ≡ 24
+length-event (Call replica thread request) = refl
+length-event (Reply call at answer) = refl
+
+pub events_apart : (layout : Layout) → IsLayout layout → ToldApart (IsEvent layout) event
+events_apart layout l (Call r t q) (Call s u p) us vs h k e =
+    let rest = number_8 0 0 (call_bytes r t (kind_code q) (request_fields q) ++ us) (call_bytes s u (kind_code p) (request_fields p) ++ vs) (omega arith) (omega arith) e in
+    let same = calls_apart r s t u (kind_code q) (kind_code p) (request_fields q) (request_fields p) us vs (call_fits layout r t q l h) (call_fits layout s u p l k) rest.1 in
+    let request = request_apart layout.depth q p h.2 k.2 same.kind same.fields in
+    (λ i. Call (same.replica i) (same.thread i) (request i), same.rest)
+events_apart layout l (Call r t q) (Reply d b y) us vs h k e = absurd (tags_differ _ _ e)
+events_apart layout l (Reply c a x) (Call s u p) us vs h k e = absurd (tags_differ _ _ (sym e))
+events_apart layout l (Reply c a x) (Reply d b y) us vs h k e =
+    let rest = number_8 1 1 (reply_bytes (answer_code x) (answer_fields x) c a ++ us) (reply_bytes (answer_code y) (answer_fields y) d b ++ vs) (omega arith) (omega arith) e in
+    let same = replies_apart (answer_code x) (answer_code y) (answer_fields x) (answer_fields y) c d a b us vs (reply_fits layout c a x h) (reply_fits layout d b y k) rest.1 in
+    let answer = answer_apart x y same.code same.fields in
+    (λ i. Reply (same.call i) (same.at i) (answer i), same.rest)
+
+-- ---- counts, places, heads and frames
+
+levels_apart : (d e : Depth) → levels d ≡ levels e → d ≡ e
+levels_apart Four Four h = refl
+
+levels_few : (d : Depth) → levels d < 2 ^ 8
+levels_few Four = omega arith
+
+abbrev pub counts_of : Counts → List ℕ
+counts_of numbers = counts numbers.layout numbers.places numbers.events
+
+pub length-counts : (numbers : Counts) → length (counts_of numbers) ≡ 14
+length-counts numbers = refl
+
+pub counts_apart : ToldApart IsCounts counts_of
+counts_apart a b us vs h k e =
+    let r1 = number_8 (levels a.layout.depth) (levels b.layout.depth) _ _ (levels_few a.layout.depth) (levels_few b.layout.depth) e in
+    let r2 = number_8 a.layout.replicas b.layout.replicas _ _ (omega (arith, h.layout.few_replicas)) (omega (arith, k.layout.few_replicas)) r1.1 in
+    let r3 = number_16 a.layout.threads b.layout.threads _ _ (omega (arith, h.layout.few_threads)) (omega (arith, k.layout.few_threads)) r2.1 in
+    let r4 = number_16 a.layout.tables b.layout.tables _ _ (omega (arith, h.layout.few_tables)) (omega (arith, k.layout.few_tables)) r3.1 in
+    let r5 = number_32 a.places b.places _ _ (omega (arith, h.few_places)) (omega (arith, k.few_places)) r4.1 in
+    let r6 = number_32 a.events b.events us vs (omega (arith, h.few_events)) (omega (arith, k.few_events)) r5.1 in
+    let depth = levels_apart a.layout.depth b.layout.depth r1.0 in
+    (λ i. record { layout = record { depth = depth i; replicas = r2.0 i; threads = r3.0 i; tables = r4.0 i }; places = r5.0 i; events = r6.0 i }, r6.1)
+
+pub log_words_apart : ToldApart (λ call. call < 2 ^ 32) log_word
+log_words_apart = number_32
+
+abbrev pub head_of : Head → List ℕ
+head_of head = dump_head head.applied head.frames head.root
+
+pub length-head : (head : Head) → length (head_of head) ≡ 16
+length-head head = refl
+
+pub heads_apart : ToldApart IsHead head_of
+heads_apart a b us vs h k e =
+    let r1 = number_32 a.applied b.applied _ _ h.applied k.applied e in
+    let r2 = number_32 a.frames b.frames _ _ (omega (arith, h.few_frames)) (omega (arith, k.few_frames)) r1.1 in
+    let r3 = number_64 a.root b.root us vs h.root k.root r2.1 in
+    (λ i. record { applied = r1.0 i; frames = r2.0 i; root = r3.0 i }, r3.1)
+
+pub frame_numbers_apart : ToldApart (λ number. number < 2 ^ 40) frame_number
+frame_numbers_apart a b us vs h k e = number_64 a b us vs (omega arith) (omega arith) e
+
+-- ---- lists of units
+
+pub lists_apart : {A : Type 0} (Fits : A → Type 0) (spelled : A → List ℕ) → ToldApart Fits spelled → (xs ys : List A) (us vs : List ℕ)
+    → AllByRecursion Fits xs → AllByRecursion Fits ys → length xs ≡ length ys → flat_map spelled xs ++ us ≡ flat_map spelled ys ++ vs → (xs ≡ ys) × (us ≡ vs)
+lists_apart Fits spelled apart [] [] us vs h k l e = (refl, e)
+lists_apart Fits spelled apart [] (y ∷ ys) us vs h k l e = absurd (omega arith)
+lists_apart Fits spelled apart (x ∷ xs) [] us vs h k l e = absurd (omega arith)
+lists_apart Fits spelled apart (x ∷ xs) (y ∷ ys) us vs h k l e =
+    let f = sym (append_assoc (spelled x) (flat_map spelled xs) us) ∙ e ∙ append_assoc (spelled y) (flat_map spelled ys) vs in
+    let first = apart x y _ _ h.0 k.0 f in
+    let rest = lists_apart Fits spelled apart xs ys us vs h.1 k.1 (omega arith) first.1 in
+    (ap₂ ◌∷◌ first.0 rest.0, rest.1)
+
+pub length_of_units : {A : Type 0} (spelled : A → List ℕ) (n : ℕ) → ((a : A) → length (spelled a) ≡ n) → (xs : List A) → length (flat_map spelled xs) ≡ n * length xs
+length_of_units spelled n each [] = omega arith
+length_of_units spelled n each (x ∷ xs) =
+    let h = each x in
+    let k = length_of_units spelled n each xs in
+    let l = length-append (spelled x) (flat_map spelled xs) in
+    omega arith
+
+pub length-frame_words : (words : List ℕ) → IsWords words → length (frame_words words) ≡ 4096
+length-frame_words words h = length_of_units (to_be_bytes w64) 8 (λ n. refl) words ∙ ap (λ n. 8 * n) h.whole
+
+pub words_apart : ToldApart IsWords frame_words
+words_apart a b us vs h k e =
+    lists_apart (λ n. n < 2 ^ 64) (to_be_bytes w64) number_64 a b us vs (recursion_from_All _ a h.each) (recursion_from_All _ b k.each) (h.whole ∙ sym k.whole) e

@@ -1,0 +1,24 @@
+pub mod Fields
+pub mod Events
+pub mod Words
+pub mod Counts
+pub mod Units
+pub mod Spelled
+pub mod Taken
+pub mod Frames
+pub mod Whole
+mod ExamplesOfSpelling
+mod ExamplesOfAnswers
+mod ExamplesOfOrders
+mod ExamplesOfFaults
+mod ExamplesOfRanges
+pub mod LawsOfUnits
+pub mod LawsOfSpelling
+pub mod LawsOfFormat
+pub mod LawsOfLists
+pub mod LawsOfCalls
+pub mod LawsOfOrder
+pub mod LawsOfPrecedence
+pub mod LawsOfFaults
+pub mod LawsOfDumps
+pub mod LawsOfSteps

@@ -1,0 +1,5 @@
+use Rattle.nr_trace.proofs.LawsOfFormat.{one_fault}
+use Rattle.nr_trace.proofs.laws.one_format_fault.Goals as goal
+
+pub returns : goal.returns
+returns c = one_fault

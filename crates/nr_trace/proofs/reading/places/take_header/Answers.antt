@@ -1,0 +1,12 @@
+use Rattle.std.proofs.Common.{refl}
+use Rattle.std.specs.Prelude.{Some}
+use Rattle.nr_trace.specs.FirstFault.{IsCounts, AtLog}
+use Rattle.nr_trace.specs.Spelling.{counts}
+use Rattle.nr_trace.specs.declared.fault.Format.TheVariants.{BadCount}
+use Rattle.nr_trace.proofs.Units.{refused}
+use Rattle.nr_trace.proofs.reading.places.take_header.Goals as goal
+
+pub returns-in-None : goal.returns-in-None
+returns-in-None c = λ rest.
+    refused 14 (Some BadCount) IsCounts (λ numbers. counts numbers.layout numbers.places numbers.events) (λ numbers. AtLog numbers.layout numbers.places numbers.events) BadCount c.args.unit.now rest c.requires refl
+    (λ numbers fits e. c.in-None.ensures (record { config = numbers.layout; places = numbers.places; events = numbers.events }) (record { in_range = fits; spelled = e }))

@@ -1,0 +1,18 @@
+use Rattle.std.proofs.Common.{◌≡◌, Bool, true, false, List, [], ◌∷◌, eqb, refl, ap, ◌∙◌}
+use Rattle.std.specs.Prelude.{Some, ⊤}
+use lib.Pointwise.{pointwise}
+use Rattle.vs_types.specs.Config.{Layout}
+use Rattle.nr_trace.specs.Spelling.{magic}
+use Rattle.nr_trace.specs.FirstFault.{HasFormatFault}
+use Rattle.nr_trace.specs.Progress.{Ahead}
+use Rattle.nr_trace.specs.declared.fault.Format.TheVariants.{BadMagic}
+use Rattle.nr_trace.specs.declared.reading.parts.Reader.TheVariants.{Version}
+use Rattle.nr_trace.proofs.Units.{refused}
+use Rattle.nr_trace.proofs.reading.places.take_magic.Goals as goal
+
+pub returns-else-eq : goal.returns-else-eq
+returns-else-eq c = λ rest.
+    refused {A = Unit {0}} 4 (Some BadMagic) (λ _. ⊤) (λ _. magic) (λ _. Ahead (Version c.args.alloc)) BadMagic c.args.unit.now rest c.requires refl
+    (λ _ _ e.
+    let same : false ≡ true = c.if-eq.ensures ∙ ap (λ l. pointwise eqb l c.as_slice.result.now) e ∙ ap (pointwise eqb magic) c.as_slice.ensures in
+    absurd cc)

@@ -1,0 +1,112 @@
+-- The recordings of the worked examples.
+use Rattle.std.specs.Prelude.{ℕ, ◌-◌, ◌++◌, List, [], ◌∷◌, replicate}
+use Rattle.std.specs.FinMap as finite
+use Rattle.vs_types.specs.declared.depth.Depth.TheVariants.{Four}
+use Rattle.vs_types.specs.declared.page.Size.TheVariants.{K4}
+use Rattle.vs_types.specs.declared.op.Action.{Action}
+use Rattle.vs_types.specs.declared.op.Action.TheVariants.{Map, Unmap}
+use Rattle.vs_types.specs.declared.request.Query.{Query}
+use Rattle.vs_types.specs.declared.request.Query.TheVariants.{Update, Resolve}
+use Rattle.vs_types.specs.declared.answer.Answer.{Answer}
+use Rattle.vs_types.specs.declared.answer.Answer.TheVariants.{Done, NotMapped, Mapped}
+use Rattle.vs_walk.specs.Memory.{Memory}
+use Rattle.vs_walk.specs.Walk.{all_rights}
+use Rattle.vs_walk.specs.Dump.{Image}
+use Rattle.nr_trace.specs.Recording.{Recording}
+use Rattle.nr_trace.specs.declared.event.Event.TheVariants.{Call, Reply}
+
+-- a frame with this word at this index, and else zeros
+abbrev pub frame_with : ℕ → ℕ → List ℕ
+frame_with index word = replicate index 0 ++ word ∷ replicate (511 - index) 0
+
+-- a page of 4 KiB is mapped, an address in it is resolved, and how it looks then
+abbrev pub map_page : Action
+map_page = Map (record { base = 0x400000; size = K4; phys = 0x1000; rights = all_rights })
+
+abbrev pub map_it : Query
+map_it = Update map_page
+
+abbrev pub resolve_it : Query
+resolve_it = Resolve 0x400123
+
+abbrev pub looks_mapped : Answer
+looks_mapped = Mapped 0x1123 K4 all_rights
+
+-- the page table of a space with that page alone
+abbrev pub frames_of_page : Memory
+frames_of_page = finite.from_sorted ((1, frame_with 0 0x2007) ∷ (2, frame_with 0 0x3007) ∷ (3, frame_with 2 0x4007) ∷ (4, frame_with 0 0x1007) ∷ [])
+
+abbrev pub dump_of_page : Image
+dump_of_page = record { applied = 1; root = 1; frames = frames_of_page }
+
+-- one thread maps, and then resolves
+abbrev pub map_then_resolve : Recording
+map_then_resolve = record {
+  layout = record { depth = Four; replicas = 1; threads = 1; tables = 4 };
+  log = 0 ∷ [];
+  events = Call 0 0 map_it ∷ Reply 0 0 Done ∷ Call 0 0 resolve_it ∷ Reply 2 1 looks_mapped ∷ [];
+  dumps = dump_of_page ∷ [];
+}
+
+-- how the recording is spelled, up to the frames: magic, version, counts, log, four events, and the head of the dump
+abbrev pub map_then_resolve_bytes : List ℕ
+map_then_resolve_bytes =
+    (0x4e ∷ 0x52 ∷ 0x56 ∷ 0x54 ∷ [])
+    ++ (0x00 ∷ 0x01 ∷ [])
+    ++ (0x04 ∷ 0x01 ∷ 0x00 ∷ 0x01 ∷ 0x00 ∷ 0x04 ∷ 0x00 ∷ 0x00 ∷ 0x00 ∷ 0x01 ∷ 0x00 ∷ 0x00 ∷ 0x00 ∷ 0x04 ∷ [])
+    ++ (0x00 ∷ 0x00 ∷ 0x00 ∷ 0x00 ∷ [])
+    ++ (0x00 ∷ 0x00 ∷ 0x00 ∷ 0x00 ∷ 0x00 ∷ 0x00 ∷ 0x07 ∷ 0x00 ∷ 0x00 ∷ 0x00 ∷ 0x00 ∷ 0x00 ∷ 0x00 ∷ 0x40 ∷ 0x00 ∷ 0x00 ∷ 0x00 ∷ 0x00 ∷ 0x00 ∷ 0x00 ∷ 0x00 ∷ 0x00 ∷ 0x10 ∷ 0x00 ∷ [])
+    ++ (0x01 ∷ 0x00 ∷ 0x00 ∷ 0x00 ∷ 0x00 ∷ 0x00 ∷ 0x00 ∷ 0x00 ∷ 0x00 ∷ 0x00 ∷ 0x00 ∷ 0x00 ∷ 0x00 ∷ 0x00 ∷ 0x00 ∷ 0x00 ∷ 0x00 ∷ 0x00 ∷ 0x00 ∷ 0x00 ∷ 0x00 ∷ 0x00 ∷ 0x00 ∷ 0x00 ∷ [])
+    ++ (0x00 ∷ 0x00 ∷ 0x00 ∷ 0x00 ∷ 0x03 ∷ 0x00 ∷ 0x00 ∷ 0x00 ∷ 0x00 ∷ 0x00 ∷ 0x00 ∷ 0x00 ∷ 0x00 ∷ 0x40 ∷ 0x01 ∷ 0x23 ∷ 0x00 ∷ 0x00 ∷ 0x00 ∷ 0x00 ∷ 0x00 ∷ 0x00 ∷ 0x00 ∷ 0x00 ∷ [])
+    ++ (0x01 ∷ 0x07 ∷ 0x00 ∷ 0x07 ∷ 0x00 ∷ 0x00 ∷ 0x00 ∷ 0x02 ∷ 0x00 ∷ 0x00 ∷ 0x00 ∷ 0x01 ∷ 0x00 ∷ 0x00 ∷ 0x00 ∷ 0x00 ∷ 0x00 ∷ 0x00 ∷ 0x00 ∷ 0x00 ∷ 0x00 ∷ 0x00 ∷ 0x11 ∷ 0x23 ∷ [])
+    ++ (0x00 ∷ 0x00 ∷ 0x00 ∷ 0x01 ∷ 0x00 ∷ 0x00 ∷ 0x00 ∷ 0x04 ∷ 0x00 ∷ 0x00 ∷ 0x00 ∷ 0x00 ∷ 0x00 ∷ 0x00 ∷ 0x00 ∷ 0x01 ∷ [])
+
+-- two reads, one of which saw the page and one did not, beside the call that maps it
+abbrev pub read_before_and_after : Recording
+read_before_and_after = record {
+  layout = record { depth = Four; replicas = 1; threads = 3; tables = 4096 };
+  log = 0 ∷ [];
+  events = Call 0 0 map_it ∷ Call 0 1 resolve_it ∷ Call 0 2 resolve_it ∷ Reply 0 0 Done ∷ Reply 1 1 looks_mapped ∷ Reply 2 0 NotMapped ∷ [];
+  dumps = dump_of_page ∷ [];
+}
+
+-- a read that does not see the page is made when another replica has shown it already
+abbrev pub stale_read : Recording
+stale_read = record {
+  layout = record { depth = Four; replicas = 2; threads = 3; tables = 4096 };
+  log = 0 ∷ [];
+  events = Call 0 0 map_it ∷ Call 0 1 resolve_it ∷ Reply 1 1 looks_mapped ∷ Call 1 2 resolve_it ∷ Reply 3 0 NotMapped ∷ [];
+  dumps = dump_of_page ∷ dump_of_page ∷ [];
+}
+
+-- an update that was never answered is placed before one that was answered before it was made
+abbrev pub unanswered_too_early : Recording
+unanswered_too_early = record {
+  layout = record { depth = Four; replicas = 1; threads = 2; tables = 4096 };
+  log = 2 ∷ 0 ∷ [];
+  events = Call 0 0 map_it ∷ Reply 0 1 Done ∷ Call 0 1 (Update (Unmap 0x500000)) ∷ [];
+  dumps = dump_of_page ∷ [];
+}
+
+-- an update that was never answered nor placed
+abbrev pub unanswered_left_out : Recording
+unanswered_left_out = record {
+  layout = record { depth = Four; replicas = 1; threads = 3; tables = 4096 };
+  log = 0 ∷ [];
+  events = Call 0 0 map_it ∷ Call 0 1 resolve_it ∷ Call 0 2 (Update (Unmap 0x400000)) ∷ Reply 1 1 looks_mapped ∷ [];
+  dumps = dump_of_page ∷ [];
+}
+
+-- `map_then_resolve` with another log, with other replies, without the first reply, and with a dump that says another prefix
+abbrev pub with_log : List ℕ → Recording
+with_log log = record map_then_resolve { log = log }
+
+abbrev pub with_replies : ℕ → ℕ → ℕ → ℕ → Recording
+with_replies place call entries phys =
+    record map_then_resolve { events = Call 0 0 map_it ∷ Reply 0 place Done ∷ Call 0 0 resolve_it ∷ Reply call entries (Mapped phys K4 all_rights) ∷ [] }
+
+abbrev pub without_first_reply : Recording
+without_first_reply = record map_then_resolve { events = Call 0 0 map_it ∷ Call 0 0 resolve_it ∷ Reply 1 1 looks_mapped ∷ [] }
+
+abbrev pub with_applied : ℕ → Recording
+with_applied applied = record map_then_resolve { dumps = record dump_of_page { applied = applied } ∷ [] }

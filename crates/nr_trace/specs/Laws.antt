@@ -1,0 +1,41 @@
+-- What the laws of `src/laws.rt` say of orders.
+use Rattle.std.specs.Prelude.{◌≡◌, ℕ, ◌≤◌, ◌⊎◌, List, length, Contains, Some, nat_eq, ⊤}
+use Rattle.std.specs.List.{IsDistinct}
+use Rattle.nr_trace.specs.Recording.{Recording}
+use Rattle.nr_trace.specs.Calls.{Made, Answered, call_of, reply_to, IsCall, IsUpdate, IsAnswered}
+use Rattle.nr_trace.specs.Orders.{before, space_after, answer_in, recorded_order}
+use Rattle.nr_trace.specs.declared.fault.Fault.{Fault}
+use Rattle.nr_trace.specs.declared.fault.Fault.TheVariants.{ThreadOpen, NoSuchCall, AnsweredTwice, NotAnUpdate, PlacedTwice, NotPlaced, PastLog, WrongAnswer}
+use Rattle.nr_trace.specs.Faults.{Holds, StandsBehind}
+
+-- no fault holds of the events by themselves, of the log, or of a reply's place
+pub record HasCleanLog (trace : Recording) : Type 0 where
+  pub no_thread_open : (index : ℕ) → Holds trace (ThreadOpen index) → ⊥
+  pub no_such_call : (index : ℕ) → Holds trace (NoSuchCall index) → ⊥
+  pub none_twice : (index : ℕ) → Holds trace (AnsweredTwice index) → ⊥
+  pub updates_alone : (place : ℕ) → Holds trace (NotAnUpdate place) → ⊥
+  pub placed_once : (place : ℕ) → Holds trace (PlacedTwice place) → ⊥
+  pub all_placed : (index : ℕ) → Holds trace (NotPlaced index) → ⊥
+  pub none_past_log : (index : ℕ) → Holds trace (PastLog index) → ⊥
+
+-- the call stands behind some entries of the log
+abbrev pub Stands : Recording → ℕ → Type 0
+Stands trace call = (entries : ℕ) × (entries ≤ length trace.log) × StandsBehind trace call entries
+
+-- a legal order, but that a call answered before another was made may come behind it
+pub record IsLegalButPrecedence (trace : Recording) (order : List ℕ) : Type 0 where
+  pub once : IsDistinct nat_eq order
+  pub calls : (call : ℕ) → Contains order call → IsCall trace call
+  pub answered : (call : ℕ) → IsCall trace call → IsAnswered trace call → Contains order call
+  pub others : (call : ℕ) → Contains order call → IsAnswered trace call ⊎ IsUpdate trace call
+  pub answers : (call : ℕ) (made : Made) (reply : Answered) → call_of trace call ≡ Some made → reply_to trace call ≡ Some reply
+      → reply.answer ≡ answer_in trace.layout (space_after trace (before call order)) made.request
+
+-- wrong answers are compared in the recorded order, so that the call has to stand there
+abbrev pub HasRank : Recording → Fault → Type 0
+HasRank trace (WrongAnswer call) = Contains (recorded_order trace) call
+HasRank trace fault = ⊤
+
+-- no fault holds but perhaps one of the format
+abbrev pub IsFaultless : Recording → Type 0
+IsFaultless trace = (fault : Fault) → Holds trace fault → ⊥

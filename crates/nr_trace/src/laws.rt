@@ -1,0 +1,95 @@
+//! Laws of the definitions in `specs/`. Each function does nothing: its clauses say what holds of all bytes and all
+//! recordings.
+
+ghost use Rattle.std.specs.Prelude.{◌≡◌, ◌≤◌, ◌+◌, ℕ, max, ◌⊎◌, ◌↔◌, length, slice_get, take, Contains, List, None, Some};
+ghost use Rattle.vs_walk.specs.Dump.{Image};
+ghost use Rattle.vs_types.specs.Space.{no_pages};
+ghost use Rattle.vs_types.specs.Step.{step};
+ghost use Rattle.vs_types.specs.declared.op.Action.{Action};
+ghost use Rattle.nr_trace.specs.Calls.{operation_of, reply_of, reply_to, Answered};
+ghost use Rattle.nr_trace.specs.FirstFault.{HasFormatFault};
+ghost use Rattle.nr_trace.specs.Faults.{Earlier, Holds, IsFirst, IsFirstOf, StandsBehind};
+ghost use Rattle.nr_trace.specs.Laws.{HasCleanLog, HasRank, IsFaultless, IsLegalButPrecedence, Stands};
+ghost use Rattle.nr_trace.specs.Orders.{before, floor, known_by, recorded_order, space_after, updates, FitsOrder, IsLegalOrder};
+ghost use Rattle.nr_trace.specs.Recording.{IsRecording, Recording};
+ghost use Rattle.nr_trace.specs.Spelling.{Spells};
+ghost use Rattle.nr_trace.specs.declared.fault.Fault.{Fault};
+ghost use Rattle.nr_trace.specs.declared.fault.Fault.TheVariants.{Early, WrongAnswer};
+ghost use Rattle.nr_trace.specs.declared.fault.Format.{Format};
+
+/// Bytes spell at most one trace.
+pub fn bytes_spell_one_trace()
+    ensures { (bytes : List ℕ) (first second : Recording) → Spells bytes first → Spells bytes second → first ≡ second }
+{}
+
+/// Bytes have at most one fault of the format.
+pub fn one_format_fault()
+    ensures { (bytes : List ℕ) (first second : Format) → HasFormatFault bytes first → HasFormatFault bytes second → first ≡ second }
+{}
+
+/// Bytes that spell a trace have no fault of the format.
+pub fn no_fault_of_a_spelling()
+    ensures { (bytes : List ℕ) (trace : Recording) (fault : Format) → Spells bytes trace → HasFormatFault bytes fault → ⊥ }
+{}
+
+/// Where no fault holds of the events, the log and the replies' places, and no answer is wrong, the recorded order is
+/// legal but for precedence.
+pub fn recorded_order_is_legal_but_precedence()
+    ensures { (trace : Recording) → IsRecording trace → HasCleanLog trace → ((call : ℕ) → Holds trace (WrongAnswer call) → ⊥) → IsLegalButPrecedence trace (recorded_order trace) }
+{}
+
+/// Where moreover no call stands too early, the recorded order is legal.
+pub fn recorded_order_is_legal()
+    ensures { (trace : Recording) → IsRecording trace → HasCleanLog trace → ((call : ℕ) → Holds trace (Early call) → ⊥) → ((call : ℕ) → Holds trace (WrongAnswer call) → ⊥) → IsLegalOrder trace (recorded_order trace) }
+{}
+
+/// Of two faults that hold of a trace, one is earlier, or they are one.
+pub fn faults_are_ordered()
+    ensures { (trace : Recording) (first second : Fault) → HasRank trace first → HasRank trace second → Holds trace first → Holds trace second → (first ≡ second) ⊎ (Earlier trace first second ⊎ Earlier trace second first) }
+{}
+
+/// A trace has at most one first fault.
+pub fn one_first_fault()
+    ensures { (trace : Recording) (first second : Fault) → IsFirst trace first → IsFirst trace second → first ≡ second }
+{}
+
+/// Bytes have at most one first fault.
+pub fn one_first_fault_of_bytes()
+    ensures { (bytes : List ℕ) (first second : Fault) → IsFirstOf bytes first → IsFirstOf bytes second → first ≡ second }
+{}
+
+/// Where no fault holds of a recording, the recorded order is legal, and each dump fits it.
+pub fn faultless_recordings_have_an_order()
+    ensures legal { (trace : Recording) → IsRecording trace → IsFaultless trace → IsLegalOrder trace (recorded_order trace) }
+    ensures fits { (trace : Recording) (replica : ℕ) (dump : Image) → IsRecording trace → IsFaultless trace → slice_get trace.dumps replica ≡ Some dump → FitsOrder trace (recorded_order trace) replica dump }
+{}
+
+/// The members of the recorded order are the calls that stand behind some entries, each behind one number of them. Before a
+/// member come the operations of so many places of the log, and the updates in all are the log.
+pub fn recorded_order_by_entries()
+    ensures members { (trace : Recording) (call : ℕ) → HasCleanLog trace → Contains (recorded_order trace) call ↔ Stands trace call }
+    ensures once { (trace : Recording) (call m n : ℕ) → HasCleanLog trace → StandsBehind trace call m → StandsBehind trace call n → m ≡ n }
+    ensures answered { (trace : Recording) (call : ℕ) (reply : Answered) → HasCleanLog trace → reply_to trace call ≡ Some reply → StandsBehind trace call reply.at × (reply.at ≤ length trace.log) }
+    ensures first { (trace : Recording) (index : ℕ) (reply : Answered) → HasCleanLog trace → reply_of trace index ≡ Some reply → reply_to trace reply.call ≡ Some reply }
+    ensures updates { (trace : Recording) → HasCleanLog trace → updates trace (recorded_order trace) ≡ trace.log }
+    ensures space { (trace : Recording) (call n : ℕ) → HasCleanLog trace → n ≤ length trace.log → StandsBehind trace call n → space_after trace (before call (recorded_order trace)) ≡ space_after trace (take n trace.log) }
+{}
+
+/// Of two wrong answers the one whose call stands before the other's is earlier.
+pub fn earlier_wrong_answer()
+    ensures { (trace : Recording) (i j : ℕ) → HasCleanLog trace → Holds trace (WrongAnswer i) → Holds trace (WrongAnswer j) → Earlier trace (WrongAnswer i) (WrongAnswer j) ↔ Contains (before j (recorded_order trace)) i }
+{}
+
+/// A floor is raised by what each reply makes known, and by nothing else.
+pub fn floors_rise_by_replies()
+    ensures start { (trace : Recording) → floor trace 0 ≡ 0 }
+    ensures reply { (trace : Recording) (index : ℕ) (reply : Answered) → reply_of trace index ≡ Some reply → floor trace (index + 1) ≡ max (floor trace index) (known_by trace reply) }
+    ensures other { (trace : Recording) (index : ℕ) → reply_of trace index ≡ None → floor trace (index + 1) ≡ floor trace index }
+{}
+
+/// The space after one place more is that after a step by its operation.
+pub fn spaces_go_on_by_places()
+    ensures start { (trace : Recording) → space_after trace (take 0 trace.log) ≡ no_pages }
+    ensures next { (trace : Recording) (place call : ℕ) (action : Action) → slice_get trace.log place ≡ Some call → operation_of trace call ≡ Some action
+        → space_after trace (take (place + 1) trace.log) ≡ (step trace.layout.depth trace.layout.tables (space_after trace (take place trace.log)) action).space }
+{}

@@ -1,0 +1,73 @@
+//! The event that a unit spells.
+
+ghost use Rattle.std.specs.Prelude.{◌≡◌, ◌∷◌, length};
+ghost use Rattle.vs_types.specs.Config.{Layout};
+ghost use Rattle.nr_trace.specs.Recording.{IsEvent};
+ghost use Rattle.nr_trace.specs.Spelling.{event};
+ghost use Rattle.nr_trace.specs.Reading.{Finds, SpellsEvent};
+
+use crate::event::Event;
+use crate::reading::answer::answer_of;
+use crate::reading::fields::{take_u8, take_u16, take_u32, take_u64};
+use crate::reading::request::{Asked, request_of};
+use vs_types::Config;
+
+fn call_of(config: Config, bytes: &[u8]) -> Option<Event>
+    requires { length bytes.now ≡ 23 }
+    ensures { Finds (SpellsEvent config (0 ∷ bytes.now)) result }
+{
+    let (replica, rest) = take_u8(bytes);
+    let (thread, rest) = take_u16(rest);
+    let (kind, rest) = take_u8(rest);
+    let (size, rest) = take_u8(rest);
+    let (rights, rest) = take_u8(rest);
+    let (unused, rest) = take_u8(rest);
+    let (address, rest) = take_u64(rest);
+    let (physical, _) = take_u64(rest);
+    if replica >= config.replicas() || thread >= config.threads() || unused != 0 {
+        return None;
+    }
+    let asked = Asked {
+        size,
+        rights,
+        address,
+        physical,
+    };
+    let request = request_of(config.depth(), kind, asked)?;
+    Some(Event::Call {
+        replica,
+        thread,
+        request,
+    })
+}
+
+fn reply_of(config: Config, bytes: &[u8]) -> Option<Event>
+    requires { length bytes.now ≡ 23 }
+    ensures { Finds (SpellsEvent config (1 ∷ bytes.now)) result }
+{
+    let (code, rest) = take_u8(bytes);
+    let (size, rest) = take_u8(rest);
+    let (rights, rest) = take_u8(rest);
+    let (call, rest) = take_u32(rest);
+    let (at, rest) = take_u32(rest);
+    let (unused, rest) = take_u32(rest);
+    let (value, _) = take_u64(rest);
+    if unused != 0 {
+        return None;
+    }
+    let answer = answer_of(code, size, rights, value)?;
+    Some(Event::Reply { call, at, answer })
+}
+
+/// The event that the 24 bytes spell, if it is one of a service laid out so.
+pub(crate) fn event_of(config: Config, unit: &[u8]) -> Option<Event>
+    requires { length unit.now ≡ 24 }
+    ensures { Finds (SpellsEvent config unit.now) result }
+{
+    let (tag, rest) = take_u8(unit);
+    match tag {
+        0 => call_of(config, rest),
+        1 => reply_of(config, rest),
+        _ => None,
+    }
+}

@@ -1,0 +1,79 @@
+//! The layout and the lengths that the counts unit spells, and the head of a dump.
+
+ghost use Rattle.std.specs.Prelude.{◌≡◌, length};
+ghost use Rattle.vs_types.specs.Depth.{levels};
+ghost use Rattle.nr_trace.specs.Reading.{Finds, SpellsCounts, SpellsHead};
+
+use crate::reading::fields::{take_u8, take_u16, take_u32, take_u64};
+use vs_types::{Config, Depth};
+
+/// How a service is laid out, and how many places and events a trace of it has.
+#[derive(Clone, Copy)]
+pub(crate) struct Header {
+    pub(crate) config: Config,
+    pub(crate) places: u32,
+    pub(crate) events: u32,
+}
+
+/// How a dump begins.
+#[derive(Clone, Copy)]
+pub(crate) struct DumpHead {
+    pub(crate) applied: u32,
+    pub(crate) frames: u32,
+    pub(crate) root: u64,
+}
+
+fn depth_of(count: u8) -> Option<Depth>
+    ensures { Finds (λ depth. count ≡ levels depth) result }
+{
+    match count {
+        4 => Some(Depth::Four),
+        _ => None,
+    }
+}
+
+/// What the 14 bytes spell, if all of it is in range.
+pub(crate) fn header_of(unit: &[u8]) -> Option<Header>
+    requires { length unit.now ≡ 14 }
+    ensures { Finds (SpellsCounts unit.now) result }
+{
+    let (levels, rest) = take_u8(unit);
+    let (replicas, rest) = take_u8(rest);
+    let (threads, rest) = take_u16(rest);
+    let (tables, rest) = take_u16(rest);
+    let (places, rest) = take_u32(rest);
+    let (events, _) = take_u32(rest);
+    if places > 65_536 {
+        return None;
+    }
+    if events > 131_072 {
+        return None;
+    }
+    let depth = depth_of(levels)?;
+    match Config::new(depth, replicas, threads, tables) {
+        Ok(config) => Some(Header {
+            config,
+            places,
+            events,
+        }),
+        Err(_) => None,
+    }
+}
+
+/// What the 16 bytes spell, if there are 1 to 4,096 frames.
+pub(crate) fn dump_head_of(unit: &[u8]) -> Option<DumpHead>
+    requires { length unit.now ≡ 16 }
+    ensures { Finds (SpellsHead unit.now) result }
+{
+    let (applied, rest) = take_u32(unit);
+    let (frames, rest) = take_u32(rest);
+    let (root, _) = take_u64(rest);
+    if frames < 1 || frames > 4096 {
+        return None;
+    }
+    Some(DumpHead {
+        applied,
+        frames,
+        root,
+    })
+}

@@ -1,0 +1,116 @@
+//! The units of the header, of the log and of the events.
+
+ghost use Rattle.std.specs.Prelude.{◌≡◌, ◌+◌, ◌≤◌, [], length};
+ghost use Rattle.nr_trace.specs.FirstFault.{AtLog, AtEvents};
+ghost use Rattle.nr_trace.specs.Progress.{AreInRange, HasRead, IsReady, Takes, parts_spelling};
+
+use crate::fault::Format;
+use crate::reading::event::event_of;
+use crate::reading::fields::{take_u16, take_u32};
+use crate::reading::header::header_of;
+use crate::reading::parts::{Parts, Reader};
+use std::alloc::Global;
+use vs_types::Fail;
+
+fn at_events(parts: Parts, events: u32) -> Reader
+    requires in_range { AreInRange parts }
+    requires few_events { length parts.events.items + events ≤ 131072 }
+    requires no_dumps { parts.dumps.items ≡ [] }
+    ensures { HasRead (parts_spelling (length parts.log.items) (length parts.events.items + events) parts)
+        (AtEvents parts.config (length parts.events.items) events) result }
+{
+    if events == 0 {
+        Reader::Dumps(parts)
+    } else {
+        Reader::Events(parts, events)
+    }
+}
+
+fn at_log(parts: Parts, places: u32, events: u32) -> Reader
+    requires in_range { AreInRange parts }
+    requires few_places { length parts.log.items + places ≤ 65536 }
+    requires few_events { events ≤ 131072 }
+    requires no_events { parts.events.items ≡ [] }
+    requires no_dumps { parts.dumps.items ≡ [] }
+    ensures { HasRead (parts_spelling (length parts.log.items + places) events parts) (AtLog parts.config places events) result }
+{
+    if places == 0 {
+        at_events(parts, events)
+    } else {
+        Reader::Log(parts, places, events)
+    }
+}
+
+pub(crate) fn take_magic(alloc: Global, unit: &[u8]) -> Result<Reader, Fail<Format>>
+    requires { length unit.now ≡ 4 }
+    ensures { Takes (Reader.Magic alloc) unit.now result }
+{
+    if unit == b"NRVT".as_slice() {
+        Ok(Reader::Version(alloc))
+    } else {
+        Err(Fail::Refused(Format::BadMagic))
+    }
+}
+
+pub(crate) fn take_version(alloc: Global, unit: &[u8]) -> Result<Reader, Fail<Format>>
+    requires { length unit.now ≡ 2 }
+    ensures { Takes (Reader.Version alloc) unit.now result }
+{
+    let (version, _) = take_u16(unit);
+    if version == 1 {
+        Ok(Reader::Header(alloc))
+    } else {
+        Err(Fail::Refused(Format::BadVersion))
+    }
+}
+
+pub(crate) fn take_header(alloc: Global, unit: &[u8]) -> Result<Reader, Fail<Format>>
+    requires { length unit.now ≡ 14 }
+    ensures { Takes (Reader.Header alloc) unit.now result }
+{
+    match header_of(unit) {
+        Some(header) => {
+            let parts = Parts {
+                alloc,
+                config: header.config,
+                log: Vec::new(alloc),
+                events: Vec::new(alloc),
+                dumps: Vec::new(alloc),
+            };
+            Ok(at_log(parts, header.places, header.events))
+        }
+        None => Err(Fail::Refused(Format::BadCount)),
+    }
+}
+
+pub(crate) fn take_place(
+    mut parts: Parts,
+    places: u32,
+    events: u32,
+    unit: &[u8],
+) -> Result<Reader, Fail<Format>>
+    requires ready { IsReady (Reader.Log parts places events) }
+    requires whole { length unit.now ≡ 4 }
+    ensures { Takes (Reader.Log parts places events) unit.now result }
+{
+    let (call, _) = take_u32(unit);
+    parts.log.push(call)?;
+    Ok(at_log(parts, places - 1, events))
+}
+
+pub(crate) fn take_event(mut parts: Parts, events: u32, unit: &[u8]) -> Result<Reader, Fail<Format>>
+    requires ready { IsReady (Reader.Events parts events) }
+    requires whole { length unit.now ≡ 24 }
+    ensures { Takes (Reader.Events parts events) unit.now result }
+{
+    match event_of(parts.config, unit) {
+        Some(event) => {
+            parts.events.push(event)?;
+            Ok(at_events(parts, events - 1))
+        }
+        None => {
+            let index = parts.events.len() as u32;
+            Err(Fail::Refused(Format::BadEvent(index)))
+        }
+    }
+}

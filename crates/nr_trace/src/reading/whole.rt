@@ -1,0 +1,34 @@
+//! Reading of a whole trace.
+
+ghost use Rattle.std.specs.Prelude.{IfOk, IfErr};
+ghost use Rattle.nr_trace.specs.Spelling.{Spells};
+ghost use Rattle.nr_trace.specs.FirstFault.{HasFormatFault};
+ghost use Rattle.nr_trace.specs.Reading.{IfRefused};
+
+use crate::fault::Format;
+use crate::reading::parts::Reader;
+use crate::trace::Trace;
+use std::alloc::Global;
+use vs_types::Fail;
+
+/// The trace that the bytes spell, or the first fault in byte order that keeps them from spelling one. It takes memory
+/// for the trace, at most about the length of the bytes, and refuses with want of memory where that is refused.
+pub fn read(alloc: Global, bytes: &[u8]) -> Result<Trace, Fail<Format>>
+    ensures spelled { IfOk result (λ trace. Spells bytes.now trace) }
+    ensures refused { IfErr result (IfRefused (HasFormatFault bytes.now)) }
+{
+    let mut reader = Reader::new(alloc);
+    let mut rest = bytes;
+    while let Some(len) = reader.unit_len() {
+        if rest.len() < len {
+            return Err(Fail::Refused(Format::Truncated));
+        }
+        let (unit, behind) = rest.split_at(len);
+        reader = reader.take_unit(unit)?;
+        rest = behind;
+    }
+    if !rest.is_empty() {
+        return Err(Fail::Refused(Format::Trailing));
+    }
+    Ok(reader.finish())
+}

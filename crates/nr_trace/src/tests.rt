@@ -1,0 +1,161 @@
+use super::*;
+use std::alloc::{AllocError, Global};
+use std::test::*;
+use vs_types::{Answer, Config, Depth, Op, Request, Rights, Size};
+use vs_walk::Frames;
+
+const ALL: Rights = Rights {
+    write: true,
+    user: true,
+    exec: true,
+};
+
+/// A frame whose words are 0, but for one.
+fn push_frame(bytes: &mut Vec<u8>, number: u64, index: usize, word: u64) -> Result<(), AllocError> {
+    bytes.extend_from_slice(&number.to_be_bytes())?;
+    for k in 0..512usize {
+        let here = if k == index { word } else { 0 };
+        bytes.extend_from_slice(&here.to_be_bytes())?;
+    }
+    Ok(())
+}
+
+fn empty_bytes(alloc: Global) -> Result<Vec<u8>, AllocError> {
+    let mut bytes = vec![in alloc;
+        0x4e, 0x52, 0x56, 0x54, 0, 1, 4, 1, 0, 1, 0, 1, 0, 0, 0, 0, 0, 0, 0, 0, 0, 0, 0, 0, 0, 0,
+        0, 1, 0, 0, 0, 0, 0, 0, 0, 1,
+    ]?;
+    push_frame(&mut bytes, 1, 0, 0)?;
+    Ok(bytes)
+}
+
+fn map_then_resolve_bytes(alloc: Global) -> Result<Vec<u8>, AllocError> {
+    let mut bytes = vec![in alloc;
+        0x4e, 0x52, 0x56, 0x54, 0, 1, 4, 1, 0, 1, 0, 4, 0, 0, 0, 1, 0, 0, 0, 4, 0, 0, 0, 0, 0, 0,
+        0, 0, 0, 0, 7, 0, 0, 0, 0, 0, 0, 0x40, 0, 0, 0, 0, 0, 0, 0, 0, 0x10, 0, 1, 0, 0, 0, 0, 0,
+        0, 0, 0, 0, 0, 0, 0, 0, 0, 0, 0, 0, 0, 0, 0, 0, 0, 0, 0, 0, 0, 0, 3, 0, 0, 0, 0, 0, 0, 0,
+        0, 0x40, 0x01, 0x23, 0, 0, 0, 0, 0, 0, 0, 0, 1, 7, 0, 7, 0, 0, 0, 2, 0, 0, 0, 1, 0, 0, 0,
+        0, 0, 0, 0, 0, 0, 0, 0x11, 0x23, 0, 0, 0, 1, 0, 0, 0, 4, 0, 0, 0, 0, 0, 0, 0, 1,
+    ]?;
+    push_frame(&mut bytes, 1, 0, 0x2007)?;
+    push_frame(&mut bytes, 2, 0, 0x3007)?;
+    push_frame(&mut bytes, 3, 2, 0x4007)?;
+    push_frame(&mut bytes, 4, 0, 0x1007)?;
+    Ok(bytes)
+}
+
+/// The bytes with another one at an index.
+fn changed(alloc: Global, bytes: &[u8], at: usize, byte: u8) -> Result<Vec<u8>, AllocError> {
+    let mut changed = Vec::new(alloc);
+    for (k, old) in bytes.iter().enumerate() {
+        changed.push(if k == at { byte } else { *old })?;
+    }
+    Ok(changed)
+}
+
+/// The fault with which the bytes are refused.
+fn fault_of(alloc: Global, bytes: &[u8]) -> Option<Format> {
+    match read(alloc, bytes) {
+        Err(vs_types::Fail::Refused(fault)) => Some(fault),
+        _ => None,
+    }
+}
+
+#[test]
+fn empty_trace(rt: HostRuntime) -> Result<(), Fail> {
+    let bytes = empty_bytes(rt.alloc())?;
+    assert_eq!(rt; bytes.len(), 4140);
+    let trace = read(rt.alloc(), &bytes)?;
+    assert!(rt; Config::new(Depth::Four, 1, 1, 1) == Ok(trace.config()));
+    assert!(rt; trace.log().is_empty());
+    assert!(rt; trace.events().is_empty());
+    assert_eq!(rt; trace.dumps().len(), 1);
+    let dump = &trace.dumps()[0];
+    assert_eq!(rt; dump.applied(), 0);
+    assert_eq!(rt; dump.root(), 1);
+    assert_eq!(rt; dump.count(), 1);
+    assert!(rt;
+        dump.words(1)
+            .is_some_and(|words| words.iter().all(|word| *word == 0))
+    );
+    Ok(())
+}
+
+#[test]
+fn map_then_resolve(rt: HostRuntime) -> Result<(), Fail> {
+    let bytes = map_then_resolve_bytes(rt.alloc())?;
+    assert_eq!(rt; bytes.len(), 16_552);
+    let trace = read(rt.alloc(), &bytes)?;
+    assert!(rt; Config::new(Depth::Four, 1, 1, 4) == Ok(trace.config()));
+    assert!(rt; trace.log() == [0].as_slice());
+    let map = Op::map(Depth::Four, 0x400000, Size::K4, 0x1000, ALL)?;
+    let events = [
+        Event::Call {
+            replica: 0,
+            thread: 0,
+            request: Request::update(map),
+        },
+        Event::Reply {
+            call: 0,
+            at: 0,
+            answer: Answer::Done,
+        },
+        Event::Call {
+            replica: 0,
+            thread: 0,
+            request: Request::resolve(Depth::Four, 0x400123)?,
+        },
+        Event::Reply {
+            call: 2,
+            at: 1,
+            answer: Answer::Mapped(0x1123, Size::K4, ALL),
+        },
+    ];
+    assert!(rt; trace.events() == events.as_slice());
+    assert_eq!(rt; trace.dumps().len(), 1);
+    let dump = &trace.dumps()[0];
+    assert_eq!(rt; dump.applied(), 1);
+    assert_eq!(rt; dump.count(), 4);
+    assert!(rt;
+        dump.words(3)
+            .is_some_and(|words| words[2] == 0x4007 && words[1] == 0)
+    );
+    assert!(rt; dump.words(5).is_none());
+    Ok(())
+}
+
+#[test]
+fn malformed_bytes(rt: HostRuntime) -> Result<(), Fail> {
+    let alloc = rt.alloc();
+    let empty = empty_bytes(alloc)?;
+    let first = map_then_resolve_bytes(alloc)?;
+    let mut longer = empty_bytes(alloc)?;
+    longer.push(0)?;
+    assert_eq!(rt; empty.len(), 4140);
+    assert_eq!(rt; fault_of(alloc, &empty[..4139]), Some(Format::Truncated));
+    assert_eq!(rt; fault_of(alloc, &longer), Some(Format::Trailing));
+    assert_eq!(rt; fault_of(alloc, &[]), Some(Format::Truncated));
+    assert_eq!(rt;
+        fault_of(alloc, &changed(alloc, &first, 31, 1)?),
+        Some(Format::BadEvent(0))
+    );
+    let many = changed(alloc, &changed(alloc, &empty, 13, 1)?, 15, 1)?;
+    assert_eq!(rt; fault_of(alloc, &many), Some(Format::BadCount));
+    assert_eq!(rt;
+        fault_of(alloc, &changed(alloc, &empty, 5, 0)?),
+        Some(Format::BadVersion)
+    );
+    assert_eq!(rt;
+        fault_of(alloc, &changed(alloc, &empty, 5, 3)?),
+        Some(Format::BadVersion)
+    );
+    assert_eq!(rt;
+        fault_of(alloc, &changed(alloc, &empty, 3, b'X')?),
+        Some(Format::BadMagic)
+    );
+    assert_eq!(rt;
+        fault_of(alloc, &changed(alloc, &first, 4247, 1)?),
+        Some(Format::BadFrame(0, 1))
+    );
+    Ok(())
+}
