@@ -22,3 +22,4 @@ pub mod LawsOfPrecedence
 pub mod LawsOfFaults
 pub mod LawsOfDumps
 pub mod LawsOfSteps
+pub mod OnlySpelled

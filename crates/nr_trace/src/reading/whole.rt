@@ -1,6 +1,7 @@
 //! Reading of a whole trace.
 
-ghost use Rattle.std.specs.Prelude.{IfOk, IfErr};
+ghost use Rattle.std.specs.Prelude.{◌≡◌, IfOk, IfErr, MatchResult};
+ghost use Rattle.nr_trace.specs.Recording.{Recording};
 ghost use Rattle.nr_trace.specs.Spelling.{Spells};
 ghost use Rattle.nr_trace.specs.FirstFault.{HasFormatFault};
 ghost use Rattle.nr_trace.specs.Reading.{IfRefused};
@@ -11,9 +12,7 @@ use crate::trace::Trace;
 use std::alloc::Global;
 use vs_types::Fail;
 
-/// The trace that the bytes spell, or the first fault in byte order that keeps them from spelling one. It takes memory
-/// for the trace, at most about the length of the bytes, and refuses with want of memory where that is refused.
-pub fn read(alloc: Global, bytes: &[u8]) -> Result<Trace, Fail<Format>>
+fn read_units(alloc: Global, bytes: &[u8]) -> Result<Trace, Fail<Format>>
     ensures spelled { IfOk result (λ trace. Spells bytes.now trace) }
     ensures refused { IfErr result (IfRefused (HasFormatFault bytes.now)) }
 {
@@ -31,4 +30,17 @@ pub fn read(alloc: Global, bytes: &[u8]) -> Result<Trace, Fail<Format>>
         return Err(Fail::Refused(Format::Trailing));
     }
     Ok(reader.finish())
+}
+
+/// The trace that the bytes spell, or the first fault in byte order that keeps them from spelling one. It takes memory
+/// for the trace, at most about the length of the bytes, and refuses with want of memory where that is refused.
+pub fn read(alloc: Global, bytes: &[u8]) -> Result<Trace, Fail<Format>>
+    // What is read is spelled so.
+    ensures spelled { IfOk result (λ trace. Spells bytes.now trace) }
+    // What is spelled so is read, unless memory runs out.
+    ensures only { (trace : Recording) → Spells bytes.now trace → MatchResult result (λ given. given ≡ trace) (λ fail. fail ≡ Fail.Memory) }
+    // Which fault it is.
+    ensures refused { IfErr result (IfRefused (HasFormatFault bytes.now)) }
+{
+    read_units(alloc, bytes)
 }
