@@ -23,3 +23,4 @@ pub mod LawsOfFaults
 pub mod LawsOfDumps
 pub mod LawsOfSteps
 pub mod OnlySpelled
+pub mod Images

@@ -4,6 +4,7 @@ pub mod Spelling
 pub mod FirstFault
 pub mod Reading
 pub mod Progress
+pub mod Parts
 pub mod Calls
 pub mod Orders
 pub mod Faults

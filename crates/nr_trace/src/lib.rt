@@ -7,6 +7,7 @@ mod event;
 pub mod examples;
 mod fault;
 mod laws;
+mod ranges;
 mod reading;
 mod trace;
 

@@ -1,6 +1,8 @@
-ghost use Rattle.std.specs.Prelude.{◌≡◌};
+ghost use Rattle.std.specs.Prelude.{◌≡◌, MatchResult};
 
 use crate::event::Event;
+use crate::fault::Format;
+use crate::ranges::{all_have_frames, first_out_of_range};
 use std::marker::Model;
 use vs_types::Config;
 use vs_walk::Dump;
@@ -39,6 +41,36 @@ impl Model for Trace {
 impl Trace {
     ghost use Rattle.vs_types.specs.Config.{Layout};
     ghost use Rattle.nr_trace.specs.Recording.{Recording, IsRecording};
+    ghost use Rattle.nr_trace.specs.Parts.{IsPartsFault};
+
+    /// A trace of these parts, or what is wrong with them: `BadCount` for a number of places, events or dumps, or a dump
+    /// without frames; `BadEvent` for the first event that is out of its range.
+    pub fn new(
+        config: Config,
+        log: Vec<u32>,
+        events: Vec<Event>,
+        dumps: Vec<Dump>,
+    ) -> Result<Trace, Format>
+        ensures { let parts : Recording = record { layout = config; log = log.items; events = events.items; dumps = dumps.items } in
+            MatchResult result (λ trace. (trace ≡ parts) × IsRecording parts) (IsPartsFault parts) }
+    {
+        if log.len() > 65_536 {
+            return Err(Format::BadCount);
+        }
+        if events.len() > 131_072 {
+            return Err(Format::BadCount);
+        }
+        if dumps.len() != config.replicas() as usize {
+            return Err(Format::BadCount);
+        }
+        if let Some(index) = first_out_of_range(config, &events) {
+            return Err(Format::BadEvent(index as u32));
+        }
+        if !all_have_frames(&dumps) {
+            return Err(Format::BadCount);
+        }
+        Ok(Trace::of(config, log, events, dumps))
+    }
 
     /// A trace of these parts.
     pub(crate) fn of(config: Config, log: Vec<u32>, events: Vec<Event>, dumps: Vec<Dump>) -> Trace

@@ -1,0 +1,21 @@
+-- Dumps and lengths in the ranges of a trace.
+use Rattle.std.proofs.Common.{◌≡◌, ℕ, ◌+◌, ◌^◌, ◌<◌, ◌≤◌, List, length, All, arith, inl, inr}
+use Rattle.std.specs.FinMap as finite
+use Rattle.std.proofs.lemmas.List.Elements.{All-map}
+use Rattle.vs_walk.specs.Dump.{Image, IsDump, IsFrame}
+use Rattle.nr_trace.specs.Recording.{Recording, IsImage, IsWords}
+use Rattle.nr_trace.specs.Parts.{HasBadLength}
+
+-- a dump with a frame is one of a trace
+pub image_of : (dump : Image) → IsDump dump → 1 ≤ finite.len dump.frames → IsImage dump
+image_of dump is some = record {
+  applied = is.applied_fits;
+  root = is.root_fits;
+  some_frame = some;
+  few_frames = omega (arith, is.few, finite.len-entries dump.frames);
+  numbers = All-map (λ number. number < 2 ^ 40) (λ (e : ℕ × List ℕ). e.0) (finite.entries dump.frames) is.in_range;
+  words = All-map IsWords (λ (e : ℕ × List ℕ). e.1) (finite.entries dump.frames) (λ k d within. record { whole = (is.whole k d within).all_there; each = (is.whole k d within).fit });
+}
+
+pub good_lengths : (parts : Recording) → length parts.log ≤ 65536 → length parts.events ≤ 131072 → length parts.dumps ≡ parts.layout.replicas → HasBadLength parts → ⊥
+good_lengths parts places events dumps bad = elim bad [ inl p ↦ absurd (omega arith) | inr q ↦ elim q [ inl e ↦ absurd (omega arith) | inr d ↦ d dumps ] ]

@@ -1,0 +1,31 @@
+-- What keeps parts from making a trace.
+use Rattle.std.specs.Prelude.{◌≡◌, ◌≢◌, ℕ, ◌<◌, ◌⊎◌, List, length, take, slice_get, All, Any, Some}
+use Rattle.std.specs.FinMap as finite
+use Rattle.vs_types.specs.Config.{Layout}
+use Rattle.nr_trace.specs.Recording.{Recording, IsEvent}
+use Rattle.nr_trace.specs.declared.event.Event.{Event}
+use Rattle.nr_trace.specs.declared.fault.Format.{Format}
+use Rattle.nr_trace.specs.declared.fault.Format.TheVariants.{Truncated, BadMagic, BadVersion, BadCount, BadEvent, BadFrame, Trailing}
+
+-- too many places or events, or not one dump for each replica
+abbrev pub HasBadLength : Recording → Type 0
+HasBadLength parts = (65536 < length parts.log) ⊎ ((131072 < length parts.events) ⊎ (length parts.dumps ≢ parts.layout.replicas))
+
+-- the event of this index is out of its range, and none before is
+pub record IsFirstOut (layout : Layout) (events : List Event) (index : ℕ) : Type 0 where
+  pub before : All (IsEvent layout) (take index events)
+  pub recorded : Event
+  pub stands : slice_get events index ≡ Some recorded
+  pub out : IsEvent layout recorded → ⊥
+
+-- the first thing that is wrong: a length, the first event out of its range, a dump without frames
+abbrev pub IsPartsFault : Recording → Format → Type 0
+IsPartsFault parts BadCount =
+    HasBadLength parts ⊎ ((HasBadLength parts → ⊥) × All (IsEvent parts.layout) parts.events × Any (λ dump. finite.len dump.frames ≡ 0) parts.dumps)
+IsPartsFault parts (BadEvent index) =
+    (HasBadLength parts → ⊥) × IsFirstOut parts.layout parts.events index
+IsPartsFault parts Truncated = ⊥
+IsPartsFault parts BadMagic = ⊥
+IsPartsFault parts BadVersion = ⊥
+IsPartsFault parts (BadFrame replica index) = ⊥
+IsPartsFault parts Trailing = ⊥
