@@ -11,7 +11,6 @@ use Rattle.std.proofs.lemmas.List.{append-nil, nil_from_length, length-append, m
 use Rattle.std.proofs.lemmas.List.Concat.{flat_map-cons}
 use Rattle.std.proofs.lemmas.Grind.{flat_map-append}
 use Rattle.std.proofs.lemmas.List.Elements.{All-head, All-tail, All-push, All-nil}
-use Rattle.vs_types.specs.Config.{Layout}
 use Rattle.vs_walk.specs.Memory.{Memory}
 use Rattle.vs_walk.specs.Dump.{Image}
 use Rattle.nr_trace.specs.Recording.{IsWords, IsImage}
@@ -24,7 +23,6 @@ use Rattle.nr_trace.specs.declared.fault.Format.{Format}
 use Rattle.nr_trace.specs.declared.fault.Format.TheVariants.{BadCount, BadFrame}
 use Rattle.nr_trace.specs.declared.reading.parts.Parts.{Parts}
 use Rattle.nr_trace.specs.declared.reading.parts.Opened.{Opened}
-use Rattle.nr_trace.specs.declared.reading.parts.Reader.{Reader}
 use Rattle.nr_trace.specs.declared.reading.parts.Reader.TheVariants.{Dumps, Frame, Words}
 use Rattle.nr_trace.proofs.Spelled.{spelling_of, more_dump}
 use Rattle.nr_trace.proofs.Units.{refused, passed}
@@ -229,6 +227,13 @@ head_refused parts unit rest one_left whole none =
 
 no_entries : finite.entries (finite.empty {X = List ℕ} {R = nat_cmp}) ≡ []
 no_entries = nil_from_length (finite.entries (finite.empty {X = List ℕ} {R = nat_cmp})) (sym (finite.len-entries (finite.empty {X = List ℕ} {R = nat_cmp})) ∙ finite.len-empty nat_cmp (List ℕ))
+
+pub nothing_above : (dump : Image) (applied root number : ℕ) → dump ≡ record { applied = applied; root = root; frames = finite.empty } → All (λ held. held < number) (finite.keys dump.frames)
+nothing_above dump applied root number is =
+    subst (λ (d : Image). All (λ held. held < number) (finite.keys d.frames)) (sym is) (subst (λ (es : List (ℕ × List ℕ)). All (λ held. held < number) (map (λ (e : ℕ × List ℕ). e.0) es)) (sym no_entries) (All-nil (λ held. held < number)))
+
+pub nothing_held : (dump : Image) (applied root : ℕ) → dump ≡ record { applied = applied; root = root; frames = finite.empty } → finite.len dump.frames < 4096
+nothing_held dump applied root is = subst (λ (d : Image). finite.len d.frames < 4096) (sym is) (omega (arith, finite.len-empty nat_cmp (List ℕ)))
 
 abbrev pub begun : DumpHead → Image
 begun head = record { applied = head.applied; root = head.root; frames = finite.empty }

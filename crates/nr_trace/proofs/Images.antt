@@ -1,8 +1,8 @@
 -- Dumps and lengths in the ranges of a trace.
-use Rattle.std.proofs.Common.{◌≡◌, ℕ, ◌+◌, ◌^◌, ◌<◌, ◌≤◌, List, length, All, arith, inl, inr}
+use Rattle.std.proofs.Common.{◌≡◌, ℕ, ◌^◌, ◌<◌, ◌≤◌, List, length, arith, inl, inr}
 use Rattle.std.specs.FinMap as finite
 use Rattle.std.proofs.lemmas.List.Elements.{All-map}
-use Rattle.vs_walk.specs.Dump.{Image, IsDump, IsFrame}
+use Rattle.vs_walk.specs.Dump.{Image, IsDump}
 use Rattle.nr_trace.specs.Recording.{Recording, IsImage, IsWords}
 use Rattle.nr_trace.specs.Parts.{HasBadLength}
 

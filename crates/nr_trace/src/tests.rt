@@ -1,8 +1,8 @@
 use super::*;
 use std::alloc::{AllocError, Global};
 use std::test::*;
-use vs_types::{Answer, Config, Depth, Op, Request, Rights, Size};
-use vs_walk::Frames;
+use vs_types::{Answer, Config, Depth, Memory, Op, Request, Rights, Size};
+use vs_walk::{Dump, Frames};
 
 const ALL: Rights = Rights {
     write: true,
@@ -42,6 +42,12 @@ fn map_then_resolve_bytes(alloc: Global) -> Result<Vec<u8>, AllocError> {
     push_frame(&mut bytes, 3, 2, 0x4007)?;
     push_frame(&mut bytes, 4, 0, 0x1007)?;
     Ok(bytes)
+}
+
+fn one_frame(alloc: Global) -> Result<Dump, Memory> {
+    let mut dump = Dump::new(alloc, 0, 1);
+    dump.push(1, &[0; 512])?;
+    Ok(dump)
 }
 
 /// The bytes with another one at an index.
@@ -131,8 +137,9 @@ fn malformed_bytes(rt: HostRuntime) -> Result<(), Fail> {
     let first = map_then_resolve_bytes(alloc)?;
     let mut longer = empty_bytes(alloc)?;
     longer.push(0)?;
-    assert_eq!(rt; empty.len(), 4140);
-    assert_eq!(rt; fault_of(alloc, &empty[..4139]), Some(Format::Truncated));
+    let mut shorter = empty_bytes(alloc)?;
+    let _ = shorter.pop();
+    assert_eq!(rt; fault_of(alloc, &shorter), Some(Format::Truncated));
     assert_eq!(rt; fault_of(alloc, &longer), Some(Format::Trailing));
     assert_eq!(rt; fault_of(alloc, &[]), Some(Format::Truncated));
     assert_eq!(rt;
@@ -157,5 +164,43 @@ fn malformed_bytes(rt: HostRuntime) -> Result<(), Fail> {
         fault_of(alloc, &changed(alloc, &first, 4247, 1)?),
         Some(Format::BadFrame(0, 1))
     );
+    Ok(())
+}
+
+#[test]
+fn parts_make_a_trace(rt: HostRuntime) -> Result<(), Fail> {
+    let alloc = rt.alloc();
+    let config = Config::new(Depth::Four, 1, 1, 1)?;
+    let reply = Event::Reply {
+        call: 7,
+        at: 9,
+        answer: Answer::Done,
+    };
+    let call = Event::Call {
+        replica: 0,
+        thread: 1,
+        request: Request::resolve(Depth::Four, 0)?,
+    };
+    let no_dump = Trace::new(
+        config,
+        Vec::new(alloc),
+        vec![in alloc; reply]?,
+        Vec::new(alloc),
+    );
+    assert_eq!(rt; no_dump.err(), Some(Format::BadCount));
+    let other_thread = Trace::new(
+        config,
+        Vec::new(alloc),
+        vec![in alloc; reply, call]?,
+        vec![in alloc; one_frame(alloc)?]?,
+    );
+    assert_eq!(rt; other_thread.err(), Some(Format::BadEvent(1)));
+    let trace = Trace::new(
+        config,
+        Vec::new(alloc),
+        vec![in alloc; reply]?,
+        vec![in alloc; one_frame(alloc)?]?,
+    )?;
+    assert_eq!(rt; trace.events().len(), 1);
     Ok(())
 }

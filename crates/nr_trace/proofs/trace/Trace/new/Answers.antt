@@ -1,9 +1,8 @@
-use Rattle.std.proofs.Common.{◌≡◌, ◌≤◌, ℕ, length, All, refl, subst, arith, inr}
+use Rattle.std.proofs.Common.{◌≡◌, ◌≤◌, length, All, refl, subst, arith, inr}
 use Rattle.std.specs.List.{Any}
 use Rattle.std.specs.FinMap as finite
 use Rattle.vs_walk.specs.Dump.{Image}
 use Rattle.nr_trace.specs.Recording.{Recording, IsEvent}
-use Rattle.nr_trace.specs.declared.event.Event.{Event}
 use Rattle.nr_trace.proofs.Images.{good_lengths}
 use Rattle.nr_trace.proofs.trace.Trace.new.Goals as goal
 

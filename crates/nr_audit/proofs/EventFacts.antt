@@ -1,0 +1,117 @@
+-- What an event is: a call or a reply.
+use Rattle.std.proofs.Common.{◌≡◌, ◌≢◌, Bool, true, false, List, ℕ, ◌<◌, ◌≤◌, Some, None, Option, length, refl, sym, ap, subst, ◌∙◌, inl, inr, arith, get_or}
+use Rattle.std.specs.Prelude.{slice_get, IsSome, is_some, option_and_then, IfSome, IsSomeAnd, ◌==◌, if◌then◌else◌}
+use Rattle.std.proofs.lemmas.Bool.{false≢true, eqb-true, eq-eqb, cond-true, cond-false, cases_Bool}
+use Rattle.std.proofs.lemmas.Option.{slice_get_past, slice_get-get_or}
+use Rattle.std.proofs.lemmas.List.Elements.{All-get_or}
+use Rattle.nr_trace.specs.Recording.{Recording, IsRecording, IsEvent}
+use Rattle.nr_trace.specs.Calls.{Made, made_by, call_of, Answered, reply_in, reply_of, Answers, IsCall}
+use Rattle.nr_trace.specs.Faults.{IsReplyWith}
+use Rattle.nr_trace.specs.declared.event.Event.{Event}
+use Rattle.nr_trace.specs.declared.event.Event.TheVariants.{Call, Reply}
+use Rattle.vs_types.specs.declared.request.Query.{Query}
+use Rattle.vs_types.specs.declared.answer.Answer.{Answer}
+
+pub made_here : (trace : Recording) (i replica thread : ℕ) (request : Query) → slice_get trace.events i ≡ Some (Call replica thread request)
+    → call_of trace i ≡ Some (record { replica = replica; thread = thread; request = request })
+made_here trace i replica thread request e = ap (λ o. option_and_then made_by o) e
+
+pub no_reply_at_call : (trace : Recording) (i replica thread : ℕ) (request : Query) → slice_get trace.events i ≡ Some (Call replica thread request) → reply_of trace i ≡ None
+no_reply_at_call trace i replica thread request e = ap (λ o. option_and_then reply_in o) e
+
+pub reply_here : (trace : Recording) (i call at : ℕ) (answer : Answer) → slice_get trace.events i ≡ Some (Reply call at answer)
+    → reply_of trace i ≡ Some (record { call = call; at = at; answer = answer })
+reply_here trace i call at answer e = ap (λ o. option_and_then reply_in o) e
+
+pub no_call_at_reply : (trace : Recording) (i call at : ℕ) (answer : Answer) → slice_get trace.events i ≡ Some (Reply call at answer) → call_of trace i ≡ None
+no_call_at_reply trace i call at answer e = ap (λ o. option_and_then made_by o) e
+
+pub no_call_past : (trace : Recording) (i : ℕ) → length trace.events ≤ i → call_of trace i ≡ None
+no_call_past trace i past = ap (λ o. option_and_then made_by o) (slice_get_past trace.events i past)
+
+pub no_reply_past : (trace : Recording) (i : ℕ) → length trace.events ≤ i → reply_of trace i ≡ None
+no_reply_past trace i past = ap (λ o. option_and_then reply_in o) (slice_get_past trace.events i past)
+
+-- the call at an index, as it is read from the events
+pub read_call : (trace : Recording) (i : ℕ) (event : Event) → i < length trace.events → event ≡ get_or trace.events i event → call_of trace i ≡ made_by event
+read_call trace i event lt e = ap (λ o. option_and_then made_by o) (slice_get-get_or trace.events i event lt ∙ ap (λ x. Some x) (sym e))
+
+-- a reply to the call is a reply that names it
+pub answers_by : (trace : Recording) (i call : ℕ) (reply : Answered) → reply_of trace i ≡ Some reply → reply.call ≡ call → Answers trace i call
+answers_by trace i call reply is same =
+    subst (λ (o : Option Answered). IsSome (option_and_then (λ (r : Answered). if r.call == call then Some r else None) o)) (sym is)
+    (ap is_some (cond-true (reply.call == call) (Some reply) None (eq-eqb reply.call call same)))
+
+pub reply_by : (trace : Recording) (i call : ℕ) → Answers trace i call → (reply : Answered) × (reply_of trace i ≡ Some reply) × (reply.call ≡ call)
+reply_by trace i call h =
+    elim (reply_of trace i) as (λ o. IsSome (option_and_then (λ (r : Answered). if r.call == call then Some r else None) o) → (reply : Answered) × (o ≡ Some reply) × (reply.call ≡ call)) [
+      | None ↦ λ h. absurd (false≢true h)
+      | Some reply ↦ λ h. elim (cases_Bool (reply.call == call)) [
+        | inl t ↦ (reply, refl, eqb-true reply.call call t)
+        | inr f ↦ absurd (false≢true (sym (ap is_some (cond-false (reply.call == call) (Some reply) None f)) ∙ h))
+      ]
+    ] h
+
+-- where no reply stands there is none of any kind
+pub no_reply_with : (trace : Recording) (i : ℕ) (P : Answered → Type 0) → reply_of trace i ≡ None → IsReplyWith trace i P → ⊥
+no_reply_with trace i P none h = let there = h.1 in cc
+
+pub no_answer : (trace : Recording) (i call : ℕ) → reply_of trace i ≡ None → Answers trace i call → ⊥
+no_answer trace i call none h = let there = (reply_by trace i call h).1 in cc
+
+-- a reply is to no other call than the one that it names
+pub answers_only : (trace : Recording) (i call : ℕ) (reply : Answered) → reply_of trace i ≡ Some reply → Answers trace i call → reply.call ≡ call
+answers_only trace i call reply is h =
+    let other = reply_by trace i call h in
+    let one = is in
+    let two = other.1 in
+    let named = other.2 in
+    let same : reply ≡ other.0 = cc in
+    ap (λ (r : Answered). r.call) same ∙ named
+
+pub is_call_from : (trace : Recording) (i : ℕ) (made : Made) → call_of trace i ≡ Some made → IsCall trace i
+is_call_from trace i made e = ap is_some e
+
+pub made_from : (trace : Recording) (i : ℕ) → IsCall trace i → (made : Made) × (call_of trace i ≡ Some made)
+made_from trace i h =
+    elim (call_of trace i) as (λ o. IsSome o → (made : Made) × (o ≡ Some made)) [
+      | None ↦ λ h. absurd (false≢true h)
+      | Some made ↦ λ h. (made, refl)
+    ] h
+
+-- the event at an index, as a pattern takes it apart
+pub read_event : (trace : Recording) (events : List Event) (i : ℕ) (event shape : Event) → events ≡ trace.events → i < length events → event ≡ get_or events i event → event ≡ shape → slice_get trace.events i ≡ Some shape
+read_event trace events i event shape same lt read is =
+    subst (λ (xs : List Event). slice_get xs i ≡ Some shape) same (slice_get-get_or events i event lt ∙ ap (λ x. Some x) (sym read ∙ is))
+
+-- what is read of a table
+pub read_gone : (o p : Option ℕ) (told : Bool) → p ≡ o → is_some p ≡ told → told ≡ false → o ≡ None
+read_gone None p told e f t = refl
+read_gone (Some x) p told e f t = absurd (false≢true (sym t ∙ sym f ∙ ap is_some e))
+
+pub read_some : (o p : Option ℕ) (told : Bool) → p ≡ o → is_some p ≡ told → told ≡ true → o ≢ None
+read_some o p told e f t none = false≢true (sym (ap is_some (e ∙ none)) ∙ f ∙ t)
+
+-- the thread of a call that is read is one of the layout
+pub thread_in_layout : (trace : Recording) (events : List Event) (i : ℕ) (event : Event) (replica thread : ℕ) (request : Query) → IsRecording trace → events ≡ trace.events → i < length events → event ≡ get_or events i event → event ≡ Call replica thread request → thread < trace.layout.threads
+thread_in_layout trace events i event replica thread request ranged same lt read is =
+    let each = All-get_or (IsEvent trace.layout) trace.events i event (omega (arith, ap length same)) ranged.events in
+    (subst (λ (e : Event). IsEvent trace.layout e) (sym (read ∙ ap (λ (xs : List Event). get_or xs i event) same) ∙ is) each).1
+
+-- whether the event at an index is a call, as it is told
+pub told_call : (trace : Recording) (events : List Event) (i : ℕ) (event : Event) (told : Bool) → events ≡ trace.events → i < length events → event ≡ get_or events i event → told ≡ is_some (made_by event) → told ≡ is_some (call_of trace i)
+told_call trace events i event told same lt read is =
+    is ∙ ap is_some (sym (read_call trace i event (omega (arith, ap length same)) (read ∙ ap (λ (xs : List Event). get_or xs i event) same)))
+
+pub if_some : (read : Option ℕ) (P : ℕ → Type 0) → ((call : ℕ) → read ≡ Some call → P call) → IfSome read P
+if_some None P h = tt
+if_some (Some call) P h = h call refl
+
+-- the call that a thread has open, as it is told
+pub open_call : (read real : Option ℕ) (seen table : List (Option ℕ)) → read ≡ real → seen ≡ table → IsSomeAnd read (λ call. get_or seen call None ≡ None) → (call : ℕ) × (real ≡ Some call) × (get_or table call None ≡ None)
+open_call None real seen table e s h = absurd h
+open_call (Some call) real seen table e s h = (call, sym e, subst (λ (t : List (Option ℕ)). get_or t call None ≡ None) s h)
+
+pub no_open_call : (read real : Option ℕ) (seen table : List (Option ℕ)) → read ≡ real → seen ≡ table → (IsSomeAnd read (λ call. get_or seen call None ≡ None) → ⊥) → (call : ℕ) → real ≡ Some call → get_or table call None ≢ None
+no_open_call read real seen table e s h call is none =
+    h (subst (λ o. IsSomeAnd o (λ call. get_or seen call None ≡ None)) (sym (e ∙ is)) (subst (λ (t : List (Option ℕ)). get_or t call None ≡ None) (sym s) none))

@@ -1,0 +1,10 @@
+pub mod Ranks
+pub mod EventFacts
+pub mod Known
+pub mod Logged
+pub mod PositionFacts
+pub mod ReplyFacts
+pub mod OrderFacts
+pub mod AnswerFacts
+pub mod AnswerEquality
+pub mod PassFacts

@@ -1,0 +1,83 @@
+-- Which of some faults is the first: by the pass, then by where the fault stands in the pass, then by its number.
+use Rattle.std.proofs.Common.{◌≡◌, ℕ, ◌+◌, ◌<◌, [], ◌∷◌, ◌⊎◌, inl, inr, refl, sym, subst, arith}
+use Rattle.std.specs.Ordering.{nat_cmp, ordering_then}
+use Rattle.std.specs.Cmp.Lexicographic.{slice_cmp}
+use Rattle.std.specs.declared.cmp.Ordering.{Ordering}
+use Rattle.std.specs.declared.cmp.Ordering.TheVariants.{Less, Equal, Greater}
+use Rattle.std.proofs.lemmas.Cmp.{ranked}
+use Rattle.std.proofs.lemmas.Bool.{cases_lt}
+use Rattle.nr_trace.specs.Recording.{Recording}
+use Rattle.nr_trace.specs.Faults.{rank}
+use Rattle.nr_trace.specs.declared.fault.Fault.{Fault}
+use Rattle.nr_audit.specs.Search.{HasNone, IsFirstAmong}
+
+then_less : (r s : Ordering) → ordering_then r s ≡ Less → (r ≡ Less) ⊎ ((r ≡ Equal) × (s ≡ Less))
+then_less Less s e = inl refl
+then_less Equal s e = inr (refl, e)
+then_less Greater s e = cc
+
+is_less : (x y : ℕ) → nat_cmp x y ≡ Less → x < y
+is_less x y e = ranked x y Less (sym e)
+
+is_equal : (x y : ℕ) → nat_cmp x y ≡ Equal → x ≡ y
+is_equal x y e = ranked x y Equal (sym e)
+
+-- what comes earlier
+pub earlier_cases : (p i m q j n : ℕ) → slice_cmp nat_cmp (p ∷ i ∷ m ∷ []) (q ∷ j ∷ n ∷ []) ≡ Less → (p < q) ⊎ ((p ≡ q) × ((i < j) ⊎ ((i ≡ j) × (m < n))))
+earlier_cases p i m q j n e =
+    elim (then_less (nat_cmp p q) _ e) [
+      | inl low ↦ inl (is_less p q low)
+      | inr same ↦ elim (then_less (nat_cmp i j) _ same.1) [
+        | inl low ↦ inr (is_equal p q same.0, inl (is_less i j low))
+        | inr also ↦ elim (then_less (nat_cmp m n) _ also.1) [
+          | inl low ↦ inr (is_equal p q same.0, inr (is_equal i j also.0, is_less m n low))
+          | inr none ↦ absurd (let h = none.1 in cc)
+        ]
+      ]
+    ]
+
+-- the faults of each index stand by it in one pass
+abbrev pub IsRanked : (ℕ → Fault → Type 0) → ℕ → Recording → Type 0
+IsRanked At pass trace = (index : ℕ) (fault : Fault) → At index fault → (number : ℕ) × (rank trace fault ≡ pass ∷ index ∷ number ∷ [])
+
+-- none below an index and none at it are none below the next
+pub more_of : (At : ℕ → Fault → Type 0) (trace : Recording) (index : ℕ) → ((lower : ℕ) → lower < index → HasNone (At lower) trace) → HasNone (At index) trace → (lower : ℕ) → lower < index + 1 → HasNone (At lower) trace
+more_of At trace index below here lower lt = elim (cases_lt lower index) [
+  | inl low ↦ below lower low
+  | inr same ↦ subst (λ i. HasNone (At i) trace) (let it : index ≡ lower = omega arith in it) here
+]
+
+-- none of the faults of an index holds, at any index
+pub none_of_all : (At : ℕ → Fault → Type 0) (trace : Recording) → ((index : ℕ) → HasNone (At index) trace) → HasNone (λ fault. (index : ℕ) × At index fault) trace
+none_of_all At trace none fault among holds = none among.0 fault among.1 holds
+
+-- the first of the faults of an index, where none of a lower index holds, is the first of all
+pub first_of_all : (At : ℕ → Fault → Type 0) (pass : ℕ) (trace : Recording) → IsRanked At pass trace → (index : ℕ) (fault : Fault)
+    → ((lower : ℕ) → lower < index → HasNone (At lower) trace) → IsFirstAmong (At index) trace fault → IsFirstAmong (λ fault. (index : ℕ) × At index fault) trace fault
+first_of_all At pass trace ranks index fault none first = record {
+  is_among = (index, first.is_among);
+  holds = first.holds;
+  none_earlier = λ other among holds earlier.
+      let r = ranks among.0 other among.1 in
+      let s = ranks index fault first.is_among in
+      let ordered : slice_cmp nat_cmp (pass ∷ among.0 ∷ r.0 ∷ []) (pass ∷ index ∷ s.0 ∷ []) ≡ Less =
+      subst (λ b. slice_cmp nat_cmp (pass ∷ among.0 ∷ r.0 ∷ []) b ≡ Less) s.1 (subst (λ a. slice_cmp nat_cmp a (rank trace fault) ≡ Less) r.1 earlier) in
+      elim (earlier_cases pass among.0 r.0 pass index s.0 ordered) [
+        | inl low ↦ absurd (omega arith)
+        | inr same ↦ elim same.1 [
+          | inl low ↦ none among.0 low other among.1 holds
+          | inr also ↦ first.none_earlier other (subst (λ k. At k other) also.0 among.1) holds earlier
+        ]
+      ];
+}
+
+-- of two faults of one index the earlier one has the lower number
+pub lower_number : (p i m j n : ℕ) → slice_cmp nat_cmp (p ∷ i ∷ m ∷ []) (p ∷ j ∷ n ∷ []) ≡ Less → i ≡ j → m < n
+lower_number p i m j n e same =
+    elim (earlier_cases p i m p j n e) [
+      | inl low ↦ absurd (omega arith)
+      | inr rest ↦ elim rest.1 [
+        | inl low ↦ absurd (omega arith)
+        | inr also ↦ also.1
+      ]
+    ]

@@ -1,0 +1,11 @@
+use Rattle.std.proofs.Common.{ℕ, ◌<◌}
+use Rattle.nr_audit.specs.Search.{HasNone}
+use Rattle.nr_audit.specs.Passes.{IsLogFaultAt}
+use Rattle.nr_audit.proofs.Logged.{IsLogged}
+use Rattle.nr_audit.proofs.log.check_log.Given as goal
+
+abbrev pub invariant-loop-place : goal.invariant-loop-place
+invariant-loop-place l = record {
+  logged : IsLogged l.trace l.place l.places.items;
+  none : (lower : ℕ) → lower < l.place → HasNone (IsLogFaultAt lower) l.trace;
+}

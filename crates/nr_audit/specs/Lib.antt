@@ -1,0 +1,6 @@
+pub mod Search
+pub mod Passes
+pub mod Tables
+pub mod Told
+pub mod Steps
+pub mod Replay

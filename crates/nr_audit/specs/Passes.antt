@@ -1,0 +1,36 @@
+-- The faults by the pass that looks for them, and where in that pass they stand.
+use Rattle.std.specs.Prelude.{◌≡◌, ℕ, ⊤}
+use Rattle.nr_trace.specs.declared.fault.Fault.{Fault}
+use Rattle.nr_trace.specs.declared.fault.Fault.TheVariants.{ThreadOpen, NoSuchCall, AnsweredTwice, NotAnUpdate, PlacedTwice, NotPlaced, PastLog, WrongAnswer}
+
+-- a fault of calls and replies, at the event of this index
+abbrev pub IsCallFaultAt : ℕ → Fault → Type 0
+IsCallFaultAt index (ThreadOpen event) = event ≡ index
+IsCallFaultAt index (NoSuchCall event) = event ≡ index
+IsCallFaultAt index (AnsweredTwice event) = event ≡ index
+IsCallFaultAt index fault = ⊥
+
+-- a fault of the log, at this place
+abbrev pub IsLogFaultAt : ℕ → Fault → Type 0
+IsLogFaultAt place (NotAnUpdate at) = at ≡ place
+IsLogFaultAt place (PlacedTwice at) = at ≡ place
+IsLogFaultAt place fault = ⊥
+
+-- a fault of the position that a reply gives, at the event of this index
+abbrev pub IsPositionFaultAt : ℕ → Fault → Type 0
+IsPositionFaultAt index (NotPlaced event) = event ≡ index
+IsPositionFaultAt index (PastLog event) = event ≡ index
+IsPositionFaultAt index fault = ⊥
+
+abbrev pub IsCallFault : Fault → Type 0
+IsCallFault fault = (index : ℕ) × IsCallFaultAt index fault
+
+abbrev pub IsLogFault : Fault → Type 0
+IsLogFault fault = (place : ℕ) × IsLogFaultAt place fault
+
+abbrev pub IsPositionFault : Fault → Type 0
+IsPositionFault fault = (index : ℕ) × IsPositionFaultAt index fault
+
+abbrev pub IsAnswerFault : Fault → Type 0
+IsAnswerFault (WrongAnswer call) = ⊤
+IsAnswerFault fault = ⊥

@@ -1,0 +1,14 @@
+-- What a search for some faults of a trace finds: none of them, or the first.
+use Rattle.nr_trace.specs.Recording.{Recording}
+use Rattle.nr_trace.specs.Faults.{Holds, Earlier}
+use Rattle.nr_trace.specs.declared.fault.Fault.{Fault}
+
+-- none of these faults holds of the trace
+abbrev pub HasNone : (Fault → Type 0) → Recording → Type 0
+HasNone Among trace = (fault : Fault) → Among fault → Holds trace fault → ⊥
+
+-- the fault is one of these and holds of the trace, and no earlier one of these does
+pub record IsFirstAmong (Among : Fault → Type 0) (trace : Recording) (fault : Fault) : Type 0 where
+  pub is_among : Among fault
+  pub holds : Holds trace fault
+  pub none_earlier : (other : Fault) → Among other → Holds trace other → Earlier trace other fault → ⊥

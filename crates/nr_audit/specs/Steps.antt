@@ -1,0 +1,12 @@
+-- What a request does to a plain space, and how it is answered.
+use Rattle.std.specs.Prelude.{◌≡◌}
+use Rattle.vs_types.specs.Step.{look}
+use Rattle.vs_types.specs.declared.answer.Answer.{Answer}
+use Rattle.vs_types.specs.declared.request.Query.{Query}
+use Rattle.vs_types.specs.declared.request.Query.TheVariants.{Update, Resolve}
+use Rattle.vs_plain.specs.Plain.{Kept, IsStep}
+
+-- an update does its operation; a read is answered and changes nothing
+abbrev pub Serves : Kept → Query → Answer → Kept → Type 0
+Serves old (Update action) answer new = IsStep old action answer new
+Serves old (Resolve address) answer new = (answer ≡ look old.space address) × (new ≡ old)

@@ -1,0 +1,18 @@
+//! The auditor of traces: whether what was recorded is one run of the address space.
+//!
+//! The passes go over a trace one after another, in the order of the faults that they look for.
+#![tactic(auto)]
+
+mod answers;
+mod calls;
+mod events;
+mod found;
+mod log;
+mod order;
+mod passes;
+mod positions;
+mod tables;
+mod whole;
+
+pub use found::Replay;
+pub use whole::replay;

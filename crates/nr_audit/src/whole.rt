@@ -1,0 +1,41 @@
+ghost use Rattle.std.specs.Prelude.{IfOk, IfErr};
+ghost use Rattle.nr_trace.specs.Reading.{IfRefused};
+ghost use Rattle.nr_audit.specs.Replay.{IsFaultless, IsFirstFault, IsSoOf};
+
+use crate::found::Replay;
+use crate::passes::check_trace;
+use nr_trace::{Fault, read};
+use std::alloc::Global;
+use vs_types::{Fail, Memory};
+
+fn find_fault(alloc: Global, bytes: &[u8]) -> Result<(), Fail<Fault>>
+    ensures none { IfOk result (λ _. IsFaultless bytes.now) }
+    ensures first { IfErr result (IfRefused (IsFirstFault bytes.now)) }
+{
+    let trace = match read(alloc, bytes) {
+        Ok(trace) => trace,
+        Err(Fail::Memory) => return Err(Fail::Memory),
+        Err(Fail::Refused(fault)) => return Err(Fail::Refused(Fault::Format(fault))),
+    };
+    check_trace(alloc, &trace)
+}
+
+/// Reads a trace and does its run again, in the recorded order on one space: whether the bytes spell a trace, each thread
+/// has one call open at a time, each reply is the only one to an earlier call, the log has each update at most once, each
+/// reply gives its update's place or no more entries than there are, and each answer is that of the space there. Calls
+/// that stand too early and dumps are not looked at.
+///
+/// Takes memory in all of the size of the bytes.
+///
+/// # Errors
+///
+/// `Memory` where a growth of memory was refused.
+pub fn replay(alloc: Global, bytes: &[u8]) -> Result<Replay, Memory>
+    ensures { IfOk result (IsSoOf bytes.now) }
+{
+    match find_fault(alloc, bytes) {
+        Ok(()) => Ok(Replay::Replayed),
+        Err(Fail::Memory) => Err(Memory),
+        Err(Fail::Refused(fault)) => Ok(Replay::No(fault)),
+    }
+}
