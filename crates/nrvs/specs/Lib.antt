@@ -1,0 +1,3 @@
+pub mod Text
+pub mod Audited
+pub use Rattle.nr_audit.specs.Replay

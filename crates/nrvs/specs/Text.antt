@@ -1,0 +1,59 @@
+-- What the program prints of a fault and of a verdict: numbers in decimal, addresses in hexadecimal.
+use Rattle.std.specs.Prelude.{ℕ, false, ◌++◌, List, [], ◌∷◌, codes, decimal}
+use Rattle.std.specs.Fmt.{digits}
+use Rattle.nr_audit.specs.declared.found.Replay.{Replay}
+use Rattle.nr_audit.specs.declared.found.Replay.TheVariants.{Replayed, No}
+use Rattle.nr_trace.specs.declared.fault.Format.{Format}
+use Rattle.nr_trace.specs.declared.fault.Format.TheVariants as formats
+use Rattle.nr_trace.specs.declared.fault.Fault.{Fault}
+use Rattle.nr_trace.specs.declared.fault.Fault.TheVariants as faults
+
+abbrev pub space : List ℕ
+space = codes " "
+
+abbrev pub line_end : List ℕ
+line_end = codes "\n"
+
+-- 0x and lower case digits
+abbrev pub hexadecimal : ℕ → List ℕ
+hexadecimal address = codes "0x" ++ digits 16 false address
+
+-- the name of a format fault, and its numbers
+unfoldable pub format_text : Format → List ℕ
+format_text formats.Truncated = codes "Truncated"
+format_text formats.BadMagic = codes "BadMagic"
+format_text formats.BadVersion = codes "BadVersion"
+format_text formats.BadCount = codes "BadCount"
+format_text (formats.BadEvent index) = codes "BadEvent " ++ decimal index
+format_text (formats.BadFrame replica index) = codes "BadFrame " ++ (decimal replica ++ (space ++ decimal index))
+format_text formats.Trailing = codes "Trailing"
+
+-- the number of a fault, its name, and its numbers
+unfoldable pub fault_text : Fault → List ℕ
+fault_text (faults.Format fault) = codes "1 Format " ++ format_text fault
+fault_text (faults.ThreadOpen index) = codes "2 ThreadOpen " ++ decimal index
+fault_text (faults.NoSuchCall index) = codes "3 NoSuchCall " ++ decimal index
+fault_text (faults.AnsweredTwice index) = codes "4 AnsweredTwice " ++ decimal index
+fault_text (faults.NotAnUpdate place) = codes "5 NotAnUpdate " ++ decimal place
+fault_text (faults.PlacedTwice place) = codes "6 PlacedTwice " ++ decimal place
+fault_text (faults.NotPlaced index) = codes "7 NotPlaced " ++ decimal index
+fault_text (faults.PastLog index) = codes "8 PastLog " ++ decimal index
+fault_text (faults.Early call) = codes "9 Early " ++ decimal call
+fault_text (faults.WrongAnswer call) = codes "10 WrongAnswer " ++ decimal call
+fault_text (faults.PrefixPastLog replica) = codes "11 PrefixPastLog " ++ decimal replica
+fault_text (faults.PrefixShort replica) = codes "12 PrefixShort " ++ decimal replica
+fault_text (faults.MissingFrame replica number) = codes "13 MissingFrame " ++ (decimal replica ++ (space ++ decimal number))
+fault_text (faults.SharedFrame replica number) = codes "14 SharedFrame " ++ (decimal replica ++ (space ++ decimal number))
+fault_text (faults.ReservedBit replica number index) = codes "15 ReservedBit " ++ (decimal replica ++ (space ++ (decimal number ++ (space ++ decimal index))))
+fault_text (faults.StrayFrame replica number) = codes "16 StrayFrame " ++ (decimal replica ++ (space ++ decimal number))
+fault_text (faults.Differs replica address) = codes "17 Differs " ++ (decimal replica ++ (space ++ hexadecimal address))
+
+-- the lines of a replay
+abbrev pub replay_text : Replay → List ℕ
+replay_text Replayed = codes "replayed" ++ line_end
+replay_text (No fault) = codes "no " ++ (fault_text fault ++ line_end)
+
+-- 0 where nothing was found wrong, else 1
+abbrev pub replay_status : Replay → ℕ
+replay_status Replayed = 0
+replay_status (No fault) = 1

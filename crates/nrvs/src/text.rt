@@ -1,0 +1,72 @@
+ghost use Rattle.std.specs.Prelude.{◌≡◌, IfOk, string_bytes};
+ghost use Rattle.nrvs.specs.Text.{format_text, fault_text, replay_text};
+
+use nr_audit::Replay;
+use nr_trace::{Fault, Format};
+use std::alloc::{AllocError, Global};
+
+#[tactic(auto, unfolding(crate::specs::Text::format_text))]
+fn format_text(alloc: Global, fault: Format) -> Result<String, AllocError>
+    ensures { IfOk result (λ text. string_bytes text ≡ format_text fault) }
+{
+    match fault {
+        Format::Truncated => String::from_str(alloc, "Truncated"),
+        Format::BadMagic => String::from_str(alloc, "BadMagic"),
+        Format::BadVersion => String::from_str(alloc, "BadVersion"),
+        Format::BadCount => String::from_str(alloc, "BadCount"),
+        Format::BadEvent(index) => format!(in alloc; "BadEvent {index}"),
+        Format::BadFrame(replica, index) => format!(in alloc; "BadFrame {replica} {index}"),
+        Format::Trailing => String::from_str(alloc, "Trailing"),
+    }
+}
+
+#[tactic(auto, unfolding(crate::specs::Text::fault_text))]
+fn fault_text(alloc: Global, fault: Fault) -> Result<String, AllocError>
+    ensures { IfOk result (λ text. string_bytes text ≡ fault_text fault) }
+{
+    match fault {
+        Fault::Format(fault) => {
+            let name = format_text(alloc, fault)?;
+            format!(in alloc; "1 Format {name}")
+        }
+        Fault::ThreadOpen(index) => format!(in alloc; "2 ThreadOpen {index}"),
+        Fault::NoSuchCall(index) => format!(in alloc; "3 NoSuchCall {index}"),
+        Fault::AnsweredTwice(index) => format!(in alloc; "4 AnsweredTwice {index}"),
+        Fault::NotAnUpdate(place) => format!(in alloc; "5 NotAnUpdate {place}"),
+        Fault::PlacedTwice(place) => format!(in alloc; "6 PlacedTwice {place}"),
+        Fault::NotPlaced(index) => format!(in alloc; "7 NotPlaced {index}"),
+        Fault::PastLog(index) => format!(in alloc; "8 PastLog {index}"),
+        Fault::Early(call) => format!(in alloc; "9 Early {call}"),
+        Fault::WrongAnswer(call) => format!(in alloc; "10 WrongAnswer {call}"),
+        Fault::PrefixPastLog(replica) => format!(in alloc; "11 PrefixPastLog {replica}"),
+        Fault::PrefixShort(replica) => format!(in alloc; "12 PrefixShort {replica}"),
+        Fault::MissingFrame(replica, number) => {
+            format!(in alloc; "13 MissingFrame {replica} {number}")
+        }
+        Fault::SharedFrame(replica, number) => {
+            format!(in alloc; "14 SharedFrame {replica} {number}")
+        }
+        Fault::ReservedBit(replica, number, index) => {
+            format!(in alloc; "15 ReservedBit {replica} {number} {index}")
+        }
+        Fault::StrayFrame(replica, number) => {
+            format!(in alloc; "16 StrayFrame {replica} {number}")
+        }
+        Fault::Differs(replica, address) => {
+            format!(in alloc; "17 Differs {replica} 0x{address:x}")
+        }
+    }
+}
+
+/// The lines that `audit` prints of a replay.
+pub fn replay_text(alloc: Global, answer: Replay) -> Result<String, AllocError>
+    ensures { IfOk result (λ text. string_bytes text ≡ replay_text answer) }
+{
+    match answer {
+        Replay::Replayed => String::from_str(alloc, "replayed\n"),
+        Replay::No(fault) => {
+            let text = fault_text(alloc, fault)?;
+            format!(in alloc; "no {text}\n")
+        }
+    }
+}
