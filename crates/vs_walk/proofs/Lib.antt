@@ -4,3 +4,16 @@ pub mod Walks
 pub mod Translates
 pub mod OneWord
 pub mod SmallTables
+pub mod WaysLists
+pub mod WaysBits
+pub mod WaysMoves
+pub mod WaysFound
+pub mod WaysRise
+pub mod WaysWalked
+pub mod WaysFaults
+pub mod WaysMet
+pub mod WaysLaws
+pub mod WaysSpaces
+pub mod WaysDumps
+pub mod WaysSame
+pub mod WaysBuilt

@@ -3,6 +3,7 @@ pub mod Walk
 pub mod Traversal
 pub mod Dump
 pub mod Examples
+pub mod Ways
 pub use Rattle.vs_types.specs.Depth
 pub use Rattle.vs_types.specs.Page
 pub use Rattle.vs_types.specs.Space

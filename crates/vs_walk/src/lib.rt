@@ -8,11 +8,16 @@ pub mod examples;
 mod frames;
 mod laws;
 mod walk;
+mod ways;
 
 pub use dump::Dump;
 pub use frames::{FRAME_WORDS, Frames};
 pub use laws::{spaces_translate_without_fault, translates_as_one_space};
 pub use walk::{Walk, WalkFault, translate};
+pub use ways::{
+    dumps_are_whole, faults_are_met, faults_are_walked, found_pages_are_the_space,
+    found_pages_are_the_walks, found_pages_rise, reached_once,
+};
 
 #[cfg(test)]
 mod tests;

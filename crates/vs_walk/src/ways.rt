@@ -1,0 +1,76 @@
+//! Laws of the way through all tables, and of the walks of single addresses. Each function does nothing: its clauses
+//! say what holds of every memory.
+ghost use Rattle.std.specs.Prelude.{◌≡◌, ◌≢◌, ◌≤◌, ◌<◌, ◌^◌, ◌⊎◌, ◌++◌, ◌∷◌, ℕ, List, All, Contains, IsTrue, IsFalse, Some, None, nat_eq};
+ghost use Rattle.std.specs.FinMap as finite;
+ghost use Rattle.std.specs.List.{AllPairs, IsDistinct};
+ghost use Rattle.vs_types.specs.declared.depth.Depth.{Depth};
+ghost use Rattle.vs_types.specs.declared.page.Page.{Page};
+ghost use Rattle.vs_types.specs.Depth.{IsCanonical};
+ghost use Rattle.vs_types.specs.Page.{covers, end_of, IsPage, IsPageBelow};
+ghost use Rattle.vs_types.specs.Space.{Space, IsSpace, pages};
+ghost use Rattle.vs_walk.specs.Dump.{Image, IsDump};
+ghost use Rattle.vs_walk.specs.Memory.{Memory};
+ghost use Rattle.vs_walk.specs.Walk.{walk, TranslatesAs};
+ghost use Rattle.vs_walk.specs.Traversal.{Meets, moves, found, reached, walk_fault};
+ghost use Rattle.vs_walk.specs.Ways.{AreWhole, covering, as_found, HasReserved};
+ghost use Rattle.vs_walk.specs.declared.walk.Walk.TheVariants as ends;
+ghost use Rattle.vs_walk.specs.declared.walk.WalkFault.TheVariants as faults;
+
+/// The walk of a canonical address ends as the found page that covers it says, and with no mapping where none does: at
+/// each address where there is no fault on the way, and else where the walk meets none. Where it meets one, no found
+/// page covers the address.
+pub fn found_pages_are_the_walks()
+    ensures faultless { (depth : Depth) (memory : Memory) (root address : ℕ) → AreWhole memory → IsCanonical depth address → walk_fault depth memory root ≡ None → walk depth memory root address ≡ as_found address (covering address (found (moves depth memory root))) }
+    ensures each { (depth : Depth) (memory : Memory) (root address : ℕ) → AreWhole memory → IsCanonical depth address → walk depth memory root address ≢ ends.Reserved → walk depth memory root address ≢ ends.Missing → walk depth memory root address ≡ as_found address (covering address (found (moves depth memory root))) }
+    ensures none { (depth : Depth) (memory : Memory) (root address : ℕ) → AreWhole memory → IsCanonical depth address → (walk depth memory root address ≡ ends.Reserved) ⊎ (walk depth memory root address ≡ ends.Missing) → covering address (found (moves depth memory root)) ≡ None }
+{}
+
+/// The pages that are found are well formed. Their bases rise, each page ends at the base of the next or before, and
+/// no two of them cover one address.
+pub fn found_pages_rise()
+    ensures well_formed { (depth : Depth) (memory : Memory) (root : ℕ) → AreWhole memory → All (IsPageBelow (2 ^ 52) depth) (found (moves depth memory root)) }
+    ensures bases { (depth : Depth) (memory : Memory) (root : ℕ) → AreWhole memory → AllPairs (λ p q. p.base < q.base) (found (moves depth memory root)) }
+    ensures ends { (depth : Depth) (memory : Memory) (root : ℕ) → AreWhole memory → AllPairs (λ p q. end_of p ≤ q.base) (found (moves depth memory root)) }
+    ensures apart { (depth : Depth) (memory : Memory) (root : ℕ) (p q : Page) (address : ℕ) → AreWhole memory → Contains (found (moves depth memory root)) p → Contains (found (moves depth memory root)) q → IsTrue (covers p address) → IsTrue (covers q address) → p ≡ q }
+{}
+
+/// The first frame that is reached is the root. Where there is no fault on the way, each frame that is reached is in
+/// the memory, and none is reached twice. Where that is so and no reserved bit is met, there is no fault.
+pub fn reached_once()
+    ensures root_first { (depth : Depth) (memory : Memory) (root : ℕ) → (others : List ℕ) × (reached (moves depth memory root) ≡ root ∷ others) }
+    ensures held { (depth : Depth) (memory : Memory) (root : ℕ) → walk_fault depth memory root ≡ None → All (λ number. IsTrue (finite.contains_key memory number)) (reached (moves depth memory root)) }
+    ensures once { (depth : Depth) (memory : Memory) (root : ℕ) → walk_fault depth memory root ≡ None → IsDistinct nat_eq (reached (moves depth memory root)) }
+    ensures faultless { (depth : Depth) (memory : Memory) (root : ℕ) → All (λ number. IsTrue (finite.contains_key memory number)) (reached (moves depth memory root)) → IsDistinct nat_eq (reached (moves depth memory root)) → ((number index : ℕ) → Contains (moves depth memory root) (Meets number index) → ⊥) → walk_fault depth memory root ≡ None }
+{}
+
+/// What the first fault says: a missing frame is reached and not in the memory; a shared one is in the memory and is
+/// reached twice; and a word with a reserved bit stands in a frame that is reached.
+pub fn faults_are_met()
+    ensures missing { (depth : Depth) (memory : Memory) (root number : ℕ) → walk_fault depth memory root ≡ Some (faults.Missing number) → IsFalse (finite.contains_key memory number) × Contains (reached (moves depth memory root)) number }
+    ensures shared { (depth : Depth) (memory : Memory) (root number : ℕ) → walk_fault depth memory root ≡ Some (faults.Shared number) → IsTrue (finite.contains_key memory number) × ((before after : List ℕ) × (reached (moves depth memory root) ≡ before ++ number ∷ after) × Contains before number) }
+    ensures reserved { (depth : Depth) (memory : Memory) (root number index : ℕ) → walk_fault depth memory root ≡ Some (faults.Reserved number index) → HasReserved depth memory number index × Contains (reached (moves depth memory root)) number }
+{}
+
+/// Where a frame is missing, or a reserved bit is set, the walk of some canonical address meets it. Where there is no
+/// fault, no walk does.
+pub fn faults_are_walked()
+    ensures missing { (depth : Depth) (memory : Memory) (root number : ℕ) → AreWhole memory → walk_fault depth memory root ≡ Some (faults.Missing number) → (address : ℕ) × IsCanonical depth address × (walk depth memory root address ≡ ends.Missing) }
+    ensures reserved { (depth : Depth) (memory : Memory) (root number index : ℕ) → AreWhole memory → walk_fault depth memory root ≡ Some (faults.Reserved number index) → (address : ℕ) × IsCanonical depth address × (walk depth memory root address ≡ ends.Reserved) }
+    ensures faultless { (depth : Depth) (memory : Memory) (root address : ℕ) → walk_fault depth memory root ≡ None → (walk depth memory root address ≢ ends.Reserved) × (walk depth memory root address ≢ ends.Missing) }
+{}
+
+/// Without a fault on the way, a memory translates as the space whose pages, by rising base, are those that are found.
+/// Where it translates as a space, the pages that are found are those of the space, and of the faults only a frame
+/// that is reached twice can be on the way. Without a fault and with all found pages below physical 2^51 there is such
+/// a space.
+pub fn found_pages_are_the_space()
+    ensures translates { (depth : Depth) (memory : Memory) (root : ℕ) (space : Space) → AreWhole memory → walk_fault depth memory root ≡ None → found (moves depth memory root) ≡ pages space → TranslatesAs depth memory root space }
+    ensures found { (depth : Depth) (memory : Memory) (root : ℕ) (space : Space) → AreWhole memory → IsSpace depth space → TranslatesAs depth memory root space → found (moves depth memory root) ≡ pages space }
+    ensures fault { (depth : Depth) (memory : Memory) (root : ℕ) (space : Space) → AreWhole memory → TranslatesAs depth memory root space → (walk_fault depth memory root ≡ None) ⊎ ((number : ℕ) × (walk_fault depth memory root ≡ Some (faults.Shared number))) }
+    ensures space { (depth : Depth) (memory : Memory) (root : ℕ) → AreWhole memory → walk_fault depth memory root ≡ None → All (IsPage depth) (found (moves depth memory root)) → (space : Space) × IsSpace depth space × (pages space ≡ found (moves depth memory root)) × TranslatesAs depth memory root space }
+{}
+
+/// Each frame of a dump has 512 words.
+pub fn dumps_are_whole()
+    ensures { (dump : Image) → IsDump dump → AreWhole dump.frames }
+{}
