@@ -24,3 +24,5 @@ pub mod LawsOfDumps
 pub mod LawsOfSteps
 pub mod OnlySpelled
 pub mod Images
+pub mod Written
+pub mod Framed

@@ -10,6 +10,7 @@ mod laws;
 mod ranges;
 mod reading;
 mod trace;
+mod writing;
 
 pub use event::Event;
 pub use fault::{Fault, Format};
@@ -21,6 +22,7 @@ pub use laws::{
 };
 pub use reading::read;
 pub use trace::Trace;
+pub use writing::write;
 
 #[cfg(test)]
 mod tests;

@@ -1,0 +1,48 @@
+//! The units of the dumps.
+
+ghost use Rattle.std.specs.Prelude.{◌≡◌, ◌<◌, ◌++◌, OnOk, flat_map};
+ghost use Rattle.nr_trace.specs.Spelling.{dump_head, frame_number, frame_words, dump};
+
+use crate::writing::lists::put_words;
+use crate::writing::numbers::{put_u32, put_u64};
+use vs_types::Memory;
+use vs_walk::{Dump, Frames};
+
+fn put_dump_head(out: &mut Vec<u8>, applied: u32, frames: u32, root: u64) -> Result<(), Memory>
+    ensures { OnOk result (out.new.items ≡ out.old.items ++ dump_head applied frames root) }
+{
+    put_u32(out, applied)?;
+    put_u32(out, frames)?;
+    put_u64(out, root)?;
+    Ok(())
+}
+
+fn put_frame(out: &mut Vec<u8>, number: u64, words: &[u64; 512]) -> Result<(), Memory>
+    ensures { OnOk result (out.new.items ≡ out.old.items ++ (frame_number number ++ frame_words words.now)) }
+{
+    put_u64(out, number)?;
+    put_words(out, words)?;
+    Ok(())
+}
+
+fn put_dump(out: &mut Vec<u8>, held: &Dump) -> Result<(), Memory>
+    ensures { OnOk result (out.new.items ≡ out.old.items ++ dump held.now) }
+{
+    let frames = held.count();
+    put_dump_head(out, held.applied(), frames as u32, held.root())?;
+    for k in 0..frames {
+        let number = held.number(k);
+        let words = held.words(number).unwrap();
+        put_frame(out, number, words)?;
+    }
+    Ok(())
+}
+
+pub(crate) fn put_dumps(out: &mut Vec<u8>, dumps: &[Dump]) -> Result<(), Memory>
+    ensures { OnOk result (out.new.items ≡ out.old.items ++ flat_map dump dumps.now) }
+{
+    for held in dumps {
+        put_dump(out, held)?;
+    }
+    Ok(())
+}
