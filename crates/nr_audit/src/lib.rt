@@ -16,3 +16,6 @@ mod whole;
 
 pub use found::Replay;
 pub use whole::replay;
+
+#[cfg(test)]
+mod tests;

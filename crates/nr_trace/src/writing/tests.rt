@@ -94,8 +94,8 @@ fn map_then_resolve(rt: HostRuntime) -> Result<(), Fail> {
     let events = map_then_resolve_events(rt.alloc())?;
     let trace = Trace::new(config(4)?, log, events, dumps(rt.alloc(), 1)?)?;
     let bytes = write(rt.alloc(), &trace)?;
-    assert!(rt; bytes.len() > 136);
-    assert_eq!(rt; &bytes[..136], MAPPED.as_slice());
+    assert_eq!(rt; bytes.len(), 136 + 4104);
+    assert!(rt; bytes.as_slice().starts_with(MAPPED.as_slice()));
     Ok(())
 }
 
