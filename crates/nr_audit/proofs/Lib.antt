@@ -8,3 +8,4 @@ pub mod OrderFacts
 pub mod AnswerFacts
 pub mod AnswerEquality
 pub mod PassFacts
+pub mod LegalReplays

@@ -3,6 +3,8 @@ use Rattle.std.specs.Prelude.{ℕ, List, ⊤}
 use Rattle.nr_trace.specs.Recording.{Recording}
 use Rattle.nr_trace.specs.Spelling.{Spells}
 use Rattle.nr_trace.specs.FirstFault.{HasFormatFault}
+use Rattle.nr_trace.specs.Laws.{IsLegalButPrecedence}
+use Rattle.nr_trace.specs.Orders.{recorded_order}
 use Rattle.nr_trace.specs.declared.fault.Fault.{Fault}
 use Rattle.nr_trace.specs.declared.fault.Fault.TheVariants.{Format, ThreadOpen, NoSuchCall, AnsweredTwice, NotAnUpdate, PlacedTwice, NotPlaced, PastLog, WrongAnswer}
 use Rattle.nr_audit.specs.Search.{HasNone, IsFirstAmong}
@@ -37,3 +39,10 @@ IsFirstFault bytes fault = (trace : Recording) × Spells bytes trace × IsFirstA
 abbrev pub IsSoOf : List ℕ → Replay → Type 0
 IsSoOf bytes Replayed = IsFaultless bytes
 IsSoOf bytes (No fault) = IsFirstFault bytes fault
+
+-- the bytes spell a trace whose recorded order has each answered call and no other but unanswered updates, each once, with
+-- the answers of one sequential space
+pub record IsLegallyOrdered (bytes : List ℕ) : Type 0 where
+  pub trace : Recording
+  pub spelled : Spells bytes trace
+  pub legal : IsLegalButPrecedence trace (recorded_order trace)

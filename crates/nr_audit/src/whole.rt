@@ -1,6 +1,6 @@
-ghost use Rattle.std.specs.Prelude.{IfOk, IfErr};
+ghost use Rattle.std.specs.Prelude.{◌≡◌, IfOk, IfErr};
 ghost use Rattle.nr_trace.specs.Reading.{IfRefused};
-ghost use Rattle.nr_audit.specs.Replay.{IsFaultless, IsFirstFault, IsSoOf};
+ghost use Rattle.nr_audit.specs.Replay.{IsFaultless, IsFirstFault, IsLegallyOrdered, IsSoOf};
 
 use crate::found::Replay;
 use crate::passes::check_trace;
@@ -20,17 +20,7 @@ fn find_fault(alloc: Global, bytes: &[u8]) -> Result<(), Fail<Fault>>
     check_trace(alloc, &trace)
 }
 
-/// Reads a trace and does its run again, in the recorded order on one space: whether the bytes spell a trace, each thread
-/// has one call open at a time, each reply is the only one to an earlier call, the log has each update at most once, each
-/// reply gives its update's place or no more entries than there are, and each answer is that of the space there. Calls
-/// that stand too early and dumps are not looked at.
-///
-/// Takes memory in all of the size of the bytes.
-///
-/// # Errors
-///
-/// `Memory` where a growth of memory was refused.
-pub fn replay(alloc: Global, bytes: &[u8]) -> Result<Replay, Memory>
+fn judge(alloc: Global, bytes: &[u8]) -> Result<Replay, Memory>
     ensures { IfOk result (IsSoOf bytes.now) }
 {
     match find_fault(alloc, bytes) {
@@ -38,4 +28,24 @@ pub fn replay(alloc: Global, bytes: &[u8]) -> Result<Replay, Memory>
         Err(Fail::Memory) => Err(Memory),
         Err(Fail::Refused(fault)) => Ok(Replay::No(fault)),
     }
+}
+
+/// Reads a trace and does its run again, in the recorded order on one space: whether the bytes spell a trace, each thread
+/// has one call open at a time, each reply is the only one to an earlier call, the log has each update at most once, each
+/// reply gives its update's place or no more entries than there are, and each answer is that of the space there. Calls
+/// that stand too early and dumps are not looked at.
+///
+/// `Replayed` says so, and that the recorded order is then legal, but that a call which was answered before another was
+/// made may come behind it.
+///
+/// Takes memory in all of the size of the bytes.
+///
+/// # Errors
+///
+/// `Memory` where a growth of memory was refused.
+pub fn replay(alloc: Global, bytes: &[u8]) -> Result<Replay, Memory>
+    ensures verdict { IfOk result (IsSoOf bytes.now) }
+    ensures legal { result ≡ Ok Replay.Replayed → IsLegallyOrdered bytes.now }
+{
+    judge(alloc, bytes)
 }
