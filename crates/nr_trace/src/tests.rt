@@ -88,6 +88,15 @@ fn empty_trace(rt: HostRuntime) -> Result<(), Fail> {
 }
 
 #[test]
+fn map_then_resolve_is_written_again(rt: HostRuntime) -> Result<(), Fail> {
+    let bytes = map_then_resolve_bytes(rt.alloc())?;
+    let trace = read(rt.alloc(), &bytes)?;
+    let written = write(rt.alloc(), &trace)?;
+    assert!(rt; written.as_slice() == bytes.as_slice());
+    Ok(())
+}
+
+#[test]
 fn map_then_resolve(rt: HostRuntime) -> Result<(), Fail> {
     let bytes = map_then_resolve_bytes(rt.alloc())?;
     assert_eq!(rt; bytes.len(), 16_552);
