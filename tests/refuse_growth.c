@@ -1,8 +1,11 @@
-/* Preloaded into the program: refuses the growth of memory whose number, from 1, is in REFUSE_GROWTH. */
+/* Preloaded into the program: refuses the growth of memory whose number, from 1, is in REFUSE_GROWTH, and then makes the
+   file that REFUSED names. */
 #define _GNU_SOURCE
+#include <fcntl.h>
 #include <stdatomic.h>
 #include <stddef.h>
 #include <stdlib.h>
+#include <unistd.h>
 
 extern void *__libc_malloc(size_t);
 extern void *__libc_calloc(size_t, size_t);
@@ -16,7 +19,11 @@ static int is_refused(void) {
         const char *text = getenv("REFUSE_GROWTH");
         refused = text ? atol(text) : 0;
     }
-    return atomic_fetch_add(&made, 1) + 1 == refused;
+    if (atomic_fetch_add(&made, 1) + 1 != refused) return 0;
+    const char *name = getenv("REFUSED");
+    int mark = name ? open(name, O_CREAT | O_WRONLY, 0600) : -1;
+    if (mark >= 0) close(mark);
+    return 1;
 }
 
 void *malloc(size_t size) { return is_refused() ? NULL : __libc_malloc(size); }
