@@ -1,0 +1,276 @@
+-- What a page table is after a page was added, and why one isn't.
+use Rattle.std.proofs.Common.{◌≡◌, ◌≢◌, ℕ, zero, suc, ◌+◌, ◌-◌, ◌*◌, ◌%◌, ◌^◌, ◌<◌, ◌≤◌, List, Some, None, true, false, IsTrue, nat_le, leb-true, leb-false, inl, inr, ⊎_elim, refl, sym, ap, subst, ◌∙◌, arith}
+use Rattle.std.specs.Prelude.{IsSome, slice_index}
+use Rattle.std.proofs.lemmas.Bool.{cases_lt, cases_eq}
+use Rattle.std.specs.FinMap as finite
+use Rattle.vs_types.specs.Depth.{levels, entry_bytes, table_bytes, index_at, IsCanonical}
+use Rattle.vs_types.specs.Entry.{meaning, size_at}
+use Rattle.vs_types.specs.Page.{level_of, bytes_of, covers, end_of, IsPage}
+use Rattle.vs_types.specs.Space.{Space, Holds, IsSpace, page_at, table_count, least_overlapped}
+use Rattle.vs_types.specs.Step.{step, look, Stepped}
+use Rattle.vs_types.specs.Laws.{as_in, LooksChanged}
+use Rattle.vs_types.specs.declared.depth.Depth.{Depth}
+use Rattle.vs_types.specs.declared.op.Action.{Action}
+use Rattle.vs_types.specs.declared.op.Action.TheVariants.{Map, Unmap, Protect}
+use Rattle.vs_types.specs.declared.page.Page.{Page}
+use Rattle.vs_types.specs.declared.page.Rights.{Rights}
+use Rattle.vs_types.specs.declared.page.Size.{Size}
+use Rattle.vs_types.specs.declared.page.Size.TheVariants.{K4, M2, G1}
+use Rattle.vs_types.specs.declared.entry.Meaning.{Meaning}
+use Rattle.vs_types.specs.declared.entry.Meaning.TheVariants as entry
+use Rattle.vs_types.specs.declared.answer.Answer.{Answer}
+use Rattle.vs_types.specs.declared.answer.Answer.TheVariants as answers
+use Rattle.vs_types.proofs.Steps.{map_cases, alone, step_space}
+use Rattle.vs_types.proofs.Looks.{done_looks}
+use Rattle.vs_types.proofs.Pages.{covers_means, covers_base, covered_canonical}
+use Rattle.vs_types.proofs.Spaces.{page_at_means, insert_space}
+use Rattle.vs_walk.specs.Memory.{Memory}
+use Rattle.vs_walk.specs.Walk.{walk, as_walk, TranslatesAs}
+use Rattle.vs_walk.specs.declared.walk.Walk.TheVariants.{NotMapped, Mapped, Reserved}
+use Rattle.vs_walk.proofs.Translates.{not_reserved}
+use Rattle.vs_space.specs.Held.{with_word, IsWhole}
+use Rattle.vs_space.specs.Way.{found_at, table_at, table_in, SameWay}
+use Rattle.vs_space.specs.Tree.{IsTree, IsFilled, NothingUnder}
+use Rattle.vs_space.specs.Grow.{IsOpen, IsExtended, IsLeastBase}
+use Rattle.vs_space.specs.Place.{IsPlace}
+use Rattle.vs_space.specs.Table.{PageTable, IsTableOf, IsStep, IsSpaceOf, IsPageTable}
+use Rattle.vs_space.proofs.Ways.{table_next, walk_ends, words_found}
+use Rattle.vs_space.proofs.Writes.{table_here, found_on_way, walk_off_way, len_written}
+use Rattle.vs_space.proofs.Trees.{tree_write, but_none, but_write, filled_by}
+use Rattle.vs_space.proofs.Regions.{IsLeafPage, leaf_page, nothing_at, translates_changed, covers_way, way_covers, level_some}
+use Rattle.vs_space.proofs.Protects.{IsMet, space_of, never_reserved, page_here, page_level, stays}
+use Rattle.vs_space.proofs.Meets.{page_table, met_of, never_table}
+use Rattle.vs_space.proofs.Prunes.{absent_under}
+use Rattle.vs_space.proofs.Overlaps.{overlapped_none, overlapped_below, overlapped_least}
+use Rattle.vs_space.proofs.TableCounts.{count_added}
+
+map_overlaps : (depth : Depth) (limit : ℕ) (space : Space) (page : Page) (base : ℕ) → least_overlapped space page ≡ Some base → step depth limit space (Map page) ≡ record { space = space; answer = answers.Overlap base }
+map_overlaps depth limit space page base least = map_cases (λ s. s ≡ record { space = space; answer = answers.Overlap base }) depth limit space page
+    (λ e t. absurd (cc))
+    (λ other e. let same : other ≡ base = cc in ap (λ b. let s : Stepped = record { space = space; answer = answers.Overlap b } in s) same)
+    (λ e t. absurd (cc))
+
+map_is_full : (depth : Depth) (limit : ℕ) (space : Space) (page : Page) → least_overlapped space page ≡ None → limit < table_count depth (finite.insert space page.base page) → step depth limit space (Map page) ≡ record { space = space; answer = answers.Full (table_count depth (finite.insert space page.base page)) }
+map_is_full depth limit space page least above = map_cases (λ s. s ≡ record { space = space; answer = answers.Full (table_count depth (finite.insert space page.base page)) }) depth limit space page
+    (λ e t. absurd (omega (arith, above, leb-true (table_count depth (finite.insert space page.base page)) limit t)))
+    (λ other e. absurd (cc))
+    (λ e t. refl)
+
+map_is_done : (depth : Depth) (limit : ℕ) (space : Space) (page : Page) → least_overlapped space page ≡ None → table_count depth (finite.insert space page.base page) ≤ limit → step depth limit space (Map page) ≡ record { space = finite.insert space page.base page; answer = answers.Done }
+map_is_done depth limit space page least few = map_cases (λ s. s ≡ record { space = finite.insert space page.base page; answer = answers.Done }) depth limit space page
+    (λ e t. refl)
+    (λ other e. absurd (cc))
+    (λ e t. absurd (omega (arith, few, leb-false (table_count depth (finite.insert space page.base page)) limit t)))
+
+module _ (depth : Depth) (m : Memory) (root : ℕ) (table : IsPageTable depth m root) (page : Page) (good : IsPage depth page) (level : ℕ) (way : List ℕ) where
+  faultless : (b : ℕ) → IsCanonical depth b → walk depth m root b ≢ Reserved
+  faultless b is_b reserved = not_reserved depth m root table.some_space.0 b table.some_space.1.translates is_b reserved
+
+  pub no_walk_reserved : (b : ℕ) → IsCanonical depth b → walk depth m root b ≢ Reserved
+  no_walk_reserved b is_b reserved = faultless b is_b reserved
+
+  met : (e : Meaning) → IsPlace depth m root page.base (level_of page.size) level way e → IsMet depth m root page.base (levels depth - level) (slice_index way level) e
+  met e place = met_of depth m root page.base (level_of page.size) level way e (level_some page.size) place
+
+  pub reserved_never : IsPlace depth m root page.base (level_of page.size) level way entry.Reserved → ⊥
+  reserved_never place = never_reserved depth m root table page.base good.canonical (levels depth - level) (slice_index way level) (met entry.Reserved place)
+
+  -- ---- a leaf on the way: its page has the base of the new one
+
+  pub leaf_overlaps : (phys : ℕ) (own : Rights) → IsPlace depth m root page.base (level_of page.size) level way (entry.Leaf phys own) → (limit bytes : ℕ) → bytes ≡ bytes_of (size_at level) → IsStep (page_table depth limit root m) (Map page) (answers.Overlap (page.base - page.base % bytes)) (page_table depth limit root m)
+  leaf_overlaps phys own place limit bytes are = stays (page_table depth limit root m) (Map page) (answers.Overlap (page.base - page.base % bytes)) (λ space is translates.
+      let leaf = page_here depth m root table page.base good.canonical (levels depth - level) (slice_index way level) space is translates phys own (met (entry.Leaf phys own) place) in
+      let back : levels depth - (levels depth - level) ≡ level = omega (arith, place.below) in
+      let same : level_of leaf.0.size ≡ level = sym (page_level depth m root table page.base good.canonical (levels depth - level) (slice_index way level) space phys own leaf.0 leaf.1) ∙ back in
+      let size : bytes_of leaf.0.size ≡ bytes = ap bytes_of (leaf.1.size ∙ ap size_at same) ∙ sym are in
+      let offset : page.base % bytes_of leaf.0.size ≡ page.base % bytes = ap (λ n. page.base % n) size in
+      let base_is : leaf.0.base ≡ page.base - page.base % bytes = omega (arith, leaf.1.base) in
+      map_overlaps depth limit space page (page.base - page.base % bytes) (overlapped_below is page leaf.0 leaf.1.here ∙ ap Some base_is))
+
+  -- ---- a table at the page's own level: the first page below it
+
+  module _ (next : ℕ) (rights : Rights) (place : IsPlace depth m root page.base (level_of page.size) level way (entry.Table next rights)) where
+    own_level : level ≡ level_of page.size
+    own_level = ⊎_elim
+        (λ (deep : level_of page.size < level). let none : table_in (Some (entry.Table next rights)) ≡ None = place.ends deep in absurd (cc))
+        (λ (le : level ≤ level_of page.size). omega (arith, place.above))
+        (cases_lt (level_of page.size) level)
+
+    pub not_lowest : 1 < level_of page.size
+    not_lowest = ⊎_elim
+        (λ (deep : 1 < level_of page.size). deep)
+        (λ (le : level_of page.size ≤ 1).
+        let one : level ≡ 1 = omega (arith, own_level, level_some page.size) in
+        let words = words_found 1 m (slice_index way level) page.base (entry.Table next rights) (subst (λ l. found_at l m (slice_index way level) page.base ≡ Some (entry.Table next rights)) one place.is) in
+        absurd (never_table (slice_index words.0 (index_at 1 page.base)) next rights words.2))
+        (cases_lt 1 (level_of page.size))
+
+    pub within_root : level_of page.size - 1 < levels depth
+    within_root = omega (arith, own_level, place.below, not_lowest)
+
+    pub base_aligned : page.base % table_bytes (level_of page.size - 1) ≡ 0
+    base_aligned = let e : 12 + 9 * (level_of page.size - 1) ≡ 3 + 9 * level_of page.size = omega (arith, not_lowest) in subst (λ n. page.base % 2 ^ n ≡ 0) (sym e) good.aligned
+
+    pub table_reached : table_at (levels depth) m root (levels depth - (level_of page.size - 1)) page.base ≡ Some next
+    table_reached =
+        let here = met (entry.Table next rights) place in
+        let up : suc (levels depth - level) ≡ levels depth - (level_of page.size - 1) = omega (arith, own_level, place.below, not_lowest) in
+        subst (λ k. table_at (levels depth) m root k page.base ≡ Some next) up (table_next (levels depth) root m (levels depth - level) page.base (slice_index way level) here.at ∙ ap table_in here.found)
+
+    pub table_overlaps : (limit base : ℕ) → IsLeastBase depth m root page.base (levels depth - (level_of page.size - 1)) base → IsStep (page_table depth limit root m) (Map page) (answers.Overlap base) (page_table depth limit root m)
+    table_overlaps limit base first = stays (page_table depth limit root m) (Map page) (answers.Overlap base) (λ space is translates.
+        let up : levels depth - (level_of page.size - 1) ≡ suc (levels depth - level_of page.size) = omega (arith, own_level, place.below, not_lowest) in
+        let whole : (levels depth - level_of page.size) + level_of page.size ≡ levels depth = omega (arith, own_level, place.below) in
+        let inside = (way_covers depth page good (levels depth - level_of page.size) whole base first.canonical (subst (λ k. SameWay (levels depth) k page.base base) up first.same_way)).0 in
+        let back : levels depth - (levels depth - first.leaf.level) ≡ first.leaf.level = omega (arith, first.leaf.below) in
+        let low : first.leaf.level ≡ suc (first.leaf.level - 1) = omega (arith, first.leaf.some) in
+        let leaf = leaf_page depth m root space is translates table.tree base (levels depth - first.leaf.level) (first.leaf.level - 1) first.leaf.number first.leaf.phys first.leaf.own first.canonical (omega (arith, first.leaf.some, first.leaf.below)) first.leaf.reached
+        (subst (λ l. found_at l m first.leaf.number base ≡ Some (entry.Leaf first.leaf.phys first.leaf.own)) low first.leaf.found) in
+        let same : level_of leaf.0.size ≡ first.leaf.level = omega (arith, leaf.1.level, first.leaf.below) in
+        let aligned : base % bytes_of leaf.0.size ≡ 0 = ap (λ l. base % entry_bytes l) same ∙ first.leaf.begins in
+        let begins : leaf.0.base ≡ base = omega (arith, leaf.1.base, aligned) in
+        let here : page_at space leaf.0.base ≡ Some leaf.0 = ap (page_at space) begins ∙ leaf.1.here in
+        map_overlaps depth limit space page base
+        (overlapped_least is page leaf.0 here (subst (λ b. IsTrue (covers page b)) (sym begins) inside)
+        (λ a low high.
+        let spans = (covers_means page base).0 inside in
+        let covered = (covers_means page a).1 (low, omega (arith, high, begins, spans.1)) in
+        let is_a = covered_canonical (2 ^ 51) depth page a good covered in
+        nothing_at depth m root space a translates is_a (first.before a is_a low (omega (arith, high, begins))))
+        ∙ ap Some begins))
+
+  -- ---- an absent entry: nothing is overlapped
+
+  module _ (place : IsPlace depth m root page.base (level_of page.size) level way entry.Absent) where
+    here : IsMet depth m root page.base (levels depth - level) (slice_index way level) entry.Absent
+    here = met entry.Absent place
+
+    nothing : NothingUnder depth m root (suc (levels depth - level)) page.base
+    nothing = absent_under depth m root page.base (levels depth - level) (slice_index way level) table.tree here.deep here.at here.found
+
+    whole_way : (levels depth - level_of page.size) + level_of page.size ≡ levels depth
+    whole_way = omega (arith, place.above, place.below)
+
+    in_page : (a : ℕ) → IsTrue (covers page a) → SameWay (levels depth) (suc (levels depth - level)) page.base a
+    in_page a covered = λ i lt. covers_way depth page good (levels depth - level_of page.size) whole_way a covered i (omega (arith, lt, place.above, place.below))
+
+    module _ (space : Space) (of : IsSpaceOf depth m root space) where
+      none_there : (a : ℕ) → IsTrue (covers page a) → page_at space a ≡ None
+      none_there a covered =
+          let is_a = covered_canonical (2 ^ 51) depth page a good covered in
+          nothing_at depth m root space a of.translates is_a (nothing a is_a (in_page a covered))
+
+      none_overlapped : least_overlapped space page ≡ None
+      none_overlapped = overlapped_none of.is_space page none_there
+
+      absent_base : (q : Page) → Holds space q → q.base ≢ page.base
+      absent_base q held same = let there = (page_at_means of.is_space q.base q).1 (held, covers_base q) in let none = none_there q.base (subst (λ a. IsTrue (covers page a)) (sym same) (covers_base page)) in cc
+
+      is_with : IsSpace depth (finite.insert space page.base page)
+      is_with = insert_space of.is_space page good (λ q a h differs c d. alone of.is_space page none_overlapped q a h c d)
+
+      need_is : table_count depth (finite.insert space page.base page) ≡ finite.len m + (level - level_of page.size)
+      need_is =
+          let added = count_added depth m root space page level of.is_space of.translates good is_with absent_base (none_there page.base (covers_base page)) place.above place.below nothing
+          (λ j some le empty.
+          let up : suc (j - 1) ≡ j = omega (arith, some) in
+          let reach : levels depth - (levels depth - j) ≡ j = omega (arith, le) in
+          table.filled.filled (j - 1) page.base _ (subst (λ i. table_at (levels depth) m root i page.base ≡ Some (slice_index way (levels depth - j))) (reach ∙ sym up) (place.reached (levels depth - j) (omega (arith, le, place.below)) (omega arith))) (subst (λ i. NothingUnder depth m root i page.base) (sym up) empty)) in
+          omega (arith, added, of.counted)
+
+    pub full_step : (limit need : ℕ) → need ≡ finite.len m + (level - level_of page.size) → limit < need → IsStep (page_table depth limit root m) (Map page) (answers.Full need) (page_table depth limit root m)
+    full_step limit need is_need above = stays (page_table depth limit root m) (Map page) (answers.Full need) (λ space is translates.
+        let of = space_of depth m root space table is translates in
+        let count = need_is space of in
+        map_is_full depth limit space page (none_overlapped space of) (omega (arith, count, is_need, above))
+        ∙ ap (λ n. let s : Stepped = record { space = space; answer = answers.Full n } in s) (count ∙ sym is_need))
+
+    pub is_open : IsOpen depth m root page.base level (slice_index way level)
+    is_open = record { tree = table.tree; filled = but_none page.base table.filled; below = place.below; reached = here.at; absent = place.is }
+
+    -- the leaf is written in the last table
+    module _ (m' : Memory) (number : ℕ) (extended : IsExtended depth m m' root page.base level (level_of page.size) number) (whole : IsWhole m') (w index : ℕ) (leads : meaning (level_of page.size) w ≡ entry.Leaf page.phys page.rights) (is_index : index ≡ index_at (level_of page.size) page.base) (low : index < 512) where
+      back : levels depth - (levels depth - level_of page.size) ≡ level_of page.size
+      back = omega (arith, place.above, place.below)
+
+      index_same : index_at (levels depth - (levels depth - level_of page.size)) page.base ≡ index
+      index_same = ap (λ l. index_at l page.base) back ∙ sym is_index
+
+      low_here : index_at (levels depth - (levels depth - level_of page.size)) page.base < 512
+      low_here = subst (λ i. i < 512) (sym index_same) low
+
+      leads_here : meaning (levels depth - (levels depth - level_of page.size)) w ≡ entry.Leaf page.phys page.rights
+      leads_here = ap (λ l. meaning l w) back ∙ leads
+
+      ends : table_in (Some (meaning (levels depth - (levels depth - level_of page.size)) w)) ≡ None
+      ends = ap (λ e. table_in (Some e)) leads_here
+
+      abbrev new : Memory
+      new = with_word m' number (index_at (levels depth - (levels depth - level_of page.size)) page.base) w
+
+      tree_new : IsTree (levels depth) (with_word m' number (index_at (levels depth - (levels depth - level_of page.size)) page.base) w) root
+      tree_new = tree_write (levels depth) root m' extended.open_at.tree whole (levels depth - level_of page.size) page.base number extended.open_at.reached w low_here ends
+
+      walk_on : (b : ℕ) → SameWay (levels depth) (suc (levels depth - level_of page.size)) page.base b → walk depth (with_word m' number (index_at (levels depth - (levels depth - level_of page.size)) page.base) w) root b ≡ Mapped (page.phys + b % bytes_of page.size) (size_at (level_of page.size)) page.rights
+      walk_on b same =
+          let up : levels depth - (levels depth - level_of page.size) ≡ suc (level_of page.size - 1) = omega (arith, place.above, place.below, level_some page.size) in
+          let plain : level_of page.size ≡ suc (level_of page.size - 1) = omega (arith, level_some page.size) in
+          let found = found_on_way (levels depth) root m' extended.open_at.tree whole (levels depth - level_of page.size) page.base number extended.open_at.reached w b low_here same ∙ ap Some leads_here in
+          subst (λ l. walk depth (with_word m' number (index_at (levels depth - (levels depth - level_of page.size)) page.base) w) root b ≡ Mapped (page.phys + b % entry_bytes l) (size_at l) page.rights) (sym plain)
+          (walk_ends (levels depth) root (with_word m' number (index_at (levels depth - (levels depth - level_of page.size)) page.base) w) tree_new.allows b (levels depth - level_of page.size) (level_of page.size - 1) number (entry.Leaf page.phys page.rights) (omega (arith, place.above, place.below, level_some page.size))
+          (table_here (levels depth) root m' extended.open_at.tree whole (levels depth - level_of page.size) page.base number extended.open_at.reached w b same)
+          (subst (λ l. found_at l (with_word m' number (index_at (levels depth - (levels depth - level_of page.size)) page.base) w) number b ≡ Some (entry.Leaf page.phys page.rights)) up found))
+
+      walk_off : (b : ℕ) → (SameWay (levels depth) (suc (levels depth - level_of page.size)) page.base b → ⊥) → walk depth (with_word m' number (index_at (levels depth - (levels depth - level_of page.size)) page.base) w) root b ≡ walk depth m root b
+      walk_off b apart = walk_off_way (levels depth) root m' extended.open_at.tree whole (levels depth - level_of page.size) page.base number extended.open_at.reached w b apart ∙ extended.walks b
+
+      filled_new : IsFilled depth (with_word m' number (index_at (levels depth - (levels depth - level_of page.size)) page.base) w) root
+      filled_new = filled_by depth (with_word m' number (index_at (levels depth - (levels depth - level_of page.size)) page.base) w) root page.base
+          (but_write depth root m' extended.open_at.tree whole (levels depth - level_of page.size) page.base number extended.open_at.reached w low_here ends extended.open_at.filled) good.canonical (λ none. let walked = walk_on page.base (λ i lt. refl) in cc)
+
+      size_same : (size : Size) → size_at (level_of size) ≡ size
+      size_same K4 = refl
+      size_same M2 = refl
+      size_same G1 = refl
+
+      module _ (limit : ℕ) (room : finite.len m + (level - level_of page.size) ≤ limit) (space : Space) (of : IsSpaceOf depth m root space) where
+        done : step depth limit space (Map page) ≡ record { space = finite.insert space page.base page; answer = answers.Done }
+        done = map_is_done depth limit space page (none_overlapped space of) (omega (arith, need_is space of, room))
+
+        pub answer_is : (step depth limit space (Map page)).answer ≡ answers.Done
+        answer_is = ap (λ (s : Stepped). s.answer) done
+
+        looks : LooksChanged page (as_in page) space (step depth limit space (Map page)).space
+        looks = done_looks limit of.is_space page good answer_is
+
+        inside_is : (b : ℕ) → IsCanonical depth b → SameWay (levels depth) (suc (levels depth - level_of page.size)) page.base b → walk depth (with_word m' number (index_at (levels depth - (levels depth - level_of page.size)) page.base) w) root b ≡ as_walk (as_in page b)
+        inside_is b is_b same =
+            let at = (way_covers depth page good (levels depth - level_of page.size) whole_way b is_b same).1 in
+            let offset : page.phys + b % bytes_of page.size ≡ page.phys + (b - page.base) = omega (arith, at) in
+            walk_on b same ∙ ap (λ p. Mapped p (size_at (level_of page.size)) page.rights) offset ∙ ap (λ z. Mapped (page.phys + (b - page.base)) z page.rights) (size_same page.size)
+
+        pub space_is : IsSpaceOf depth (with_word m' number (index_at (levels depth - (levels depth - level_of page.size)) page.base) w) root (step depth limit space (Map page)).space
+        space_is = record {
+          is_space = step_space limit of.is_space (Map page) good;
+          translates = translates_changed depth m (with_word m' number (index_at (levels depth - (levels depth - level_of page.size)) page.base) w) root space (step depth limit space (Map page)).space page (as_in page) (levels depth - level_of page.size) looks of.translates good whole_way inside_is (λ b is_b apart. walk_off b apart);
+          counted =
+              let written = len_written m' number (index_at (levels depth - (levels depth - level_of page.size)) page.base) w (extended.open_at.tree.in_use (levels depth - level_of page.size) page.base number extended.open_at.reached) in
+              let count : table_count depth (step depth limit space (Map page)).space ≡ table_count depth (finite.insert space page.base page) = ap (λ (s : Stepped). table_count depth s.space) done in
+              omega (arith, written, extended.more, need_is space of, count);
+        }
+
+      pub map_table : (limit : ℕ) → finite.len m + (level - level_of page.size) ≤ limit → IsPageTable depth (with_word m' number index w) root
+      map_table limit room = subst (λ i. IsPageTable depth (with_word m' number i w) root) index_same (record {
+        tree = tree_new;
+        filled = filled_new;
+        some_space = ((step depth limit table.some_space.0 (Map page)).space, space_is limit room table.some_space.0 table.some_space.1);
+      })
+
+      pub map_step : (limit : ℕ) → finite.len m + (level - level_of page.size) ≤ limit → IsStep (page_table depth limit root m) (Map page) answers.Done (page_table depth limit root (with_word m' number index w))
+      map_step limit room = record {
+        same = refl;
+        steps = λ space is.
+            let of = space_of depth m root space table is.is_space is.translates in
+            let after = subst (λ i. IsSpaceOf depth (with_word m' number i w) root (step depth limit space (Map page)).space) index_same (space_is limit room space of) in
+            (sym (answer_is limit room space of), record { is_space = after.is_space; translates = after.translates });
+      }

@@ -1,0 +1,151 @@
+-- What a descent meets, as the code reads it, and the steps of a page table that follow.
+use Rattle.std.proofs.Common.{◌≡◌, ◌≢◌, ℕ, zero, suc, ◌+◌, ◌-◌, ◌%◌, ◌^◌, ◌<◌, ◌≤◌, List, Some, None, inl, inr, ⊎_elim, refl, sym, ap, subst, ◌∙◌, arith}
+use Rattle.std.specs.Prelude.{IsSome, slice_index}
+use Rattle.std.proofs.lemmas.Bool.{cases_lt, cases_eq}
+use Rattle.std.specs.FinMap as finite
+use Rattle.vs_types.specs.Depth.{levels, entry_bytes, index_at, IsCanonical}
+use Rattle.vs_types.specs.Entry.{meaning, size_at}
+use Rattle.vs_types.specs.Operation.{IsBase}
+use Rattle.vs_types.specs.Page.{level_of, bytes_of, IsPage}
+use Rattle.vs_types.specs.Space.{Space, Holds, IsSpace, page_at, table_count}
+use Rattle.vs_types.specs.Step.{step, Stepped}
+use Rattle.vs_walk.specs.Walk.{TranslatesAs}
+use Rattle.vs_types.specs.declared.depth.Depth.{Depth}
+use Rattle.vs_types.specs.declared.op.Action.{Action}
+use Rattle.vs_types.specs.declared.op.Action.TheVariants.{Map, Unmap, Protect}
+use Rattle.vs_types.specs.declared.page.Page.{Page}
+use Rattle.vs_types.specs.declared.page.Rights.{Rights}
+use Rattle.vs_types.specs.declared.page.Size.{Size}
+use Rattle.vs_types.specs.declared.entry.Meaning.{Meaning}
+use Rattle.vs_types.specs.declared.entry.Meaning.TheVariants as entry
+use Rattle.vs_types.specs.declared.answer.Answer.{Answer}
+use Rattle.vs_types.specs.declared.answer.Answer.TheVariants as answers
+use Rattle.vs_walk.specs.Memory.{Memory}
+use Rattle.vs_space.specs.Held.{with_word, IsWhole}
+use Rattle.vs_space.specs.Way.{found_at, table_at, table_in}
+use Rattle.vs_space.specs.Place.{IsPlace}
+use Rattle.vs_space.specs.Table.{PageTable, IsTableOf, IsStep, IsSpaceOf, IsPageTable}
+use Rattle.vs_space.proofs.Ways.{words_found}
+use Rattle.vs_space.proofs.Regions.{IsLeafPage}
+use Rattle.vs_space.proofs.Protects.{IsMet, space_of, absent_none, never_reserved, page_here, page_level, unmap_none, protect_none, unmap_inside, protect_inside, stays, answer_is, space_is, table_new}
+
+abbrev pub page_table : Depth → ℕ → ℕ → Memory → PageTable
+page_table depth limit root memory = record { depth = depth; limit = limit; root = root; memory = memory }
+
+pub met_of : (depth : Depth) (m : Memory) (root a lowest level : ℕ) (way : List ℕ) (e : Meaning) → 1 ≤ lowest → IsPlace depth m root a lowest level way e → IsMet depth m root a (levels depth - level) (slice_index way level) e
+met_of depth m root a lowest level way e some place =
+    let back : levels depth - (levels depth - level) ≡ level = omega (arith, place.below) in
+    record {
+      deep = omega (arith, place.above, place.below);
+      at = place.reached level (omega arith) place.below;
+      found = subst (λ l. found_at l m (slice_index way level) a ≡ Some e) (sym back) place.is;
+    }
+
+-- an entry of the lowest level leads to no table
+pub never_table : (word n : ℕ) (own : Rights) → meaning 1 word ≡ entry.Table n own → ⊥
+never_table word n own is = grind arith
+
+module _ (depth : Depth) (m : Memory) (root : ℕ) (table : IsPageTable depth m root) (base : ℕ) (canonical : IsCanonical depth base) (level : ℕ) (way : List ℕ) where
+  back : level ≤ levels depth → levels depth - (levels depth - level) ≡ level
+  back few = omega arith
+
+  -- what is no leaf at the end of the way is absent
+  pub absent_end : (e : Meaning) → IsPlace depth m root base 1 level way e → ((phys : ℕ) (own : Rights) → e ≢ entry.Leaf phys own) → e ≡ entry.Absent
+  absent_end entry.Absent place other = refl
+  absent_end entry.Reserved place other = absurd (never_reserved depth m root table base canonical _ _ (met_of depth m root base 1 level way entry.Reserved (omega arith) place))
+  absent_end (entry.Leaf phys own) place other = absurd (other phys own refl)
+  absent_end (entry.Table n own) place other = ⊎_elim
+      (λ (deep : 1 < level). let none : table_in (Some (entry.Table n own)) ≡ None = place.ends deep in cc)
+      (λ (last : level ≤ 1).
+      let one : level ≡ 1 = omega (arith, place.above) in
+      let words = words_found 1 m (slice_index way level) base (entry.Table n own) (subst (λ l. found_at l m (slice_index way level) base ≡ Some (entry.Table n own)) one place.is) in
+      absurd (never_table (slice_index words.0 (index_at 1 base)) n own words.2))
+      (cases_lt 1 level)
+
+  pub unmap_absent : (limit : ℕ) → IsPlace depth m root base 1 level way entry.Absent → IsStep (page_table depth limit root m) (Unmap base) answers.NotMapped (page_table depth limit root m)
+  unmap_absent limit place = stays (page_table depth limit root m) (Unmap base) answers.NotMapped (λ space is translates.
+      unmap_none depth m root table base canonical 0 root limit space (absent_none depth m root table base canonical _ _ space translates (met_of depth m root base 1 level way entry.Absent (omega arith) place)))
+
+  pub protect_absent : (limit : ℕ) (rights : Rights) → IsPlace depth m root base 1 level way entry.Absent → IsStep (page_table depth limit root m) (Protect base rights) answers.NotMapped (page_table depth limit root m)
+  protect_absent limit rights place = stays (page_table depth limit root m) (Protect base rights) answers.NotMapped (λ space is translates.
+      protect_none depth m root table base canonical 0 root limit space rights (absent_none depth m root table base canonical _ _ space translates (met_of depth m root base 1 level way entry.Absent (omega arith) place)))
+
+  module _ (phys : ℕ) (own : Rights) (place : IsPlace depth m root base 1 level way (entry.Leaf phys own)) where
+    pub met : IsMet depth m root base (levels depth - level) (slice_index way level) (entry.Leaf phys own)
+    met = met_of depth m root base 1 level way (entry.Leaf phys own) (omega arith) place
+
+    pub page_met : (space : Space) → IsSpace depth space → TranslatesAs depth m root space → (q : Page) × IsLeafPage depth space base (levels depth - level) phys own q
+    page_met space is translates = page_here depth m root table base canonical _ _ space is translates phys own met
+
+    pub level_met : (space : Space) (q : Page) → IsLeafPage depth space base (levels depth - level) phys own q → level_of q.size ≡ level
+    level_met space q leaf = sym (page_level depth m root table base canonical (levels depth - level) (slice_index way level) space phys own q leaf) ∙ back place.below
+
+    -- what may be written in the place of the leaf
+    pub leaf_again : (level_of (size_at level) ≡ level) × (phys % bytes_of (size_at level) ≡ 0) × (phys < 2 ^ 52)
+    leaf_again =
+        let of = table.some_space.1 in
+        let leaf = page_met table.some_space.0 of.is_space of.translates in
+        let same = level_met table.some_space.0 leaf.0 leaf.1 in
+        let size : leaf.0.size ≡ size_at level = leaf.1.size ∙ ap size_at same in
+        let aligned : phys % bytes_of (size_at level) ≡ 0 = subst (λ z. phys % bytes_of z ≡ 0) size (subst (λ p. p % bytes_of leaf.0.size ≡ 0) leaf.1.phys_is leaf.1.good.phys_aligned) in
+        (ap level_of (sym size) ∙ same, aligned, omega (arith, leaf.1.good.phys_range, leaf.1.phys_is))
+
+    base_met : (space : Space) (q : Page) → IsLeafPage depth space base (levels depth - level) phys own q → (bytes : ℕ) → bytes ≡ bytes_of (size_at level) → q.base ≡ base - base % bytes
+    base_met space q leaf bytes are =
+        let same = level_met space q leaf in
+        let size : bytes_of q.size ≡ bytes = ap bytes_of (leaf.size ∙ ap size_at same) ∙ sym are in
+        let offset : base % bytes_of q.size ≡ base % bytes = ap (λ n. base % n) size in
+        omega (arith, leaf.base)
+
+    apart_met : (space : Space) (q : Page) → IsLeafPage depth space base (levels depth - level) phys own q → (bytes : ℕ) → bytes ≡ bytes_of (size_at level) → base % bytes ≢ 0 → q.base ≢ base
+    apart_met space q leaf bytes are inside =
+        let same = level_met space q leaf in
+        let size : bytes_of q.size ≡ bytes = ap bytes_of (leaf.size ∙ ap size_at same) ∙ sym are in
+        let offset : base % bytes_of q.size ≡ base % bytes = ap (λ n. base % n) size in
+        λ e. inside (omega (arith, leaf.base))
+
+    pub unmap_in : (limit bytes : ℕ) → bytes ≡ bytes_of (size_at level) → base % bytes ≢ 0 → IsStep (page_table depth limit root m) (Unmap base) (answers.Inside (base - base % bytes)) (page_table depth limit root m)
+    unmap_in limit bytes are inside = stays (page_table depth limit root m) (Unmap base) (answers.Inside (base - base % bytes)) (λ space is translates.
+        let leaf = page_met space is translates in
+        unmap_inside depth m root table base canonical 0 root limit space leaf.0 leaf.1.here (apart_met space leaf.0 leaf.1 bytes are inside)
+        ∙ ap (λ b. let s : Stepped = record { space = space; answer = answers.Inside b } in s) (base_met space leaf.0 leaf.1 bytes are))
+
+    pub protect_in : (limit bytes : ℕ) (rights : Rights) → bytes ≡ bytes_of (size_at level) → base % bytes ≢ 0 → IsStep (page_table depth limit root m) (Protect base rights) (answers.Inside (base - base % bytes)) (page_table depth limit root m)
+    protect_in limit bytes rights are inside = stays (page_table depth limit root m) (Protect base rights) (answers.Inside (base - base % bytes)) (λ space is translates.
+        let leaf = page_met space is translates in
+        protect_inside depth m root table base canonical 0 root limit space rights leaf.0 leaf.1.here (apart_met space leaf.0 leaf.1 bytes are inside)
+        ∙ ap (λ b. let s : Stepped = record { space = space; answer = answers.Inside b } in s) (base_met space leaf.0 leaf.1 bytes are))
+
+    -- the table after the leaf has other rights
+    module _ (whole : IsWhole m) (aligned : base % 4096 ≡ 0) (rights : Rights) (w index bytes : ℕ) (leads : meaning (level_of (size_at level)) w ≡ entry.Leaf phys rights) (at : index ≡ index_at level base) (low : index < 512) (are : bytes ≡ bytes_of (size_at level)) (begins : base % bytes ≡ 0) where
+      own_level : levels depth - (levels depth - level) ≡ level
+      own_level = back place.below
+
+      index_same : index_at (levels depth - (levels depth - level)) base ≡ index
+      index_same = ap (λ l. index_at l base) own_level ∙ sym at
+
+      leads_here : meaning (levels depth - (levels depth - level)) w ≡ entry.Leaf phys rights
+      leads_here = ap (λ l. meaning l w) (own_level ∙ sym leaf_again.0) ∙ leads
+
+      low_here : index_at (levels depth - (levels depth - level)) base < 512
+      low_here = subst (λ i. i < 512) (sym index_same) low
+
+      begins_here : base % entry_bytes (levels depth - (levels depth - level)) ≡ 0
+      begins_here = ap (λ l. base % entry_bytes l) (own_level ∙ sym leaf_again.0) ∙ ap (λ n. base % n) (sym are) ∙ begins
+
+      good : IsBase depth base
+      good = record { canonical = canonical; aligned = aligned }
+
+      pub protect_table : IsPageTable depth (with_word m (slice_index way level) index w) root
+      protect_table = subst (λ i. IsPageTable depth (with_word m (slice_index way level) i w) root) index_same
+          (table_new depth m root table whole base good _ _ phys own rights met w leads_here low_here begins_here)
+
+      pub protect_step : (limit : ℕ) → IsStep (page_table depth limit root m) (Protect base rights) (answers.Changed own) (page_table depth limit root (with_word m (slice_index way level) index w))
+      protect_step limit = record {
+        same = refl;
+        steps = λ space is.
+            let of = space_of depth m root space table is.is_space is.translates in
+            let after = subst (λ i. IsSpaceOf depth (with_word m (slice_index way level) i w) root (step depth limit space (Protect base rights)).space) index_same
+            (space_is depth m root table whole base good _ _ phys own rights met w leads_here low_here begins_here limit space of) in
+            (sym (answer_is depth m root table whole base good _ _ phys own rights met w leads_here low_here begins_here limit space of), record { is_space = after.is_space; translates = after.translates });
+      }

@@ -1,0 +1,82 @@
+-- A page table with a root and nothing else.
+use Rattle.std.proofs.Common.{◌≡◌, ℕ, zero, suc, ◌+◌, ◌-◌, ◌<◌, ◌≤◌, List, Some, None, refl, sym, ap, subst, ◌∙◌, arith}
+use Rattle.std.specs.Prelude.{IsSome}
+use Rattle.vs_walk.specs.Walk.{walk_from}
+use Rattle.vs_walk.specs.declared.walk.Walk.TheVariants.{NotMapped}
+use Rattle.std.specs.FinMap as finite
+use Rattle.std.specs.Ordering.{nat_cmp}
+use Rattle.vs_types.specs.Depth.{levels, IsCanonical}
+use Rattle.vs_types.specs.Space.{Space, no_pages, IsSpace, table_count}
+use Rattle.vs_types.specs.declared.depth.Depth.{Depth}
+use Rattle.vs_types.specs.declared.depth.Depth.TheVariants.{Four}
+use Rattle.vs_types.specs.declared.page.Rights.{Rights}
+use Rattle.vs_types.specs.declared.entry.Meaning.{Meaning}
+use Rattle.vs_types.specs.declared.entry.Meaning.TheVariants as entry
+use Rattle.vs_types.proofs.Spaces.{no_pages_space, look_of_nothing}
+use Rattle.vs_arena.specs.Store.{zeros}
+use Rattle.vs_walk.specs.Memory.{Memory}
+use Rattle.vs_walk.specs.Walk.{walk, as_walk, TranslatesAs, all_rights}
+use Rattle.vs_space.specs.Way.{found_at, table_at, table_in}
+use Rattle.vs_space.specs.Tree.{IsTree, IsFilled}
+use Rattle.vs_space.specs.Table.{PageTable, IsTableOf, IsSpaceOf, IsPageTable}
+use Rattle.vs_space.proofs.Numbered.{get-insert_same, len-insert_free}
+use Rattle.vs_space.proofs.Ways.{table_first, table_next, none_past, walk_found}
+use Rattle.vs_space.proofs.Writes.{used_some}
+use Rattle.vs_space.proofs.Links.{found_in_zeros}
+use Rattle.vs_space.proofs.TableCounts.{tables_of_nothing}
+
+module _ (depth : Depth) (root : ℕ) where
+  abbrev alone : Memory
+  alone = finite.insert finite.empty root zeros
+
+  clear : finite.get alone root ≡ Some zeros
+  clear = get-insert_same finite.empty root zeros
+
+  none_below : (a : ℕ) → table_at (levels depth) alone root 1 a ≡ None
+  none_below a = table_next (levels depth) root alone 0 a root (table_first (levels depth) root alone a) ∙ ap table_in (found_in_zeros (levels depth - 0) alone root a clear)
+
+  only_root : (k a n : ℕ) → table_at (levels depth) alone root k a ≡ Some n → (k ≡ 0) × (n ≡ root)
+  only_root zero a n r = (refl, same n root (sym r ∙ table_first (levels depth) root alone a)) where
+    same : (x y : ℕ) → Some x ≡ Some y → x ≡ y
+    same x y e = cc
+  only_root (suc k) a n r =
+      let none = none_past (levels depth) root alone 1 k a (none_below a) in
+      let way : k + 1 ≡ suc k = omega arith in
+      let nowhere : table_at (levels depth) alone root (suc k) a ≡ None = subst (λ i. table_at (levels depth) alone root i a ≡ None) way none in
+      cc
+
+  tree_alone : IsTree (levels depth) alone root
+  tree_alone = record {
+    in_use = λ k a n r. subst (λ q. IsSome (finite.get alone q)) (sym (only_root k a n r).1) (used_some alone root zeros clear);
+    once = λ j k a b n r s. ((only_root j a n r).0 ∙ sym (only_root k b n s).0, λ i lt. absurd (omega (arith, (only_root j a n r).0)));
+    allows = λ k a n next own r found.
+        let there : found_at (levels depth - k) alone root a ≡ Some (entry.Table next own) = subst (λ q. found_at (levels depth - k) alone q a ≡ Some (entry.Table next own)) (only_root k a n r).1 found in
+        let wrong : Some (entry.Table next own) ≡ Some entry.Absent = sym there ∙ found_in_zeros (levels depth - k) alone root a clear in
+        cc;
+  }
+
+  positive : (d : Depth) → levels d ≡ suc (levels d - 1)
+  positive Four = refl
+
+  translates_alone : TranslatesAs depth alone root no_pages
+  translates_alone = λ a canonical.
+      subst (λ l. walk_from alone l root all_rights a ≡ NotMapped) (sym (positive depth))
+      (walk_found alone (levels depth - 1) root all_rights a entry.Absent (found_in_zeros (suc (levels depth - 1)) alone root a clear))
+      ∙ ap as_walk (sym (look_of_nothing a))
+
+  pub new_table : IsPageTable depth (finite.insert finite.empty root zeros) root
+  new_table = record {
+    tree = tree_alone;
+    filled = record { filled = λ k a n r nothing. let zero_steps = (only_root (suc k) a n r).0 in absurd (omega arith) };
+    some_space = (
+      no_pages,
+      record {
+        is_space = no_pages_space depth;
+        translates = translates_alone;
+        counted = len-insert_free finite.empty root zeros (finite.get-empty nat_cmp root) ∙ ap (λ n. n + 1) (finite.len-empty nat_cmp (List ℕ)) ∙ sym (tables_of_nothing depth);
+      },
+    );
+  }
+
+  pub new_is_empty : (limit : ℕ) → IsTableOf (record { depth = depth; limit = limit; root = root; memory = finite.insert finite.empty root zeros }) no_pages
+  new_is_empty limit = record { is_space = no_pages_space depth; translates = translates_alone }

@@ -1,0 +1,187 @@
+-- The frames of a store by their numbers.
+use Rattle.std.proofs.Common.{◌≡◌, ◌≢◌, ℕ, zero, suc, ◌+◌, ◌-◌, ◌<◌, ◌≤◌, Bool, true, false, cond, T, ◌&&◌, eqb, List, [], ◌∷◌, map, length, Option, Some, None, is_some, inl, inr, ⊎_elim, refl, sym, ap, subst, ◌∙◌, arith}
+use Rattle.std.proofs.lemmas.Bool.{cases_lt, cases_eq, eq-eqb, ne_eqb}
+use Rattle.std.proofs.lemmas.Option.{none-some}
+use Rattle.std.specs.Ordering.{nat_cmp, is_lt, is_eq, eq_by_cmp}
+use Rattle.std.specs.Cmp.{nat_cmp_total, nat_cmp_is, ranked, unsigned_tied}
+use Rattle.std.specs.declared.cmp.Ordering.TheVariants.{Less, Equal, Greater}
+use Rattle.std.specs.FinMap as finite
+use Rattle.std.specs.FinMap.Entries as entries
+use Rattle.std.specs.Prelude.{IsSome, option_map, unwrap_or, slice_index, slice_set}
+use Rattle.std.proofs.Common.{rules}
+use Rattle.std.proofs.lemmas.List.{length-set, length-replicate}
+use Rattle.vs_arena.specs.Store.{Store, IsInUse, IsFree, words_of, zeros}
+use Rattle.vs_arena.proofs.Stores.{get_in_use}
+use Rattle.vs_walk.specs.Memory.{Memory}
+use Rattle.vs_space.specs.Held.{numbered, Held, IsWhole, word_at, with_word}
+
+cmp_shift : (b x y : ℕ) → nat_cmp (b + x) (b + y) ≡ nat_cmp x y
+cmp_shift b x y = elim (nat_cmp x y) as (λ r. r ≡ nat_cmp x y → nat_cmp (b + x) (b + y) ≡ r) [
+  | Less ↦ λ e. let h = ranked x y Less e in sym (nat_cmp_is (b + x) (b + y) Less (omega arith))
+  | Equal ↦ λ e. let h = ranked x y Equal e in sym (nat_cmp_is (b + x) (b + y) Equal (omega arith))
+  | Greater ↦ λ e. let h = ranked x y Greater e in sym (nat_cmp_is (b + x) (b + y) Greater (omega arith))
+] refl
+
+abbrev shift : ℕ → List (ℕ × List ℕ) → List (ℕ × List ℕ)
+shift b es = map (λ e. (b + e.0, e.1)) es
+
+below_shift : (b x : ℕ) (es : List (ℕ × List ℕ)) → entries.below_all nat_cmp (b + x) (shift b es) ≡ entries.below_all nat_cmp x es
+below_shift b x [] = refl
+below_shift b x (e ∷ es) = let rest = below_shift b x es in let here = cmp_shift b x e.0 in cc
+
+sorted_shift : (b : ℕ) (es : List (ℕ × List ℕ)) → entries.is_sorted nat_cmp (shift b es) ≡ entries.is_sorted nat_cmp es
+sorted_shift b [] = refl
+sorted_shift b (e ∷ es) = let rest = sorted_shift b es in let here = below_shift b e.0 es in cc
+
+find_shift : (b q : ℕ) (es : List (ℕ × List ℕ)) → entries.find nat_cmp (b + q) (shift b es) ≡ entries.find nat_cmp q es
+find_shift b q [] = refl
+find_shift b q (e ∷ es) = let rest = find_shift b q es in let here = cmp_shift b q e.0 in cc
+
+find_below : (b q : ℕ) (es : List (ℕ × List ℕ)) → q < b → entries.find nat_cmp q (shift b es) ≡ None
+find_below b q [] h = refl
+find_below b q (e ∷ es) h =
+    let rest = find_below b q es h in
+    let here : Less ≡ nat_cmp q (b + e.0) = nat_cmp_is q (b + e.0) Less (omega arith) in
+    ap (λ r. cond (is_eq r) (Some e.1) (entries.find nat_cmp q (shift b es))) (sym here) ∙ rest
+
+sorted : (b : ℕ) (store : Store) → T (entries.is_sorted nat_cmp (shift b (finite.entries store)))
+sorted b store = subst T (sym (sorted_shift b (finite.entries store))) (finite.entries_sorted store)
+
+pub get_numbered : (base : ℕ) (store : Store) (index : ℕ) → finite.get (numbered base store) (base + index) ≡ finite.get store index
+unfolding numbered
+get_numbered base store index = finite.get-from_sorted nat_cmp _ _ (sorted base store) ∙ find_shift base index (finite.entries store) ∙ sym (finite.get-entries store index)
+
+pub get_below_base : (base : ℕ) (store : Store) (q : ℕ) → q < base → finite.get (numbered base store) q ≡ None
+unfolding numbered
+get_below_base base store q h = finite.get-from_sorted nat_cmp _ _ (sorted base store) ∙ find_below base q (finite.entries store) h
+
+length_shift : (b : ℕ) (es : List (ℕ × List ℕ)) → length (shift b es) ≡ length es
+length_shift b [] = refl
+length_shift b (e ∷ es) = ap suc (length_shift b es)
+
+pub len_numbered : (base : ℕ) (store : Store) → finite.len (numbered base store) ≡ finite.len store
+unfolding numbered
+len_numbered base store =
+    finite.len-entries _ ∙ ap length (finite.entries-from_sorted nat_cmp _ (sorted base store)) ∙ length_shift base (finite.entries store) ∙ sym (finite.len-entries store)
+
+pub get-insert : (m : Memory) (k : ℕ) (v : List ℕ) (q : ℕ) → finite.get (finite.insert m k v) q ≡ cond (eqb q k) (Some v) (finite.get m q)
+get-insert m k v q = finite.get-insert nat_cmp_total m k v q ∙ ap (λ b. cond b (Some v) (finite.get m q)) (unsigned_tied q k)
+
+pub get-remove : (m : Memory) (k q : ℕ) → finite.get (finite.remove m k) q ≡ cond (eqb q k) None (finite.get m q)
+get-remove m k q = finite.get-remove nat_cmp_total m k q ∙ ap (λ b. cond b None (finite.get m q)) (unsigned_tied q k)
+
+pub get-insert_same : (m : Memory) (k : ℕ) (v : List ℕ) → finite.get (finite.insert m k v) k ≡ Some v
+get-insert_same m k v = get-insert m k v k ∙ ap (λ b. cond b (Some v) (finite.get m k)) (eq-eqb k k refl)
+
+pub get-insert_other : (m : Memory) (k : ℕ) (v : List ℕ) (q : ℕ) → q ≢ k → finite.get (finite.insert m k v) q ≡ finite.get m q
+get-insert_other m k v q h = get-insert m k v q ∙ ap (λ b. cond b (Some v) (finite.get m q)) (ne_eqb q k h)
+
+pub get-remove_same : (m : Memory) (k : ℕ) → finite.get (finite.remove m k) k ≡ None
+get-remove_same m k = get-remove m k k ∙ ap (λ b. cond b None (finite.get m k)) (eq-eqb k k refl)
+
+pub get-remove_other : (m : Memory) (k q : ℕ) → q ≢ k → finite.get (finite.remove m k) q ≡ finite.get m q
+get-remove_other m k q h = get-remove m k q ∙ ap (λ b. cond b None (finite.get m q)) (ne_eqb q k h)
+
+pub len-insert_free : (m : Memory) (k : ℕ) (v : List ℕ) → finite.get m k ≡ None → finite.len (finite.insert m k v) ≡ finite.len m + 1
+len-insert_free m k v h = finite.len-insert nat_cmp_total m k v ∙ ap (λ o. cond (is_some o) (finite.len m) (finite.len m + 1)) h
+
+pub len-insert_used : (m : Memory) (k : ℕ) (v own : List ℕ) → finite.get m k ≡ Some own → finite.len (finite.insert m k v) ≡ finite.len m
+len-insert_used m k v own h = finite.len-insert nat_cmp_total m k v ∙ ap (λ o. cond (is_some o) (finite.len m) (finite.len m + 1)) h
+
+pub len-remove_used : (m : Memory) (k : ℕ) (own : List ℕ) → finite.get m k ≡ Some own → finite.len (finite.remove m k) + 1 ≡ finite.len m
+len-remove_used m k own h =
+    let fewer = finite.len-remove nat_cmp_total m k ∙ ap (λ o. cond (is_some o) (finite.len m - 1) (finite.len m)) h in
+    let some : finite.len m ≡ 0 → ⊥ = λ none. none-some own (sym (ap (λ (n : Memory). finite.get n k) (finite.empty_of_len m none) ∙ finite.get-empty nat_cmp k) ∙ h) in
+    omega arith
+
+-- two memories with the same frames at each number from the base on, and none below
+same_numbered : (base : ℕ) (m n : Memory) → ((q : ℕ) → q < base → finite.get m q ≡ finite.get n q) → ((i : ℕ) → finite.get m (base + i) ≡ finite.get n (base + i)) → m ≡ n
+same_numbered base m n below from = finite.same_map nat_cmp_total finite.nat_cmp-IsAntisymmetric m n (λ q.
+    ⊎_elim (λ low. below q low)
+    (λ high. let at : base + (q - base) ≡ q = omega arith in subst (λ k. finite.get m k ≡ finite.get n k) at (from (q - base)))
+    (cases_lt q base))
+
+pub numbered-insert : (base : ℕ) (store : Store) (index : ℕ) (words : List ℕ) → numbered base (finite.insert store index words) ≡ finite.insert (numbered base store) (base + index) words
+numbered-insert base store index words =
+    same_numbered base _ _
+    (λ q low. get_below_base base _ q low ∙ sym (get-insert_other _ _ words q (λ e. omega arith) ∙ get_below_base base store q low))
+    (λ i. get_numbered base _ i ∙ ⊎_elim
+    (λ (same : i ≡ index). subst (λ k. finite.get (finite.insert store index words) k ≡ finite.get (finite.insert (numbered base store) (base + index) words) (base + k)) (sym same) (get-insert_same store index words ∙ sym (get-insert_same (numbered base store) (base + index) words)))
+    (λ (other : i ≢ index). get-insert_other store index words i other ∙ sym (get-insert_other (numbered base store) (base + index) words (base + i) (λ e. other (omega arith)) ∙ get_numbered base store i))
+    (cases_eq i index))
+
+pub numbered-remove : (base : ℕ) (store : Store) (index : ℕ) → numbered base (finite.remove store index) ≡ finite.remove (numbered base store) (base + index)
+numbered-remove base store index =
+    same_numbered base _ _
+    (λ q low. get_below_base base _ q low ∙ sym (get-remove_other _ _ q (λ e. omega arith) ∙ get_below_base base store q low))
+    (λ i. get_numbered base _ i ∙ ⊎_elim
+    (λ (same : i ≡ index). subst (λ k. finite.get (finite.remove store index) k ≡ finite.get (finite.remove (numbered base store) (base + index)) (base + k)) (sym same) (get-remove_same store index ∙ sym (get-remove_same (numbered base store) (base + index))))
+    (λ (other : i ≢ index). get-remove_other store index i other ∙ sym (get-remove_other (numbered base store) (base + index) (base + i) (λ e. other (omega arith)) ∙ get_numbered base store i))
+    (cases_eq i index))
+
+pub numbered-empty : (base : ℕ) → numbered base finite.empty ≡ finite.empty
+numbered-empty base = finite.empty_of_len _ (len_numbered base _ ∙ finite.len-empty nat_cmp (List ℕ))
+
+-- ---- frames of the store as frames of the memory
+
+pub none_at : (base : ℕ) (store : Store) (number : ℕ) → ((f : ℕ) → base + f ≡ number → IsFree store f) → finite.get (numbered base store) number ≡ None
+none_at base store number free = ⊎_elim
+    (λ low. get_below_base base store number low)
+    (λ high. let at : base + (number - base) ≡ number = omega arith in subst (λ q. finite.get (numbered base store) q ≡ None) at (get_numbered base store (number - base) ∙ free (number - base) at))
+    (cases_lt number base)
+
+pub some_at : (base : ℕ) (store : Store) (number f : ℕ) → base + f ≡ number → IsInUse store f → finite.get (numbered base store) number ≡ Some (words_of store f)
+some_at base store number f at used = subst (λ q. finite.get (numbered base store) q ≡ Some (words_of store f)) at (get_numbered base store f ∙ get_in_use store f used)
+
+pub not_unused : (base : ℕ) (store : Store) (number : ℕ) → IsSome (finite.get (numbered base store) number) → ((f : ℕ) → base + f ≡ number → IsFree store f) → ⊥
+not_unused base store number used free = let none : IsSome {T = List ℕ} None = subst IsSome (none_at base store number free) used in cc
+
+pub word_numbered : (base : ℕ) (store : Store) (number f index : ℕ) → base + f ≡ number → IsInUse store f → word_at (numbered base store) number index ≡ Some (slice_index (words_of store f) index)
+unfolding word_at
+word_numbered base store number f index at used = ap (option_map (λ words. slice_index words index)) (some_at base store number f at used)
+
+pub with_word_numbered : (base : ℕ) (store : Store) (number f index word : ℕ) → base + f ≡ number → IsInUse store f → numbered base (finite.insert store f (slice_set (words_of store f) index word)) ≡ with_word (numbered base store) number index word
+unfolding with_word
+with_word_numbered base store number f index word at used =
+    numbered-insert base store f _
+    ∙ ap (λ n. finite.insert (numbered base store) n (slice_set (words_of store f) index word)) at
+    ∙ ap (λ (o : Option (List ℕ)). finite.insert (numbered base store) number (slice_set (unwrap_or o []) index word)) (sym (some_at base store number f at used))
+
+abbrev pub held : ℕ → Memory → Held
+held limit memory = record { limit = limit; memory = memory }
+
+pub whole_numbered : (base : ℕ) (store : Store) → IsWhole store → IsWhole (numbered base store)
+whole_numbered base store is = record {
+  whole = λ n words got. ⊎_elim
+      (λ low. absurd (none-some words (sym (get_below_base base store n low) ∙ got)))
+      (λ high. is.whole (n - base) words (sym (get_numbered base store (n - base)) ∙ (subst (λ q. finite.get (numbered base store) q ≡ Some words) (omega arith) got)))
+      (cases_lt n base);
+}
+
+pub whole-empty : (store : Store) → store ≡ finite.empty → IsWhole store
+whole-empty store e = record { whole = λ i words got. absurd (none-some words (sym (ap (λ (s : Store). finite.get s i) e ∙ finite.get-empty nat_cmp i) ∙ got)) }
+
+pub whole-insert : (store : Store) (f : ℕ) (own : List ℕ) → length own ≡ 512 → IsWhole store → IsWhole (finite.insert store f own)
+whole-insert store f own long is = record {
+  whole = λ i words got. ⊎_elim
+      (λ (same : i ≡ f). let mine : Some own ≡ Some words = sym (get-insert_same store f own) ∙ subst (λ k. finite.get (finite.insert store f own) k ≡ Some words) same got in let one : own ≡ words = cc in subst (λ (ws : List ℕ). length ws ≡ 512) one long)
+      (λ (other : i ≢ f). is.whole i words (sym (get-insert_other store f own i other) ∙ got))
+      (cases_eq i f);
+}
+
+pub whole-set : (store : Store) (f index word : ℕ) → IsInUse store f → IsWhole store → IsWhole (finite.insert store f (slice_set (words_of store f) index word))
+whole-set store f index word used is = whole-insert store f _ (length-set (words_of store f) index word ∙ is.whole f (words_of store f) (get_in_use store f used)) is
+
+pub whole-zeros : (store : Store) (f : ℕ) → IsWhole store → IsWhole (finite.insert store f zeros)
+whole-zeros store f is = whole-insert store f zeros (length-replicate {A = ℕ} 512 0) is
+
+pub whole-remove : (store : Store) (f : ℕ) → IsWhole store → IsWhole (finite.remove store f)
+whole-remove store f is = record {
+  whole = λ i words got. ⊎_elim
+      (λ (same : i ≡ f). absurd (none-some words (sym (get-remove_same store f) ∙ subst (λ k. finite.get (finite.remove store f) k ≡ Some words) same got)))
+      (λ (other : i ≢ f). is.whole i words (sym (get-remove_other store f i other) ∙ got))
+      (cases_eq i f);
+}
+
+pub stored : (limit limit' base base' : ℕ) (store' : Store) (m : Memory) → limit' ≡ limit → base' ≡ base → numbered base store' ≡ m → held limit' (numbered base' store') ≡ held limit m
+stored limit limit' base base' store' m same_limit same_base e = rw (same_limit, same_base, e) refl

@@ -1,0 +1,185 @@
+-- What a page table is after the rights of a page have changed.
+use Rattle.std.proofs.Common.{◌≡◌, ◌≢◌, ℕ, zero, suc, ◌+◌, ◌-◌, ◌%◌, ◌<◌, ◌≤◌, Some, None, inl, inr, ⊎_elim, refl, sym, ap, subst, ◌∙◌, arith}
+use Rattle.std.specs.Prelude.{IsSome}
+use Rattle.std.specs.FinMap as finite
+use Rattle.vs_types.specs.Depth.{levels, entry_bytes, index_at, IsCanonical}
+use Rattle.vs_types.specs.Entry.{meaning, size_at}
+use Rattle.vs_types.specs.Operation.{IsBase}
+use Rattle.vs_types.specs.Page.{level_of, bytes_of, IsPage}
+use Rattle.vs_types.specs.Space.{Space, Holds, IsSpace, page_at, table_count}
+use Rattle.vs_types.specs.Step.{step, look, Stepped}
+use Rattle.vs_types.specs.Laws.{as_in, LooksChanged}
+use Rattle.vs_types.specs.declared.depth.Depth.{Depth}
+use Rattle.vs_types.specs.declared.op.Action.{Action}
+use Rattle.vs_types.specs.declared.op.Action.TheVariants.{Map, Unmap, Protect}
+use Rattle.vs_types.specs.declared.page.Page.{Page}
+use Rattle.vs_types.specs.declared.page.Rights.{Rights}
+use Rattle.vs_types.specs.declared.page.Size.{Size}
+use Rattle.vs_types.specs.declared.entry.Meaning.{Meaning}
+use Rattle.vs_types.specs.declared.entry.Meaning.TheVariants as entry
+use Rattle.vs_types.specs.declared.answer.Answer.{Answer}
+use Rattle.vs_types.specs.declared.answer.Answer.TheVariants as answers
+use Rattle.vs_types.proofs.Steps.{protect_cases, unmap_cases, step_space}
+use Rattle.vs_types.proofs.Looks.{changed_looks}
+use Rattle.vs_types.proofs.Tables.{protect_tables}
+use Rattle.vs_types.proofs.Spaces.{page_at_means}
+use Rattle.vs_walk.specs.Memory.{Memory}
+use Rattle.vs_walk.specs.Walk.{walk, as_walk, TranslatesAs}
+use Rattle.vs_walk.specs.declared.walk.Walk.TheVariants.{NotMapped, Mapped}
+use Rattle.vs_walk.proofs.Translates.{one_space, not_reserved}
+use Rattle.vs_space.specs.Held.{with_word, IsWhole}
+use Rattle.vs_space.specs.Way.{found_at, table_at, table_in, SameWay}
+use Rattle.vs_space.specs.Tree.{IsTree, IsFilled}
+use Rattle.vs_space.specs.Table.{PageTable, IsTableOf, IsStep, IsSpaceOf, IsPageTable}
+use Rattle.vs_space.proofs.Ways.{walk_ends}
+use Rattle.vs_space.proofs.Writes.{table_here, found_on_way, walk_off_way, len_written}
+use Rattle.vs_space.proofs.Trees.{tree_write, but_none, but_write, filled_by}
+use Rattle.vs_space.proofs.Regions.{IsLeafPage, leaf_page, nothing_at, translates_changed, way_covers}
+
+-- a page table is that of just one space, which has as many tables as there are
+pub space_of : (depth : Depth) (m : Memory) (root : ℕ) (space : Space) → IsPageTable depth m root → IsSpace depth space → TranslatesAs depth m root space → IsSpaceOf depth m root space
+space_of depth m root space table is translates =
+    let own = table.some_space.1 in
+    let same : table.some_space.0 ≡ space = one_space depth m root table.some_space.0 space own.is_space is own.translates translates in
+    record { is_space = is; translates = translates; counted = own.counted ∙ ap (table_count depth) same }
+
+-- ---- what is met on the way of an address after k tables
+
+pub record IsMet (depth : Depth) (m : Memory) (root a k n : ℕ) (e : Meaning) : Type 0 where
+  pub deep : k < levels depth
+  pub at : table_at (levels depth) m root k a ≡ Some n
+  pub found : found_at (levels depth - k) m n a ≡ Some e
+
+module _ (depth : Depth) (m : Memory) (root : ℕ) (table : IsPageTable depth m root) (base : ℕ) (canonical : IsCanonical depth base) (k n : ℕ) where
+  walk_met : (e : Meaning) → IsMet depth m root base k n e → (left : ℕ) × (k + suc left ≡ levels depth) × (found_at (suc left) m n base ≡ Some e)
+  walk_met e met =
+      let level : levels depth - k ≡ suc (levels depth - k - 1) = omega (arith, met.deep) in
+      (levels depth - k - 1, omega (arith, met.deep), subst (λ l. found_at l m n base ≡ Some e) level met.found)
+
+  -- an absent entry: nothing is mapped there
+  pub absent_walk : IsMet depth m root base k n entry.Absent → walk depth m root base ≡ NotMapped
+  absent_walk met = let low = walk_met entry.Absent met in walk_ends (levels depth) root m table.tree.allows base k low.0 n entry.Absent low.1 met.at low.2
+
+  pub absent_none : (space : Space) → TranslatesAs depth m root space → IsMet depth m root base k n entry.Absent → page_at space base ≡ None
+  absent_none space translates met = nothing_at depth m root space base translates canonical (absent_walk met)
+
+  -- no entry has a reserved bit set
+  pub never_reserved : IsMet depth m root base k n entry.Reserved → ⊥
+  never_reserved met =
+      let low = walk_met entry.Reserved met in
+      not_reserved depth m root table.some_space.0 base table.some_space.1.translates canonical (walk_ends (levels depth) root m table.tree.allows base k low.0 n entry.Reserved low.1 met.at low.2)
+
+  -- a leaf: its page
+  pub page_here : (space : Space) → IsSpace depth space → TranslatesAs depth m root space → (phys : ℕ) (own : Rights) → IsMet depth m root base k n (entry.Leaf phys own) → (q : Page) × IsLeafPage depth space base k phys own q
+  page_here space is translates phys own met =
+      let low = walk_met (entry.Leaf phys own) met in
+      leaf_page depth m root space is translates table.tree base k low.0 n phys own canonical low.1 met.at low.2
+
+  level_is : (size : Size) → k + level_of size ≡ levels depth → levels depth - k ≡ level_of size
+  level_is size e = omega arith
+
+  -- the page's entry is at its level
+  pub page_level : (space : Space) (phys : ℕ) (own : Rights) (q : Page) → IsLeafPage depth space base k phys own q → levels depth - k ≡ level_of q.size
+  page_level space phys own q leaf = level_is q.size leaf.level
+
+  -- ---- the answers that change nothing
+
+  pub unmap_none : (limit : ℕ) (space : Space) → page_at space base ≡ None → step depth limit space (Unmap base) ≡ record { space = space; answer = answers.NotMapped }
+  unmap_none limit space none = unmap_cases (λ s. s ≡ record { space = space; answer = answers.NotMapped }) depth limit space base (λ e. refl) (λ q e same. absurd (cc)) (λ q e differs. absurd (cc))
+
+  pub protect_none : (limit : ℕ) (space : Space) (rights : Rights) → page_at space base ≡ None → step depth limit space (Protect base rights) ≡ record { space = space; answer = answers.NotMapped }
+  protect_none limit space rights none = protect_cases (λ s. s ≡ record { space = space; answer = answers.NotMapped }) depth limit space base rights (λ e. refl) (λ q e same. absurd (cc)) (λ q e differs. absurd (cc))
+
+  pub unmap_inside : (limit : ℕ) (space : Space) (q : Page) → page_at space base ≡ Some q → q.base ≢ base → step depth limit space (Unmap base) ≡ record { space = space; answer = answers.Inside q.base }
+  unmap_inside limit space q here apart = unmap_cases (λ s. s ≡ record { space = space; answer = answers.Inside q.base }) depth limit space base (λ e. absurd (cc))
+      (λ p e same. let one : p ≡ q = cc in absurd (apart (sym (ap (λ (z : Page). z.base) one) ∙ same)))
+      (λ p e differs. let one : p ≡ q = cc in ap (λ (z : Page). let s : Stepped = record { space = space; answer = answers.Inside z.base } in s) one)
+
+  pub protect_inside : (limit : ℕ) (space : Space) (rights : Rights) (q : Page) → page_at space base ≡ Some q → q.base ≢ base → step depth limit space (Protect base rights) ≡ record { space = space; answer = answers.Inside q.base }
+  protect_inside limit space rights q here apart = protect_cases (λ s. s ≡ record { space = space; answer = answers.Inside q.base }) depth limit space base rights (λ e. absurd (cc))
+      (λ p e same. let one : p ≡ q = cc in absurd (apart (sym (ap (λ (z : Page). z.base) one) ∙ same)))
+      (λ p e differs. let one : p ≡ q = cc in ap (λ (z : Page). let s : Stepped = record { space = space; answer = answers.Inside z.base } in s) one)
+
+  pub protect_changes : (limit : ℕ) (space : Space) (rights : Rights) (q : Page) → page_at space base ≡ Some q → q.base ≡ base → (step depth limit space (Protect base rights)).answer ≡ answers.Changed q.rights
+  protect_changes limit space rights q here same = protect_cases (λ s. s.answer ≡ answers.Changed q.rights) depth limit space base rights (λ e. absurd (cc))
+      (λ p e is. let one : p ≡ q = cc in ap (λ (z : Page). answers.Changed z.rights) one)
+      (λ p e differs. let one : p ≡ q = cc in absurd (differs (ap (λ (z : Page). z.base) one ∙ same)))
+
+-- a table that doesn't change makes a step whose space stays
+pub stays : (old : PageTable) (action : Action) (answer : Answer) → ((space : Space) → IsSpace old.depth space → TranslatesAs old.depth old.memory old.root space → step old.depth old.limit space action ≡ record { space = space; answer = answer }) → IsStep old action answer old
+stays old action answer says = record {
+  same = refl;
+  steps = λ space is.
+      let e = says space is.is_space is.translates in
+      (sym (ap (λ (s : Stepped). s.answer) e), subst (IsTableOf old) (sym (ap (λ (s : Stepped). s.space) e)) is);
+}
+
+-- ---- the rights of a leaf change
+
+module _ (depth : Depth) (m : Memory) (root : ℕ) (table : IsPageTable depth m root) (whole : IsWhole m) (base : ℕ) (good : IsBase depth base) (k n phys : ℕ) (own rights : Rights) (met : IsMet depth m root base k n (entry.Leaf phys own)) (w : ℕ) (leads : meaning (levels depth - k) w ≡ entry.Leaf phys rights) (low : index_at (levels depth - k) base < 512) (aligned : base % entry_bytes (levels depth - k) ≡ 0) where
+  abbrev new : Memory
+  new = with_word m n (index_at (levels depth - k) base) w
+
+  ends : table_in (Some (meaning (levels depth - k) w)) ≡ None
+  ends = ap (λ e. table_in (Some e)) leads
+
+  tree_new : IsTree (levels depth) new root
+  tree_new = tree_write (levels depth) root m table.tree whole k base n met.at w low ends
+
+  -- how an address of the page is walked
+  walk_new : (b : ℕ) → SameWay (levels depth) (suc k) base b → walk depth new root b ≡ Mapped (phys + b % entry_bytes (levels depth - k)) (size_at (levels depth - k)) rights
+  walk_new b same =
+      let level : levels depth - k ≡ suc (levels depth - k - 1) = omega (arith, met.deep) in
+      let found = found_on_way (levels depth) root m table.tree whole k base n met.at w b low same ∙ ap Some leads in
+      subst (λ l. walk depth new root b ≡ Mapped (phys + b % entry_bytes l) (size_at l) rights) (sym level)
+      (walk_ends (levels depth) root new tree_new.allows b k (levels depth - k - 1) n (entry.Leaf phys rights) (omega (arith, met.deep)) (table_here (levels depth) root m table.tree whole k base n met.at w b same) (subst (λ l. found_at l new n b ≡ Some (entry.Leaf phys rights)) level found))
+
+  walk_off : (b : ℕ) → (SameWay (levels depth) (suc k) base b → ⊥) → walk depth new root b ≡ walk depth m root b
+  walk_off b apart = walk_off_way (levels depth) root m table.tree whole k base n met.at w b apart
+
+  filled_new : IsFilled depth new root
+  filled_new = filled_by depth new root base (but_write depth root m table.tree whole k base n met.at w low ends (but_none base table.filled)) good.canonical (λ none. let walked = walk_new base (λ i lt. refl) in cc)
+
+  module _ (limit : ℕ) (space : Space) (of : IsSpaceOf depth m root space) where
+    leaf : (q : Page) × IsLeafPage depth space base k phys own q
+    leaf = page_here depth m root table base good.canonical k n space of.is_space of.translates phys own met
+
+    q : Page
+    q = leaf.0
+
+    level : levels depth - k ≡ level_of leaf.0.size
+    level = page_level depth m root table base good.canonical k n space phys own leaf.0 leaf.1
+
+    begins : leaf.0.base ≡ base
+    begins =
+        let zero_here : base % bytes_of leaf.0.size ≡ 0 = subst (λ l. base % entry_bytes l ≡ 0) level aligned in
+        omega (arith, leaf.1.base)
+
+    pub answer_is : (step depth limit space (Protect base rights)).answer ≡ answers.Changed own
+    answer_is = protect_changes depth m root table base good.canonical k n limit space rights leaf.0 leaf.1.here begins ∙ ap answers.Changed leaf.1.rights
+
+    looks : LooksChanged leaf.0 (as_in (record leaf.0 { rights = rights })) space (step depth limit space (Protect base rights)).space
+    looks = subst (λ a. LooksChanged leaf.0 (as_in (record leaf.0 { rights = rights })) space (step depth limit space (Protect a rights)).space) begins
+        (changed_looks limit of.is_space leaf.0 rights own leaf.1.held (subst (λ a. (step depth limit space (Protect a rights)).answer ≡ answers.Changed own) (sym begins) answer_is))
+
+    inside_is : (b : ℕ) → IsCanonical depth b → SameWay (levels depth) (suc k) leaf.0.base b → walk depth new root b ≡ as_walk (as_in (record leaf.0 { rights = rights }) b)
+    inside_is b canonical same =
+        let at = (way_covers depth leaf.0 leaf.1.good k leaf.1.level b canonical same).1 in
+        let offset : phys + b % entry_bytes (levels depth - k) ≡ leaf.0.phys + (b - leaf.0.base) = subst (λ l. phys + b % entry_bytes l ≡ leaf.0.phys + (b - leaf.0.base)) (sym level) (omega (arith, at, leaf.1.phys_is)) in
+        let size : size_at (levels depth - k) ≡ leaf.0.size = ap size_at level ∙ sym leaf.1.size in
+        walk_new b (subst (λ a. SameWay (levels depth) (suc k) a b) begins same) ∙ ap (λ p. Mapped p (size_at (levels depth - k)) rights) offset ∙ ap (λ z. Mapped (leaf.0.phys + (b - leaf.0.base)) z rights) size
+
+    pub space_is : IsSpaceOf depth new root (step depth limit space (Protect base rights)).space
+    space_is = record {
+      is_space = step_space limit of.is_space (Protect base rights) good;
+      translates = translates_changed depth m new root space (step depth limit space (Protect base rights)).space leaf.0 (as_in (record leaf.0 { rights = rights })) k looks of.translates leaf.1.good leaf.1.level inside_is
+          (λ b canonical apart. walk_off b (λ same. apart (subst (λ a. SameWay (levels depth) (suc k) a b) (sym begins) same)));
+      counted = len_written m n (index_at (levels depth - k) base) w (table.tree.in_use k base n met.at) ∙ of.counted ∙ sym (protect_tables limit of.is_space base rights);
+    }
+
+  pub table_new : IsPageTable depth new root
+  table_new = record {
+    tree = tree_new;
+    filled = filled_new;
+    some_space = ((step depth 0 table.some_space.0 (Protect base rights)).space, space_is 0 table.some_space.0 table.some_space.1);
+  }

@@ -1,0 +1,210 @@
+-- What a page table is after a page was taken out.
+use Rattle.std.proofs.Common.{◌≡◌, ◌≢◌, ℕ, zero, suc, ◌+◌, ◌-◌, ◌%◌, ◌<◌, ◌≤◌, List, Some, None, inl, inr, ⊎_elim, refl, sym, ap, subst, ◌∙◌, arith}
+use Rattle.std.specs.Prelude.{IsSome, slice_index}
+use Rattle.std.specs.FinMap as finite
+use Rattle.vs_types.specs.Depth.{levels, entry_bytes, index_at, IsCanonical}
+use Rattle.vs_types.specs.Entry.{meaning, size_at}
+use Rattle.vs_types.specs.Operation.{IsBase}
+use Rattle.vs_types.specs.Page.{level_of, bytes_of, IsPage}
+use Rattle.vs_types.specs.Space.{Space, Holds, IsSpace, page_at, table_count}
+use Rattle.vs_types.specs.Step.{step, look, Stepped}
+use Rattle.vs_types.specs.Laws.{LooksChanged}
+use Rattle.vs_types.specs.declared.depth.Depth.{Depth}
+use Rattle.vs_types.specs.declared.op.Action.{Action}
+use Rattle.vs_types.specs.declared.op.Action.TheVariants.{Map, Unmap, Protect}
+use Rattle.vs_types.specs.declared.page.Page.{Page}
+use Rattle.vs_types.specs.declared.page.Rights.{Rights}
+use Rattle.vs_types.specs.declared.page.Size.{Size}
+use Rattle.vs_types.specs.declared.entry.Meaning.{Meaning}
+use Rattle.vs_types.specs.declared.entry.Meaning.TheVariants as entry
+use Rattle.vs_types.specs.declared.answer.Answer.{Answer}
+use Rattle.vs_types.specs.declared.answer.Answer.TheVariants as answers
+use Rattle.vs_types.proofs.Steps.{unmap_cases, step_space}
+use Rattle.vs_types.proofs.Looks.{removed_looks}
+use Rattle.vs_types.proofs.Spaces.{page_at_means, remove_cases, remove_space}
+use Rattle.vs_walk.specs.Memory.{Memory}
+use Rattle.vs_walk.specs.Walk.{walk, as_walk, TranslatesAs}
+use Rattle.vs_walk.specs.declared.walk.Walk.TheVariants.{NotMapped, Mapped, Reserved}
+use Rattle.vs_walk.proofs.Translates.{not_reserved}
+use Rattle.vs_space.specs.Held.{with_word, IsWhole}
+use Rattle.vs_space.specs.Way.{found_at, table_at, table_in, SameWay}
+use Rattle.vs_space.specs.Tree.{IsTree, IsFilled, NothingUnder}
+use Rattle.vs_space.specs.Prune.{IsFilledBut, IsCut, IsPruned}
+use Rattle.vs_space.specs.Place.{IsPlace}
+use Rattle.vs_space.specs.Table.{PageTable, IsTableOf, IsStep, IsSpaceOf, IsPageTable}
+use Rattle.vs_space.proofs.Ways.{walk_ends}
+use Rattle.vs_space.proofs.Writes.{table_here, table_above, found_on_way, walk_off_way, len_written, same_or_not}
+use Rattle.vs_space.proofs.Trees.{tree_write, but_none, but_write}
+use Rattle.vs_space.proofs.Regions.{IsLeafPage, nothing_at, translates_changed}
+use Rattle.vs_space.proofs.Protects.{IsMet, space_of}
+use Rattle.vs_space.proofs.TableCounts.{put_back, count_added}
+use Rattle.vs_space.proofs.Meets.{page_table, met_of, page_met, level_met, leaf_again}
+
+-- the unmap of the page that begins there
+unmap_removes : (depth : Depth) (limit : ℕ) (space : Space) (base : ℕ) (q : Page) → page_at space base ≡ Some q → q.base ≡ base → step depth limit space (Unmap base) ≡ record { space = finite.remove space base; answer = answers.Removed q.phys q.size q.rights }
+unmap_removes depth limit space base q here same = unmap_cases (λ s. s ≡ record { space = finite.remove space base; answer = answers.Removed q.phys q.size q.rights }) depth limit space base (λ e. absurd (cc))
+    (λ p e is. let one : p ≡ q = cc in ap (λ (z : Page). let s : Stepped = record { space = finite.remove space base; answer = answers.Removed z.phys z.size z.rights } in s) one)
+    (λ p e differs. let one : p ≡ q = cc in absurd (differs (ap (λ (z : Page). z.base) one ∙ same)))
+
+module _ (depth : Depth) (m : Memory) (root : ℕ) (table : IsPageTable depth m root) (base : ℕ) (canonical : IsCanonical depth base) (level : ℕ) (way : List ℕ) (phys : ℕ) (own : Rights) (place : IsPlace depth m root base 1 level way (entry.Leaf phys own))
+    (whole : IsWhole m) (bytes : ℕ) (are : bytes ≡ bytes_of (size_at level)) (begins : base % bytes ≡ 0) where
+  k : ℕ
+  k = levels depth - level
+
+  back : levels depth - (levels depth - level) ≡ level
+  back = omega (arith, place.below)
+
+  deep : levels depth - level < levels depth
+  deep = omega (arith, place.above, place.below)
+
+  at : table_at (levels depth) m root (levels depth - level) base ≡ Some (slice_index way level)
+  at = place.reached level (omega arith) place.below
+
+  low : index_at (levels depth - (levels depth - level)) base < 512
+  low = omega arith
+
+  abbrev cleared : ℕ → Memory
+  cleared i = with_word m (slice_index way level) i 0
+
+  abbrev cut : Memory
+  cut = with_word m (slice_index way level) (index_at (levels depth - (levels depth - level)) base) 0
+
+  -- the word 0 is absent
+  ends : table_in (Some (meaning (levels depth - (levels depth - level)) 0)) ≡ None
+  ends = refl
+
+  tree_cut : IsTree (levels depth) (with_word m (slice_index way level) (index_at (levels depth - (levels depth - level)) base) 0) root
+  tree_cut = tree_write (levels depth) root m table.tree whole (levels depth - level) base (slice_index way level) at 0 low ends
+
+  found_cut : (b : ℕ) → SameWay (levels depth) (suc (levels depth - level)) base b → found_at (levels depth - (levels depth - level)) (with_word m (slice_index way level) (index_at (levels depth - (levels depth - level)) base) 0) (slice_index way level) b ≡ Some entry.Absent
+  found_cut b same = found_on_way (levels depth) root m table.tree whole (levels depth - level) base (slice_index way level) at 0 b low same
+
+  walk_on : (b : ℕ) → SameWay (levels depth) (suc (levels depth - level)) base b → walk depth (with_word m (slice_index way level) (index_at (levels depth - (levels depth - level)) base) 0) root b ≡ NotMapped
+  walk_on b same =
+      let up : levels depth - (levels depth - level) ≡ suc (level - 1) = omega (arith, place.above, place.below) in
+      walk_ends (levels depth) root (with_word m (slice_index way level) (index_at (levels depth - (levels depth - level)) base) 0) tree_cut.allows b (levels depth - level) (level - 1) (slice_index way level) entry.Absent (omega (arith, place.above, place.below))
+      (table_here (levels depth) root m table.tree whole (levels depth - level) base (slice_index way level) at 0 b same)
+      (subst (λ l. found_at l (with_word m (slice_index way level) (index_at (levels depth - (levels depth - level)) base) 0) (slice_index way level) b ≡ Some entry.Absent) up (found_cut b same))
+
+  walk_off : (b : ℕ) → (SameWay (levels depth) (suc (levels depth - level)) base b → ⊥) → walk depth (with_word m (slice_index way level) (index_at (levels depth - (levels depth - level)) base) 0) root b ≡ walk depth m root b
+  walk_off b apart = walk_off_way (levels depth) root m table.tree whole (levels depth - level) base (slice_index way level) at 0 b apart
+
+  faultless_cut : (b : ℕ) → IsCanonical depth b → walk depth (with_word m (slice_index way level) (index_at (levels depth - (levels depth - level)) base) 0) root b ≢ Reserved
+  faultless_cut b is_b reserved = ⊎_elim
+      (λ same. let wrong : NotMapped ≡ Reserved = sym (walk_on b same) ∙ reserved in cc)
+      (λ apart. not_reserved depth m root table.some_space.0 b table.some_space.1.translates is_b (sym (walk_off b apart) ∙ reserved))
+      (same_or_not (levels depth) (suc (levels depth - level)) base b)
+
+  is_cut : IsCut depth (with_word m (slice_index way level) (index_at (levels depth - (levels depth - level)) base) 0) root base level way
+  is_cut = record {
+    tree = tree_cut;
+    filled = but_write depth root m table.tree whole (levels depth - level) base (slice_index way level) at 0 low ends (but_none base table.filled);
+    some = place.above;
+    below = place.below;
+    reached = λ j from to. table_above (levels depth) root m table.tree whole (levels depth - level) base (slice_index way level) at 0 base (levels depth - j) (omega arith) ∙ place.reached j from to;
+    absent = subst (λ l. found_at l (with_word m (slice_index way level) (index_at (levels depth - (levels depth - level)) base) 0) (slice_index way level) base ≡ Some entry.Absent) back (found_cut base (λ i lt. refl));
+  }
+
+  index_same : (index : ℕ) → index ≡ index_at level base → index_at (levels depth - (levels depth - level)) base ≡ index
+  index_same index is = ap (λ l. index_at l base) back ∙ sym is
+
+  pub cut_here : (index : ℕ) → index ≡ index_at level base → IsCut depth (with_word m (slice_index way level) index 0) root base level way
+  cut_here index is = subst (λ i. IsCut depth (with_word m (slice_index way level) i 0) root base level way) (index_same index is) is_cut
+
+  pub faultless_here : (index : ℕ) → index ≡ index_at level base → (b : ℕ) → IsCanonical depth b → walk depth (with_word m (slice_index way level) index 0) root b ≢ Reserved
+  faultless_here index is = subst (λ i. (b : ℕ) → IsCanonical depth b → walk depth (with_word m (slice_index way level) i 0) root b ≢ Reserved) (index_same index is) faultless_cut
+
+  -- ---- the tables after what is left empty was given back
+
+  module _ (m' : Memory) (up : ℕ) (pruned : IsPruned depth (with_word m (slice_index way level) (index_at (levels depth - (levels depth - level)) base) 0) m' root base level up) (aligned : base % 4096 ≡ 0) (limit : ℕ) (space : Space) (of : IsSpaceOf depth m root space) where
+    good : IsBase depth base
+    good = record { canonical = canonical; aligned = aligned }
+
+    leaf : (q : Page) × IsLeafPage depth space base (levels depth - level) phys own q
+    leaf = page_met depth m root table base canonical level way phys own place space of.is_space of.translates
+
+    same_level : level_of leaf.0.size ≡ level
+    same_level = level_met depth m root table base canonical level way phys own place space leaf.0 leaf.1
+
+    size : leaf.0.size ≡ size_at level
+    size = leaf.1.size ∙ ap size_at same_level
+
+    begins_here : leaf.0.base ≡ base
+    begins_here =
+        let bytes_are : bytes_of leaf.0.size ≡ bytes = ap bytes_of size ∙ sym are in
+        let offset : base % bytes_of leaf.0.size ≡ base % bytes = ap (λ n. base % n) bytes_are in
+        omega (arith, leaf.1.base)
+
+    removes : step depth limit space (Unmap base) ≡ record { space = finite.remove space base; answer = answers.Removed leaf.0.phys leaf.0.size leaf.0.rights }
+    removes = unmap_removes depth limit space base leaf.0 leaf.1.here begins_here
+
+    pub answer_is : (step depth limit space (Unmap base)).answer ≡ answers.Removed phys (size_at level) own
+    answer_is = ap (λ (s : Stepped). s.answer) removes ∙ cc (leaf.1.phys_is, size, leaf.1.rights)
+
+    looks : LooksChanged leaf.0 (λ address. answers.NotMapped) space (step depth limit space (Unmap base)).space
+    looks = subst (λ a. LooksChanged leaf.0 (λ address. answers.NotMapped) space (step depth limit space (Unmap a)).space) begins_here
+        (removed_looks limit of.is_space leaf.0 (subst (λ a. (step depth limit space (Unmap a)).answer ≡ answers.Removed leaf.0.phys leaf.0.size leaf.0.rights) (sym begins_here) (ap (λ (s : Stepped). s.answer) removes)))
+
+    after : Space
+    after = (step depth limit space (Unmap base)).space
+
+    is_after : IsSpace depth (step depth limit space (Unmap base)).space
+    is_after = step_space limit of.is_space (Unmap base) good
+
+    same_way : (b : ℕ) → SameWay (levels depth) (suc (levels depth - level)) leaf.0.base b → SameWay (levels depth) (suc (levels depth - level)) base b
+    same_way b same = subst (λ a. SameWay (levels depth) (suc (levels depth - level)) a b) begins_here same
+
+    translates_after : TranslatesAs depth m' root (step depth limit space (Unmap base)).space
+    translates_after = translates_changed depth m m' root space (step depth limit space (Unmap base)).space leaf.0 (λ address. answers.NotMapped) (levels depth - level) looks of.translates leaf.1.good leaf.1.level
+        (λ b is_b same. pruned.walks b is_b ∙ walk_on b (same_way b same))
+        (λ b is_b apart. pruned.walks b is_b ∙ walk_off b (λ same. apart (subst (λ a. SameWay (levels depth) (suc (levels depth - level)) a b) (sym begins_here) same)))
+
+    removed_is : (step depth limit space (Unmap base)).space ≡ finite.remove space leaf.0.base
+    removed_is = ap (λ (s : Stepped). s.space) removes ∙ ap (finite.remove space) (sym begins_here)
+
+    again : finite.insert (step depth limit space (Unmap base)).space leaf.0.base leaf.0 ≡ space
+    again = ap (λ (s : Space). finite.insert s leaf.0.base leaf.0) removed_is ∙ put_back space leaf.0 leaf.1.held
+
+    nothing_now : page_at (step depth limit space (Unmap base)).space leaf.0.base ≡ None
+    nothing_now = subst (λ a. page_at (step depth limit space (Unmap base)).space a ≡ None) (sym begins_here)
+        (nothing_at depth m' root (step depth limit space (Unmap base)).space base translates_after canonical (pruned.walks base canonical ∙ walk_on base (λ i lt. refl)))
+
+    added : table_count depth space ≡ (up - level) + table_count depth (step depth limit space (Unmap base)).space
+    added =
+        ap (table_count depth) (sym again)
+        ∙ count_added depth m' root (step depth limit space (Unmap base)).space leaf.0 up is_after translates_after leaf.1.good (subst (IsSpace depth) (sym again) of.is_space)
+        (λ r held same. (remove_cases space leaf.0.base r.base r (subst (λ (s : Space). Holds s r) removed_is held)).0 same)
+        nothing_now (omega (arith, same_level, pruned.above)) pruned.below
+        (subst (λ a. NothingUnder depth m' root (suc (levels depth - up)) a) (sym begins_here) pruned.nothing)
+        (λ j some le nothing. pruned.something j some le (subst (λ a. NothingUnder depth m' root j a) begins_here nothing))
+        ∙ ap (λ l. (up - l) + table_count depth (step depth limit space (Unmap base)).space) same_level
+
+    pub space_is : IsSpaceOf depth m' root (step depth limit space (Unmap base)).space
+    space_is = record {
+      is_space = is_after;
+      translates = translates_after;
+      counted =
+          let cut_len = len_written m (slice_index way level) (index_at (levels depth - (levels depth - level)) base) 0 (table.tree.in_use (levels depth - level) base (slice_index way level) at) in
+          omega (arith, cut_len, pruned.fewer, added, of.counted);
+    }
+
+  -- as the code has it: the entry at this index was cleared
+  module _ (index : ℕ) (is_index : index ≡ index_at level base) (m' : Memory) (up : ℕ) (pruned : IsPruned depth (with_word m (slice_index way level) index 0) m' root base level up) (aligned : base % 4096 ≡ 0) where
+    pruned_here : IsPruned depth (with_word m (slice_index way level) (index_at (levels depth - (levels depth - level)) base) 0) m' root base level up
+    pruned_here = subst (λ i. IsPruned depth (with_word m (slice_index way level) i 0) m' root base level up) (sym (index_same index is_index)) pruned
+
+    pub unmap_table : IsPageTable depth m' root
+    unmap_table = record {
+      tree = pruned.tree;
+      filled = pruned.filled;
+      some_space = ((step depth 0 table.some_space.0 (Unmap base)).space, space_is m' up pruned_here aligned 0 table.some_space.0 table.some_space.1);
+    }
+
+    pub unmap_step : (limit : ℕ) → IsStep (page_table depth limit root m) (Unmap base) (answers.Removed phys (size_at level) own) (page_table depth limit root m')
+    unmap_step limit = record {
+      same = refl;
+      steps = λ space is.
+          let of = space_of depth m root space table is.is_space is.translates in
+          let now = space_is m' up pruned_here aligned limit space of in
+          (sym (answer_is m' up pruned_here aligned limit space of), record { is_space = now.is_space; translates = now.translates });
+    }

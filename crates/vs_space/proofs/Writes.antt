@@ -1,0 +1,119 @@
+-- What a write of one entry does to ways and walks.
+use Rattle.std.proofs.Common.{◌≡◌, ◌≢◌, ℕ, zero, suc, ◌+◌, ◌-◌, ◌<◌, ◌≤◌, List, [], length, get_or, set, Option, Some, None, inl, inr, ◌⊎◌, ⊎_elim, refl, sym, ap, subst, ◌∙◌, arith}
+use Rattle.std.specs.Prelude.{option_and_then, option_map, unwrap_or, IsSome, slice_index, slice_set}
+use Rattle.std.proofs.lemmas.Bool.{cases_eq, cases_lt}
+use Rattle.std.proofs.lemmas.List.{get_or-set_same, get_or-set_other}
+use Rattle.std.specs.FinMap as finite
+use Rattle.vs_types.specs.Depth.{levels, index_at}
+use Rattle.vs_types.specs.Entry.{meaning}
+use Rattle.vs_types.specs.declared.page.Rights.{Rights}
+use Rattle.vs_types.specs.declared.entry.Meaning.{Meaning}
+use Rattle.vs_types.specs.declared.entry.Meaning.TheVariants as entry
+use Rattle.vs_arena.specs.Store.{zeros}
+use Rattle.vs_walk.specs.Memory.{Memory}
+use Rattle.vs_walk.specs.Walk.{all_rights, walk_entry, walk_from}
+use Rattle.vs_space.specs.Held.{word_at, with_word, IsWhole}
+use Rattle.vs_space.specs.Way.{found_at, table_in, table_at, SameWay}
+use Rattle.vs_space.specs.Tree.{IsTree}
+use Rattle.vs_space.proofs.Numbered.{get-insert_same, get-insert_other, get-remove_other, len-insert_used}
+use Rattle.vs_space.proofs.Ways.{table_first, table_next, table_none, none_past, table_before, same_table, agree_table, agree_walk}
+
+-- the frame's own words
+pub words_in : (m : Memory) (n : ℕ) → IsSome (finite.get m n) → finite.get m n ≡ Some (unwrap_or (finite.get m n) [])
+words_in m n used = by (finite.get m n) used where
+  by : (o : Option (List ℕ)) → IsSome o → o ≡ Some (unwrap_or o [])
+  by (Some words) used = refl
+  by None used = cc
+
+pub used_some : (m : Memory) (n : ℕ) (words : List ℕ) → finite.get m n ≡ Some words → IsSome (finite.get m n)
+used_some m n words e = subst IsSome (sym e) refl
+
+found_of : (level : ℕ) (m : Memory) (n b : ℕ) (o : Option (List ℕ)) → finite.get m n ≡ o → found_at level m n b ≡ option_map (meaning level) (option_map (λ words. slice_index words (index_at level b)) o)
+unfolding found_at word_at
+found_of level m n b o e = ap (λ (x : Option (List ℕ)). option_map (meaning level) (option_map (λ words. slice_index words (index_at level b)) x)) e
+
+pub found_alike : (level : ℕ) (m m' : Memory) (n b : ℕ) → finite.get m' n ≡ finite.get m n → found_at level m' n b ≡ found_at level m n b
+found_alike level m m' n b e = found_of level m' n b (finite.get m n) e ∙ sym (found_of level m n b (finite.get m n) refl)
+
+get_written : (m : Memory) (n i w : ℕ) → finite.get (with_word m n i w) n ≡ Some (slice_set (unwrap_or (finite.get m n) []) i w)
+unfolding with_word
+get_written m n i w = get-insert_same m n _
+
+pub get_written_other : (m : Memory) (n i w q : ℕ) → q ≢ n → finite.get (with_word m n i w) q ≡ finite.get m q
+unfolding with_word
+get_written_other m n i w q other = get-insert_other m n _ q other
+
+pub written_in_use : (m : Memory) (n i w q : ℕ) → IsSome (finite.get m q) → IsSome (finite.get (with_word m n i w) q)
+written_in_use m n i w q used = ⊎_elim
+    (λ (same : q ≡ n). subst (λ k. IsSome (finite.get (with_word m n i w) k)) (sym same) (used_some _ n _ (get_written m n i w)))
+    (λ (other : q ≢ n). subst IsSome (sym (get_written_other m n i w q other)) used)
+    (cases_eq q n)
+
+pub len_written : (m : Memory) (n i w : ℕ) → IsSome (finite.get m n) → finite.len (with_word m n i w) ≡ finite.len m
+unfolding with_word
+len_written m n i w used = len-insert_used m n _ _ (words_in m n used)
+
+-- the entry that was written is found
+pub found_here : (level : ℕ) (m : Memory) (n i w b : ℕ) → IsWhole m → IsSome (finite.get m n) → i < 512 → index_at level b ≡ i → found_at level (with_word m n i w) n b ≡ Some (meaning level w)
+found_here level m n i w b whole used low at =
+    found_of level (with_word m n i w) n b _ (get_written m n i w)
+    ∙ ap (λ j. Some (meaning level (slice_index (slice_set (unwrap_or (finite.get m n) []) i w) j))) at
+    ∙ ap (λ x. Some (meaning level x)) (get_or-set_same (unwrap_or (finite.get m n) []) i w 0 (omega (arith, whole.whole n _ (words_in m n used))))
+
+-- and each other entry is found as before
+pub found_elsewhere : (level : ℕ) (m : Memory) (n i w q b : ℕ) → IsSome (finite.get m n) → (q ≡ n → index_at level b ≢ i) → found_at level (with_word m n i w) q b ≡ found_at level m q b
+found_elsewhere level m n i w q b used apart = ⊎_elim
+    (λ (same : q ≡ n). subst (λ k. found_at level (with_word m n i w) k b ≡ found_at level m k b) (sym same)
+    (found_of level (with_word m n i w) n b _ (get_written m n i w)
+    ∙ ap (λ x. Some (meaning level x)) (get_or-set_other (unwrap_or (finite.get m n) []) i (index_at level b) w 0 (apart same))
+    ∙ sym (found_of level m n b _ (words_in m n used))))
+    (λ (other : q ≢ n). found_alike level m (with_word m n i w) q b (get_written_other m n i w q other))
+    (cases_eq q n)
+
+-- whether two addresses take the same way
+pub same_or_not : (top k a b : ℕ) → SameWay top k a b ⊎ (SameWay top k a b → ⊥)
+same_or_not top zero a b = inl (λ i lt. absurd (omega arith))
+same_or_not top (suc k) a b = ⊎_elim
+    (λ before. ⊎_elim
+    (λ here. inl (λ i lt. ⊎_elim (λ (last : i ≡ k). subst (λ j. index_at (top - j) a ≡ index_at (top - j) b) (sym last) here) (λ other. before i (omega arith)) (cases_eq i k)))
+    (λ apart. inr (λ same. apart (same k (omega arith))))
+    (cases_eq (index_at (top - k) a) (index_at (top - k) b)))
+    (λ apart. inr (λ same. apart (λ i lt. same i (omega arith))))
+    (same_or_not top k a b)
+
+pub same_longer : (top k a b : ℕ) → SameWay top k a b → index_at (top - k) a ≡ index_at (top - k) b → SameWay top (suc k) a b
+same_longer top k a b before here = λ i lt. ⊎_elim (λ (last : i ≡ k). subst (λ j. index_at (top - j) a ≡ index_at (top - j) b) (sym last) here) (λ other. before i (omega arith)) (cases_eq i k)
+
+-- ---- the entry for an address a in the table that is reached after k entries is written
+
+module _ (top : ℕ) (root : ℕ) (m : Memory) (tree : IsTree top m root) (whole : IsWhole m) (k a n : ℕ) (at : table_at top m root k a ≡ Some n) (w : ℕ) where
+  abbrev pub after_write : Memory
+  after_write = with_word m n (index_at (top - k) a) w
+
+  used : IsSome (finite.get m n)
+  used = tree.in_use k a n at
+
+  -- off the way of a, all is found as before
+  pub off_way : (b : ℕ) → (SameWay top (suc k) a b → ⊥) → (j q : ℕ) → table_at top m root j b ≡ Some q → found_at (top - j) after_write q b ≡ found_at (top - j) m q b
+  off_way b apart j q reached = found_elsewhere (top - j) m n (index_at (top - k) a) w q b used (λ same here.
+      let both = tree.once j k b a n (subst (λ x. table_at top m root j b ≡ Some x) same reached) at in
+      apart (same_longer top k a b (λ i lt. sym (both.1 i (omega (arith, both.0)))) (subst (λ x. index_at (top - k) a ≡ index_at (top - x) b) both.0 (sym here))))
+
+  -- above the table, all is found as before
+  pub above : (b j q : ℕ) → j ≢ k → table_at top m root j b ≡ Some q → found_at (top - j) after_write q b ≡ found_at (top - j) m q b
+  above b j q other reached = found_elsewhere (top - j) m n (index_at (top - k) a) w q b used (λ same here. absurd (other (tree.once j k b a n (subst (λ x. table_at top m root j b ≡ Some x) same reached) at).0))
+
+  pub table_off_way : (b j : ℕ) → (SameWay top (suc k) a b → ⊥) → table_at top after_write root j b ≡ table_at top m root j b
+  table_off_way b j apart = agree_table top root m after_write b j (λ i q lt reached. off_way b apart i q reached)
+
+  pub table_above : (b j : ℕ) → j ≤ k → table_at top after_write root j b ≡ table_at top m root j b
+  table_above b j le = agree_table top root m after_write b j (λ i q lt reached. above b i q (λ e. omega arith) reached)
+
+  pub walk_off_way : (b : ℕ) → (SameWay top (suc k) a b → ⊥) → walk_from after_write top root all_rights b ≡ walk_from m top root all_rights b
+  walk_off_way b apart = agree_walk top root m after_write b (λ i q lt reached. off_way b apart i q reached)
+
+  pub table_here : (b : ℕ) → SameWay top (suc k) a b → table_at top after_write root k b ≡ Some n
+  table_here b same = table_above b k (omega arith) ∙ sym (same_table top root m k a b (λ i lt. same i (omega arith))) ∙ at
+
+  pub found_on_way : (b : ℕ) → index_at (top - k) a < 512 → SameWay top (suc k) a b → found_at (top - k) after_write n b ≡ Some (meaning (top - k) w)
+  found_on_way b low same = found_here (top - k) m n (index_at (top - k) a) w b whole used low (sym (same k (omega arith)))

@@ -1,0 +1,114 @@
+use Rattle.std.proofs.Common.{◌≡◌, ◌+◌, ◌-◌, ◌%◌, ◌≤◌, ◌<◌, Some, sym, ap, subst, ◌∙◌, arith}
+use Rattle.std.specs.Prelude.{slice_index}
+use Rattle.std.specs.FinMap as finite
+use Rattle.vs_types.specs.Depth.{levels, index_at}
+use Rattle.vs_types.specs.Entry.{meaning}
+use Rattle.vs_types.specs.Page.{bytes_of, level_of, IsPage}
+use Rattle.vs_types.specs.declared.entry.Meaning.{Meaning}
+use Rattle.vs_types.specs.declared.entry.Meaning.TheVariants as entry
+use Rattle.vs_types.specs.declared.op.Action.TheVariants.{Map}
+use Rattle.vs_types.specs.declared.answer.Answer.TheVariants as answers
+use Rattle.vs_space.specs.Held.{Held, IsWhole, with_word}
+use Rattle.vs_space.specs.Place.{IsPlace}
+use Rattle.vs_space.specs.Way.{table_at}
+use Rattle.vs_space.specs.Grow.{IsOpen, IsExtended, IsLeastBase}
+use Rattle.vs_space.specs.Table.{PageTable, IsStep, IsPageTable}
+use Rattle.vs_space.proofs.Meets.{page_table}
+use Rattle.vs_space.proofs.Maps.{no_walk_reserved, reserved_never, leaf_overlaps, not_lowest, within_root, base_aligned, table_reached, table_overlaps, full_step, is_open, map_table, map_step}
+use Rattle.vs_space.proofs.space.Space.map.Goals as goal
+
+pub least_base-base-requires-clause-some_level : goal.least_base-base-requires-clause-some_level
+least_base-base-requires-clause-some_level g c =
+    let inside = c.self.inside in
+    let good = subst (λ (t : PageTable). IsPage t.depth c.args.page) (sym c.self.view_is) c.requires in
+    let place = subst (λ l. IsPlace inside.depth inside.tables.memory inside.root c.args.page.base l c.descend-place.result.level c.descend-place.result.way (entry.Table c.in-Table.table c.in-Table.field-1)) c.level-lowest.ensures
+    (subst (λ (e : Meaning). IsPlace inside.depth inside.tables.memory inside.root c.args.page.base c.level-lowest.result c.descend-place.result.level c.descend-place.result.way e) c.in-Table.is c.descend-place.ensures) in
+    omega (arith, not_lowest inside.depth inside.tables.memory inside.root c.self.invariant c.args.page good c.descend-place.result.level c.descend-place.result.way c.in-Table.table c.in-Table.field-1 place, c.level-lowest.ensures)
+
+pub least_base-base-requires-clause-reached : goal.least_base-base-requires-clause-reached
+least_base-base-requires-clause-reached g c =
+    let inside = c.self.inside in
+    let good = subst (λ (t : PageTable). IsPage t.depth c.args.page) (sym c.self.view_is) c.requires in
+    let place = subst (λ l. IsPlace inside.depth inside.tables.memory inside.root c.args.page.base l c.descend-place.result.level c.descend-place.result.way (entry.Table c.in-Table.table c.in-Table.field-1)) c.level-lowest.ensures
+    (subst (λ (e : Meaning). IsPlace inside.depth inside.tables.memory inside.root c.args.page.base c.level-lowest.result c.descend-place.result.level c.descend-place.result.way e) c.in-Table.is c.descend-place.ensures) in
+    subst (λ l. table_at (levels inside.depth) inside.tables.memory inside.root (levels inside.depth - (l - 1)) c.args.page.base ≡ Some c.in-Table.table) (sym c.level-lowest.ensures) (table_reached inside.depth inside.tables.memory inside.root c.self.invariant c.args.page good c.descend-place.result.level c.descend-place.result.way c.in-Table.table c.in-Table.field-1 place)
+
+pub returns-in-Table : goal.returns-in-Table
+returns-in-Table g c =
+    let inside = c.self.inside in
+    let good = subst (λ (t : PageTable). IsPage t.depth c.args.page) (sym c.self.view_is) c.requires in
+    let place = subst (λ l. IsPlace inside.depth inside.tables.memory inside.root c.args.page.base l c.descend-place.result.level c.descend-place.result.way (entry.Table c.in-Table.table c.in-Table.field-1)) c.level-lowest.ensures
+    (subst (λ (e : Meaning). IsPlace inside.depth inside.tables.memory inside.root c.args.page.base c.level-lowest.result c.descend-place.result.level c.descend-place.result.way e) c.in-Table.is c.descend-place.ensures) in
+    let first = subst (λ l. IsLeastBase inside.depth inside.tables.memory inside.root c.args.page.base (levels inside.depth - (l - 1)) c.least_base-base.result) c.level-lowest.ensures c.least_base-base.ensures in
+    subst (λ (t : PageTable). IsStep t (Map c.args.page) (answers.Overlap c.least_base-base.result) t) c.self.view_is
+    (table_overlaps inside.depth inside.tables.memory inside.root c.self.invariant c.args.page good c.descend-place.result.level c.descend-place.result.way c.in-Table.table c.in-Table.field-1 place inside.tables.limit c.least_base-base.result first)
+
+pub returns-in-Leaf : goal.returns-in-Leaf
+returns-in-Leaf g c =
+    let inside = c.self.inside in
+    let good = subst (λ (t : PageTable). IsPage t.depth c.args.page) (sym c.self.view_is) c.requires in
+    let place = subst (λ l. IsPlace inside.depth inside.tables.memory inside.root c.args.page.base l c.descend-place.result.level c.descend-place.result.way (entry.Leaf c.in-Leaf.field-0 c.in-Leaf.field-1)) c.level-lowest.ensures
+    (subst (λ (e : Meaning). IsPlace inside.depth inside.tables.memory inside.root c.args.page.base c.level-lowest.result c.descend-place.result.level c.descend-place.result.way e) c.in-Leaf.is c.descend-place.ensures) in
+    subst (λ (t : PageTable). IsStep t (Map c.args.page) (answers.Overlap (c.args.page.base - c.args.page.base % c.bytes-bytes.result)) t) c.self.view_is
+    (leaf_overlaps inside.depth inside.tables.memory inside.root c.self.invariant c.args.page good c.descend-place.result.level c.descend-place.result.way c.in-Leaf.field-0 c.in-Leaf.field-1 place inside.tables.limit c.bytes-bytes.result (c.bytes-bytes.ensures ∙ ap bytes_of c.size_at.ensures))
+
+pub unreachable-requires : goal.unreachable-requires
+unreachable-requires g c =
+    let inside = c.self.inside in
+    let good = subst (λ (t : PageTable). IsPage t.depth c.args.page) (sym c.self.view_is) c.requires in
+    let place = subst (λ l. IsPlace inside.depth inside.tables.memory inside.root c.args.page.base l c.descend-place.result.level c.descend-place.result.way (entry.Reserved)) c.level-lowest.ensures
+    (subst (λ (e : Meaning). IsPlace inside.depth inside.tables.memory inside.root c.args.page.base c.level-lowest.result c.descend-place.result.level c.descend-place.result.way e) c.in-Reserved.is c.descend-place.ensures) in
+    reserved_never inside.depth inside.tables.memory inside.root c.self.invariant c.args.page good c.descend-place.result.level c.descend-place.result.way place
+
+pub returns-then-need-limit : goal.returns-then-need-limit
+returns-then-need-limit g c =
+    let inside = c.self.inside in
+    let good = subst (λ (t : PageTable). IsPage t.depth c.args.page) (sym c.self.view_is) c.requires in
+    let place = subst (λ l. IsPlace inside.depth inside.tables.memory inside.root c.args.page.base l c.descend-place.result.level c.descend-place.result.way (entry.Absent)) c.level-lowest.ensures
+    (subst (λ (e : Meaning). IsPlace inside.depth inside.tables.memory inside.root c.args.page.base c.level-lowest.result c.descend-place.result.level c.descend-place.result.way e) c.in-Absent.is c.descend-place.ensures) in
+    let lowest_is : c.descend-place.result.level - c.level-lowest.result ≡ c.descend-place.result.level - level_of c.args.page.size = ap (λ l. c.descend-place.result.level - l) c.level-lowest.ensures in
+    let need : c.used.result + c.from.result ≡ finite.len inside.tables.memory + (c.descend-place.result.level - level_of c.args.page.size) = omega (arith, lowest_is, c.used.ensures.counts, c.from.ensures) in
+    subst (λ (t : PageTable). IsStep t (Map c.args.page) (answers.Full (c.used.result + c.from.result)) t) c.self.view_is
+    (full_step inside.depth inside.tables.memory inside.root c.self.invariant c.args.page good c.descend-place.result.level c.descend-place.result.way place inside.tables.limit (c.used.result + c.from.result) need (omega (arith, c.if-need-limit.true, c.limit-limit.ensures.reads)))
+
+pub extend-number-requires-clause-open_at : goal.extend-number-requires-clause-open_at
+extend-number-requires-clause-open_at g c =
+    let inside = c.self.inside in
+    let good = subst (λ (t : PageTable). IsPage t.depth c.args.page) (sym c.self.view_is) c.requires in
+    let place = subst (λ l. IsPlace inside.depth inside.tables.memory inside.root c.args.page.base l c.descend-place.result.level c.descend-place.result.way (entry.Absent)) c.level-lowest.ensures
+    (subst (λ (e : Meaning). IsPlace inside.depth inside.tables.memory inside.root c.args.page.base c.level-lowest.result c.descend-place.result.level c.descend-place.result.way e) c.in-Absent.is c.descend-place.ensures) in
+    is_open inside.depth inside.tables.memory inside.root c.self.invariant c.args.page good c.descend-place.result.level c.descend-place.result.way place
+
+pub invariant_of-self : goal.invariant_of-self
+invariant_of-self g c =
+    let inside = c.self.inside in
+    let good = subst (λ (t : PageTable). IsPage t.depth c.args.page) (sym c.self.view_is) c.requires in
+    let place = subst (λ l. IsPlace inside.depth inside.tables.memory inside.root c.args.page.base l c.descend-place.result.level c.descend-place.result.way (entry.Absent)) c.level-lowest.ensures
+    (subst (λ (e : Meaning). IsPlace inside.depth inside.tables.memory inside.root c.args.page.base c.level-lowest.result c.descend-place.result.level c.descend-place.result.way e) c.in-Absent.is c.descend-place.ensures) in
+    let lowest_is : c.descend-place.result.level - c.level-lowest.result ≡ c.descend-place.result.level - level_of c.args.page.size = ap (λ l. c.descend-place.result.level - l) c.level-lowest.ensures in
+    let need : c.used.result + c.from.result ≡ finite.len inside.tables.memory + (c.descend-place.result.level - level_of c.args.page.size) = omega (arith, lowest_is, c.used.ensures.counts, c.from.ensures) in
+    let room : finite.len inside.tables.memory + (c.descend-place.result.level - level_of c.args.page.size) ≤ inside.tables.limit = omega (arith, need, c.if-need-limit.false, c.limit-limit.ensures.reads) in
+    let extended = subst (λ l. IsExtended inside.depth inside.tables.memory c.extend-number.new.self.memory inside.root c.args.page.base c.descend-place.result.level l c.extend-number.result) c.level-lowest.ensures c.extend-number.ensures.extended in
+    let leads = ap (meaning (level_of c.args.page.size)) c.word.ensures ∙ c.leaf-leaf.ensures.read_back in
+    let index = subst (λ l. c.index_at.result ≡ index_at l c.args.page.base) c.level-lowest.ensures c.index_at.ensures.is in
+    subst (λ (h : Held). IsPageTable inside.depth h.memory inside.root) (sym c.write.ensures.written)
+    (map_table inside.depth inside.tables.memory inside.root c.self.invariant c.args.page good c.descend-place.result.level c.descend-place.result.way place c.extend-number.new.self.memory c.extend-number.result extended c.write.ensures.whole c.word.result c.index_at.result leads index c.index_at.ensures.low inside.tables.limit room)
+
+pub returns : goal.returns
+returns g c =
+    let inside = c.self.inside in
+    let good = subst (λ (t : PageTable). IsPage t.depth c.args.page) (sym c.self.view_is) c.requires in
+    let place = subst (λ l. IsPlace inside.depth inside.tables.memory inside.root c.args.page.base l c.descend-place.result.level c.descend-place.result.way (entry.Absent)) c.level-lowest.ensures
+    (subst (λ (e : Meaning). IsPlace inside.depth inside.tables.memory inside.root c.args.page.base c.level-lowest.result c.descend-place.result.level c.descend-place.result.way e) c.in-Absent.is c.descend-place.ensures) in
+    let lowest_is : c.descend-place.result.level - c.level-lowest.result ≡ c.descend-place.result.level - level_of c.args.page.size = ap (λ l. c.descend-place.result.level - l) c.level-lowest.ensures in
+    let need : c.used.result + c.from.result ≡ finite.len inside.tables.memory + (c.descend-place.result.level - level_of c.args.page.size) = omega (arith, lowest_is, c.used.ensures.counts, c.from.ensures) in
+    let room : finite.len inside.tables.memory + (c.descend-place.result.level - level_of c.args.page.size) ≤ inside.tables.limit = omega (arith, need, c.if-need-limit.false, c.limit-limit.ensures.reads) in
+    let extended = subst (λ l. IsExtended inside.depth inside.tables.memory c.extend-number.new.self.memory inside.root c.args.page.base c.descend-place.result.level l c.extend-number.result) c.level-lowest.ensures c.extend-number.ensures.extended in
+    let leads = ap (meaning (level_of c.args.page.size)) c.word.ensures ∙ c.leaf-leaf.ensures.read_back in
+    let index = subst (λ l. c.index_at.result ≡ index_at l c.args.page.base) c.level-lowest.ensures c.index_at.ensures.is in
+    let after = c.write.ensures.written in
+    let limit : c.write.new.self.limit ≡ inside.tables.limit = ap (λ (h : Held). h.limit) after ∙ c.extend-number.ensures.same_limit in
+    subst (λ (t : PageTable). IsStep t (Map c.args.page) answers.Done (page_table inside.depth c.write.new.self.limit inside.root c.write.new.self.memory)) c.self.view_is
+    (subst (λ l. IsStep (page_table inside.depth inside.tables.limit inside.root inside.tables.memory) (Map c.args.page) answers.Done (page_table inside.depth l inside.root c.write.new.self.memory)) (sym limit)
+    (subst (λ (h : Held). IsStep (page_table inside.depth inside.tables.limit inside.root inside.tables.memory) (Map c.args.page) answers.Done (page_table inside.depth inside.tables.limit inside.root h.memory)) (sym after)
+    (map_step inside.depth inside.tables.memory inside.root c.self.invariant c.args.page good c.descend-place.result.level c.descend-place.result.way place c.extend-number.new.self.memory c.extend-number.result extended c.write.ensures.whole c.word.result c.index_at.result leads index c.index_at.ensures.low inside.tables.limit room)))

@@ -1,0 +1,14 @@
+use Rattle.std.proofs.Common.{◌≡◌, ◌≤◌}
+use Rattle.vs_space.specs.Grow.{IsExtended}
+use Rattle.vs_space.proofs.tables.Tables.extend.Given as goal
+
+abbrev pub invariant-loop-level : goal.invariant-loop-level
+invariant-loop-level g l = record {
+  extended : IsExtended l.fn.depth l.fn.self.memory l.self.memory l.fn.root l.address l.from l.level l.number;
+  above : l.lowest ≤ l.level;
+  within : l.level ≤ l.from;
+  same_limit : l.self.limit ≡ l.fn.self.limit;
+}
+
+abbrev pub decreases-loop-level : goal.decreases-loop-level
+decreases-loop-level g l = l.level

@@ -1,0 +1,38 @@
+use Rattle.std.proofs.Common.{◌≡◌, ◌-◌, ◌+◌, sym, ap, subst, ◌∙◌, arith}
+use Rattle.std.specs.Prelude.{IsSome, slice_index}
+use Rattle.std.specs.FinMap as finite
+use Rattle.vs_types.specs.Depth.{levels}
+use Rattle.vs_space.specs.Held.{Held}
+use Rattle.vs_space.proofs.Prunes.{IsPruning, pruned_by, something_here, pruning_on, emptied_used}
+use Rattle.vs_space.proofs.tables.Tables.prune.Goals as goal
+
+pub returns-in-Some-clause-pruned : goal.returns-in-Some-clause-pruned
+returns-in-Some-clause-pruned g c =
+    let root = slice_index c.args.way.now (levels c.args.depth) in
+    let going = c.loop-level.invariant.pruning in
+    pruned_by c.args.depth c.loop-level.self.memory root c.args.address c.loop-level.level c.args.way.now c.requires.canonical going.cut c.args.self.now.memory c.args.from going
+    (λ deep. something_here c.args.depth c.loop-level.self.memory root c.args.address c.loop-level.level c.args.way.now c.requires.canonical going.cut
+    (λ b is_b reserved. c.requires.faultless b is_b (sym (going.walks b is_b) ∙ reserved)) (omega (arith, c.loop-level-test.true, c.levels.ensures)) _ c.in-Some.ensures.first)
+
+pub give-requires : goal.give-requires
+give-requires g c =
+    subst (λ (h : Held). IsSome (finite.get h.memory (slice_index c.args.way.now c.loop-level.level))) (sym c.write.ensures.written)
+    (emptied_used c.args.depth c.loop-level.self.memory (slice_index c.args.way.now (levels c.args.depth)) c.args.address c.loop-level.level c.args.way.now _ c.index_at.result c.loop-level.invariant.pruning.cut)
+
+pub loop-level-preserved : goal.loop-level-preserved
+loop-level-preserved g c =
+    let root = slice_index c.args.way.now (levels c.args.depth) in
+    let going = c.loop-level.invariant.pruning in
+    let after = c.give.ensures ∙ ap (λ (h : Held). let given : Held = record { limit = h.limit; memory = finite.remove h.memory (slice_index c.args.way.now c.loop-level.level) } in given) c.write.ensures.written in
+    record {
+      pruning = subst (λ (h : Held). IsPruning c.args.depth c.args.self.now.memory h.memory root c.args.address c.args.from (c.loop-level.level + 1) c.args.way.now) (sym after)
+          (pruning_on c.args.depth c.loop-level.self.memory root c.args.address c.loop-level.level c.args.way.now c.requires.canonical going.cut c.write.ensures.whole (omega (arith, c.loop-level-test.true, c.levels.ensures)) c.in_default.ensures.none c.index_at.result c.index_at.ensures.is c.index_at.ensures.low c.args.self.now.memory c.args.from going);
+      same_limit = ap (λ (h : Held). h.limit) after ∙ c.loop-level.invariant.same_limit;
+    }
+
+pub returns-clause-pruned : goal.returns-clause-pruned
+returns-clause-pruned g c =
+    let root = slice_index c.args.way.now (levels c.args.depth) in
+    let going = c.loop-level.invariant.pruning in
+    pruned_by c.args.depth c.loop-level.self.memory root c.args.address c.loop-level.level c.args.way.now c.requires.canonical going.cut c.args.self.now.memory c.args.from going
+    (λ deep. absurd (omega (arith, deep, c.loop-level-test.false, c.levels.ensures)))

@@ -1,0 +1,31 @@
+use Rattle.std.proofs.Common.{◌≡◌, ◌+◌, None, sym, ap, subst, ◌∙◌}
+use Rattle.std.specs.Prelude.{IfNone}
+use Rattle.std.specs.FinMap as finite
+use Rattle.vs_arena.specs.Store.{IsInUse, zeros}
+use Rattle.vs_arena.proofs.Stores.{IsInUse-insert_same}
+use Rattle.vs_space.specs.Held.{Held, numbered}
+use Rattle.vs_space.proofs.Numbered.{held, stored, whole-zeros, numbered-insert, get_numbered, len_numbered}
+use Rattle.vs_space.proofs.tables.Tables.take.Goals as goal
+
+pub returns-in_err-frame-clause-all_in_use : goal.returns-in_err-frame-clause-all_in_use
+returns-in_err-frame-clause-all_in_use g c =
+    rw c.from_residual.ensures (ap (λ (h : Held). finite.len h.memory) (sym c.self.view_is) ∙ len_numbered _ _ ∙ c.in_err-frame.ensures.all_in_use ∙ ap (λ (h : Held). h.limit) c.self.view_is)
+
+pub number-requires : goal.number-requires
+number-requires g c = rw c.in_ok-frame.ensures.cleared (IsInUse-insert_same _ c.in_ok-frame.frame zeros)
+
+pub invariant_of-self-2 : goal.invariant_of-self-2
+invariant_of-self-2 g c = rw c.in_ok-frame.ensures.cleared (whole-zeros _ _ c.self.invariant)
+
+pub returns-clause-was_free : goal.returns-clause-was_free
+returns-clause-was_free g c =
+    let named : c.number.result ≡ g.S.FrameStore.base c.self.inside.store + c.in_ok-frame.frame = c.number.ensures.numbered ∙ ap (λ b. b + c.in_ok-frame.frame) c.take.ensures.same_base in
+    ap (λ (h : Held). finite.get h.memory c.number.result) (sym c.self.view_is)
+    ∙ ap (finite.get _) named ∙ get_numbered _ _ c.in_ok-frame.frame ∙ c.in_ok-frame.ensures.was_free
+
+pub returns-clause-taken : goal.returns-clause-taken
+returns-clause-taken g c =
+    let named : c.number.result ≡ g.S.FrameStore.base c.self.inside.store + c.in_ok-frame.frame = c.number.ensures.numbered ∙ ap (λ b. b + c.in_ok-frame.frame) c.take.ensures.same_base in
+    stored _ _ _ _ _ _ c.take.ensures.same_size c.take.ensures.same_base
+    (ap (numbered (g.S.FrameStore.base c.self.inside.store)) c.in_ok-frame.ensures.cleared ∙ numbered-insert _ _ _ zeros ∙ ap (λ n. finite.insert (numbered (g.S.FrameStore.base c.self.inside.store) (g.S.FrameStore.frames c.self.inside.store)) n zeros) (sym named))
+    ∙ ap (λ (h : Held). held h.limit (finite.insert h.memory c.number.result zeros)) c.self.view_is

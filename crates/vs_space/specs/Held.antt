@@ -1,0 +1,31 @@
+-- The frames of a store by their numbers, and how many it can have.
+use Rattle.std.specs.Prelude.{◌≡◌, ℕ, ◌+◌, List, [], map, length, Option, Some, option_map, unwrap_or, slice_index, slice_set, refl}
+use Rattle.std.specs.Coded.{Coded, code_by, coded×, coded_ℕ, coded_list}
+use Rattle.std.specs.FinMap as finite
+use Rattle.std.specs.Ordering.{nat_cmp}
+use Rattle.vs_arena.specs.Store.{Store}
+use Rattle.vs_walk.specs.Memory.{Memory}
+
+-- the frames in use by number: the number of the one at an index is the base plus the index
+unfoldable pub numbered : ℕ → Store → Memory
+numbered base store = finite.from_sorted (map (λ e. (base + e.0, e.1)) (finite.entries store))
+
+-- how many frames there can be in use, and those in use
+pub record Held : Type 0 where
+  pub limit : ℕ
+  pub memory : Memory
+
+abbrev pub held_code : Coded Held
+held_code = code_by (ℕ × Memory) (coded× coded_ℕ (finite.code {R = nat_cmp} coded_ℕ (coded_list coded_ℕ))) (λ h. (h.limit, h.memory)) (λ p. record { limit = p.0; memory = p.1 }) (λ _. refl)
+
+-- each frame has 512 words
+pub record IsWhole (store : Store) : Type 0 where
+  pub whole : (index : ℕ) (words : List ℕ) → finite.get store index ≡ Some words → length words ≡ 512
+
+-- the word of a frame at an index, where the frame is in use
+unfoldable pub word_at : Memory → ℕ → ℕ → Option ℕ
+word_at memory number index = option_map (λ words. slice_index words index) (finite.get memory number)
+
+-- the memory with this word in a frame, at an index
+unfoldable pub with_word : Memory → ℕ → ℕ → ℕ → Memory
+with_word memory number index word = finite.insert memory number (slice_set (unwrap_or (finite.get memory number) []) index word)

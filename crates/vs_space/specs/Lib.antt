@@ -1,0 +1,15 @@
+pub mod Held
+pub mod Way
+pub mod Tree
+pub mod Prune
+pub mod Grow
+pub mod Table
+pub mod Place
+pub use Rattle.vs_types.specs.Depth
+pub use Rattle.vs_types.specs.Page
+pub use Rattle.vs_types.specs.Operation
+pub use Rattle.vs_types.specs.Space
+pub use Rattle.vs_types.specs.Step
+pub use Rattle.vs_walk.specs.Memory
+pub use Rattle.vs_walk.specs.Walk
+pub use Rattle.vs_arena.specs.Store

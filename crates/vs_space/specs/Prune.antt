@@ -1,0 +1,34 @@
+-- What is left when tables under which nothing is mapped are given back.
+use Rattle.std.specs.Prelude.{◌≡◌, ℕ, suc, ◌+◌, ◌-◌, ◌<◌, ◌≤◌, List, Some, slice_index}
+use Rattle.std.specs.FinMap as finite
+use Rattle.vs_types.specs.Depth.{levels, IsCanonical}
+use Rattle.vs_types.specs.declared.depth.Depth.{Depth}
+use Rattle.vs_types.specs.declared.entry.Meaning.TheVariants as entry
+use Rattle.vs_walk.specs.Memory.{Memory}
+use Rattle.vs_walk.specs.Walk.{walk}
+use Rattle.vs_space.specs.Way.{found_at, table_at, SameWay}
+use Rattle.vs_space.specs.Tree.{IsTree, IsFilled, NothingUnder}
+
+-- each table below the root has an address that is mapped, but for those on the way of this address
+pub record IsFilledBut (depth : Depth) (memory : Memory) (root base : ℕ) : Type 0 where
+  pub filled : (k a n : ℕ) → table_at (levels depth) memory root (suc k) a ≡ Some n → (SameWay (levels depth) (suc k) base a → ⊥) → NothingUnder depth memory root (suc k) a → ⊥
+
+-- the way of the address ends at an absent entry of the table of this level; other tables than those on it have something mapped
+pub record IsCut (depth : Depth) (memory : Memory) (root base level : ℕ) (way : List ℕ) : Type 0 where
+  pub tree : IsTree (levels depth) memory root
+  pub filled : IsFilledBut depth memory root base
+  pub some : 1 ≤ level
+  pub below : level ≤ levels depth
+  pub reached : (j : ℕ) → level ≤ j → j ≤ levels depth → table_at (levels depth) memory root (levels depth - j) base ≡ Some (slice_index way j)
+  pub absent : found_at level memory (slice_index way level) base ≡ Some entry.Absent
+
+-- a table for each level from one up to another was given back, and addresses are walked as before
+pub record IsPruned (depth : Depth) (old new : Memory) (root base from level : ℕ) : Type 0 where
+  pub tree : IsTree (levels depth) new root
+  pub filled : IsFilled depth new root
+  pub walks : (b : ℕ) → IsCanonical depth b → walk depth new root b ≡ walk depth old root b
+  pub above : from ≤ level
+  pub below : level ≤ levels depth
+  pub fewer : finite.len new + (level - from) ≡ finite.len old
+  pub nothing : NothingUnder depth new root (suc (levels depth - level)) base
+  pub something : (j : ℕ) → 0 < j → j ≤ levels depth - level → NothingUnder depth new root j base → ⊥

@@ -1,0 +1,26 @@
+-- What holds of the tables of a memory: they are a tree.
+use Rattle.std.specs.Prelude.{◌≡◌, ℕ, suc, ◌-◌, Some, IsSome}
+use Rattle.std.specs.FinMap as finite
+use Rattle.vs_types.specs.Depth.{levels, IsCanonical}
+use Rattle.vs_types.specs.Entry.{all_rights}
+use Rattle.vs_types.specs.declared.depth.Depth.{Depth}
+use Rattle.vs_types.specs.declared.page.Rights.{Rights}
+use Rattle.vs_types.specs.declared.entry.Meaning.TheVariants as entry
+use Rattle.vs_walk.specs.Memory.{Memory}
+use Rattle.vs_walk.specs.Walk.{walk}
+use Rattle.vs_walk.specs.declared.walk.Walk.TheVariants.{NotMapped}
+use Rattle.vs_space.specs.Way.{found_at, table_at, SameWay}
+
+-- the tables that are reached are in use, no two ways lead to one, and entries that lead to tables allow everything
+pub record IsTree (top : ℕ) (memory : Memory) (root : ℕ) : Type 0 where
+  pub in_use : (k a n : ℕ) → table_at top memory root k a ≡ Some n → IsSome (finite.get memory n)
+  pub once : (j k a b n : ℕ) → table_at top memory root j a ≡ Some n → table_at top memory root k b ≡ Some n → (j ≡ k) × SameWay top j a b
+  pub allows : (k a n next : ℕ) (own : Rights) → table_at top memory root k a ≡ Some n → found_at (top - k) memory n a ≡ Some (entry.Table next own) → own ≡ all_rights
+
+-- no address that takes the way of this one through the first k tables is mapped
+abbrev pub NothingUnder : Depth → Memory → ℕ → ℕ → ℕ → Type 0
+NothingUnder depth memory root k a = (b : ℕ) → IsCanonical depth b → SameWay (levels depth) k a b → walk depth memory root b ≡ NotMapped
+
+-- each table below the root has an address that is mapped
+pub record IsFilled (depth : Depth) (memory : Memory) (root : ℕ) : Type 0 where
+  pub filled : (k a n : ℕ) → table_at (levels depth) memory root (suc k) a ≡ Some n → NothingUnder depth memory root (suc k) a → ⊥

@@ -1,0 +1,13 @@
+//! A page table in the frames of a store: it maps, unmaps and protects pages, and translates addresses.
+//!
+//! Addresses are in bytes. A frame number is a physical address divided by 4,096. No call takes memory or waits.
+#![tactic(auto)]
+
+mod place;
+mod space;
+mod tables;
+
+pub use space::{NoRoot, Space};
+
+#[cfg(test)]
+mod tests;

@@ -1,0 +1,15 @@
+use vs_types::{Meaning, Size};
+
+/// How many tables there can be on the way of an address, one for each level; the place 0 is of none.
+pub(crate) const WAY: usize = 6;
+
+/// Where a descent through the tables ends.
+#[derive(Clone, Copy)]
+pub(crate) struct Place {
+    /// The frame numbers of the tables on the way, by level.
+    pub(crate) way: [u64; WAY],
+    /// The level of the last of them.
+    pub(crate) level: u8,
+    /// What its entry says.
+    pub(crate) found: Meaning,
+}

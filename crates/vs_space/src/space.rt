@@ -1,0 +1,208 @@
+ghost use Rattle.std.specs.Prelude.{◌≡◌, ℕ, IfOk, OnErr};
+ghost use Rattle.std.specs.FinMap as finite;
+ghost use Rattle.vs_types.specs.declared.op.Action.{Action};
+ghost use Rattle.vs_types.specs.Depth.{levels, IsCanonical};
+ghost use Rattle.vs_types.specs.Entry.{size_at};
+ghost use Rattle.vs_types.specs.Operation.{IsBase};
+ghost use Rattle.vs_types.specs.Page.{IsPage};
+ghost use Rattle.vs_types.specs.Space as spaces;
+ghost use Rattle.vs_types.specs.Space.{no_pages, table_count};
+ghost use Rattle.vs_types.specs.Step.{look};
+ghost use Rattle.vs_walk.specs.Walk.{TranslatesAs};
+ghost use Rattle.vs_space.specs.Table.{PageTable, IsTableOf, IsStep};
+
+use crate::tables::{Tables, index_at};
+use std::marker::Model;
+use vs_arena::{FRAME_WORDS, FrameStore};
+use vs_types::{Action, Answer, Depth, Entry, Meaning, Op, Page, Rights, Size};
+use vs_walk::{Frames, Walk, translate};
+
+/// There is no frame for the root: the store has none.
+#[derive(Clone, Copy, Debug, PartialEq, Eq)]
+pub struct NoRoot;
+
+/// An address space as a page table in the frames of a store. An emptied table goes back to the store at once.
+#[derive(Drop)]
+pub struct Space<S: FrameStore> {
+    tables: Tables<S>,
+    depth: Depth,
+    root: u64,
+}
+
+impl<S: FrameStore> Model for Space<S> {
+    ghost use Rattle.vs_space.specs.Table.{PageTable, table_code, IsPageTable};
+
+    ghost Value = { PageTable };
+
+    ghost coded = { table_code };
+
+    ghost view = { λ s. record { depth = s.depth; limit = s.tables.limit; root = s.root; memory = s.tables.memory } };
+
+    ghost invariant = { λ s. IsPageTable s.depth s.tables.memory s.root };
+}
+
+impl<S: FrameStore> Frames for Space<S> {
+    ghost memory = { λ s. s.memory };
+
+    fn words(&self, number: u64) -> Option<&[u64; FRAME_WORDS]> {
+        self.tables.words(number)
+    }
+}
+
+impl<S: FrameStore + Drop> Space<S> {
+    /// The space with no pages: its root takes a frame of the store, none of which is in use. The store's capacity is
+    /// the limit of tables.
+    ///
+    /// # Errors
+    ///
+    /// `NoRoot` only where the store has no frame.
+    pub fn new(store: S, depth: Depth) -> Result<Space<S>, NoRoot>
+        requires { S.frames store ≡ finite.empty }
+        ensures empty { IfOk result (λ s. IsTableOf s no_pages) }
+        ensures same_depth { IfOk result (λ s. s.depth ≡ depth) }
+        ensures limit { IfOk result (λ s. s.limit ≡ S.size store) }
+        ensures no_root { OnErr result (S.size store ≡ 0) }
+    {
+        let mut tables = Tables::new(store);
+        let Some(root) = tables.take() else {
+            return Err(NoRoot);
+        };
+        Ok(Space {
+            tables,
+            depth,
+            root,
+        })
+    }
+}
+
+impl<S: FrameStore> Space<S> {
+    /// How many tables there are, the root among them: the frames in use.
+    pub fn tables(&self) -> usize
+        ensures reads { result ≡ finite.len self.now.memory }
+        ensures counts { (space : spaces.Space) → IsTableOf self.now space → result ≡ table_count self.now.depth space }
+    {
+        self.tables.used()
+    }
+
+    /// The frame number of the root.
+    pub fn root(&self) -> u64
+        ensures reads { result ≡ self.now.root }
+        ensures some_space { (space : spaces.Space) × IsTableOf self.now space }
+    {
+        self.root
+    }
+
+    /// The translation of a canonical address, or `NotMapped`.
+    pub fn resolve(&self, address: u64) -> Answer
+        requires { IsCanonical self.now.depth address }
+        ensures { (space : spaces.Space) → IsTableOf self.now space → result ≡ look space address }
+    {
+        match translate(self, self.root, self.depth, address) {
+            Walk::Mapped(phys, size, rights) => Answer::Mapped(phys, size, rights),
+            _ => Answer::NotMapped,
+        }
+    }
+
+    /// Does an operation.
+    pub fn apply(&mut self, op: Op) -> Answer
+        ensures { IsStep self.old op result self.new }
+    {
+        match op.action() {
+            Action::Map(page) => self.map(page),
+            Action::Unmap(base) => self.unmap(base),
+            Action::Protect(base, rights) => self.protect(base, rights),
+        }
+    }
+
+    fn map(&mut self, page: Page) -> Answer
+        requires { IsPage self.old.depth page }
+        ensures { IsStep self.old (Action.Map page) result self.new }
+    {
+        let lowest = page.size.level();
+        let place = self
+            .tables
+            .descend(self.depth, self.root, page.base, lowest);
+        match place.found {
+            Meaning::Absent => {}
+            Meaning::Table(table, _) => {
+                let base = self
+                    .tables
+                    .least_base(self.depth, self.root, page.base, table, lowest - 1);
+                return Answer::Overlap(base);
+            }
+            Meaning::Leaf(_, _) => {
+                let bytes = size_at(place.level).bytes();
+                return Answer::Overlap(page.base - page.base % bytes);
+            }
+            Meaning::Reserved => unreachable!(),
+        }
+        let limit = self.tables.limit();
+        let need = self.tables.used() + usize::from(place.level - lowest);
+        if need > limit {
+            return Answer::Full(need as u64);
+        }
+        let last = place.way[place.level as usize];
+        let number = self.tables.extend(
+            self.depth,
+            self.root,
+            page.base,
+            last,
+            place.level,
+            lowest,
+        );
+        let leaf = Entry::leaf(page.size, page.phys, page.rights);
+        self.tables
+            .write(number, index_at(lowest, page.base), leaf.word());
+        Answer::Done
+    }
+
+    fn unmap(&mut self, base: u64) -> Answer
+        requires { IsBase self.old.depth base }
+        ensures { IsStep self.old (Action.Unmap base) result self.new }
+    {
+        let place = self.tables.descend(self.depth, self.root, base, 1);
+        let Meaning::Leaf(phys, rights) = place.found else {
+            return Answer::NotMapped;
+        };
+        let size = size_at(place.level);
+        let offset = base % size.bytes();
+        if offset != 0 {
+            return Answer::Inside(base - offset);
+        }
+        let number = place.way[place.level as usize];
+        self.tables.write(number, index_at(place.level, base), 0);
+        let _stop = self.tables.prune(self.depth, base, &place.way, place.level);
+        Answer::Removed(phys, size, rights)
+    }
+
+    fn protect(&mut self, base: u64, rights: Rights) -> Answer
+        requires { IsBase self.old.depth base }
+        ensures { IsStep self.old (Action.Protect base rights) result self.new }
+    {
+        let place = self.tables.descend(self.depth, self.root, base, 1);
+        let Meaning::Leaf(phys, old) = place.found else {
+            return Answer::NotMapped;
+        };
+        let size = size_at(place.level);
+        let offset = base % size.bytes();
+        if offset != 0 {
+            return Answer::Inside(base - offset);
+        }
+        let leaf = Entry::leaf(size, phys, rights);
+        let number = place.way[place.level as usize];
+        self.tables
+            .write(number, index_at(place.level, base), leaf.word());
+        Answer::Changed(old)
+    }
+}
+
+/// The size of the pages whose entries are in tables of this level.
+fn size_at(level: u8) -> Size
+    ensures { result ≡ size_at level }
+{
+    match level {
+        0 | 1 => Size::K4,
+        2 => Size::M2,
+        _ => Size::G1,
+    }
+}

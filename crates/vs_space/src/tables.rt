@@ -1,0 +1,271 @@
+ghost use Rattle.std.specs.Prelude.{ℕ, ◌≢◌, Some, slice_index, ◌≡◌, ◌<◌, ◌≤◌, ◌^◌, ◌+◌, ◌-◌, ◌%◌, IfSome, IfNone, IsSome, option_copied};
+ghost use Rattle.std.specs.FinMap as finite;
+ghost use Rattle.vs_arena.specs.Store.{zeros, IsInUse};
+ghost use Rattle.vs_types.specs.Depth.{levels, index_at, table_bytes, IsCanonical};
+ghost use Rattle.vs_walk.specs.Walk.{walk};
+ghost use Rattle.vs_walk.specs.declared.walk.Walk.{Walk};
+ghost use Rattle.vs_types.specs.declared.entry.Meaning.{Meaning};
+ghost use Rattle.vs_space.specs.Prune.{IsCut, IsPruned};
+ghost use Rattle.vs_space.specs.Held.{numbered, word_at, with_word, IsWhole};
+ghost use Rattle.vs_space.specs.Way.{found_at, table_at, entry_in, IsFirstPresent};
+ghost use Rattle.vs_space.specs.Tree.{IsTree, IsFilled};
+ghost use Rattle.vs_space.specs.Grow.{IsOpen, IsExtended, IsLeastBase};
+ghost use Rattle.vs_space.specs.Place.{IsPlace};
+
+use crate::place::{Place, WAY};
+use std::marker::Model;
+use vs_arena::{FRAME_WORDS, Frame, FrameStore};
+use vs_types::{Depth, Entry, Meaning};
+
+/// The frames of a store by number. Contracts see those in use, and how many there can be.
+#[derive(Drop)]
+pub(crate) struct Tables<S: FrameStore> {
+    store: S,
+}
+
+impl<S: FrameStore> Model for Tables<S> {
+    ghost use Rattle.vs_space.specs.Held.{Held, held_code, numbered, IsWhole};
+
+    ghost Value = { Held };
+
+    ghost coded = { held_code };
+
+    ghost view = { λ t. record { limit = S.size t.store; memory = numbered (S.base t.store) (S.frames t.store) } };
+
+    ghost invariant = { λ t. IsWhole (S.frames t.store) };
+}
+
+impl<S: FrameStore> Tables<S> {
+    pub(crate) fn new(store: S) -> Tables<S>
+        requires { S.frames store ≡ finite.empty }
+        ensures { result ≡ record { limit = S.size store; memory = finite.empty } }
+    {
+        Tables { store }
+    }
+
+    /// How many frames there can be in use.
+    pub(crate) fn limit(&self) -> usize
+        ensures reads { result ≡ self.now.limit }
+        ensures few { result ≤ 4096 }
+    {
+        self.store.capacity()
+    }
+
+    /// How many frames are in use.
+    pub(crate) fn used(&self) -> usize
+        ensures counts { result ≡ finite.len self.now.memory }
+        ensures at_most { result ≤ self.now.limit }
+    {
+        self.store.used()
+    }
+
+    /// The words of the frame with this number, if it is in use.
+    pub(crate) fn words(&self, number: u64) -> Option<&[u64; FRAME_WORDS]>
+        ensures { option_copied result ≡ finite.get self.now.memory number }
+    {
+        let frame = self.store.at(number)?;
+        Some(self.store.frame(frame))
+    }
+
+    /// The word at an index of a frame in use.
+    pub(crate) fn word(&self, number: u64, index: usize) -> u64
+        requires in_use { IsSome (finite.get self.now.memory number) }
+        requires in_frame { index < 512 }
+        ensures { word_at self.now.memory number index ≡ Some result }
+    {
+        self.store.get(frame_of(&self.store, number), index)
+    }
+
+    /// Writes the word at an index of a frame in use.
+    pub(crate) fn write(&mut self, number: u64, index: usize, word: u64)
+        requires in_use { IsSome (finite.get self.old.memory number) }
+        requires in_frame { index < 512 }
+        ensures written { self.new ≡ record self.old { memory = with_word self.old.memory number index word } }
+        ensures whole { IsWhole self.old.memory }
+    {
+        let frame = frame_of(&self.store, number);
+        self.store.set(frame, index, word);
+    }
+
+    /// The number of a frame that wasn't in use, now in use and all zero, or `None` where all are in use.
+    pub(crate) fn take(&mut self) -> Option<u64>
+        ensures was_free { IfSome result (λ n. finite.get self.old.memory n ≡ None) }
+        ensures taken { IfSome result (λ n. self.new ≡ record self.old { memory = finite.insert self.old.memory n zeros }) }
+        ensures in_range { IfSome result (λ n. n < 2 ^ 40) }
+        ensures all_in_use { IfNone result (finite.len self.old.memory ≡ self.old.limit) }
+        ensures unchanged { IfNone result (self.new ≡ self.old) }
+    {
+        let frame = self.store.take()?;
+        Some(self.store.number(frame))
+    }
+
+    /// Gives a frame back.
+    pub(crate) fn give(&mut self, number: u64)
+        requires { IsSome (finite.get self.old.memory number) }
+        ensures { self.new ≡ record self.old { memory = finite.remove self.old.memory number } }
+    {
+        let frame = frame_of(&self.store, number);
+        self.store.give(frame);
+    }
+
+    /// What the entry for an address says in the table of this level in a frame in use.
+    pub(crate) fn entry(&self, level: u8, number: u64, address: u64) -> Meaning
+        requires in_use { IsSome (finite.get self.now.memory number) }
+        requires some_level { 1 ≤ level }
+        requires few_levels { level ≤ 5 }
+        ensures { found_at level self.now.memory number address ≡ Some result }
+    {
+        Entry::new(self.word(number, index_at(level, address))).read(level)
+    }
+
+    /// Goes down on the way of an address to the first entry that leads no further, but not below the lowest level.
+    pub(crate) fn descend(&self, depth: Depth, root: u64, address: u64, lowest: u8) -> Place
+        requires tree { IsTree (levels depth) self.now.memory root }
+        requires some_level { 1 ≤ lowest }
+        requires within { lowest ≤ levels depth }
+        ensures { IsPlace depth self.now.memory root address lowest result.level result.way result.found }
+    {
+        let mut level = depth.levels();
+        let mut number = root;
+        let mut way = [root; WAY];
+        loop {
+            let found = self.entry(level, number, address);
+            let Meaning::Table(next, _) = found else {
+                return Place { way, level, found };
+            };
+            if level == lowest {
+                return Place { way, level, found };
+            }
+            number = next;
+            level -= 1;
+            way[level as usize] = number;
+        }
+    }
+
+    /// The index of the first entry that isn't absent, in the table of this level in a frame in use.
+    pub(crate) fn first_present(&self, level: u8, number: u64) -> Option<usize>
+        requires in_use { IsSome (finite.get self.now.memory number) }
+        requires some_level { 1 ≤ level }
+        requires few_levels { level ≤ 5 }
+        ensures none { IfNone result ((i : ℕ) → i < 512 → entry_in level self.now.memory number i ≡ Some Meaning.Absent) }
+        ensures first { IfSome result (IsFirstPresent level self.now.memory number) }
+    {
+        for index in 0..FRAME_WORDS {
+            match Entry::new(self.word(number, index)).read(level) {
+                Meaning::Absent => {}
+                _ => return Some(index),
+            }
+        }
+        None
+    }
+
+    /// Gives back the tables on the way of an address, from this level up, that have no entry that is present, and
+    /// clears what led to them. Answers the level at which it stops.
+    pub(crate) fn prune(&mut self, depth: Depth, address: u64, way: &[u64; WAY], from: u8) -> u8
+        requires canonical { IsCanonical depth address }
+        requires faultless { (b : ℕ) → IsCanonical depth b → walk depth self.old.memory (slice_index way.now (levels depth)) b ≢ Walk.Reserved }
+        requires cut { IsCut depth self.old.memory (slice_index way.now (levels depth)) address from way.now }
+        ensures pruned { IsPruned depth self.old.memory self.new.memory (slice_index way.now (levels depth)) address from result }
+        ensures same_limit { self.new.limit ≡ self.old.limit }
+    {
+        let mut level = from;
+        while level < depth.levels() {
+            let emptied = way[level as usize];
+            if let Some(_) = self.first_present(level, emptied) {
+                return level;
+            }
+            level += 1;
+            self.write(way[level as usize], index_at(level, address), 0);
+            self.give(emptied);
+        }
+        level
+    }
+
+    /// Links new tables on the way of an address below its last table, which has this frame number and level, down to
+    /// the lowest level. Answers the last one's number.
+    pub(crate) fn extend(
+        &mut self,
+        depth: Depth,
+        root: u64,
+        address: u64,
+        last: u64,
+        from: u8,
+        lowest: u8,
+    ) -> u64
+        requires open_at { IsOpen depth self.old.memory root address from last }
+        requires some_level { 1 ≤ lowest }
+        requires within { lowest ≤ from }
+        requires few_levels { from ≤ 5 }
+        requires room { finite.len self.old.memory + (from - lowest) ≤ self.old.limit }
+        ensures extended { IsExtended depth self.old.memory self.new.memory root address from lowest result }
+        ensures same_limit { self.new.limit ≡ self.old.limit }
+    {
+        let mut level = from;
+        let mut number = last;
+        while level > lowest {
+            let Some(next) = self.take() else {
+                unreachable!();
+            };
+            self.write(number, index_at(level, address), Entry::table(next).word());
+            number = next;
+            level -= 1;
+        }
+        number
+    }
+
+    /// The base of the first page below a table of this level, which begins at the address.
+    pub(crate) fn least_base(
+        &self,
+        depth: Depth,
+        root: u64,
+        address: u64,
+        table: u64,
+        from: u8,
+    ) -> u64
+        requires tree { IsTree (levels depth) self.now.memory root }
+        requires filled { IsFilled depth self.now.memory root }
+        requires faultless { (b : ℕ) → IsCanonical depth b → walk depth self.now.memory root b ≢ Walk.Reserved }
+        requires canonical { IsCanonical depth address }
+        requires some_level { 1 ≤ from }
+        requires below { from < levels depth }
+        requires aligned { address % table_bytes from ≡ 0 }
+        requires reached { table_at (levels depth) self.now.memory root (levels depth - from) address ≡ Some table }
+        ensures { IsLeastBase depth self.now.memory root address (levels depth - from) result }
+    {
+        let mut level = from;
+        let mut number = table;
+        let mut base = address;
+        loop {
+            let Some(index) = self.first_present(level, number) else {
+                unreachable!();
+            };
+            base += (index as u64) << (3 + 9 * level);
+            let Meaning::Table(next, _) = self.entry(level, number, base) else {
+                return base;
+            };
+            number = next;
+            level -= 1;
+        }
+    }
+}
+
+/// The index of an address in a table of this level.
+pub(crate) fn index_at(level: u8, address: u64) -> usize
+    requires { level ≤ 5 }
+    ensures is { result ≡ index_at level address }
+    ensures low { result < 512 }
+{
+    ((address >> (3 + 9 * level)) % 512) as usize
+}
+
+/// The frame in use with this number.
+fn frame_of<S: FrameStore>(store: &S, number: u64) -> Frame
+    requires { IsSome (finite.get (numbered (S.base store.now) (S.frames store.now)) number) }
+    ensures numbered { S.base store.now + result ≡ number }
+    ensures in_use { IsInUse (S.frames store.now) result }
+{
+    match store.at(number) {
+        Some(frame) => frame,
+        None => unreachable!(),
+    }
+}
