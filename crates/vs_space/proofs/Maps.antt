@@ -1,43 +1,41 @@
 -- What a page table is after a page was added, and why one isn't.
-use Rattle.std.proofs.Common.{◌≡◌, ◌≢◌, ℕ, zero, suc, ◌+◌, ◌-◌, ◌*◌, ◌%◌, ◌^◌, ◌<◌, ◌≤◌, List, Some, None, true, false, IsTrue, nat_le, leb-true, leb-false, inl, inr, ⊎_elim, refl, sym, ap, subst, ◌∙◌, arith}
-use Rattle.std.specs.Prelude.{IsSome, slice_index}
-use Rattle.std.proofs.lemmas.Bool.{cases_lt, cases_eq}
+use Rattle.std.proofs.Common.{◌≡◌, ◌≢◌, ℕ, suc, ◌+◌, ◌-◌, ◌*◌, ◌%◌, ◌^◌, ◌<◌, ◌≤◌, List, Some, None, IsTrue, leb-true, leb-false, ⊎_elim, refl, sym, ap, subst, ◌∙◌, arith}
+use Rattle.std.specs.Prelude.{slice_index}
+use Rattle.std.proofs.lemmas.Bool.{cases_lt}
 use Rattle.std.specs.FinMap as finite
 use Rattle.vs_types.specs.Depth.{levels, entry_bytes, table_bytes, index_at, IsCanonical}
 use Rattle.vs_types.specs.Entry.{meaning, size_at}
-use Rattle.vs_types.specs.Page.{level_of, bytes_of, covers, end_of, IsPage}
+use Rattle.vs_types.specs.Page.{level_of, bytes_of, covers, IsPage}
 use Rattle.vs_types.specs.Space.{Space, Holds, IsSpace, page_at, table_count, least_overlapped}
-use Rattle.vs_types.specs.Step.{step, look, Stepped}
+use Rattle.vs_types.specs.Step.{step, Stepped}
 use Rattle.vs_types.specs.Laws.{as_in, LooksChanged}
 use Rattle.vs_types.specs.declared.depth.Depth.{Depth}
-use Rattle.vs_types.specs.declared.op.Action.{Action}
-use Rattle.vs_types.specs.declared.op.Action.TheVariants.{Map, Unmap, Protect}
+use Rattle.vs_types.specs.declared.op.Action.TheVariants.{Map}
 use Rattle.vs_types.specs.declared.page.Page.{Page}
 use Rattle.vs_types.specs.declared.page.Rights.{Rights}
 use Rattle.vs_types.specs.declared.page.Size.{Size}
 use Rattle.vs_types.specs.declared.page.Size.TheVariants.{K4, M2, G1}
 use Rattle.vs_types.specs.declared.entry.Meaning.{Meaning}
 use Rattle.vs_types.specs.declared.entry.Meaning.TheVariants as entry
-use Rattle.vs_types.specs.declared.answer.Answer.{Answer}
 use Rattle.vs_types.specs.declared.answer.Answer.TheVariants as answers
 use Rattle.vs_types.proofs.Steps.{map_cases, alone, step_space}
 use Rattle.vs_types.proofs.Looks.{done_looks}
 use Rattle.vs_types.proofs.Pages.{covers_means, covers_base, covered_canonical}
 use Rattle.vs_types.proofs.Spaces.{page_at_means, insert_space}
 use Rattle.vs_walk.specs.Memory.{Memory}
-use Rattle.vs_walk.specs.Walk.{walk, as_walk, TranslatesAs}
-use Rattle.vs_walk.specs.declared.walk.Walk.TheVariants.{NotMapped, Mapped, Reserved}
+use Rattle.vs_walk.specs.Walk.{walk, as_walk}
+use Rattle.vs_walk.specs.declared.walk.Walk.TheVariants.{Mapped, Reserved}
 use Rattle.vs_walk.proofs.Translates.{not_reserved}
 use Rattle.vs_space.specs.Held.{with_word, IsWhole}
 use Rattle.vs_space.specs.Way.{found_at, table_at, table_in, SameWay}
 use Rattle.vs_space.specs.Tree.{IsTree, IsFilled, NothingUnder}
 use Rattle.vs_space.specs.Grow.{IsOpen, IsExtended, IsLeastBase}
 use Rattle.vs_space.specs.Place.{IsPlace}
-use Rattle.vs_space.specs.Table.{PageTable, IsTableOf, IsStep, IsSpaceOf, IsPageTable}
+use Rattle.vs_space.specs.Table.{IsStep, IsSpaceOf, IsPageTable}
 use Rattle.vs_space.proofs.Ways.{table_next, walk_ends, words_found}
 use Rattle.vs_space.proofs.Writes.{table_here, found_on_way, walk_off_way, len_written}
 use Rattle.vs_space.proofs.Trees.{tree_write, but_none, but_write, filled_by}
-use Rattle.vs_space.proofs.Regions.{IsLeafPage, leaf_page, nothing_at, translates_changed, covers_way, way_covers, level_some}
+use Rattle.vs_space.proofs.Regions.{leaf_page, nothing_at, translates_changed, covers_way, way_covers, level_some}
 use Rattle.vs_space.proofs.Protects.{IsMet, space_of, never_reserved, page_here, page_level, stays}
 use Rattle.vs_space.proofs.Meets.{page_table, met_of, never_table}
 use Rattle.vs_space.proofs.Prunes.{absent_under}

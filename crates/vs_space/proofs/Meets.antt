@@ -1,30 +1,26 @@
 -- What a descent meets, as the code reads it, and the steps of a page table that follow.
-use Rattle.std.proofs.Common.{◌≡◌, ◌≢◌, ℕ, zero, suc, ◌+◌, ◌-◌, ◌%◌, ◌^◌, ◌<◌, ◌≤◌, List, Some, None, inl, inr, ⊎_elim, refl, sym, ap, subst, ◌∙◌, arith}
-use Rattle.std.specs.Prelude.{IsSome, slice_index}
-use Rattle.std.proofs.lemmas.Bool.{cases_lt, cases_eq}
-use Rattle.std.specs.FinMap as finite
+use Rattle.std.proofs.Common.{◌≡◌, ◌≢◌, ℕ, ◌-◌, ◌%◌, ◌^◌, ◌<◌, ◌≤◌, List, Some, None, ⊎_elim, refl, sym, ap, subst, ◌∙◌, arith}
+use Rattle.std.specs.Prelude.{slice_index}
+use Rattle.std.proofs.lemmas.Bool.{cases_lt}
 use Rattle.vs_types.specs.Depth.{levels, entry_bytes, index_at, IsCanonical}
 use Rattle.vs_types.specs.Entry.{meaning, size_at}
 use Rattle.vs_types.specs.Operation.{IsBase}
-use Rattle.vs_types.specs.Page.{level_of, bytes_of, IsPage}
-use Rattle.vs_types.specs.Space.{Space, Holds, IsSpace, page_at, table_count}
+use Rattle.vs_types.specs.Page.{level_of, bytes_of}
+use Rattle.vs_types.specs.Space.{Space, IsSpace}
 use Rattle.vs_types.specs.Step.{step, Stepped}
 use Rattle.vs_walk.specs.Walk.{TranslatesAs}
 use Rattle.vs_types.specs.declared.depth.Depth.{Depth}
-use Rattle.vs_types.specs.declared.op.Action.{Action}
-use Rattle.vs_types.specs.declared.op.Action.TheVariants.{Map, Unmap, Protect}
+use Rattle.vs_types.specs.declared.op.Action.TheVariants.{Unmap, Protect}
 use Rattle.vs_types.specs.declared.page.Page.{Page}
 use Rattle.vs_types.specs.declared.page.Rights.{Rights}
-use Rattle.vs_types.specs.declared.page.Size.{Size}
 use Rattle.vs_types.specs.declared.entry.Meaning.{Meaning}
 use Rattle.vs_types.specs.declared.entry.Meaning.TheVariants as entry
-use Rattle.vs_types.specs.declared.answer.Answer.{Answer}
 use Rattle.vs_types.specs.declared.answer.Answer.TheVariants as answers
 use Rattle.vs_walk.specs.Memory.{Memory}
 use Rattle.vs_space.specs.Held.{with_word, IsWhole}
-use Rattle.vs_space.specs.Way.{found_at, table_at, table_in}
+use Rattle.vs_space.specs.Way.{found_at, table_in}
 use Rattle.vs_space.specs.Place.{IsPlace}
-use Rattle.vs_space.specs.Table.{PageTable, IsTableOf, IsStep, IsSpaceOf, IsPageTable}
+use Rattle.vs_space.specs.Table.{PageTable, IsStep, IsSpaceOf, IsPageTable}
 use Rattle.vs_space.proofs.Ways.{words_found}
 use Rattle.vs_space.proofs.Regions.{IsLeafPage}
 use Rattle.vs_space.proofs.Protects.{IsMet, space_of, absent_none, never_reserved, page_here, page_level, unmap_none, protect_none, unmap_inside, protect_inside, stays, answer_is, space_is, table_new}

@@ -1,24 +1,22 @@
 -- A page table with a root and nothing else.
-use Rattle.std.proofs.Common.{◌≡◌, ℕ, zero, suc, ◌+◌, ◌-◌, ◌<◌, ◌≤◌, List, Some, None, refl, sym, ap, subst, ◌∙◌, arith}
+use Rattle.std.proofs.Common.{◌≡◌, ℕ, zero, suc, ◌+◌, ◌-◌, List, Some, None, refl, sym, ap, subst, ◌∙◌, arith}
 use Rattle.std.specs.Prelude.{IsSome}
 use Rattle.vs_walk.specs.Walk.{walk_from}
 use Rattle.vs_walk.specs.declared.walk.Walk.TheVariants.{NotMapped}
 use Rattle.std.specs.FinMap as finite
 use Rattle.std.specs.Ordering.{nat_cmp}
-use Rattle.vs_types.specs.Depth.{levels, IsCanonical}
-use Rattle.vs_types.specs.Space.{Space, no_pages, IsSpace, table_count}
+use Rattle.vs_types.specs.Depth.{levels}
+use Rattle.vs_types.specs.Space.{no_pages}
 use Rattle.vs_types.specs.declared.depth.Depth.{Depth}
 use Rattle.vs_types.specs.declared.depth.Depth.TheVariants.{Four}
-use Rattle.vs_types.specs.declared.page.Rights.{Rights}
-use Rattle.vs_types.specs.declared.entry.Meaning.{Meaning}
 use Rattle.vs_types.specs.declared.entry.Meaning.TheVariants as entry
 use Rattle.vs_types.proofs.Spaces.{no_pages_space, look_of_nothing}
 use Rattle.vs_arena.specs.Store.{zeros}
 use Rattle.vs_walk.specs.Memory.{Memory}
-use Rattle.vs_walk.specs.Walk.{walk, as_walk, TranslatesAs, all_rights}
+use Rattle.vs_walk.specs.Walk.{as_walk, TranslatesAs, all_rights}
 use Rattle.vs_space.specs.Way.{found_at, table_at, table_in}
-use Rattle.vs_space.specs.Tree.{IsTree, IsFilled}
-use Rattle.vs_space.specs.Table.{PageTable, IsTableOf, IsSpaceOf, IsPageTable}
+use Rattle.vs_space.specs.Tree.{IsTree}
+use Rattle.vs_space.specs.Table.{IsTableOf, IsPageTable}
 use Rattle.vs_space.proofs.Numbered.{get-insert_same, len-insert_free}
 use Rattle.vs_space.proofs.Ways.{table_first, table_next, none_past, walk_found}
 use Rattle.vs_space.proofs.Writes.{used_some}

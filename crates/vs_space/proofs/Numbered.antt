@@ -1,14 +1,13 @@
 -- The frames of a store by their numbers.
-use Rattle.std.proofs.Common.{◌≡◌, ◌≢◌, ℕ, zero, suc, ◌+◌, ◌-◌, ◌<◌, ◌≤◌, Bool, true, false, cond, T, ◌&&◌, eqb, List, [], ◌∷◌, map, length, Option, Some, None, is_some, inl, inr, ⊎_elim, refl, sym, ap, subst, ◌∙◌, arith}
+use Rattle.std.proofs.Common.{◌≡◌, ◌≢◌, ℕ, suc, ◌+◌, ◌-◌, ◌<◌, cond, T, eqb, List, [], ◌∷◌, map, length, Option, Some, None, is_some, ⊎_elim, refl, sym, ap, subst, ◌∙◌, arith}
 use Rattle.std.proofs.lemmas.Bool.{cases_lt, cases_eq, eq-eqb, ne_eqb}
 use Rattle.std.proofs.lemmas.Option.{none-some}
-use Rattle.std.specs.Ordering.{nat_cmp, is_lt, is_eq, eq_by_cmp}
+use Rattle.std.specs.Ordering.{nat_cmp, is_eq}
 use Rattle.std.specs.Cmp.{nat_cmp_total, nat_cmp_is, ranked, unsigned_tied}
 use Rattle.std.specs.declared.cmp.Ordering.TheVariants.{Less, Equal, Greater}
 use Rattle.std.specs.FinMap as finite
 use Rattle.std.specs.FinMap.Entries as entries
 use Rattle.std.specs.Prelude.{IsSome, option_map, unwrap_or, slice_index, slice_set}
-use Rattle.std.proofs.Common.{rules}
 use Rattle.std.proofs.lemmas.List.{length-set, length-replicate}
 use Rattle.vs_arena.specs.Store.{Store, IsInUse, IsFree, words_of, zeros}
 use Rattle.vs_arena.proofs.Stores.{get_in_use}

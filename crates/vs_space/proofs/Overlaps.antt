@@ -1,13 +1,12 @@
 -- The least base of a page that another page overlaps.
-use Rattle.std.proofs.Common.{◌≡◌, ◌≢◌, ℕ, ◌+◌, ◌-◌, ◌<◌, ◌≤◌, true, List, [], ◌∷◌, min, Some, None, option_map, nat_eq, IsTrue, ⊎_elim, refl, sym, ap, ◌∙◌, subst, arith}
-use Rattle.std.proofs.lemmas.Bool.{cases_lt, cases_eq}
+use Rattle.std.proofs.Common.{◌≡◌, ℕ, ◌<◌, ◌≤◌, true, List, [], ◌∷◌, min, Some, None, option_map, nat_eq, IsTrue, ⊎_elim, refl, sym, ap, ◌∙◌, subst, arith}
+use Rattle.std.proofs.lemmas.Bool.{cases_lt}
 use Rattle.std.specs.Set.{is_member}
 use Rattle.vs_types.specs.declared.depth.Depth.{Depth}
 use Rattle.vs_types.specs.declared.page.Page.{Page}
-use Rattle.vs_types.specs.Depth.{levels, IsCanonical}
-use Rattle.vs_types.specs.Page.{bytes_of, end_of, covers, overlaps, IsPage}
+use Rattle.vs_types.specs.Page.{covers, overlaps}
 use Rattle.vs_types.specs.Space.{Space, pages, Holds, IsSpace, page_at, least, least_overlapped}
-use Rattle.vs_types.proofs.Pages.{bytes_positive, covers_means, covers_base, covered_canonical, overlaps_means, overlaps_shares}
+use Rattle.vs_types.proofs.Pages.{bytes_positive, covers_means, covers_base, overlaps_means, overlaps_shares}
 use Rattle.vs_types.proofs.Spaces.{holds_listed, page_at_means}
 use Rattle.vs_space.proofs.Counts.{member_here, member_later, member_cases, member_comes, member_goes}
 

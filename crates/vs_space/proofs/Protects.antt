@@ -1,17 +1,15 @@
 -- What a page table is after the rights of a page have changed.
-use Rattle.std.proofs.Common.{◌≡◌, ◌≢◌, ℕ, zero, suc, ◌+◌, ◌-◌, ◌%◌, ◌<◌, ◌≤◌, Some, None, inl, inr, ⊎_elim, refl, sym, ap, subst, ◌∙◌, arith}
-use Rattle.std.specs.Prelude.{IsSome}
-use Rattle.std.specs.FinMap as finite
+use Rattle.std.proofs.Common.{◌≡◌, ◌≢◌, ℕ, suc, ◌+◌, ◌-◌, ◌%◌, ◌<◌, Some, None, refl, sym, ap, subst, ◌∙◌, arith}
 use Rattle.vs_types.specs.Depth.{levels, entry_bytes, index_at, IsCanonical}
 use Rattle.vs_types.specs.Entry.{meaning, size_at}
 use Rattle.vs_types.specs.Operation.{IsBase}
-use Rattle.vs_types.specs.Page.{level_of, bytes_of, IsPage}
-use Rattle.vs_types.specs.Space.{Space, Holds, IsSpace, page_at, table_count}
-use Rattle.vs_types.specs.Step.{step, look, Stepped}
+use Rattle.vs_types.specs.Page.{level_of, bytes_of}
+use Rattle.vs_types.specs.Space.{Space, IsSpace, page_at, table_count}
+use Rattle.vs_types.specs.Step.{step, Stepped}
 use Rattle.vs_types.specs.Laws.{as_in, LooksChanged}
 use Rattle.vs_types.specs.declared.depth.Depth.{Depth}
 use Rattle.vs_types.specs.declared.op.Action.{Action}
-use Rattle.vs_types.specs.declared.op.Action.TheVariants.{Map, Unmap, Protect}
+use Rattle.vs_types.specs.declared.op.Action.TheVariants.{Unmap, Protect}
 use Rattle.vs_types.specs.declared.page.Page.{Page}
 use Rattle.vs_types.specs.declared.page.Rights.{Rights}
 use Rattle.vs_types.specs.declared.page.Size.{Size}
@@ -22,7 +20,6 @@ use Rattle.vs_types.specs.declared.answer.Answer.TheVariants as answers
 use Rattle.vs_types.proofs.Steps.{protect_cases, unmap_cases, step_space}
 use Rattle.vs_types.proofs.Looks.{changed_looks}
 use Rattle.vs_types.proofs.Tables.{protect_tables}
-use Rattle.vs_types.proofs.Spaces.{page_at_means}
 use Rattle.vs_walk.specs.Memory.{Memory}
 use Rattle.vs_walk.specs.Walk.{walk, as_walk, TranslatesAs}
 use Rattle.vs_walk.specs.declared.walk.Walk.TheVariants.{NotMapped, Mapped}

@@ -1,9 +1,8 @@
 -- Tables under which nothing is mapped are given back, one by one.
-use Rattle.std.proofs.Common.{◌≡◌, ◌≢◌, ℕ, zero, suc, ◌+◌, ◌-◌, ◌*◌, ◌/◌, ◌%◌, ◌^◌, ◌<◌, ◌≤◌, List, Option, Some, None, inl, inr, ⊎_elim, refl, sym, ap, subst, ◌∙◌, arith}
-use lib.Pow.{pow_pos, pow-add, split, shr-shr, shl-shr}
+use Rattle.std.proofs.Common.{◌≡◌, ◌≢◌, ℕ, suc, ◌+◌, ◌-◌, ◌*◌, ◌/◌, ◌%◌, ◌^◌, ◌<◌, ◌≤◌, List, Option, Some, None, inl, inr, ⊎_elim, refl, sym, ap, subst, ◌∙◌, arith}
+use lib.Pow.{shr-shr, shl-shr}
 use Rattle.std.proofs.lemmas.Nat.{div-mul-add, mod-mul-add}
 use Rattle.std.specs.Prelude.{IsSome, option_map, slice_index}
-use Rattle.std.proofs.lemmas.Bool.{cases_lt, cases_eq}
 use Rattle.std.specs.FinMap as finite
 use Rattle.vs_types.specs.Depth.{levels, index_at, IsCanonical}
 use Rattle.vs_types.specs.Entry.{meaning}
@@ -15,17 +14,17 @@ use Rattle.vs_types.specs.declared.entry.Meaning.{Meaning}
 use Rattle.vs_types.specs.declared.entry.Meaning.TheVariants as entry
 use Rattle.vs_types.proofs.Pages.{canonical_means}
 use Rattle.vs_walk.specs.Memory.{Memory}
-use Rattle.vs_walk.specs.Walk.{all_rights, walk, walk_from}
+use Rattle.vs_walk.specs.Walk.{walk}
 use Rattle.vs_walk.specs.declared.walk.Walk.TheVariants.{NotMapped, Mapped, Reserved}
 use Rattle.vs_space.specs.Held.{word_at, with_word, IsWhole}
 use Rattle.vs_space.specs.Way.{found_at, entry_in, IsFirstPresent, table_in, table_at, SameWay}
-use Rattle.vs_space.specs.Tree.{IsTree, IsFilled, NothingUnder}
-use Rattle.vs_space.specs.Prune.{IsFilledBut, IsCut, IsPruned}
-use Rattle.vs_space.proofs.Numbered.{len-remove_used, get-insert_other}
+use Rattle.vs_space.specs.Tree.{IsTree, NothingUnder}
+use Rattle.vs_space.specs.Prune.{IsCut, IsPruned}
+use Rattle.vs_space.proofs.Numbered.{len-remove_used}
 use Rattle.vs_space.proofs.Ways.{table_next, same_table, found_same, walk_ends}
 use Rattle.vs_space.proofs.Writes.{len_written, written_in_use, same_or_not, words_in}
 use Rattle.vs_space.proofs.Trees.{but_alike, filled_up}
-use Rattle.vs_space.proofs.Links.{tree_unlink, table_unlink, table_kept, none_after, walk_unlink_off, walk_unlink_on, found_unlinked}
+use Rattle.vs_space.proofs.Links.{tree_unlink, table_unlink, table_kept, walk_unlink_off, walk_unlink_on, found_unlinked}
 use Rattle.vs_space.proofs.Regions.{stretch_same}
 
 -- ---- entries by index

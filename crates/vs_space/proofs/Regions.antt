@@ -1,12 +1,11 @@
 -- Which addresses take one way: those of an aligned stretch. What a walk's end says of the space.
-use Rattle.std.proofs.Common.{◌≡◌, ◌≢◌, ℕ, zero, suc, ◌+◌, ◌-◌, ◌*◌, ◌/◌, ◌%◌, ◌^◌, ◌<◌, ◌≤◌, Bool, true, false, Option, Some, None, IsTrue, ◌↔◌, inl, inr, ◌⊎◌, ⊎_elim, refl, sym, ap, subst, ◌∙◌, mod-lt, arith}
-use lib.Pow.{pow_pos, pow-add, split, shr-shr}
+use Rattle.std.proofs.Common.{◌≡◌, ◌≢◌, ℕ, zero, suc, ◌+◌, ◌-◌, ◌*◌, ◌/◌, ◌%◌, ◌^◌, ◌<◌, ◌≤◌, true, false, Some, None, IsTrue, ⊎_elim, refl, sym, ap, subst, ◌∙◌, mod-lt, arith}
+use lib.Pow.{pow_pos, split, shr-shr}
 use Rattle.std.proofs.lemmas.Nat.{div-mul-add}
 use Rattle.std.specs.Prelude.{slice_index}
-use Rattle.std.specs.FinMap as finite
-use Rattle.vs_types.specs.Depth.{levels, entry_bytes, table_bytes, index_at, half_bytes, IsCanonical}
-use Rattle.vs_types.specs.Entry.{meaning, size_at}
-use Rattle.vs_types.specs.Page.{level_of, bytes_of, covers, joined, IsPage}
+use Rattle.vs_types.specs.Depth.{levels, entry_bytes, index_at, IsCanonical}
+use Rattle.vs_types.specs.Entry.{size_at}
+use Rattle.vs_types.specs.Page.{level_of, bytes_of, covers, IsPage}
 use Rattle.vs_types.specs.Space.{Space, Holds, IsSpace, page_at}
 use Rattle.vs_types.specs.Step.{look}
 use Rattle.vs_types.specs.Laws.{LooksChanged}
@@ -19,11 +18,10 @@ use Rattle.vs_types.specs.declared.page.Size.TheVariants.{K4, M2, G1}
 use Rattle.vs_types.specs.declared.entry.Meaning.TheVariants as entry
 use Rattle.vs_types.specs.declared.answer.Answer.{Answer}
 use Rattle.vs_types.specs.declared.answer.Answer.TheVariants as answers
-use Rattle.vs_types.proofs.Pages.{canonical_means, covers_means, three_levels, level_at_most}
-use Rattle.vs_types.proofs.Spaces.{page_at_means, look_of_page, look_of_none}
+use Rattle.vs_types.proofs.Pages.{canonical_means, covers_means}
+use Rattle.vs_types.proofs.Spaces.{page_at_means, look_of_none}
 use Rattle.vs_walk.specs.Memory.{Memory}
-use Rattle.vs_walk.specs.Walk.{all_rights, walk, walk_from, as_walk, TranslatesAs}
-use Rattle.vs_walk.specs.declared.walk.Walk.{Walk}
+use Rattle.vs_walk.specs.Walk.{walk, as_walk, TranslatesAs}
 use Rattle.vs_walk.specs.declared.walk.Walk.TheVariants.{NotMapped, Mapped}
 use Rattle.vs_walk.proofs.Walks.{leaf_level}
 use Rattle.vs_space.specs.Way.{found_at, table_at, SameWay}

@@ -1,12 +1,12 @@
 -- The first page below a table, entry by entry.
-use Rattle.std.proofs.Common.{◌≡◌, ◌≢◌, ℕ, zero, suc, ◌+◌, ◌-◌, ◌*◌, ◌/◌, ◌%◌, ◌^◌, ◌<◌, ◌≤◌, List, Option, Some, None, inl, inr, ⊎_elim, refl, sym, ap, subst, ◌∙◌, mod-lt, mod-eq_of_lt, arith}
+use Rattle.std.proofs.Common.{◌≡◌, ◌≢◌, ℕ, suc, ◌+◌, ◌-◌, ◌*◌, ◌/◌, ◌%◌, ◌^◌, ◌<◌, ◌≤◌, Some, ⊎_elim, refl, sym, ap, subst, ◌∙◌, mod-lt, mod-eq_of_lt, arith}
 use lib.Pow.{pow_pos, pow-add, pow_mono, split, shr-shr, shl-shr}
 use Rattle.std.proofs.lemmas.Nat.{div-mul-add, mod-mul-add}
 use Rattle.std.specs.Prelude.{IsSome, slice_index}
 use Rattle.std.proofs.Math.Nat.{mul_assoc, mul_comm}
-use Rattle.std.proofs.lemmas.Bool.{cases_lt, cases_eq}
+use Rattle.std.proofs.lemmas.Bool.{cases_lt}
 use Rattle.std.specs.FinMap as finite
-use Rattle.vs_types.specs.Depth.{levels, entry_bytes, table_bytes, index_at, IsCanonical}
+use Rattle.vs_types.specs.Depth.{levels, table_bytes, index_at, IsCanonical}
 use Rattle.vs_types.specs.declared.depth.Depth.{Depth}
 use Rattle.vs_types.specs.declared.page.Rights.{Rights}
 use Rattle.vs_types.specs.declared.entry.Meaning.{Meaning}
@@ -16,13 +16,13 @@ use Rattle.vs_types.specs.declared.depth.Depth.TheVariants.{Four}
 use Rattle.vs_walk.proofs.Walks.{few_levels}
 use Rattle.vs_walk.specs.Memory.{Memory}
 use Rattle.vs_walk.specs.Walk.{walk}
-use Rattle.vs_walk.specs.declared.walk.Walk.TheVariants.{NotMapped, Mapped, Reserved}
+use Rattle.vs_walk.specs.declared.walk.Walk.TheVariants.{NotMapped, Reserved}
 use Rattle.vs_space.specs.Way.{found_at, entry_in, IsFirstPresent, table_in, table_at, SameWay}
-use Rattle.vs_space.specs.Tree.{IsTree, IsFilled, NothingUnder}
-use Rattle.vs_space.specs.Grow.{IsLeafAt, IsLeastBase}
+use Rattle.vs_space.specs.Tree.{IsTree, IsFilled}
+use Rattle.vs_space.specs.Grow.{IsLeastBase}
 use Rattle.vs_space.proofs.Ways.{table_next, same_table, walk_ends, words_found}
 use Rattle.vs_space.proofs.Meets.{never_table}
-use Rattle.vs_space.proofs.Regions.{same_stretch, stretch_same, block, in_block}
+use Rattle.vs_space.proofs.Regions.{same_stretch, stretch_same, in_block}
 use Rattle.vs_space.proofs.Prunes.{found_entry, canonical_stretch}
 
 -- a table on the way down: it begins at the base, and nothing is mapped from the start up to there

@@ -1,6 +1,6 @@
 -- How the table count changes with one page, by what is mapped on its way.
-use Rattle.std.proofs.Common.{◌≡◌, ◌≢◌, ℕ, zero, suc, ◌+◌, ◌-◌, ◌*◌, ◌/◌, ◌%◌, ◌^◌, ◌<◌, ◌≤◌, Bool, true, false, cond, ◌||◌, nat_eq, nat_lt, List, [], ◌∷◌, map, filter, Option, Some, None, Contains, IsTrue, ◌⊎◌, inl, inr, ⊎_elim, refl, sym, ap, ◌∙◌, subst, mod-lt, mod-eq_of_lt, arith}
-use lib.Pow.{pow_pos, pow-lt, pow_mono, shr_mono, shr-shr, split, mod-mod-pow}
+use Rattle.std.proofs.Common.{◌≡◌, ◌≢◌, ℕ, zero, suc, ◌+◌, ◌-◌, ◌*◌, ◌/◌, ◌%◌, ◌^◌, ◌<◌, ◌≤◌, Bool, true, false, cond, ◌||◌, nat_eq, nat_lt, List, [], ◌∷◌, map, filter, Some, None, Contains, IsTrue, ◌⊎◌, inl, inr, ⊎_elim, refl, sym, ap, ◌∙◌, subst, mod-lt, mod-eq_of_lt, arith}
+use lib.Pow.{pow_pos, pow-lt, pow_mono, shr-shr, split, mod-mod-pow}
 use Rattle.std.specs.FinMap as finite
 use Rattle.std.specs.Cmp.{nat_cmp_total}
 use Rattle.std.specs.Set.{is_member}
@@ -8,14 +8,12 @@ use Rattle.std.proofs.lemmas.Bool.{cases_lt, cases_eq, eq-eqb, eqb-true}
 use Rattle.std.proofs.lemmas.Bool.Decides.{nat_tests}
 use Rattle.vs_types.specs.declared.depth.Depth.{Depth}
 use Rattle.vs_types.specs.declared.page.Page.{Page}
-use Rattle.vs_types.specs.declared.page.Size.{Size}
-use Rattle.vs_types.specs.declared.page.Size.TheVariants.{K4, M2, G1}
 use Rattle.vs_types.specs.Depth.{levels, table_bytes, IsCanonical}
 use Rattle.vs_types.specs.Page.{level_of, bytes_of, covers, IsPage}
 use Rattle.vs_types.specs.Space.{Space, no_pages, pages, Holds, IsSpace, page_at, tables_of_level, tables_of_levels, table_count}
 use Rattle.vs_types.proofs.Lists.{Contains-head}
-use Rattle.vs_types.proofs.Pages.{bytes_positive, covers_base, covers_means}
-use Rattle.vs_types.proofs.Spaces.{holds_listed, no_pages_space, none_held, insert_space, insert_cases, get_inserted, get_insert_other, remove_cases, get_remove_other, page_at_means}
+use Rattle.vs_types.proofs.Pages.{covers_base, covers_means}
+use Rattle.vs_types.proofs.Spaces.{holds_listed, no_pages_space, none_held, insert_cases, get_inserted, get_insert_other, get_remove_other, page_at_means}
 use Rattle.vs_walk.specs.Memory.{Memory}
 use Rattle.vs_walk.specs.Walk.{walk, TranslatesAs}
 use Rattle.vs_walk.specs.declared.walk.Walk.TheVariants.{NotMapped}
@@ -120,10 +118,6 @@ has_stretch k start n bytes e at l =
     (omega arith, omega arith)
 
 -- ---- the tables that a page needs, by the levels at which a smaller page begins in its stretch
-
--- one level more
-one_level : (n : ℕ) (ps : List Page) → tables_of_levels (suc n) ps ≡ tables_of_level (suc n) ps + tables_of_levels n ps
-one_level n ps = refl
 
 module _ {depth : Depth} {space : Space} (is : IsSpace depth space) (page : Page) (is_new : IsSpace depth (finite.insert space page.base page)) (absent : (q : Page) → Holds space q → q.base ≢ page.base) (stop : ℕ) (own : level_of page.size ≤ stop)
     (fresh : (level : ℕ) → level_of page.size ≤ level → level < stop → is_member nat_eq (stretches level space) (page.base / table_bytes level) ≡ false) where

@@ -1,26 +1,22 @@
 -- Trees of tables stay trees: an entry that leads to no table is written, a table is linked, a table is taken out.
-use Rattle.std.proofs.Common.{◌≡◌, ◌≢◌, ℕ, zero, suc, ◌+◌, ◌-◌, ◌<◌, ◌≤◌, List, Option, Some, None, inl, inr, ◌⊎◌, ⊎_elim, refl, sym, ap, subst, ◌∙◌, arith}
-use Rattle.std.specs.Prelude.{IsSome, slice_index, replicate}
+use Rattle.std.proofs.Common.{◌≡◌, ◌≢◌, ℕ, suc, ◌+◌, ◌-◌, ◌<◌, ◌≤◌, Some, None, ⊎_elim, sym, ap, subst, ◌∙◌, arith}
+use Rattle.std.specs.Prelude.{IsSome}
 use Rattle.std.proofs.lemmas.Bool.{cases_eq, cases_lt}
-use Rattle.std.proofs.lemmas.List.{get_or_past, get_or-replicate, length-replicate}
 use Rattle.std.specs.FinMap as finite
 use Rattle.vs_types.specs.Depth.{levels, index_at, IsCanonical}
 use Rattle.vs_types.specs.Entry.{meaning}
 use Rattle.vs_types.specs.declared.depth.Depth.{Depth}
-use Rattle.vs_types.specs.declared.page.Rights.{Rights}
 use Rattle.vs_types.specs.declared.entry.Meaning.{Meaning}
 use Rattle.vs_types.specs.declared.entry.Meaning.TheVariants as entry
-use Rattle.vs_arena.specs.Store.{zeros}
 use Rattle.vs_walk.specs.Memory.{Memory}
 use Rattle.vs_walk.specs.Walk.{all_rights, walk, walk_from}
 use Rattle.vs_walk.specs.declared.walk.Walk.TheVariants.{NotMapped}
-use Rattle.vs_space.specs.Held.{word_at, with_word, IsWhole}
+use Rattle.vs_space.specs.Held.{with_word, IsWhole}
 use Rattle.vs_space.specs.Way.{found_at, table_in, table_at, SameWay}
 use Rattle.vs_space.specs.Tree.{IsTree, IsFilled, NothingUnder}
 use Rattle.vs_space.specs.Prune.{IsFilledBut}
-use Rattle.vs_space.proofs.Numbered.{get-insert_same, get-insert_other, get-remove_other}
-use Rattle.vs_space.proofs.Ways.{table_first, table_next, table_none, none_past, table_before, same_table, agree_table, agree_walk, walk_ends}
-use Rattle.vs_space.proofs.Writes.{after_write, off_way, above, table_off_way, table_above, walk_off_way, table_here, found_on_way, same_or_not, same_longer, found_alike, found_elsewhere, written_in_use, used_some, get_written_other}
+use Rattle.vs_space.proofs.Ways.{table_next, none_past, same_table, agree_table, agree_walk}
+use Rattle.vs_space.proofs.Writes.{off_way, above, table_off_way, table_above, walk_off_way, table_here, found_on_way, same_or_not, found_alike, written_in_use}
 
 pub one_some : (x y : ℕ) → Some x ≡ Some y → x ≡ y
 one_some x y e = cc

@@ -1,44 +1,40 @@
 -- What a page table is after a page was taken out.
-use Rattle.std.proofs.Common.{◌≡◌, ◌≢◌, ℕ, zero, suc, ◌+◌, ◌-◌, ◌%◌, ◌<◌, ◌≤◌, List, Some, None, inl, inr, ⊎_elim, refl, sym, ap, subst, ◌∙◌, arith}
-use Rattle.std.specs.Prelude.{IsSome, slice_index}
+use Rattle.std.proofs.Common.{◌≡◌, ◌≢◌, ℕ, suc, ◌+◌, ◌-◌, ◌%◌, ◌<◌, List, Some, None, ⊎_elim, refl, sym, ap, subst, ◌∙◌, arith}
+use Rattle.std.specs.Prelude.{slice_index}
 use Rattle.std.specs.FinMap as finite
-use Rattle.vs_types.specs.Depth.{levels, entry_bytes, index_at, IsCanonical}
+use Rattle.vs_types.specs.Depth.{levels, index_at, IsCanonical}
 use Rattle.vs_types.specs.Entry.{meaning, size_at}
 use Rattle.vs_types.specs.Operation.{IsBase}
-use Rattle.vs_types.specs.Page.{level_of, bytes_of, IsPage}
+use Rattle.vs_types.specs.Page.{level_of, bytes_of}
 use Rattle.vs_types.specs.Space.{Space, Holds, IsSpace, page_at, table_count}
-use Rattle.vs_types.specs.Step.{step, look, Stepped}
+use Rattle.vs_types.specs.Step.{step, Stepped}
 use Rattle.vs_types.specs.Laws.{LooksChanged}
 use Rattle.vs_types.specs.declared.depth.Depth.{Depth}
-use Rattle.vs_types.specs.declared.op.Action.{Action}
-use Rattle.vs_types.specs.declared.op.Action.TheVariants.{Map, Unmap, Protect}
+use Rattle.vs_types.specs.declared.op.Action.TheVariants.{Unmap}
 use Rattle.vs_types.specs.declared.page.Page.{Page}
 use Rattle.vs_types.specs.declared.page.Rights.{Rights}
-use Rattle.vs_types.specs.declared.page.Size.{Size}
-use Rattle.vs_types.specs.declared.entry.Meaning.{Meaning}
 use Rattle.vs_types.specs.declared.entry.Meaning.TheVariants as entry
-use Rattle.vs_types.specs.declared.answer.Answer.{Answer}
 use Rattle.vs_types.specs.declared.answer.Answer.TheVariants as answers
 use Rattle.vs_types.proofs.Steps.{unmap_cases, step_space}
 use Rattle.vs_types.proofs.Looks.{removed_looks}
-use Rattle.vs_types.proofs.Spaces.{page_at_means, remove_cases, remove_space}
+use Rattle.vs_types.proofs.Spaces.{remove_cases}
 use Rattle.vs_walk.specs.Memory.{Memory}
-use Rattle.vs_walk.specs.Walk.{walk, as_walk, TranslatesAs}
-use Rattle.vs_walk.specs.declared.walk.Walk.TheVariants.{NotMapped, Mapped, Reserved}
+use Rattle.vs_walk.specs.Walk.{walk, TranslatesAs}
+use Rattle.vs_walk.specs.declared.walk.Walk.TheVariants.{NotMapped, Reserved}
 use Rattle.vs_walk.proofs.Translates.{not_reserved}
 use Rattle.vs_space.specs.Held.{with_word, IsWhole}
 use Rattle.vs_space.specs.Way.{found_at, table_at, table_in, SameWay}
-use Rattle.vs_space.specs.Tree.{IsTree, IsFilled, NothingUnder}
-use Rattle.vs_space.specs.Prune.{IsFilledBut, IsCut, IsPruned}
+use Rattle.vs_space.specs.Tree.{IsTree, NothingUnder}
+use Rattle.vs_space.specs.Prune.{IsCut, IsPruned}
 use Rattle.vs_space.specs.Place.{IsPlace}
-use Rattle.vs_space.specs.Table.{PageTable, IsTableOf, IsStep, IsSpaceOf, IsPageTable}
+use Rattle.vs_space.specs.Table.{IsStep, IsSpaceOf, IsPageTable}
 use Rattle.vs_space.proofs.Ways.{walk_ends}
 use Rattle.vs_space.proofs.Writes.{table_here, table_above, found_on_way, walk_off_way, len_written, same_or_not}
 use Rattle.vs_space.proofs.Trees.{tree_write, but_none, but_write}
 use Rattle.vs_space.proofs.Regions.{IsLeafPage, nothing_at, translates_changed}
-use Rattle.vs_space.proofs.Protects.{IsMet, space_of}
+use Rattle.vs_space.proofs.Protects.{space_of}
 use Rattle.vs_space.proofs.TableCounts.{put_back, count_added}
-use Rattle.vs_space.proofs.Meets.{page_table, met_of, page_met, level_met, leaf_again}
+use Rattle.vs_space.proofs.Meets.{page_table, page_met, level_met}
 
 -- the unmap of the page that begins there
 unmap_removes : (depth : Depth) (limit : ℕ) (space : Space) (base : ℕ) (q : Page) → page_at space base ≡ Some q → q.base ≡ base → step depth limit space (Unmap base) ≡ record { space = finite.remove space base; answer = answers.Removed q.phys q.size q.rights }

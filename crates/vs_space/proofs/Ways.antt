@@ -1,10 +1,8 @@
 -- The ways of addresses through the tables of a memory.
-use Rattle.std.proofs.Common.{◌≡◌, ◌≢◌, ℕ, zero, suc, ◌+◌, ◌-◌, ◌<◌, ◌≤◌, List, Option, Some, None, inl, inr, ◌⊎◌, ⊎_elim, refl, sym, ap, subst, ◌∙◌, arith}
-use Rattle.std.specs.Prelude.{option_and_then, option_map, IsSome, slice_index}
-use Rattle.std.proofs.lemmas.Bool.{cases_eq}
-use Rattle.std.proofs.lemmas.Option.{option_and_then_some}
+use Rattle.std.proofs.Common.{◌≡◌, ℕ, zero, suc, ◌+◌, ◌-◌, ◌<◌, List, Option, Some, None, refl, sym, ap, subst, ◌∙◌, arith}
+use Rattle.std.specs.Prelude.{option_and_then, option_map, slice_index}
 use Rattle.std.specs.FinMap as finite
-use Rattle.vs_types.specs.Depth.{levels, index_at}
+use Rattle.vs_types.specs.Depth.{index_at}
 use Rattle.vs_types.specs.Entry.{meaning}
 use Rattle.vs_types.specs.Page.{joined}
 use Rattle.vs_types.specs.declared.page.Rights.{Rights}
@@ -12,8 +10,7 @@ use Rattle.vs_types.specs.declared.entry.Meaning.{Meaning}
 use Rattle.vs_types.specs.declared.entry.Meaning.TheVariants as entry
 use Rattle.vs_walk.specs.Memory.{Memory}
 use Rattle.vs_walk.specs.Walk.{all_rights, walk_entry, walk_from}
-use Rattle.vs_walk.specs.declared.walk.Walk.{Walk}
-use Rattle.vs_walk.specs.declared.walk.Walk.TheVariants.{NotMapped, Reserved, Missing, Mapped}
+use Rattle.vs_walk.specs.declared.walk.Walk.TheVariants.{Missing}
 use Rattle.vs_walk.proofs.Walks.{walk_nowhere, walk_missing, walk_at}
 use Rattle.vs_space.specs.Held.{word_at}
 use Rattle.vs_space.specs.Way.{found_at, table_in, table_at, SameWay}

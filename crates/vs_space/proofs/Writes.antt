@@ -1,22 +1,18 @@
 -- What a write of one entry does to ways and walks.
-use Rattle.std.proofs.Common.{◌≡◌, ◌≢◌, ℕ, zero, suc, ◌+◌, ◌-◌, ◌<◌, ◌≤◌, List, [], length, get_or, set, Option, Some, None, inl, inr, ◌⊎◌, ⊎_elim, refl, sym, ap, subst, ◌∙◌, arith}
-use Rattle.std.specs.Prelude.{option_and_then, option_map, unwrap_or, IsSome, slice_index, slice_set}
-use Rattle.std.proofs.lemmas.Bool.{cases_eq, cases_lt}
+use Rattle.std.proofs.Common.{◌≡◌, ◌≢◌, ℕ, zero, suc, ◌-◌, ◌<◌, ◌≤◌, List, [], Option, Some, None, inl, inr, ◌⊎◌, ⊎_elim, refl, sym, ap, subst, ◌∙◌, arith}
+use Rattle.std.specs.Prelude.{option_map, unwrap_or, IsSome, slice_index, slice_set}
+use Rattle.std.proofs.lemmas.Bool.{cases_eq}
 use Rattle.std.proofs.lemmas.List.{get_or-set_same, get_or-set_other}
 use Rattle.std.specs.FinMap as finite
-use Rattle.vs_types.specs.Depth.{levels, index_at}
+use Rattle.vs_types.specs.Depth.{index_at}
 use Rattle.vs_types.specs.Entry.{meaning}
-use Rattle.vs_types.specs.declared.page.Rights.{Rights}
-use Rattle.vs_types.specs.declared.entry.Meaning.{Meaning}
-use Rattle.vs_types.specs.declared.entry.Meaning.TheVariants as entry
-use Rattle.vs_arena.specs.Store.{zeros}
 use Rattle.vs_walk.specs.Memory.{Memory}
-use Rattle.vs_walk.specs.Walk.{all_rights, walk_entry, walk_from}
+use Rattle.vs_walk.specs.Walk.{all_rights, walk_from}
 use Rattle.vs_space.specs.Held.{word_at, with_word, IsWhole}
-use Rattle.vs_space.specs.Way.{found_at, table_in, table_at, SameWay}
+use Rattle.vs_space.specs.Way.{found_at, table_at, SameWay}
 use Rattle.vs_space.specs.Tree.{IsTree}
-use Rattle.vs_space.proofs.Numbered.{get-insert_same, get-insert_other, get-remove_other, len-insert_used}
-use Rattle.vs_space.proofs.Ways.{table_first, table_next, table_none, none_past, table_before, same_table, agree_table, agree_walk}
+use Rattle.vs_space.proofs.Numbered.{get-insert_same, get-insert_other, len-insert_used}
+use Rattle.vs_space.proofs.Ways.{same_table, agree_table, agree_walk}
 
 -- the frame's own words
 pub words_in : (m : Memory) (n : ℕ) → IsSome (finite.get m n) → finite.get m n ≡ Some (unwrap_or (finite.get m n) [])

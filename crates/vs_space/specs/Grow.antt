@@ -1,5 +1,5 @@
 -- New tables on the way of an address, and the first page that is found from an address on.
-use Rattle.std.specs.Prelude.{◌≡◌, ℕ, suc, ◌+◌, ◌-◌, ◌%◌, ◌<◌, ◌≤◌, Some}
+use Rattle.std.specs.Prelude.{◌≡◌, ℕ, ◌+◌, ◌-◌, ◌%◌, ◌<◌, ◌≤◌, Some}
 use Rattle.std.specs.FinMap as finite
 use Rattle.vs_types.specs.Depth.{levels, entry_bytes, IsCanonical}
 use Rattle.vs_types.specs.declared.depth.Depth.{Depth}

@@ -1,14 +1,13 @@
-ghost use Rattle.std.specs.Prelude.{◌≡◌, ℕ, IfOk, OnErr};
+ghost use Rattle.std.specs.Prelude.{◌≤◌, ◌≡◌, ℕ, IfOk, OnErr};
 ghost use Rattle.std.specs.FinMap as finite;
 ghost use Rattle.vs_types.specs.declared.op.Action.{Action};
-ghost use Rattle.vs_types.specs.Depth.{levels, IsCanonical};
+ghost use Rattle.vs_types.specs.Depth.{IsCanonical};
 ghost use Rattle.vs_types.specs.Entry.{size_at};
 ghost use Rattle.vs_types.specs.Operation.{IsBase};
 ghost use Rattle.vs_types.specs.Page.{IsPage};
 ghost use Rattle.vs_types.specs.Space as spaces;
 ghost use Rattle.vs_types.specs.Space.{no_pages, table_count};
 ghost use Rattle.vs_types.specs.Step.{look};
-ghost use Rattle.vs_walk.specs.Walk.{TranslatesAs};
 ghost use Rattle.vs_space.specs.Table.{PageTable, IsTableOf, IsStep};
 
 use crate::tables::{Tables, index_at};
@@ -79,6 +78,7 @@ impl<S: FrameStore> Space<S> {
     /// How many tables there are, the root among them: the frames in use.
     pub fn tables(&self) -> usize
         ensures reads { result ≡ finite.len self.now.memory }
+        ensures at_most { result ≤ self.now.limit }
         ensures counts { (space : spaces.Space) → IsTableOf self.now space → result ≡ table_count self.now.depth space }
     {
         self.tables.used()
@@ -103,7 +103,9 @@ impl<S: FrameStore> Space<S> {
         }
     }
 
-    /// Does an operation.
+    /// Does an operation: the answer and the space after it are those of a step, under the store's capacity as the limit.
+    /// It reads and writes at most one table a level, but for the first page below a table, and for whether a table is
+    /// empty, which is one pass over its words.
     pub fn apply(&mut self, op: Op) -> Answer
         ensures { IsStep self.old op result self.new }
     {

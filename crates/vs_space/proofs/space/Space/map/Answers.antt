@@ -1,5 +1,4 @@
-use Rattle.std.proofs.Common.{◌≡◌, ◌+◌, ◌-◌, ◌%◌, ◌≤◌, ◌<◌, Some, sym, ap, subst, ◌∙◌, arith}
-use Rattle.std.specs.Prelude.{slice_index}
+use Rattle.std.proofs.Common.{◌≡◌, ◌+◌, ◌-◌, ◌%◌, ◌≤◌, Some, sym, ap, subst, ◌∙◌, arith}
 use Rattle.std.specs.FinMap as finite
 use Rattle.vs_types.specs.Depth.{levels, index_at}
 use Rattle.vs_types.specs.Entry.{meaning}
@@ -8,13 +7,13 @@ use Rattle.vs_types.specs.declared.entry.Meaning.{Meaning}
 use Rattle.vs_types.specs.declared.entry.Meaning.TheVariants as entry
 use Rattle.vs_types.specs.declared.op.Action.TheVariants.{Map}
 use Rattle.vs_types.specs.declared.answer.Answer.TheVariants as answers
-use Rattle.vs_space.specs.Held.{Held, IsWhole, with_word}
+use Rattle.vs_space.specs.Held.{Held}
 use Rattle.vs_space.specs.Place.{IsPlace}
 use Rattle.vs_space.specs.Way.{table_at}
-use Rattle.vs_space.specs.Grow.{IsOpen, IsExtended, IsLeastBase}
+use Rattle.vs_space.specs.Grow.{IsExtended, IsLeastBase}
 use Rattle.vs_space.specs.Table.{PageTable, IsStep, IsPageTable}
 use Rattle.vs_space.proofs.Meets.{page_table}
-use Rattle.vs_space.proofs.Maps.{no_walk_reserved, reserved_never, leaf_overlaps, not_lowest, within_root, base_aligned, table_reached, table_overlaps, full_step, is_open, map_table, map_step}
+use Rattle.vs_space.proofs.Maps.{reserved_never, leaf_overlaps, not_lowest, table_reached, table_overlaps, full_step, is_open, map_table, map_step}
 use Rattle.vs_space.proofs.space.Space.map.Goals as goal
 
 pub least_base-base-requires-clause-some_level : goal.least_base-base-requires-clause-some_level

@@ -1,19 +1,16 @@
-use Rattle.std.proofs.Common.{◌≡◌, ◌≢◌, ℕ, ◌-◌, ◌%◌, sym, ap, subst, ◌∙◌, arith}
+use Rattle.std.proofs.Common.{◌≡◌, ◌≢◌, ℕ, ◌-◌, ◌%◌, sym, ap, subst, ◌∙◌}
 use Rattle.vs_types.specs.Depth.{levels, IsCanonical}
-use Rattle.vs_types.specs.Entry.{size_at}
 use Rattle.vs_types.specs.Page.{bytes_of}
 use Rattle.vs_types.specs.declared.entry.Meaning.{Meaning}
-use Rattle.vs_types.specs.declared.entry.Meaning.TheVariants as entry
 use Rattle.vs_types.specs.declared.op.Action.TheVariants.{Unmap}
 use Rattle.vs_types.specs.declared.answer.Answer.TheVariants as answers
-use Rattle.vs_types.specs.declared.page.Size.{Size}
 use Rattle.vs_walk.specs.Walk.{walk}
 use Rattle.vs_walk.specs.declared.walk.Walk.TheVariants.{Reserved}
 use Rattle.std.specs.Prelude.{slice_index}
 use Rattle.vs_space.specs.Held.{Held, with_word}
 use Rattle.vs_space.specs.Place.{IsPlace}
 use Rattle.vs_space.specs.Prune.{IsCut, IsPruned}
-use Rattle.vs_space.specs.Table.{PageTable, IsStep, IsPageTable}
+use Rattle.vs_space.specs.Table.{PageTable, IsStep}
 use Rattle.vs_space.proofs.Places.{way_root}
 use Rattle.vs_space.proofs.Meets.{page_table, absent_end, unmap_absent, unmap_in}
 use Rattle.vs_space.proofs.Unmaps.{cut_here, faultless_here, unmap_table, unmap_step}

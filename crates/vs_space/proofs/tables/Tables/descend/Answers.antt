@@ -1,4 +1,4 @@
-use Rattle.std.proofs.Common.{refl, sym, arith}
+use Rattle.std.proofs.Common.{refl, sym}
 use Rattle.vs_space.proofs.Places.{at_root, all_root, goes_down}
 use Rattle.vs_space.proofs.tables.Tables.descend.Goals as goal
 

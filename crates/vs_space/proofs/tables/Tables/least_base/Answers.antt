@@ -1,9 +1,7 @@
-use Rattle.std.proofs.Common.{◌≡◌, ◌≢◌, ℕ, ◌+◌, ◌-◌, ◌*◌, ◌%◌, ◌^◌, Some, sym, ap, subst, ◌∙◌, arith}
-use Rattle.vs_types.specs.Depth.{levels}
-use Rattle.vs_types.specs.declared.page.Rights.{Rights}
+use Rattle.std.proofs.Common.{◌≡◌, ◌+◌, ◌*◌, ◌%◌, ◌^◌, Some, ap, ◌∙◌, arith}
 use Rattle.vs_space.specs.Way.{found_at}
 use Rattle.vs_types.specs.declared.entry.Meaning.TheVariants as entry
-use Rattle.vs_space.proofs.Searches.{IsSearching, searching_start, not_empty, offset_of, canonical_fits, next_canonical, present_ends, search_on, deep_table}
+use Rattle.vs_space.proofs.Searches.{not_empty, offset_of, canonical_fits, next_canonical, present_ends, search_on, deep_table}
 use Rattle.vs_space.proofs.tables.Tables.least_base.Goals as goal
 
 pub unreachable-requires : goal.unreachable-requires

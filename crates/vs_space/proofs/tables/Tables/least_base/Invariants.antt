@@ -1,5 +1,3 @@
-use Rattle.std.proofs.Common.{◌-◌}
-use Rattle.vs_types.specs.Depth.{levels}
 use Rattle.vs_space.proofs.Searches.{IsSearching}
 use Rattle.vs_space.proofs.tables.Tables.least_base.Given as goal
 

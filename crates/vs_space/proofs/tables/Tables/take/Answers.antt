@@ -1,7 +1,6 @@
-use Rattle.std.proofs.Common.{◌≡◌, ◌+◌, None, sym, ap, subst, ◌∙◌}
-use Rattle.std.specs.Prelude.{IfNone}
+use Rattle.std.proofs.Common.{◌≡◌, ◌+◌, sym, ap, ◌∙◌}
 use Rattle.std.specs.FinMap as finite
-use Rattle.vs_arena.specs.Store.{IsInUse, zeros}
+use Rattle.vs_arena.specs.Store.{zeros}
 use Rattle.vs_arena.proofs.Stores.{IsInUse-insert_same}
 use Rattle.vs_space.specs.Held.{Held, numbered}
 use Rattle.vs_space.proofs.Numbered.{held, stored, whole-zeros, numbered-insert, get_numbered, len_numbered}
