@@ -1,5 +1,5 @@
 -- What `audit` writes of what it reads.
-use Rattle.std.specs.Prelude.{◌≡◌, ℕ, List, take, Option, Some, None}
+use Rattle.std.specs.Prelude.{◌≡◌, ℕ, List, take, Option}
 use Rattle.std.specs.Io.KnownBytes.{Appends}
 use Rattle.nr_audit.specs.Replay.{IsSoOf}
 use Rattle.nr_audit.specs.declared.found.Replay.{Replay}

@@ -1,5 +1,5 @@
 -- What the program prints of a fault and of a verdict: numbers in decimal, addresses in hexadecimal.
-use Rattle.std.specs.Prelude.{ℕ, false, ◌++◌, List, [], ◌∷◌, codes, decimal}
+use Rattle.std.specs.Prelude.{ℕ, false, ◌++◌, List, codes, decimal}
 use Rattle.std.specs.Fmt.{digits}
 use Rattle.nr_audit.specs.declared.found.Replay.{Replay}
 use Rattle.nr_audit.specs.declared.found.Replay.TheVariants.{Replayed, No}

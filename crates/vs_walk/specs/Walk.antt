@@ -1,6 +1,6 @@
 -- How an address is translated (Intel SDM volume 3A, chapter "Paging": linear-address translation, and the rights of
 -- an access by all the entries that a translation uses).
-use Rattle.std.specs.Prelude.{◌≡◌, ℕ, zero, suc, ◌+◌, ◌%◌, true, List, Option, Some, None, slice_index}
+use Rattle.std.specs.Prelude.{◌≡◌, ℕ, zero, suc, ◌+◌, ◌%◌, List, Option, Some, None, slice_index}
 use Rattle.std.specs.FinMap as finite
 use Rattle.vs_types.specs.Depth.{levels, entry_bytes, index_at, IsCanonical}
 use Rattle.vs_types.specs.Page.{joined}
