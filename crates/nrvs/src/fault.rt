@@ -19,8 +19,12 @@ pub enum ProgFault {
 }
 
 impl ProgFault {
+    ghost use Rattle.nrvs.specs.Status.{fault_status};
+
     /// The exit status: 3 for want of memory, else 2.
-    pub fn status(&self) -> u8 {
+    pub fn status(&self) -> u8
+        ensures { result ≡ fault_status self.now }
+    {
         match self {
             ProgFault::Memory => 3,
             ProgFault::CannotRead | ProgFault::CannotWrite => 2,
