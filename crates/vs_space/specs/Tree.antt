@@ -24,3 +24,7 @@ NothingUnder depth memory root k a = (b : ℕ) → IsCanonical depth b → SameW
 -- each table below the root has an address that is mapped
 pub record IsFilled (depth : Depth) (memory : Memory) (root : ℕ) : Type 0 where
   pub filled : (k a n : ℕ) → table_at (levels depth) memory root (suc k) a ≡ Some n → NothingUnder depth memory root (suc k) a → ⊥
+
+-- each frame in use is a table that is reached
+pub record IsReached (top : ℕ) (memory : Memory) (root : ℕ) : Type 0 where
+  pub way : (n : ℕ) → IsSome (finite.get memory n) → (k : ℕ) × (a : ℕ) × (table_at top memory root k a ≡ Some n)
