@@ -11,13 +11,14 @@ use Rattle.vs_arena.proofs.Stores.{IsInUse-insert}
 use Rattle.vs_walk.specs.Memory.{Memory}
 use Rattle.vs_walk.specs.Walk.{all_rights, walk}
 use Rattle.vs_space.specs.Held.{with_word, IsWhole}
-use Rattle.vs_space.specs.Way.{found_at, table_at, SameWay}
+use Rattle.vs_space.specs.Way.{found_at, table_in, table_at, SameWay}
 use Rattle.vs_space.specs.Tree.{IsTree}
 use Rattle.vs_space.specs.Grow.{IsOpen, IsExtended}
 use Rattle.vs_space.proofs.Numbered.{get-insert_same, len-insert_free}
 use Rattle.vs_space.proofs.Writes.{len_written}
 use Rattle.vs_space.proofs.Trees.{but_alike}
 use Rattle.vs_space.proofs.Links.{found_in_zeros, still_clear, linked, old_or_new, tree_link, walk_link, table_take, walk_take, tree_take, new_unreached, found_take}
+use Rattle.vs_space.proofs.Reached.{reached_link}
 
 pub extended_start : (depth : Depth) (m : Memory) (root base from number : ℕ) → IsOpen depth m root base from number → IsExtended depth m m root base from from number
 extended_start depth m root base from number here = record { open_at = here; walks = λ b. refl; more = omega arith }
@@ -76,13 +77,16 @@ module _ (depth : Depth) (m : Memory) (root base level number : ℕ) (here : IsO
       (λ fresh. absurd (off (subst (λ i. SameWay (levels depth) i base b) (sym fresh.0) fresh.1)))
       (old_or_new (levels depth) root (finite.insert m f zeros) tree_taken whole (levels depth - level) base number at_taken w f low_here leads_here clear (new_unreached (levels depth) root m here.tree f free) absent_taken (level - 2) whole_way (suc j) b q r)
 
+  linked_new : table_at (levels depth) (with_word (finite.insert m f zeros) number (index_at (levels depth - (levels depth - level)) base) w) root (suc (levels depth - level)) base ≡ Some f
+  linked_new = linked (levels depth) root (finite.insert m f zeros) tree_taken whole (levels depth - level) base number at_taken w f low_here leads_here clear (new_unreached (levels depth) root m here.tree f free) absent_taken (level - 2) whole_way base (λ i lt. refl)
+
   open_new : IsOpen depth (with_word (finite.insert m f zeros) number (index_at (levels depth - (levels depth - level)) base) w) root base (level - 1) f
   open_new = record {
     tree = tree_new;
     filled = but_alike depth m (with_word (finite.insert m f zeros) number (index_at (levels depth - (levels depth - level)) base) w) root base was_there (λ b canonical. walks_new b) here.filled;
+    all_reached = reached_link (levels depth) root m here.tree f free whole (levels depth - level) base number at_taken w (ap table_in absent_taken) linked_new here.all_reached;
     below = omega (arith, here.below);
-    reached = subst (λ k. table_at (levels depth) (with_word (finite.insert m f zeros) number (index_at (levels depth - (levels depth - level)) base) w) root k base ≡ Some f) steps
-        (linked (levels depth) root (finite.insert m f zeros) tree_taken whole (levels depth - level) base number at_taken w f low_here leads_here clear (new_unreached (levels depth) root m here.tree f free) absent_taken (level - 2) whole_way base (λ i lt. refl));
+    reached = subst (λ k. table_at (levels depth) (with_word (finite.insert m f zeros) number (index_at (levels depth - (levels depth - level)) base) w) root k base ≡ Some f) steps linked_new;
     absent = found_in_zeros (level - 1) (with_word (finite.insert m f zeros) number (index_at (levels depth - (levels depth - level)) base) w) f base
         (still_clear (levels depth) root (finite.insert m f zeros) tree_taken whole (levels depth - level) base number at_taken w f low_here leads_here clear (new_unreached (levels depth) root m here.tree f free) absent_taken (level - 2) whole_way);
   }

@@ -182,7 +182,7 @@ module _ (top : ℕ) (root : ℕ) (m : Memory) (tree : IsTree top m root) (whole
       let none : table_at top cut root j b ≡ None = ap (λ i. table_at top cut root i b) both.0 ∙ none_here top root m tree whole k a n at 0 low ends b here in
       cc
 
-  cut_alike : (j b q : ℕ) → table_at top cut root j b ≡ Some q → finite.get given q ≡ finite.get cut q
+  pub cut_alike : (j b q : ℕ) → table_at top cut root j b ≡ Some q → finite.get given q ≡ finite.get cut q
   cut_alike j b q r = get-remove_other cut f q (cut_unreached j b q r)
 
   pub tree_unlink : IsTree top given root

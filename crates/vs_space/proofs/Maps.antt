@@ -35,6 +35,7 @@ use Rattle.vs_space.specs.Table.{IsStep, IsSpaceOf, IsPageTable}
 use Rattle.vs_space.proofs.Ways.{table_next, walk_ends, words_found}
 use Rattle.vs_space.proofs.Writes.{table_here, found_on_way, walk_off_way, len_written}
 use Rattle.vs_space.proofs.Trees.{tree_write, but_none, but_write, filled_by}
+use Rattle.vs_space.proofs.Reached.{reached_write, whole_written}
 use Rattle.vs_space.proofs.Regions.{leaf_page, nothing_at, translates_changed, covers_way, way_covers, level_some}
 use Rattle.vs_space.proofs.Protects.{IsMet, space_of, never_reserved, page_here, page_level, stays}
 use Rattle.vs_space.proofs.Meets.{page_table, met_of, never_table}
@@ -184,7 +185,7 @@ module _ (depth : Depth) (m : Memory) (root : ℕ) (table : IsPageTable depth m 
         ∙ ap (λ n. let s : Stepped = record { space = space; answer = answers.Full n } in s) (count ∙ sym is_need))
 
     pub is_open : IsOpen depth m root page.base level (slice_index way level)
-    is_open = record { tree = table.tree; filled = but_none page.base table.filled; below = place.below; reached = here.at; absent = place.is }
+    is_open = record { tree = table.tree; filled = but_none page.base table.filled; all_reached = table.reached; below = place.below; reached = here.at; absent = place.is }
 
     -- the leaf is written in the last table
     module _ (m' : Memory) (number : ℕ) (extended : IsExtended depth m m' root page.base level (level_of page.size) number) (whole : IsWhole m') (w index : ℕ) (leads : meaning (level_of page.size) w ≡ entry.Leaf page.phys page.rights) (is_index : index ≡ index_at (level_of page.size) page.base) (low : index < 512) where
@@ -202,6 +203,9 @@ module _ (depth : Depth) (m : Memory) (root : ℕ) (table : IsPageTable depth m 
 
       ends : table_in (Some (meaning (levels depth - (levels depth - level_of page.size)) w)) ≡ None
       ends = ap (λ e. table_in (Some e)) leads_here
+
+      ended : table_in (found_at (levels depth - (levels depth - level_of page.size)) m' number page.base) ≡ None
+      ended = ap table_in (subst (λ l. found_at l m' number page.base ≡ Some entry.Absent) (sym back) extended.open_at.absent)
 
       abbrev new : Memory
       new = with_word m' number (index_at (levels depth - (levels depth - level_of page.size)) page.base) w
@@ -261,6 +265,8 @@ module _ (depth : Depth) (m : Memory) (root : ℕ) (table : IsPageTable depth m 
       map_table limit room = subst (λ i. IsPageTable depth (with_word m' number i w) root) index_same (record {
         tree = tree_new;
         filled = filled_new;
+        reached = reached_write (levels depth) root m' extended.open_at.tree whole (levels depth - level_of page.size) page.base number extended.open_at.reached w ended extended.open_at.all_reached;
+        whole = whole_written m' number (index_at (levels depth - (levels depth - level_of page.size)) page.base) w (extended.open_at.tree.in_use (levels depth - level_of page.size) page.base number extended.open_at.reached) whole;
         some_space = ((step depth limit table.some_space.0 (Map page)).space, space_is limit room table.some_space.0 table.some_space.1);
       })
 

@@ -1,8 +1,9 @@
 -- A page table with a root and nothing else.
-use Rattle.std.proofs.Common.{◌≡◌, ℕ, zero, suc, ◌+◌, ◌-◌, List, Some, None, refl, sym, ap, subst, ◌∙◌, arith}
+use Rattle.std.proofs.Common.{◌≡◌, ◌≢◌, ℕ, zero, suc, ◌+◌, ◌-◌, List, Some, None, ⊎_elim, refl, sym, ap, subst, ◌∙◌, arith}
 use Rattle.std.specs.Prelude.{IsSome}
 use Rattle.vs_walk.specs.Walk.{walk_from}
 use Rattle.vs_walk.specs.declared.walk.Walk.TheVariants.{NotMapped}
+use Rattle.std.proofs.lemmas.Bool.{cases_eq}
 use Rattle.std.specs.FinMap as finite
 use Rattle.std.specs.Ordering.{nat_cmp}
 use Rattle.vs_types.specs.Depth.{levels}
@@ -15,9 +16,9 @@ use Rattle.vs_arena.specs.Store.{zeros}
 use Rattle.vs_walk.specs.Memory.{Memory}
 use Rattle.vs_walk.specs.Walk.{as_walk, TranslatesAs, all_rights}
 use Rattle.vs_space.specs.Way.{found_at, table_at, table_in}
-use Rattle.vs_space.specs.Tree.{IsTree}
+use Rattle.vs_space.specs.Tree.{IsTree, IsReached}
 use Rattle.vs_space.specs.Table.{IsTableOf, IsPageTable}
-use Rattle.vs_space.proofs.Numbered.{get-insert_same, len-insert_free}
+use Rattle.vs_space.proofs.Numbered.{get-insert_same, get-insert_other, len-insert_free, whole-empty, whole-zeros}
 use Rattle.vs_space.proofs.Ways.{table_first, table_next, none_past, walk_found}
 use Rattle.vs_space.proofs.Writes.{used_some}
 use Rattle.vs_space.proofs.Links.{found_in_zeros}
@@ -53,6 +54,16 @@ module _ (depth : Depth) (root : ℕ) where
         cc;
   }
 
+  reached_alone : IsReached (levels depth) alone root
+  reached_alone = record {
+    way = λ n used. ⊎_elim
+        (λ (same : n ≡ root). (0, 0, table_first (levels depth) root alone 0 ∙ ap Some (sym same)))
+        (λ (other : n ≢ root).
+        let none : IsSome {T = List ℕ} None = subst IsSome (get-insert_other finite.empty root zeros n other ∙ finite.get-empty nat_cmp n) used in
+        absurd (cc))
+        (cases_eq n root);
+  }
+
   positive : (d : Depth) → levels d ≡ suc (levels d - 1)
   positive Four = refl
 
@@ -66,6 +77,8 @@ module _ (depth : Depth) (root : ℕ) where
   new_table = record {
     tree = tree_alone;
     filled = record { filled = λ k a n r nothing. let zero_steps = (only_root (suc k) a n r).0 in absurd (omega arith) };
+    reached = reached_alone;
+    whole = whole-zeros finite.empty root (whole-empty finite.empty refl);
     some_space = (
       no_pages,
       record {

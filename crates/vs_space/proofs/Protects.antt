@@ -31,6 +31,7 @@ use Rattle.vs_space.specs.Table.{PageTable, IsTableOf, IsStep, IsSpaceOf, IsPage
 use Rattle.vs_space.proofs.Ways.{walk_ends}
 use Rattle.vs_space.proofs.Writes.{table_here, found_on_way, walk_off_way, len_written}
 use Rattle.vs_space.proofs.Trees.{tree_write, but_none, but_write, filled_by}
+use Rattle.vs_space.proofs.Reached.{reached_write, whole_written}
 use Rattle.vs_space.proofs.Regions.{IsLeafPage, leaf_page, nothing_at, translates_changed, way_covers}
 
 -- a page table is that of just one space, which has as many tables as there are
@@ -178,5 +179,7 @@ module _ (depth : Depth) (m : Memory) (root : ℕ) (table : IsPageTable depth m 
   table_new = record {
     tree = tree_new;
     filled = filled_new;
+    reached = reached_write (levels depth) root m table.tree whole k base n met.at w (ap table_in met.found) table.reached;
+    whole = whole_written m n (index_at (levels depth - k) base) w (table.tree.in_use k base n met.at) whole;
     some_space = ((step depth 0 table.some_space.0 (Protect base rights)).space, space_is 0 table.some_space.0 table.some_space.1);
   }

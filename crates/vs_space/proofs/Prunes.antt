@@ -16,15 +16,16 @@ use Rattle.vs_types.proofs.Pages.{canonical_means}
 use Rattle.vs_walk.specs.Memory.{Memory}
 use Rattle.vs_walk.specs.Walk.{walk}
 use Rattle.vs_walk.specs.declared.walk.Walk.TheVariants.{NotMapped, Mapped, Reserved}
-use Rattle.vs_space.specs.Held.{word_at, with_word, IsWhole}
+use Rattle.vs_space.specs.Held.{word_at, with_word}
 use Rattle.vs_space.specs.Way.{found_at, entry_in, IsFirstPresent, table_in, table_at, SameWay}
 use Rattle.vs_space.specs.Tree.{IsTree, NothingUnder}
 use Rattle.vs_space.specs.Prune.{IsCut, IsPruned}
-use Rattle.vs_space.proofs.Numbered.{len-remove_used}
+use Rattle.vs_space.proofs.Numbered.{len-remove_used, whole-remove}
 use Rattle.vs_space.proofs.Ways.{table_next, same_table, found_same, walk_ends}
 use Rattle.vs_space.proofs.Writes.{len_written, written_in_use, same_or_not, words_in}
 use Rattle.vs_space.proofs.Trees.{but_alike, filled_up}
 use Rattle.vs_space.proofs.Links.{tree_unlink, table_unlink, table_kept, walk_unlink_off, walk_unlink_on, found_unlinked}
+use Rattle.vs_space.proofs.Reached.{reached_unlink, whole_written}
 use Rattle.vs_space.proofs.Regions.{stretch_same}
 
 -- ---- entries by index
@@ -160,6 +161,8 @@ module _ (depth : Depth) (m : Memory) (root base level : ℕ) (way : List ℕ) (
   pruned_by old from pruning something = record {
     tree = cut.tree;
     filled = filled_up depth m root base (levels depth - level) cut.filled none_past_here something;
+    all_reached = cut.all_reached;
+    whole = cut.whole;
     walks = pruning.walks;
     above = pruning.above;
     below = cut.below;
@@ -170,7 +173,7 @@ module _ (depth : Depth) (m : Memory) (root base level : ℕ) (way : List ℕ) (
 
   -- ---- a table whose entries are all absent is given back
 
-  module _ (whole : IsWhole m) (below : level < levels depth) (empty : (i : ℕ) → i < 512 → entry_in level m (slice_index way level) i ≡ Some entry.Absent) (index : ℕ) (is_index : index ≡ index_at (level + 1) base) (low : index < 512) where
+  module _ (below : level < levels depth) (empty : (i : ℕ) → i < 512 → entry_in level m (slice_index way level) i ≡ Some entry.Absent) (index : ℕ) (is_index : index ≡ index_at (level + 1) base) (low : index < 512) where
     abbrev given : Memory
     given = finite.remove (with_word m (slice_index way (level + 1)) index 0) (slice_index way level)
 
@@ -195,15 +198,24 @@ module _ (depth : Depth) (m : Memory) (root base level : ℕ) (way : List ℕ) (
     down : table_at (levels depth) m root (suc (levels depth - (level + 1))) base ≡ Some (slice_index way level)
     down = ap (λ j. table_at (levels depth) m root j base) steps ∙ at
 
+    reaches_here : (b : ℕ) → SameWay (levels depth) (levels depth - level) base b → table_at (levels depth) m root (levels depth - level) b ≡ Some (slice_index way level)
+    reaches_here b same = sym (same_table (levels depth) root m (levels depth - level) base b same) ∙ at
+
+    absent_here : (b : ℕ) → found_at level m (slice_index way level) b ≡ Some entry.Absent
+    absent_here b = found_entry level m (slice_index way level) b ∙ empty (index_at level b) (index_low b) where
+      index_low : (b : ℕ) → index_at level b < 512
+      index_low b = omega arith
+
     nothing_here : NothingUnder depth m root (levels depth - level) base
     nothing_here = λ b is_b same.
-        let there = sym (same_table (levels depth) root m (levels depth - level) base b same) ∙ at in
-        let found : found_at level m (slice_index way level) b ≡ Some entry.Absent = found_entry level m (slice_index way level) b ∙ empty (index_at level b) (index_low (b)) in
         let up : level ≡ suc (level - 1) = omega (arith, cut.some) in
-        walk_ends (levels depth) root m cut.tree.allows b (levels depth - level) (level - 1) (slice_index way level) entry.Absent (omega (arith, cut.some, cut.below)) there (subst (λ l. found_at l m (slice_index way level) b ≡ Some entry.Absent) up found)
-      where
-        index_low : (b : ℕ) → index_at level b < 512
-        index_low b = omega arith
+        walk_ends (levels depth) root m cut.tree.allows b (levels depth - level) (level - 1) (slice_index way level) entry.Absent (omega (arith, cut.some, cut.below)) (reaches_here b same) (subst (λ l. found_at l m (slice_index way level) b ≡ Some entry.Absent) up (absent_here b))
+
+    none_below : (b : ℕ) → SameWay (levels depth) (suc (levels depth - (level + 1))) base b → table_at (levels depth) m root (suc (suc (levels depth - (level + 1)))) b ≡ None
+    none_below b same =
+        ap (λ j. table_at (levels depth) m root (suc j) b) steps
+        ∙ table_next (levels depth) root m (levels depth - level) b (slice_index way level) (reaches_here b (subst (λ j. SameWay (levels depth) j base b) steps same))
+        ∙ ap (λ l. table_in (found_at l m (slice_index way level) b)) back ∙ ap table_in (absent_here b)
 
     abbrev cleared : ℕ → Memory
     cleared i = finite.remove (with_word m (slice_index way (level + 1)) i 0) (slice_index way level)
@@ -211,22 +223,24 @@ module _ (depth : Depth) (m : Memory) (root base level : ℕ) (way : List ℕ) (
     walks_same : (b : ℕ) → IsCanonical depth b → walk depth (cleared (index_at (levels depth - (levels depth - (level + 1))) base)) root b ≡ walk depth m root b
     walks_same b is_b = ⊎_elim
         (λ same.
-        walk_unlink_on (levels depth) root m cut.tree whole (levels depth - (level + 1)) base (slice_index way (level + 1)) (slice_index way level) at_parent down low_here b level (omega arith) same
+        walk_unlink_on (levels depth) root m cut.tree cut.whole (levels depth - (level + 1)) base (slice_index way (level + 1)) (slice_index way level) at_parent down low_here b level (omega arith) same
         ∙ sym (nothing_here b is_b (subst (λ j. SameWay (levels depth) j base b) steps same)))
-        (λ apart. walk_unlink_off (levels depth) root m cut.tree whole (levels depth - (level + 1)) base (slice_index way (level + 1)) (slice_index way level) at_parent down low_here b apart)
+        (λ apart. walk_unlink_off (levels depth) root m cut.tree cut.whole (levels depth - (level + 1)) base (slice_index way (level + 1)) (slice_index way level) at_parent down low_here b apart)
         (same_or_not (levels depth) (suc (levels depth - (level + 1))) base b)
 
     cut_after : IsCut depth (cleared (index_at (levels depth - (levels depth - (level + 1))) base)) root base (level + 1) way
     cut_after = record {
-      tree = tree_unlink (levels depth) root m cut.tree whole (levels depth - (level + 1)) base (slice_index way (level + 1)) (slice_index way level) at_parent down low_here;
+      tree = tree_unlink (levels depth) root m cut.tree cut.whole (levels depth - (level + 1)) base (slice_index way (level + 1)) (slice_index way level) at_parent down low_here;
       filled = but_alike depth m (cleared (index_at (levels depth - (levels depth - (level + 1))) base)) root base
-          (λ j b q r off. table_unlink (levels depth) root m cut.tree whole (levels depth - (level + 1)) base (slice_index way (level + 1)) (slice_index way level) at_parent down low_here (suc j) b q r)
+          (λ j b q r off. table_unlink (levels depth) root m cut.tree cut.whole (levels depth - (level + 1)) base (slice_index way (level + 1)) (slice_index way level) at_parent down low_here (suc j) b q r)
           walks_same cut.filled;
+      all_reached = reached_unlink (levels depth) root m cut.tree cut.whole (levels depth - (level + 1)) base (slice_index way (level + 1)) (slice_index way level) at_parent down low_here none_below cut.all_reached;
+      whole = whole-remove _ (slice_index way level) (whole_written m (slice_index way (level + 1)) (index_at (levels depth - (levels depth - (level + 1))) base) 0 (cut.tree.in_use (levels depth - (level + 1)) base (slice_index way (level + 1)) at_parent) cut.whole);
       some = omega arith;
       below = omega arith;
-      reached = λ j from to. table_kept (levels depth) root m cut.tree whole (levels depth - (level + 1)) base (slice_index way (level + 1)) (slice_index way level) at_parent down low_here (levels depth - j) base (omega arith) ∙ cut.reached j (omega arith) to;
+      reached = λ j from to. table_kept (levels depth) root m cut.tree cut.whole (levels depth - (level + 1)) base (slice_index way (level + 1)) (slice_index way level) at_parent down low_here (levels depth - j) base (omega arith) ∙ cut.reached j (omega arith) to;
       absent = subst (λ l. found_at l (cleared (index_at (levels depth - (levels depth - (level + 1))) base)) (slice_index way (level + 1)) base ≡ Some entry.Absent) level_up
-          (found_unlinked (levels depth) root m cut.tree whole (levels depth - (level + 1)) base (slice_index way (level + 1)) (slice_index way level) at_parent down low_here base (λ i lt. refl));
+          (found_unlinked (levels depth) root m cut.tree cut.whole (levels depth - (level + 1)) base (slice_index way (level + 1)) (slice_index way level) at_parent down low_here base (λ i lt. refl));
     }
 
     one_fewer : finite.len (cleared (index_at (levels depth - (levels depth - (level + 1))) base)) + 1 ≡ finite.len m

@@ -31,6 +31,7 @@ use Rattle.vs_space.specs.Table.{IsStep, IsSpaceOf, IsPageTable}
 use Rattle.vs_space.proofs.Ways.{walk_ends}
 use Rattle.vs_space.proofs.Writes.{table_here, table_above, found_on_way, walk_off_way, len_written, same_or_not}
 use Rattle.vs_space.proofs.Trees.{tree_write, but_none, but_write}
+use Rattle.vs_space.proofs.Reached.{reached_write, whole_written}
 use Rattle.vs_space.proofs.Regions.{IsLeafPage, nothing_at, translates_changed}
 use Rattle.vs_space.proofs.Protects.{space_of}
 use Rattle.vs_space.proofs.TableCounts.{put_back, count_added}
@@ -55,6 +56,9 @@ module _ (depth : Depth) (m : Memory) (root : ℕ) (table : IsPageTable depth m 
 
   at : table_at (levels depth) m root (levels depth - level) base ≡ Some (slice_index way level)
   at = place.reached level (omega arith) place.below
+
+  found : found_at (levels depth - (levels depth - level)) m (slice_index way level) base ≡ Some (entry.Leaf phys own)
+  found = subst (λ l. found_at l m (slice_index way level) base ≡ Some (entry.Leaf phys own)) (sym back) place.is
 
   low : index_at (levels depth - (levels depth - level)) base < 512
   low = omega arith
@@ -95,6 +99,8 @@ module _ (depth : Depth) (m : Memory) (root : ℕ) (table : IsPageTable depth m 
   is_cut = record {
     tree = tree_cut;
     filled = but_write depth root m table.tree whole (levels depth - level) base (slice_index way level) at 0 low ends (but_none base table.filled);
+    all_reached = reached_write (levels depth) root m table.tree whole (levels depth - level) base (slice_index way level) at 0 (ap table_in found) table.reached;
+    whole = whole_written m (slice_index way level) (index_at (levels depth - (levels depth - level)) base) 0 (table.tree.in_use (levels depth - level) base (slice_index way level) at) whole;
     some = place.above;
     below = place.below;
     reached = λ j from to. table_above (levels depth) root m table.tree whole (levels depth - level) base (slice_index way level) at 0 base (levels depth - j) (omega arith) ∙ place.reached j from to;
@@ -193,6 +199,8 @@ module _ (depth : Depth) (m : Memory) (root : ℕ) (table : IsPageTable depth m 
     unmap_table = record {
       tree = pruned.tree;
       filled = pruned.filled;
+      reached = pruned.all_reached;
+      whole = pruned.whole;
       some_space = ((step depth 0 table.some_space.0 (Unmap base)).space, space_is m' up pruned_here aligned 0 table.some_space.0 table.some_space.1);
     }
 

@@ -9,13 +9,14 @@ use Rattle.vs_walk.specs.Memory.{Memory}
 use Rattle.vs_walk.specs.Walk.{walk}
 use Rattle.vs_walk.specs.declared.walk.Walk.TheVariants.{NotMapped}
 use Rattle.vs_space.specs.Way.{found_at, table_at, SameWay}
-use Rattle.vs_space.specs.Tree.{IsTree}
+use Rattle.vs_space.specs.Tree.{IsTree, IsReached}
 use Rattle.vs_space.specs.Prune.{IsFilledBut}
 
 -- the way of the address ends at an absent entry of this table of this level; other tables than those on it have something mapped
 pub record IsOpen (depth : Depth) (memory : Memory) (root base level number : ℕ) : Type 0 where
   pub tree : IsTree (levels depth) memory root
   pub filled : IsFilledBut depth memory root base
+  pub all_reached : IsReached (levels depth) memory root
   pub below : level ≤ levels depth
   pub reached : table_at (levels depth) memory root (levels depth - level) base ≡ Some number
   pub absent : found_at level memory number base ≡ Some entry.Absent

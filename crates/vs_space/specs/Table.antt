@@ -12,7 +12,8 @@ use Rattle.vs_types.specs.declared.op.Action.{Action}
 use Rattle.vs_types.specs.declared.answer.Answer.{Answer}
 use Rattle.vs_walk.specs.Memory.{Memory}
 use Rattle.vs_walk.specs.Walk.{TranslatesAs}
-use Rattle.vs_space.specs.Tree.{IsTree, IsFilled}
+use Rattle.vs_space.specs.Held.{IsWhole}
+use Rattle.vs_space.specs.Tree.{IsTree, IsFilled, IsReached}
 
 -- the depth, how many tables there can be, the frame number of the root, and the frames of the tables
 pub record PageTable : Type 0 where
@@ -54,4 +55,6 @@ pub record IsSpaceOf (depth : Depth) (memory : Memory) (root : ℕ) (space : Spa
 pub record IsPageTable (depth : Depth) (memory : Memory) (root : ℕ) : Type 0 where
   pub tree : IsTree (levels depth) memory root
   pub filled : IsFilled depth memory root
+  pub reached : IsReached (levels depth) memory root
+  pub whole : IsWhole memory
   pub some_space : (space : Space) × IsSpaceOf depth memory root space

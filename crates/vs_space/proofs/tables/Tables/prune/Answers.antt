@@ -26,7 +26,7 @@ loop-level-preserved g c =
     let after = c.give.ensures ∙ ap (λ (h : Held). let given : Held = record { limit = h.limit; memory = finite.remove h.memory (slice_index c.args.way.now c.loop-level.level) } in given) c.write.ensures.written in
     record {
       pruning = subst (λ (h : Held). IsPruning c.args.depth c.args.self.now.memory h.memory root c.args.address c.args.from (c.loop-level.level + 1) c.args.way.now) (sym after)
-          (pruning_on c.args.depth c.loop-level.self.memory root c.args.address c.loop-level.level c.args.way.now c.requires.canonical going.cut c.write.ensures.whole (omega (arith, c.loop-level-test.true, c.levels.ensures)) c.in_default.ensures.none c.index_at.result c.index_at.ensures.is c.index_at.ensures.low c.args.self.now.memory c.args.from going);
+          (pruning_on c.args.depth c.loop-level.self.memory root c.args.address c.loop-level.level c.args.way.now c.requires.canonical going.cut (omega (arith, c.loop-level-test.true, c.levels.ensures)) c.in_default.ensures.none c.index_at.result c.index_at.ensures.is c.index_at.ensures.low c.args.self.now.memory c.args.from going);
       same_limit = ap (λ (h : Held). h.limit) after ∙ c.loop-level.invariant.same_limit;
     }
 

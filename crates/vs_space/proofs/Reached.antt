@@ -1,0 +1,108 @@
+-- Each frame in use stays reached, and whole: an entry is written, a table is linked, an empty table is taken out.
+use Rattle.std.proofs.Common.{◌≡◌, ◌≢◌, ℕ, suc, ◌+◌, ◌-◌, ◌<◌, ◌≤◌, List, Some, None, ⊎_elim, sym, ap, subst, ◌∙◌, arith}
+use Rattle.std.specs.Prelude.{IsSome}
+use Rattle.std.proofs.lemmas.Bool.{cases_eq, cases_lt}
+use Rattle.std.proofs.lemmas.List.{length-set}
+use Rattle.std.specs.FinMap as finite
+use Rattle.vs_types.specs.Depth.{index_at}
+use Rattle.vs_arena.specs.Store.{zeros}
+use Rattle.vs_walk.specs.Memory.{Memory}
+use Rattle.vs_space.specs.Held.{with_word, IsWhole}
+use Rattle.vs_space.specs.Way.{found_at, table_in, table_at, SameWay}
+use Rattle.vs_space.specs.Tree.{IsTree, IsReached}
+use Rattle.vs_space.proofs.Numbered.{get-insert_other, get-remove_same, get-remove_other, whole-insert}
+use Rattle.vs_space.proofs.Ways.{table_next, none_past, same_table, found_same}
+use Rattle.vs_space.proofs.Writes.{words_in, get_written_other, table_off_way, table_above, same_or_not}
+use Rattle.vs_space.proofs.Trees.{one_some, unreached_table}
+use Rattle.vs_space.proofs.Links.{table_take, tree_take, cut_alike}
+
+-- ---- frames in use
+
+-- a write keeps each frame whole
+pub whole_written : (m : Memory) (n i w : ℕ) → IsSome (finite.get m n) → IsWhole m → IsWhole (with_word m n i w)
+unfolding with_word
+whole_written m n i w used is = whole-insert m n _ (length-set _ i w ∙ is.whole n _ (words_in m n used)) is
+
+-- a write takes no frame in use
+used_before : (m : Memory) (n i w q : ℕ) → IsSome (finite.get m n) → IsSome (finite.get (with_word m n i w) q) → IsSome (finite.get m q)
+used_before m n i w q used now = ⊎_elim
+    (λ (same : q ≡ n). subst (λ k. IsSome (finite.get m k)) (sym same) used)
+    (λ (other : q ≢ n). subst IsSome (get_written_other m n i w q other) now)
+    (cases_eq q n)
+
+-- what is in use once a frame is given back isn't that frame
+not_given : (m : Memory) (f q : ℕ) → IsSome (finite.get (finite.remove m f) q) → q ≢ f
+not_given m f q now same =
+    let none : IsSome {T = List ℕ} None = subst IsSome (ap (finite.get (finite.remove m f)) same ∙ get-remove_same m f) now in
+    cc
+
+kept_before : (m : Memory) (f q : ℕ) → IsSome (finite.get (finite.remove m f) q) → IsSome (finite.get m q)
+kept_before m f q now = subst IsSome (get-remove_other m f q (not_given m f q now)) now
+
+-- a way that has ended leads to no table
+ended_before : (top root : ℕ) (m : Memory) (i j b q : ℕ) → table_at top m root i b ≡ None → i ≤ j → table_at top m root j b ≡ Some q → ⊥
+ended_before top root m i j b q none le reached =
+    let gone = none_past top root m i (j - i) b none in
+    let way : (j - i) + i ≡ j = omega arith in
+    let nowhere : table_at top m root j b ≡ None = subst (λ x. table_at top m root x b ≡ None) way gone in
+    cc
+
+-- ---- the entry for an address a in the table that is reached after k entries is written
+
+module _ (top : ℕ) (root : ℕ) (m : Memory) (tree : IsTree top m root) (whole : IsWhole m) (k a n : ℕ) (at : table_at top m root k a ≡ Some n) (w : ℕ) where
+  -- a way that doesn't go on past the entry stands
+  stands_off : (j b q : ℕ) → (SameWay top (suc k) a b → k < j → ⊥) → table_at top m root j b ≡ Some q → table_at top (with_word m n (index_at (top - k) a) w) root j b ≡ Some q
+  stands_off j b q off reached = ⊎_elim
+      (λ same. ⊎_elim
+      (λ (past : k < j). absurd (off same past))
+      (λ (le : j ≤ k). table_above top root m tree whole k a n at w b j le ∙ reached)
+      (cases_lt k j))
+      (λ apart. table_off_way top root m tree whole k a n at w b j apart ∙ reached)
+      (same_or_not top (suc k) a b)
+
+  -- where the entry led to no table, each way stands
+  module _ (ended : table_in (found_at (top - k) m n a) ≡ None) where
+    ended_at : (b : ℕ) → SameWay top (suc k) a b → table_at top m root (suc k) b ≡ None
+    ended_at b same =
+        table_next top root m k b n (sym (same_table top root m k a b (λ i lt. same i (omega arith))) ∙ at)
+        ∙ ap table_in (sym (found_same top root (top - k) m n a b (same k (omega arith)))) ∙ ended
+
+    stands : (j b q : ℕ) → table_at top m root j b ≡ Some q → table_at top (with_word m n (index_at (top - k) a) w) root j b ≡ Some q
+    stands j b q reached = stands_off j b q (λ same past. ended_before top root m (suc k) j b q (ended_at b same) (omega (arith, past)) reached) reached
+
+    pub reached_write : IsReached top m root → IsReached top (with_word m n (index_at (top - k) a) w) root
+    reached_write is = record {
+      way = λ q now. let old = is.way q (used_before m n (index_at (top - k) a) w q (tree.in_use k a n at) now) in (old.0, old.1, stands old.0 old.1 q old.2);
+    }
+
+-- ---- a frame that wasn't in use is linked at an absent entry
+
+pub reached_link : (top root : ℕ) (m : Memory) (tree : IsTree top m root) (f : ℕ) (free : finite.get m f ≡ None) (whole : IsWhole (finite.insert m f zeros)) (k a n : ℕ) → table_at top (finite.insert m f zeros) root k a ≡ Some n → (w : ℕ) → table_in (found_at (top - k) (finite.insert m f zeros) n a) ≡ None → table_at top (with_word (finite.insert m f zeros) n (index_at (top - k) a) w) root (suc k) a ≡ Some f → IsReached top m root → IsReached top (with_word (finite.insert m f zeros) n (index_at (top - k) a) w) root
+reached_link top root m tree f free whole k a n at w ended down is = record {
+  way = λ q now. ⊎_elim
+      (λ (same : q ≡ f). (suc k, a, down ∙ ap Some (sym same)))
+      (λ (other : q ≢ f).
+      let taken = tree_take top root m tree f free in
+      let before = used_before (finite.insert m f zeros) n (index_at (top - k) a) w q (taken.in_use k a n at) now in
+      let old = is.way q (subst IsSome (get-insert_other m f zeros q other) before) in
+      (old.0, old.1, stands top root (finite.insert m f zeros) taken whole k a n at w ended old.0 old.1 q (table_take top root m tree f free old.0 old.1 ∙ old.2)))
+      (cases_eq q f);
+}
+
+-- ---- the entry that leads to a table that leads to none is cleared, and the frame given back
+
+pub reached_unlink : (top root : ℕ) (m : Memory) (tree : IsTree top m root) (whole : IsWhole m) (k a n f : ℕ) (at : table_at top m root k a ≡ Some n) (down : table_at top m root (suc k) a ≡ Some f) (low : index_at (top - k) a < 512) → ((b : ℕ) → SameWay top (suc k) a b → table_at top m root (suc (suc k)) b ≡ None) → IsReached top m root → IsReached top (finite.remove (with_word m n (index_at (top - k) a) 0) f) root
+reached_unlink top root m tree whole k a n f at down low empty is = record {
+  way = λ q now.
+      let cut = with_word m n (index_at (top - k) a) 0 in
+      let other = not_given cut f q now in
+      let old = is.way q (used_before m n (index_at (top - k) a) 0 q (tree.in_use k a n at) (kept_before cut f q now)) in
+      let off : SameWay top (suc k) a old.1 → k < old.0 → ⊥ = λ same past. ⊎_elim
+      (λ (here : old.0 ≡ suc k). other (one_some q f (sym old.2 ∙ ap (λ j. table_at top m root j old.1) here ∙ sym (same_table top root m (suc k) a old.1 same) ∙ down)))
+      (λ (below : old.0 ≢ suc k). ended_before top root m (suc (suc k)) old.0 old.1 q (empty old.1 same) (omega (arith, past, below)) old.2)
+      (cases_eq old.0 (suc k)) in (
+        old.0,
+        old.1,
+        unreached_table top root cut (finite.remove cut f) (cut_alike top root m tree whole k a n f at down low) old.0 old.1 ∙ stands_off top root m tree whole k a n at 0 old.0 old.1 q off old.2,
+      );
+}
