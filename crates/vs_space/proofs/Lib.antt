@@ -17,3 +17,4 @@ pub mod Extends
 pub mod Searches
 pub mod Maps
 pub mod News
+pub mod Traversed

@@ -1,0 +1,332 @@
+-- The way through all tables of a tree: it reaches each frame in use once, and no other, and it meets no fault where the
+-- memory translates as a space.
+use Rattle.std.proofs.Common.{◌≡◌, ℕ, zero, suc, ◌+◌, ◌-◌, ◌*◌, ◌/◌, ◌^◌, ◌<◌, ◌≤◌, List, [], ◌∷◌, ◌++◌, Option, Some, None, length, get_or, flat_map, Contains, IsTrue, ⊎_elim, refl, sym, ap, subst, ◌∙◌, arith, mod-lt}
+use Rattle.std.specs.Prelude.{⊤, IsSome, option_map, slice_index}
+use Rattle.std.specs.List.{enumerate_from}
+use Rattle.std.proofs.lemmas.Nat.{div-mul-add}
+use Rattle.std.proofs.lemmas.List.Elements.{Contains-append_cases, Contains-append_right, filter_map-append}
+use Rattle.std.specs.FinMap as finite
+use Rattle.vs_types.specs.Depth.{levels, entry_bytes, table_bytes, index_at}
+use Rattle.vs_types.specs.Page.{joined}
+use Rattle.vs_types.specs.Entry.{meaning}
+use Rattle.vs_types.specs.Space.{Space}
+use Rattle.vs_types.specs.declared.depth.Depth.{Depth}
+use Rattle.vs_types.specs.declared.page.Rights.{Rights}
+use Rattle.vs_types.specs.declared.entry.Meaning.{Meaning}
+use Rattle.vs_types.specs.declared.entry.Meaning.TheVariants as entry
+use Rattle.vs_types.proofs.Lists.{Contains-head, Contains-tail, Contains-cases, not_in_nil}
+use Rattle.vs_walk.specs.Memory.{Memory}
+use Rattle.vs_walk.specs.Walk.{all_rights, TranslatesAs}
+use Rattle.vs_walk.specs.Traversal.{Move, Reaches, Table, entry_moves, table_moves, moves, reached_by, reached, walk_fault}
+use Rattle.vs_walk.proofs.WaysLists.{contained_at_some_word}
+use Rattle.vs_walk.proofs.WaysBits.{entry_some, no_table_below}
+use Rattle.vs_walk.proofs.WaysMoves.{at_word_met, table_met, missing_met, nothing_met, first_met, word_is_met, reached_is_met, met_is_reached}
+use Rattle.vs_walk.proofs.WaysFound.{IsPlaced, place_below}
+use Rattle.vs_walk.proofs.WaysRise.{root_placed}
+use Rattle.vs_walk.proofs.WaysMet.{at_entry, offset_fits, some_levels}
+use Rattle.vs_walk.proofs.WaysLaws.{shared_reached}
+use Rattle.vs_walk.proofs.WaysSpaces.{translates_shared}
+use Rattle.vs_space.specs.Held.{word_at, IsWhole}
+use Rattle.vs_space.specs.Way.{found_at, table_in, table_at, SameWay}
+use Rattle.vs_space.specs.Tree.{IsTree, IsReached}
+use Rattle.vs_space.specs.Table.{IsPageTable}
+use Rattle.vs_space.proofs.Ways.{words_found, table_first, table_next, none_past, table_before, same_table}
+use Rattle.vs_space.proofs.Writes.{same_longer}
+use Rattle.vs_space.proofs.Regions.{stretch_same}
+use Rattle.vs_space.proofs.Trees.{one_some}
+
+-- ---- lists with no number twice
+
+abbrev Once : List ℕ → Type 0
+Once [] = ⊤
+Once (n ∷ ns) = (Contains ns n → ⊥) × Once ns
+
+once_append : (xs ys : List ℕ) → Once xs → Once ys → ((n : ℕ) → Contains xs n → Contains ys n → ⊥) → Once (xs ++ ys)
+once_append [] ys left right apart = right
+once_append (x ∷ xs) ys left right apart = (
+  λ again. ⊎_elim (λ here. left.0 here) (λ there. apart x (Contains-head x xs) there) (Contains-append_cases xs ys x again),
+  once_append xs ys left.1 right (λ n here there. apart n (Contains-tail x xs n here) there),
+)
+
+not_twice : (n : ℕ) (before after : List ℕ) → Once (before ++ n ∷ after) → Contains before n → ⊥
+not_twice n [] after once is = not_in_nil n is
+not_twice n (x ∷ before) after once is = ⊎_elim
+    (λ same. once.0 (subst (Contains (before ++ n ∷ after)) (sym same) (Contains-append_right before (n ∷ after) n (Contains-head n after))))
+    (λ later. not_twice n before after once.1 later)
+    (Contains-cases x before n is)
+
+-- what is met at each word reaches no frame twice, and a frame tells at which word it is reached
+words_once : (f : ℕ × ℕ → List Move) (IsAt : ℕ → ℕ → Type 0) (words : List ℕ) (from : ℕ)
+    → ((i j n : ℕ) → IsAt i n → IsAt j n → i ≡ j)
+    → ((k : ℕ) → k < length words → Once (reached (f (from + k, get_or words k 0))))
+    → ((k n : ℕ) → k < length words → Contains (f (from + k, get_or words k 0)) (Reaches n) → IsAt (from + k) n)
+    → Once (reached (flat_map f (enumerate_from from words)))
+words_once f IsAt [] from tells once is_at = tt
+words_once f IsAt (word ∷ words) from tells once is_at =
+    subst Once (sym (filter_map-append reached_by (f (from, word)) (flat_map f (enumerate_from (from + 1) words))))
+    (once_append (reached (f (from, word))) (reached (flat_map f (enumerate_from (from + 1) words)))
+    (subst (λ i. Once (reached (f (i, word)))) (omega arith) (once 0 (omega arith)))
+    (words_once f IsAt words (from + 1) tells
+    (λ k lt. subst (λ i. Once (reached (f (i, get_or words k 0)))) (omega arith) (once (suc k) (omega arith))) later)
+    (λ n here there.
+    let at = contained_at_some_word f words (from + 1) (Reaches n) (reached_is_met _ n there) in
+    let first : IsAt from n = subst (λ i. IsAt i n) (omega arith) (is_at 0 n (omega arith) (subst (λ i. Contains (f (i, word)) (Reaches n)) (omega arith) (reached_is_met _ n here))) in
+    let same = tells from (from + 1 + at.0) n first (later at.0 n at.1 at.2) in
+    omega arith))
+  where
+    later : (k n : ℕ) → k < length words → Contains (f (from + 1 + k, get_or words k 0)) (Reaches n) → IsAt (from + 1 + k) n
+    later k n lt met = subst (λ i. IsAt i n) (omega arith) (is_at (suc k) n (omega arith) (subst (λ i. Contains (f (i, get_or words k 0)) (Reaches n)) (omega arith) met))
+
+-- ---- one entry
+
+-- where the stretch of an entry begins
+abbrev entry_start : ℕ → Table → ℕ → ℕ
+entry_start level table index = table.start + index * entry_bytes (suc level)
+
+-- the table below an entry
+abbrev next_table : ℕ → Table → ℕ → ℕ → Rights → Table
+next_table level table index number own = record { number = number; start = entry_start level table index; rights = joined table.rights own }
+
+-- frames are reached only where the entry leads to a table
+into_table : (depth : Depth) (level : ℕ) (table : Table) (index : ℕ) (below : Table → List Move) (means : Meaning) (n : ℕ) → Contains (entry_moves depth (suc level) table index below means) (Reaches n) → (number : ℕ) × (own : Rights) × (means ≡ entry.Table number own) × Contains (below (next_table level table index number own)) (Reaches n)
+into_table depth level table index below entry.Absent n met = absurd (not_in_nil _ met)
+into_table depth level table index below entry.Reserved n met = ⊎_elim (λ same. cc) (λ later. absurd (not_in_nil _ later)) (Contains-cases _ [] _ met)
+into_table depth level table index below (entry.Leaf phys own) n met = ⊎_elim (λ same. cc) (λ later. absurd (not_in_nil _ later)) (Contains-cases _ [] _ met)
+into_table depth level table index below (entry.Table number own) n met = (number, own, refl, met)
+
+entry_once : (depth : Depth) (level : ℕ) (table : Table) (index : ℕ) (below : Table → List Move) (means : Meaning) → ((number : ℕ) (own : Rights) → means ≡ entry.Table number own → Once (reached (below (next_table level table index number own)))) → Once (reached (entry_moves depth (suc level) table index below means))
+entry_once depth level table index below entry.Absent lower = tt
+entry_once depth level table index below entry.Reserved lower = tt
+entry_once depth level table index below (entry.Leaf phys own) lower = tt
+entry_once depth level table index below (entry.Table number own) lower = lower number own refl
+
+found_in : (level : ℕ) (m : Memory) (n a index : ℕ) (words : List ℕ) (means : Meaning) → finite.get m n ≡ Some words → index_at level a ≡ index → meaning level (get_or words index 0) ≡ means → found_at level m n a ≡ Some means
+unfolding found_at word_at
+found_in level m n a index words means is at says =
+    ap (λ (o : Option (List ℕ)). option_map (meaning level) (option_map (λ words. slice_index words (index_at level a)) o)) is
+    ∙ ap (λ i. Some (meaning level (slice_index words i))) at ∙ ap Some says
+
+-- the table to which an entry leads stands above level 0
+above_zero : (level word number : ℕ) (own : Rights) → meaning (suc level) word ≡ entry.Table number own → 0 < level
+above_zero zero word number own says = absurd (no_table_below word number own says)
+above_zero (suc level) word number own says = omega arith
+
+-- where a table begins, and what lies in it, take the same way to it
+way_into : (top k level times start rest : ℕ) → k + level ≡ top → start ≡ times * table_bytes level → rest < table_bytes level → SameWay top k start (start + rest)
+way_into top zero level times start rest deep is lt = λ i less. absurd (omega arith)
+way_into top (suc k) level times start rest deep is lt =
+    let bytes : ℕ = table_bytes level in
+    let own : start / bytes ≡ times = ap (λ n. n / bytes) (is ∙ omega arith) ∙ div-mul-add times bytes 0 (omega arith) in
+    let other : (start + rest) / bytes ≡ times = ap (λ n. (n + rest) / bytes) is ∙ div-mul-add times bytes rest lt in
+    let here : level ≡ top - suc k = omega arith in
+    stretch_same top k start (start + rest) (omega arith) (subst (λ l. start / 2 ^ (12 + 9 * l) ≡ (start + rest) / 2 ^ (12 + 9 * l)) here (own ∙ sym other))
+
+-- ---- tables on their ways
+
+module _ (depth : Depth) (top : ℕ) (root : ℕ) (m : Memory) (whole : IsWhole m) where
+  -- the table is reached after k entries, on the way of the address at which it begins
+  record IsOnWay (k level : ℕ) (table : Table) : Type 0 where
+    deep : k + level ≡ top
+    placed : IsPlaced level table
+    at : table_at top m root k table.start ≡ Some table.number
+
+  root_on_way : IsOnWay 0 top (record { number = root; start = 0; rights = all_rights })
+  root_on_way = record { deep = omega arith; placed = root_placed top root; at = table_first top root m 0 }
+
+  -- an entry of a table on its way
+  module _ (k level : ℕ) (table : Table) (on : IsOnWay k (suc level) table) (words : List ℕ) (is : finite.get m table.number ≡ Some words) (index : ℕ) (within : index < 512) where
+    entry_way : SameWay top k table.start (entry_start level table index)
+    entry_way = subst (λ r. SameWay top k table.start (table.start + r)) (omega arith) (way_into top k (suc level) on.placed.times table.start (index * entry_bytes (suc level) + 0) on.deep on.placed.at (offset_fits level index 0 within (entry_some (suc level))))
+
+    own_level : top - k ≡ suc level
+    own_level = omega (arith, on.deep)
+
+    entry_index : index_at (top - k) (entry_start level table index) ≡ index
+    entry_index =
+        ap (λ l. index_at l (entry_start level table index)) own_level
+        ∙ (at_entry level on.placed.times index 0 (entry_start level table index) within (entry_some (suc level)) (ap (λ n. n + index * entry_bytes (suc level)) on.placed.at ∙ omega arith)).0
+
+    -- the table to which it leads is on its way
+    next_on_way : (number : ℕ) (own : Rights) → meaning (suc level) (get_or words index 0) ≡ entry.Table number own → IsOnWay (suc k) level (next_table level table index number own)
+    next_on_way number own says = record {
+      deep = omega (arith, on.deep);
+      placed = place_below level table index number own on.placed;
+      at = table_next top root m k _ table.number (sym (same_table top root m k _ _ entry_way) ∙ on.at)
+          ∙ ap table_in (found_in (top - k) m table.number _ index words (entry.Table number own) is entry_index (subst (λ l. meaning l (get_or words index 0) ≡ entry.Table number own) (sym own_level) says));
+    }
+
+    -- and what is met there is met in the table
+    next_is_met : (number : ℕ) (own : Rights) (move : Move) → meaning (suc level) (get_or words index 0) ≡ entry.Table number own → Contains (table_moves depth m level (next_table level table index number own)) move → Contains (table_moves depth m (suc level) table) move
+    next_is_met number own move says met =
+        word_is_met depth m level table words index move is (omega (arith, whole.whole table.number words is))
+        (subst (λ means. Contains (entry_moves depth (suc level) table index (λ next. table_moves depth m level next) means) move) (sym says) met)
+
+  -- ---- what is reached is on a way
+
+  -- a way to the frame takes the first k entries as this one does
+  record IsUnder (k start n : ℕ) : Type 0 where
+    steps : ℕ
+    address : ℕ
+    below : k ≤ steps
+    way : SameWay top k start address
+    at : table_at top m root steps address ≡ Some n
+
+  -- and then the entry at this index
+  record IsThrough (k start index n : ℕ) : Type 0 where
+    steps : ℕ
+    address : ℕ
+    below : k < steps
+    way : SameWay top k start address
+    turns : index_at (top - k) address ≡ index
+    at : table_at top m root steps address ≡ Some n
+
+  through : (k level : ℕ) (table : Table) (on : IsOnWay k (suc level) table) (words : List ℕ) → finite.get m table.number ≡ Some words
+      → ((next : Table) → IsOnWay (suc k) level next → (n : ℕ) → Contains (table_moves depth m level next) (Reaches n) → IsUnder (suc k) next.start n)
+      → (index n : ℕ) → index < length words → Contains (at_word_met depth m level table (index, get_or words index 0)) (Reaches n) → IsThrough k table.start index n
+  through k level table on words is lower index n lt met =
+      let within : index < 512 = omega (arith, whole.whole table.number words is) in
+      let into = into_table depth level table index (λ next. table_moves depth m level next) (meaning (suc level) (get_or words index 0)) n met in
+      let under = lower (next_table level table index into.0 into.1) (next_on_way k level table on words is index within into.0 into.1 into.2) n into.3 in
+      record {
+        steps = under.steps;
+        address = under.address;
+        below = omega (arith, under.below);
+        way = λ i less. entry_way k level table on words is index within i less ∙ under.way i (omega arith);
+        turns = sym (under.way k (omega arith)) ∙ entry_index k level table on words is index within;
+        at = under.at;
+      }
+
+  own_under : (k level : ℕ) (table : Table) (n : ℕ) → IsOnWay k level table → table.number ≡ n → IsUnder k table.start n
+  own_under k level table n on same = record {
+    steps = k;
+    address = table.start;
+    below = omega arith;
+    way = λ i less. refl;
+    at = on.at ∙ ap Some same;
+  }
+
+  from_through : {k start index n : ℕ} → IsThrough k start index n → IsUnder k start n
+  from_through {k} {start} {index} {n} t = record { steps = t.steps; address = t.address; below = omega (arith, t.below); way = t.way; at = t.at }
+
+  table_reaches : (k level : ℕ) (table : Table) → IsOnWay k level table → (n : ℕ) → Contains (table_moves depth m level table) (Reaches n) → IsUnder k table.start n
+  table_reaches k zero table on n met = absurd (not_in_nil _ (subst (λ ms. Contains ms (Reaches n)) (nothing_met depth m table) met))
+  table_reaches k (suc level) table on n met =
+      elim (finite.get m table.number) as (λ o. finite.get m table.number ≡ o → IsUnder k table.start n) [
+        | None ↦ λ is. ⊎_elim
+            (λ same. own_under k (suc level) table n on (one_number table.number n same))
+            (λ later. absurd (not_in_nil _ later))
+            (Contains-cases (Reaches table.number) [] (Reaches n) (subst (λ ms. Contains ms (Reaches n)) (missing_met depth m level table is) met))
+        | Some words ↦ λ is. ⊎_elim
+            (λ same. own_under k (suc level) table n on (one_number table.number n same))
+            (λ later.
+            let at = contained_at_some_word (at_word_met depth m level table) words 0 (Reaches n) later in
+            from_through (through k level table on words is (λ next. table_reaches (suc k) level next) at.0 n at.1 (subst (λ i. Contains (at_word_met depth m level table (i, get_or words at.0 0)) (Reaches n)) (omega arith) at.2)))
+            (Contains-cases (Reaches table.number) _ (Reaches n) (subst (λ ms. Contains ms (Reaches n)) (table_met depth m level table words is) met))
+      ] refl
+    where
+      one_number : (x y : ℕ) → Reaches x ≡ Reaches y → x ≡ y
+      one_number x y e = cc
+
+  -- ---- each frame once
+
+  module _ (tree : IsTree top m root) where
+    -- ways to one frame take the same entry
+    one_turn : (k start i j n : ℕ) → IsThrough k start i n → IsThrough k start j n → i ≡ j
+    one_turn k start i j n left right =
+        let both = tree.once left.steps right.steps left.address right.address n left.at right.at in
+        sym left.turns ∙ both.1 k left.below ∙ right.turns
+
+    -- and none goes through the frame itself
+    not_own : (k level : ℕ) (table : Table) → IsOnWay k level table → (index : ℕ) → IsThrough k table.start index table.number → ⊥
+    not_own k level table on index t =
+        let both = tree.once k t.steps table.start t.address table.number on.at t.at in
+        omega (arith, both.0, t.below)
+
+    table_once : (k level : ℕ) (table : Table) → IsOnWay k level table → Once (reached (table_moves depth m level table))
+    table_once k zero table on = subst (λ ms. Once (reached ms)) (sym (nothing_met depth m table)) tt
+    table_once k (suc level) table on =
+        elim (finite.get m table.number) as (λ o. finite.get m table.number ≡ o → Once (reached (table_moves depth m (suc level) table))) [
+          | None ↦ λ is. subst (λ ms. Once (reached ms)) (sym (missing_met depth m level table is)) (λ again. not_in_nil _ again, tt)
+          | Some words ↦ λ is.
+              let by_index : (index n : ℕ) → index < length words → Contains (at_word_met depth m level table (index, get_or words index 0)) (Reaches n) → IsThrough k table.start index n =
+              through k level table on words is (λ next. table_reaches (suc k) level next) in
+              subst (λ ms. Once (reached ms)) (sym (table_met depth m level table words is)) (
+                λ again.
+                    let at = contained_at_some_word (at_word_met depth m level table) words 0 (Reaches table.number) (reached_is_met _ table.number again) in
+                    not_own k (suc level) table on at.0 (by_index at.0 table.number at.1 (subst (λ i. Contains (at_word_met depth m level table (i, get_or words at.0 0)) (Reaches table.number)) (omega arith) at.2)),
+                words_once (at_word_met depth m level table) (IsThrough k table.start) words 0 (one_turn k table.start)
+                    (λ index lt. subst (λ i. Once (reached (at_word_met depth m level table (i, get_or words index 0)))) (omega arith)
+                    (entry_once depth level table index (λ next. table_moves depth m level next) (meaning (suc level) (get_or words index 0))
+                    (λ number own says. table_once (suc k) level _ (next_on_way k level table on words is index (omega (arith, whole.whole table.number words is)) number own says))))
+                    (λ index n lt met. subst (λ i. IsThrough k table.start i n) (omega arith) (by_index index n lt (subst (λ i. Contains (at_word_met depth m level table (i, get_or words index 0)) (Reaches n)) (omega arith) met))),
+              )
+        ] refl
+
+  -- ---- each table on a way is reached
+
+  some_there : (d k a n : ℕ) → table_at top m root (d + k) a ≡ Some n → (p : ℕ) × (table_at top m root k a ≡ Some p)
+  some_there d k a n at = elim (table_at top m root k a) as (λ o. table_at top m root k a ≡ o → (p : ℕ) × (table_at top m root k a ≡ Some p)) [
+    | None ↦ λ none. let nothing = none_past top root m k d a none in cc
+    | Some p ↦ λ is. (p, is)
+  ] refl
+
+  way_reached : (d k level : ℕ) (table : Table) → 0 < level → IsOnWay k level table → (a n : ℕ) → SameWay top k table.start a → table_at top m root (d + k) a ≡ Some n → Contains (table_moves depth m level table) (Reaches n)
+  way_reached d k zero table some on a n same at = absurd (omega arith)
+  way_reached zero k (suc level) table some on a n same at =
+      let number : table.number ≡ n = one_some table.number n (sym on.at ∙ same_table top root m k table.start a same ∙ subst (λ j. table_at top m root j a ≡ Some n) (omega arith) at) in
+      let first = first_met depth m level table in
+      subst (λ x. Contains (table_moves depth m (suc level) table) (Reaches x)) number
+      (subst (λ ms. Contains ms (Reaches table.number)) (sym first.1) (Contains-head (Reaches table.number) first.0))
+  way_reached (suc d) k (suc level) table some on a n same at =
+      let further : table_at top m root (d + suc k) a ≡ Some n = subst (λ j. table_at top m root j a ≡ Some n) (omega arith) at in
+      let next = some_there d (suc k) a n further in
+      let before = table_before top root m k a next.0 next.1 in
+      let parent : before.0 ≡ table.number = one_some before.0 table.number (sym before.2 ∙ sym (same_table top root m k table.start a same) ∙ on.at) in
+      let level_is : top - k ≡ suc level = omega (arith, on.deep) in
+      let leads : found_at (suc level) m table.number a ≡ Some (entry.Table next.0 before.1) = subst (λ l. found_at l m table.number a ≡ Some (entry.Table next.0 before.1)) level_is (subst (λ p. found_at (top - k) m p a ≡ Some (entry.Table next.0 before.1)) parent before.3) in
+      let words = words_found (suc level) m table.number a (entry.Table next.0 before.1) leads in
+      let index : ℕ = index_at (suc level) a in
+      let within : index < 512 = mod-lt (a / entry_bytes (suc level)) (omega arith) in
+      let turns : index_at (top - k) (entry_start level table index) ≡ index_at (top - k) a = entry_index k level table on words.0 words.1 index within ∙ ap (λ l. index_at l a) (sym level_is) in
+      next_is_met k level table on words.0 words.1 index within next.0 before.1 (Reaches n) words.2
+      (way_reached d (suc k) level (next_table level table index next.0 before.1) (above_zero level (get_or words.0 index 0) next.0 before.1 words.2) (next_on_way k level table on words.0 words.1 index within next.0 before.1 words.2) a n
+      (same_longer top k (entry_start level table index) a (λ i less. sym (entry_way k level table on words.0 words.1 index within i less) ∙ same i less) turns)
+      further)
+
+-- ---- from the root on
+
+module _ (depth : Depth) (memory : Memory) (root : ℕ) (whole : IsWhole memory) where
+  -- each frame that is reached is in use
+  pub in_use : IsTree (levels depth) memory root → (n : ℕ) → Contains (reached (moves depth memory root)) n → IsSome (finite.get memory n)
+  in_use tree n is =
+      let under = table_reaches depth (levels depth) root memory whole 0 (levels depth) _ (root_on_way depth (levels depth) root memory whole) n (reached_is_met (moves depth memory root) n is) in
+      tree.in_use under.steps under.address n under.at
+
+  -- and each frame in use is reached
+  pub each : IsReached (levels depth) memory root → (n : ℕ) → IsSome (finite.get memory n) → Contains (reached (moves depth memory root)) n
+  each ways n used =
+      let way = ways.way n used in
+      met_is_reached (moves depth memory root) n
+      (way_reached depth (levels depth) root memory whole way.0 0 (levels depth) _ (some_levels depth) (root_on_way depth (levels depth) root memory whole) way.1 n (λ i less. absurd (omega arith))
+      (subst (λ j. table_at (levels depth) memory root j way.1 ≡ Some n) (omega arith) way.2))
+
+  -- and there is no fault
+  pub faultless : IsTree (levels depth) memory root → (space : Space) → TranslatesAs depth memory root space → walk_fault depth memory root ≡ None
+  faultless tree space translates = ⊎_elim
+      (λ none. none)
+      (λ shared.
+      let twice = shared_reached depth memory root shared.0 shared.1 in
+      absurd (not_twice shared.0 twice.0 twice.1
+      (subst Once twice.2 (table_once depth (levels depth) root memory whole tree 0 (levels depth) _ (root_on_way depth (levels depth) root memory whole))) twice.3))
+      (translates_shared depth memory root space whole.whole translates)
+
+-- a page table's traversal meets no fault, and reaches just the frames in use
+pub traversed : (depth : Depth) (memory : Memory) (root : ℕ) → IsPageTable depth memory root → IsWhole memory → IsReached (levels depth) memory root
+    → (walk_fault depth memory root ≡ None)
+    × ((number : ℕ) → Contains (reached (moves depth memory root)) number → IsTrue (finite.contains_key memory number))
+    × ((number : ℕ) → IsTrue (finite.contains_key memory number) → Contains (reached (moves depth memory root)) number)
+traversed depth memory root table whole ways = (
+  faultless depth memory root whole table.tree table.some_space.0 table.some_space.1.translates,
+  in_use depth memory root whole table.tree,
+  each depth memory root whole ways,
+)
