@@ -1,4 +1,4 @@
-ghost use Rattle.std.specs.Prelude.{◌≤◌, ◌≡◌, ℕ, IfOk, OnErr};
+ghost use Rattle.std.specs.Prelude.{◌≤◌, ◌≡◌, ℕ, Contains, IsTrue, None, IfOk, OnErr};
 ghost use Rattle.std.specs.FinMap as finite;
 ghost use Rattle.vs_types.specs.declared.op.Action.{Action};
 ghost use Rattle.vs_types.specs.Depth.{IsCanonical};
@@ -8,6 +8,7 @@ ghost use Rattle.vs_types.specs.Page.{IsPage};
 ghost use Rattle.vs_types.specs.Space as spaces;
 ghost use Rattle.vs_types.specs.Space.{no_pages, table_count};
 ghost use Rattle.vs_types.specs.Step.{look};
+ghost use Rattle.vs_walk.specs.Traversal.{moves, reached, walk_fault};
 ghost use Rattle.vs_space.specs.Table.{PageTable, IsTableOf, IsStep};
 
 use crate::tables::{Tables, index_at};
@@ -84,10 +85,14 @@ impl<S: FrameStore> Space<S> {
         self.tables.used()
     }
 
-    /// The frame number of the root.
+    /// The frame number of the root. The way through all tables from there meets no fault, and reaches just the frames
+    /// in use.
     pub fn root(&self) -> u64
         ensures reads { result ≡ self.now.root }
         ensures some_space { (space : spaces.Space) × IsTableOf self.now space }
+        ensures faultless { walk_fault self.now.depth self.now.memory self.now.root ≡ None }
+        ensures reached { (number : ℕ) → Contains (reached (moves self.now.depth self.now.memory self.now.root)) number → IsTrue (finite.contains_key self.now.memory number) }
+        ensures each { (number : ℕ) → IsTrue (finite.contains_key self.now.memory number) → Contains (reached (moves self.now.depth self.now.memory self.now.root)) number }
     {
         self.root
     }

@@ -1,8 +1,23 @@
-use Rattle.std.proofs.Common.{subst}
+use Rattle.std.proofs.Common.{◌≡◌, ℕ, None, Contains, IsTrue, subst}
+use Rattle.std.specs.FinMap as finite
 use Rattle.vs_types.specs.Space as spaces
+use Rattle.vs_walk.specs.Traversal.{moves, reached, walk_fault}
 use Rattle.vs_space.specs.Table.{PageTable, IsTableOf}
+use Rattle.vs_space.proofs.Traversed.{traversed}
 use Rattle.vs_space.proofs.space.Space.root.Goals as goal
 
 pub returns-clause-some_space : goal.returns-clause-some_space
 returns-clause-some_space g c = subst (λ (t : PageTable). (space : spaces.Space) × IsTableOf t space) c.self.view_is
     (c.self.invariant.some_space.0, record { is_space = c.self.invariant.some_space.1.is_space; translates = c.self.invariant.some_space.1.translates })
+
+pub returns-clause-faultless : goal.returns-clause-faultless
+returns-clause-faultless g c = subst (λ (t : PageTable). walk_fault t.depth t.memory t.root ≡ None) c.self.view_is
+    (traversed _ _ _ c.self.invariant c.self.invariant.whole c.self.invariant.reached).0
+
+pub returns-clause-reached : goal.returns-clause-reached
+returns-clause-reached g c = subst (λ (t : PageTable). (number : ℕ) → Contains (reached (moves t.depth t.memory t.root)) number → IsTrue (finite.contains_key t.memory number)) c.self.view_is
+    (traversed _ _ _ c.self.invariant c.self.invariant.whole c.self.invariant.reached).1
+
+pub returns-clause-each : goal.returns-clause-each
+returns-clause-each g c = subst (λ (t : PageTable). (number : ℕ) → IsTrue (finite.contains_key t.memory number) → Contains (reached (moves t.depth t.memory t.root)) number) c.self.view_is
+    (traversed _ _ _ c.self.invariant c.self.invariant.whole c.self.invariant.reached).2
