@@ -321,12 +321,12 @@ module _ (depth : Depth) (memory : Memory) (root : ℕ) (whole : IsWhole memory)
       (translates_shared depth memory root space whole.whole translates)
 
 -- a page table's traversal meets no fault, and reaches just the frames in use
-pub traversed : (depth : Depth) (memory : Memory) (root : ℕ) → IsPageTable depth memory root → IsWhole memory → IsReached (levels depth) memory root
+pub traversed : (depth : Depth) (memory : Memory) (root : ℕ) → IsPageTable depth memory root
     → (walk_fault depth memory root ≡ None)
     × ((number : ℕ) → Contains (reached (moves depth memory root)) number → IsTrue (finite.contains_key memory number))
     × ((number : ℕ) → IsTrue (finite.contains_key memory number) → Contains (reached (moves depth memory root)) number)
-traversed depth memory root table whole ways = (
-  faultless depth memory root whole table.tree table.some_space.0 table.some_space.1.translates,
-  in_use depth memory root whole table.tree,
-  each depth memory root whole ways,
+traversed depth memory root table = (
+  faultless depth memory root table.whole table.tree table.some_space.0 table.some_space.1.translates,
+  in_use depth memory root table.whole table.tree,
+  each depth memory root table.whole table.reached,
 )

@@ -12,12 +12,12 @@ returns-clause-some_space g c = subst (λ (t : PageTable). (space : spaces.Space
 
 pub returns-clause-faultless : goal.returns-clause-faultless
 returns-clause-faultless g c = subst (λ (t : PageTable). walk_fault t.depth t.memory t.root ≡ None) c.self.view_is
-    (traversed _ _ _ c.self.invariant c.self.invariant.whole c.self.invariant.reached).0
+    (traversed _ _ _ c.self.invariant).0
 
-pub returns-clause-reached : goal.returns-clause-reached
-returns-clause-reached g c = subst (λ (t : PageTable). (number : ℕ) → Contains (reached (moves t.depth t.memory t.root)) number → IsTrue (finite.contains_key t.memory number)) c.self.view_is
-    (traversed _ _ _ c.self.invariant c.self.invariant.whole c.self.invariant.reached).1
+pub returns-clause-in_use : goal.returns-clause-in_use
+returns-clause-in_use g c = subst (λ (t : PageTable). (number : ℕ) → Contains (reached (moves t.depth t.memory t.root)) number → IsTrue (finite.contains_key t.memory number)) c.self.view_is
+    (traversed _ _ _ c.self.invariant).1
 
 pub returns-clause-each : goal.returns-clause-each
 returns-clause-each g c = subst (λ (t : PageTable). (number : ℕ) → IsTrue (finite.contains_key t.memory number) → Contains (reached (moves t.depth t.memory t.root)) number) c.self.view_is
-    (traversed _ _ _ c.self.invariant c.self.invariant.whole c.self.invariant.reached).2
+    (traversed _ _ _ c.self.invariant).2
