@@ -38,6 +38,10 @@ pub entry_word : (level : ℕ) (m : Memory) (n index word : ℕ) (e : Meaning) �
 unfolding entry_in
 entry_word level m n index word e got reads = ap (option_map (meaning level)) got ∙ ap Some (sym reads)
 
+pub word_in : (m : Memory) (n index : ℕ) (words : List ℕ) → finite.get m n ≡ Some words → word_at m n index ≡ Some (slice_index words index)
+unfolding word_at
+word_in m n index words got = ap (option_map (λ (ws : List ℕ). slice_index ws index)) got
+
 entry_some : (level : ℕ) (m : Memory) (n index : ℕ) → IsSome (finite.get m n) → (e : Meaning) × (entry_in level m n index ≡ Some e)
 unfolding entry_in word_at
 entry_some level m n index used = (_, ap (λ (o : Option (List ℕ)). option_map (meaning level) (option_map (λ words. slice_index words index) o)) (words_in m n used))

@@ -150,8 +150,11 @@ impl<S: FrameStore> Tables<S> {
         ensures none { IfNone result ((i : ℕ) → i < 512 → entry_in level self.now.memory number i ≡ Some Meaning.Absent) }
         ensures first { IfSome result (IsFirstPresent level self.now.memory number) }
     {
+        let Some(words) = self.words(number) else {
+            unreachable!();
+        };
         for index in 0..FRAME_WORDS {
-            match Entry::new(self.word(number, index)).read(level) {
+            match Entry::new(words[index]).read(level) {
                 Meaning::Absent => {}
                 _ => return Some(index),
             }
