@@ -1,10 +1,10 @@
 -- A reader that has taken a place of the log, or an event.
-use Rattle.std.proofs.Common.{◌≡◌, ℕ, ◌+◌, ◌-◌, ◌^◌, ◌<◌, ◌≤◌, List, [], ◌∷◌, ◌++◌, length, refl, sym, ap, subst, ◌∙◌, arith}
+use Rattle.std.proofs.Common.{◌≡◌, ℕ, ◌+◌, ◌-◌, ◌^◌, ◌<◌, ◌≤◌, List, [], ◌∷◌, ◌++◌, length, sym, ap, subst, ◌∙◌, arith}
 use Rattle.std.specs.Int.{w32, w64, to_be_bytes}
-use Rattle.std.proofs.lemmas.List.{append-nil, nil_from_length, length-append}
+use Rattle.std.proofs.lemmas.List.{nil_from_length, length-append}
 use Rattle.vs_types.specs.Config.{Layout}
 use Rattle.vs_walk.specs.Dump.{Image}
-use Rattle.nr_trace.specs.Spelling.{log_word, event}
+use Rattle.nr_trace.specs.Spelling.{log_word}
 use Rattle.nr_trace.specs.FirstFault.{AtLog, AtEvents}
 use Rattle.nr_trace.specs.Reading.{SpellsEvent}
 use Rattle.nr_trace.specs.Progress.{HasRead}
