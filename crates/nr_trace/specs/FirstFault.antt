@@ -2,7 +2,8 @@
 -- be the spelling of something in range. The fault is that of the first unit for which this fails.
 use Rattle.std.specs.Prelude.{◌≡◌, ◌≢◌, ℕ, zero, suc, ◌+◌, ◌<◌, ◌≤◌, ◌^◌, ◌⊎◌, ◌++◌, List, [], length, take, Option, Some, None, IfSome, ⊤}
 use Rattle.vs_types.specs.Config.{Layout, IsLayout}
-use Rattle.nr_trace.specs.Recording.{IsEvent, IsWords}
+use Rattle.vs_types.specs.Frame.{IsFrame}
+use Rattle.nr_trace.specs.Recording.{IsEvent}
 use Rattle.nr_trace.specs.Spelling.{magic, version, counts, log_word, event, dump_head, frame_number, frame_words}
 use Rattle.nr_trace.specs.declared.fault.Format.{Format}
 use Rattle.nr_trace.specs.declared.fault.Format.TheVariants.{Truncated, BadMagic, BadVersion, BadCount, BadEvent, BadFrame, Trailing}
@@ -51,7 +52,7 @@ unfoldable pub AtFrames : ℕ → ℕ → ℕ → Option ℕ → (List ℕ → F
 AtFrames replica index zero before Behind rest fault = Behind rest fault
 AtFrames replica index (suc frames) before Behind rest fault =
     AtUnit 8 (Some (BadFrame replica index)) (IsNext before) frame_number (λ number.
-    AtUnit 4096 None IsWords frame_words (λ words. AtFrames replica (index + 1) frames (Some number) Behind))
+    AtUnit 4096 None IsFrame frame_words (λ words. AtFrames replica (index + 1) frames (Some number) Behind))
     rest fault
 
 -- this many dumps, counted from this replica
