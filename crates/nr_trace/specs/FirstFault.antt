@@ -74,11 +74,17 @@ unfoldable pub AtLog : Layout → ℕ → ℕ → List ℕ → Format → Type 0
 AtLog layout zero events rest fault = AtEvents layout 0 events rest fault
 AtLog layout (suc places) events rest fault = AtUnit 4 None (λ call. call < 2 ^ 32) log_word (λ _. AtLog layout places events) rest fault
 
+-- the counts, and what comes behind them
+abbrev pub AtCounts : List ℕ → Format → Type 0
+AtCounts rest fault =
+    AtUnit 14 (Some BadCount) IsCounts (λ numbers. counts numbers.layout numbers.places numbers.events) (λ numbers.
+    AtLog numbers.layout numbers.places numbers.events)
+    rest fault
+
+-- the version, and what comes behind it
+abbrev pub AtVersion : List ℕ → Format → Type 0
+AtVersion rest fault = AtUnit {A = Unit {0}} 2 (Some BadVersion) (λ _. ⊤) (λ _. version) (λ _. AtCounts) rest fault
+
 -- the first fault of the bytes
 abbrev pub HasFormatFault : List ℕ → Format → Type 0
-HasFormatFault bytes fault =
-    AtUnit {A = Unit {0}} 4 (Some BadMagic) (λ _. ⊤) (λ _. magic) (λ _.
-    AtUnit {A = Unit {0}} 2 (Some BadVersion) (λ _. ⊤) (λ _. version) (λ _.
-    AtUnit 14 (Some BadCount) IsCounts (λ numbers. counts numbers.layout numbers.places numbers.events) (λ numbers.
-    AtLog numbers.layout numbers.places numbers.events)))
-    bytes fault
+HasFormatFault bytes fault = AtUnit {A = Unit {0}} 4 (Some BadMagic) (λ _. ⊤) (λ _. magic) (λ _. AtVersion) bytes fault

@@ -7,9 +7,8 @@ use Rattle.vs_types.specs.declared.refusal.Fail.TheVariants.{Memory, Refused}
 use Rattle.vs_types.specs.Frame.{IsFrame}
 use Rattle.nr_trace.specs.Recording.{IsEvent, IsImage}
 use Rattle.nr_trace.specs.Spelling.{magic, version, counts, log_word, event, dump_head, frame_number, frame_words, dump}
-use Rattle.nr_trace.specs.FirstFault.{AtUnit, IsCounts, AtLog, AtEvents, AtDumps, AtFrames, IsNext, HasFormatFault}
+use Rattle.nr_trace.specs.FirstFault.{AtUnit, AtVersion, AtCounts, AtLog, AtEvents, AtDumps, AtFrames, IsNext, HasFormatFault}
 use Rattle.nr_trace.specs.declared.fault.Format.{Format}
-use Rattle.nr_trace.specs.declared.fault.Format.TheVariants.{BadVersion, BadCount}
 use Rattle.nr_trace.specs.declared.reading.parts.Parts.{Parts}
 use Rattle.nr_trace.specs.declared.reading.parts.Opened.{Opened}
 use Rattle.nr_trace.specs.declared.reading.parts.Reader.{Reader}
@@ -59,15 +58,8 @@ BehindDumps parts more = AtDumps (length parts.dumps.items + more) (parts.config
 -- the fault of the bytes ahead
 abbrev pub Ahead : Reader → List ℕ → Format → Type 0
 Ahead (Magic alloc) rest fault = HasFormatFault rest fault
-Ahead (Version alloc) rest fault =
-    AtUnit {A = Unit {0}} 2 (Some BadVersion) (λ _. ⊤) (λ _. version) (λ _.
-    AtUnit 14 (Some BadCount) IsCounts (λ numbers. counts numbers.layout numbers.places numbers.events) (λ numbers.
-    AtLog numbers.layout numbers.places numbers.events))
-    rest fault
-Ahead (Header alloc) rest fault =
-    AtUnit 14 (Some BadCount) IsCounts (λ numbers. counts numbers.layout numbers.places numbers.events) (λ numbers.
-    AtLog numbers.layout numbers.places numbers.events)
-    rest fault
+Ahead (Version alloc) rest fault = AtVersion rest fault
+Ahead (Header alloc) rest fault = AtCounts rest fault
 Ahead (Log parts places events) rest fault = AtLog parts.config places events rest fault
 Ahead (Events parts events) rest fault = AtEvents parts.config (length parts.events.items) events rest fault
 Ahead (Dumps parts) rest fault = BehindDumps parts 0 rest fault
