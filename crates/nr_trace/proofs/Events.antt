@@ -1,5 +1,5 @@
 -- What bytes that spell an event say of its fields.
-use Rattle.std.proofs.Common.{◌≡◌, ℕ, ◌^◌, ◌<◌, ◌≤◌, List, [], ◌∷◌, ◌++◌, get_or, drop, refl, sym, ap, ◌∙◌, arith}
+use Rattle.std.proofs.Common.{◌≡◌, ℕ, ◌^◌, ◌<◌, List, [], ◌∷◌, ◌++◌, get_or, drop, sym, ap, ◌∙◌, arith}
 use Rattle.std.specs.Int.{w8, w16, w32, w64, to_be_bytes}
 use Rattle.vs_types.specs.Config.{Layout, IsLayout}
 use Rattle.std.proofs.lemmas.Bool.Decides.{nat_tests}
@@ -16,8 +16,8 @@ use Rattle.vs_types.specs.declared.request.Query.TheVariants.{Update, Resolve}
 use Rattle.vs_types.specs.declared.answer.Answer.{Answer}
 use Rattle.vs_types.specs.declared.answer.Answer.TheVariants.{Done, Overlap, Full, Removed, NotMapped, Inside, Changed, Mapped}
 use Rattle.nr_trace.specs.Codes.{kind_code, size_code, rights_code, answer_code}
-use Rattle.nr_trace.specs.Recording.{IsEvent, IsAnswer}
-use Rattle.nr_trace.specs.Spelling.{RequestFields, request_fields, AnswerFields, answer_fields, event}
+use Rattle.nr_trace.specs.Recording.{IsAnswer}
+use Rattle.nr_trace.specs.Spelling.{RequestFields, request_fields, AnswerFields, answer_fields}
 use Rattle.nr_trace.specs.Reading.{IsRequest, HasFields, SpellsEvent}
 use Rattle.nr_trace.specs.declared.event.Event.{Event}
 use Rattle.nr_trace.specs.declared.event.Event.TheVariants.{Call, Reply}

@@ -3,7 +3,8 @@ use Rattle.std.proofs.Common.{◌≡◌, ℕ, ◌-◌, ◌<◌, ◌≤◌, ◌^�
 use Rattle.std.specs.FinMap as finite
 use Rattle.std.proofs.lemmas.List.Elements.{All-from_recursion, All-cons, All-append, All-replicate}
 use Rattle.vs_types.specs.Config.{Layout, IsLayout}
-use Rattle.nr_trace.specs.Recording.{IsRecording, IsEvent, IsImage, IsWords}
+use Rattle.vs_types.specs.Frame.{IsFrame}
+use Rattle.nr_trace.specs.Recording.{IsRecording, IsEvent, IsImage}
 use Rattle.nr_trace.specs.Examples.{map_then_resolve, frames_of_page, dump_of_page, frame_with}
 use Rattle.nr_trace.specs.Spelling.{spelling, Spells}
 use Rattle.nr_trace.proofs.ExamplesOfSpelling.{entries_of_page, len_of_page}
@@ -11,10 +12,10 @@ use Rattle.nr_trace.proofs.ExamplesOfSpelling.{entries_of_page, len_of_page}
 abbrev layout : Layout
 layout = map_then_resolve.layout
 
-frame_fits : (index word : ℕ) → length (frame_with index word) ≡ 512 → word < 2 ^ 64 → IsWords (frame_with index word)
+frame_fits : (index word : ℕ) → length (frame_with index word) ≡ 512 → word < 2 ^ 64 → IsFrame (frame_with index word)
 frame_fits index word l h = record {
   whole = l;
-  each = All-append (λ w. w < 2 ^ 64) (replicate index 0) (word ∷ replicate (511 - index) 0) (All-replicate (λ w. w < 2 ^ 64) index 0 (lit< tt))
+  fit = All-append (λ w. w < 2 ^ 64) (replicate index 0) (word ∷ replicate (511 - index) 0) (All-replicate (λ w. w < 2 ^ 64) index 0 (lit< tt))
       (All-cons (λ w. w < 2 ^ 64) word (replicate (511 - index) 0) h (All-replicate (λ w. w < 2 ^ 64) (511 - index) 0 (lit< tt)));
 }
 
@@ -28,9 +29,9 @@ keys_fit = subst (λ (es : List (ℕ × List ℕ)). All (λ n. n < 2 ^ 40) (map 
 abbrev contents : List (List ℕ)
 contents = frame_with 0 0x2007 ∷ frame_with 0 0x3007 ∷ frame_with 2 0x4007 ∷ frame_with 0 0x1007 ∷ []
 
-words_fit : All IsWords (finite.values frames_of_page)
-words_fit = subst (λ (es : List (ℕ × List ℕ)). All IsWords (map (λ e. e.1) es)) (sym entries_of_page)
-    (All-from_recursion IsWords contents (frame_fits 0 0x2007 refl (lit< tt), (frame_fits 0 0x3007 refl (lit< tt), (frame_fits 2 0x4007 refl (lit< tt), (frame_fits 0 0x1007 refl (lit< tt), tt)))))
+words_fit : All IsFrame (finite.values frames_of_page)
+words_fit = subst (λ (es : List (ℕ × List ℕ)). All IsFrame (map (λ e. e.1) es)) (sym entries_of_page)
+    (All-from_recursion IsFrame contents (frame_fits 0 0x2007 refl (lit< tt), (frame_fits 0 0x3007 refl (lit< tt), (frame_fits 2 0x4007 refl (lit< tt), (frame_fits 0 0x1007 refl (lit< tt), tt)))))
 
 dump_fits : IsImage dump_of_page
 dump_fits = record {

@@ -13,7 +13,8 @@ use Rattle.std.proofs.lemmas.Grind.{flat_map-append}
 use Rattle.std.proofs.lemmas.List.Elements.{All-head, All-tail, All-push, All-nil}
 use Rattle.vs_walk.specs.Memory.{Memory}
 use Rattle.vs_walk.specs.Dump.{Image}
-use Rattle.nr_trace.specs.Recording.{IsWords, IsImage}
+use Rattle.vs_types.specs.Frame.{IsFrame}
+use Rattle.nr_trace.specs.Recording.{IsImage}
 use Rattle.nr_trace.specs.Spelling.{dump_head, frame_number, frame_words, dump}
 use Rattle.nr_trace.specs.Reading.{SpellsHead}
 use Rattle.nr_trace.specs.declared.reading.header.DumpHead.{DumpHead}
@@ -53,20 +54,20 @@ values_more memory k v above = ap (map (λ (e : ℕ × List ℕ). e.1)) (entries
 -- ---- the number of a frame
 
 pub number_passed : (replica index frames : ℕ) (last : Option ℕ) (Behind : List ℕ → Format → Type 0) (number : ℕ) (unit rest : List ℕ) (fault : Format) → 1 ≤ frames → IsNext last number → unit ≡ frame_number number
-    → AtUnit 4096 None IsWords frame_words (λ words. AtFrames replica (index + 1) (frames - 1) (Some number) Behind) rest fault → AtFrames replica index frames last Behind (unit ++ rest) fault
+    → AtUnit 4096 None IsFrame frame_words (λ words. AtFrames replica (index + 1) (frames - 1) (Some number) Behind) rest fault → AtFrames replica index frames last Behind (unit ++ rest) fault
 unfolding AtFrames
 number_passed replica index zero last Behind number unit rest fault some next is h = absurd (omega arith)
 number_passed replica index (suc frames) last Behind number unit rest fault some next is h =
     let down : suc frames - 1 ≡ frames = omega arith in
-    passed 8 (Some (BadFrame replica index)) (IsNext last) frame_number (λ n. AtUnit 4096 None IsWords frame_words (λ words. AtFrames replica (index + 1) frames (Some n) Behind)) fault unit rest number next is
-    (subst (λ (n : ℕ). AtUnit 4096 None IsWords frame_words (λ words. AtFrames replica (index + 1) n (Some number) Behind) rest fault) down h)
+    passed 8 (Some (BadFrame replica index)) (IsNext last) frame_number (λ n. AtUnit 4096 None IsFrame frame_words (λ words. AtFrames replica (index + 1) frames (Some n) Behind)) fault unit rest number next is
+    (subst (λ (n : ℕ). AtUnit 4096 None IsFrame frame_words (λ words. AtFrames replica (index + 1) n (Some number) Behind) rest fault) down h)
 
 pub number_refused : (replica index frames : ℕ) (last : Option ℕ) (Behind : List ℕ → Format → Type 0) (unit rest : List ℕ) → 1 ≤ frames → length unit ≡ 8 → ((number : ℕ) → IsNext last number → unit ≢ frame_number number)
     → AtFrames replica index frames last Behind (unit ++ rest) (BadFrame replica index)
 unfolding AtFrames
 number_refused replica index zero last Behind unit rest some whole none = absurd (omega arith)
 number_refused replica index (suc frames) last Behind unit rest some whole none =
-    refused 8 (Some (BadFrame replica index)) (IsNext last) frame_number (λ n. AtUnit 4096 None IsWords frame_words (λ words. AtFrames replica (index + 1) frames (Some n) Behind)) (BadFrame replica index) unit rest whole refl none
+    refused 8 (Some (BadFrame replica index)) (IsNext last) frame_number (λ n. AtUnit 4096 None IsFrame frame_words (λ words. AtFrames replica (index + 1) frames (Some n) Behind)) (BadFrame replica index) unit rest whole refl none
 
 pub number_taken : (parts : Parts) (opened : Opened) (last : Option ℕ) (number : ℕ) (unit : List ℕ) → IsOpened parts opened → ((n : ℕ) → IsNext last n → AreBelow opened n) → IsNext last number → unit ≡ frame_number number
     → HasRead (said (Frame parts opened last) ++ unit) (λ rest fault. Ahead (Frame parts opened last) (unit ++ rest) fault) (Words parts opened number)
@@ -109,11 +110,11 @@ grown_spelled opened number words unit some above is =
     ∙ ap (λ (l : List ℕ). opened_spelling opened ++ frame_number number ++ l) (sym is)
 
 -- the frame goes behind the others, whatever the reader does then
-words_faults : (parts : Parts) (opened : Opened) (number : ℕ) (words unit rest : List ℕ) (fault : Format) → AreBelow opened number → IsWords words → unit ≡ frame_words words
+words_faults : (parts : Parts) (opened : Opened) (number : ℕ) (words unit rest : List ℕ) (fault : Format) → AreBelow opened number → IsFrame words → unit ≡ frame_words words
     → AtFrames (length parts.dumps.items) (finite.len (grown opened number words).dump.frames) (opened.left - 1) (Some number) (BehindDumps parts 1) rest fault
     → Ahead (Words parts opened number) (unit ++ rest) fault
 words_faults parts opened number words unit rest fault above are is h =
-    passed 4096 None IsWords frame_words (λ _. AtFrames (length parts.dumps.items) (finite.len opened.dump.frames + 1) (opened.left - 1) (Some number) (BehindDumps parts 1)) fault unit rest words are is
+    passed 4096 None IsFrame frame_words (λ _. AtFrames (length parts.dumps.items) (finite.len opened.dump.frames + 1) (opened.left - 1) (Some number) (BehindDumps parts 1)) fault unit rest words are is
     (subst (λ (n : ℕ). AtFrames (length parts.dumps.items) n (opened.left - 1) (Some number) (BehindDumps parts 1) rest fault) (len_more opened.dump.frames number words above) h)
 
 grown_numbers : (opened : Opened) (number : ℕ) (words : List ℕ) → All (λ n. n < 2 ^ 40) (finite.keys opened.dump.frames) → number < 2 ^ 40 → AreBelow opened number
@@ -121,10 +122,10 @@ grown_numbers : (opened : Opened) (number : ℕ) (words : List ℕ) → All (λ 
 grown_numbers opened number words fit fits above =
     subst (All (λ n. n < 2 ^ 40)) (sym (keys_more opened.dump.frames number words above)) (All-push (λ n. n < 2 ^ 40) (finite.keys opened.dump.frames) number fit fits)
 
-grown_words : (opened : Opened) (number : ℕ) (words : List ℕ) → All IsWords (finite.values opened.dump.frames) → IsWords words → AreBelow opened number
-    → All IsWords (finite.values (grown opened number words).dump.frames)
+grown_words : (opened : Opened) (number : ℕ) (words : List ℕ) → All IsFrame (finite.values opened.dump.frames) → IsFrame words → AreBelow opened number
+    → All IsFrame (finite.values (grown opened number words).dump.frames)
 grown_words opened number words fit fits above =
-    subst (All IsWords) (sym (values_more opened.dump.frames number words above)) (All-push IsWords (finite.values opened.dump.frames) words fit fits)
+    subst (All IsFrame) (sym (values_more opened.dump.frames number words above)) (All-push IsFrame (finite.values opened.dump.frames) words fit fits)
 
 grown_below : (opened : Opened) (number : ℕ) (words : List ℕ) → AreBelow opened number → (next : ℕ) → IsNext (Some number) next → AreBelow (grown opened number words) next
 grown_below opened number words above next is_next =
@@ -132,7 +133,7 @@ grown_below opened number words above next is_next =
     (All-push (λ held. held < next) (finite.keys opened.dump.frames) number (λ k d within. let one = above k d within in omega (arith, one, is_next.rises)) is_next.rises)
 
 -- a frame is left
-pub words_taken : (parts : Parts) (opened : Opened) (number : ℕ) (words unit : List ℕ) → IsOpened parts opened → number < 2 ^ 40 → AreBelow opened number → IsWords words → unit ≡ frame_words words → 1 ≤ opened.left - 1
+pub words_taken : (parts : Parts) (opened : Opened) (number : ℕ) (words unit : List ℕ) → IsOpened parts opened → number < 2 ^ 40 → AreBelow opened number → IsFrame words → unit ≡ frame_words words → 1 ≤ opened.left - 1
     → HasRead (said (Words parts opened number) ++ unit) (λ rest fault. Ahead (Words parts opened number) (unit ++ rest) fault) (Frame parts (grown opened number words) (Some number))
 words_taken parts opened number words unit is_opened fits above are is more = record {
   ready = (
@@ -158,7 +159,7 @@ no_frame : (replica index frames : ℕ) (last : Option ℕ) (Behind : List ℕ �
 unfolding AtFrames
 no_frame replica index frames last Behind rest fault none h = subst (λ (n : ℕ). AtFrames replica index n last Behind rest fault) (sym none) h
 
-grown_is_image : (parts : Parts) (opened : Opened) (number : ℕ) (words : List ℕ) → IsOpened parts opened → number < 2 ^ 40 → AreBelow opened number → IsWords words → IsImage (grown opened number words).dump
+grown_is_image : (parts : Parts) (opened : Opened) (number : ℕ) (words : List ℕ) → IsOpened parts opened → number < 2 ^ 40 → AreBelow opened number → IsFrame words → IsImage (grown opened number words).dump
 grown_is_image parts opened number words is_opened fits above are =
     let count = len_more opened.dump.frames number words above in
     record {
@@ -171,7 +172,7 @@ grown_is_image parts opened number words is_opened fits above are =
     }
 
 -- no frame is left, and the dump goes behind the others
-pub dump_taken : (parts : Parts) (held : Vec Image) (opened : Opened) (number : ℕ) (words unit : List ℕ) → IsOpened parts opened → number < 2 ^ 40 → AreBelow opened number → IsWords words → unit ≡ frame_words words
+pub dump_taken : (parts : Parts) (held : Vec Image) (opened : Opened) (number : ℕ) (words unit : List ℕ) → IsOpened parts opened → number < 2 ^ 40 → AreBelow opened number → IsFrame words → unit ≡ frame_words words
     → opened.left - 1 ≡ 0 → held.items ≡ parts.dumps.items ++ (grown opened number words).dump ∷ []
     → HasRead (said (Words parts opened number) ++ unit) (λ rest fault. Ahead (Words parts opened number) (unit ++ rest) fault) (Dumps (record parts { dumps = held }))
 dump_taken parts held opened number words unit is_opened fits above are is none one_more =
@@ -253,7 +254,7 @@ head_taken parts head image unit begins in_range one_left spells =
           applied = spells.in_range.applied;
           root = spells.in_range.root;
           numbers = subst (All (λ n. n < 2 ^ 40)) (sym no_keys) (All-nil (λ n. n < 2 ^ 40));
-          words = subst (All IsWords) (sym no_values) (All-nil IsWords);
+          words = subst (All IsFrame) (sym no_values) (All-nil IsFrame);
           some_left = spells.in_range.some_frame;
           few_frames = omega (arith, none, spells.in_range.few_frames);
         },

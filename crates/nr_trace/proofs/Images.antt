@@ -3,7 +3,8 @@ use Rattle.std.proofs.Common.{◌≡◌, ℕ, ◌^◌, ◌<◌, ◌≤◌, List,
 use Rattle.std.specs.FinMap as finite
 use Rattle.std.proofs.lemmas.List.Elements.{All-map}
 use Rattle.vs_walk.specs.Dump.{Image, IsDump}
-use Rattle.nr_trace.specs.Recording.{Recording, IsImage, IsWords}
+use Rattle.vs_types.specs.Frame.{IsFrame}
+use Rattle.nr_trace.specs.Recording.{Recording, IsImage}
 use Rattle.nr_trace.specs.Parts.{HasBadLength}
 
 -- a dump with a frame is one of a trace
@@ -14,7 +15,7 @@ image_of dump is some = record {
   some_frame = some;
   few_frames = omega (arith, is.few, finite.len-entries dump.frames);
   numbers = All-map (λ number. number < 2 ^ 40) (λ (e : ℕ × List ℕ). e.0) (finite.entries dump.frames) is.in_range;
-  words = All-map IsWords (λ (e : ℕ × List ℕ). e.1) (finite.entries dump.frames) (λ k d within. record { whole = (is.whole k d within).all_there; each = (is.whole k d within).fit });
+  words = All-map IsFrame (λ (e : ℕ × List ℕ). e.1) (finite.entries dump.frames) is.whole;
 }
 
 pub good_lengths : (parts : Recording) → length parts.log ≤ 65536 → length parts.events ≤ 131072 → length parts.dumps ≡ parts.layout.replicas → HasBadLength parts → ⊥

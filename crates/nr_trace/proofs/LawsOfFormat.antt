@@ -12,7 +12,8 @@ use Rattle.std.proofs.lemmas.List.Elements.{recursion_from_All}
 use Rattle.std.proofs.lemmas.Option.{same_Some}
 use Rattle.vs_types.specs.Config.{Layout, IsLayout}
 use Rattle.vs_walk.specs.Dump.{Image}
-use Rattle.nr_trace.specs.Recording.{Recording, IsRecording, IsWords, IsImage, IsEvent}
+use Rattle.vs_types.specs.Frame.{IsFrame}
+use Rattle.nr_trace.specs.Recording.{Recording, IsRecording, IsImage, IsEvent}
 use Rattle.nr_trace.specs.Spelling.{magic, version, Spells, log_word, event, dump, frame_number, frame_words}
 use Rattle.nr_trace.specs.FirstFault.{AtUnit, Counts, IsCounts, IsHead, IsNext, AtFrames, AtDumps, AtEvents, AtLog, HasFormatFault}
 use Rattle.nr_trace.specs.declared.fault.Format.{Format}
@@ -81,9 +82,9 @@ frames_one : (replica index frames : ℕ) (before : Option ℕ) (Behind : List �
 unfolding AtFrames
 frames_one replica index zero before Behind one rest f g x y = one rest f g x y
 frames_one replica index (suc frames) before Behind one rest f g x y =
-    unit_one 8 (Some (BadFrame replica index)) (IsNext before) frame_number (λ number. AtUnit 4096 None IsWords frame_words (λ words. AtFrames replica (index + 1) frames (Some number) Behind))
+    unit_one 8 (Some (BadFrame replica index)) (IsNext before) frame_number (λ number. AtUnit 4096 None IsFrame frame_words (λ words. AtFrames replica (index + 1) frames (Some number) Behind))
     (next_apart before) (λ n h. refl)
-    (λ number rest f g h. unit_one 4096 None IsWords frame_words (λ words. AtFrames replica (index + 1) frames (Some number) Behind)
+    (λ number rest f g h. unit_one 4096 None IsFrame frame_words (λ words. AtFrames replica (index + 1) frames (Some number) Behind)
     words_apart length-frame_words (λ words rest f g h. frames_one replica (index + 1) frames (Some number) Behind one rest f g) rest f g)
     rest f g x y
 
@@ -174,9 +175,9 @@ frames_none : (replica index : ℕ) (frames : List Frame) (before : Option ℕ) 
 unfolding AtFrames
 frames_none replica index [] before Behind more fault fit rise none rest is x = none (subst (λ (ys : List ℕ). Behind ys fault) is x)
 frames_none replica index (f ∷ fs) before Behind more fault fit rise none rest is x =
-    unit_none 8 (Some (BadFrame replica index)) (IsNext before) frame_number (λ number. AtUnit 4096 None IsWords frame_words (λ words. AtFrames replica (index + 1) (length fs) (Some number) Behind))
+    unit_none 8 (Some (BadFrame replica index)) (IsNext before) frame_number (λ number. AtUnit 4096 None IsFrame frame_words (λ words. AtFrames replica (index + 1) (length fs) (Some number) Behind))
     (next_apart before) f.0 (frame_words f.1 ++ (flat_map frame fs ++ more)) fault refl (record { rises = rise.0; in_range = fit.0.0 })
-    (unit_none 4096 None IsWords frame_words (λ words. AtFrames replica (index + 1) (length fs) (Some f.0) Behind)
+    (unit_none 4096 None IsFrame frame_words (λ words. AtFrames replica (index + 1) (length fs) (Some f.0) Behind)
     words_apart f.1 (flat_map frame fs ++ more) fault (length-frame_words f.1 fit.0.1) fit.0.1
     (frames_none replica (index + 1) fs (Some f.0) Behind more fault fit.1 rise.1 none (flat_map frame fs ++ more) refl)
     (frame_words f.1 ++ (flat_map frame fs ++ more)) refl)

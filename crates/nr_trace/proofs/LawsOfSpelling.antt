@@ -6,7 +6,8 @@ use Rattle.std.specs.FinMap as finite
 use Rattle.std.proofs.lemmas.List.{append_assoc}
 use Rattle.std.proofs.lemmas.List.Elements.{recursion_from_All}
 use Rattle.vs_walk.specs.Dump.{Image}
-use Rattle.nr_trace.specs.Recording.{Recording, IsRecording, IsWords, IsImage, IsEvent}
+use Rattle.vs_types.specs.Frame.{IsFrame}
+use Rattle.nr_trace.specs.Recording.{Recording, IsRecording, IsImage, IsEvent}
 use Rattle.nr_trace.specs.Spelling.{spelling, Spells, log_word, event, dump, frame_number, frame_words}
 use Rattle.nr_trace.specs.FirstFault.{Counts, IsCounts, Head, IsHead}
 use Rattle.nr_trace.proofs.LawsOfUnits.{ToldApart, counts_of, counts_apart, head_of, heads_apart, frame_numbers_apart, words_apart, lists_apart, log_words_apart, events_apart}
@@ -15,7 +16,7 @@ abbrev pub Frame : Type 0
 Frame = ℕ × List ℕ
 
 abbrev pub FrameFits : Frame → Type 0
-FrameFits frame = (frame.0 < 2 ^ 40) × IsWords frame.1
+FrameFits frame = (frame.0 < 2 ^ 40) × IsFrame frame.1
 
 abbrev pub frame : Frame → List ℕ
 frame f = frame_number f.0 ++ frame_words f.1
@@ -33,7 +34,7 @@ both_parts P Q [] h k = tt
 both_parts P Q (f ∷ fs) h k = ((h.0, k.0), both_parts P Q fs h.1 k.1)
 
 pub image_frames_fit : (image : Image) → IsImage image → AllByRecursion FrameFits (finite.entries image.frames)
-image_frames_fit image h = both_parts (λ n. n < 2 ^ 40) IsWords (finite.entries image.frames) (recursion_from_All _ _ h.numbers) (recursion_from_All _ _ h.words)
+image_frames_fit image h = both_parts (λ n. n < 2 ^ 40) IsFrame (finite.entries image.frames) (recursion_from_All _ _ h.numbers) (recursion_from_All _ _ h.words)
 
 abbrev pub head_in : Image → Head
 head_in image = record { applied = image.applied; frames = finite.len image.frames; root = image.root }

@@ -21,7 +21,8 @@ use Rattle.vs_types.specs.declared.request.Query.TheVariants.{Update, Resolve}
 use Rattle.vs_types.specs.declared.answer.Answer.{Answer}
 use Rattle.vs_types.specs.declared.answer.Answer.TheVariants.{Done, Overlap, Full, Removed, NotMapped, Inside, Changed, Mapped}
 use Rattle.nr_trace.specs.Codes.{kind_code, size_code, rights_code, answer_code}
-use Rattle.nr_trace.specs.Recording.{IsAnswer, IsEvent, IsWords}
+use Rattle.vs_types.specs.Frame.{IsFrame}
+use Rattle.nr_trace.specs.Recording.{IsAnswer, IsEvent}
 use Rattle.nr_trace.specs.Spelling.{RequestFields, request_fields, AnswerFields, answer_fields, counts, log_word, event, dump_head, frame_number, frame_words}
 use Rattle.nr_trace.specs.FirstFault.{Counts, IsCounts, Head, IsHead}
 use Rattle.nr_trace.specs.declared.event.Event.{Event}
@@ -349,9 +350,9 @@ length_of_units spelled n each (x ∷ xs) =
     let l = length-append (spelled x) (flat_map spelled xs) in
     omega arith
 
-pub length-frame_words : (words : List ℕ) → IsWords words → length (frame_words words) ≡ 4096
+pub length-frame_words : (words : List ℕ) → IsFrame words → length (frame_words words) ≡ 4096
 length-frame_words words h = length_of_units (to_be_bytes w64) 8 (λ n. refl) words ∙ ap (λ n. 8 * n) h.whole
 
-pub words_apart : ToldApart IsWords frame_words
+pub words_apart : ToldApart IsFrame frame_words
 words_apart a b us vs h k e =
-    lists_apart (λ n. n < 2 ^ 64) (to_be_bytes w64) number_64 a b us vs (recursion_from_All _ a h.each) (recursion_from_All _ b k.each) (h.whole ∙ sym k.whole) e
+    lists_apart (λ n. n < 2 ^ 64) (to_be_bytes w64) number_64 a b us vs (recursion_from_All _ a h.fit) (recursion_from_All _ b k.fit) (h.whole ∙ sym k.whole) e

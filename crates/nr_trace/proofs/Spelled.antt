@@ -1,17 +1,15 @@
 -- Spellings that grow by a unit, and readers that have taken it.
-use Rattle.std.proofs.Common.{◌≡◌, ℕ, zero, suc, ◌+◌, ◌-◌, ◌^◌, ◌<◌, ◌≤◌, List, [], ◌∷◌, ◌++◌, length, refl, sym, ap, subst, ◌∙◌, arith, append_assoc}
+use Rattle.std.proofs.Common.{◌≡◌, ℕ, ◌+◌, ◌-◌, List, [], ◌∷◌, ◌++◌, length, sym, ap, subst, ◌∙◌, arith}
 use Rattle.std.specs.List.{flat_map}
-use Rattle.std.proofs.lemmas.List.{append-nil, flat_map_more, length-append}
+use Rattle.std.proofs.lemmas.List.{append-nil, flat_map_more}
 use Rattle.vs_types.specs.Config.{Layout}
 use Rattle.vs_walk.specs.Dump.{Image}
-use Rattle.nr_trace.specs.Recording.{IsEvent}
 use Rattle.nr_trace.specs.Spelling.{magic, version, counts, log_word, event, dump}
 use Rattle.nr_trace.specs.FirstFault.{AtLog, AtEvents, AtDumps}
 use Rattle.nr_trace.specs.Progress.{HasRead, AreInRange, parts_spelling}
 use Rattle.nr_trace.specs.declared.event.Event.{Event}
 use Rattle.nr_trace.specs.declared.fault.Format.{Format}
 use Rattle.nr_trace.specs.declared.reading.parts.Parts.{Parts}
-use Rattle.nr_trace.specs.declared.reading.parts.Reader.{Reader}
 use Rattle.nr_trace.specs.declared.reading.parts.Reader.TheVariants.{Dumps}
 
 behind_nothing : {X : Type 0} (f : X → List ℕ) (xs : List X) (l : List ℕ) → xs ≡ [] → l ++ flat_map f xs ≡ l

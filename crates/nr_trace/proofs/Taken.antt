@@ -1,10 +1,9 @@
 -- A reader that has taken a place of the log, or an event.
-use Rattle.std.proofs.Common.{◌≡◌, ℕ, ◌+◌, ◌-◌, ◌^◌, ◌<◌, ◌≤◌, List, [], ◌∷◌, ◌++◌, length, refl, sym, ap, subst, ◌∙◌, arith}
-use Rattle.std.specs.Int.{w32, w64, to_be_bytes}
+use Rattle.std.proofs.Common.{◌≡◌, ℕ, ◌+◌, ◌-◌, ◌^◌, ◌<◌, ◌≤◌, List, [], ◌∷◌, ◌++◌, length, sym, ap, subst, ◌∙◌, arith}
 use Rattle.std.proofs.lemmas.List.{append-nil, nil_from_length, length-append}
 use Rattle.vs_types.specs.Config.{Layout}
 use Rattle.vs_walk.specs.Dump.{Image}
-use Rattle.nr_trace.specs.Spelling.{log_word, event}
+use Rattle.nr_trace.specs.Spelling.{log_word}
 use Rattle.nr_trace.specs.FirstFault.{AtLog, AtEvents}
 use Rattle.nr_trace.specs.Reading.{SpellsEvent}
 use Rattle.nr_trace.specs.Progress.{HasRead}
@@ -13,16 +12,11 @@ use Rattle.nr_trace.specs.declared.reading.parts.Reader.{Reader}
 use Rattle.nr_trace.proofs.Spelled.{spelling_of, more_place, more_event}
 use Rattle.nr_trace.proofs.Units.{goes_on, place_passed, event_passed}
 
--- nothing stands behind the number
-pub only_u32 : (unit : List ℕ) (number : ℕ) (rest : List ℕ) → length unit ≡ 4 → unit ≡ to_be_bytes w32 number ++ rest → unit ≡ to_be_bytes w32 number
-only_u32 unit number rest whole e =
-    let none : rest ≡ [] = nil_from_length rest (omega (arith, ap length e, length-append (to_be_bytes w32 number) rest)) in
-    e ∙ ap (λ (l : List ℕ). to_be_bytes w32 number ++ l) none
-
-pub only_u64 : (unit : List ℕ) (number : ℕ) (rest : List ℕ) → length unit ≡ 8 → unit ≡ to_be_bytes w64 number ++ rest → unit ≡ to_be_bytes w64 number
-only_u64 unit number rest whole e =
-    let none : rest ≡ [] = nil_from_length rest (omega (arith, ap length e, length-append (to_be_bytes w64 number) rest)) in
-    e ∙ ap (λ (l : List ℕ). to_be_bytes w64 number ++ l) none
+-- nothing stands behind a front that is as long as the unit
+pub only_front : (unit front rest : List ℕ) → unit ≡ front ++ rest → length unit ≡ length front → unit ≡ front
+only_front unit front rest e whole =
+    let none : rest ≡ [] = nil_from_length rest (omega (arith, ap length e, whole, length-append front rest)) in
+    e ∙ ap (λ (l : List ℕ). front ++ l) none ∙ append-nil front
 
 pub place_taken : (layout : Layout) (places events call : ℕ) (log more : List ℕ) (recorded : List Event) (dumps : List Image) (unit : List ℕ) (reader : Reader)
     → 1 ≤ places → recorded ≡ [] → dumps ≡ [] → more ≡ log ++ call ∷ [] → call < 2 ^ 32 → unit ≡ log_word call

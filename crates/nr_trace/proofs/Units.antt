@@ -1,14 +1,14 @@
 -- Faults at a unit, and behind it.
-use Rattle.std.proofs.Common.{◌≡◌, ◌≢◌, ℕ, zero, suc, ◌+◌, ◌-◌, ◌^◌, ◌<◌, ◌≤◌, List, [], ◌∷◌, ◌++◌, length, take, Option, Some, None, refl, sym, ap, subst, ◌∙◌, arith, inl, inr, append_assoc}
+use Rattle.std.proofs.Common.{◌≡◌, ◌≢◌, ℕ, zero, suc, ◌+◌, ◌-◌, ◌^◌, ◌<◌, ◌≤◌, List, ◌++◌, length, Option, Some, None, refl, sym, ap, subst, ◌∙◌, arith, inl, inr}
 use Rattle.std.proofs.lemmas.List.{take_at, length-append}
 use Rattle.vs_types.specs.Config.{Layout}
 use Rattle.nr_trace.specs.Recording.{IsEvent}
 use Rattle.nr_trace.specs.Spelling.{log_word, event}
 use Rattle.nr_trace.specs.FirstFault.{AtUnit, AtLog, AtEvents}
-use Rattle.nr_trace.specs.Progress.{HasRead, Ahead}
+use Rattle.nr_trace.specs.Progress.{HasRead}
 use Rattle.nr_trace.specs.declared.event.Event.{Event}
 use Rattle.nr_trace.specs.declared.fault.Format.{Format}
-use Rattle.nr_trace.specs.declared.fault.Format.TheVariants.{Truncated, BadEvent}
+use Rattle.nr_trace.specs.declared.fault.Format.TheVariants.{BadEvent}
 use Rattle.nr_trace.specs.declared.reading.parts.Reader.{Reader}
 
 -- the unit spells nothing that fits

@@ -1,12 +1,11 @@
 -- Words of 64 bits that are read one after the other.
-use Rattle.std.proofs.Common.{◌≡◌, ℕ, zero, suc, ◌+◌, ◌*◌, ◌^◌, ◌<◌, ◌≤◌, List, [], ◌∷◌, ◌++◌, length, take, set, All, refl, sym, ap, ◌∙◌, arith, append_assoc}
+use Rattle.std.proofs.Common.{◌≡◌, ℕ, ◌+◌, ◌*◌, ◌^◌, ◌<◌, ◌≤◌, List, [], ◌++◌, length, take, set, All, sym, ap, ◌∙◌, arith, append_assoc}
 use Rattle.std.specs.List.{flat_map}
 use Rattle.std.specs.Int.{w64, to_be_bytes}
-use Rattle.std.proofs.Math.Seq.{take-suc-set}
 use Rattle.std.proofs.Math.ListN.{length-set}
 use Rattle.std.proofs.lemmas.List.{length-append, flat_map_more, take_more_set, take_all, nil_from_length, append-nil}
 use Rattle.std.proofs.lemmas.List.Elements.{All-set}
-use Rattle.nr_trace.specs.Recording.{IsWords}
+use Rattle.vs_types.specs.Frame.{IsFrame}
 use Rattle.nr_trace.specs.Spelling.{frame_words}
 
 -- so many words are read, and this is left
@@ -31,5 +30,5 @@ all_read unit words k rest read le =
     read.parts ∙ ap (λ (l : List ℕ). flat_map (to_be_bytes w64) (take k words) ++ l) none ∙ append-nil (flat_map (to_be_bytes w64) (take k words))
     ∙ ap (flat_map (to_be_bytes w64)) (take_all k words (omega (arith, read.all_there)))
 
-pub are_words : (unit words : List ℕ) (k : ℕ) (rest : List ℕ) → IsRead unit words k rest → IsWords words
-are_words unit words k rest read = record { whole = read.all_there; each = read.fits }
+pub are_words : (unit words : List ℕ) (k : ℕ) (rest : List ℕ) → IsRead unit words k rest → IsFrame words
+are_words unit words k rest read = record { whole = read.all_there; fit = read.fits }

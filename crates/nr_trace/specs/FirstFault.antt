@@ -2,7 +2,8 @@
 -- be the spelling of something in range. The fault is that of the first unit for which this fails.
 use Rattle.std.specs.Prelude.{◌≡◌, ◌≢◌, ℕ, zero, suc, ◌+◌, ◌<◌, ◌≤◌, ◌^◌, ◌⊎◌, ◌++◌, List, [], length, take, Option, Some, None, IfSome, ⊤}
 use Rattle.vs_types.specs.Config.{Layout, IsLayout}
-use Rattle.nr_trace.specs.Recording.{IsEvent, IsWords}
+use Rattle.vs_types.specs.Frame.{IsFrame}
+use Rattle.nr_trace.specs.Recording.{IsEvent}
 use Rattle.nr_trace.specs.Spelling.{magic, version, counts, log_word, event, dump_head, frame_number, frame_words}
 use Rattle.nr_trace.specs.declared.fault.Format.{Format}
 use Rattle.nr_trace.specs.declared.fault.Format.TheVariants.{Truncated, BadMagic, BadVersion, BadCount, BadEvent, BadFrame, Trailing}
@@ -51,7 +52,7 @@ unfoldable pub AtFrames : ℕ → ℕ → ℕ → Option ℕ → (List ℕ → F
 AtFrames replica index zero before Behind rest fault = Behind rest fault
 AtFrames replica index (suc frames) before Behind rest fault =
     AtUnit 8 (Some (BadFrame replica index)) (IsNext before) frame_number (λ number.
-    AtUnit 4096 None IsWords frame_words (λ words. AtFrames replica (index + 1) frames (Some number) Behind))
+    AtUnit 4096 None IsFrame frame_words (λ words. AtFrames replica (index + 1) frames (Some number) Behind))
     rest fault
 
 -- this many dumps, counted from this replica
@@ -73,11 +74,17 @@ unfoldable pub AtLog : Layout → ℕ → ℕ → List ℕ → Format → Type 0
 AtLog layout zero events rest fault = AtEvents layout 0 events rest fault
 AtLog layout (suc places) events rest fault = AtUnit 4 None (λ call. call < 2 ^ 32) log_word (λ _. AtLog layout places events) rest fault
 
+-- the counts, and what comes behind them
+abbrev pub AtCounts : List ℕ → Format → Type 0
+AtCounts rest fault =
+    AtUnit 14 (Some BadCount) IsCounts (λ numbers. counts numbers.layout numbers.places numbers.events) (λ numbers.
+    AtLog numbers.layout numbers.places numbers.events)
+    rest fault
+
+-- the version, and what comes behind it
+abbrev pub AtVersion : List ℕ → Format → Type 0
+AtVersion rest fault = AtUnit {A = Unit {0}} 2 (Some BadVersion) (λ _. ⊤) (λ _. version) (λ _. AtCounts) rest fault
+
 -- the first fault of the bytes
 abbrev pub HasFormatFault : List ℕ → Format → Type 0
-HasFormatFault bytes fault =
-    AtUnit {A = Unit {0}} 4 (Some BadMagic) (λ _. ⊤) (λ _. magic) (λ _.
-    AtUnit {A = Unit {0}} 2 (Some BadVersion) (λ _. ⊤) (λ _. version) (λ _.
-    AtUnit 14 (Some BadCount) IsCounts (λ numbers. counts numbers.layout numbers.places numbers.events) (λ numbers.
-    AtLog numbers.layout numbers.places numbers.events)))
-    bytes fault
+HasFormatFault bytes fault = AtUnit {A = Unit {0}} 4 (Some BadMagic) (λ _. ⊤) (λ _. magic) (λ _. AtVersion) bytes fault

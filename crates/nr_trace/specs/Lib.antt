@@ -12,6 +12,7 @@ pub mod Laws
 pub mod Examples
 pub use Rattle.vs_types.specs.Config
 pub use Rattle.vs_types.specs.Depth
+pub use Rattle.vs_types.specs.Frame
 pub use Rattle.vs_types.specs.Page
 pub use Rattle.vs_types.specs.Operation
 pub use Rattle.vs_types.specs.Query

@@ -1,15 +1,14 @@
 -- How far a reader has come: what it has read, and what would be wrong with the bytes ahead.
-use Rattle.std.specs.Prelude.{◌≡◌, ℕ, zero, suc, ◌+◌, ◌-◌, ◌<◌, ◌≤◌, ◌^◌, ◌++◌, nat_lt, List, [], length, flat_map, All, Option, Some, None, Result, Ok, Err, MatchResult, ⊤, if◌then◌else◌}
+use Rattle.std.specs.Prelude.{◌≡◌, ℕ, ◌+◌, ◌-◌, ◌<◌, ◌≤◌, ◌^◌, ◌++◌, nat_lt, List, [], length, flat_map, All, Option, Some, None, Result, MatchResult, ⊤, if◌then◌else◌}
 use Rattle.std.specs.FinMap as finite
-use Rattle.vs_types.specs.Config.{Layout, IsLayout}
+use Rattle.vs_types.specs.Config.{IsLayout}
 use Rattle.vs_types.specs.declared.refusal.Fail.{Fail}
 use Rattle.vs_types.specs.declared.refusal.Fail.TheVariants.{Memory, Refused}
-use Rattle.vs_walk.specs.Dump.{Image}
-use Rattle.nr_trace.specs.Recording.{Recording, IsEvent, IsImage, IsWords}
+use Rattle.vs_types.specs.Frame.{IsFrame}
+use Rattle.nr_trace.specs.Recording.{IsEvent, IsImage}
 use Rattle.nr_trace.specs.Spelling.{magic, version, counts, log_word, event, dump_head, frame_number, frame_words, dump}
-use Rattle.nr_trace.specs.FirstFault.{AtUnit, Counts, IsCounts, AtLog, AtEvents, AtDumps, AtFrames, IsNext, HasFormatFault}
+use Rattle.nr_trace.specs.FirstFault.{AtUnit, AtVersion, AtCounts, AtLog, AtEvents, AtDumps, AtFrames, IsNext, HasFormatFault}
 use Rattle.nr_trace.specs.declared.fault.Format.{Format}
-use Rattle.nr_trace.specs.declared.fault.Format.TheVariants.{BadVersion, BadCount}
 use Rattle.nr_trace.specs.declared.reading.parts.Parts.{Parts}
 use Rattle.nr_trace.specs.declared.reading.parts.Opened.{Opened}
 use Rattle.nr_trace.specs.declared.reading.parts.Reader.{Reader}
@@ -59,22 +58,15 @@ BehindDumps parts more = AtDumps (length parts.dumps.items + more) (parts.config
 -- the fault of the bytes ahead
 abbrev pub Ahead : Reader → List ℕ → Format → Type 0
 Ahead (Magic alloc) rest fault = HasFormatFault rest fault
-Ahead (Version alloc) rest fault =
-    AtUnit {A = Unit {0}} 2 (Some BadVersion) (λ _. ⊤) (λ _. version) (λ _.
-    AtUnit 14 (Some BadCount) IsCounts (λ numbers. counts numbers.layout numbers.places numbers.events) (λ numbers.
-    AtLog numbers.layout numbers.places numbers.events))
-    rest fault
-Ahead (Header alloc) rest fault =
-    AtUnit 14 (Some BadCount) IsCounts (λ numbers. counts numbers.layout numbers.places numbers.events) (λ numbers.
-    AtLog numbers.layout numbers.places numbers.events)
-    rest fault
+Ahead (Version alloc) rest fault = AtVersion rest fault
+Ahead (Header alloc) rest fault = AtCounts rest fault
 Ahead (Log parts places events) rest fault = AtLog parts.config places events rest fault
 Ahead (Events parts events) rest fault = AtEvents parts.config (length parts.events.items) events rest fault
 Ahead (Dumps parts) rest fault = BehindDumps parts 0 rest fault
 Ahead (Frame parts opened last) rest fault =
     AtFrames (length parts.dumps.items) (finite.len opened.dump.frames) opened.left last (BehindDumps parts 1) rest fault
 Ahead (Words parts opened number) rest fault =
-    AtUnit 4096 None IsWords frame_words (λ words.
+    AtUnit 4096 None IsFrame frame_words (λ words.
     AtFrames (length parts.dumps.items) (finite.len opened.dump.frames + 1) (opened.left - 1) (Some number) (BehindDumps parts 1))
     rest fault
 
@@ -95,7 +87,7 @@ pub record IsOpened (parts : Parts) (opened : Opened) : Type 0 where
   pub applied : opened.dump.applied < 2 ^ 32
   pub root : opened.dump.root < 2 ^ 64
   pub numbers : All (λ number. number < 2 ^ 40) (finite.keys opened.dump.frames)
-  pub words : All IsWords (finite.values opened.dump.frames)
+  pub words : All IsFrame (finite.values opened.dump.frames)
   pub some_left : 1 ≤ opened.left
   pub few_frames : finite.len opened.dump.frames + opened.left ≤ 4096
 

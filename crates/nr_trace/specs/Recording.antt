@@ -2,6 +2,7 @@
 use Rattle.std.specs.Prelude.{◌≡◌, ℕ, ◌<◌, ◌≤◌, ◌^◌, List, length, All}
 use Rattle.std.specs.FinMap as finite
 use Rattle.vs_types.specs.Config.{Layout, IsLayout}
+use Rattle.vs_types.specs.Frame.{IsFrame}
 use Rattle.vs_types.specs.Query.{IsQuery}
 use Rattle.vs_types.specs.declared.answer.Answer.{Answer}
 use Rattle.vs_types.specs.declared.answer.Answer.TheVariants.{Done, Overlap, Full, Removed, NotMapped, Inside, Changed, Mapped}
@@ -32,11 +33,6 @@ abbrev pub IsEvent : Layout → Event → Type 0
 IsEvent layout (Call replica thread request) = (replica < layout.replicas) × (thread < layout.threads) × IsQuery layout.depth request
 IsEvent layout (Reply call at answer) = (call < 2 ^ 32) × (at < 2 ^ 32) × IsAnswer answer
 
--- 512 words of 64 bits
-pub record IsWords (words : List ℕ) : Type 0 where
-  pub whole : length words ≡ 512
-  pub each : All (λ word. word < 2 ^ 64) words
-
 -- 1 to 4,096 frames with numbers below 2 ^ 40; the root may have any number
 pub record IsImage (dump : Image) : Type 0 where
   pub applied : dump.applied < 2 ^ 32
@@ -44,7 +40,7 @@ pub record IsImage (dump : Image) : Type 0 where
   pub some_frame : 1 ≤ finite.len dump.frames
   pub few_frames : finite.len dump.frames ≤ 4096
   pub numbers : All (λ number. number < 2 ^ 40) (finite.keys dump.frames)
-  pub words : All IsWords (finite.values dump.frames)
+  pub words : All IsFrame (finite.values dump.frames)
 
 -- at most 65,536 places and 131,072 events, and one dump for each replica
 pub record IsRecording (trace : Recording) : Type 0 where

@@ -4,12 +4,6 @@ use std::test::*;
 use vs_types::{Answer, Config, Depth, Memory, Op, Request, Rights, Size};
 use vs_walk::{Dump, Frames};
 
-const ALL: Rights = Rights {
-    write: true,
-    user: true,
-    exec: true,
-};
-
 /// A frame whose words are 0, but for one.
 fn push_frame(bytes: &mut Vec<u8>, number: u64, index: usize, word: u64) -> Result<(), AllocError> {
     bytes.extend_from_slice(&number.to_be_bytes())?;
@@ -103,7 +97,7 @@ fn map_then_resolve(rt: HostRuntime) -> Result<(), Fail> {
     let trace = read(rt.alloc(), &bytes)?;
     assert!(rt; Config::new(Depth::Four, 1, 1, 4) == Ok(trace.config()));
     assert!(rt; trace.log() == [0].as_slice());
-    let map = Op::map(Depth::Four, 0x400000, Size::K4, 0x1000, ALL)?;
+    let map = Op::map(Depth::Four, 0x400000, Size::K4, 0x1000, Rights::ALL)?;
     let events = [
         Event::Call {
             replica: 0,
@@ -123,7 +117,7 @@ fn map_then_resolve(rt: HostRuntime) -> Result<(), Fail> {
         Event::Reply {
             call: 2,
             at: 1,
-            answer: Answer::Mapped(0x1123, Size::K4, ALL),
+            answer: Answer::Mapped(0x1123, Size::K4, Rights::ALL),
         },
     ];
     assert!(rt; trace.events() == events.as_slice());

@@ -9,9 +9,10 @@ use Rattle.std.proofs.lemmas.List.{length-set, length-replicate, get_or-set_same
 use Rattle.std.proofs.lemmas.List.Elements.{All-set, All-replicate}
 use Rattle.std.proofs.lemmas.Bool.{cases_eq, cases_lt, eqb-true, eqb-false, true≢false, lt-ltb, le-ltb}
 use Rattle.std.proofs.lemmas.Bool.Decides.{nat_tests}
+use Rattle.vs_types.specs.Frame.{IsFrame}
 use Rattle.vs_arena.specs.Store.{Store, IsInUse, IsFree, words_of}
 use Rattle.vs_arena.specs.Arena.{with_frame, frames_below, marked, marked_frames}
-use Rattle.vs_arena.specs.Store.{IsFrame, IsStore, zeros}
+use Rattle.vs_arena.specs.Store.{IsStore, zeros}
 use Rattle.vs_arena.specs.Arena.{IsArena}
 use Rattle.std.proofs.lemmas.Option.{cond_some}
 use Rattle.std.specs.FinMap.{nat_cmp-IsAntisymmetric}

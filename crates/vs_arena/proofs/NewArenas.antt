@@ -4,7 +4,8 @@ use Rattle.std.specs.Prelude.{All}
 use Rattle.std.proofs.lemmas.List.{length_push, get_or_push, get_or_append_left}
 use Rattle.std.proofs.lemmas.List.Elements.{All-push}
 use Rattle.std.proofs.lemmas.Bool.{cases_eq}
-use Rattle.vs_arena.specs.Store.{IsFrame, zeros}
+use Rattle.vs_types.specs.Frame.{IsFrame}
+use Rattle.vs_arena.specs.Store.{zeros}
 use Rattle.vs_arena.proofs.MarkedFrames.{IsFrame-zeros}
 
 -- this many frames, and their numbers from 0 on

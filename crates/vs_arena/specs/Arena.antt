@@ -3,7 +3,8 @@ use Rattle.std.specs.Prelude.{◌≡◌, ℕ, suc, zero, ◌+◌, ◌^◌, ◌<�
 use Rattle.std.specs.Coded.{Coded, code_by, coded×, coded_ℕ, coded_list}
 use Rattle.std.specs.FinMap as finite
 use Rattle.std.specs.Ordering.{nat_cmp}
-use Rattle.vs_arena.specs.Store.{Store, IsFrame}
+use Rattle.vs_types.specs.Frame.{IsFrame}
+use Rattle.vs_arena.specs.Store.{Store}
 
 -- what contracts see of an arena: the number of its first frame, how many frames it has, and those in use
 pub record Arena : Type 0 where

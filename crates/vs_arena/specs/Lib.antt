@@ -1,2 +1,3 @@
 pub mod Store
 pub mod Arena
+pub use Rattle.vs_types.specs.Frame

@@ -1,7 +1,8 @@
 -- Stores of page-table frames: the frames in use, each with its 512 words, under its index.
-use Rattle.std.specs.Prelude.{◌≡◌, ℕ, ◌+◌, ◌^◌, ◌<◌, ◌≤◌, List, [], length, replicate, unwrap_or, Some, None, IsSome, All}
+use Rattle.std.specs.Prelude.{◌≡◌, ℕ, ◌+◌, ◌^◌, ◌<◌, ◌≤◌, List, [], replicate, unwrap_or, Some, None, IsSome}
 use Rattle.std.specs.FinMap as finite
 use Rattle.std.specs.Ordering.{nat_cmp}
+use Rattle.vs_types.specs.Frame.{IsFrame}
 
 abbrev pub Store : Type 0
 Store = finite.FinMap nat_cmp (List ℕ)
@@ -21,11 +22,6 @@ words_of store index = unwrap_or (finite.get store index) []
 -- a frame of zeros
 abbrev pub zeros : List ℕ
 zeros = replicate 512 0
-
--- the words of a frame: 512 numbers of 64 bits
-pub record IsFrame (words : List ℕ) : Type 0 where
-  pub whole : length words ≡ 512
-  pub fit : All (λ word. word < 2 ^ 64) words
 
 -- the frames in use of a store with this base frame number and this capacity
 pub record IsStore (base size : ℕ) (store : Store) : Type 0 where

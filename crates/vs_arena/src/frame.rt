@@ -2,9 +2,7 @@ ghost use Rattle.std.specs.Prelude.{◌≡◌, ◌<◌};
 ghost use Rattle.vs_arena.specs.Store.{zeros};
 
 use std::marker::Model;
-
-/// How many words a frame has.
-pub const FRAME_WORDS: usize = 512;
+use vs_types::FRAME_WORDS;
 
 /// The name of a frame of a store: its index, below 4,096. Contracts see the index.
 #[derive(Clone, Copy, Debug, PartialEq, Eq)]

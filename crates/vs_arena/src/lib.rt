@@ -9,6 +9,7 @@ mod store;
 mod tests;
 mod vec_arena;
 
-pub use frame::{FRAME_WORDS, Frame};
+pub use frame::Frame;
 pub use store::FrameStore;
 pub use vec_arena::VecArena;
+pub use vs_types::FRAME_WORDS;

@@ -2,7 +2,8 @@ ghost use Rattle.std.specs.Prelude.{◌≡◌, ℕ, ◌+◌, ◌^◌, ◌<◌, �
 ghost use Rattle.std.specs.FinMap as finite;
 ghost use Rattle.vs_arena.specs.Store.{Store, IsInUse, IsFree, words_of, zeros, IsStore};
 
-use crate::frame::{FRAME_WORDS, Frame};
+use crate::frame::Frame;
+use vs_types::FRAME_WORDS;
 
 /// Frames to be taken and given back. A store has up to 4,096 frames; frame i has the number `base + i`, below 2^40.
 ///

@@ -1,11 +1,11 @@
 ghost use Rattle.std.specs.Prelude.{◌≡◌, ◌+◌, ◌^◌, ◌≤◌, IfOk};
 ghost use Rattle.std.specs.FinMap as finite;
 
-use crate::frame::{FRAME_WORDS, Frame, cleared_words};
+use crate::frame::{Frame, cleared_words};
 use crate::store::FrameStore;
 use std::alloc::Global;
 use std::marker::Model;
-use vs_types::Memory;
+use vs_types::{FRAME_WORDS, Memory};
 
 /// A store of frames that lie in one vector. `new` takes all its memory: 4,099 bytes a frame.
 #[derive(Debug, Drop)]

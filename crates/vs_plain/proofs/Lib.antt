@@ -1,4 +1,3 @@
 pub mod Listed
 pub mod Neighbours
-pub mod Counts
 pub mod Tables

@@ -1,105 +1,22 @@
--- How the table count changes with one page.
-use Rattle.std.proofs.Common.{◌≡◌, ◌≢◌, ℕ, zero, suc, ◌+◌, ◌-◌, ◌*◌, ◌/◌, ◌%◌, ◌^◌, ◌<◌, ◌≤◌, Bool, true, false, cond, ◌||◌, nat_eq, nat_lt, List, [], ◌∷◌, map, filter, Option, Some, None, Contains, IsTrue, ◌⊎◌, inl, inr, ⊎_elim, refl, sym, ap, ◌∙◌, subst, mod-lt, mod-eq_of_lt, arith}
-use lib.Pow.{pow_pos, pow-lt, pow_mono, shr_mono, split, mod-mod-pow}
+-- How the table count changes with one page, by the pages next to it.
+use Rattle.std.proofs.Common.{◌≡◌, ◌≢◌, ℕ, zero, suc, ◌+◌, ◌-◌, ◌*◌, ◌/◌, ◌%◌, ◌^◌, ◌<◌, ◌≤◌, true, false, cond, ◌||◌, nat_eq, nat_lt, List, Option, Some, None, IsTrue, ⊎_elim, refl, sym, ap, ◌∙◌, subst, mod-lt, mod-eq_of_lt, arith}
+use lib.Pow.{pow_pos, pow_mono, shr_mono, split, mod-mod-pow}
 use Rattle.std.specs.FinMap as finite
+use Rattle.std.specs.Cmp.{both_ways}
 use Rattle.std.specs.Set.{is_member}
-use Rattle.std.proofs.lemmas.Bool.{cases_lt, eq-eqb, eqb-true}
-use Rattle.std.proofs.lemmas.Bool.Decides.{nat_tests}
+use Rattle.std.proofs.lemmas.Bool.{cases_lt, eq-eqb, eqb-true, or_left, or_right, or_cases}
 use Rattle.vs_types.specs.declared.depth.Depth.{Depth}
 use Rattle.vs_types.specs.declared.page.Page.{Page}
-use Rattle.vs_types.specs.declared.page.Size.{Size}
-use Rattle.vs_types.specs.declared.page.Size.TheVariants.{K4, M2, G1}
-use Rattle.vs_types.specs.Depth.{levels, table_bytes}
+use Rattle.vs_types.specs.Depth.{table_bytes}
 use Rattle.vs_types.specs.Page.{level_of, bytes_of, covers, overlaps, IsPage}
-use Rattle.vs_types.specs.Space.{Space, no_pages, pages, Holds, IsSpace, least_overlapped, tables_of_level, tables_of_levels, table_count}
-use Rattle.vs_types.proofs.Lists.{Contains-head}
+use Rattle.vs_types.specs.Space.{Space, pages, Holds, IsSpace, least_overlapped, tables_of_level, tables_of_levels}
 use Rattle.vs_types.proofs.Pages.{bytes_positive, covers_base, overlaps_means, overlaps_shares}
-use Rattle.vs_types.proofs.Spaces.{holds_listed, no_pages_space, none_held, insert_space, insert_cases, get_inserted, get_insert_other}
+use Rattle.vs_types.proofs.Spaces.{holds_listed, insert_space}
 use Rattle.vs_types.proofs.Steps.{alone}
-use Rattle.vs_plain.proofs.Counts.{both_ways, same_count, count_more, member_comes, member_goes}
+use Rattle.vs_types.proofs.Counts.{member_comes, member_goes}
+use Rattle.vs_types.proofs.TableCounts.{has_table, stretches, tables_with, tables_without}
 use Rattle.vs_plain.specs.PageMap.{IsLastUpTo, IsFirstFrom}
 use Rattle.vs_plain.specs.Tables.{begins_in_stretch}
-
-empty_list : (ps : List Page) → ((p : Page) → Contains ps p → ⊥) → ps ≡ []
-empty_list [] none = refl
-empty_list (p ∷ ps) none = absurd (none p (Contains-head p ps))
-
-no_tables : (n : ℕ) → tables_of_levels n [] ≡ 0
-no_tables zero = refl
-no_tables (suc n) = ap (λ k. tables_of_level (suc n) [] + k) (no_tables n)
-
-pub tables_of_nothing : (depth : Depth) → table_count depth no_pages ≡ 1
-tables_of_nothing depth =
-    let none : pages no_pages ≡ [] = empty_list (pages no_pages) (λ p h. none_held p.base p ((holds_listed (no_pages_space depth) p).0 h)) in
-    rw none (ap (λ k. 1 + k) (no_tables (levels depth - 1)))
-
-first_or : (a b : Bool) → a ≡ true → (a || b) ≡ true
-first_or true b h = refl
-first_or false b h = cc
-
-or_right : (a b : Bool) → b ≡ true → (a || b) ≡ true
-or_right true b h = refl
-or_right false b h = h
-
-one_of : {P : Type 0} (a b : Bool) → (a || b) ≡ true → (a ≡ true → P) → (b ≡ true → P) → P
-one_of true b h f g = f refl
-one_of false b h f g = g h
-
--- ---- one level
-
--- pages of this size have a table of each level from their own on
-pub has_table : (page : Page) (level : ℕ) → level_of page.size ≤ level → nat_lt (bytes_of page.size) (table_bytes level) ≡ true
-has_table page level l = let less : bytes_of page.size < table_bytes level = pow-lt (omega arith) in grind (arith, nat_tests)
-
-pub has_no_table : (page : Page) (level : ℕ) → level < level_of page.size → nat_lt (bytes_of page.size) (table_bytes level) ≡ false
-has_no_table page level l = let less : table_bytes level ≤ bytes_of page.size = pow_mono (omega arith) in grind (arith, nat_tests)
-
-has_table_from : (page : Page) (level : ℕ) → nat_lt (bytes_of page.size) (table_bytes level) ≡ true → level_of page.size ≤ level
-has_table_from page level t = ⊎_elim (λ l. let no = has_no_table page level l in cc) (λ l. l) (cases_lt level (level_of page.size))
-
-abbrev stretches : ℕ → Space → List ℕ
-stretches level space = map (λ p. p.base / table_bytes level) (filter (λ p. nat_lt (bytes_of p.size) (table_bytes level)) (pages space))
-
-module _ {depth : Depth} {space : Space} (is : IsSpace depth space) (page : Page) (is_new : IsSpace depth (finite.insert space page.base page)) (absent : (q : Page) → Holds space q → q.base ≢ page.base) (level : ℕ) where
-  still : (q : Page) → Holds space q → Holds (finite.insert space page.base page) q
-  still q h = get_insert_other space page.base page q.base (absent q h) ∙ h
-
-  goes : (q : Page) → Holds (finite.insert space page.base page) q → nat_lt (bytes_of q.size) (table_bytes level) ≡ true → is_member nat_eq (stretches level (finite.insert space page.base page)) (q.base / table_bytes level) ≡ true
-  goes q h t = member_goes (λ (p : Page). p.base / table_bytes level) (λ p. nat_lt (bytes_of p.size) (table_bytes level)) (pages (finite.insert space page.base page)) q ((holds_listed is_new q).1 h) t
-
-  up : (k : ℕ) → is_member nat_eq (stretches level space) k ≡ true → is_member nat_eq (stretches level (finite.insert space page.base page)) k ≡ true
-  up k m =
-      let found = member_comes (λ (p : Page). p.base / table_bytes level) (λ p. nat_lt (bytes_of p.size) (table_bytes level)) (pages space) k m in
-      subst (λ n. is_member nat_eq (stretches level (finite.insert space page.base page)) n ≡ true) found.3 (goes found.0 (still found.0 ((holds_listed is found.0).0 found.1)) found.2)
-
-  -- a page with a table of this level begins in the stretch, there before or new
-  down : (k : ℕ) → is_member nat_eq (stretches level (finite.insert space page.base page)) k ≡ true → ((page.base / table_bytes level ≡ k) × (nat_lt (bytes_of page.size) (table_bytes level) ≡ true)) ⊎ (is_member nat_eq (stretches level space) k ≡ true)
-  down k m =
-      let found = member_comes (λ (p : Page). p.base / table_bytes level) (λ p. nat_lt (bytes_of p.size) (table_bytes level)) (pages (finite.insert space page.base page)) k m in
-      let held = (holds_listed is_new found.0).0 found.1 in
-      ⊎_elim
-      (λ new. inl (subst (λ (p : Page). (p.base / table_bytes level ≡ k) × (nat_lt (bytes_of p.size) (table_bytes level) ≡ true)) new.1 (found.3, found.2)))
-      (λ old. inr (subst (λ n. is_member nat_eq (stretches level space) n ≡ true) found.3
-      (member_goes (λ (p : Page). p.base / table_bytes level) (λ p. nat_lt (bytes_of p.size) (table_bytes level)) (pages space) found.0 ((holds_listed is found.0).1 old.1) found.2)))
-      (insert_cases space page.base page found.0.base found.0 held)
-
-  -- a page with a table of this level needs one more, unless a page with such a table begins in its stretch
-  pub tables_with : level_of page.size ≤ level → tables_of_level level (pages (finite.insert space page.base page)) ≡ cond (is_member nat_eq (stretches level space) (page.base / table_bytes level)) 0 1 + tables_of_level level (pages space)
-  tables_with l =
-      let t = has_table page level l in
-      same_count (stretches level (finite.insert space page.base page)) (page.base / table_bytes level ∷ stretches level space)
-      (λ k m. ⊎_elim (λ new. first_or _ _ (eq-eqb k _ (sym new.0))) (λ old. or_right _ _ old) (down k m))
-      (λ k m. one_of (nat_eq k (page.base / table_bytes level)) _ m
-      (λ same. subst (λ n. is_member nat_eq (stretches level (finite.insert space page.base page)) n ≡ true) (sym (eqb-true k _ same)) (goes page (get_inserted space page.base page) t))
-      (up k))
-      ∙ count_more (page.base / table_bytes level) (stretches level space)
-
-  -- a page with no table of this level needs none
-  pub tables_without : level < level_of page.size → tables_of_level level (pages (finite.insert space page.base page)) ≡ tables_of_level level (pages space)
-  tables_without l =
-      let t = has_no_table page level l in
-      same_count (stretches level (finite.insert space page.base page)) (stretches level space)
-      (λ k m. ⊎_elim (λ new. let both : (nat_lt (bytes_of page.size) (table_bytes level) ≡ true) = new.1 in cc) (λ old. old) (down k m)) up
 
 aligned_down : (n i k : ℕ) → k ≤ i → n % 2 ^ i ≡ 0 → n % 2 ^ k ≡ 0
 aligned_down n i k l e =
@@ -169,9 +86,9 @@ module _ {depth : Depth} {space : Space} (is : IsSpace depth space) (page : Page
       let held = (holds_listed is found.0).0 found.1 in
       ⊎_elim
       (λ l. or_right _ _ (found_above above first found.0 held found.3 (omega arith)))
-      (λ l. first_or _ _ (found_below below last found.0 held found.3 l))
+      (λ l. or_left _ _ (found_below below last found.0 held found.3 l))
       (cases_lt page.base found.0.base))
-      (λ b. one_of _ _ b (below_there below last) (above_there above first))
+      (λ b. ⊎_elim (below_there below last) (above_there above first) (or_cases _ _ b))
 
 -- ---- all levels
 
@@ -230,8 +147,3 @@ module _ {depth : Depth} {space : Space} (is : IsSpace depth space) (page : Page
   no_more level next count below above last first some own e one before =
       let done = level_done level count 0 some (at_level level below above last first own ∙ ap (λ b. cond b 0 1 + tables_of_level level (pages space)) one) before in
       rw e (omega arith)
-
-pub level_positive : (size : Size) → 0 < level_of size
-level_positive K4 = omega arith
-level_positive M2 = omega arith
-level_positive G1 = omega arith

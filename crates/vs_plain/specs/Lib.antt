@@ -1,4 +1,3 @@
-pub mod Coded
 pub mod Listed
 pub mod PageMap
 pub mod Plain

@@ -1,20 +1,15 @@
 -- A plain address space: its depth, its limit of tables, and the space of its pages.
-use Rattle.std.specs.Prelude.{◌≡◌, ℕ, ◌≤◌, ◌^◌, refl}
-use Rattle.std.specs.Coded.{Coded, code_by, coded×, coded_ℕ}
+use Rattle.std.specs.Prelude.{◌≡◌, ℕ, ◌≤◌, ◌^◌}
 use Rattle.vs_types.specs.Space.{Space, IsSpace, table_count}
 use Rattle.vs_types.specs.Step.{step}
 use Rattle.vs_types.specs.declared.depth.Depth.{Depth}
 use Rattle.vs_types.specs.declared.op.Action.{Action}
 use Rattle.vs_types.specs.declared.answer.Answer.{Answer}
-use Rattle.vs_plain.specs.Coded.{depth_code, space_code}
 
 pub record Kept : Type 0 where
   pub depth : Depth
   pub limit : ℕ
   pub space : Space
-
-abbrev pub kept_code : Coded Kept
-kept_code = code_by (Depth × (ℕ × Space)) (coded× depth_code (coded× coded_ℕ space_code)) (λ k. (k.depth, (k.limit, k.space))) (λ p. record { depth = p.0; limit = p.1.0; space = p.1.1 }) (λ _. refl)
 
 -- what is kept: a space, and the number of its tables
 pub record IsKept (depth : Depth) (tables : ℕ) (space : Space) : Type 0 where

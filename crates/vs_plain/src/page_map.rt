@@ -19,13 +19,16 @@ pub(crate) struct PageMap {
 }
 
 impl Model for PageMap {
+    ghost use Rattle.std.specs.Coded.{coded_ℕ};
+    ghost use Rattle.std.specs.FinMap as finite;
+    ghost use Rattle.std.specs.Ordering.{nat_cmp};
+    ghost use Rattle.vs_types.specs.contracts.page.Page as page_contract;
     ghost use Rattle.vs_types.specs.Space.{Space};
-    ghost use Rattle.vs_plain.specs.Coded.{space_code};
     ghost use Rattle.vs_plain.specs.Listed.{IsByBase, listed_space};
 
     ghost Value = { Space };
 
-    ghost coded = { space_code };
+    ghost coded = { finite.code {R = nat_cmp} coded_ℕ page_contract.the_row.coded };
 
     ghost view = { λ m. listed_space m.by_base.entries };
 

@@ -21,11 +21,15 @@ pub struct PlainSpace {
 }
 
 impl Model for PlainSpace {
-    ghost use Rattle.vs_plain.specs.Plain.{Kept, kept_code, IsKept};
+    ghost use Rattle.std.specs.Coded.{codes, coded_ℕ};
+    ghost use Rattle.std.specs.FinMap as finite;
+    ghost use Rattle.std.specs.Ordering.{nat_cmp};
+    ghost use Rattle.vs_types.specs.contracts.page.Page as page_contract;
+    ghost use Rattle.vs_plain.specs.Plain.{Kept, IsKept};
 
     ghost Value = { Kept };
 
-    ghost coded = { kept_code };
+    ghost coded = { Prim.hlevel (codes, finite.code {R = nat_cmp} coded_ℕ page_contract.the_row.coded) };
 
     ghost view = { λ s. record { depth = s.depth; limit = s.limit; space = s.page_map } };
 

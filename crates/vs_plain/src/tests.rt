@@ -2,22 +2,14 @@ use crate::PlainSpace;
 use std::process::Abort;
 use vs_types::{Answer, BadOp, Depth, Op, Page, Rights, Size};
 
-const ALL: Rights = Rights {
-    write: true,
-    user: true,
-    exec: true,
-};
-
 const WRITE: Rights = Rights {
     write: true,
-    user: false,
-    exec: false,
+    ..Rights::NONE
 };
 
 const USER_AND_EXEC: Rights = Rights {
     write: false,
-    user: true,
-    exec: true,
+    ..Rights::ALL
 };
 
 /// The answer; where memory is refused, that of a second try, before which the space must be unchanged.
@@ -41,7 +33,11 @@ fn pages(rt: &impl Abort, space: &PlainSpace) -> Vec<Page> {
 }
 
 fn map(rt: &impl Abort, space: &mut PlainSpace, base: u64, size: Size, phys: u64) -> Answer {
-    apply(rt, space, Op::map(Depth::Four, base, size, phys, ALL))
+    apply(
+        rt,
+        space,
+        Op::map(Depth::Four, base, size, phys, Rights::ALL),
+    )
 }
 
 fn unmap(rt: &impl Abort, space: &mut PlainSpace, base: u64) -> Answer {
@@ -68,11 +64,11 @@ fn both_halves_of_the_address_space(rt: HostRuntime) {
     assert_eq!(rt; space.tables(), 7);
     assert_eq!(rt;
         space.resolve(0x7FFFFFFFFFFF),
-        Answer::Mapped(0x2FFF, Size::K4, ALL)
+        Answer::Mapped(0x2FFF, Size::K4, Rights::ALL)
     );
     assert_eq!(rt;
         space.resolve(0xFFFF800000000000),
-        Answer::Mapped(0x3000, Size::K4, ALL)
+        Answer::Mapped(0x3000, Size::K4, Rights::ALL)
     );
 }
 
@@ -85,7 +81,7 @@ fn last_page_of_the_address_space(rt: HostRuntime) {
     );
     assert_eq!(rt;
         space.resolve(u64::MAX),
-        Answer::Mapped(0x3FFFFFFF, Size::G1, ALL)
+        Answer::Mapped(0x3FFFFFFF, Size::G1, Rights::ALL)
     );
     let overlap = Answer::Overlap(0xFFFFFFFFC0000000);
     assert_eq!(rt;
@@ -115,7 +111,7 @@ fn overlap_names_least_base(rt: HostRuntime) {
         base,
         size: Size::K4,
         phys,
-        rights: ALL,
+        rights: Rights::ALL,
     };
     let pages = pages(&rt, &space);
     let listed = [page(0x40001000, 0x2000), page(0x40200000, 0x1000)];
@@ -162,7 +158,7 @@ fn unmap_frees_tables(rt: HostRuntime) {
         Answer::Done
     );
     assert_eq!(rt; space.tables(), 4);
-    let removed = Answer::Removed(0x1000, Size::K4, ALL);
+    let removed = Answer::Removed(0x1000, Size::K4, Rights::ALL);
     assert_eq!(rt; unmap(&rt, &mut space, 0x400000), removed);
     assert_eq!(rt; space.tables(), 1);
     assert_eq!(rt; space.resolve(0x400000), Answer::NotMapped);
@@ -187,7 +183,10 @@ fn protect_changes_rights(rt: HostRuntime) {
         space.resolve(0x1000),
         Answer::Mapped(0x5000, Size::K4, USER_AND_EXEC)
     );
-    assert_eq!(rt; protect(&rt, &mut space, 0x2000, ALL), Answer::NotMapped);
+    assert_eq!(rt;
+        protect(&rt, &mut space, 0x2000, Rights::ALL),
+        Answer::NotMapped
+    );
     assert_eq!(rt; space.tables(), 4);
 }
 

@@ -9,7 +9,6 @@ pub mod Places
 pub mod Protects
 pub mod Meets
 pub mod Prunes
-pub mod Counts
 pub mod TableCounts
 pub mod Unmaps
 pub mod Overlaps

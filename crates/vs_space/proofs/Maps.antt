@@ -20,7 +20,8 @@ use Rattle.vs_types.specs.declared.entry.Meaning.TheVariants as entry
 use Rattle.vs_types.specs.declared.answer.Answer.TheVariants as answers
 use Rattle.vs_types.proofs.Steps.{map_cases, alone, step_space}
 use Rattle.vs_types.proofs.Looks.{done_looks}
-use Rattle.vs_types.proofs.Pages.{covers_means, covers_base, covered_canonical}
+use Rattle.vs_types.proofs.Overlaps.{overlapped_below}
+use Rattle.vs_types.proofs.Pages.{covers_means, covers_base, covered_canonical, level_some}
 use Rattle.vs_types.proofs.Spaces.{page_at_means, insert_space}
 use Rattle.vs_walk.specs.Memory.{Memory}
 use Rattle.vs_walk.specs.Walk.{walk, as_walk}
@@ -36,11 +37,11 @@ use Rattle.vs_space.proofs.Ways.{table_next, walk_ends, words_found}
 use Rattle.vs_space.proofs.Writes.{table_here, found_on_way, walk_off_way, len_written}
 use Rattle.vs_space.proofs.Trees.{tree_write, but_none, but_write, filled_by}
 use Rattle.vs_space.proofs.Reached.{reached_write, whole_written}
-use Rattle.vs_space.proofs.Regions.{leaf_page, nothing_at, translates_changed, covers_way, way_covers, level_some}
+use Rattle.vs_space.proofs.Regions.{leaf_page, nothing_at, translates_changed, covers_way, way_covers}
 use Rattle.vs_space.proofs.Protects.{IsMet, space_of, never_reserved, page_here, page_level, stays}
 use Rattle.vs_space.proofs.Meets.{page_table, met_of, never_table}
 use Rattle.vs_space.proofs.Prunes.{absent_under}
-use Rattle.vs_space.proofs.Overlaps.{overlapped_none, overlapped_below, overlapped_least}
+use Rattle.vs_space.proofs.Overlaps.{overlapped_none, overlapped_least}
 use Rattle.vs_space.proofs.TableCounts.{count_added}
 
 map_overlaps : (depth : Depth) (limit : ℕ) (space : Space) (page : Page) (base : ℕ) → least_overlapped space page ≡ Some base → step depth limit space (Map page) ≡ record { space = space; answer = answers.Overlap base }

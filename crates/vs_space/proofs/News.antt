@@ -22,7 +22,7 @@ use Rattle.vs_space.proofs.Numbered.{get-insert_same, get-insert_other, len-inse
 use Rattle.vs_space.proofs.Ways.{table_first, table_next, none_past, walk_found}
 use Rattle.vs_space.proofs.Writes.{used_some}
 use Rattle.vs_space.proofs.Links.{found_in_zeros}
-use Rattle.vs_space.proofs.TableCounts.{tables_of_nothing}
+use Rattle.vs_types.proofs.TableCounts.{tables_of_nothing}
 
 module _ (depth : Depth) (root : ℕ) where
   abbrev alone : Memory

@@ -14,11 +14,10 @@ use Rattle.vs_types.specs.declared.depth.Depth.TheVariants.{Four}
 use Rattle.vs_types.specs.declared.page.Page.{Page}
 use Rattle.vs_types.specs.declared.page.Rights.{Rights}
 use Rattle.vs_types.specs.declared.page.Size.{Size}
-use Rattle.vs_types.specs.declared.page.Size.TheVariants.{K4, M2, G1}
 use Rattle.vs_types.specs.declared.entry.Meaning.TheVariants as entry
 use Rattle.vs_types.specs.declared.answer.Answer.{Answer}
 use Rattle.vs_types.specs.declared.answer.Answer.TheVariants as answers
-use Rattle.vs_types.proofs.Pages.{canonical_means, covers_means}
+use Rattle.vs_types.proofs.Pages.{canonical_means, covers_means, level_some}
 use Rattle.vs_types.proofs.Spaces.{page_at_means, look_of_none}
 use Rattle.vs_walk.specs.Memory.{Memory}
 use Rattle.vs_walk.specs.Walk.{walk, as_walk, TranslatesAs}
@@ -74,11 +73,6 @@ in_block e base b at low high =
     let whole = split base e in
     let parts : b ≡ base / 2 ^ e * 2 ^ e + (b - base) = omega arith in
     sym (ap (λ x. x / 2 ^ e) parts ∙ div-mul-add (base / 2 ^ e) (2 ^ e) (b - base) (omega arith))
-
-pub level_some : (size : Size) → 0 < level_of size
-level_some K4 = omega arith
-level_some M2 = omega arith
-level_some G1 = omega arith
 
 -- a page has the canonical addresses that take its way
 module _ (depth : Depth) (q : Page) (good : IsPage depth q) (k : ℕ) (level : k + level_of q.size ≡ levels depth) where

@@ -17,7 +17,7 @@ use Rattle.vs_types.specs.declared.entry.Meaning.TheVariants as entry
 use Rattle.vs_types.specs.declared.answer.Answer.TheVariants as answers
 use Rattle.vs_types.proofs.Steps.{unmap_cases, step_space}
 use Rattle.vs_types.proofs.Looks.{removed_looks}
-use Rattle.vs_types.proofs.Spaces.{remove_cases}
+use Rattle.vs_types.proofs.Spaces.{remove_cases, put_back}
 use Rattle.vs_walk.specs.Memory.{Memory}
 use Rattle.vs_walk.specs.Walk.{walk, TranslatesAs}
 use Rattle.vs_walk.specs.declared.walk.Walk.TheVariants.{NotMapped, Reserved}
@@ -34,7 +34,7 @@ use Rattle.vs_space.proofs.Trees.{tree_write, but_none, but_write}
 use Rattle.vs_space.proofs.Reached.{reached_write, whole_written}
 use Rattle.vs_space.proofs.Regions.{IsLeafPage, nothing_at, translates_changed}
 use Rattle.vs_space.proofs.Protects.{space_of}
-use Rattle.vs_space.proofs.TableCounts.{put_back, count_added}
+use Rattle.vs_space.proofs.TableCounts.{count_added}
 use Rattle.vs_space.proofs.Meets.{page_table, page_met, level_met}
 
 -- the unmap of the page that begins there

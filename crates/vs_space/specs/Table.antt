@@ -1,13 +1,10 @@
 -- Page tables: what contracts see of one, which space it is, and what an operation does to it.
-use Rattle.std.specs.Prelude.{◌≡◌, ℕ, refl}
-use Rattle.std.specs.Coded.{Coded, code_by, coded×, coded_ℕ, coded_list}
+use Rattle.std.specs.Prelude.{◌≡◌, ℕ}
 use Rattle.std.specs.FinMap as finite
-use Rattle.std.specs.Ordering.{nat_cmp}
 use Rattle.vs_types.specs.Depth.{levels}
 use Rattle.vs_types.specs.Space.{Space, IsSpace, table_count}
 use Rattle.vs_types.specs.Step.{step}
 use Rattle.vs_types.specs.declared.depth.Depth.{Depth}
-use Rattle.vs_types.specs.declared.depth.Depth.TheVariants.{Four}
 use Rattle.vs_types.specs.declared.op.Action.{Action}
 use Rattle.vs_types.specs.declared.answer.Answer.{Answer}
 use Rattle.vs_walk.specs.Memory.{Memory}
@@ -21,19 +18,6 @@ pub record PageTable : Type 0 where
   pub limit : ℕ
   pub root : ℕ
   pub memory : Memory
-
-abbrev depth_at : ℕ → Depth
-depth_at level = Four
-
-pub depth_back : (depth : Depth) → depth_at (levels depth) ≡ depth
-depth_back Four = refl
-
--- depths are stored as their levels
-abbrev pub depth_code : Coded Depth
-depth_code = code_by ℕ coded_ℕ levels depth_at depth_back
-
-abbrev pub table_code : Coded PageTable
-table_code = code_by (Depth × (ℕ × (ℕ × Memory))) (coded× depth_code (coded× coded_ℕ (coded× coded_ℕ (finite.code {R = nat_cmp} coded_ℕ (coded_list coded_ℕ))))) (λ t. (t.depth, (t.limit, (t.root, t.memory)))) (λ p. record { depth = p.0; limit = p.1.0; root = p.1.1.0; memory = p.1.1.1 }) (λ _. refl)
 
 -- the page table is that of the space: its tables translate each address as it looks there
 pub record IsTableOf (table : PageTable) (space : Space) : Type 0 where

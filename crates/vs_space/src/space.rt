@@ -30,11 +30,14 @@ pub struct Space<S: FrameStore> {
 }
 
 impl<S: FrameStore> Model for Space<S> {
-    ghost use Rattle.vs_space.specs.Table.{PageTable, table_code, IsPageTable};
+    ghost use Rattle.std.specs.Coded.{codes, coded_ℕ, coded_list};
+    ghost use Rattle.std.specs.FinMap as finite;
+    ghost use Rattle.std.specs.Ordering.{nat_cmp};
+    ghost use Rattle.vs_space.specs.Table.{PageTable, IsPageTable};
 
     ghost Value = { PageTable };
 
-    ghost coded = { table_code };
+    ghost coded = { Prim.hlevel (codes, finite.code {R = nat_cmp} coded_ℕ (coded_list coded_ℕ)) };
 
     ghost view = { λ s. record { depth = s.depth; limit = s.tables.limit; root = s.root; memory = s.tables.memory } };
 

@@ -10,16 +10,9 @@ use vs_walk::Frames;
 
 type Table = Space<VecArena>;
 
-const ALL: Rights = Rights {
-    write: true,
-    user: true,
-    exec: true,
-};
-
 const WRITE: Rights = Rights {
     write: true,
-    user: false,
-    exec: false,
+    ..Rights::NONE
 };
 
 // What an address is answered, or `NotMapped` where it isn't canonical.
@@ -54,8 +47,14 @@ fn leads_to(rt: &impl Abort, space: &Table, indexes: &[u16]) -> u64 {
 fn both_halves_of_the_address_space(rt: HostRuntime) -> Result<(), Fail> {
     let mut space = Space::new(VecArena::new(rt.alloc(), 1, 16)?, Depth::Four)?;
     assert_eq!(rt; space.tables(), 1);
-    let low = Op::map(Depth::Four, 0x7FFFFFFFF000, Size::K4, 0x2000, ALL)?;
-    let high = Op::map(Depth::Four, 0xFFFF800000000000, Size::K4, 0x3000, ALL)?;
+    let low = Op::map(Depth::Four, 0x7FFFFFFFF000, Size::K4, 0x2000, Rights::ALL)?;
+    let high = Op::map(
+        Depth::Four,
+        0xFFFF800000000000,
+        Size::K4,
+        0x3000,
+        Rights::ALL,
+    )?;
     assert_eq!(rt; space.apply(low), Answer::Done);
     assert_eq!(rt; space.apply(high), Answer::Done);
     assert_eq!(rt; space.tables(), 7);
@@ -64,7 +63,7 @@ fn both_halves_of_the_address_space(rt: HostRuntime) -> Result<(), Fail> {
     assert_eq!(rt; leads_to(&rt, &space, &[256]) % 4096, 7);
     assert_eq!(rt;
         look(&space, 0x7FFFFFFFFFFF),
-        Answer::Mapped(0x2FFF, Size::K4, ALL)
+        Answer::Mapped(0x2FFF, Size::K4, Rights::ALL)
     );
     Ok(())
 }
@@ -72,9 +71,9 @@ fn both_halves_of_the_address_space(rt: HostRuntime) -> Result<(), Fail> {
 #[test]
 fn overlap_names_least_base(rt: HostRuntime) -> Result<(), Fail> {
     let mut space = Space::new(VecArena::new(rt.alloc(), 1, 16)?, Depth::Four)?;
-    let behind = Op::map(Depth::Four, 0x40200000, Size::K4, 0x1000, ALL)?;
-    let before = Op::map(Depth::Four, 0x40001000, Size::K4, 0x2000, ALL)?;
-    let large = Op::map(Depth::Four, 0x40000000, Size::G1, 0x40000000, ALL)?;
+    let behind = Op::map(Depth::Four, 0x40200000, Size::K4, 0x1000, Rights::ALL)?;
+    let before = Op::map(Depth::Four, 0x40001000, Size::K4, 0x2000, Rights::ALL)?;
+    let large = Op::map(Depth::Four, 0x40000000, Size::G1, 0x40000000, Rights::ALL)?;
     assert_eq!(rt; space.apply(behind), Answer::Done);
     assert_eq!(rt; space.apply(before), Answer::Done);
     assert_eq!(rt; space.tables(), 5);
@@ -103,9 +102,9 @@ fn gigabyte_page(rt: HostRuntime) -> Result<(), Fail> {
 #[test]
 fn full_names_its_need(rt: HostRuntime) -> Result<(), Fail> {
     let mut space = Space::new(VecArena::new(rt.alloc(), 1, 3)?, Depth::Four)?;
-    let large = Op::map(Depth::Four, 0x200000, Size::M2, 0x200000, ALL)?;
-    let small = Op::map(Depth::Four, 0x400000, Size::K4, 0x1000, ALL)?;
-    let inside = Op::map(Depth::Four, 0x200000, Size::K4, 0x1000, ALL)?;
+    let large = Op::map(Depth::Four, 0x200000, Size::M2, 0x200000, Rights::ALL)?;
+    let small = Op::map(Depth::Four, 0x400000, Size::K4, 0x1000, Rights::ALL)?;
+    let inside = Op::map(Depth::Four, 0x200000, Size::K4, 0x1000, Rights::ALL)?;
     assert_eq!(rt; space.apply(large), Answer::Done);
     assert_eq!(rt; space.apply(small), Answer::Full(4));
     assert_eq!(rt; space.apply(inside), Answer::Overlap(0x200000));
@@ -116,13 +115,13 @@ fn full_names_its_need(rt: HostRuntime) -> Result<(), Fail> {
 #[test]
 fn unmap_frees_tables(rt: HostRuntime) -> Result<(), Fail> {
     let mut space = Space::new(VecArena::new(rt.alloc(), 1, 16)?, Depth::Four)?;
-    let small = Op::map(Depth::Four, 0x400000, Size::K4, 0x1000, ALL)?;
-    let large = Op::map(Depth::Four, 0x400000, Size::M2, 0x200000, ALL)?;
+    let small = Op::map(Depth::Four, 0x400000, Size::K4, 0x1000, Rights::ALL)?;
+    let large = Op::map(Depth::Four, 0x400000, Size::M2, 0x200000, Rights::ALL)?;
     assert_eq!(rt; space.apply(small), Answer::Done);
     assert_eq!(rt; space.tables(), 4);
     assert_eq!(rt;
         space.apply(Op::unmap(Depth::Four, 0x400000)?),
-        Answer::Removed(0x1000, Size::K4, ALL)
+        Answer::Removed(0x1000, Size::K4, Rights::ALL)
     );
     assert_eq!(rt; space.tables(), 1);
     assert_eq!(rt; leads_to(&rt, &space, &[0]), 0);
@@ -137,8 +136,7 @@ fn protect_changes_rights(rt: HostRuntime) -> Result<(), Fail> {
     let mut space = Space::new(VecArena::new(rt.alloc(), 1, 16)?, Depth::Four)?;
     let rights = Rights {
         write: false,
-        user: true,
-        exec: true,
+        ..Rights::ALL
     };
     let page = Op::map(Depth::Four, 0x1000, Size::K4, 0x5000, WRITE)?;
     assert_eq!(rt; space.apply(page), Answer::Done);
@@ -160,12 +158,7 @@ fn protect_changes_rights(rt: HostRuntime) -> Result<(), Fail> {
 #[test]
 fn last_physical_page(rt: HostRuntime) -> Result<(), Fail> {
     let mut space = Space::new(VecArena::new(rt.alloc(), 1, 16)?, Depth::Four)?;
-    let none = Rights {
-        write: false,
-        user: false,
-        exec: false,
-    };
-    let page = Op::map(Depth::Four, 0, Size::K4, 0x7FFFFFFFFF000, none)?;
+    let page = Op::map(Depth::Four, 0, Size::K4, 0x7FFFFFFFFF000, Rights::NONE)?;
     assert_eq!(rt; space.apply(page), Answer::Done);
     assert_eq!(rt; leads_to(&rt, &space, &[0, 0, 0, 0]), 0x8007FFFFFFFFF001);
     Ok(())
@@ -176,7 +169,7 @@ fn arena_of_two(rt: HostRuntime) -> Result<(), Fail> {
     let arena = VecArena::new(rt.alloc(), 1, 0)?;
     assert_eq!(rt; Space::new(arena, Depth::Four).err(), Some(NoRoot));
     let mut space = Space::new(VecArena::new(rt.alloc(), 1, 2)?, Depth::Four)?;
-    let page = Op::map(Depth::Four, 0x1000, Size::K4, 0x5000, ALL)?;
+    let page = Op::map(Depth::Four, 0x1000, Size::K4, 0x5000, Rights::ALL)?;
     assert_eq!(rt; space.apply(page), Answer::Full(4));
     assert_eq!(rt; space.tables(), 1);
     Ok(())

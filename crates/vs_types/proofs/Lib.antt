@@ -1,10 +1,13 @@
 pub mod Computing
 pub mod LeafWords
 pub mod Lists
+pub mod Counts
 pub mod Pages
 pub mod Spaces
 pub mod Steps
 pub mod Looks
 pub mod Alike
 pub mod Tables
+pub mod TableCounts
+pub mod Overlaps
 pub mod Refusals

@@ -71,7 +71,7 @@ kept_to f test (y ∷ ys) x h passes =
 -- ---- how many different numbers a list has
 
 -- a list and its different numbers have the same members
-unique_has : (xs : List ℕ) (q : ℕ) → is_member nat_eq (unique_keys nat_eq xs) q ≡ is_member nat_eq xs q
+pub unique_has : (xs : List ℕ) (q : ℕ) → is_member nat_eq (unique_keys nat_eq xs) q ≡ is_member nat_eq xs q
 unique_has [] q = refl
 unique_has (x ∷ xs) q =
     let rest = unique_has xs q in
@@ -87,7 +87,8 @@ apart_from_absent : (x : ℕ) (ys : List ℕ) → is_member nat_eq ys x ≡ fals
 apart_from_absent x [] h = tt
 apart_from_absent x (y ∷ ys) h = let parts = or_parts (nat_eq x y) (is_member nat_eq ys x) h in (parts.0, apart_from_absent x ys parts.1)
 
-unique_distinct : (xs : List ℕ) → IsDistinct nat_eq (unique_keys nat_eq xs)
+-- the different numbers of a list differ from one another
+pub unique_distinct : (xs : List ℕ) → IsDistinct nat_eq (unique_keys nat_eq xs)
 unfolding IsDistinct
 unique_distinct [] = tt
 unique_distinct (x ∷ xs) =

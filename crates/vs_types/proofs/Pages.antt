@@ -57,6 +57,11 @@ pow_multiple e k le =
     split : (e k : ℕ) → k ≤ e → e ≡ (e - k) + k
     split e k le = omega arith
 
+pub level_some : (size : Size) → 0 < level_of size
+level_some K4 = omega arith
+level_some M2 = omega arith
+level_some G1 = omega arith
+
 pub level_at_most : (size : Size) → level_of size ≤ 3
 level_at_most K4 = omega arith
 level_at_most M2 = omega arith

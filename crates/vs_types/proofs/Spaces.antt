@@ -29,15 +29,15 @@ found_value q (x ∷ es) v e =
       | false ↦ λ is. Contains-tail x.1 (map (λ e. e.1) es) v (found_value q es v is)
     ] e
 
-is_true : (b : Bool) → T b → b ≡ true
+pub is_true : (b : Bool) → T b → b ≡ true
 is_true true h = refl
 is_true false h = absurd h
 
-both_true : (a b : Bool) → T (a && b) → T a × T b
+pub both_true : (a b : Bool) → T (a && b) → T a × T b
 both_true true b h = (tt, h)
 both_true false b h = absurd h
 
-below_key : (low q : ℕ) → is_lt (nat_cmp low q) ≡ true → low < q
+pub below_key : (low q : ℕ) → is_lt (nat_cmp low q) ≡ true → low < q
 below_key low q e = grind (arith, nat_tests)
 
 -- a key that is found lies above what all keys lie above
@@ -178,6 +178,13 @@ remove_cases space k q found e =
     (λ same. let gone = get_removed space k in let at : finite.get (finite.remove space k) k ≡ Some found = subst (λ z. finite.get (finite.remove space k) z ≡ Some found) same e in cc)
     (λ differs. (differs, sym (get_remove_other space k q differs) ∙ e))
     (cases_eq q k)
+
+-- a page that is put back where it was taken out
+pub put_back : (space : Space) (page : Page) → Holds space page → finite.insert (finite.remove space page.base) page.base page ≡ space
+put_back space page holds = finite.same_map nat_cmp_total finite.nat_cmp-IsAntisymmetric _ _ (λ q. ⊎_elim
+    (λ (same : q ≡ page.base). subst (λ k. finite.get (finite.insert (finite.remove space page.base) page.base page) k ≡ finite.get space k) (sym same) (get_inserted (finite.remove space page.base) page.base page ∙ sym holds))
+    (λ (differs : q ≢ page.base). get_insert_other (finite.remove space page.base) page.base page q differs ∙ get_remove_other space page.base q differs)
+    (cases_eq q page.base))
 
 -- a well-formed page that has no address of the pages under other bases
 pub insert_space : {depth : Depth} {space : Space} → IsSpace depth space → (page : Page) → IsPage depth page → ((q : Page) (a : ℕ) → Holds space q → q.base ≢ page.base → IsTrue (covers q a) → IsTrue (covers page a) → ⊥) → IsSpace depth (finite.insert space page.base page)

@@ -50,7 +50,7 @@ unmap_tables {depth} limit {space} is base =
     (λ page e t. le_refl (table_count depth space))
 
 -- other rights leave the tables
-rights_tables : {depth : Depth} {space : Space} → IsSpace depth space → (page : Page) (rights : Rights) → Holds space page → table_count depth (finite.insert space page.base (record page { rights = rights })) ≡ table_count depth space
+pub rights_tables : {depth : Depth} {space : Space} → IsSpace depth space → (page : Page) (rights : Rights) → Holds space page → table_count depth (finite.insert space page.base (record page { rights = rights })) ≡ table_count depth space
 rights_tables {depth} {space} is page rights holds = le_antisymm (fewer_tables new is back) (fewer_tables is new forth)
   where
     new : IsSpace depth (finite.insert space page.base (record page { rights = rights }))

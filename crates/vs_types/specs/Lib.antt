@@ -7,5 +7,6 @@ pub mod Query
 pub mod Space
 pub mod Step
 pub mod Entry
+pub mod Frame
 pub mod Examples
 pub mod Laws

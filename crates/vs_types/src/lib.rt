@@ -8,6 +8,7 @@ mod config;
 mod depth;
 mod entry;
 pub mod examples;
+mod frame;
 mod laws;
 mod op;
 mod page;
@@ -18,6 +19,7 @@ pub use answer::Answer;
 pub use config::{BadConfig, Config};
 pub use depth::Depth;
 pub use entry::{Entry, Meaning};
+pub use frame::FRAME_WORDS;
 pub use laws::{
     changed_changes_rights_alone, done_adds_the_page, holds_is_listed,
     other_answers_leave_the_space, overlap_is_a_shared_address, refusals_say_why,

@@ -59,6 +59,22 @@ impl Size {
     }
 }
 
+impl Rights {
+    /// Everything is allowed.
+    pub const ALL: Rights = Rights {
+        write: true,
+        user: true,
+        exec: true,
+    };
+
+    /// Nothing is allowed but a supervisor's read.
+    pub const NONE: Rights = Rights {
+        write: false,
+        user: false,
+        exec: false,
+    };
+}
+
 impl Page {
     /// The first physical address that no page may have.
     pub const PHYS_END: u64 = 1 << 51;

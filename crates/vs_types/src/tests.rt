@@ -4,27 +4,20 @@ use crate::{
 };
 use std::alloc::{AllocError, AllocFailed};
 
-const ALL: Rights = Rights {
-    write: true,
-    user: true,
-    exec: true,
-};
-
 const WRITE: Rights = Rights {
     write: true,
-    user: false,
-    exec: false,
-};
-
-const NONE: Rights = Rights {
-    write: false,
-    user: false,
-    exec: false,
+    ..Rights::NONE
 };
 
 #[test]
 fn operations_not_well_formed(rt: HostRuntime) {
-    let map = |base: u64, size: Size, phys: u64| Op::map(Depth::Four, base, size, phys, ALL);
+    let map = |base: u64, size: Size, phys: u64| Op::map(
+        Depth::Four,
+        base,
+        size,
+        phys,
+        Rights::ALL,
+    );
     assert_eq!(rt; map(0x800000000001, Size::K4, 1), Err(BadOp::NotCanonical));
     assert_eq!(rt; map(0x1000, Size::M2, 0), Err(BadOp::Unaligned));
     assert_eq!(rt; map(0x200000, Size::M2, 0x1000), Err(BadOp::PhysUnaligned));
@@ -43,7 +36,7 @@ fn operations(rt: HostRuntime) {
         base: 0,
         size: Size::K4,
         phys: 0x7FFFFFFFFF000,
-        rights: NONE,
+        rights: Rights::NONE,
     };
     let map = Op::map(Depth::Four, page.base, page.size, page.phys, page.rights);
     assert_eq!(rt; map.map(|op| op.action()), Ok(Action::Map(page)));
@@ -94,10 +87,10 @@ fn entries(rt: HostRuntime) {
         large.read(Size::G1.level()),
         Meaning::Leaf(0x40000000, WRITE)
     );
-    let small = Entry::leaf(Size::K4, 0x7FFFFFFFFF000, NONE);
+    let small = Entry::leaf(Size::K4, 0x7FFFFFFFFF000, Rights::NONE);
     assert_eq!(rt; small.word(), 0x8007FFFFFFFFF001);
     assert_eq!(rt; Entry::table(2), Entry::new(0x2007));
-    assert_eq!(rt; Entry::new(0x2007).read(4), Meaning::Table(2, ALL));
+    assert_eq!(rt; Entry::new(0x2007).read(4), Meaning::Table(2, Rights::ALL));
     assert_eq!(rt; Entry::new(0x202087).read(2), Meaning::Reserved);
     assert_eq!(rt; Entry::new(0).read(1), Meaning::Absent);
 }

@@ -12,8 +12,9 @@ use Rattle.std.proofs.lemmas.List.Elements.{All-head, All-tail, All-push}
 use Rattle.std.proofs.lemmas.List.Sorted.{searchable_from_sorted}
 use Rattle.std.proofs.lemmas.Bool.{cases_lt}
 use lib.Dec.{T}
+use Rattle.vs_types.specs.Frame.{IsFrame}
 use Rattle.vs_walk.specs.Memory.{Memory}
-use Rattle.vs_walk.specs.Dump.{IsFrame, AreParts}
+use Rattle.vs_walk.specs.Dump.{AreParts}
 
 truth : (b : Bool) → IsTrue b → T b
 truth b e = subst T (sym e) tt

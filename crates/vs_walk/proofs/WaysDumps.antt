@@ -5,7 +5,8 @@ use Rattle.std.specs.FinMap.Entries as entries
 use Rattle.std.specs.Ordering.{nat_cmp, eq_by_cmp}
 use Rattle.std.proofs.lemmas.List.Elements.{All-contains}
 use Rattle.vs_types.proofs.Lists.{Contains-head, Contains-tail}
-use Rattle.vs_walk.specs.Dump.{Image, IsFrame, IsDump}
+use Rattle.vs_types.specs.Frame.{IsFrame}
+use Rattle.vs_walk.specs.Dump.{Image, IsDump}
 use Rattle.vs_walk.specs.Ways.{AreWhole}
 
 -- what is found at a number is the words of a frame that is listed
@@ -24,4 +25,4 @@ dump_frame dump number words is there =
     All-contains (λ frame. IsFrame frame.1) (finite.entries dump.frames) (listed.0, words) is.whole listed.1
 
 pub dump_is_whole : (dump : Image) → IsDump dump → AreWhole dump.frames
-dump_is_whole dump is number words there = (dump_frame dump number words is there).all_there
+dump_is_whole dump is number words there = (dump_frame dump number words is there).whole

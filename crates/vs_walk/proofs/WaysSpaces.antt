@@ -1,12 +1,11 @@
 -- A memory translates as a space where the pages that are found in it are those of the space.
-use Rattle.std.proofs.Common.{◌≡◌, ℕ, suc, ◌+◌, ◌-◌, ◌%◌, ◌^◌, ◌<◌, Bool, true, false, cond, ◌&&◌, List, [], ◌∷◌, map, Option, Some, None, get_or, refl, sym, ap, subst, ◌∙◌, ◌⊎◌, inl, inr, ⊎_elim, arith, Contains, IsTrue}
+use Rattle.std.proofs.Common.{◌≡◌, ℕ, suc, ◌+◌, ◌-◌, ◌%◌, ◌^◌, ◌<◌, cond, List, [], ◌∷◌, map, Option, Some, None, get_or, refl, sym, ap, subst, ◌∙◌, ◌⊎◌, inl, inr, ⊎_elim, arith, Contains, IsTrue}
 use Rattle.std.specs.Prelude.{All}
 use Rattle.std.specs.FinMap as finite
 use Rattle.std.specs.FinMap.Entries as entries
 use Rattle.std.specs.List.{AllPairs}
 use Rattle.std.specs.Ordering.{nat_cmp, is_lt}
 use Rattle.std.proofs.lemmas.Bool.{eq-eqb, ne_eqb}
-use Rattle.std.proofs.lemmas.Bool.Decides.{nat_tests}
 use Rattle.std.proofs.lemmas.List.Elements.{All-nil, All-cons, All-head, All-tail, All-contains, All-weaker, All-map}
 use lib.Dec.{T}
 use Rattle.vs_types.specs.Depth.{IsCanonical}
@@ -17,7 +16,7 @@ use Rattle.vs_types.specs.declared.depth.Depth.{Depth}
 use Rattle.vs_types.specs.declared.page.Page.{Page}
 use Rattle.vs_types.proofs.Lists.{Contains-head, Contains-tail, Contains-cases, not_in_nil, find_found, find_nothing}
 use Rattle.vs_types.proofs.Pages.{covers_means, covers_base, same_page, same_aligned}
-use Rattle.vs_types.proofs.Spaces.{same_key, holds_listed}
+use Rattle.vs_types.proofs.Spaces.{same_key, is_true, both_true, below_key, holds_listed}
 use Rattle.vs_walk.specs.Memory.{Memory}
 use Rattle.vs_walk.specs.Walk.{as_walk, TranslatesAs}
 use Rattle.vs_walk.specs.Traversal.{moves, found, walk_fault}
@@ -122,17 +121,6 @@ found_are_pages depth memory root whole = record {
     formed p in_ps = All-contains (IsPageBelow (2 ^ 52) depth) (found (moves depth memory root)) p (pages_formed depth memory root whole) in_ps
 
 -- ---- the pages of a space
-
-is_true : (b : Bool) → T b → b ≡ true
-is_true true h = refl
-is_true false h = absurd h
-
-both_true : (a b : Bool) → T (a && b) → T a × T b
-both_true true b h = (tt, h)
-both_true false b h = absurd h
-
-below_key : (low q : ℕ) → is_lt (nat_cmp low q) ≡ true → low < q
-below_key low q e = grind (arith, nat_tests)
 
 above_all : (low : ℕ) (es : List (ℕ × Page)) → T (entries.below_all nat_cmp low es) → All (λ e. low < e.0) es
 above_all low [] h = All-nil _

@@ -1,8 +1,9 @@
 -- Dumps: the page table of a replica as it was after some entries of the log.
-use Rattle.std.specs.Prelude.{◌≡◌, ℕ, ◌^◌, ◌<◌, ◌≤◌, List, All, IsTrue, length, refl}
+use Rattle.std.specs.Prelude.{ℕ, ◌^◌, ◌<◌, ◌≤◌, List, All, IsTrue, length, refl}
 use Rattle.std.specs.Coded.{Coded, code_by, coded×, coded_ℕ, coded_list}
 use Rattle.std.specs.FinMap as finite
 use Rattle.std.specs.Ordering.{nat_cmp}
+use Rattle.vs_types.specs.Frame.{IsFrame}
 use Rattle.vs_walk.specs.Memory.{Memory}
 
 -- the number of log entries that the table has taken, the frame of its root, and its frames
@@ -13,11 +14,6 @@ pub record Image : Type 0 where
 
 abbrev pub image_code : Coded Image
 image_code = code_by (ℕ × (ℕ × Memory)) (coded× coded_ℕ (coded× coded_ℕ (finite.code {R = nat_cmp} coded_ℕ (coded_list coded_ℕ)))) (λ d. (d.applied, (d.root, d.frames))) (λ p. record { applied = p.0; root = p.1.0; frames = p.1.1 }) (λ _. refl)
-
--- the words of a frame: 512 of 64 bits
-pub record IsFrame (words : List ℕ) : Type 0 where
-  pub all_there : length words ≡ 512
-  pub fit : All (λ word. word < 2 ^ 64) words
 
 -- what the parts of a dump are: at most 4,096 frames, whose numbers rise
 pub record AreParts (applied root : ℕ) (frames : List (ℕ × List ℕ)) : Type 0 where

@@ -9,3 +9,4 @@ pub use Rattle.vs_types.specs.Page
 pub use Rattle.vs_types.specs.Space
 pub use Rattle.vs_types.specs.Step
 pub use Rattle.vs_types.specs.Entry
+pub use Rattle.vs_types.specs.Frame

@@ -5,12 +5,12 @@ ghost use Rattle.vs_walk.specs.Dump.{IsDump};
 use crate::frames::Frames;
 use std::alloc::Global;
 use std::marker::Model;
-use vs_types::Memory;
+use vs_types::{FRAME_WORDS, Memory};
 
 #[derive(Debug, Drop)]
 struct DumpFrame {
     number: u64,
-    words: Box<[u64; 512]>,
+    words: Box<[u64; FRAME_WORDS]>,
 }
 
 /// The page table of a replica as it was after some entries of the log. It keeps its frames by rising number.
@@ -53,7 +53,7 @@ impl Dump {
     }
 
     /// Adds a frame, whose number is above those of all that are held and below 2^40. It takes memory for the frame.
-    pub fn push(&mut self, number: u64, words: &[u64; 512]) -> Result<(), Memory>
+    pub fn push(&mut self, number: u64, words: &[u64; FRAME_WORDS]) -> Result<(), Memory>
         requires above { All (λ held. held < number) (finite.keys self.old.frames) }
         requires in_range { number < 2 ^ 40 }
         requires room { finite.len self.old.frames < 4096 }
@@ -101,7 +101,7 @@ impl Dump {
 impl Frames for Dump {
     ghost memory = { λ d. d.frames };
 
-    fn words(&self, number: u64) -> Option<&[u64; 512]> {
+    fn words(&self, number: u64) -> Option<&[u64; FRAME_WORDS]> {
         match self
             .frames
             .binary_search_by_key(&number, |frame| frame.number)

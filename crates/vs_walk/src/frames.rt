@@ -2,8 +2,7 @@ ghost use Rattle.std.specs.Prelude.{◌≡◌, option_copied};
 ghost use Rattle.std.specs.FinMap as finite;
 ghost use Rattle.vs_walk.specs.Memory.{Memory};
 
-/// How many words a frame has.
-pub const FRAME_WORDS: usize = 512;
+use vs_types::FRAME_WORDS;
 
 /// Some frames, by number.
 pub trait Frames {
@@ -11,6 +10,6 @@ pub trait Frames {
     ghost memory: { Self → Memory };
 
     /// The words of a frame, or `None` where there is no such frame. It takes no memory.
-    fn words(&self, number: u64) -> Option<&[u64; 512]>
+    fn words(&self, number: u64) -> Option<&[u64; FRAME_WORDS]>
         ensures { option_copied result ≡ finite.get (memory self.now) number };
 }

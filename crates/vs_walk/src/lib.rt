@@ -11,8 +11,9 @@ mod walk;
 mod ways;
 
 pub use dump::Dump;
-pub use frames::{FRAME_WORDS, Frames};
+pub use frames::Frames;
 pub use laws::{spaces_translate_without_fault, translates_as_one_space};
+pub use vs_types::FRAME_WORDS;
 pub use walk::{Walk, WalkFault, translate};
 pub use ways::{
     dumps_are_whole, faults_are_met, faults_are_walked, found_pages_are_the_space,

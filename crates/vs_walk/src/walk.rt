@@ -38,11 +38,7 @@ pub fn translate<F: Frames>(frames: &F, root: u64, depth: Depth, address: u64) -
     ensures { result ≡ walk depth (F.memory frames.now) root address }
 {
     let mut number = root;
-    let mut rights = Rights {
-        write: true,
-        user: true,
-        exec: true,
-    };
+    let mut rights = Rights::ALL;
     let mut level = depth.levels();
     while level > 0 {
         let Some(words) = frames.words(number) else {

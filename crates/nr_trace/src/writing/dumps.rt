@@ -5,7 +5,7 @@ ghost use Rattle.nr_trace.specs.Spelling.{dump_head, frame_number, frame_words, 
 
 use crate::writing::lists::put_words;
 use crate::writing::numbers::{put_u32, put_u64};
-use vs_types::Memory;
+use vs_types::{FRAME_WORDS, Memory};
 use vs_walk::{Dump, Frames};
 
 fn put_dump_head(out: &mut Vec<u8>, applied: u32, frames: u32, root: u64) -> Result<(), Memory>
@@ -17,7 +17,7 @@ fn put_dump_head(out: &mut Vec<u8>, applied: u32, frames: u32, root: u64) -> Res
     Ok(())
 }
 
-fn put_frame(out: &mut Vec<u8>, number: u64, words: &[u64; 512]) -> Result<(), Memory>
+fn put_frame(out: &mut Vec<u8>, number: u64, words: &[u64; FRAME_WORDS]) -> Result<(), Memory>
     ensures { OnOk result (out.new.items ≡ out.old.items ++ (frame_number number ++ frame_words words.now)) }
 {
     put_u64(out, number)?;

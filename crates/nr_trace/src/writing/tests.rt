@@ -7,12 +7,6 @@ use std::test::*;
 use vs_types::{Answer, Config, Depth, Op, Request, Rights, Size};
 use vs_walk::Dump;
 
-const ALL: Rights = Rights {
-    write: true,
-    user: true,
-    exec: true,
-};
-
 // The counts of one replica, one thread and one table with nothing recorded; the head of its dump; and the number of its
 // root.
 const EMPTY: [u8; 44] = [
@@ -53,7 +47,7 @@ fn call(replica: u8, request: Request) -> Event {
 }
 
 fn map_then_resolve_events(alloc: Global) -> Result<Vec<Event>, Fail> {
-    let map = Op::map(Depth::Four, 0x400000, Size::K4, 0x1000, ALL)?;
+    let map = Op::map(Depth::Four, 0x400000, Size::K4, 0x1000, Rights::ALL)?;
     let mut events = Vec::new(alloc);
     events.push(call(0, Request::update(map)))?;
     events.push(Event::Reply {
@@ -65,7 +59,7 @@ fn map_then_resolve_events(alloc: Global) -> Result<Vec<Event>, Fail> {
     events.push(Event::Reply {
         call: 2,
         at: 1,
-        answer: Answer::Mapped(0x1123, Size::K4, ALL),
+        answer: Answer::Mapped(0x1123, Size::K4, Rights::ALL),
     })?;
     Ok(events)
 }

@@ -1,4 +1,4 @@
-use Rattle.std.proofs.Common.{◌≡◌, ℕ, ◌++◌, [], length, true, false, refl, sym, ap, subst, ◌∙◌, arith}
+use Rattle.std.proofs.Common.{◌≡◌, ℕ, ◌++◌, [], length, true, sym, subst, ◌∙◌, arith}
 use Rattle.std.specs.FinMap as finite
 use Rattle.nr_trace.specs.FirstFault.{AtFrames, IsNext}
 use Rattle.nr_trace.specs.Spelling.{frame_number}
@@ -6,19 +6,19 @@ use Rattle.nr_trace.specs.Progress.{BehindDumps}
 use Rattle.nr_trace.specs.declared.fault.Format.TheVariants.{BadFrame}
 use Rattle.nr_trace.proofs.Fields.{same_u64}
 use Rattle.nr_trace.proofs.Frames.{number_taken, number_refused}
-use Rattle.nr_trace.proofs.Taken.{only_u64}
+use Rattle.nr_trace.proofs.Taken.{only_front}
 use Rattle.nr_trace.proofs.reading.dumps.take_frame_number.Goals as goal
 
 pub returns-then-is_next : goal.returns-then-is_next
 returns-then-is_next c =
     number_taken c.args.parts c.args.opened c.args.last c.take_u64-number.result.0 c.args.unit.now c.requires.ready.0 c.requires.ready.1 (c.is_next.ensures.0 c.if-is_next.true)
-    (only_u64 c.args.unit.now _ _ c.requires.whole c.take_u64-number.ensures)
+    (only_front c.args.unit.now _ _ c.take_u64-number.ensures c.requires.whole)
 
 pub returns : goal.returns
 returns c = λ rest.
     let parts = c.args.parts in
     let index = finite.len c.args.opened.dump.frames in
-    let is = only_u64 c.args.unit.now _ _ c.requires.whole c.take_u64-number.ensures in
+    let is = only_front c.args.unit.now _ _ c.take_u64-number.ensures c.requires.whole in
     let none : (number : ℕ) → IsNext c.args.last number → c.args.unit.now ≡ frame_number number → ⊥ = λ number next e.
     let same = same_u64 c.take_u64-number.result.0 number [] [] (omega arith) (omega (arith, next.in_range)) (sym is ∙ e) in
     let yes : c.is_next.result ≡ true = c.is_next.ensures.1 (subst (IsNext c.args.last) (sym same.0) next) in

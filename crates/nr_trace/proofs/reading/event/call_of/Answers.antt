@@ -1,9 +1,8 @@
-use Rattle.std.proofs.Common.{◌≡◌, ◌∷◌, ◌++◌, ap, subst, sym, ◌∙◌, arith}
-use Rattle.std.specs.Int.{w8, w16, w64, to_be_bytes}
+use Rattle.std.proofs.Common.{◌∷◌, subst, sym, arith}
 use Rattle.nr_trace.specs.Spelling.{RequestFields}
 use Rattle.nr_trace.specs.Reading.{Finds, IsRequest, SpellsEvent}
 use Rattle.vs_types.specs.declared.request.Query.{Query}
-use Rattle.nr_trace.proofs.Events.{CallNumbers, call_bytes, no_call}
+use Rattle.nr_trace.proofs.Events.{CallNumbers, no_call}
 use Rattle.nr_trace.proofs.reading.event.call_of.Goals as goal
 
 pub returns-in_err-request : goal.returns-in_err-request

@@ -1,8 +1,7 @@
-use Rattle.std.proofs.Common.{◌≡◌, ◌∷◌, ◌++◌, ap, subst, sym, ◌∙◌, arith}
-use Rattle.std.specs.Int.{w8, w32, w64, to_be_bytes}
+use Rattle.std.proofs.Common.{◌∷◌, subst, sym, arith}
 use Rattle.nr_trace.specs.Spelling.{AnswerFields}
 use Rattle.nr_trace.specs.Reading.{Finds, SpellsEvent}
-use Rattle.nr_trace.proofs.Events.{ReplyNumbers, reply_bytes, no_reply}
+use Rattle.nr_trace.proofs.Events.{ReplyNumbers, no_reply}
 use Rattle.nr_trace.proofs.reading.event.reply_of.Goals as goal
 
 pub returns-in_err-answer : goal.returns-in_err-answer

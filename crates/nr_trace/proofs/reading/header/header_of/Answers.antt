@@ -1,4 +1,4 @@
-use Rattle.std.proofs.Common.{◌≡◌, ◌++◌, arith}
+use Rattle.std.proofs.Common.{◌≡◌, arith}
 use Rattle.nr_trace.proofs.Counts.{counts_bytes, events_are}
 use Rattle.nr_trace.proofs.reading.header.header_of.Goals as goal
 

@@ -1,4 +1,4 @@
-use Rattle.std.proofs.Common.{◌≡◌, ◌+◌, ℕ, length, ap, subst, ◌∙◌, sym, arith}
+use Rattle.std.proofs.Common.{◌≡◌, ℕ, length, ap, subst, ◌∙◌, arith}
 use Rattle.nr_trace.specs.FirstFault.{AtEvents}
 use Rattle.nr_trace.specs.Progress.{parts_spelling}
 use Rattle.nr_trace.proofs.Spelled.{no_place}

@@ -1,9 +1,7 @@
-use Rattle.std.proofs.Common.{◌≡◌, Bool, true, false, List, [], ◌∷◌, eqb, refl, ap, ◌∙◌}
+use Rattle.std.proofs.Common.{◌≡◌, true, false, eqb, refl, ap, ◌∙◌}
 use Rattle.std.specs.Prelude.{Some, ⊤}
 use lib.Pointwise.{pointwise}
-use Rattle.vs_types.specs.Config.{Layout}
 use Rattle.nr_trace.specs.Spelling.{magic}
-use Rattle.nr_trace.specs.FirstFault.{HasFormatFault}
 use Rattle.nr_trace.specs.Progress.{Ahead}
 use Rattle.nr_trace.specs.declared.fault.Format.TheVariants.{BadMagic}
 use Rattle.nr_trace.specs.declared.reading.parts.Reader.TheVariants.{Version}

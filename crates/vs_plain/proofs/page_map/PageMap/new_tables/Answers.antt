@@ -1,6 +1,7 @@
 use Rattle.std.proofs.Common.{◌≡◌, ◌<◌, ◌≤◌, ◌+◌, ◌-◌, sym, arith}
 use Rattle.vs_types.specs.Page.{level_of}
-use Rattle.vs_plain.proofs.Tables.{before_levels, one_more, no_more, level_positive}
+use Rattle.vs_types.proofs.Pages.{level_some}
+use Rattle.vs_plain.proofs.Tables.{before_levels, one_more, no_more}
 use Rattle.vs_plain.proofs.page_map.PageMap.new_tables.Goals as goal
 use Rattle.vs_plain.proofs.page_map.PageMap.new_tables.Goals.{then-not-shares_table, else-not-shares_table}
 
@@ -9,7 +10,7 @@ loop-level-init c =
     let p = c.args.page in
     record {
       counted =
-          let below : c.level-level.result - 1 < level_of p.size = omega (arith, level_positive p.size, c.level-level.ensures) in
+          let below : c.level-level.result - 1 < level_of p.size = omega (arith, level_some p.size, c.level-level.ensures) in
           omega (arith, before_levels c.requires.is_space p c.requires.well_formed c.requires.free (c.level-level.result - 1) below);
       few = omega arith;
     }
@@ -18,7 +19,7 @@ pub loop-level-preserved : goal.loop-level-preserved
 loop-level-preserved c =
     let p = c.args.page in
     let own : level_of p.size ≤ c.loop-level.level = omega (arith, c.level-level.ensures) in
-    let some : 0 < c.loop-level.level = omega (arith, level_positive p.size) in
+    let some : 0 < c.loop-level.level = omega (arith, level_some p.size) in
     let step : (c.loop-level.level + 1) - 1 ≡ c.loop-level.level = omega arith in
     elim c.if-not-shares_table.branch [
       | then-not-shares_table w ↦ record {

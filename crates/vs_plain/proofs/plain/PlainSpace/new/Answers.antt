@@ -1,7 +1,7 @@
 use Rattle.std.proofs.Common.{sym, arith, subst}
 use Rattle.vs_types.proofs.Spaces.{no_pages_space}
 use Rattle.vs_plain.specs.Plain.{IsKept}
-use Rattle.vs_plain.proofs.Tables.{tables_of_nothing}
+use Rattle.vs_types.proofs.TableCounts.{tables_of_nothing}
 use Rattle.vs_plain.proofs.plain.PlainSpace.new.Goals as goal
 
 pub invariant_of-result : goal.invariant_of-result

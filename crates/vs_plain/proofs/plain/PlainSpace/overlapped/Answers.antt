@@ -1,11 +1,12 @@
-use Rattle.std.proofs.Common.{◌∙◌, Some, None, subst, arith}
+use Rattle.std.proofs.Common.{◌∙◌, Some, None, sym, subst, arith}
+use Rattle.vs_types.proofs.Overlaps.{overlapped_below}
 use Rattle.vs_plain.specs.Plain.{Kept}
 use Rattle.vs_plain.specs.PageMap.{IsFirstFrom}
-use Rattle.vs_plain.proofs.Neighbours.{overlapped_below, overlapped_above, not_overlapped_far, not_overlapped_none}
+use Rattle.vs_plain.proofs.Neighbours.{overlapped_above, not_overlapped_far, not_overlapped_none}
 use Rattle.vs_plain.proofs.plain.PlainSpace.overlapped.Goals as goal
 
 pub returns-in-Some : goal.returns-in-Some
-returns-in-Some c = overlapped_below c.covering.ensures.apart c.args.page c.in-Some.below c.in-Some.ensures.at
+returns-in-Some c = sym (overlapped_below c.covering.ensures.apart c.args.page c.in-Some.below (sym c.in-Some.ensures.at))
 
 pub returns-in_err-above : goal.returns-in_err-above
 returns-in_err-above c =

@@ -2,8 +2,8 @@ use Rattle.std.proofs.Common.{◌≡◌, Some, None, sym, subst, ◌∙◌}
 use Rattle.vs_types.specs.Space.{Holds, page_at}
 use Rattle.vs_types.proofs.Spaces.{page_at_means}
 use Rattle.vs_types.proofs.Steps.{protect_space}
+use Rattle.vs_types.proofs.Tables.{rights_tables}
 use Rattle.vs_plain.specs.Plain.{Kept}
-use Rattle.vs_plain.proofs.Neighbours.{same_tables}
 use Rattle.std.specs.FinMap as finite
 use Rattle.vs_types.specs.declared.page.Page.{Page}
 use Rattle.vs_plain.proofs.plain.PlainSpace.protect.Goals as goal
@@ -18,7 +18,7 @@ invariant_of-self-2 c =
     let held : Holds c.self.inside.page_map p = ((page_at_means c.self.invariant.is_space c.args.base p).0 (sym at)).0 in
     rw c.in_ok-insert.ensures.ok record {
       is_space = protect_space c.self.invariant.is_space p c.args.rights held;
-      counted = c.self.invariant.counted ∙ same_tables c.self.invariant.is_space p c.args.rights held;
+      counted = c.self.invariant.counted ∙ sym (rights_tables c.self.invariant.is_space p c.args.rights held);
       few = c.self.invariant.few;
     }
 

@@ -1,13 +1,16 @@
-use Rattle.std.proofs.Common.{◌≡◌, ◌+◌, ◌-◌, ◌%◌, ◌≤◌, Some, sym, ap, subst, ◌∙◌, arith}
+use Rattle.std.proofs.Common.{◌≡◌, ℕ, ◌+◌, ◌-◌, ◌%◌, ◌<◌, ◌≤◌, List, Some, sym, ap, subst, ◌∙◌, arith}
 use Rattle.std.specs.FinMap as finite
 use Rattle.vs_types.specs.Depth.{levels, index_at}
 use Rattle.vs_types.specs.Entry.{meaning}
 use Rattle.vs_types.specs.Page.{bytes_of, level_of, IsPage}
+use Rattle.vs_types.specs.declared.depth.Depth.{Depth}
+use Rattle.vs_types.specs.declared.page.Page.{Page}
 use Rattle.vs_types.specs.declared.entry.Meaning.{Meaning}
 use Rattle.vs_types.specs.declared.entry.Meaning.TheVariants as entry
 use Rattle.vs_types.specs.declared.op.Action.TheVariants.{Map}
 use Rattle.vs_types.specs.declared.answer.Answer.TheVariants as answers
-use Rattle.vs_space.specs.Held.{Held}
+use Rattle.vs_walk.specs.Memory.{Memory}
+use Rattle.vs_space.specs.Held.{Held, IsWhole, with_word}
 use Rattle.vs_space.specs.Place.{IsPlace}
 use Rattle.vs_space.specs.Way.{table_at}
 use Rattle.vs_space.specs.Grow.{IsExtended, IsLeastBase}
@@ -16,28 +19,44 @@ use Rattle.vs_space.proofs.Meets.{page_table}
 use Rattle.vs_space.proofs.Maps.{reserved_never, leaf_overlaps, not_lowest, table_reached, table_overlaps, full_step, is_open, map_table, map_step}
 use Rattle.vs_space.proofs.space.Space.map.Goals as goal
 
+-- the end of the way, by the level of the page and the entry that was matched
+placed : {depth : Depth} {memory : Memory} {root address asked lowest level : ℕ} {way : List ℕ} {met found : Meaning} → asked ≡ lowest → met ≡ found → IsPlace depth memory root address asked level way met → IsPlace depth memory root address lowest level way found
+placed {depth} {memory} {root} {address} {asked} {lowest} {level} {way} {met} {found} lowest_is is place =
+    subst (λ l. IsPlace depth memory root address l level way found) lowest_is (subst (λ (e : Meaning). IsPlace depth memory root address asked level way e) is place)
+
+-- the page is mapped, where the level of its tables and how many are added have names of their own
+mapped : (depth : Depth) (memory : Memory) (root : ℕ) → IsPageTable depth memory root → (page : Page) → IsPage depth page → (level : ℕ) (way : List ℕ) → IsPlace depth memory root page.base (level_of page.size) level way entry.Absent
+    → (lowest : ℕ) → lowest ≡ level_of page.size → (m : Memory) (number : ℕ) → IsExtended depth memory m root page.base level lowest number → IsWhole m → (word index : ℕ) → meaning (level_of page.size) word ≡ entry.Leaf page.phys page.rights → index ≡ index_at lowest page.base → index < 512
+    → (limit added : ℕ) → added ≡ level - lowest → finite.len memory + added ≤ limit
+    → IsPageTable depth (with_word m number index word) root × IsStep (page_table depth limit root memory) (Map page) answers.Done (page_table depth limit root (with_word m number index word))
+mapped depth memory root table page good level way place lowest lowest_is m number extended whole word index leads at low limit added added_is few =
+    let grown = subst (λ l. IsExtended depth memory m root page.base level l number) lowest_is extended in
+    let here = subst (λ l. index ≡ index_at l page.base) lowest_is at in
+    let below : level - lowest ≡ level - level_of page.size = ap (λ l. level - l) lowest_is in
+    let room : finite.len memory + (level - level_of page.size) ≤ limit = omega (arith, below, added_is, few) in (
+      map_table depth memory root table page good level way place m number grown whole word index leads here low limit room,
+      map_step depth memory root table page good level way place m number grown whole word index leads here low limit room,
+    )
+
 pub least_base-base-requires-clause-some_level : goal.least_base-base-requires-clause-some_level
 least_base-base-requires-clause-some_level g c =
     let inside = c.self.inside in
     let good = subst (λ (t : PageTable). IsPage t.depth c.args.page) (sym c.self.view_is) c.requires in
-    let place = subst (λ l. IsPlace inside.depth inside.tables.memory inside.root c.args.page.base l c.descend-place.result.level c.descend-place.result.way (entry.Table c.in-Table.table c.in-Table.field-1)) c.level-lowest.ensures
-    (subst (λ (e : Meaning). IsPlace inside.depth inside.tables.memory inside.root c.args.page.base c.level-lowest.result c.descend-place.result.level c.descend-place.result.way e) c.in-Table.is c.descend-place.ensures) in
+    let place = placed c.level-lowest.ensures c.in-Table.is c.descend-place.ensures in
     omega (arith, not_lowest inside.depth inside.tables.memory inside.root c.self.invariant c.args.page good c.descend-place.result.level c.descend-place.result.way c.in-Table.table c.in-Table.field-1 place, c.level-lowest.ensures)
 
 pub least_base-base-requires-clause-reached : goal.least_base-base-requires-clause-reached
 least_base-base-requires-clause-reached g c =
     let inside = c.self.inside in
     let good = subst (λ (t : PageTable). IsPage t.depth c.args.page) (sym c.self.view_is) c.requires in
-    let place = subst (λ l. IsPlace inside.depth inside.tables.memory inside.root c.args.page.base l c.descend-place.result.level c.descend-place.result.way (entry.Table c.in-Table.table c.in-Table.field-1)) c.level-lowest.ensures
-    (subst (λ (e : Meaning). IsPlace inside.depth inside.tables.memory inside.root c.args.page.base c.level-lowest.result c.descend-place.result.level c.descend-place.result.way e) c.in-Table.is c.descend-place.ensures) in
+    let place = placed c.level-lowest.ensures c.in-Table.is c.descend-place.ensures in
     subst (λ l. table_at (levels inside.depth) inside.tables.memory inside.root (levels inside.depth - (l - 1)) c.args.page.base ≡ Some c.in-Table.table) (sym c.level-lowest.ensures) (table_reached inside.depth inside.tables.memory inside.root c.self.invariant c.args.page good c.descend-place.result.level c.descend-place.result.way c.in-Table.table c.in-Table.field-1 place)
 
 pub returns-in-Table : goal.returns-in-Table
 returns-in-Table g c =
     let inside = c.self.inside in
     let good = subst (λ (t : PageTable). IsPage t.depth c.args.page) (sym c.self.view_is) c.requires in
-    let place = subst (λ l. IsPlace inside.depth inside.tables.memory inside.root c.args.page.base l c.descend-place.result.level c.descend-place.result.way (entry.Table c.in-Table.table c.in-Table.field-1)) c.level-lowest.ensures
-    (subst (λ (e : Meaning). IsPlace inside.depth inside.tables.memory inside.root c.args.page.base c.level-lowest.result c.descend-place.result.level c.descend-place.result.way e) c.in-Table.is c.descend-place.ensures) in
+    let place = placed c.level-lowest.ensures c.in-Table.is c.descend-place.ensures in
     let first = subst (λ l. IsLeastBase inside.depth inside.tables.memory inside.root c.args.page.base (levels inside.depth - (l - 1)) c.least_base-base.result) c.level-lowest.ensures c.least_base-base.ensures in
     subst (λ (t : PageTable). IsStep t (Map c.args.page) (answers.Overlap c.least_base-base.result) t) c.self.view_is
     (table_overlaps inside.depth inside.tables.memory inside.root c.self.invariant c.args.page good c.descend-place.result.level c.descend-place.result.way c.in-Table.table c.in-Table.field-1 place inside.tables.limit c.least_base-base.result first)
@@ -46,8 +65,7 @@ pub returns-in-Leaf : goal.returns-in-Leaf
 returns-in-Leaf g c =
     let inside = c.self.inside in
     let good = subst (λ (t : PageTable). IsPage t.depth c.args.page) (sym c.self.view_is) c.requires in
-    let place = subst (λ l. IsPlace inside.depth inside.tables.memory inside.root c.args.page.base l c.descend-place.result.level c.descend-place.result.way (entry.Leaf c.in-Leaf.field-0 c.in-Leaf.field-1)) c.level-lowest.ensures
-    (subst (λ (e : Meaning). IsPlace inside.depth inside.tables.memory inside.root c.args.page.base c.level-lowest.result c.descend-place.result.level c.descend-place.result.way e) c.in-Leaf.is c.descend-place.ensures) in
+    let place = placed c.level-lowest.ensures c.in-Leaf.is c.descend-place.ensures in
     subst (λ (t : PageTable). IsStep t (Map c.args.page) (answers.Overlap (c.args.page.base - c.args.page.base % c.bytes-bytes.result)) t) c.self.view_is
     (leaf_overlaps inside.depth inside.tables.memory inside.root c.self.invariant c.args.page good c.descend-place.result.level c.descend-place.result.way c.in-Leaf.field-0 c.in-Leaf.field-1 place inside.tables.limit c.bytes-bytes.result (c.bytes-bytes.ensures ∙ ap bytes_of c.size_at.ensures))
 
@@ -55,16 +73,14 @@ pub unreachable-requires : goal.unreachable-requires
 unreachable-requires g c =
     let inside = c.self.inside in
     let good = subst (λ (t : PageTable). IsPage t.depth c.args.page) (sym c.self.view_is) c.requires in
-    let place = subst (λ l. IsPlace inside.depth inside.tables.memory inside.root c.args.page.base l c.descend-place.result.level c.descend-place.result.way (entry.Reserved)) c.level-lowest.ensures
-    (subst (λ (e : Meaning). IsPlace inside.depth inside.tables.memory inside.root c.args.page.base c.level-lowest.result c.descend-place.result.level c.descend-place.result.way e) c.in-Reserved.is c.descend-place.ensures) in
+    let place = placed c.level-lowest.ensures c.in-Reserved.is c.descend-place.ensures in
     reserved_never inside.depth inside.tables.memory inside.root c.self.invariant c.args.page good c.descend-place.result.level c.descend-place.result.way place
 
 pub returns-then-need-limit : goal.returns-then-need-limit
 returns-then-need-limit g c =
     let inside = c.self.inside in
     let good = subst (λ (t : PageTable). IsPage t.depth c.args.page) (sym c.self.view_is) c.requires in
-    let place = subst (λ l. IsPlace inside.depth inside.tables.memory inside.root c.args.page.base l c.descend-place.result.level c.descend-place.result.way (entry.Absent)) c.level-lowest.ensures
-    (subst (λ (e : Meaning). IsPlace inside.depth inside.tables.memory inside.root c.args.page.base c.level-lowest.result c.descend-place.result.level c.descend-place.result.way e) c.in-Absent.is c.descend-place.ensures) in
+    let place = placed c.level-lowest.ensures c.in-Absent.is c.descend-place.ensures in
     let lowest_is : c.descend-place.result.level - c.level-lowest.result ≡ c.descend-place.result.level - level_of c.args.page.size = ap (λ l. c.descend-place.result.level - l) c.level-lowest.ensures in
     let need : c.used.result + c.from.result ≡ finite.len inside.tables.memory + (c.descend-place.result.level - level_of c.args.page.size) = omega (arith, lowest_is, c.used.ensures.counts, c.from.ensures) in
     subst (λ (t : PageTable). IsStep t (Map c.args.page) (answers.Full (c.used.result + c.from.result)) t) c.self.view_is
@@ -74,40 +90,29 @@ pub extend-number-requires-clause-open_at : goal.extend-number-requires-clause-o
 extend-number-requires-clause-open_at g c =
     let inside = c.self.inside in
     let good = subst (λ (t : PageTable). IsPage t.depth c.args.page) (sym c.self.view_is) c.requires in
-    let place = subst (λ l. IsPlace inside.depth inside.tables.memory inside.root c.args.page.base l c.descend-place.result.level c.descend-place.result.way (entry.Absent)) c.level-lowest.ensures
-    (subst (λ (e : Meaning). IsPlace inside.depth inside.tables.memory inside.root c.args.page.base c.level-lowest.result c.descend-place.result.level c.descend-place.result.way e) c.in-Absent.is c.descend-place.ensures) in
+    let place = placed c.level-lowest.ensures c.in-Absent.is c.descend-place.ensures in
     is_open inside.depth inside.tables.memory inside.root c.self.invariant c.args.page good c.descend-place.result.level c.descend-place.result.way place
 
 pub invariant_of-self : goal.invariant_of-self
 invariant_of-self g c =
     let inside = c.self.inside in
     let good = subst (λ (t : PageTable). IsPage t.depth c.args.page) (sym c.self.view_is) c.requires in
-    let place = subst (λ l. IsPlace inside.depth inside.tables.memory inside.root c.args.page.base l c.descend-place.result.level c.descend-place.result.way (entry.Absent)) c.level-lowest.ensures
-    (subst (λ (e : Meaning). IsPlace inside.depth inside.tables.memory inside.root c.args.page.base c.level-lowest.result c.descend-place.result.level c.descend-place.result.way e) c.in-Absent.is c.descend-place.ensures) in
-    let lowest_is : c.descend-place.result.level - c.level-lowest.result ≡ c.descend-place.result.level - level_of c.args.page.size = ap (λ l. c.descend-place.result.level - l) c.level-lowest.ensures in
-    let need : c.used.result + c.from.result ≡ finite.len inside.tables.memory + (c.descend-place.result.level - level_of c.args.page.size) = omega (arith, lowest_is, c.used.ensures.counts, c.from.ensures) in
-    let room : finite.len inside.tables.memory + (c.descend-place.result.level - level_of c.args.page.size) ≤ inside.tables.limit = omega (arith, need, c.if-need-limit.false, c.limit-limit.ensures.reads) in
-    let extended = subst (λ l. IsExtended inside.depth inside.tables.memory c.extend-number.new.self.memory inside.root c.args.page.base c.descend-place.result.level l c.extend-number.result) c.level-lowest.ensures c.extend-number.ensures.extended in
-    let leads = ap (meaning (level_of c.args.page.size)) c.word.ensures ∙ c.leaf-leaf.ensures.read_back in
-    let index = subst (λ l. c.index_at.result ≡ index_at l c.args.page.base) c.level-lowest.ensures c.index_at.ensures.is in
+    let place = placed c.level-lowest.ensures c.in-Absent.is c.descend-place.ensures in
     subst (λ (h : Held). IsPageTable inside.depth h.memory inside.root) (sym c.write.ensures.written)
-    (map_table inside.depth inside.tables.memory inside.root c.self.invariant c.args.page good c.descend-place.result.level c.descend-place.result.way place c.extend-number.new.self.memory c.extend-number.result extended c.write.ensures.whole c.word.result c.index_at.result leads index c.index_at.ensures.low inside.tables.limit room)
+    (mapped inside.depth inside.tables.memory inside.root c.self.invariant c.args.page good c.descend-place.result.level c.descend-place.result.way place c.level-lowest.result c.level-lowest.ensures c.extend-number.new.self.memory c.extend-number.result c.extend-number.ensures.extended c.write.ensures.whole
+    c.word.result c.index_at.result (ap (meaning (level_of c.args.page.size)) c.word.ensures ∙ c.leaf-leaf.ensures.read_back) c.index_at.ensures.is c.index_at.ensures.low inside.tables.limit c.from.result c.from.ensures
+    (omega (arith, c.used.ensures.counts, c.if-need-limit.false, c.limit-limit.ensures.reads))).0
 
 pub returns : goal.returns
 returns g c =
     let inside = c.self.inside in
     let good = subst (λ (t : PageTable). IsPage t.depth c.args.page) (sym c.self.view_is) c.requires in
-    let place = subst (λ l. IsPlace inside.depth inside.tables.memory inside.root c.args.page.base l c.descend-place.result.level c.descend-place.result.way (entry.Absent)) c.level-lowest.ensures
-    (subst (λ (e : Meaning). IsPlace inside.depth inside.tables.memory inside.root c.args.page.base c.level-lowest.result c.descend-place.result.level c.descend-place.result.way e) c.in-Absent.is c.descend-place.ensures) in
-    let lowest_is : c.descend-place.result.level - c.level-lowest.result ≡ c.descend-place.result.level - level_of c.args.page.size = ap (λ l. c.descend-place.result.level - l) c.level-lowest.ensures in
-    let need : c.used.result + c.from.result ≡ finite.len inside.tables.memory + (c.descend-place.result.level - level_of c.args.page.size) = omega (arith, lowest_is, c.used.ensures.counts, c.from.ensures) in
-    let room : finite.len inside.tables.memory + (c.descend-place.result.level - level_of c.args.page.size) ≤ inside.tables.limit = omega (arith, need, c.if-need-limit.false, c.limit-limit.ensures.reads) in
-    let extended = subst (λ l. IsExtended inside.depth inside.tables.memory c.extend-number.new.self.memory inside.root c.args.page.base c.descend-place.result.level l c.extend-number.result) c.level-lowest.ensures c.extend-number.ensures.extended in
-    let leads = ap (meaning (level_of c.args.page.size)) c.word.ensures ∙ c.leaf-leaf.ensures.read_back in
-    let index = subst (λ l. c.index_at.result ≡ index_at l c.args.page.base) c.level-lowest.ensures c.index_at.ensures.is in
+    let place = placed c.level-lowest.ensures c.in-Absent.is c.descend-place.ensures in
     let after = c.write.ensures.written in
     let limit : c.write.new.self.limit ≡ inside.tables.limit = ap (λ (h : Held). h.limit) after ∙ c.extend-number.ensures.same_limit in
     subst (λ (t : PageTable). IsStep t (Map c.args.page) answers.Done (page_table inside.depth c.write.new.self.limit inside.root c.write.new.self.memory)) c.self.view_is
     (subst (λ l. IsStep (page_table inside.depth inside.tables.limit inside.root inside.tables.memory) (Map c.args.page) answers.Done (page_table inside.depth l inside.root c.write.new.self.memory)) (sym limit)
     (subst (λ (h : Held). IsStep (page_table inside.depth inside.tables.limit inside.root inside.tables.memory) (Map c.args.page) answers.Done (page_table inside.depth inside.tables.limit inside.root h.memory)) (sym after)
-    (map_step inside.depth inside.tables.memory inside.root c.self.invariant c.args.page good c.descend-place.result.level c.descend-place.result.way place c.extend-number.new.self.memory c.extend-number.result extended c.write.ensures.whole c.word.result c.index_at.result leads index c.index_at.ensures.low inside.tables.limit room)))
+    (mapped inside.depth inside.tables.memory inside.root c.self.invariant c.args.page good c.descend-place.result.level c.descend-place.result.way place c.level-lowest.result c.level-lowest.ensures c.extend-number.new.self.memory c.extend-number.result c.extend-number.ensures.extended c.write.ensures.whole
+    c.word.result c.index_at.result (ap (meaning (level_of c.args.page.size)) c.word.ensures ∙ c.leaf-leaf.ensures.read_back) c.index_at.ensures.is c.index_at.ensures.low inside.tables.limit c.from.result c.from.ensures
+    (omega (arith, c.used.ensures.counts, c.if-need-limit.false, c.limit-limit.ensures.reads))).1))

@@ -20,7 +20,7 @@ room c = subst (λ es. length es < 4096) (held c) (subst (λ n. n < 4096) (finit
 pub invariant_of-self-2 : goal.invariant_of-self-2
 invariant_of-self-2 c =
     rw (frame_rows_push c.self.inside.frames.items _ _ c.args.words.now c.in_ok-push.ensures.items c.in_ok-words.ensures.ok)
-    (parts_push _ _ _ c.self.invariant (above c) c.requires.in_range (room c) record { all_there = c.told-words; fit = All-from_get_or (λ w. w < 2 ^ 64) c.args.words.now 0 (λ i h. c.fits-words i) })
+    (parts_push _ _ _ c.self.invariant (above c) c.requires.in_range (room c) record { whole = c.told-words; fit = All-from_get_or (λ w. w < 2 ^ 64) c.args.words.now 0 (λ i h. c.fits-words i) })
 
 pushed : (c : goal.In_ok-push) → finite.from_sorted {R = nat_cmp} (frame_rows c.push.new.self.items) ≡ finite.insert c.args.self.now.frames c.args.number c.args.words.now
 pushed c =

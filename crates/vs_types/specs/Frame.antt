@@ -1,0 +1,7 @@
+-- Frames of page tables: 4,096 bytes (Intel SDM volume 3A, chapter "Paging": a table has 512 entries of 64 bits).
+use Rattle.std.specs.Prelude.{◌≡◌, ℕ, ◌^◌, ◌<◌, List, length, All}
+
+-- the words of a frame: 512 numbers of 64 bits
+pub record IsFrame (words : List ℕ) : Type 0 where
+  pub whole : length words ≡ 512
+  pub fit : All (λ word. word < 2 ^ 64) words
