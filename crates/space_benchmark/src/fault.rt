@@ -1,0 +1,54 @@
+use std::alloc::{AllocError, AllocFailed};
+use thiserror::Error;
+use vs_types::BadOp;
+
+/// Why the program ends early. The text goes to standard error.
+#[derive(Debug, Drop, Error)]
+pub enum ProgFault {
+    /// The output gave an error.
+    #[error("cannot write")]
+    CannotWrite,
+    /// The clock gave an error.
+    #[error("cannot read the clock")]
+    NoClock,
+    /// A workload has a page that is not well formed.
+    #[error("a page of a workload is not well formed")]
+    BadPage,
+    /// A growth of memory was refused.
+    #[error("out of memory")]
+    Memory,
+}
+
+impl ProgFault {
+    /// The exit status: 3 for want of memory, else 2.
+    pub fn status(&self) -> u8 {
+        match self {
+            ProgFault::Memory => 3,
+            ProgFault::CannotWrite | ProgFault::NoClock | ProgFault::BadPage => 2,
+        }
+    }
+}
+
+impl From<AllocError> for ProgFault {
+    fn from(_error: AllocError) -> ProgFault {
+        ProgFault::Memory
+    }
+}
+
+impl<T: Drop> From<AllocFailed<T>> for ProgFault {
+    fn from(_error: AllocFailed<T>) -> ProgFault {
+        ProgFault::Memory
+    }
+}
+
+impl From<vs_types::Memory> for ProgFault {
+    fn from(_error: vs_types::Memory) -> ProgFault {
+        ProgFault::Memory
+    }
+}
+
+impl From<BadOp> for ProgFault {
+    fn from(_error: BadOp) -> ProgFault {
+        ProgFault::BadPage
+    }
+}

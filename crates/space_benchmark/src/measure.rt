@@ -1,0 +1,131 @@
+ghost use Rattle.std.specs.Prelude.{◌≡◌, All, IfOk, OnOk};
+ghost use Rattle.vs_types.specs.Depth.{IsCanonical};
+ghost use Rattle.vs_types.specs.Space as spaces;
+ghost use Rattle.vs_types.specs.declared.depth.Depth.TheVariants.{Four};
+ghost use Rattle.vs_space.specs.Table.{IsTableOf};
+ghost use Rattle.space_benchmark.specs.Work.{Applies, IsRound, sum_of_looks, after_rounds, start};
+
+use crate::fault::ProgFault;
+use crate::load::Load;
+use crate::sum::Sum;
+use std::alloc::Global;
+use std::time::{Clock, Duration, Instant};
+use vs_arena::{FrameStore, VecArena};
+use vs_space::Space;
+use vs_types::{Depth, Op};
+
+/// How many frames the store has.
+pub const FRAMES: usize = 4096;
+
+/// The time that each kind of call took.
+#[derive(Clone, Copy, Debug)]
+pub struct Times {
+    pub map: Duration,
+    pub resolve: Duration,
+    pub protect: Duration,
+    pub unmap: Duration,
+}
+
+/// The sum of all answers, and the times, of some rounds of a workload.
+#[derive(Clone, Copy, Debug)]
+pub struct Measured {
+    pub sum: Sum,
+    pub times: Times,
+}
+
+impl Measured {
+    /// Before the first round.
+    pub fn new() -> Measured
+        ensures { result.sum.value ≡ 0 }
+    {
+        Measured {
+            sum: Sum::new(),
+            times: Times {
+                map: Duration::ZERO,
+                resolve: Duration::ZERO,
+                protect: Duration::ZERO,
+                unmap: Duration::ZERO,
+            },
+        }
+    }
+
+    /// One round: maps all pages, resolves an address in each, protects all and unmaps all. The sum takes in each answer, and
+    /// the number of tables while the pages are there and when they are gone.
+    pub fn round(
+        &mut self,
+        clock: &impl Clock,
+        space: &mut Space<VecArena>,
+        load: &Load,
+    ) -> Result<(), ProgFault>
+        requires { space.old.depth ≡ Four }
+        ensures { OnOk result (IsRound space.old load.now self.old.sum.value space.new self.new.sum.value) }
+    {
+        let start = now(clock)?;
+        apply_all(space, &load.maps, &mut self.sum);
+        let mapped = now(clock)?;
+        self.sum.add(space.tables() as u64);
+        resolve_all(space, &load.addresses, &mut self.sum);
+        let resolved = now(clock)?;
+        apply_all(space, &load.protects, &mut self.sum);
+        let protected = now(clock)?;
+        apply_all(space, &load.unmaps, &mut self.sum);
+        let unmapped = now(clock)?;
+        self.sum.add(space.tables() as u64);
+        let times = &mut self.times;
+        times.map = times.map.saturating_add(mapped.duration_since(start));
+        times.resolve = times
+            .resolve
+            .saturating_add(resolved.duration_since(mapped));
+        times.protect = times
+            .protect
+            .saturating_add(protected.duration_since(resolved));
+        times.unmap = times
+            .unmap
+            .saturating_add(unmapped.duration_since(protected));
+        Ok(())
+    }
+}
+
+/// Rounds of a workload, on a page table of its own.
+pub fn measure(
+    clock: &impl Clock,
+    alloc: Global,
+    load: &Load,
+    rounds: u16,
+) -> Result<Measured, ProgFault>
+    ensures { IfOk result (λ measured. measured.sum.value ≡ (after_rounds Four FRAMES load.now rounds start).sum) }
+{
+    let arena = VecArena::new(alloc, 1, FRAMES)?;
+    let Ok(mut space) = Space::new(arena, Depth::Four) else {
+        unreachable!();
+    };
+    let mut measured = Measured::new();
+    for _ in 0..rounds {
+        measured.round(clock, &mut space, load)?;
+    }
+    Ok(measured)
+}
+
+/// What the clock says.
+fn now(clock: &impl Clock) -> Result<Instant, ProgFault> {
+    Instant::now(clock).map_err(|_| ProgFault::NoClock)
+}
+
+/// Does the operations one behind the other.
+fn apply_all(space: &mut Space<VecArena>, ops: &[Op], sum: &mut Sum)
+    ensures { Applies space.old ops.now sum.old.value space.new sum.new.value }
+{
+    for op in ops {
+        sum.add_answer(space.apply(*op));
+    }
+}
+
+/// Resolves the addresses.
+fn resolve_all(space: &Space<VecArena>, addresses: &[u64], sum: &mut Sum)
+    requires { All (IsCanonical space.now.depth) addresses.now }
+    ensures { (s : spaces.Space) → IsTableOf space.now s → sum.new.value ≡ sum_of_looks s sum.old.value addresses.now }
+{
+    for address in addresses {
+        sum.add_answer(space.resolve(*address));
+    }
+}

@@ -1,0 +1,117 @@
+ghost use Rattle.std.specs.Prelude.{◌≡◌, IfOk, OnErr};
+ghost use Rattle.std.specs.FinMap as finite;
+ghost use Rattle.vs_types.specs.Depth.{IsCanonical};
+ghost use Rattle.vs_types.specs.Space.{no_pages, table_count};
+ghost use Rattle.vs_types.specs.Step.{step, look};
+ghost use Rattle.vs_plain.specs.Plain.{Kept, IsStep};
+ghost use Rattle.vs_alike.specs.Alike.{AreAlike};
+
+use std::alloc::Global;
+use std::marker::Model;
+use vs_arena::FrameStore;
+use vs_plain::PlainSpace;
+use vs_space::{NoRoot, Space};
+use vs_types::{Answer, Depth, Memory, Op};
+
+/// What the page table says, and what the plain space says.
+#[derive(Clone, Copy, Debug)]
+pub struct Told<T> {
+    pub table: T,
+    pub plain: T,
+}
+
+/// A page table and a plain space that are of one space.
+///
+/// Contracts see the plain space: its depth, its limit of tables and its space.
+#[derive(Drop)]
+pub struct Both<S: FrameStore> {
+    table: Space<S>,
+    plain: PlainSpace,
+}
+
+impl<S: FrameStore> Model for Both<S> {
+    ghost use Rattle.vs_plain.specs.Plain.{Kept, kept_code};
+    ghost use Rattle.vs_alike.specs.Alike.{AreAlike};
+
+    ghost Value = { Kept };
+
+    ghost coded = { kept_code };
+
+    ghost view = { λ b. b.plain };
+
+    ghost invariant = { λ b. AreAlike b.table b.plain };
+}
+
+impl<S: FrameStore + Drop> Both<S> {
+    /// The two with no pages, over a store of which no frame is in use. Its capacity is the limit of both.
+    ///
+    /// # Errors
+    ///
+    /// `NoRoot` only where the store has no frame.
+    pub fn new(alloc: Global, store: S, depth: Depth) -> Result<Both<S>, NoRoot>
+        requires { S.frames store ≡ finite.empty }
+        ensures empty { IfOk result (λ both.
+            let empty : Kept = record { depth = depth; limit = S.size store; space = no_pages } in both ≡ empty) }
+        ensures no_root { OnErr result (S.size store ≡ 0) }
+    {
+        let limit = store.capacity() as u16;
+        let table = Space::new(store, depth)?;
+        let plain = PlainSpace::new(alloc, limit, depth);
+        Ok(Both { table, plain })
+    }
+}
+
+impl<S: FrameStore> Both<S> {
+    /// The page table.
+    pub fn table(&self) -> &Space<S>
+        ensures { AreAlike result.now self.now }
+    {
+        &self.table
+    }
+
+    /// The plain space.
+    pub fn plain(&self) -> &PlainSpace
+        ensures { result.now ≡ self.now }
+    {
+        &self.plain
+    }
+
+    /// How many tables each takes: as many as the other.
+    pub fn tables(&self) -> Told<usize>
+        ensures same { result.table ≡ result.plain }
+        ensures counts { result.plain ≡ table_count self.now.depth self.now.space }
+    {
+        Told {
+            table: self.table.tables(),
+            plain: self.plain.tables(),
+        }
+    }
+
+    /// The translation of a canonical address in each: the same.
+    pub fn resolve(&self, address: u64) -> Told<Answer>
+        requires { IsCanonical self.now.depth address }
+        ensures same { result.table ≡ result.plain }
+        ensures looks { result.plain ≡ look self.now.space address }
+    {
+        Told {
+            table: self.table.resolve(address),
+            plain: self.plain.resolve(address),
+        }
+    }
+
+    /// Does an operation on each: their answers are the same. Takes memory where it maps a page.
+    ///
+    /// # Errors
+    ///
+    /// `Memory` where a growth was refused, which only a page that is added needs; both are then unchanged.
+    pub fn apply(&mut self, op: Op) -> Result<Told<Answer>, Memory>
+        ensures same { IfOk result (λ told. told.table ≡ told.plain) }
+        ensures steps { IfOk result (λ told. IsStep self.old op told.plain self.new) }
+        ensures err { OnErr result (self.new ≡ self.old) }
+        ensures for_a_page { OnErr result ((step self.old.depth self.old.limit self.old.space op).answer ≡ Answer.Done) }
+    {
+        let plain = self.plain.apply(op)?;
+        let table = self.table.apply(op);
+        Ok(Told { table, plain })
+    }
+}

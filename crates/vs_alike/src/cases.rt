@@ -1,0 +1,153 @@
+use vs_types::{Answer, Rights, Size};
+
+/// A call, by the numbers that it is made of.
+#[derive(Clone, Copy, Debug)]
+pub enum Call {
+    /// A map of the page at this base, of this size, to this physical address, with these rights.
+    Map(u64, Size, u64, Rights),
+    Unmap(u64),
+    Protect(u64, Rights),
+    Resolve(u64),
+}
+
+/// A call, what it must be answered, and how many tables there must be after it.
+#[derive(Clone, Copy, Debug)]
+pub struct Row(pub Call, pub Answer, pub usize);
+
+const ALL: Rights = Rights {
+    write: true,
+    user: true,
+    exec: true,
+};
+
+const WRITE: Rights = Rights {
+    write: true,
+    user: false,
+    exec: false,
+};
+
+const USER_AND_EXEC: Rights = Rights {
+    write: false,
+    user: true,
+    exec: true,
+};
+
+/// The last page of the low half and the first of the high one, with the entries 255 and 256 of the root.
+pub static BOTH_HALVES: [Row; 6] = [
+    Row(Call::Resolve(0x7FFFFFFFFFFF), Answer::NotMapped, 1),
+    Row(
+        Call::Map(0x7FFFFFFFF000, Size::K4, 0x2000, ALL),
+        Answer::Done,
+        4,
+    ),
+    Row(
+        Call::Map(0xFFFF800000000000, Size::K4, 0x3000, ALL),
+        Answer::Done,
+        7,
+    ),
+    Row(
+        Call::Resolve(0x7FFFFFFFFFFF),
+        Answer::Mapped(0x2FFF, Size::K4, ALL),
+        7,
+    ),
+    Row(
+        Call::Resolve(0xFFFF800000000000),
+        Answer::Mapped(0x3000, Size::K4, ALL),
+        7,
+    ),
+    Row(Call::Resolve(0xFFFF800000001000), Answer::NotMapped, 7),
+];
+
+pub static OVERLAP: [Row; 4] = [
+    Row(
+        Call::Map(0x40200000, Size::K4, 0x1000, ALL),
+        Answer::Done,
+        4,
+    ),
+    Row(
+        Call::Map(0x40001000, Size::K4, 0x2000, ALL),
+        Answer::Done,
+        5,
+    ),
+    Row(
+        Call::Map(0x40000000, Size::G1, 0x40000000, ALL),
+        Answer::Overlap(0x40001000),
+        5,
+    ),
+    Row(Call::Resolve(0x40000000), Answer::NotMapped, 5),
+];
+
+pub static GIGABYTE: [Row; 4] = [
+    Row(
+        Call::Map(0x40000000, Size::G1, 0x40000000, WRITE),
+        Answer::Done,
+        2,
+    ),
+    Row(Call::Unmap(0x40001000), Answer::Inside(0x40000000), 2),
+    Row(
+        Call::Protect(0x40001000, ALL),
+        Answer::Inside(0x40000000),
+        2,
+    ),
+    Row(
+        Call::Resolve(0x40001234),
+        Answer::Mapped(0x40001234, Size::G1, WRITE),
+        2,
+    ),
+];
+
+/// Under a limit of 3 tables.
+pub static FULL: [Row; 4] = [
+    Row(
+        Call::Map(0x200000, Size::M2, 0x200000, ALL),
+        Answer::Done,
+        3,
+    ),
+    Row(
+        Call::Map(0x400000, Size::K4, 0x1000, ALL),
+        Answer::Full(4),
+        3,
+    ),
+    Row(
+        Call::Map(0x200000, Size::K4, 0x1000, ALL),
+        Answer::Overlap(0x200000),
+        3,
+    ),
+    Row(Call::Resolve(0x400000), Answer::NotMapped, 3),
+];
+
+pub static UNMAP: [Row; 6] = [
+    Row(Call::Map(0x400000, Size::K4, 0x1000, ALL), Answer::Done, 4),
+    Row(
+        Call::Unmap(0x400000),
+        Answer::Removed(0x1000, Size::K4, ALL),
+        1,
+    ),
+    Row(Call::Unmap(0x400000), Answer::NotMapped, 1),
+    Row(Call::Resolve(0x400123), Answer::NotMapped, 1),
+    Row(
+        Call::Map(0x400000, Size::M2, 0x200000, ALL),
+        Answer::Done,
+        3,
+    ),
+    Row(
+        Call::Resolve(0x400123),
+        Answer::Mapped(0x200123, Size::M2, ALL),
+        3,
+    ),
+];
+
+pub static PROTECT: [Row; 4] = [
+    Row(Call::Map(0x1000, Size::K4, 0x5000, WRITE), Answer::Done, 4),
+    Row(
+        Call::Protect(0x1000, USER_AND_EXEC),
+        Answer::Changed(WRITE),
+        4,
+    ),
+    Row(
+        Call::Resolve(0x1000),
+        Answer::Mapped(0x5000, Size::K4, USER_AND_EXEC),
+        4,
+    ),
+    Row(Call::Protect(0x2000, ALL), Answer::NotMapped, 4),
+];
