@@ -37,7 +37,7 @@ WORKLOADS = [(small_dense, 32768), (small_sparse, 1536), (mixed_dense, 32768), (
 
 
 class Space:
-    """A dictionary from the base of each page to its level, physical address and rights; rights are write + 2 user + 4 exec."""
+    """From the base of each page to its level, physical address and rights, which are write + 2 user + 4 exec."""
 
     def __init__(self):
         self.pages = {}
