@@ -2,7 +2,6 @@ ghost use Rattle.std.specs.Prelude.{◌≤◌, ◌≡◌, ℕ, Contains, IsTrue,
 ghost use Rattle.std.specs.FinMap as finite;
 ghost use Rattle.vs_types.specs.declared.op.Action.{Action};
 ghost use Rattle.vs_types.specs.Depth.{IsCanonical};
-ghost use Rattle.vs_types.specs.Entry.{size_at};
 ghost use Rattle.vs_types.specs.Operation.{IsBase};
 ghost use Rattle.vs_types.specs.Page.{IsPage};
 ghost use Rattle.vs_types.specs.Space as spaces;
@@ -11,10 +10,10 @@ ghost use Rattle.vs_types.specs.Step.{look};
 ghost use Rattle.vs_walk.specs.Traversal.{moves, reached, walk_fault};
 ghost use Rattle.vs_space.specs.Table.{PageTable, IsTableOf, IsStep};
 
-use crate::tables::{Tables, index_at};
+use crate::tables::Tables;
 use std::marker::Model;
 use vs_arena::{FRAME_WORDS, FrameStore};
-use vs_types::{Action, Answer, Depth, Entry, Meaning, Op, Page, Rights, Size};
+use vs_types::{Action, Answer, Depth, Entry, Meaning, Op, Page, Rights, Size, index_at};
 use vs_walk::{Frames, Walk, translate};
 
 /// There is no frame for the root: the store has none.
@@ -141,7 +140,7 @@ impl<S: FrameStore> Space<S> {
                 return Answer::Overlap(base);
             }
             Meaning::Leaf(_, _) => {
-                let bytes = size_at(place.level).bytes();
+                let bytes = Size::at_level(place.level).bytes();
                 return Answer::Overlap(page.base - page.base % bytes);
             }
             Meaning::Reserved => unreachable!(),
@@ -174,7 +173,7 @@ impl<S: FrameStore> Space<S> {
         let Meaning::Leaf(phys, rights) = place.found else {
             return Answer::NotMapped;
         };
-        let size = size_at(place.level);
+        let size = Size::at_level(place.level);
         let offset = base % size.bytes();
         if offset != 0 {
             return Answer::Inside(base - offset);
@@ -193,7 +192,7 @@ impl<S: FrameStore> Space<S> {
         let Meaning::Leaf(phys, old) = place.found else {
             return Answer::NotMapped;
         };
-        let size = size_at(place.level);
+        let size = Size::at_level(place.level);
         let offset = base % size.bytes();
         if offset != 0 {
             return Answer::Inside(base - offset);
@@ -203,16 +202,5 @@ impl<S: FrameStore> Space<S> {
         self.tables
             .write(number, index_at(place.level, base), leaf.word());
         Answer::Changed(old)
-    }
-}
-
-/// The size of the pages whose entries are in tables of this level.
-fn size_at(level: u8) -> Size
-    ensures { result ≡ size_at level }
-{
-    match level {
-        0 | 1 => Size::K4,
-        2 => Size::M2,
-        _ => Size::G1,
     }
 }

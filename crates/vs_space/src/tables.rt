@@ -15,7 +15,7 @@ ghost use Rattle.vs_space.specs.Place.{IsPlace};
 use crate::place::{Place, WAY};
 use std::marker::Model;
 use vs_arena::{FRAME_WORDS, Frame, FrameStore};
-use vs_types::{Depth, Entry, Meaning};
+use vs_types::{Depth, Entry, Meaning, index_at};
 
 /// The frames of a store by number. Contracts see those in use, and how many there can be.
 #[derive(Drop)]
@@ -250,15 +250,6 @@ impl<S: FrameStore> Tables<S> {
             level -= 1;
         }
     }
-}
-
-/// The index of an address in a table of this level.
-pub(crate) fn index_at(level: u8, address: u64) -> usize
-    requires { level ≤ 5 }
-    ensures is { result ≡ index_at level address }
-    ensures low { result < 512 }
-{
-    ((address >> (3 + 9 * level)) % 512) as usize
 }
 
 /// The frame in use with this number.

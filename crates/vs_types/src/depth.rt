@@ -1,4 +1,5 @@
-ghost use Rattle.std.specs.Prelude.{◌≡◌, ◌↔◌, IsTrue};
+ghost use Rattle.std.specs.Prelude.{◌≡◌, ◌↔◌, ◌<◌, ◌≤◌, IsTrue};
+ghost use Rattle.vs_types.specs.Depth.{index_at};
 
 use crate::op::BadOp;
 
@@ -42,4 +43,13 @@ impl Depth {
         }
         Ok(())
     }
+}
+
+/// The index of the entry for an address in a table of this level: 0 to 511. The level of a root is the highest.
+pub fn index_at(level: u8, address: u64) -> usize
+    requires { level ≤ 5 }
+    ensures is { result ≡ index_at level address }
+    ensures low { result < 512 }
+{
+    ((address >> (3 + 9 * level)) % 512) as usize
 }

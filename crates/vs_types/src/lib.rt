@@ -17,7 +17,7 @@ mod request;
 
 pub use answer::Answer;
 pub use config::{BadConfig, Config};
-pub use depth::Depth;
+pub use depth::{Depth, index_at};
 pub use entry::{Entry, Meaning};
 pub use frame::FRAME_WORDS;
 pub use laws::{

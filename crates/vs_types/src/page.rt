@@ -34,6 +34,7 @@ pub struct Page {
 }
 
 impl Size {
+    ghost use Rattle.vs_types.specs.Entry.{size_at};
     ghost use Rattle.vs_types.specs.Page.{level_of, bytes_of};
 
     /// 4,096, 2,097,152 or 1,073,741,824.
@@ -57,9 +58,22 @@ impl Size {
             Size::G1 => 3,
         }
     }
+
+    /// The size of the pages whose entries are in tables of this level: 1 to 3.
+    pub fn at_level(level: u8) -> Size
+        ensures { result ≡ size_at level }
+    {
+        match level {
+            0 | 1 => Size::K4,
+            2 => Size::M2,
+            _ => Size::G1,
+        }
+    }
 }
 
 impl Rights {
+    ghost use Rattle.vs_types.specs.Page.{joined};
+
     /// Everything is allowed.
     pub const ALL: Rights = Rights {
         write: true,
@@ -73,6 +87,17 @@ impl Rights {
         user: false,
         exec: false,
     };
+
+    /// What both allow.
+    pub fn joined(self, other: Rights) -> Rights
+        ensures { result ≡ joined self other }
+    {
+        Rights {
+            write: self.write && other.write,
+            user: self.user && other.user,
+            exec: self.exec && other.exec,
+        }
+    }
 }
 
 impl Page {

@@ -1,11 +1,9 @@
 ghost use Rattle.std.specs.Prelude.{◌≡◌, ◌≤◌, ◌%◌, ◌^◌};
-ghost use Rattle.vs_types.specs.Depth.{entry_bytes, index_at, IsCanonical};
-ghost use Rattle.vs_types.specs.Page.{joined};
-ghost use Rattle.vs_types.specs.Entry.{size_at};
+ghost use Rattle.vs_types.specs.Depth.{entry_bytes, IsCanonical};
 ghost use Rattle.vs_walk.specs.Walk.{walk};
 
 use crate::frames::Frames;
-use vs_types::{Depth, Entry, Meaning, Rights, Size};
+use vs_types::{Depth, Entry, Meaning, Rights, Size, index_at};
 
 /// Where a walk through the tables ends (Intel SDM volume 3A, chapter "Paging").
 #[derive(Clone, Copy, Debug, PartialEq, Eq)]
@@ -49,44 +47,14 @@ pub fn translate<F: Frames>(frames: &F, root: u64, depth: Depth, address: u64) -
             Meaning::Reserved => return Walk::Reserved,
             Meaning::Leaf(phys, own) => {
                 let offset = address % (1 << (3 + 9 * level));
-                return Walk::Mapped(phys + offset, size_at(level), joined(rights, own));
+                return Walk::Mapped(phys + offset, Size::at_level(level), rights.joined(own));
             }
             Meaning::Table(next, own) => {
                 number = next;
-                rights = joined(rights, own);
+                rights = rights.joined(own);
             }
         }
         level -= 1;
     }
     Walk::Missing
-}
-
-// The index of an address in a table of this level.
-fn index_at(level: u8, address: u64) -> usize
-    requires { level ≤ 5 }
-    ensures { result ≡ index_at level address }
-{
-    ((address >> (3 + 9 * level)) % 512) as usize
-}
-
-// The size of the pages that entries of this level map.
-fn size_at(level: u8) -> Size
-    ensures { result ≡ size_at level }
-{
-    match level {
-        0 | 1 => Size::K4,
-        2 => Size::M2,
-        _ => Size::G1,
-    }
-}
-
-// What both allow.
-fn joined(a: Rights, b: Rights) -> Rights
-    ensures { result ≡ joined a b }
-{
-    Rights {
-        write: a.write && b.write,
-        user: a.user && b.user,
-        exec: a.exec && b.exec,
-    }
 }

@@ -67,7 +67,7 @@ returns-in-Leaf g c =
     let good = subst (λ (t : PageTable). IsPage t.depth c.args.page) (sym c.self.view_is) c.requires in
     let place = placed c.level-lowest.ensures c.in-Leaf.is c.descend-place.ensures in
     subst (λ (t : PageTable). IsStep t (Map c.args.page) (answers.Overlap (c.args.page.base - c.args.page.base % c.bytes-bytes.result)) t) c.self.view_is
-    (leaf_overlaps inside.depth inside.tables.memory inside.root c.self.invariant c.args.page good c.descend-place.result.level c.descend-place.result.way c.in-Leaf.field-0 c.in-Leaf.field-1 place inside.tables.limit c.bytes-bytes.result (c.bytes-bytes.ensures ∙ ap bytes_of c.size_at.ensures))
+    (leaf_overlaps inside.depth inside.tables.memory inside.root c.self.invariant c.args.page good c.descend-place.result.level c.descend-place.result.way c.in-Leaf.field-0 c.in-Leaf.field-1 place inside.tables.limit c.bytes-bytes.result (c.bytes-bytes.ensures ∙ ap bytes_of c.at_level.ensures))
 
 pub unreachable-requires : goal.unreachable-requires
 unreachable-requires g c =

@@ -1,0 +1,240 @@
+//! The same workloads on the same page table in plain Rust, with no proof, to compare with `space_benchmark`:
+//!     rustc -O -C target-cpu=x86-64-v2 benchmarks/unverified.rs && ./unverified ROUNDS
+use std::time::{Duration, Instant};
+
+const FRAMES: usize = 4096;
+const PRESENT: u64 = 1;
+const LARGE: u64 = 1 << 7;
+const NO_FETCH: u64 = 1 << 63;
+const NUMBER: u64 = ((1 << 40) - 1) << 12;
+const PHYS: u64 = (1 << 52) - 1;
+
+/// Frames in one vector; frame i has the number i + 1.
+struct Arena {
+    words: Vec<[u64; 512]>,
+    free: Vec<u16>,
+}
+
+impl Arena {
+    fn new() -> Arena {
+        Arena { words: vec![[0; 512]; FRAMES], free: (0..FRAMES as u16).collect() }
+    }
+
+    fn take(&mut self) -> Option<u64> {
+        let index = self.free.pop()?;
+        self.words[index as usize] = [0; 512];
+        Some(index as u64 + 1)
+    }
+
+    fn give(&mut self, number: u64) {
+        self.free.push(number as u16 - 1);
+    }
+
+    fn used(&self) -> usize {
+        FRAMES - self.free.len()
+    }
+
+    fn table(&self, number: u64) -> &[u64; 512] {
+        &self.words[number as usize - 1]
+    }
+
+    fn table_mut(&mut self, number: u64) -> &mut [u64; 512] {
+        &mut self.words[number as usize - 1]
+    }
+}
+
+fn index_at(level: usize, address: u64) -> usize {
+    (address >> (3 + 9 * level)) as usize % 512
+}
+
+fn is_leaf(level: usize, word: u64) -> bool {
+    level == 1 || (level < 4 && word & LARGE != 0)
+}
+
+fn rights(word: u64) -> u64 {
+    (word >> 1) % 4 + if word & NO_FETCH == 0 { 4 } else { 0 }
+}
+
+fn leaf(level: usize, phys: u64, rights: u64) -> u64 {
+    let large = if level > 1 { LARGE } else { 0 };
+    let no_fetch = if rights & 4 == 0 { NO_FETCH } else { 0 };
+    phys | PRESENT | (rights & 3) << 1 | large | no_fetch
+}
+
+struct Space {
+    arena: Arena,
+    root: u64,
+}
+
+/// Where a descent ends: the tables on the way by level, the level, and the word there.
+struct Place {
+    way: [u64; 5],
+    level: usize,
+    word: u64,
+}
+
+impl Space {
+    fn new() -> Space {
+        let mut arena = Arena::new();
+        let root = arena.take().unwrap();
+        Space { arena, root }
+    }
+
+    fn descend(&self, address: u64, lowest: usize) -> Place {
+        let mut way = [0; 5];
+        let mut number = self.root;
+        let mut level = 4;
+        loop {
+            way[level] = number;
+            let word = self.arena.table(number)[index_at(level, address)];
+            if word & PRESENT == 0 || is_leaf(level, word) || level == lowest {
+                return Place { way, level, word };
+            }
+            number = (word & NUMBER) >> 12;
+            level -= 1;
+        }
+    }
+
+    /// The numbers of answers are those of `space_benchmark`.
+    fn map(&mut self, base: u64, size: usize, phys: u64, rights: u64) -> u64 {
+        let place = self.descend(base, size);
+        if place.word & PRESENT != 0 {
+            return 1;
+        }
+        let need = self.arena.used() + place.level - size;
+        if need > FRAMES {
+            return need as u64 * 256 + 2;
+        }
+        let mut number = place.way[place.level];
+        for level in (size + 1..=place.level).rev() {
+            let next = self.arena.take().unwrap();
+            self.arena.table_mut(number)[index_at(level, base)] = next << 12 | 7;
+            number = next;
+        }
+        self.arena.table_mut(number)[index_at(size, base)] = leaf(size, phys, rights);
+        0
+    }
+
+    fn protect(&mut self, base: u64, rights_now: u64) -> u64 {
+        let place = self.descend(base, 1);
+        if place.word & PRESENT == 0 {
+            return 4;
+        }
+        let bytes = 1 << (3 + 9 * place.level);
+        if base % bytes != 0 {
+            return (base - base % bytes) * 256 + 5;
+        }
+        let phys = place.word & PHYS & !(bytes - 1);
+        let word = leaf(place.level, phys, rights_now);
+        self.arena.table_mut(place.way[place.level])[index_at(place.level, base)] = word;
+        6 + 8 * rights(place.word)
+    }
+
+    fn unmap(&mut self, base: u64) -> u64 {
+        let place = self.descend(base, 1);
+        if place.word & PRESENT == 0 {
+            return 4;
+        }
+        let bytes = 1 << (3 + 9 * place.level);
+        if base % bytes != 0 {
+            return (base - base % bytes) * 256 + 5;
+        }
+        let mut level = place.level;
+        self.arena.table_mut(place.way[level])[index_at(level, base)] = 0;
+        while level < 4 && self.arena.table(place.way[level]).iter().all(|word| word & PRESENT == 0) {
+            self.arena.give(place.way[level]);
+            level += 1;
+            self.arena.table_mut(place.way[level])[index_at(level, base)] = 0;
+        }
+        let phys = place.word & PHYS & !(bytes - 1);
+        (phys << 8).wrapping_add(64 * place.level as u64 + 8 * rights(place.word) + 3)
+    }
+
+    fn resolve(&self, address: u64) -> u64 {
+        let mut number = self.root;
+        let mut all = 7;
+        let mut level = 4;
+        loop {
+            let word = self.arena.table(number)[index_at(level, address)];
+            if word & PRESENT == 0 {
+                return 4;
+            }
+            all &= rights(word);
+            if is_leaf(level, word) {
+                let bytes = 1 << (3 + 9 * level);
+                let phys = (word & PHYS & !(bytes - 1)) + address % bytes;
+                return (phys << 8).wrapping_add(64 * level as u64 + 8 * all + 7);
+            }
+            number = (word & NUMBER) >> 12;
+            level -= 1;
+        }
+    }
+}
+
+fn canonical(bits: u64) -> u64 {
+    if bits < 1 << 47 { bits } else { bits + 0xFFFF_0000_0000_0000 }
+}
+
+fn small_dense(n: u64) -> (u64, usize) {
+    (n << 12, 1)
+}
+
+fn small_sparse(n: u64) -> (u64, usize) {
+    (canonical((n * 0x9E3779B97 % (1 << 36)) << 12), 1)
+}
+
+fn mixed_dense(n: u64) -> (u64, usize) {
+    let level = n as usize % 3 + 1;
+    ((n % 3 << 39) + n / 3 * (1 << (3 + 9 * level)), level)
+}
+
+fn mixed_sparse(n: u64) -> (u64, usize) {
+    let level = n as usize % 3 + 1;
+    let place = n * 0x9E37 % (1 << (30 - 3 - 9 * level));
+    (canonical((n * 0x2545F % (1 << 18) << 30) + place * (1 << (3 + 9 * level))), level)
+}
+
+fn main() {
+    let rounds: u32 = std::env::args().nth(1).and_then(|n| n.parse().ok()).expect("ROUNDS");
+    let workloads: [(&str, fn(u64) -> (u64, usize), u64); 4] = [
+        ("small_dense", small_dense, 32768),
+        ("small_sparse", small_sparse, 1536),
+        ("mixed_dense", mixed_dense, 32768),
+        ("mixed_sparse", mixed_sparse, 1536),
+    ];
+    eprintln!("operations a second  {:>12} {:>12} {:>12} {:>12}", "map", "resolve", "protect", "unmap");
+    for (name, page, pages) in workloads {
+        let pages: Vec<(u64, usize)> = (0..pages).map(page).collect();
+        let mut space = Space::new();
+        let mut sum = 0u64;
+        let mut times = [Duration::ZERO; 4];
+        for _ in 0..rounds {
+            let mut add = |number: u64| sum = sum.wrapping_mul(31).wrapping_add(number);
+            let start = Instant::now();
+            for (n, (base, level)) in pages.iter().enumerate() {
+                add(space.map(*base, *level, n as u64 * (1 << (3 + 9 * level)), n as u64 % 8));
+            }
+            let mapped = Instant::now();
+            add(space.arena.used() as u64);
+            for (n, (base, _)) in pages.iter().enumerate() {
+                add(space.resolve(base.wrapping_add(n as u64 % 4096)));
+            }
+            let resolved = Instant::now();
+            for (n, (base, _)) in pages.iter().enumerate() {
+                add(space.protect(*base, n as u64 / 8 % 8));
+            }
+            let protected = Instant::now();
+            for (base, _) in &pages {
+                add(space.unmap(*base));
+            }
+            times[0] += mapped - start;
+            times[1] += resolved - mapped;
+            times[2] += protected - resolved;
+            times[3] += protected.elapsed();
+            add(space.arena.used() as u64);
+        }
+        println!("{name} {sum}");
+        let rate = |time: Duration| (pages.len() as f64 * rounds as f64 / time.as_secs_f64()) as u64;
+        eprintln!("{name:<19}  {:>12} {:>12} {:>12} {:>12}", rate(times[0]), rate(times[1]), rate(times[2]), rate(times[3]));
+    }
+}
