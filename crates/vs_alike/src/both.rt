@@ -30,12 +30,13 @@ pub struct Both<S: FrameStore> {
 }
 
 impl<S: FrameStore> Model for Both<S> {
-    ghost use Rattle.vs_plain.specs.Plain.{Kept, kept_code};
+    ghost use Rattle.vs_plain.specs.Plain.{Kept};
+    ghost use Rattle.vs_plain.specs.contracts.plain.PlainSpace as plain_contract;
     ghost use Rattle.vs_alike.specs.Alike.{AreAlike};
 
     ghost Value = { Kept };
 
-    ghost coded = { kept_code };
+    ghost coded = { plain_contract.the_row.coded };
 
     ghost view = { λ b. b.plain };
 
