@@ -61,6 +61,42 @@ fn leaf(level: usize, phys: u64, rights: u64) -> u64 {
     phys | PRESENT | (rights & 3) << 1 | large | no_fetch
 }
 
+#[derive(Clone, Copy)]
+enum Op {
+    /// The base, the level of the size, the physical address and the rights.
+    Map(u64, usize, u64, u64),
+    Unmap(u64),
+    Protect(u64, u64),
+}
+
+enum Answer {
+    Done,
+    Overlap,
+    Full(u64),
+    Removed(u64, usize, u64),
+    NotMapped,
+    Inside(u64),
+    Changed(u64),
+    Mapped(u64, usize, u64),
+}
+
+impl Answer {
+    /// The same number as in `space_benchmark`.
+    fn number(self) -> u64 {
+        let page = |number, phys: u64, level, rights| (phys << 8).wrapping_add(number + 64 * level as u64 + 8 * rights);
+        match self {
+            Answer::Done => 0,
+            Answer::Overlap => 1,
+            Answer::Full(need) => need << 8 | 2,
+            Answer::Removed(phys, level, rights) => page(3, phys, level, rights),
+            Answer::NotMapped => 4,
+            Answer::Inside(base) => base << 8 | 5,
+            Answer::Changed(rights) => 6 + 8 * rights,
+            Answer::Mapped(phys, level, rights) => page(7, phys, level, rights),
+        }
+    }
+}
+
 struct Space {
     arena: Arena,
     root: u64,
@@ -95,15 +131,23 @@ impl Space {
         }
     }
 
-    /// The numbers of answers are those of `space_benchmark`.
-    fn map(&mut self, base: u64, size: usize, phys: u64, rights: u64) -> u64 {
+    fn apply(&mut self, op: Op) -> Answer {
+        match op {
+            Op::Map(base, size, phys, rights) => self.map(base, size, phys, rights),
+            Op::Unmap(base) => self.unmap(base),
+            Op::Protect(base, rights) => self.protect(base, rights),
+        }
+    }
+
+    /// No page of a workload overlaps another, so the base that an overlap would name isn't looked for.
+    fn map(&mut self, base: u64, size: usize, phys: u64, rights: u64) -> Answer {
         let place = self.descend(base, size);
         if place.word & PRESENT != 0 {
-            return 1;
+            return Answer::Overlap;
         }
         let need = self.arena.used() + place.level - size;
         if need > FRAMES {
-            return need as u64 * 256 + 2;
+            return Answer::Full(need as u64);
         }
         let mut number = place.way[place.level];
         for level in (size + 1..=place.level).rev() {
@@ -112,32 +156,32 @@ impl Space {
             number = next;
         }
         self.arena.table_mut(number)[index_at(size, base)] = leaf(size, phys, rights);
-        0
+        Answer::Done
     }
 
-    fn protect(&mut self, base: u64, rights_now: u64) -> u64 {
+    fn protect(&mut self, base: u64, rights_now: u64) -> Answer {
         let place = self.descend(base, 1);
         if place.word & PRESENT == 0 {
-            return 4;
+            return Answer::NotMapped;
         }
         let bytes = 1 << (3 + 9 * place.level);
         if base % bytes != 0 {
-            return (base - base % bytes) * 256 + 5;
+            return Answer::Inside(base - base % bytes);
         }
         let phys = place.word & PHYS & !(bytes - 1);
         let word = leaf(place.level, phys, rights_now);
         self.arena.table_mut(place.way[place.level])[index_at(place.level, base)] = word;
-        6 + 8 * rights(place.word)
+        Answer::Changed(rights(place.word))
     }
 
-    fn unmap(&mut self, base: u64) -> u64 {
+    fn unmap(&mut self, base: u64) -> Answer {
         let place = self.descend(base, 1);
         if place.word & PRESENT == 0 {
-            return 4;
+            return Answer::NotMapped;
         }
         let bytes = 1 << (3 + 9 * place.level);
         if base % bytes != 0 {
-            return (base - base % bytes) * 256 + 5;
+            return Answer::Inside(base - base % bytes);
         }
         let mut level = place.level;
         self.arena.table_mut(place.way[level])[index_at(level, base)] = 0;
@@ -147,23 +191,23 @@ impl Space {
             self.arena.table_mut(place.way[level])[index_at(level, base)] = 0;
         }
         let phys = place.word & PHYS & !(bytes - 1);
-        (phys << 8).wrapping_add(64 * place.level as u64 + 8 * rights(place.word) + 3)
+        Answer::Removed(phys, place.level, rights(place.word))
     }
 
-    fn resolve(&self, address: u64) -> u64 {
+    fn resolve(&self, address: u64) -> Answer {
         let mut number = self.root;
         let mut all = 7;
         let mut level = 4;
         loop {
             let word = self.arena.table(number)[index_at(level, address)];
             if word & PRESENT == 0 {
-                return 4;
+                return Answer::NotMapped;
             }
             all &= rights(word);
             if is_leaf(level, word) {
                 let bytes = 1 << (3 + 9 * level);
                 let phys = (word & PHYS & !(bytes - 1)) + address % bytes;
-                return (phys << 8).wrapping_add(64 * level as u64 + 8 * all + 7);
+                return Answer::Mapped(phys, level, all);
             }
             number = (word & NUMBER) >> 12;
             level -= 1;
@@ -194,6 +238,50 @@ fn mixed_sparse(n: u64) -> (u64, usize) {
     (canonical((n * 0x2545F % (1 << 18) << 30) + place * (1 << (3 + 9 * level))), level)
 }
 
+/// The calls of a workload.
+struct Load {
+    maps: Vec<Op>,
+    addresses: Vec<u64>,
+    protects: Vec<Op>,
+    unmaps: Vec<Op>,
+}
+
+fn load(page: fn(u64) -> (u64, usize), pages: u64) -> Load {
+    let each = |call: fn(u64, u64, usize) -> Op| (0..pages).map(|n| call(n, page(n).0, page(n).1)).collect();
+    Load {
+        maps: each(|n, base, level| Op::Map(base, level, n * (1 << (3 + 9 * level)), n % 8)),
+        addresses: (0..pages).map(|n| page(n).0.wrapping_add(n % 4096)).collect(),
+        protects: each(|n, base, _| Op::Protect(base, n / 8 % 8)),
+        unmaps: each(|_, base, _| Op::Unmap(base)),
+    }
+}
+
+fn with(sum: u64, number: u64) -> u64 {
+    sum.wrapping_mul(31).wrapping_add(number)
+}
+
+fn apply_all(space: &mut Space, ops: &[Op], sum: u64) -> u64 {
+    ops.iter().fold(sum, |sum, op| with(sum, space.apply(*op).number()))
+}
+
+fn round(space: &mut Space, load: &Load, mut sum: u64, times: &mut [Duration; 4]) -> u64 {
+    let start = Instant::now();
+    sum = apply_all(space, &load.maps, sum);
+    let mapped = Instant::now();
+    sum = with(sum, space.arena.used() as u64);
+    sum = load.addresses.iter().fold(sum, |sum, address| with(sum, space.resolve(*address).number()));
+    let resolved = Instant::now();
+    sum = apply_all(space, &load.protects, sum);
+    let protected = Instant::now();
+    sum = apply_all(space, &load.unmaps, sum);
+    let unmapped = Instant::now();
+    times[0] += mapped - start;
+    times[1] += resolved - mapped;
+    times[2] += protected - resolved;
+    times[3] += unmapped - protected;
+    with(sum, space.arena.used() as u64)
+}
+
 fn main() {
     let rounds: u32 = std::env::args().nth(1).and_then(|n| n.parse().ok()).expect("ROUNDS");
     let workloads: [(&str, fn(u64) -> (u64, usize), u64); 4] = [
@@ -204,37 +292,12 @@ fn main() {
     ];
     eprintln!("operations a second  {:>12} {:>12} {:>12} {:>12}", "map", "resolve", "protect", "unmap");
     for (name, page, pages) in workloads {
-        let pages: Vec<(u64, usize)> = (0..pages).map(page).collect();
+        let load = load(page, pages);
         let mut space = Space::new();
-        let mut sum = 0u64;
         let mut times = [Duration::ZERO; 4];
-        for _ in 0..rounds {
-            let mut add = |number: u64| sum = sum.wrapping_mul(31).wrapping_add(number);
-            let start = Instant::now();
-            for (n, (base, level)) in pages.iter().enumerate() {
-                add(space.map(*base, *level, n as u64 * (1 << (3 + 9 * level)), n as u64 % 8));
-            }
-            let mapped = Instant::now();
-            add(space.arena.used() as u64);
-            for (n, (base, _)) in pages.iter().enumerate() {
-                add(space.resolve(base.wrapping_add(n as u64 % 4096)));
-            }
-            let resolved = Instant::now();
-            for (n, (base, _)) in pages.iter().enumerate() {
-                add(space.protect(*base, n as u64 / 8 % 8));
-            }
-            let protected = Instant::now();
-            for (base, _) in &pages {
-                add(space.unmap(*base));
-            }
-            times[0] += mapped - start;
-            times[1] += resolved - mapped;
-            times[2] += protected - resolved;
-            times[3] += protected.elapsed();
-            add(space.arena.used() as u64);
-        }
+        let sum = (0..rounds).fold(0, |sum, _| round(&mut space, &load, sum, &mut times));
         println!("{name} {sum}");
-        let rate = |time: Duration| (pages.len() as f64 * rounds as f64 / time.as_secs_f64()) as u64;
+        let rate = |time: Duration| (pages as f64 * rounds as f64 / time.as_secs_f64()) as u64;
         eprintln!("{name:<19}  {:>12} {:>12} {:>12} {:>12}", rate(times[0]), rate(times[1]), rate(times[2]), rate(times[3]));
     }
 }
