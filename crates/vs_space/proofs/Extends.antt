@@ -10,7 +10,8 @@ use Rattle.vs_arena.specs.Store.{zeros}
 use Rattle.vs_arena.proofs.Stores.{IsInUse-insert}
 use Rattle.vs_walk.specs.Memory.{Memory}
 use Rattle.vs_walk.specs.Walk.{all_rights, walk}
-use Rattle.vs_space.specs.Held.{with_word, IsWhole}
+use Rattle.vs_space.specs.Held.{with_word}
+use Rattle.vs_walk.specs.Ways.{AreWhole}
 use Rattle.vs_space.specs.Way.{found_at, table_in, table_at, SameWay}
 use Rattle.vs_space.specs.Tree.{IsTree}
 use Rattle.vs_space.specs.Grow.{IsOpen, IsExtended}
@@ -23,7 +24,7 @@ use Rattle.vs_space.proofs.Reached.{reached_link}
 pub extended_start : (depth : Depth) (m : Memory) (root base from number : ℕ) → IsOpen depth m root base from number → IsExtended depth m m root base from from number
 extended_start depth m root base from number here = record { open_at = here; walks = λ b. refl; more = omega arith }
 
-module _ (depth : Depth) (m : Memory) (root base level number : ℕ) (here : IsOpen depth m root base level number) (deep : 1 < level) (f : ℕ) (free : finite.get m f ≡ None) (whole : IsWhole (finite.insert m f zeros)) (w index : ℕ) (leads : meaning level w ≡ entry.Table f all_rights) (is_index : index ≡ index_at level base) (low : index < 512) where
+module _ (depth : Depth) (m : Memory) (root base level number : ℕ) (here : IsOpen depth m root base level number) (deep : 1 < level) (f : ℕ) (free : finite.get m f ≡ None) (whole : AreWhole (finite.insert m f zeros)) (w index : ℕ) (leads : meaning level w ≡ entry.Table f all_rights) (is_index : index ≡ index_at level base) (low : index < 512) where
   abbrev taken : Memory
   taken = finite.insert m f zeros
 

@@ -12,7 +12,8 @@ use Rattle.vs_arena.specs.Store.{zeros}
 use Rattle.vs_walk.specs.Memory.{Memory}
 use Rattle.vs_walk.specs.Walk.{all_rights, walk_from}
 use Rattle.vs_walk.specs.declared.walk.Walk.TheVariants.{NotMapped}
-use Rattle.vs_space.specs.Held.{word_at, with_word, IsWhole}
+use Rattle.vs_space.specs.Held.{word_at, with_word}
+use Rattle.vs_walk.specs.Ways.{AreWhole}
 use Rattle.vs_space.specs.Way.{found_at, table_in, table_at, SameWay}
 use Rattle.vs_space.specs.Tree.{IsTree}
 use Rattle.vs_space.proofs.Numbered.{get-insert_other, get-remove_other}
@@ -36,7 +37,7 @@ found_in_zeros level m f b got =
 
 -- ---- a frame that no way reaches, all zero, is linked at an absent entry
 
-module _ (top : ℕ) (root : ℕ) (m : Memory) (tree : IsTree top m root) (whole : IsWhole m) (k a n : ℕ) (at : table_at top m root k a ≡ Some n) (w f : ℕ) (low : index_at (top - k) a < 512)
+module _ (top : ℕ) (root : ℕ) (m : Memory) (tree : IsTree top m root) (whole : AreWhole m) (k a n : ℕ) (at : table_at top m root k a ≡ Some n) (w f : ℕ) (low : index_at (top - k) a < 512)
     (leads : meaning (top - k) w ≡ entry.Table f all_rights) (clear : finite.get m f ≡ Some zeros) (unreached : (j b : ℕ) → table_at top m root j b ≢ Some f) (absent : found_at (top - k) m n a ≡ Some entry.Absent) (left : ℕ) (deep : suc k + suc left ≡ top) where
   abbrev new : Memory
   new = with_word m n (index_at (top - k) a) w
@@ -164,7 +165,7 @@ module _ (top : ℕ) (root : ℕ) (m : Memory) (tree : IsTree top m root) (f : �
 
 -- ---- the entry that leads to a table is cleared, and the frame given back
 
-module _ (top : ℕ) (root : ℕ) (m : Memory) (tree : IsTree top m root) (whole : IsWhole m) (k a n f : ℕ) (at : table_at top m root k a ≡ Some n) (down : table_at top m root (suc k) a ≡ Some f) (low : index_at (top - k) a < 512) where
+module _ (top : ℕ) (root : ℕ) (m : Memory) (tree : IsTree top m root) (whole : AreWhole m) (k a n f : ℕ) (at : table_at top m root k a ≡ Some n) (down : table_at top m root (suc k) a ≡ Some f) (low : index_at (top - k) a < 512) where
   abbrev cut : Memory
   cut = with_word m n (index_at (top - k) a) 0
 

@@ -27,7 +27,8 @@ use Rattle.vs_walk.specs.Memory.{Memory}
 use Rattle.vs_walk.specs.Walk.{walk, as_walk}
 use Rattle.vs_walk.specs.declared.walk.Walk.TheVariants.{Mapped, Reserved}
 use Rattle.vs_walk.proofs.Translates.{not_reserved}
-use Rattle.vs_space.specs.Held.{with_word, IsWhole}
+use Rattle.vs_space.specs.Held.{with_word}
+use Rattle.vs_walk.specs.Ways.{AreWhole}
 use Rattle.vs_space.specs.Way.{found_at, table_at, table_in, SameWay}
 use Rattle.vs_space.specs.Tree.{IsTree, IsFilled, NothingUnder}
 use Rattle.vs_space.specs.Grow.{IsOpen, IsExtended, IsLeastBase}
@@ -189,7 +190,7 @@ module _ (depth : Depth) (m : Memory) (root : ℕ) (table : IsPageTable depth m 
     is_open = record { tree = table.tree; filled = but_none page.base table.filled; all_reached = table.reached; below = place.below; reached = here.at; absent = place.is }
 
     -- the leaf is written in the last table
-    module _ (m' : Memory) (number : ℕ) (extended : IsExtended depth m m' root page.base level (level_of page.size) number) (whole : IsWhole m') (w index : ℕ) (leads : meaning (level_of page.size) w ≡ entry.Leaf page.phys page.rights) (is_index : index ≡ index_at (level_of page.size) page.base) (low : index < 512) where
+    module _ (m' : Memory) (number : ℕ) (extended : IsExtended depth m m' root page.base level (level_of page.size) number) (whole : AreWhole m') (w index : ℕ) (leads : meaning (level_of page.size) w ≡ entry.Leaf page.phys page.rights) (is_index : index ≡ index_at (level_of page.size) page.base) (low : index < 512) where
       back : levels depth - (levels depth - level_of page.size) ≡ level_of page.size
       back = omega (arith, place.above, place.below)
 

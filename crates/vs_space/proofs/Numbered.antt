@@ -12,7 +12,8 @@ use Rattle.std.proofs.lemmas.List.{length-set, length-replicate}
 use Rattle.vs_arena.specs.Store.{Store, IsInUse, IsFree, words_of, zeros}
 use Rattle.vs_arena.proofs.Stores.{get_in_use}
 use Rattle.vs_walk.specs.Memory.{Memory}
-use Rattle.vs_space.specs.Held.{numbered, Held, IsWhole, word_at, with_word}
+use Rattle.vs_space.specs.Held.{numbered, Held, word_at, with_word}
+use Rattle.vs_walk.specs.Ways.{AreWhole}
 
 cmp_shift : (b x y : ℕ) → nat_cmp (b + x) (b + y) ≡ nat_cmp x y
 cmp_shift b x y = elim (nat_cmp x y) as (λ r. r ≡ nat_cmp x y → nat_cmp (b + x) (b + y) ≡ r) [
@@ -149,38 +150,32 @@ with_word_numbered base store number f index word at used =
 abbrev pub held : ℕ → Memory → Held
 held limit memory = record { limit = limit; memory = memory }
 
-pub whole_numbered : (base : ℕ) (store : Store) → IsWhole store → IsWhole (numbered base store)
-whole_numbered base store is = record {
-  whole = λ n words got. ⊎_elim
-      (λ low. absurd (none-some words (sym (get_below_base base store n low) ∙ got)))
-      (λ high. is.whole (n - base) words (sym (get_numbered base store (n - base)) ∙ (subst (λ q. finite.get (numbered base store) q ≡ Some words) (omega arith) got)))
-      (cases_lt n base);
-}
+pub whole_numbered : (base : ℕ) (store : Store) → AreWhole store → AreWhole (numbered base store)
+whole_numbered base store is = λ n words got. ⊎_elim
+    (λ low. absurd (none-some words (sym (get_below_base base store n low) ∙ got)))
+    (λ high. is (n - base) words (sym (get_numbered base store (n - base)) ∙ (subst (λ q. finite.get (numbered base store) q ≡ Some words) (omega arith) got)))
+    (cases_lt n base)
 
-pub whole-empty : (store : Store) → store ≡ finite.empty → IsWhole store
-whole-empty store e = record { whole = λ i words got. absurd (none-some words (sym (ap (λ (s : Store). finite.get s i) e ∙ finite.get-empty nat_cmp i) ∙ got)) }
+pub whole-empty : (store : Store) → store ≡ finite.empty → AreWhole store
+whole-empty store e = λ i words got. absurd (none-some words (sym (ap (λ (s : Store). finite.get s i) e ∙ finite.get-empty nat_cmp i) ∙ got))
 
-pub whole-insert : (store : Store) (f : ℕ) (own : List ℕ) → length own ≡ 512 → IsWhole store → IsWhole (finite.insert store f own)
-whole-insert store f own long is = record {
-  whole = λ i words got. ⊎_elim
-      (λ (same : i ≡ f). let mine : Some own ≡ Some words = sym (get-insert_same store f own) ∙ subst (λ k. finite.get (finite.insert store f own) k ≡ Some words) same got in let one : own ≡ words = cc in subst (λ (ws : List ℕ). length ws ≡ 512) one long)
-      (λ (other : i ≢ f). is.whole i words (sym (get-insert_other store f own i other) ∙ got))
-      (cases_eq i f);
-}
+pub whole-insert : (store : Store) (f : ℕ) (own : List ℕ) → length own ≡ 512 → AreWhole store → AreWhole (finite.insert store f own)
+whole-insert store f own long is = λ i words got. ⊎_elim
+    (λ (same : i ≡ f). let mine : Some own ≡ Some words = sym (get-insert_same store f own) ∙ subst (λ k. finite.get (finite.insert store f own) k ≡ Some words) same got in let one : own ≡ words = cc in subst (λ (ws : List ℕ). length ws ≡ 512) one long)
+    (λ (other : i ≢ f). is i words (sym (get-insert_other store f own i other) ∙ got))
+    (cases_eq i f)
 
-pub whole-set : (store : Store) (f index word : ℕ) → IsInUse store f → IsWhole store → IsWhole (finite.insert store f (slice_set (words_of store f) index word))
-whole-set store f index word used is = whole-insert store f _ (length-set (words_of store f) index word ∙ is.whole f (words_of store f) (get_in_use store f used)) is
+pub whole-set : (store : Store) (f index word : ℕ) → IsInUse store f → AreWhole store → AreWhole (finite.insert store f (slice_set (words_of store f) index word))
+whole-set store f index word used is = whole-insert store f _ (length-set (words_of store f) index word ∙ is f (words_of store f) (get_in_use store f used)) is
 
-pub whole-zeros : (store : Store) (f : ℕ) → IsWhole store → IsWhole (finite.insert store f zeros)
+pub whole-zeros : (store : Store) (f : ℕ) → AreWhole store → AreWhole (finite.insert store f zeros)
 whole-zeros store f is = whole-insert store f zeros (length-replicate {A = ℕ} 512 0) is
 
-pub whole-remove : (store : Store) (f : ℕ) → IsWhole store → IsWhole (finite.remove store f)
-whole-remove store f is = record {
-  whole = λ i words got. ⊎_elim
-      (λ (same : i ≡ f). absurd (none-some words (sym (get-remove_same store f) ∙ subst (λ k. finite.get (finite.remove store f) k ≡ Some words) same got)))
-      (λ (other : i ≢ f). is.whole i words (sym (get-remove_other store f i other) ∙ got))
-      (cases_eq i f);
-}
+pub whole-remove : (store : Store) (f : ℕ) → AreWhole store → AreWhole (finite.remove store f)
+whole-remove store f is = λ i words got. ⊎_elim
+    (λ (same : i ≡ f). absurd (none-some words (sym (get-remove_same store f) ∙ subst (λ k. finite.get (finite.remove store f) k ≡ Some words) same got)))
+    (λ (other : i ≢ f). is i words (sym (get-remove_other store f i other) ∙ got))
+    (cases_eq i f)
 
 pub stored : (limit limit' base base' : ℕ) (store' : Store) (m : Memory) → limit' ≡ limit → base' ≡ base → numbered base store' ≡ m → held limit' (numbered base' store') ≡ held limit m
 stored limit limit' base base' store' m same_limit same_base e = rw (same_limit, same_base, e) refl

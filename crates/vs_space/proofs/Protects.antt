@@ -24,7 +24,8 @@ use Rattle.vs_walk.specs.Memory.{Memory}
 use Rattle.vs_walk.specs.Walk.{walk, as_walk, TranslatesAs}
 use Rattle.vs_walk.specs.declared.walk.Walk.TheVariants.{NotMapped, Mapped}
 use Rattle.vs_walk.proofs.Translates.{one_space, not_reserved}
-use Rattle.vs_space.specs.Held.{with_word, IsWhole}
+use Rattle.vs_space.specs.Held.{with_word}
+use Rattle.vs_walk.specs.Ways.{AreWhole}
 use Rattle.vs_space.specs.Way.{found_at, table_at, table_in, SameWay}
 use Rattle.vs_space.specs.Tree.{IsTree, IsFilled}
 use Rattle.vs_space.specs.Table.{PageTable, IsTableOf, IsStep, IsSpaceOf, IsPageTable}
@@ -114,7 +115,7 @@ stays old action answer says = record {
 
 -- ---- the rights of a leaf change
 
-module _ (depth : Depth) (m : Memory) (root : ℕ) (table : IsPageTable depth m root) (whole : IsWhole m) (base : ℕ) (good : IsBase depth base) (k n phys : ℕ) (own rights : Rights) (met : IsMet depth m root base k n (entry.Leaf phys own)) (w : ℕ) (leads : meaning (levels depth - k) w ≡ entry.Leaf phys rights) (low : index_at (levels depth - k) base < 512) (aligned : base % entry_bytes (levels depth - k) ≡ 0) where
+module _ (depth : Depth) (m : Memory) (root : ℕ) (table : IsPageTable depth m root) (whole : AreWhole m) (base : ℕ) (good : IsBase depth base) (k n phys : ℕ) (own rights : Rights) (met : IsMet depth m root base k n (entry.Leaf phys own)) (w : ℕ) (leads : meaning (levels depth - k) w ≡ entry.Leaf phys rights) (low : index_at (levels depth - k) base < 512) (aligned : base % entry_bytes (levels depth - k) ≡ 0) where
   abbrev new : Memory
   new = with_word m n (index_at (levels depth - k) base) w
 

@@ -7,7 +7,8 @@ use Rattle.std.specs.FinMap as finite
 use Rattle.vs_types.specs.Depth.{index_at}
 use Rattle.vs_arena.specs.Store.{zeros}
 use Rattle.vs_walk.specs.Memory.{Memory}
-use Rattle.vs_space.specs.Held.{with_word, IsWhole}
+use Rattle.vs_space.specs.Held.{with_word}
+use Rattle.vs_walk.specs.Ways.{AreWhole}
 use Rattle.vs_space.specs.Way.{found_at, table_in, table_at, SameWay}
 use Rattle.vs_space.specs.Tree.{IsTree, IsReached}
 use Rattle.vs_space.proofs.Numbered.{get-insert_other, get-remove_same, get-remove_other, whole-insert}
@@ -19,9 +20,9 @@ use Rattle.vs_space.proofs.Links.{table_take, tree_take, cut_alike}
 -- ---- frames in use
 
 -- a write keeps each frame whole
-pub whole_written : (m : Memory) (n i w : ℕ) → IsSome (finite.get m n) → IsWhole m → IsWhole (with_word m n i w)
+pub whole_written : (m : Memory) (n i w : ℕ) → IsSome (finite.get m n) → AreWhole m → AreWhole (with_word m n i w)
 unfolding with_word
-whole_written m n i w used is = whole-insert m n _ (length-set _ i w ∙ is.whole n _ (words_in m n used)) is
+whole_written m n i w used is = whole-insert m n _ (length-set _ i w ∙ is n _ (words_in m n used)) is
 
 -- a write takes no frame in use
 used_before : (m : Memory) (n i w q : ℕ) → IsSome (finite.get m n) → IsSome (finite.get (with_word m n i w) q) → IsSome (finite.get m q)
@@ -49,7 +50,7 @@ ended_before top root m i j b q none le reached =
 
 -- ---- the entry for an address a in the table that is reached after k entries is written
 
-module _ (top : ℕ) (root : ℕ) (m : Memory) (tree : IsTree top m root) (whole : IsWhole m) (k a n : ℕ) (at : table_at top m root k a ≡ Some n) (w : ℕ) where
+module _ (top : ℕ) (root : ℕ) (m : Memory) (tree : IsTree top m root) (whole : AreWhole m) (k a n : ℕ) (at : table_at top m root k a ≡ Some n) (w : ℕ) where
   -- a way that doesn't go on past the entry stands
   stands_off : (j b q : ℕ) → (SameWay top (suc k) a b → k < j → ⊥) → table_at top m root j b ≡ Some q → table_at top (with_word m n (index_at (top - k) a) w) root j b ≡ Some q
   stands_off j b q off reached = ⊎_elim
@@ -77,7 +78,7 @@ module _ (top : ℕ) (root : ℕ) (m : Memory) (tree : IsTree top m root) (whole
 
 -- ---- a frame that wasn't in use is linked at an absent entry
 
-pub reached_link : (top root : ℕ) (m : Memory) (tree : IsTree top m root) (f : ℕ) (free : finite.get m f ≡ None) (whole : IsWhole (finite.insert m f zeros)) (k a n : ℕ) → table_at top (finite.insert m f zeros) root k a ≡ Some n → (w : ℕ) → table_in (found_at (top - k) (finite.insert m f zeros) n a) ≡ None → table_at top (with_word (finite.insert m f zeros) n (index_at (top - k) a) w) root (suc k) a ≡ Some f → IsReached top m root → IsReached top (with_word (finite.insert m f zeros) n (index_at (top - k) a) w) root
+pub reached_link : (top root : ℕ) (m : Memory) (tree : IsTree top m root) (f : ℕ) (free : finite.get m f ≡ None) (whole : AreWhole (finite.insert m f zeros)) (k a n : ℕ) → table_at top (finite.insert m f zeros) root k a ≡ Some n → (w : ℕ) → table_in (found_at (top - k) (finite.insert m f zeros) n a) ≡ None → table_at top (with_word (finite.insert m f zeros) n (index_at (top - k) a) w) root (suc k) a ≡ Some f → IsReached top m root → IsReached top (with_word (finite.insert m f zeros) n (index_at (top - k) a) w) root
 reached_link top root m tree f free whole k a n at w ended down is = record {
   way = λ q now. ⊎_elim
       (λ (same : q ≡ f). (suc k, a, down ∙ ap Some (sym same)))
@@ -91,7 +92,7 @@ reached_link top root m tree f free whole k a n at w ended down is = record {
 
 -- ---- the entry that leads to a table that leads to none is cleared, and the frame given back
 
-pub reached_unlink : (top root : ℕ) (m : Memory) (tree : IsTree top m root) (whole : IsWhole m) (k a n f : ℕ) (at : table_at top m root k a ≡ Some n) (down : table_at top m root (suc k) a ≡ Some f) (low : index_at (top - k) a < 512) → ((b : ℕ) → SameWay top (suc k) a b → table_at top m root (suc (suc k)) b ≡ None) → IsReached top m root → IsReached top (finite.remove (with_word m n (index_at (top - k) a) 0) f) root
+pub reached_unlink : (top root : ℕ) (m : Memory) (tree : IsTree top m root) (whole : AreWhole m) (k a n f : ℕ) (at : table_at top m root k a ≡ Some n) (down : table_at top m root (suc k) a ≡ Some f) (low : index_at (top - k) a < 512) → ((b : ℕ) → SameWay top (suc k) a b → table_at top m root (suc (suc k)) b ≡ None) → IsReached top m root → IsReached top (finite.remove (with_word m n (index_at (top - k) a) 0) f) root
 reached_unlink top root m tree whole k a n f at down low empty is = record {
   way = λ q now.
       let cut = with_word m n (index_at (top - k) a) 0 in

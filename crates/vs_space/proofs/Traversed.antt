@@ -26,7 +26,8 @@ use Rattle.vs_walk.proofs.WaysRise.{root_placed}
 use Rattle.vs_walk.proofs.WaysMet.{at_entry, offset_fits, some_levels}
 use Rattle.vs_walk.proofs.WaysLaws.{shared_reached}
 use Rattle.vs_walk.proofs.WaysSpaces.{translates_shared}
-use Rattle.vs_space.specs.Held.{word_at, IsWhole}
+use Rattle.vs_space.specs.Held.{word_at}
+use Rattle.vs_walk.specs.Ways.{AreWhole}
 use Rattle.vs_space.specs.Way.{found_at, table_in, table_at, SameWay}
 use Rattle.vs_space.specs.Tree.{IsTree, IsReached}
 use Rattle.vs_space.specs.Table.{IsPageTable}
@@ -123,7 +124,7 @@ way_into top (suc k) level times start rest deep is lt =
 
 -- ---- tables on their ways
 
-module _ (depth : Depth) (top : ℕ) (root : ℕ) (m : Memory) (whole : IsWhole m) where
+module _ (depth : Depth) (top : ℕ) (root : ℕ) (m : Memory) (whole : AreWhole m) where
   -- the table is reached after k entries, on the way of the address at which it begins
   record IsOnWay (k level : ℕ) (table : Table) : Type 0 where
     deep : k + level ≡ top
@@ -158,7 +159,7 @@ module _ (depth : Depth) (top : ℕ) (root : ℕ) (m : Memory) (whole : IsWhole 
     -- and what is met there is met in the table
     next_is_met : (number : ℕ) (own : Rights) (move : Move) → meaning (suc level) (get_or words index 0) ≡ entry.Table number own → Contains (table_moves depth m level (next_table level table index number own)) move → Contains (table_moves depth m (suc level) table) move
     next_is_met number own move says met =
-        word_is_met depth m level table words index move is (omega (arith, whole.whole table.number words is))
+        word_is_met depth m level table words index move is (omega (arith, whole table.number words is))
         (subst (λ means. Contains (entry_moves depth (suc level) table index (λ next. table_moves depth m level next) means) move) (sym says) met)
 
   -- ---- what is reached is on a way
@@ -184,7 +185,7 @@ module _ (depth : Depth) (top : ℕ) (root : ℕ) (m : Memory) (whole : IsWhole 
       → ((next : Table) → IsOnWay (suc k) level next → (n : ℕ) → Contains (table_moves depth m level next) (Reaches n) → IsUnder (suc k) next.start n)
       → (index n : ℕ) → index < length words → Contains (at_word_met depth m level table (index, get_or words index 0)) (Reaches n) → IsThrough k table.start index n
   through k level table on words is lower index n lt met =
-      let within : index < 512 = omega (arith, whole.whole table.number words is) in
+      let within : index < 512 = omega (arith, whole table.number words is) in
       let into = into_table depth level table index (λ next. table_moves depth m level next) (meaning (suc level) (get_or words index 0)) n met in
       let under = lower (next_table level table index into.0 into.1) (next_on_way k level table on words is index within into.0 into.1 into.2) n into.3 in
       record {
@@ -257,7 +258,7 @@ module _ (depth : Depth) (top : ℕ) (root : ℕ) (m : Memory) (whole : IsWhole 
                 words_once (at_word_met depth m level table) (IsThrough k table.start) words 0 (one_turn k table.start)
                     (λ index lt. subst (λ i. Once (reached (at_word_met depth m level table (i, get_or words index 0)))) (omega arith)
                     (entry_once depth level table index (λ next. table_moves depth m level next) (meaning (suc level) (get_or words index 0))
-                    (λ number own says. table_once (suc k) level _ (next_on_way k level table on words is index (omega (arith, whole.whole table.number words is)) number own says))))
+                    (λ number own says. table_once (suc k) level _ (next_on_way k level table on words is index (omega (arith, whole table.number words is)) number own says))))
                     (λ index n lt met. subst (λ i. IsThrough k table.start i n) (omega arith) (by_index index n lt (subst (λ i. Contains (at_word_met depth m level table (i, get_or words index 0)) (Reaches n)) (omega arith) met))),
               )
         ] refl
@@ -295,7 +296,7 @@ module _ (depth : Depth) (top : ℕ) (root : ℕ) (m : Memory) (whole : IsWhole 
 
 -- ---- from the root on
 
-module _ (depth : Depth) (memory : Memory) (root : ℕ) (whole : IsWhole memory) where
+module _ (depth : Depth) (memory : Memory) (root : ℕ) (whole : AreWhole memory) where
   -- each frame that is reached is in use
   pub in_use : IsTree (levels depth) memory root → (n : ℕ) → Contains (reached (moves depth memory root)) n → IsSome (finite.get memory n)
   in_use tree n is =
@@ -318,7 +319,7 @@ module _ (depth : Depth) (memory : Memory) (root : ℕ) (whole : IsWhole memory)
       let twice = shared_reached depth memory root shared.0 shared.1 in
       absurd (not_twice shared.0 twice.0 twice.1
       (subst Once twice.2 (table_once depth (levels depth) root memory whole tree 0 (levels depth) _ (root_on_way depth (levels depth) root memory whole))) twice.3))
-      (translates_shared depth memory root space whole.whole translates)
+      (translates_shared depth memory root space whole translates)
 
 -- a page table's traversal meets no fault, and reaches just the frames in use
 pub traversed : (depth : Depth) (memory : Memory) (root : ℕ) → IsPageTable depth memory root

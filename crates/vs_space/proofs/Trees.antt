@@ -11,7 +11,8 @@ use Rattle.vs_types.specs.declared.entry.Meaning.TheVariants as entry
 use Rattle.vs_walk.specs.Memory.{Memory}
 use Rattle.vs_walk.specs.Walk.{all_rights, walk, walk_from}
 use Rattle.vs_walk.specs.declared.walk.Walk.TheVariants.{NotMapped}
-use Rattle.vs_space.specs.Held.{with_word, IsWhole}
+use Rattle.vs_space.specs.Held.{with_word}
+use Rattle.vs_walk.specs.Ways.{AreWhole}
 use Rattle.vs_space.specs.Way.{found_at, table_in, table_at, SameWay}
 use Rattle.vs_space.specs.Tree.{IsTree, IsFilled, NothingUnder}
 use Rattle.vs_space.specs.Prune.{IsFilledBut}
@@ -44,7 +45,7 @@ module _ (top : ℕ) (root : ℕ) (m m' : Memory) (alike : (j b q : ℕ) → tab
 
 -- ---- an entry that leads to no table
 
-module _ (top : ℕ) (root : ℕ) (m : Memory) (tree : IsTree top m root) (whole : IsWhole m) (k a n : ℕ) (at : table_at top m root k a ≡ Some n) (w : ℕ) (low : index_at (top - k) a < 512) (ends : table_in (Some (meaning (top - k) w)) ≡ None) where
+module _ (top : ℕ) (root : ℕ) (m : Memory) (tree : IsTree top m root) (whole : AreWhole m) (k a n : ℕ) (at : table_at top m root k a ≡ Some n) (w : ℕ) (low : index_at (top - k) a < 512) (ends : table_in (Some (meaning (top - k) w)) ≡ None) where
   abbrev new : Memory
   new = with_word m n (index_at (top - k) a) w
 
@@ -115,7 +116,7 @@ but_alike depth m m' root base tables walks is = record {
   filled = λ j b q r off nothing. is.filled j b q (tables j b q r off) off (λ c canonical same. sym (walks c canonical) ∙ nothing c canonical same);
 }
 
-pub but_write : (depth : Depth) (root : ℕ) (m : Memory) (tree : IsTree (levels depth) m root) (whole : IsWhole m) (k a n : ℕ) (at : table_at (levels depth) m root k a ≡ Some n) (w : ℕ) → index_at (levels depth - k) a < 512 → table_in (Some (meaning (levels depth - k) w)) ≡ None → IsFilledBut depth m root a → IsFilledBut depth (with_word m n (index_at (levels depth - k) a) w) root a
+pub but_write : (depth : Depth) (root : ℕ) (m : Memory) (tree : IsTree (levels depth) m root) (whole : AreWhole m) (k a n : ℕ) (at : table_at (levels depth) m root k a ≡ Some n) (w : ℕ) → index_at (levels depth - k) a < 512 → table_in (Some (meaning (levels depth - k) w)) ≡ None → IsFilledBut depth m root a → IsFilledBut depth (with_word m n (index_at (levels depth - k) a) w) root a
 but_write depth root m tree whole k a n at w low ends is = record {
   filled = λ j b q r off nothing. is.filled j b q (fewer (levels depth) root m tree whole k a n at w low ends (suc j) b q r) off (λ c canonical same.
       sym (walk_off_way (levels depth) root m tree whole k a n at w c (λ on. ⊎_elim

@@ -22,7 +22,8 @@ use Rattle.vs_walk.specs.Memory.{Memory}
 use Rattle.vs_walk.specs.Walk.{walk, TranslatesAs}
 use Rattle.vs_walk.specs.declared.walk.Walk.TheVariants.{NotMapped, Reserved}
 use Rattle.vs_walk.proofs.Translates.{not_reserved}
-use Rattle.vs_space.specs.Held.{with_word, IsWhole}
+use Rattle.vs_space.specs.Held.{with_word}
+use Rattle.vs_walk.specs.Ways.{AreWhole}
 use Rattle.vs_space.specs.Way.{found_at, table_at, table_in, SameWay}
 use Rattle.vs_space.specs.Tree.{IsTree, NothingUnder}
 use Rattle.vs_space.specs.Prune.{IsCut, IsPruned}
@@ -44,7 +45,7 @@ unmap_removes depth limit space base q here same = unmap_cases (λ s. s ≡ reco
     (λ p e differs. let one : p ≡ q = cc in absurd (differs (ap (λ (z : Page). z.base) one ∙ same)))
 
 module _ (depth : Depth) (m : Memory) (root : ℕ) (table : IsPageTable depth m root) (base : ℕ) (canonical : IsCanonical depth base) (level : ℕ) (way : List ℕ) (phys : ℕ) (own : Rights) (place : IsPlace depth m root base 1 level way (entry.Leaf phys own))
-    (whole : IsWhole m) (bytes : ℕ) (are : bytes ≡ bytes_of (size_at level)) (begins : base % bytes ≡ 0) where
+    (whole : AreWhole m) (bytes : ℕ) (are : bytes ≡ bytes_of (size_at level)) (begins : base % bytes ≡ 0) where
   k : ℕ
   k = levels depth - level
 

@@ -8,7 +8,8 @@ use Rattle.vs_types.specs.Depth.{index_at}
 use Rattle.vs_types.specs.Entry.{meaning}
 use Rattle.vs_walk.specs.Memory.{Memory}
 use Rattle.vs_walk.specs.Walk.{all_rights, walk_from}
-use Rattle.vs_space.specs.Held.{word_at, with_word, IsWhole}
+use Rattle.vs_space.specs.Held.{word_at, with_word}
+use Rattle.vs_walk.specs.Ways.{AreWhole}
 use Rattle.vs_space.specs.Way.{found_at, table_at, SameWay}
 use Rattle.vs_space.specs.Tree.{IsTree}
 use Rattle.vs_space.proofs.Numbered.{get-insert_same, get-insert_other, len-insert_used}
@@ -50,11 +51,11 @@ unfolding with_word
 len_written m n i w used = len-insert_used m n _ _ (words_in m n used)
 
 -- the entry that was written is found
-pub found_here : (level : ℕ) (m : Memory) (n i w b : ℕ) → IsWhole m → IsSome (finite.get m n) → i < 512 → index_at level b ≡ i → found_at level (with_word m n i w) n b ≡ Some (meaning level w)
+pub found_here : (level : ℕ) (m : Memory) (n i w b : ℕ) → AreWhole m → IsSome (finite.get m n) → i < 512 → index_at level b ≡ i → found_at level (with_word m n i w) n b ≡ Some (meaning level w)
 found_here level m n i w b whole used low at =
     found_of level (with_word m n i w) n b _ (get_written m n i w)
     ∙ ap (λ j. Some (meaning level (slice_index (slice_set (unwrap_or (finite.get m n) []) i w) j))) at
-    ∙ ap (λ x. Some (meaning level x)) (get_or-set_same (unwrap_or (finite.get m n) []) i w 0 (omega (arith, whole.whole n _ (words_in m n used))))
+    ∙ ap (λ x. Some (meaning level x)) (get_or-set_same (unwrap_or (finite.get m n) []) i w 0 (omega (arith, whole n _ (words_in m n used))))
 
 -- and each other entry is found as before
 pub found_elsewhere : (level : ℕ) (m : Memory) (n i w q b : ℕ) → IsSome (finite.get m n) → (q ≡ n → index_at level b ≢ i) → found_at level (with_word m n i w) q b ≡ found_at level m q b
@@ -82,7 +83,7 @@ same_longer top k a b before here = λ i lt. ⊎_elim (λ (last : i ≡ k). subs
 
 -- ---- the entry for an address a in the table that is reached after k entries is written
 
-module _ (top : ℕ) (root : ℕ) (m : Memory) (tree : IsTree top m root) (whole : IsWhole m) (k a n : ℕ) (at : table_at top m root k a ≡ Some n) (w : ℕ) where
+module _ (top : ℕ) (root : ℕ) (m : Memory) (tree : IsTree top m root) (whole : AreWhole m) (k a n : ℕ) (at : table_at top m root k a ≡ Some n) (w : ℕ) where
   abbrev pub after_write : Memory
   after_write = with_word m n (index_at (top - k) a) w
 

@@ -1,5 +1,5 @@
 -- The frames of a store by their numbers, and how many it can have.
-use Rattle.std.specs.Prelude.{◌≡◌, ℕ, ◌+◌, List, [], map, length, Option, Some, option_map, unwrap_or, slice_index, slice_set, refl}
+use Rattle.std.specs.Prelude.{ℕ, ◌+◌, [], map, Option, option_map, unwrap_or, slice_index, slice_set, refl}
 use Rattle.std.specs.Coded.{Coded, code_by, coded×, coded_ℕ, coded_list}
 use Rattle.std.specs.FinMap as finite
 use Rattle.std.specs.Ordering.{nat_cmp}
@@ -17,10 +17,6 @@ pub record Held : Type 0 where
 
 abbrev pub held_code : Coded Held
 held_code = code_by (ℕ × Memory) (coded× coded_ℕ (finite.code {R = nat_cmp} coded_ℕ (coded_list coded_ℕ))) (λ h. (h.limit, h.memory)) (λ p. record { limit = p.0; memory = p.1 }) (λ _. refl)
-
--- each frame has 512 words
-pub record IsWhole (store : Store) : Type 0 where
-  pub whole : (index : ℕ) (words : List ℕ) → finite.get store index ≡ Some words → length words ≡ 512
 
 -- the word of a frame at an index, where the frame is in use
 unfoldable pub word_at : Memory → ℕ → ℕ → Option ℕ

@@ -6,7 +6,7 @@ use Rattle.vs_types.specs.declared.depth.Depth.{Depth}
 use Rattle.vs_types.specs.declared.entry.Meaning.TheVariants as entry
 use Rattle.vs_walk.specs.Memory.{Memory}
 use Rattle.vs_walk.specs.Walk.{walk}
-use Rattle.vs_space.specs.Held.{IsWhole}
+use Rattle.vs_walk.specs.Ways.{AreWhole}
 use Rattle.vs_space.specs.Way.{found_at, table_at, SameWay}
 use Rattle.vs_space.specs.Tree.{IsTree, IsFilled, IsReached, NothingUnder}
 
@@ -19,7 +19,7 @@ pub record IsCut (depth : Depth) (memory : Memory) (root base level : ℕ) (way 
   pub tree : IsTree (levels depth) memory root
   pub filled : IsFilledBut depth memory root base
   pub all_reached : IsReached (levels depth) memory root
-  pub whole : IsWhole memory
+  pub whole : AreWhole memory
   pub some : 1 ≤ level
   pub below : level ≤ levels depth
   pub reached : (j : ℕ) → level ≤ j → j ≤ levels depth → table_at (levels depth) memory root (levels depth - j) base ≡ Some (slice_index way j)
@@ -30,7 +30,7 @@ pub record IsPruned (depth : Depth) (old new : Memory) (root base from level : �
   pub tree : IsTree (levels depth) new root
   pub filled : IsFilled depth new root
   pub all_reached : IsReached (levels depth) new root
-  pub whole : IsWhole new
+  pub whole : AreWhole new
   pub walks : (b : ℕ) → IsCanonical depth b → walk depth new root b ≡ walk depth old root b
   pub above : from ≤ level
   pub below : level ≤ levels depth

@@ -9,7 +9,7 @@ use Rattle.vs_types.specs.declared.op.Action.{Action}
 use Rattle.vs_types.specs.declared.answer.Answer.{Answer}
 use Rattle.vs_walk.specs.Memory.{Memory}
 use Rattle.vs_walk.specs.Walk.{TranslatesAs}
-use Rattle.vs_space.specs.Held.{IsWhole}
+use Rattle.vs_walk.specs.Ways.{AreWhole}
 use Rattle.vs_space.specs.Tree.{IsTree, IsFilled, IsReached}
 
 -- the depth, how many tables there can be, the frame number of the root, and the frames of the tables
@@ -40,5 +40,5 @@ pub record IsPageTable (depth : Depth) (memory : Memory) (root : ℕ) : Type 0 w
   pub tree : IsTree (levels depth) memory root
   pub filled : IsFilled depth memory root
   pub reached : IsReached (levels depth) memory root
-  pub whole : IsWhole memory
+  pub whole : AreWhole memory
   pub some_space : (space : Space) × IsSpaceOf depth memory root space

@@ -6,7 +6,8 @@ ghost use Rattle.vs_walk.specs.Walk.{walk};
 ghost use Rattle.vs_walk.specs.declared.walk.Walk.{Walk};
 ghost use Rattle.vs_types.specs.declared.entry.Meaning.{Meaning};
 ghost use Rattle.vs_space.specs.Prune.{IsCut, IsPruned};
-ghost use Rattle.vs_space.specs.Held.{numbered, word_at, with_word, IsWhole};
+ghost use Rattle.vs_space.specs.Held.{numbered, word_at, with_word};
+ghost use Rattle.vs_walk.specs.Ways.{AreWhole};
 ghost use Rattle.vs_space.specs.Way.{found_at, table_at, entry_in, IsFirstPresent};
 ghost use Rattle.vs_space.specs.Tree.{IsTree, IsFilled};
 ghost use Rattle.vs_space.specs.Grow.{IsOpen, IsExtended, IsLeastBase};
@@ -24,7 +25,8 @@ pub(crate) struct Tables<S: FrameStore> {
 }
 
 impl<S: FrameStore> Model for Tables<S> {
-    ghost use Rattle.vs_space.specs.Held.{Held, held_code, numbered, IsWhole};
+    ghost use Rattle.vs_space.specs.Held.{Held, held_code, numbered};
+    ghost use Rattle.vs_walk.specs.Ways.{AreWhole};
 
     ghost Value = { Held };
 
@@ -32,7 +34,7 @@ impl<S: FrameStore> Model for Tables<S> {
 
     ghost view = { λ t. record { limit = S.size t.store; memory = numbered (S.base t.store) (S.frames t.store) } };
 
-    ghost invariant = { λ t. IsWhole (S.frames t.store) };
+    ghost invariant = { λ t. AreWhole (S.frames t.store) };
 }
 
 impl<S: FrameStore> Tables<S> {
@@ -81,7 +83,7 @@ impl<S: FrameStore> Tables<S> {
         requires in_use { IsSome (finite.get self.old.memory number) }
         requires in_frame { index < 512 }
         ensures written { self.new ≡ record self.old { memory = with_word self.old.memory number index word } }
-        ensures whole { IsWhole self.old.memory }
+        ensures whole { AreWhole self.old.memory }
     {
         let frame = frame_of(&self.store, number);
         self.store.set(frame, index, word);

@@ -10,7 +10,8 @@ use Rattle.vs_types.specs.declared.entry.Meaning.TheVariants as entry
 use Rattle.vs_types.specs.declared.op.Action.TheVariants.{Map}
 use Rattle.vs_types.specs.declared.answer.Answer.TheVariants as answers
 use Rattle.vs_walk.specs.Memory.{Memory}
-use Rattle.vs_space.specs.Held.{Held, IsWhole, with_word}
+use Rattle.vs_space.specs.Held.{Held, with_word}
+use Rattle.vs_walk.specs.Ways.{AreWhole}
 use Rattle.vs_space.specs.Place.{IsPlace}
 use Rattle.vs_space.specs.Way.{table_at}
 use Rattle.vs_space.specs.Grow.{IsExtended, IsLeastBase}
@@ -26,7 +27,7 @@ placed {depth} {memory} {root} {address} {asked} {lowest} {level} {way} {met} {f
 
 -- the page is mapped, where the level of its tables and how many are added have names of their own
 mapped : (depth : Depth) (memory : Memory) (root : ℕ) → IsPageTable depth memory root → (page : Page) → IsPage depth page → (level : ℕ) (way : List ℕ) → IsPlace depth memory root page.base (level_of page.size) level way entry.Absent
-    → (lowest : ℕ) → lowest ≡ level_of page.size → (m : Memory) (number : ℕ) → IsExtended depth memory m root page.base level lowest number → IsWhole m → (word index : ℕ) → meaning (level_of page.size) word ≡ entry.Leaf page.phys page.rights → index ≡ index_at lowest page.base → index < 512
+    → (lowest : ℕ) → lowest ≡ level_of page.size → (m : Memory) (number : ℕ) → IsExtended depth memory m root page.base level lowest number → AreWhole m → (word index : ℕ) → meaning (level_of page.size) word ≡ entry.Leaf page.phys page.rights → index ≡ index_at lowest page.base → index < 512
     → (limit added : ℕ) → added ≡ level - lowest → finite.len memory + added ≤ limit
     → IsPageTable depth (with_word m number index word) root × IsStep (page_table depth limit root memory) (Map page) answers.Done (page_table depth limit root (with_word m number index word))
 mapped depth memory root table page good level way place lowest lowest_is m number extended whole word index leads at low limit added added_is few =

@@ -1,5 +1,6 @@
 use Rattle.std.proofs.Common.{ap, subst, ◌∙◌}
-use Rattle.vs_space.specs.Held.{Held, IsWhole, numbered, with_word}
+use Rattle.vs_space.specs.Held.{Held, numbered, with_word}
+use Rattle.vs_walk.specs.Ways.{AreWhole}
 use Rattle.vs_space.proofs.Numbered.{held, stored, whole-set, whole_numbered, with_word_numbered}
 use Rattle.vs_space.proofs.tables.Tables.write.Goals as goal
 
@@ -13,4 +14,4 @@ returns-clause-written g c =
     ∙ ap (λ (h : Held). held h.limit (with_word h.memory c.args.number c.args.index c.args.word)) c.self.view_is
 
 pub returns-clause-whole : goal.returns-clause-whole
-returns-clause-whole g c = subst (λ (h : Held). IsWhole h.memory) c.self.view_is (whole_numbered _ _ c.self.invariant)
+returns-clause-whole g c = subst (λ (h : Held). AreWhole h.memory) c.self.view_is (whole_numbered _ _ c.self.invariant)
