@@ -269,6 +269,7 @@ module _ (depth : Depth) (m : Memory) (root : ℕ) (table : IsPageTable depth m 
         filled = filled_new;
         reached = reached_write (levels depth) root m' extended.open_at.tree whole (levels depth - level_of page.size) page.base number extended.open_at.reached w ended extended.open_at.all_reached;
         whole = whole_written m' number (index_at (levels depth - (levels depth - level_of page.size)) page.base) w (extended.open_at.tree.in_use (levels depth - level_of page.size) page.base number extended.open_at.reached) whole;
+        root_fits = table.root_fits;
         some_space = ((step depth limit table.some_space.0 (Map page)).space, space_is limit room table.some_space.0 table.some_space.1);
       })
 

@@ -1,5 +1,5 @@
 -- A page table with a root and nothing else.
-use Rattle.std.proofs.Common.{◌≡◌, ◌≢◌, ℕ, zero, suc, ◌+◌, ◌-◌, List, Some, None, ⊎_elim, refl, sym, ap, subst, ◌∙◌, arith}
+use Rattle.std.proofs.Common.{◌≡◌, ◌≢◌, ℕ, zero, suc, ◌+◌, ◌-◌, List, Some, None, ⊎_elim, refl, sym, ap, subst, ◌∙◌, arith, ◌^◌, ◌<◌}
 use Rattle.std.specs.Prelude.{IsSome}
 use Rattle.vs_walk.specs.Walk.{walk_from}
 use Rattle.vs_walk.specs.declared.walk.Walk.TheVariants.{NotMapped}
@@ -73,12 +73,13 @@ module _ (depth : Depth) (root : ℕ) where
       (walk_found alone (levels depth - 1) root all_rights a entry.Absent (found_in_zeros (suc (levels depth - 1)) alone root a clear))
       ∙ ap as_walk (sym (look_of_nothing a))
 
-  pub new_table : IsPageTable depth (finite.insert finite.empty root zeros) root
-  new_table = record {
+  pub new_table : root < 2 ^ 40 → IsPageTable depth (finite.insert finite.empty root zeros) root
+  new_table fits = record {
     tree = tree_alone;
     filled = record { filled = λ k a n r nothing. let zero_steps = (only_root (suc k) a n r).0 in absurd (omega arith) };
     reached = reached_alone;
     whole = whole-zeros finite.empty root (whole-empty finite.empty refl);
+    root_fits = fits;
     some_space = (
       no_pages,
       record {

@@ -182,5 +182,6 @@ module _ (depth : Depth) (m : Memory) (root : ℕ) (table : IsPageTable depth m 
     filled = filled_new;
     reached = reached_write (levels depth) root m table.tree whole k base n met.at w (ap table_in met.found) table.reached;
     whole = whole_written m n (index_at (levels depth - k) base) w (table.tree.in_use k base n met.at) whole;
+    root_fits = table.root_fits;
     some_space = ((step depth 0 table.some_space.0 (Protect base rights)).space, space_is 0 table.some_space.0 table.some_space.1);
   }

@@ -1,6 +1,6 @@
 -- The way through all tables of a tree: it reaches each frame in use once, and no other, and it meets no fault where the
 -- memory translates as a space.
-use Rattle.std.proofs.Common.{◌≡◌, ℕ, zero, suc, ◌+◌, ◌-◌, ◌*◌, ◌/◌, ◌^◌, ◌<◌, ◌≤◌, List, [], ◌∷◌, ◌++◌, Option, Some, None, length, get_or, flat_map, Contains, IsTrue, ⊎_elim, refl, sym, ap, subst, ◌∙◌, arith, mod-lt}
+use Rattle.std.proofs.Common.{◌≡◌, ℕ, zero, suc, ◌+◌, ◌-◌, ◌*◌, ◌/◌, ◌%◌, ◌^◌, ◌==◌, ◌<◌, ◌≤◌, List, [], ◌∷◌, ◌++◌, Option, Some, None, Bool, true, false, not, if◌then◌else◌, length, get_or, flat_map, Contains, IsTrue, ⊎_elim, refl, sym, ap, subst, ◌∙◌, arith, mod-lt}
 use Rattle.std.specs.Prelude.{⊤, IsSome, option_map, slice_index}
 use Rattle.std.specs.List.{enumerate_from}
 use Rattle.std.proofs.lemmas.Nat.{div-mul-add}
@@ -8,7 +8,8 @@ use Rattle.std.proofs.lemmas.List.Elements.{Contains-append_cases, Contains-appe
 use Rattle.std.specs.FinMap as finite
 use Rattle.vs_types.specs.Depth.{levels, entry_bytes, table_bytes, index_at}
 use Rattle.vs_types.specs.Page.{joined}
-use Rattle.vs_types.specs.Entry.{meaning}
+use Rattle.vs_types.specs.Entry.{meaning, has_reserved, is_leaf}
+use Rattle.std.specs.Int.{bit_at}
 use Rattle.vs_types.specs.Space.{Space}
 use Rattle.vs_types.specs.declared.depth.Depth.{Depth}
 use Rattle.vs_types.specs.declared.page.Rights.{Rights}
@@ -331,3 +332,26 @@ traversed depth memory root table = (
   in_use depth memory root table.whole table.tree,
   each depth memory root table.whole table.reached,
 )
+
+-- ---- frame numbers
+
+-- what a word leads to, where it leads to a table
+leads_to : (present reserved leaf : Bool) (phys number n : ℕ) (rights own : Rights) → (if not present then entry.Absent else if reserved then entry.Reserved else if leaf then entry.Leaf phys rights else entry.Table number rights) ≡ entry.Table n own → number ≡ n
+leads_to false reserved leaf phys number n rights own is = cc
+leads_to true true leaf phys number n rights own is = cc
+leads_to true false true phys number n rights own is = cc
+leads_to true false false phys number n rights own is = cc
+
+table_fits : (level word n : ℕ) (own : Rights) → meaning level word ≡ entry.Table n own → n < 2 ^ 40
+table_fits level word n own is =
+    let same : word % 2 ^ 52 / 2 ^ 12 ≡ n = leads_to (bit_at word 0 == 1) (has_reserved level word) (is_leaf level word) _ _ n _ own is in
+    omega (arith, same)
+
+-- a frame in use is the root, or an entry leads to it
+pub numbers_fit : (depth : Depth) (memory : Memory) (root : ℕ) → IsPageTable depth memory root → (n : ℕ) → IsSome (finite.get memory n) → n < 2 ^ 40
+numbers_fit depth memory root table n used = let way = table.reached.way n used in by_steps way.0 way.1 way.2 where
+  by_steps : (k a : ℕ) → table_at (levels depth) memory root k a ≡ Some n → n < 2 ^ 40
+  by_steps zero a at = subst (λ number. number < 2 ^ 40) (one_some root n (sym (table_first (levels depth) root memory a) ∙ at)) table.root_fits
+  by_steps (suc k) a at =
+      let before = table_before (levels depth) root memory k a n at in
+      table_fits (levels depth - k) _ n before.1 (words_found (levels depth - k) memory before.0 a (entry.Table n before.1) before.3).2

@@ -202,6 +202,7 @@ module _ (depth : Depth) (m : Memory) (root : ℕ) (table : IsPageTable depth m 
       filled = pruned.filled;
       reached = pruned.all_reached;
       whole = pruned.whole;
+      root_fits = table.root_fits;
       some_space = ((step depth 0 table.some_space.0 (Unmap base)).space, space_is m' up pruned_here aligned 0 table.some_space.0 table.some_space.1);
     }
 

@@ -1,5 +1,5 @@
 -- Page tables: what contracts see of one, which space it is, and what an operation does to it.
-use Rattle.std.specs.Prelude.{◌≡◌, ℕ}
+use Rattle.std.specs.Prelude.{◌≡◌, ℕ, ◌<◌, ◌^◌}
 use Rattle.std.specs.FinMap as finite
 use Rattle.vs_types.specs.Depth.{levels}
 use Rattle.vs_types.specs.Space.{Space, IsSpace, table_count}
@@ -41,4 +41,5 @@ pub record IsPageTable (depth : Depth) (memory : Memory) (root : ℕ) : Type 0 w
   pub filled : IsFilled depth memory root
   pub reached : IsReached (levels depth) memory root
   pub whole : AreWhole memory
+  pub root_fits : root < 2 ^ 40
   pub some_space : (space : Space) × IsSpaceOf depth memory root space

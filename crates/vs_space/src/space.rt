@@ -1,4 +1,4 @@
-ghost use Rattle.std.specs.Prelude.{◌≤◌, ◌≡◌, ℕ, Contains, IsTrue, None, IfOk, OnErr};
+ghost use Rattle.std.specs.Prelude.{◌<◌, ◌≤◌, ◌≡◌, ◌^◌, ℕ, Contains, IsTrue, None, IfOk, OnErr};
 ghost use Rattle.std.specs.FinMap as finite;
 ghost use Rattle.vs_types.specs.declared.op.Action.{Action};
 ghost use Rattle.vs_types.specs.Depth.{IsCanonical};
@@ -88,13 +88,14 @@ impl<S: FrameStore> Space<S> {
     }
 
     /// The frame number of the root. The way through all tables from there meets no fault, and reaches just the frames
-    /// in use.
+    /// in use. Frame numbers are below 2^40.
     pub fn root(&self) -> u64
         ensures reads { result ≡ self.now.root }
         ensures some_space { (space : spaces.Space) × IsTableOf self.now space }
         ensures faultless { walk_fault self.now.depth self.now.memory self.now.root ≡ None }
         ensures in_use { (number : ℕ) → Contains (reached (moves self.now.depth self.now.memory self.now.root)) number → IsTrue (finite.contains_key self.now.memory number) }
         ensures each { (number : ℕ) → IsTrue (finite.contains_key self.now.memory number) → Contains (reached (moves self.now.depth self.now.memory self.now.root)) number }
+        ensures in_range { (number : ℕ) → IsTrue (finite.contains_key self.now.memory number) → number < 2 ^ 40 }
     {
         self.root
     }

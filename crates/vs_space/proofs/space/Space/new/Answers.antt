@@ -16,7 +16,7 @@ returns-in_default-clause-no_root g c =
 pub invariant_of-result : goal.invariant_of-result
 invariant_of-result g c =
     let after = c.in-Some.ensures.taken ∙ ap (λ (h : Held). let r : Held = record { limit = h.limit; memory = finite.insert h.memory c.in-Some.root zeros } in r) c.new-tables.ensures in
-    subst (λ (h : Held). IsPageTable c.args.depth h.memory c.in-Some.root) (sym after) (new_table c.args.depth c.in-Some.root)
+    subst (λ (h : Held). IsPageTable c.args.depth h.memory c.in-Some.root) (sym after) (new_table c.args.depth c.in-Some.root c.in-Some.ensures.in_range)
 
 pub returns-clause-empty : goal.returns-clause-empty
 returns-clause-empty g c =

@@ -1,9 +1,9 @@
-use Rattle.std.proofs.Common.{◌≡◌, ℕ, None, Contains, IsTrue, subst}
+use Rattle.std.proofs.Common.{◌≡◌, ◌<◌, ◌^◌, ℕ, None, Contains, IsTrue, subst}
 use Rattle.std.specs.FinMap as finite
 use Rattle.vs_types.specs.Space as spaces
 use Rattle.vs_walk.specs.Traversal.{moves, reached, walk_fault}
 use Rattle.vs_space.specs.Table.{PageTable, IsTableOf}
-use Rattle.vs_space.proofs.Traversed.{traversed}
+use Rattle.vs_space.proofs.Traversed.{traversed, numbers_fit}
 use Rattle.vs_space.proofs.space.Space.root.Goals as goal
 
 pub returns-clause-some_space : goal.returns-clause-some_space
@@ -21,3 +21,7 @@ returns-clause-in_use g c = subst (λ (t : PageTable). (number : ℕ) → Contai
 pub returns-clause-each : goal.returns-clause-each
 returns-clause-each g c = subst (λ (t : PageTable). (number : ℕ) → IsTrue (finite.contains_key t.memory number) → Contains (reached (moves t.depth t.memory t.root)) number) c.self.view_is
     (traversed _ _ _ c.self.invariant).2
+
+pub returns-clause-in_range : goal.returns-clause-in_range
+returns-clause-in_range g c = subst (λ (t : PageTable). (number : ℕ) → IsTrue (finite.contains_key t.memory number) → number < 2 ^ 40) c.self.view_is
+    (numbers_fit _ _ _ c.self.invariant)
