@@ -2,9 +2,6 @@ use crate::fault::ProgFault;
 use crate::load::Load;
 use crate::measure::{Measured, measure};
 use crate::workload::Workload;
-use clap::error::ErrorKind;
-use clap::{Arg, ArgAction, Command};
-use std::alloc::Global;
 use std::env;
 use std::time::Duration;
 
@@ -19,37 +16,22 @@ pub fn run(rt: &HostRuntime) -> u8 {
     }
 }
 
-/// The words that it takes.
-fn command<'a>(alloc: Global) -> Result<Command<'a>, std::alloc::AllocError> {
-    let rounds = Arg::new(alloc, "rounds")
-        .long("rounds")
-        .value_name("N")
-        .help("How often each workload is run, 1 to 65535")
-        .default_value("1")
-        .action(ArgAction::Set)
-        .value_parser(clap::value_parser!(u16).range(1..));
-    Command::new(alloc, "space_benchmark")
-        .about("Times the page table on four workloads")
-        .arg(rounds)
+/// How often each workload is run: the program's one word, a number up to 65,535, or once where there is none.
+fn rounds(rt: &HostRuntime) -> Result<u16, ProgFault> {
+    let words: Vec<String> = env::args(rt)
+        .map_err(|_| ProgFault::Memory)?
+        .collect(rt.alloc())?;
+    match words.as_slice() {
+        [] | [_] => Ok(1),
+        [_, rounds] => rounds.parse::<u16>().map_err(|_| ProgFault::BadRounds),
+        _ => Err(ProgFault::BadRounds),
+    }
 }
 
 /// Runs each workload on a page table of its own, and prints its sum and its times.
 fn try_run(rt: &HostRuntime) -> Result<u8, ProgFault> {
     let alloc = rt.alloc();
-    let words: Vec<String> = env::args(rt)
-        .map_err(|_| ProgFault::Memory)?
-        .collect(alloc)?;
-    let matches = match command(alloc)?.try_get_matches_from(words.as_slice()) {
-        Ok(matches) => matches,
-        Err(error) if error.kind() == ErrorKind::OutOfMemory => return Err(ProgFault::Memory),
-        Err(error) => {
-            if error.print(rt).is_err() {
-                return Err(ProgFault::CannotWrite);
-            }
-            return Ok(error.exit_code() as u8);
-        }
-    };
-    let rounds = matches.get_one::<u16>("rounds").unwrap_or(1);
+    let rounds = rounds(rt)?;
     eprintln!(rt;
         "operations a second  {:>12} {:>12} {:>12} {:>12}",
         "map", "resolve", "protect", "unmap"

@@ -5,6 +5,9 @@ use vs_types::BadOp;
 /// Why the program ends early. The text goes to standard error.
 #[derive(Debug, Drop, Error)]
 pub enum ProgFault {
+    /// The program's words aren't one number of rounds.
+    #[error("usage: space_benchmark [ROUNDS], up to 65535")]
+    BadRounds,
     /// The output gave an error.
     #[error("cannot write")]
     CannotWrite,
@@ -24,7 +27,10 @@ impl ProgFault {
     pub fn status(&self) -> u8 {
         match self {
             ProgFault::Memory => 3,
-            ProgFault::CannotWrite | ProgFault::NoClock | ProgFault::BadPage => 2,
+            ProgFault::BadRounds
+            | ProgFault::CannotWrite
+            | ProgFault::NoClock
+            | ProgFault::BadPage => 2,
         }
     }
 }
