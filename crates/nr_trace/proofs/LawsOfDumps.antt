@@ -11,7 +11,8 @@ use Rattle.nr_trace.specs.Codes.{size_code, rights_code}
 use Rattle.nr_trace.specs.Spelling.{AnswerFields}
 use Rattle.nr_trace.specs.Calls.{Made, call_of, IsUpdate, IsRead, Answered, reply_of, reply_to}
 use Rattle.nr_trace.specs.Orders.{below, before, updates, space_after, recorded_order, known_by, IsLegalOrder, FitsOrder}
-use Rattle.nr_trace.specs.Faults.{StandsBehind, IsLeast, TranslatesOtherwise, RestsOnMore}
+use Rattle.nr_trace.specs.Faults.{StandsBehind, RestsOnMore}
+use Rattle.vs_walk.specs.Differences.{IsLeast, TranslatesOtherwise}
 use Rattle.nr_trace.specs.Laws.{HasCleanLog, IsFaultless}
 use Rattle.nr_trace.specs.declared.fault.Fault.TheVariants.{ThreadOpen, NoSuchCall, AnsweredTwice, NotAnUpdate, PlacedTwice, NotPlaced, PastLog, Early, WrongAnswer, PrefixPastLog, PrefixShort, Differs}
 use Rattle.nr_trace.proofs.LawsOfUnits.{size_from, size_back, rights_from, rights_back}
@@ -106,10 +107,10 @@ known_applied trace replica dump call made reply no_more is_made here is_reply =
   by_order (inl l) = absurd (no_more (record { index = event.0; reply = reply; is_reply = event.1; made = made; is_made = ap (call_of trace) event.2 ∙ is_made; here = here; more = l }))
   by_order (inr l) = l
 
-pub dump_translates : (trace : Recording) (dump : Image) → ((address : ℕ) → IsLeast (TranslatesOtherwise trace dump) address → ⊥) → TranslatesAs trace.layout.depth dump.frames dump.root (space_after trace (take dump.applied trace.log))
+pub dump_translates : (trace : Recording) (dump : Image) → ((address : ℕ) → IsLeast (TranslatesOtherwise trace.layout.depth dump.frames dump.root (space_after trace (take dump.applied trace.log))) address → ⊥) → TranslatesAs trace.layout.depth dump.frames dump.root (space_after trace (take dump.applied trace.log))
 dump_translates trace dump none_differs address canonical =
     same_walk (walk trace.layout.depth dump.frames dump.root address) (as_walk (look (space_after trace (take dump.applied trace.log)) address))
-    (λ apart. none_from_no_least (TranslatesOtherwise trace dump) none_differs address (canonical, apart))
+    (λ apart. none_from_no_least (TranslatesOtherwise trace.layout.depth dump.frames dump.root (space_after trace (take dump.applied trace.log))) none_differs address (canonical, apart))
 
 -- the places that a dump has applied
 abbrev Applied : Recording → Image → ℕ → Type 0

@@ -1,5 +1,5 @@
 -- Faults are told apart by where they stand, and one is first.
-use Rattle.std.proofs.Common.{◌≡◌, ℕ, ◌<◌, ◌⊎◌, inl, inr, Some, List, length, get_or, slice_get, Contains, refl, ap, ap₂, sym, ◌∙◌, subst, arith, ◌∷◌, []}
+use Rattle.std.proofs.Common.{◌≡◌, ℕ, ◌<◌, ◌⊎◌, inl, inr, Some, List, length, get_or, take, slice_get, Contains, refl, ap, ap₂, sym, ◌∙◌, subst, arith, ◌∷◌, []}
 use Rattle.std.specs.FinMap as finite
 use Rattle.std.specs.Ordering.{nat_cmp, ordering_reverse}
 use Rattle.std.proofs.lemmas.Cmp.{nat_list_cmp_total}
@@ -15,8 +15,9 @@ use Rattle.nr_trace.specs.Recording.{Recording}
 use Rattle.nr_trace.specs.Spelling.{Spells}
 use Rattle.nr_trace.specs.FirstFault.{HasFormatFault}
 use Rattle.nr_trace.specs.Calls.{Made, call_of, Answered}
-use Rattle.nr_trace.specs.Orders.{before, recorded_order}
-use Rattle.nr_trace.specs.Faults.{IsReplyWith, HasPlaced, HasDump, IsLeast, IsStray, TranslatesOtherwise, IsWrong, Holds, rank, Earlier, IsFirst, IsFirstOf}
+use Rattle.nr_trace.specs.Orders.{before, space_after, recorded_order}
+use Rattle.vs_walk.specs.Differences.{IsLeast, IsStray, TranslatesOtherwise}
+use Rattle.nr_trace.specs.Faults.{IsReplyWith, HasPlaced, HasDump, IsWrong, Holds, rank, Earlier, IsFirst, IsFirstOf}
 use Rattle.nr_trace.specs.Laws.{HasCleanLog, HasRank}
 use Rattle.nr_trace.specs.declared.fault.Format.{Format as FormatFault}
 use Rattle.nr_trace.specs.declared.fault.Fault.{Fault}
@@ -81,9 +82,9 @@ same_rank trace (ReservedBit i m x) (ReservedBit j n y) a b h k e =
     let place = ap second e in
     λ t. ReservedBit (place t) (both.0 t) (both.1 t)
 same_rank trace (StrayFrame i m) (StrayFrame j n) a b h k e =
-    ap₂ StrayFrame (ap second e) (of_one_dump trace i j _ _ (ap second e) h k (λ dump p q. one_least (IsStray trace dump) m n p q))
+    ap₂ StrayFrame (ap second e) (of_one_dump trace i j _ _ (ap second e) h k (λ dump p q. one_least (IsStray trace.layout.depth dump.frames dump.root) m n p q))
 same_rank trace (Differs i m) (Differs j n) a b h k e =
-    ap₂ Differs (ap second e) (of_one_dump trace i j _ _ (ap second e) h k (λ dump p q. one_least (TranslatesOtherwise trace dump) m n p q))
+    ap₂ Differs (ap second e) (of_one_dump trace i j _ _ (ap second e) h k (λ dump p q. one_least (TranslatesOtherwise trace.layout.depth dump.frames dump.root (space_after trace (take dump.applied trace.log))) m n p q))
 same_rank trace f g a b h k e =
     let number = ap third e in
     absurd (omega arith)

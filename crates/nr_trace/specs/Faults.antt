@@ -1,13 +1,10 @@
 -- The faults of a trace, as statements, and which comes first.
-use Rattle.std.specs.Prelude.{◌≡◌, ◌≢◌, ℕ, ◌<◌, ◌⊎◌, List, [], ◌∷◌, length, take, slice_get, Contains, Some, IsSome}
-use Rattle.std.specs.FinMap as finite
+use Rattle.std.specs.Prelude.{◌≡◌, ◌≢◌, ℕ, ◌<◌, ◌⊎◌, List, [], ◌∷◌, length, take, slice_get, Some}
 use Rattle.std.specs.Ordering.{nat_cmp}
 use Rattle.std.specs.Cmp.Lexicographic.{slice_cmp}
 use Rattle.std.specs.declared.cmp.Ordering.TheVariants.{Less}
-use Rattle.vs_types.specs.Depth.{IsCanonical}
-use Rattle.vs_types.specs.Step.{look}
-use Rattle.vs_walk.specs.Walk.{walk, as_walk}
-use Rattle.vs_walk.specs.Traversal.{moves, reached, walk_fault}
+use Rattle.vs_walk.specs.Traversal.{walk_fault}
+use Rattle.vs_walk.specs.Differences.{IsStray, TranslatesOtherwise, IsLeast}
 use Rattle.vs_walk.specs.Dump.{Image}
 use Rattle.vs_walk.specs.declared.walk.WalkFault.TheVariants as walks
 use Rattle.nr_trace.specs.Recording.{Recording}
@@ -65,20 +62,6 @@ pub record RestsOnMore (trace : Recording) (replica : ℕ) (dump : Image) : Type
 abbrev pub HasDump : Recording → ℕ → (Image → Type 0) → Type 0
 HasDump trace replica P = (dump : Image) × (slice_get trace.dumps replica ≡ Some dump) × P dump
 
--- the dump has the frame, and the way through its tables does not reach it
-abbrev pub IsStray : Recording → Image → ℕ → Type 0
-IsStray trace dump number = IsSome (finite.get dump.frames number) × (Contains (reached (moves trace.layout.depth dump.frames dump.root)) number → ⊥)
-
--- the dump translates the address not as the space after the first places of the log, as many as it has applied
-abbrev pub TranslatesOtherwise : Recording → Image → ℕ → Type 0
-TranslatesOtherwise trace dump address =
-    IsCanonical trace.layout.depth address
-    × (walk trace.layout.depth dump.frames dump.root address ≢ as_walk (look (space_after trace (take dump.applied trace.log)) address))
-
--- the least number with the property
-abbrev pub IsLeast : (ℕ → Type 0) → ℕ → Type 0
-IsLeast P n = P n × ((other : ℕ) → other < n → P other → ⊥)
-
 -- what each fault but that of the format says of a trace
 abbrev pub Holds : Recording → Fault → Type 0
 Holds trace (Format fault) = ⊥
@@ -96,13 +79,8 @@ Holds trace (PrefixShort replica) = HasDump trace replica (RestsOnMore trace rep
 Holds trace (MissingFrame replica number) = HasDump trace replica (λ dump. walk_fault trace.layout.depth dump.frames dump.root ≡ Some (walks.Missing number))
 Holds trace (SharedFrame replica number) = HasDump trace replica (λ dump. walk_fault trace.layout.depth dump.frames dump.root ≡ Some (walks.Shared number))
 Holds trace (ReservedBit replica number index) = HasDump trace replica (λ dump. walk_fault trace.layout.depth dump.frames dump.root ≡ Some (walks.Reserved number index))
-Holds trace (StrayFrame replica number) = HasDump trace replica (λ dump. IsLeast (IsStray trace dump) number)
-Holds trace (Differs replica address) = HasDump trace replica (λ dump. IsLeast (TranslatesOtherwise trace dump) address)
-
--- what each fault says of bytes
-abbrev pub HoldsOf : List ℕ → Fault → Type 0
-HoldsOf bytes (Format fault) = HasFormatFault bytes fault
-HoldsOf bytes fault = (trace : Recording) × Spells bytes trace × Holds trace fault
+Holds trace (StrayFrame replica number) = HasDump trace replica (λ dump. IsLeast (IsStray trace.layout.depth dump.frames dump.root) number)
+Holds trace (Differs replica address) = HasDump trace replica (λ dump. IsLeast (TranslatesOtherwise trace.layout.depth dump.frames dump.root (space_after trace (take dump.applied trace.log))) address)
 
 -- where a fault stands: its pass, then its index in that pass, then its number. Answers are compared in the recorded order
 abbrev pub rank : Recording → Fault → List ℕ

@@ -1,6 +1,7 @@
 pub mod Memory
 pub mod Walk
 pub mod Traversal
+pub mod Differences
 pub mod Dump
 pub mod Examples
 pub mod Ways
