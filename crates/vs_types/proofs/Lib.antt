@@ -1,3 +1,4 @@
+pub mod Afterwards
 pub mod Computing
 pub mod LeafWords
 pub mod Lists
