@@ -10,6 +10,8 @@ mod entry;
 pub mod examples;
 mod frame;
 mod laws;
+mod log_entry;
+mod log_laws;
 mod op;
 mod page;
 mod refusal;
@@ -26,10 +28,14 @@ pub use laws::{
     removed_takes_the_page_away, spaces_that_look_alike_are_equal, step_keeps_spaces,
     step_keeps_the_limit, well_formed_is_without_fault,
 };
+pub use log_entry::{CALLS, LogEntry, pack, unpack};
+pub use log_laws::{log_words_spell_one_entry, words_of_entries};
 pub use op::{Action, BadOp, Op};
 pub use page::{Page, Rights, Size};
 pub use refusal::{Fail, Memory};
 pub use request::{Query, Request};
 
+#[cfg(test)]
+mod log_tests;
 #[cfg(test)]
 mod tests;
