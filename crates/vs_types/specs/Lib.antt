@@ -4,6 +4,9 @@ pub mod Config
 pub mod Page
 pub mod Operation
 pub mod Query
+pub mod Codes
+pub mod Finds
+pub mod LogEntry
 pub mod Space
 pub mod Step
 pub mod Entry

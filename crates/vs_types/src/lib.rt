@@ -10,6 +10,8 @@ mod entry;
 pub mod examples;
 mod frame;
 pub mod laws;
+mod log_entry;
+pub mod log_laws;
 mod op;
 mod page;
 mod refusal;
@@ -20,10 +22,13 @@ pub use config::{BadConfig, Config};
 pub use depth::{Depth, index_at};
 pub use entry::{Entry, Meaning};
 pub use frame::FRAME_WORDS;
+pub use log_entry::{CALLS, LogEntry, pack, unpack};
 pub use op::{Action, BadOp, Op};
 pub use page::{Page, Rights, Size};
 pub use refusal::{Fail, Memory};
 pub use request::{Query, Request};
 
+#[cfg(test)]
+mod log_tests;
 #[cfg(test)]
 mod tests;
