@@ -90,5 +90,5 @@ module _ (depth : Depth) (root : ℕ) where
     );
   }
 
-  pub new_is_empty : (limit : ℕ) → IsTableOf (record { depth = depth; limit = limit; root = root; memory = finite.insert finite.empty root zeros }) no_pages
-  new_is_empty limit = record { is_space = no_pages_space depth; translates = translates_alone }
+  pub new_is_empty : (first limit : ℕ) → IsTableOf (record { depth = depth; base = first; limit = limit; root = root; memory = finite.insert finite.empty root zeros }) no_pages
+  new_is_empty first limit = record { is_space = no_pages_space depth; translates = translates_alone }

@@ -104,10 +104,20 @@ module _ (depth : Depth) (m : Memory) (root : ℕ) (table : IsPageTable depth m 
       (λ p e is. let one : p ≡ q = cc in ap (λ (z : Page). answers.Changed z.rights) one)
       (λ p e differs. let one : p ≡ q = cc in absurd (differs (ap (λ (z : Page). z.base) one ∙ same)))
 
+-- what contracts see of a page table, whose store begins with the frame of this number
+abbrev pub page_table : Depth → ℕ → ℕ → ℕ → Memory → PageTable
+page_table depth first limit root memory = record { depth = depth; base = first; limit = limit; root = root; memory = memory }
+
+-- the space that the table is of
+pub own_space : (depth : Depth) (first limit root : ℕ) (m : Memory) → IsPageTable depth m root → (space : Space) × IsTableOf (page_table depth first limit root m) space
+own_space depth first limit root m table = (table.some_space.0, record { is_space = table.some_space.1.is_space; translates = table.some_space.1.translates })
+
 -- a table that doesn't change makes a step whose space stays
-pub stays : (old : PageTable) (action : Action) (answer : Answer) → ((space : Space) → IsSpace old.depth space → TranslatesAs old.depth old.memory old.root space → step old.depth old.limit space action ≡ record { space = space; answer = answer }) → IsStep old action answer old
-stays old action answer says = record {
+pub stays : (old : PageTable) (action : Action) (answer : Answer) → (space : Space) × IsTableOf old space → ((space : Space) → IsSpace old.depth space → TranslatesAs old.depth old.memory old.root space → step old.depth old.limit space action ≡ record { space = space; answer = answer }) → IsStep old action answer old
+stays old action answer own says = record {
+  some_space = own;
   same = refl;
+  unchanged = λ refused. refl;
   steps = λ space is.
       let e = says space is.is_space is.translates in
       (sym (ap (λ (s : Stepped). s.answer) e), subst (IsTableOf old) (sym (ap (λ (s : Stepped). s.space) e)) is);

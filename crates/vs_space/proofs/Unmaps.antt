@@ -34,9 +34,9 @@ use Rattle.vs_space.proofs.Writes.{table_here, table_above, found_on_way, walk_o
 use Rattle.vs_space.proofs.Trees.{tree_write, but_none, but_write}
 use Rattle.vs_space.proofs.Reached.{reached_write, whole_written}
 use Rattle.vs_space.proofs.Regions.{IsLeafPage, nothing_at, translates_changed}
-use Rattle.vs_space.proofs.Protects.{space_of}
+use Rattle.vs_space.proofs.Protects.{page_table, own_space, space_of}
 use Rattle.vs_space.proofs.TableCounts.{count_added}
-use Rattle.vs_space.proofs.Meets.{page_table, page_met, level_met}
+use Rattle.vs_space.proofs.Meets.{page_met, level_met}
 
 -- the unmap of the page that begins there
 unmap_removes : (depth : Depth) (limit : ℕ) (space : Space) (base : ℕ) (q : Page) → page_at space base ≡ Some q → q.base ≡ base → step depth limit space (Unmap base) ≡ record { space = finite.remove space base; answer = answers.Removed q.phys q.size q.rights }
@@ -206,9 +206,11 @@ module _ (depth : Depth) (m : Memory) (root : ℕ) (table : IsPageTable depth m 
       some_space = ((step depth 0 table.some_space.0 (Unmap base)).space, space_is m' up pruned_here aligned 0 table.some_space.0 table.some_space.1);
     }
 
-    pub unmap_step : (limit : ℕ) → IsStep (page_table depth limit root m) (Unmap base) (answers.Removed phys (size_at level) own) (page_table depth limit root m')
-    unmap_step limit = record {
+    pub unmap_step : (first limit : ℕ) → IsStep (page_table depth first limit root m) (Unmap base) (answers.Removed phys (size_at level) own) (page_table depth first limit root m')
+    unmap_step first limit = record {
+      some_space = own_space depth first limit root m table;
       same = refl;
+      unchanged = λ refused. absurd (cc);
       steps = λ space is.
           let of = space_of depth m root space table is.is_space is.translates in
           let now = space_is m' up pruned_here aligned limit space of in

@@ -10,6 +10,7 @@ pub use Rattle.vs_types.specs.Page
 pub use Rattle.vs_types.specs.Operation
 pub use Rattle.vs_types.specs.Space
 pub use Rattle.vs_types.specs.Step
+pub use Rattle.vs_types.specs.Laws
 pub use Rattle.vs_walk.specs.Memory
 pub use Rattle.vs_walk.specs.Walk
 pub use Rattle.vs_arena.specs.Store
