@@ -4,7 +4,7 @@ use Rattle.std.specs.Prelude.{slice_index}
 use Rattle.std.proofs.lemmas.Bool.{cases_lt}
 use Rattle.std.specs.FinMap as finite
 use Rattle.vs_types.specs.Depth.{levels, entry_bytes, table_bytes, index_at, IsCanonical}
-use Rattle.vs_types.specs.Entry.{meaning, size_at}
+use Rattle.vs_types.specs.Entry.{meaning, size_at, leaf_word}
 use Rattle.vs_types.specs.Page.{level_of, bytes_of, covers, IsPage}
 use Rattle.vs_types.specs.Space.{Space, Holds, IsSpace, page_at, table_count, least_overlapped}
 use Rattle.vs_types.specs.Step.{step, Stepped}
@@ -42,6 +42,8 @@ use Rattle.vs_space.proofs.Regions.{leaf_page, nothing_at, translates_changed, c
 use Rattle.vs_space.proofs.Protects.{IsMet, page_table, own_space, space_of, never_reserved, page_here, page_level, stays}
 use Rattle.vs_space.proofs.Meets.{met_of, never_table}
 use Rattle.vs_space.proofs.Prunes.{absent_under}
+use Rattle.vs_space.specs.Written.{IsWritten}
+use Rattle.vs_space.proofs.Written.{written_leaf, leaf_at_level}
 use Rattle.vs_space.proofs.Overlaps.{overlapped_none, overlapped_least}
 use Rattle.vs_space.proofs.TableCounts.{count_added}
 
@@ -190,7 +192,7 @@ module _ (depth : Depth) (m : Memory) (root : ℕ) (table : IsPageTable depth m 
     is_open = record { tree = table.tree; filled = but_none page.base table.filled; all_reached = table.reached; below = place.below; reached = here.at; absent = place.is }
 
     -- the leaf is written in the last table
-    module _ (m' : Memory) (number : ℕ) (extended : IsExtended depth m m' root page.base level (level_of page.size) number) (whole : AreWhole m') (w index : ℕ) (leads : meaning (level_of page.size) w ≡ entry.Leaf page.phys page.rights) (is_index : index ≡ index_at (level_of page.size) page.base) (low : index < 512) where
+    module _ (m' : Memory) (number : ℕ) (extended : IsExtended depth m m' root page.base level (level_of page.size) number) (whole : AreWhole m') (w index : ℕ) (leads : meaning (level_of page.size) w ≡ entry.Leaf page.phys page.rights) (is_word : w ≡ leaf_word page.size page.phys page.rights) (is_index : index ≡ index_at (level_of page.size) page.base) (low : index < 512) where
       back : levels depth - (levels depth - level_of page.size) ≡ level_of page.size
       back = omega (arith, place.above, place.below)
 
@@ -202,6 +204,9 @@ module _ (depth : Depth) (m : Memory) (root : ℕ) (table : IsPageTable depth m 
 
       leads_here : meaning (levels depth - (levels depth - level_of page.size)) w ≡ entry.Leaf page.phys page.rights
       leads_here = ap (λ l. meaning l w) back ∙ leads
+
+      written_here : IsWritten (levels depth - (levels depth - level_of page.size)) w
+      written_here = subst (λ l. IsWritten l w) (sym back) (written_leaf (level_of page.size) w page.phys page.rights leads (leaf_at_level page.size w page.phys page.rights is_word))
 
       ends : table_in (Some (meaning (levels depth - (levels depth - level_of page.size)) w)) ≡ None
       ends = ap (λ e. table_in (Some e)) leads_here
@@ -267,7 +272,7 @@ module _ (depth : Depth) (m : Memory) (root : ℕ) (table : IsPageTable depth m 
       map_table limit room = subst (λ i. IsPageTable depth (with_word m' number i w) root) index_same (record {
         tree = tree_new;
         filled = filled_new;
-        reached = reached_write (levels depth) root m' extended.open_at.tree whole (levels depth - level_of page.size) page.base number extended.open_at.reached w ended extended.open_at.all_reached;
+        reached = reached_write (levels depth) root m' extended.open_at.tree whole (levels depth - level_of page.size) page.base number extended.open_at.reached w ended written_here extended.open_at.all_reached;
         whole = whole_written m' number (index_at (levels depth - (levels depth - level_of page.size)) page.base) w (extended.open_at.tree.in_use (levels depth - level_of page.size) page.base number extended.open_at.reached) whole;
         root_fits = table.root_fits;
         some_space = ((step depth limit table.some_space.0 (Map page)).space, space_is limit room table.some_space.0 table.some_space.1);

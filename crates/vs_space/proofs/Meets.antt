@@ -3,7 +3,7 @@ use Rattle.std.proofs.Common.{◌≡◌, ◌≢◌, ℕ, ◌-◌, ◌%◌, ◌^�
 use Rattle.std.specs.Prelude.{slice_index}
 use Rattle.std.proofs.lemmas.Bool.{cases_lt}
 use Rattle.vs_types.specs.Depth.{levels, entry_bytes, index_at, IsCanonical}
-use Rattle.vs_types.specs.Entry.{meaning, size_at}
+use Rattle.vs_types.specs.Entry.{meaning, size_at, leaf_word}
 use Rattle.vs_types.specs.Operation.{IsBase}
 use Rattle.vs_types.specs.Page.{level_of, bytes_of}
 use Rattle.vs_types.specs.Space.{Space, IsSpace}
@@ -111,7 +111,7 @@ module _ (depth : Depth) (m : Memory) (root : ℕ) (table : IsPageTable depth m 
         ∙ ap (λ b. let s : Stepped = record { space = space; answer = answers.Inside b } in s) (base_met space leaf.0 leaf.1 bytes are))
 
     -- the table after the leaf has other rights
-    module _ (whole : AreWhole m) (aligned : base % 4096 ≡ 0) (rights : Rights) (w index bytes : ℕ) (leads : meaning (level_of (size_at level)) w ≡ entry.Leaf phys rights) (at : index ≡ index_at level base) (low : index < 512) (are : bytes ≡ bytes_of (size_at level)) (begins : base % bytes ≡ 0) where
+    module _ (whole : AreWhole m) (aligned : base % 4096 ≡ 0) (rights : Rights) (w index bytes : ℕ) (leads : meaning (level_of (size_at level)) w ≡ entry.Leaf phys rights) (is_word : w ≡ leaf_word (size_at level) phys rights) (at : index ≡ index_at level base) (low : index < 512) (are : bytes ≡ bytes_of (size_at level)) (begins : base % bytes ≡ 0) where
       own_level : levels depth - (levels depth - level) ≡ level
       own_level = back place.below
 
@@ -120,6 +120,9 @@ module _ (depth : Depth) (m : Memory) (root : ℕ) (table : IsPageTable depth m 
 
       leads_here : meaning (levels depth - (levels depth - level)) w ≡ entry.Leaf phys rights
       leads_here = ap (λ l. meaning l w) (own_level ∙ sym leaf_again.0) ∙ leads
+
+      word_here : w ≡ leaf_word (size_at (levels depth - (levels depth - level))) phys rights
+      word_here = is_word ∙ ap (λ l. leaf_word (size_at l) phys rights) (sym own_level)
 
       low_here : index_at (levels depth - (levels depth - level)) base < 512
       low_here = subst (λ i. i < 512) (sym index_same) low
@@ -132,7 +135,7 @@ module _ (depth : Depth) (m : Memory) (root : ℕ) (table : IsPageTable depth m 
 
       pub protect_table : IsPageTable depth (with_word m (slice_index way level) index w) root
       protect_table = subst (λ i. IsPageTable depth (with_word m (slice_index way level) i w) root) index_same
-          (table_new depth m root table whole base good _ _ phys own rights met w leads_here low_here begins_here)
+          (table_new depth m root table whole base good _ _ phys own rights met w leads_here word_here low_here begins_here)
 
       pub protect_step : (first limit : ℕ) → IsStep (page_table depth first limit root m) (Protect base rights) (answers.Changed own) (page_table depth first limit root (with_word m (slice_index way level) index w))
       protect_step first limit = record {
@@ -142,6 +145,6 @@ module _ (depth : Depth) (m : Memory) (root : ℕ) (table : IsPageTable depth m 
         steps = λ space is.
             let of = space_of depth m root space table is.is_space is.translates in
             let after = subst (λ i. IsSpaceOf depth (with_word m (slice_index way level) i w) root (step depth limit space (Protect base rights)).space) index_same
-            (space_is depth m root table whole base good _ _ phys own rights met w leads_here low_here begins_here limit space of) in
-            (sym (answer_is depth m root table whole base good _ _ phys own rights met w leads_here low_here begins_here limit space of), record { is_space = after.is_space; translates = after.translates });
+            (space_is depth m root table whole base good _ _ phys own rights met w leads_here word_here low_here begins_here limit space of) in
+            (sym (answer_is depth m root table whole base good _ _ phys own rights met w leads_here word_here low_here begins_here limit space of), record { is_space = after.is_space; translates = after.translates });
       }

@@ -1,7 +1,7 @@
 -- What a page table is after the rights of a page have changed.
 use Rattle.std.proofs.Common.{◌≡◌, ◌≢◌, ℕ, suc, ◌+◌, ◌-◌, ◌%◌, ◌<◌, Some, None, refl, sym, ap, subst, ◌∙◌, arith}
 use Rattle.vs_types.specs.Depth.{levels, entry_bytes, index_at, IsCanonical}
-use Rattle.vs_types.specs.Entry.{meaning, size_at}
+use Rattle.vs_types.specs.Entry.{meaning, size_at, leaf_word}
 use Rattle.vs_types.specs.Operation.{IsBase}
 use Rattle.vs_types.specs.Page.{level_of, bytes_of}
 use Rattle.vs_types.specs.Space.{Space, IsSpace, page_at, table_count}
@@ -33,6 +33,7 @@ use Rattle.vs_space.proofs.Ways.{walk_ends}
 use Rattle.vs_space.proofs.Writes.{table_here, found_on_way, walk_off_way, len_written}
 use Rattle.vs_space.proofs.Trees.{tree_write, but_none, but_write, filled_by}
 use Rattle.vs_space.proofs.Reached.{reached_write, whole_written}
+use Rattle.vs_space.proofs.Written.{written_leaf}
 use Rattle.vs_space.proofs.Regions.{IsLeafPage, leaf_page, nothing_at, translates_changed, way_covers}
 
 -- a page table is that of just one space, which has as many tables as there are
@@ -125,7 +126,7 @@ stays old action answer own says = record {
 
 -- ---- the rights of a leaf change
 
-module _ (depth : Depth) (m : Memory) (root : ℕ) (table : IsPageTable depth m root) (whole : AreWhole m) (base : ℕ) (good : IsBase depth base) (k n phys : ℕ) (own rights : Rights) (met : IsMet depth m root base k n (entry.Leaf phys own)) (w : ℕ) (leads : meaning (levels depth - k) w ≡ entry.Leaf phys rights) (low : index_at (levels depth - k) base < 512) (aligned : base % entry_bytes (levels depth - k) ≡ 0) where
+module _ (depth : Depth) (m : Memory) (root : ℕ) (table : IsPageTable depth m root) (whole : AreWhole m) (base : ℕ) (good : IsBase depth base) (k n phys : ℕ) (own rights : Rights) (met : IsMet depth m root base k n (entry.Leaf phys own)) (w : ℕ) (leads : meaning (levels depth - k) w ≡ entry.Leaf phys rights) (is_word : w ≡ leaf_word (size_at (levels depth - k)) phys rights) (low : index_at (levels depth - k) base < 512) (aligned : base % entry_bytes (levels depth - k) ≡ 0) where
   abbrev new : Memory
   new = with_word m n (index_at (levels depth - k) base) w
 
@@ -190,7 +191,7 @@ module _ (depth : Depth) (m : Memory) (root : ℕ) (table : IsPageTable depth m 
   table_new = record {
     tree = tree_new;
     filled = filled_new;
-    reached = reached_write (levels depth) root m table.tree whole k base n met.at w (ap table_in met.found) table.reached;
+    reached = reached_write (levels depth) root m table.tree whole k base n met.at w (ap table_in met.found) (written_leaf (levels depth - k) w phys rights leads is_word) table.reached;
     whole = whole_written m n (index_at (levels depth - k) base) w (table.tree.in_use k base n met.at) whole;
     root_fits = table.root_fits;
     some_space = ((step depth 0 table.some_space.0 (Protect base rights)).space, space_is 0 table.some_space.0 table.some_space.1);

@@ -33,6 +33,7 @@ use Rattle.vs_space.proofs.Ways.{walk_ends}
 use Rattle.vs_space.proofs.Writes.{table_here, table_above, found_on_way, walk_off_way, len_written, same_or_not}
 use Rattle.vs_space.proofs.Trees.{tree_write, but_none, but_write}
 use Rattle.vs_space.proofs.Reached.{reached_write, whole_written}
+use Rattle.vs_space.proofs.Written.{written_zero}
 use Rattle.vs_space.proofs.Regions.{IsLeafPage, nothing_at, translates_changed}
 use Rattle.vs_space.proofs.Protects.{page_table, own_space, space_of}
 use Rattle.vs_space.proofs.TableCounts.{count_added}
@@ -100,7 +101,7 @@ module _ (depth : Depth) (m : Memory) (root : ℕ) (table : IsPageTable depth m 
   is_cut = record {
     tree = tree_cut;
     filled = but_write depth root m table.tree whole (levels depth - level) base (slice_index way level) at 0 low ends (but_none base table.filled);
-    all_reached = reached_write (levels depth) root m table.tree whole (levels depth - level) base (slice_index way level) at 0 (ap table_in found) table.reached;
+    all_reached = reached_write (levels depth) root m table.tree whole (levels depth - level) base (slice_index way level) at 0 (ap table_in found) (written_zero (levels depth - (levels depth - level))) table.reached;
     whole = whole_written m (slice_index way level) (index_at (levels depth - (levels depth - level)) base) 0 (table.tree.in_use (levels depth - level) base (slice_index way level) at) whole;
     some = place.above;
     below = place.below;

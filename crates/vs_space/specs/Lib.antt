@@ -1,5 +1,6 @@
 pub mod Held
 pub mod Way
+pub mod Written
 pub mod Tree
 pub mod Prune
 pub mod Grow

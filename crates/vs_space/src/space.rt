@@ -9,6 +9,7 @@ ghost use Rattle.vs_types.specs.Space.{no_pages, table_count};
 ghost use Rattle.vs_types.specs.Step.{look};
 ghost use Rattle.vs_walk.specs.Traversal.{moves, reached, walk_fault};
 ghost use Rattle.vs_space.specs.Table.{PageTable, IsTableOf, IsStep};
+ghost use Rattle.vs_space.specs.Written.{IsWrittenTable};
 
 use crate::tables::Tables;
 use std::marker::Model;
@@ -90,13 +91,15 @@ impl<S: FrameStore> Space<S> {
     }
 
     /// The frame number of the root. The way through all tables from there meets no fault, and reaches just the frames
-    /// in use. Frame numbers are those of the store: from its base up to below its base plus its capacity, and below 2^40.
+    /// in use, each word of which is 0, or the word that `Entry` writes for a table or for a page of its level. Frame
+    /// numbers are those of the store: from its base up to below its base plus its capacity, and below 2^40.
     pub fn root(&self) -> u64
         ensures reads { result ≡ self.now.root }
         ensures some_space { (space : spaces.Space) × IsTableOf self.now space }
         ensures faultless { walk_fault self.now.depth self.now.memory self.now.root ≡ None }
         ensures in_use { (number : ℕ) → Contains (reached (moves self.now.depth self.now.memory self.now.root)) number → IsTrue (finite.contains_key self.now.memory number) }
         ensures each { (number : ℕ) → IsTrue (finite.contains_key self.now.memory number) → Contains (reached (moves self.now.depth self.now.memory self.now.root)) number }
+        ensures written { (number : ℕ) → IsTrue (finite.contains_key self.now.memory number) → IsWrittenTable self.now.depth self.now.memory self.now.root number }
         ensures from_base { (number : ℕ) → IsTrue (finite.contains_key self.now.memory number) → self.now.base ≤ number }
         ensures below_limit { (number : ℕ) → IsTrue (finite.contains_key self.now.memory number) → number < self.now.base + self.now.limit }
         ensures in_range { (number : ℕ) → IsTrue (finite.contains_key self.now.memory number) → number < 2 ^ 40 }

@@ -1,7 +1,7 @@
 use Rattle.std.proofs.Common.{◌≡◌, ℕ, ◌+◌, ◌-◌, ◌%◌, ◌<◌, ◌≤◌, List, Some, sym, ap, subst, ◌∙◌, arith}
 use Rattle.std.specs.FinMap as finite
 use Rattle.vs_types.specs.Depth.{levels, index_at}
-use Rattle.vs_types.specs.Entry.{meaning}
+use Rattle.vs_types.specs.Entry.{meaning, leaf_word}
 use Rattle.vs_types.specs.Page.{bytes_of, level_of, IsPage}
 use Rattle.vs_types.specs.declared.depth.Depth.{Depth}
 use Rattle.vs_types.specs.declared.page.Page.{Page}
@@ -27,16 +27,16 @@ placed {depth} {memory} {root} {address} {asked} {lowest} {level} {way} {met} {f
 
 -- the page is mapped, where the level of its tables and how many are added have names of their own
 mapped : (depth : Depth) (memory : Memory) (root : ℕ) → IsPageTable depth memory root → (page : Page) → IsPage depth page → (level : ℕ) (way : List ℕ) → IsPlace depth memory root page.base (level_of page.size) level way entry.Absent
-    → (lowest : ℕ) → lowest ≡ level_of page.size → (m : Memory) (number : ℕ) → IsExtended depth memory m root page.base level lowest number → AreWhole m → (word index : ℕ) → meaning (level_of page.size) word ≡ entry.Leaf page.phys page.rights → index ≡ index_at lowest page.base → index < 512
+    → (lowest : ℕ) → lowest ≡ level_of page.size → (m : Memory) (number : ℕ) → IsExtended depth memory m root page.base level lowest number → AreWhole m → (word index : ℕ) → meaning (level_of page.size) word ≡ entry.Leaf page.phys page.rights → word ≡ leaf_word page.size page.phys page.rights → index ≡ index_at lowest page.base → index < 512
     → (first limit added : ℕ) → added ≡ level - lowest → finite.len memory + added ≤ limit
     → IsPageTable depth (with_word m number index word) root × IsStep (page_table depth first limit root memory) (Map page) answers.Done (page_table depth first limit root (with_word m number index word))
-mapped depth memory root table page good level way place lowest lowest_is m number extended whole word index leads at low first limit added added_is few =
+mapped depth memory root table page good level way place lowest lowest_is m number extended whole word index leads is_word at low first limit added added_is few =
     let grown = subst (λ l. IsExtended depth memory m root page.base level l number) lowest_is extended in
     let here = subst (λ l. index ≡ index_at l page.base) lowest_is at in
     let below : level - lowest ≡ level - level_of page.size = ap (λ l. level - l) lowest_is in
     let room : finite.len memory + (level - level_of page.size) ≤ limit = omega (arith, below, added_is, few) in (
-      map_table depth memory root table page good level way place m number grown whole word index leads here low limit room,
-      map_step depth memory root table page good level way place m number grown whole word index leads here low first limit room,
+      map_table depth memory root table page good level way place m number grown whole word index leads is_word here low limit room,
+      map_step depth memory root table page good level way place m number grown whole word index leads is_word here low first limit room,
     )
 
 pub least_base-base-requires-clause-some_level : goal.least_base-base-requires-clause-some_level
@@ -101,7 +101,7 @@ invariant_of-self g c =
     let place = placed c.level-lowest.ensures c.in-Absent.is c.descend-place.ensures in (
       subst (λ (h : Held). IsPageTable inside.depth h.memory inside.root) (sym c.write.ensures.written)
           (mapped inside.depth inside.tables.memory inside.root c.self.invariant.0 c.args.page good c.descend-place.result.level c.descend-place.result.way place c.level-lowest.result c.level-lowest.ensures c.extend-number.new.self.memory c.extend-number.result c.extend-number.ensures.extended c.write.ensures.whole
-          c.word.result c.index_at.result (ap (meaning (level_of c.args.page.size)) c.word.ensures ∙ c.leaf-leaf.ensures.read_back) c.index_at.ensures.is c.index_at.ensures.low inside.tables.base inside.tables.limit c.from.result c.from.ensures
+          c.word.result c.index_at.result (ap (meaning (level_of c.args.page.size)) c.word.ensures ∙ c.leaf-leaf.ensures.read_back) (c.word.ensures ∙ c.leaf-leaf.ensures.written) c.index_at.ensures.is c.index_at.ensures.low inside.tables.base inside.tables.limit c.from.result c.from.ensures
           (omega (arith, c.used.ensures.counts, c.if-need-limit.false, c.limit-limit.ensures.reads))).0,
       c.write.ensures.numbers,
     )
@@ -115,5 +115,5 @@ returns g c =
     subst (λ (t : PageTable). IsStep t (Map c.args.page) answers.Done (page_table inside.depth c.write.new.self.base c.write.new.self.limit inside.root c.write.new.self.memory)) c.self.view_is
     (subst (λ (h : Held). IsStep (page_table inside.depth inside.tables.base inside.tables.limit inside.root inside.tables.memory) (Map c.args.page) answers.Done (page_table inside.depth h.base h.limit inside.root h.memory)) (sym whole)
     (mapped inside.depth inside.tables.memory inside.root c.self.invariant.0 c.args.page good c.descend-place.result.level c.descend-place.result.way place c.level-lowest.result c.level-lowest.ensures c.extend-number.new.self.memory c.extend-number.result c.extend-number.ensures.extended c.write.ensures.whole
-    c.word.result c.index_at.result (ap (meaning (level_of c.args.page.size)) c.word.ensures ∙ c.leaf-leaf.ensures.read_back) c.index_at.ensures.is c.index_at.ensures.low inside.tables.base inside.tables.limit c.from.result c.from.ensures
+    c.word.result c.index_at.result (ap (meaning (level_of c.args.page.size)) c.word.ensures ∙ c.leaf-leaf.ensures.read_back) (c.word.ensures ∙ c.leaf-leaf.ensures.written) c.index_at.ensures.is c.index_at.ensures.low inside.tables.base inside.tables.limit c.from.result c.from.ensures
     (omega (arith, c.used.ensures.counts, c.if-need-limit.false, c.limit-limit.ensures.reads))).1)

@@ -1,6 +1,6 @@
 use Rattle.std.proofs.Common.{◌≡◌, ◌-◌, ◌%◌, sym, ap, subst, ◌∙◌}
 use Rattle.vs_types.specs.Depth.{IsCanonical}
-use Rattle.vs_types.specs.Entry.{meaning}
+use Rattle.vs_types.specs.Entry.{meaning, leaf_word}
 use Rattle.vs_types.specs.Page.{bytes_of, level_of}
 use Rattle.vs_types.specs.declared.entry.Meaning.{Meaning}
 use Rattle.vs_types.specs.declared.entry.Meaning.TheVariants as entry
@@ -53,7 +53,7 @@ invariant_of-self g c =
     let place = subst (λ (e : Meaning). IsPlace inside.depth inside.tables.memory inside.root c.args.base 1 c.descend-place.result.level c.descend-place.result.way e) c.in-Leaf.is c.descend-place.ensures in
     let leads = subst (λ (z : Size). meaning (level_of z) c.leaf-leaf.result ≡ entry.Leaf c.in-Leaf.phys c.args.rights) c.at_level-size.ensures c.leaf-leaf.ensures.read_back in (
       subst (λ (h : Held). IsPageTable inside.depth h.memory inside.root) (sym c.write.ensures.written)
-          (protect_table inside.depth inside.tables.memory inside.root c.self.invariant.0 c.args.base canonical c.descend-place.result.level c.descend-place.result.way c.in-Leaf.phys c.in-Leaf.old place c.write.ensures.whole c.requires.aligned c.args.rights c.word.result c.index_at.result c.bytes.result (rw c.word.ensures leads) c.index_at.ensures.is c.index_at.ensures.low (c.bytes.ensures ∙ ap bytes_of c.at_level-size.ensures) c.if-offset-ne0.false),
+          (protect_table inside.depth inside.tables.memory inside.root c.self.invariant.0 c.args.base canonical c.descend-place.result.level c.descend-place.result.way c.in-Leaf.phys c.in-Leaf.old place c.write.ensures.whole c.requires.aligned c.args.rights c.word.result c.index_at.result c.bytes.result (rw c.word.ensures leads) (c.word.ensures ∙ c.leaf-leaf.ensures.written ∙ ap (λ z. leaf_word z c.in-Leaf.phys c.args.rights) c.at_level-size.ensures) c.index_at.ensures.is c.index_at.ensures.low (c.bytes.ensures ∙ ap bytes_of c.at_level-size.ensures) c.if-offset-ne0.false),
       c.write.ensures.numbers,
     )
 
@@ -65,4 +65,4 @@ returns g c =
     let leads = subst (λ (z : Size). meaning (level_of z) c.leaf-leaf.result ≡ entry.Leaf c.in-Leaf.phys c.args.rights) c.at_level-size.ensures c.leaf-leaf.ensures.read_back in
     subst (λ (t : PageTable). IsStep t (Protect c.args.base c.args.rights) (answers.Changed c.in-Leaf.old) (page_table inside.depth c.write.new.self.base c.write.new.self.limit inside.root c.write.new.self.memory)) c.self.view_is
     (subst (λ (h : Held). IsStep (page_table inside.depth inside.tables.base inside.tables.limit inside.root inside.tables.memory) (Protect c.args.base c.args.rights) (answers.Changed c.in-Leaf.old) (page_table inside.depth h.base h.limit inside.root h.memory)) (sym c.write.ensures.written)
-    (protect_step inside.depth inside.tables.memory inside.root c.self.invariant.0 c.args.base canonical c.descend-place.result.level c.descend-place.result.way c.in-Leaf.phys c.in-Leaf.old place c.write.ensures.whole c.requires.aligned c.args.rights c.word.result c.index_at.result c.bytes.result (rw c.word.ensures leads) c.index_at.ensures.is c.index_at.ensures.low (c.bytes.ensures ∙ ap bytes_of c.at_level-size.ensures) c.if-offset-ne0.false inside.tables.base inside.tables.limit))
+    (protect_step inside.depth inside.tables.memory inside.root c.self.invariant.0 c.args.base canonical c.descend-place.result.level c.descend-place.result.way c.in-Leaf.phys c.in-Leaf.old place c.write.ensures.whole c.requires.aligned c.args.rights c.word.result c.index_at.result c.bytes.result (rw c.word.ensures leads) (c.word.ensures ∙ c.leaf-leaf.ensures.written ∙ ap (λ z. leaf_word z c.in-Leaf.phys c.args.rights) c.at_level-size.ensures) c.index_at.ensures.is c.index_at.ensures.low (c.bytes.ensures ∙ ap bytes_of c.at_level-size.ensures) c.if-offset-ne0.false inside.tables.base inside.tables.limit))

@@ -3,6 +3,7 @@ use Rattle.std.specs.FinMap as finite
 use Rattle.vs_types.specs.Space as spaces
 use Rattle.vs_walk.specs.Traversal.{moves, reached, walk_fault}
 use Rattle.vs_space.specs.Table.{PageTable, IsTableOf}
+use Rattle.vs_space.specs.Written.{IsWrittenTable}
 use Rattle.vs_space.proofs.Traversed.{traversed, numbers_fit}
 use Rattle.vs_space.proofs.space.Space.root.Goals as goal
 
@@ -33,3 +34,7 @@ returns-clause-from_base g c = subst (λ (t : PageTable). (number : ℕ) → IsT
 pub returns-clause-below_limit : goal.returns-clause-below_limit
 returns-clause-below_limit g c = subst (λ (t : PageTable). (number : ℕ) → IsTrue (finite.contains_key t.memory number) → number < t.base + t.limit) c.self.view_is
     c.self.invariant.1.below
+
+pub returns-clause-written : goal.returns-clause-written
+returns-clause-written g c = subst (λ (t : PageTable). (number : ℕ) → IsTrue (finite.contains_key t.memory number) → IsWrittenTable t.depth t.memory t.root number) c.self.view_is
+    (λ number used. let table = c.self.invariant.0.reached.way number used in record { steps = table.0; address = table.1; reached = table.2; written = table.3 })
