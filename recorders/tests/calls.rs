@@ -51,7 +51,11 @@ fn size(code: u64) -> Result<Size, Refusal> {
 
 fn rights(code: u64) -> Result<Rights, Refusal> {
     let rights = Rights { write: code & 1 != 0, user: code & 2 != 0, exec: code & 4 != 0 };
-    if code < 8 { Ok(rights) } else { Err(Refusal::BadEvent) }
+    if code < 8 {
+        Ok(rights)
+    } else {
+        Err(Refusal::BadEvent)
+    }
 }
 
 fn request(n: &[u64]) -> Result<Request, Refusal> {
