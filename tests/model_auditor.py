@@ -6,7 +6,7 @@ disagree on a trace, one of them is wrong. It also reads version 2 of the format
 trace takes it some seconds.
 
     model_auditor.py audit <TRACE                  what `nrvs audit` prints, with its status
-    model_auditor.py resolve ADDRESS [REPLICA] <TRACE      what `nrvs resolve` prints, with its status
+    model_auditor.py resolve --address A [--replica N] <TRACE      what `nrvs resolve` prints, with its status
 """
 import bisect
 import collections
@@ -420,8 +420,9 @@ def main(words):
         text, status = verdict(sys.stdin.buffer.read())
         sys.stdout.write(text)
         return status
-    if words[:1] == ["resolve"] and len(words) in (2, 3):
-        text, error, status = resolve(sys.stdin.buffer.read(), words[1], int((words + ["0"])[2]))
+    options = dict(zip(words[1::2], words[2::2]))
+    if words[:1] == ["resolve"] and "--address" in options:
+        text, error, status = resolve(sys.stdin.buffer.read(), options["--address"], int(options.get("--replica", 0)))
         sys.stdout.write(text)
         sys.stderr.write(error)
         return status
