@@ -1,0 +1,37 @@
+/*
+ * Bugs that page tables of real systems have had, each behind one name; docs/RECORDING.md says what the auditor tells of
+ * each. A run has at most one of them. Those that begin at once are in the random requests too; the others only begin with
+ * the closing requests, since what they leave behind would be met in different ways by different schedules.
+ */
+#ifndef BUGS_H
+#define BUGS_H
+
+enum bug {
+	NO_BUG,
+	ANSWERED_TWICE,       /* the reply is sent again */
+	REPLY_BEFORE_PLACE,   /* the reply goes out before the update has its place in the log */
+	STALE_READ,           /* a translation of before is answered, as of before, without a look at the log */
+	NO_SHOOTDOWN,         /* a cached translation is used after the page table has changed */
+	LOST_UPDATE,          /* a map is answered, and its entry isn't stored */
+	SWAPPED_UPDATES,      /* the place is taken after the lock was given back */
+	UNMAP_NEIGHBOUR,      /* an unmap clears the next entry too */
+	FREED_TABLE,          /* an emptied table is freed, and stays linked */
+	SHARED_TABLE,         /* a new table is linked at two entries */
+	UNALIGNED_LARGE_PAGE, /* a large page's entry has address bits below its size */
+	LEAKED_TABLE,         /* an emptied table is unlinked, and not freed */
+	LEAF_RIGHTS,          /* tables get the rights of their first page, and a resolve looks at the last entry alone */
+	BUGS
+};
+
+extern enum bug chosen_bug;
+extern int closing; /* the closing requests have begun */
+
+/* Is the bug there now? One that begins at once is there at one of `period` chances, by the caller's count of them. */
+static inline int bug(enum bug name, unsigned period, unsigned count)
+{
+	const unsigned only_closing = 1u << FREED_TABLE | 1u << SHARED_TABLE;
+
+	return chosen_bug == name && (closing || (!(only_closing >> name & 1) && count % period == period - 1));
+}
+
+#endif

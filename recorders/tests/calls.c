@@ -1,0 +1,170 @@
+/*
+ * Makes the calls on the recorder that standard input lists, a line each, and prints what each returned; calls.rs does the
+ * same with the Rust recorder. tests/recorders compares what they print and what they write.
+ *
+ *     begin LEVELS REPLICAS THREADS TABLES EVENTS PLACES FRAMES
+ *     call REPLICA THREAD KIND SIZE RIGHTS ADDRESS PHYS
+ *     place PLACE CALL
+ *     reply CALL AT CODE SIZE RIGHTS VALUE
+ *     word FRAME INDEX VALUE        a word of the memory; its frame is there from now on
+ *     broken FRAME                  the memory fails at this frame
+ *     dump REPLICA APPLIED ROOT
+ *     dump_frame REPLICA FRAME
+ *     finish LIMIT                  writes the trace; the writer fails where it would pass that many bytes
+ */
+#include "../nrvs_trace.h"
+
+#include <inttypes.h>
+#include <stdio.h>
+#include <stdlib.h>
+#include <string.h>
+
+enum { FRAMES = 5000, GUARD = 64 };
+
+static struct { uint64_t number, words[512]; int broken; } memory[FRAMES];
+static unsigned memory_count;
+
+static unsigned frame_of(uint64_t number)
+{
+	unsigned k = 0;
+
+	while (k < memory_count && memory[k].number != number)
+		k++;
+	return k;
+}
+
+static unsigned make_frame(uint64_t number)
+{
+	unsigned k = frame_of(number);
+
+	if (k == memory_count) {
+		if (memory_count == FRAMES)
+			exit(2);
+		memory[memory_count++].number = number;
+	}
+	return k;
+}
+
+static int lend(void *context, uint64_t number, const uint64_t **words)
+{
+	unsigned k = frame_of(number);
+
+	(void)context;
+	*words = k < memory_count ? memory[k].words : NULL;
+	return k < memory_count && memory[k].broken;
+}
+
+/* A buffer of the caller's with a guard on both sides, so that a write past it is seen. */
+struct guarded { unsigned char *all; size_t size; };
+
+static void *make_guarded(struct guarded *buffer, size_t size)
+{
+	free(buffer->all);
+	buffer->all = malloc(size + 2 * GUARD);
+	if (!buffer->all)
+		exit(2);
+	buffer->size = size;
+	memset(buffer->all, 0xa5, size + 2 * GUARD);
+	return buffer->all + GUARD;
+}
+
+static int is_whole(const struct guarded *buffer)
+{
+	for (size_t k = 0; buffer->all && k < GUARD; k++)
+		if (buffer->all[k] != 0xa5 || buffer->all[GUARD + buffer->size + k] != 0xa5)
+			return 0;
+	return 1;
+}
+
+struct writer { FILE *file; uint64_t left; };
+
+static int write_some(void *context, const uint8_t *bytes, uint32_t length)
+{
+	struct writer *writer = context;
+
+	if (length < 1 || length > 512 || length > writer->left)
+		return 1;
+	writer->left -= length;
+	return fwrite(bytes, 1, length, writer->file) != length;
+}
+
+static nrvs_trace trace;
+static struct guarded events, places, frames;
+
+static nrvs_status begin(const uint64_t *n)
+{
+	nrvs_config config = {
+		.levels = (uint8_t)n[0], .replicas = (uint8_t)n[1], .threads = (uint16_t)n[2], .tables = (uint16_t)n[3],
+		.event_room = (uint32_t)n[4], .log_room = (uint32_t)n[5], .frame_room = (uint32_t)n[6],
+	};
+
+	config.events = make_guarded(&events, 24 * (size_t)n[4]);
+	config.log = make_guarded(&places, sizeof(nrvs_atomic) * (size_t)n[5]);
+	config.frames = make_guarded(&frames, sizeof(nrvs_frame) * (size_t)n[6]);
+	return nrvs_begin(&trace, &config);
+}
+
+static nrvs_status run(const char *word, const uint64_t *n, const char *path, uint32_t *call)
+{
+	if (!strcmp(word, "begin"))
+		return begin(n);
+	if (!strcmp(word, "call")) {
+		nrvs_request request = { (uint8_t)n[2], (uint8_t)n[3], (uint8_t)n[4], n[5], n[6] };
+
+		return nrvs_call(&trace, (unsigned)n[0], (unsigned)n[1], request, call);
+	}
+	if (!strcmp(word, "place"))
+		return nrvs_place(&trace, (uint32_t)n[0], (uint32_t)n[1]);
+	if (!strcmp(word, "reply")) {
+		nrvs_answer answer = { (uint8_t)n[2], (uint8_t)n[3], (uint8_t)n[4], n[5] };
+
+		return nrvs_reply(&trace, (uint32_t)n[0], (uint32_t)n[1], answer);
+	}
+	if (!strcmp(word, "dump"))
+		return nrvs_dump(&trace, (unsigned)n[0], (uint32_t)n[1], n[2], lend, NULL);
+	if (!strcmp(word, "dump_frame"))
+		return nrvs_dump_frame(&trace, (unsigned)n[0], n[1], lend, NULL);
+	if (!strcmp(word, "finish")) {
+		struct writer writer = { fopen(path, "wb"), n[0] };
+		nrvs_status status;
+
+		if (!writer.file)
+			exit(2);
+		status = nrvs_finish(&trace, write_some, &writer);
+		fclose(writer.file);
+		return status;
+	}
+	if (!strcmp(word, "word"))
+		memory[make_frame(n[0])].words[n[1] % 512] = n[2];
+	else if (!strcmp(word, "broken"))
+		memory[make_frame(n[0])].broken = 1;
+	else
+		exit(2);
+	return NRVS_OK;
+}
+
+int main(int count, char **arguments)
+{
+	char line[256];
+
+	while (count == 2 && fgets(line, sizeof(line), stdin)) {
+		uint64_t n[8] = { 0 };
+		uint32_t call = NRVS_NONE;
+		unsigned k = 0;
+		char *word = strtok(line, " \n"), *number;
+		nrvs_status status;
+
+		while (word && k < 8 && (number = strtok(NULL, " \n")))
+			n[k++] = strtoull(number, NULL, 0);
+		if (!word)
+			continue;
+		status = run(word, n, arguments[1], &call);
+		if (call != NRVS_NONE)
+			printf("%s: %s %" PRIu32 "\n", word, nrvs_status_text(status), call);
+		else
+			printf("%s: %s\n", word, nrvs_status_text(status));
+		if (!is_whole(&events) || !is_whole(&places) || !is_whole(&frames))
+			printf("written past a buffer\n");
+	}
+	return 0;
+}
