@@ -9,8 +9,8 @@ below 3 or 3.5 GiB at 4 GiB), each --part says that LENGTH bytes at physical PHY
 CR3 is the register's value: its bits 51:12 are the root, the others (PCID, LAM, no flush) are left out. Numbers are
 decimal, or hexadecimal after 0x. Five levels (CR4.LA57) make a trace of version 2.
 
-The trace has no log and no events: it's for `nrvs resolve`, and for `nrvs audit`, which says `no 17 Differs` of any page
-table that maps something, after faults 13 to 16 were sought in vain.
+The trace has no log and no events: it is for `nrvs resolve`. `nrvs audit` seeks faults 13 to 16 in the dump, and then says
+`no 17 Differs` of any page table that maps something.
 
 Nothing here is verified, and nothing rests on it. Python 3 alone.
 """
