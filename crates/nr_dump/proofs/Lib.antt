@@ -1,0 +1,3 @@
+pub mod Differing
+pub mod Taking
+pub mod Fitting
