@@ -1,6 +1,9 @@
 -- What a dump's pages, beside those of a space, say of its faults.
 use Rattle.std.proofs.Common.{◌≡◌, ◌≢◌, ℕ, ◌+◌, ◌<◌, List, ◌∷◌, ◌++◌, length, get_or, Option, Some, None, ⊎_elim, refl, sym, subst, ◌∙◌, arith, Contains, nat_eq}
+use Rattle.std.specs.Prelude.{IsSome, IsTrue, ◌↔◌}
+use Rattle.std.specs.FinMap as finite
 use Rattle.std.specs.List.{IsDistinct, AllPairs}
+use Rattle.std.proofs.lemmas.List.Elements.{All-contains}
 use Rattle.std.proofs.lemmas.List.{length-append, get_or_append_left, get_or-append-add}
 use Rattle.std.proofs.lemmas.Map.Made.{AllPairs-from_IsDistinct}
 use Rattle.std.proofs.lemmas.Bool.Decides.{Decides-eqb}
@@ -14,11 +17,12 @@ use Rattle.vs_walk.specs.Traversal.{moves, reached, found, walk_fault}
 use Rattle.vs_walk.specs.Differences.{IsStray, TranslatesOtherwise, IsLeast}
 use Rattle.vs_walk.specs.Dump.{Image}
 use Rattle.vs_walk.specs.Ways.{AreWhole, as_found}
-use Rattle.vs_walk.proofs.WaysLaws.{faultless_walk, reached_distinct, shared_reached}
+use Rattle.vs_walk.proofs.WaysLaws.{faultless_walk, reached_distinct, reached_held, shared_reached}
 use Rattle.vs_walk.proofs.WaysSpaces.{ArePages, found_are_pages, space_pages, found_translates, translates_shared}
 use Rattle.nr_dump.specs.declared.fault.DumpFault.{DumpFault}
 use Rattle.nr_dump.specs.declared.fault.DumpFault.TheVariants.{MissingFrame, SharedFrame, ReservedBit, StrayFrame, Differs}
 use Rattle.nr_dump.specs.Faults.{Holds, rank, IsFirst, HasNoFault, FitsSpace}
+use Rattle.nr_dump.specs.Checking.{IsOutside}
 use Rattle.nr_dump.specs.Comparing.{IsCompared, mark}
 use Rattle.nr_dump.proofs.Differing.{DiffersAt, least_behind}
 
@@ -133,3 +137,30 @@ difference_first depth dump space base whole is way stray compared = record {
 -- the mark is no page of a space
 pub unmarked : {depth : Depth} {space : Space} → IsSpace depth space → Contains (pages space) mark → ⊥
 unmarked is has = let aligned = (space_pages is).aligned mark has in omega arith
+
+-- ---- the frames that are reached, by a list with the same numbers
+
+abbrev pub AreReached : Depth → Memory → ℕ → List ℕ → Type 0
+AreReached depth memory root numbers = (number : ℕ) → Contains numbers number ↔ Contains (reached (moves depth memory root)) number
+
+pub reached_are_held : (depth : Depth) (memory : Memory) (root : ℕ) (numbers : List ℕ) → walk_fault depth memory root ≡ None → AreReached depth memory root numbers
+    → (number : ℕ) → Contains numbers number → IsSome (finite.get memory number)
+reached_are_held depth memory root numbers way are number has =
+    All-contains (λ n. IsTrue (finite.contains_key memory n)) (reached (moves depth memory root)) number (reached_held depth memory root way) ((are number).0 has)
+
+stray_outside : (depth : Depth) (memory : Memory) (root : ℕ) (numbers : List ℕ) (number : ℕ) → AreReached depth memory root numbers → IsStray depth memory root number → IsOutside memory numbers number
+stray_outside depth memory root numbers number are stray = (stray.0, λ has. stray.1 ((are number).0 has))
+
+pub none_are_stray : (depth : Depth) (dump : Image) (numbers : List ℕ) → AreReached depth dump.frames dump.root numbers → ((number : ℕ) → IsOutside dump.frames numbers number → ⊥) → NoneStray depth dump
+none_are_stray depth dump numbers are none number stray = none number (stray_outside depth dump.frames dump.root numbers number are stray)
+
+pub least_stray : (depth : Depth) (memory : Memory) (root : ℕ) (numbers : List ℕ) (number : ℕ) → AreReached depth memory root numbers → IsLeast (IsOutside memory numbers) number → IsLeast (IsStray depth memory root) number
+least_stray depth memory root numbers number are least = (
+  (least.0.0, λ has. least.0.1 ((are number).1 has)),
+  λ other below stray. least.1 other below (stray_outside depth memory root numbers other are stray),
+)
+
+-- ---- what was called with equal numbers
+
+pub moved : {depth own : Depth} {root from : ℕ} (P : Depth → ℕ → Type 0) → own ≡ depth → from ≡ root → P own from → P depth root
+moved {depth} {own} {root} {from} P same_depth same_root holds = subst (λ d. P d root) same_depth (subst (λ r. P own r) same_root holds)
