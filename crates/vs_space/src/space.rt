@@ -15,7 +15,7 @@ use crate::tables::Tables;
 use std::marker::Model;
 use vs_arena::{FRAME_WORDS, FrameStore};
 use vs_types::{Action, Answer, Depth, Entry, Meaning, Op, Page, Rights, Size, index_at};
-use vs_walk::{Frames, Walk, translate};
+use vs_walk::Frames;
 
 /// There is no frame for the root: the store has none.
 #[derive(Clone, Copy, Debug, PartialEq, Eq)]
@@ -112,10 +112,12 @@ impl<S: FrameStore> Space<S> {
         requires { IsCanonical self.now.depth address }
         ensures { (space : spaces.Space) → IsTableOf self.now space → result ≡ look space address }
     {
-        match translate(self, self.root, self.depth, address) {
-            Walk::Mapped(phys, size, rights) => Answer::Mapped(phys, size, rights),
-            _ => Answer::NotMapped,
-        }
+        let place = self.tables.descend(self.depth, self.root, address, 1);
+        let Meaning::Leaf(phys, rights) = place.found else {
+            return Answer::NotMapped;
+        };
+        let size = Size::at_level(place.level);
+        Answer::Mapped(phys + address % size.bytes(), size, rights)
     }
 
     /// Does an operation: the answer and the space after it are those of a step, under the store's capacity as the limit.
