@@ -3,6 +3,7 @@ pub mod EventFacts
 pub mod Known
 pub mod Logged
 pub mod PositionFacts
+pub mod FloorFacts
 pub mod ReplyFacts
 pub mod OrderFacts
 pub mod AnswerFacts

@@ -4,3 +4,5 @@ pub mod Tables
 pub mod Told
 pub mod Steps
 pub mod Replay
+pub mod Verdict
+pub mod Headline

@@ -6,15 +6,18 @@
 mod answers;
 mod calls;
 mod events;
+mod floors;
 mod found;
 mod log;
 mod order;
 mod passes;
 mod positions;
 mod tables;
+mod verdict;
 mod whole;
 
 pub use found::Replay;
+pub use verdict::{Order, Verdict};
 pub use whole::replay;
 
 #[cfg(test)]

@@ -1,2 +1,3 @@
+pub mod Addresses
 pub mod Input
-pub mod Verdicts
+pub mod Reports

@@ -1,4 +1,5 @@
 pub mod Text
-pub mod Status
-pub mod Audited
+pub mod Addresses
+pub mod Answers
+pub mod Refusals
 pub use Rattle.nr_audit.specs.Replay

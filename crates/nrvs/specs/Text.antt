@@ -1,6 +1,11 @@
 -- What the program prints of a fault and of a verdict: numbers in decimal, addresses in hexadecimal.
-use Rattle.std.specs.Prelude.{ℕ, false, ◌++◌, List, codes, decimal}
+use Rattle.std.specs.Prelude.{ℕ, Bool, false, ◌++◌, List, codes, decimal, if◌then◌else◌}
 use Rattle.std.specs.Fmt.{digits}
+use Rattle.vs_types.specs.declared.page.Size.{Size}
+use Rattle.vs_types.specs.declared.page.Size.TheVariants.{K4, M2, G1}
+use Rattle.vs_types.specs.declared.page.Rights.{Rights}
+use Rattle.vs_walk.specs.declared.walk.Walk.{Walk}
+use Rattle.vs_walk.specs.declared.walk.Walk.TheVariants.{NotMapped, Reserved, Missing, Mapped}
 use Rattle.nr_audit.specs.declared.found.Replay.{Replay}
 use Rattle.nr_audit.specs.declared.found.Replay.TheVariants.{Replayed, No}
 use Rattle.nr_trace.specs.declared.fault.Format.{Format}
@@ -48,12 +53,36 @@ fault_text (faults.ReservedBit replica number index) = codes "15 ReservedBit " +
 fault_text (faults.StrayFrame replica number) = codes "16 StrayFrame " ++ (decimal replica ++ (space ++ decimal number))
 fault_text (faults.Differs replica address) = codes "17 Differs " ++ (decimal replica ++ (space ++ hexadecimal address))
 
+-- the line of a trace that is wrong
+abbrev pub no_text : Fault → List ℕ
+no_text fault = codes "no " ++ (fault_text fault ++ line_end)
+
 -- the lines of a replay
 abbrev pub replay_text : Replay → List ℕ
 replay_text Replayed = codes "replayed" ++ line_end
-replay_text (No fault) = codes "no " ++ (fault_text fault ++ line_end)
+replay_text (No fault) = no_text fault
 
 -- 0 where nothing was found wrong, else 1
 abbrev pub replay_status : Replay → ℕ
 replay_status Replayed = 0
 replay_status (No fault) = 1
+
+abbrev pub size_text : Size → List ℕ
+size_text K4 = codes "4K"
+size_text M2 = codes "2M"
+size_text G1 = codes "1G"
+
+-- the letter of a right, or a dash where it is not given
+abbrev pub mark : Bool → List ℕ → List ℕ
+mark given letter = if given then letter else codes "-"
+
+-- write, user, exec
+abbrev pub rights_text : Rights → List ℕ
+rights_text rights = mark rights.write (codes "w") ++ (mark rights.user (codes "u") ++ mark rights.exec (codes "x"))
+
+-- the line of a walk
+unfoldable pub walk_text : Walk → List ℕ
+walk_text NotMapped = codes "not mapped" ++ line_end
+walk_text Reserved = codes "reserved" ++ line_end
+walk_text Missing = codes "missing" ++ line_end
+walk_text (Mapped phys size rights) = codes "mapped " ++ (hexadecimal phys ++ (space ++ (size_text size ++ (space ++ (rights_text rights ++ line_end)))))

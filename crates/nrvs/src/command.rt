@@ -1,48 +1,40 @@
 use crate::audit::audit_io;
 use crate::fault::ProgFault;
-use clap::Command;
-use clap::error::ErrorKind;
+use crate::resolve::resolve_io;
 use std::alloc::Global;
-use std::{env, io};
+use std::io::{Read, Write};
 
-/// Runs the command that the program's words name, and gives the exit status.
-pub fn run(rt: &HostRuntime) -> u8 {
-    match try_run(rt) {
-        Ok(status) => status,
-        Err(fault) => {
-            let _ = eprintln!(rt; "{fault}");
-            fault.status()
-        }
-    }
+/// What the program can be asked to do.
+#[derive(Debug, Drop)]
+pub enum Command<'a> {
+    /// Judge the trace.
+    Audit,
+    /// Walk at this address, as the command line spells it, in the dump of this replica.
+    Resolve(&'a str, u8),
 }
 
-fn command<'a>(alloc: Global) -> Result<Command<'a>, std::alloc::AllocError> {
-    let audit = Command::new(alloc, "audit").about(
-        "Reads a trace from standard input and prints whether it is right",
-    );
-    Command::new(alloc, "nrvs")
-        .about("Checks recorded runs of replicated address spaces")
-        .subcommand_required(true)
-        .subcommand(audit)
-}
+impl Command<'_> {
+    ghost use Rattle.std.specs.Prelude.{IfOk, IfErr, IfSome, take};
+    ghost use Rattle.nrvs.specs.Answers.{read_limit, IsAnswer, WritesReport};
+    ghost use Rattle.nrvs.specs.Refusals.{IsRefusal, WritesAnswersAlone};
 
-fn try_run(rt: &HostRuntime) -> Result<u8, ProgFault> {
-    let alloc = rt.alloc();
-    let words: Vec<String> = env::args(rt)
-        .map_err(|_| ProgFault::Memory)?
-        .collect(alloc)?;
-    let matches = match command(alloc)?.try_get_matches_from(words.as_slice()) {
-        Ok(matches) => matches,
-        Err(error) if error.kind() == ErrorKind::OutOfMemory => return Err(ProgFault::Memory),
-        Err(error) => {
-            if error.print(rt).is_err() {
-                return Err(ProgFault::CannotWrite);
+    /// Runs the command on the input, and gives the exit status.
+    pub fn run<R: Read + Drop, W: Write>(
+        self,
+        alloc: Global,
+        reader: R,
+        writer: &mut W,
+    ) -> Result<u8, ProgFault>
+        ensures ok { IfOk result (λ status. IfSome (R.remaining reader) (λ input.
+            WritesReport (IsAnswer self.entry (take read_limit input)) (W.contents writer.old) (W.contents writer.new) status)) }
+        ensures err { IfErr result (IsRefusal self.entry (R.remaining reader)) }
+        ensures alone { WritesAnswersAlone writer.old writer.new result }
+    {
+        match self {
+            Command::Audit => audit_io(alloc, reader, writer),
+            Command::Resolve(address, replica) => {
+                resolve_io(alloc, reader, writer, address, replica)
             }
-            return Ok(error.exit_code() as u8);
         }
-    };
-    match matches.subcommand_name() {
-        Some("audit") => audit_io(alloc, rt.reader(), &mut io::writer(rt)),
-        _ => Ok(2),
     }
 }

@@ -7,27 +7,54 @@ use thiserror::Error;
 /// Why the program ends with no answer. The text goes to standard error.
 #[derive(Debug, Drop, Error)]
 pub enum ProgFault {
+    /// The address is not `0x` and 1 to 16 hexadecimal digits.
+    #[error("{}", self.text())]
+    BadAddress,
+    /// The bits of the address above the translated ones do not equal the highest translated one.
+    #[error("{}", self.text())]
+    NotCanonical,
+    /// The trace has no replica of this number.
+    #[error("{}", self.text())]
+    NoSuchReplica,
     /// The input gave an error.
-    #[error("cannot read")]
+    #[error("{}", self.text())]
     CannotRead,
     /// The output gave an error.
-    #[error("cannot write")]
+    #[error("{}", self.text())]
     CannotWrite,
     /// A growth of memory was refused.
-    #[error("out of memory")]
+    #[error("{}", self.text())]
     Memory,
 }
 
 impl ProgFault {
-    ghost use Rattle.nrvs.specs.Status.{fault_status};
+    ghost use Rattle.nrvs.specs.Refusals.{refusal_status, refusal_text};
 
-    /// The exit status: 3 for want of memory, else 2.
+    /// The exit status: 3 where memory ran out, else 2.
     pub fn status(&self) -> u8
-        ensures { result ≡ fault_status self.now }
+        ensures { result ≡ refusal_status self.now }
     {
         match self {
             ProgFault::Memory => 3,
-            ProgFault::CannotRead | ProgFault::CannotWrite => 2,
+            ProgFault::BadAddress
+            | ProgFault::NotCanonical
+            | ProgFault::NoSuchReplica
+            | ProgFault::CannotRead
+            | ProgFault::CannotWrite => 2,
+        }
+    }
+
+    /// What standard error is told, without the end of the line.
+    pub fn text(&self) -> &'static str
+        ensures { result.now ≡ refusal_text self.now }
+    {
+        match self {
+            ProgFault::BadAddress => "bad address",
+            ProgFault::NotCanonical => "not canonical",
+            ProgFault::NoSuchReplica => "no such replica",
+            ProgFault::CannotRead => "cannot read",
+            ProgFault::CannotWrite => "cannot write",
+            ProgFault::Memory => "out of memory",
         }
     }
 }

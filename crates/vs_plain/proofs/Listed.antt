@@ -16,8 +16,8 @@ use Rattle.std.specs.List.{AllByRecursion}
 use Rattle.std.specs.List.Sorted.{IsStrictlySortedBy}
 use Rattle.vs_types.specs.Space.{no_pages, pages, Holds}
 use Rattle.vs_types.specs.declared.page.Page.{Page}
-use Rattle.vs_plain.specs.Listed.{listed_space, IsByBase}
-use Rattle.vs_plain.specs.PageMap.{IsLastUpTo, IsFirstFrom}
+use Rattle.vs_plain.specs.inside.Listed.{listed_space, IsByBase}
+use Rattle.vs_plain.specs.inside.PageMap.{IsLastUpTo, IsFirstFrom}
 
 both : (a b : Bool) → T a → T b → T (a && b)
 both true b p q = q

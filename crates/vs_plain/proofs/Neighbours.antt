@@ -9,7 +9,7 @@ use Rattle.vs_types.proofs.Overlaps.{overlapped_first, none_overlapped}
 use Rattle.vs_types.proofs.Pages.{bytes_positive, covers_means, covers_base, overlaps_means, overlaps_shares}
 use Rattle.vs_types.proofs.Spaces.{page_at_means, remove_space, remove_cases, put_back}
 use Rattle.std.specs.FinMap as finite
-use Rattle.vs_plain.specs.PageMap.{IsLastUpTo, IsFirstFrom}
+use Rattle.vs_plain.specs.inside.PageMap.{IsLastUpTo, IsFirstFrom}
 
 module _ {depth : Depth} {space : Space} (is : IsSpace depth space) where
   -- a page that begins before another does not reach it

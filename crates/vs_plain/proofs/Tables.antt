@@ -15,8 +15,8 @@ use Rattle.vs_types.proofs.Spaces.{holds_listed, insert_space}
 use Rattle.vs_types.proofs.Steps.{alone}
 use Rattle.vs_types.proofs.Counts.{member_comes, member_goes}
 use Rattle.vs_types.proofs.TableCounts.{has_table, stretches, tables_with, tables_without}
-use Rattle.vs_plain.specs.PageMap.{IsLastUpTo, IsFirstFrom}
-use Rattle.vs_plain.specs.Tables.{begins_in_stretch}
+use Rattle.vs_plain.specs.inside.PageMap.{IsLastUpTo, IsFirstFrom}
+use Rattle.vs_plain.specs.inside.Tables.{begins_in_stretch}
 
 aligned_down : (n i k : ℕ) → k ≤ i → n % 2 ^ i ≡ 0 → n % 2 ^ k ≡ 0
 aligned_down n i k l e =

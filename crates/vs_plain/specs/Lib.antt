@@ -1,7 +1,5 @@
-pub mod Listed
-pub mod PageMap
 pub mod Plain
-pub mod Tables
+pub mod inside
 pub use Rattle.vs_types.specs.Depth
 pub use Rattle.vs_types.specs.Page
 pub use Rattle.vs_types.specs.Operation

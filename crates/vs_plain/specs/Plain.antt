@@ -1,6 +1,6 @@
 -- A plain address space: its depth, its limit of tables, and the space of its pages.
-use Rattle.std.specs.Prelude.{◌≡◌, ℕ, ◌≤◌, ◌^◌}
-use Rattle.vs_types.specs.Space.{Space, IsSpace, table_count}
+use Rattle.std.specs.Prelude.{◌≡◌, ℕ}
+use Rattle.vs_types.specs.Space.{Space}
 use Rattle.vs_types.specs.Step.{step}
 use Rattle.vs_types.specs.declared.depth.Depth.{Depth}
 use Rattle.vs_types.specs.declared.op.Action.{Action}
@@ -10,12 +10,6 @@ pub record Kept : Type 0 where
   pub depth : Depth
   pub limit : ℕ
   pub space : Space
-
--- what is kept: a space, and the number of its tables
-pub record IsKept (depth : Depth) (tables : ℕ) (space : Space) : Type 0 where
-  pub is_space : IsSpace depth space
-  pub counted : tables ≡ table_count depth space
-  pub few : tables ≤ 2 ^ 16
 
 -- one step of what is kept, and its answer
 abbrev pub IsStep : Kept → Action → Answer → Kept → Type 0

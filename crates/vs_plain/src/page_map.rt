@@ -3,8 +3,8 @@ ghost use Rattle.std.specs.FinMap as finite;
 ghost use Rattle.vs_types.specs.Space.{no_pages, pages, least_overlapped, table_count, IsSpace};
 ghost use Rattle.vs_types.specs.Depth.{levels};
 ghost use Rattle.vs_types.specs.Page.{IsPage};
-ghost use Rattle.vs_plain.specs.Tables.{begins_in_stretch};
-ghost use Rattle.vs_plain.specs.PageMap.{IsLastUpTo, IsFirstFrom};
+ghost use Rattle.vs_plain.specs.inside.Tables.{begins_in_stretch};
+ghost use Rattle.vs_plain.specs.inside.PageMap.{IsLastUpTo, IsFirstFrom};
 
 use std::alloc::Global;
 use std::collections::BTreeMap;
@@ -24,7 +24,7 @@ impl Model for PageMap {
     ghost use Rattle.std.specs.Ordering.{nat_cmp};
     ghost use Rattle.vs_types.specs.contracts.page.Page as page_contract;
     ghost use Rattle.vs_types.specs.Space.{Space};
-    ghost use Rattle.vs_plain.specs.Listed.{IsByBase, listed_space};
+    ghost use Rattle.vs_plain.specs.inside.Listed.{IsByBase, listed_space};
 
     ghost Value = { Space };
 

@@ -25,7 +25,8 @@ impl Model for PlainSpace {
     ghost use Rattle.std.specs.FinMap as finite;
     ghost use Rattle.std.specs.Ordering.{nat_cmp};
     ghost use Rattle.vs_types.specs.contracts.page.Page as page_contract;
-    ghost use Rattle.vs_plain.specs.Plain.{Kept, IsKept};
+    ghost use Rattle.vs_plain.specs.Plain.{Kept};
+    ghost use Rattle.vs_plain.specs.inside.Invariant.{IsKept};
 
     ghost Value = { Kept };
 

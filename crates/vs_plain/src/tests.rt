@@ -202,3 +202,44 @@ fn many_pages(rt: HostRuntime) {
     assert_eq!(rt; pages(&rt, &space).len(), 40);
     assert_eq!(rt; space.tables(), 2);
 }
+
+/// A page with each of the 8 sets of rights, and each of them protected to each.
+#[test]
+fn each_set_of_rights(rt: HostRuntime) {
+    let mut space = PlainSpace::new(rt.alloc(), 4096, Depth::Four);
+    let sets = |code: u64| Rights {
+        write: code % 2 == 1,
+        user: code / 2 % 2 == 1,
+        exec: code / 4 % 2 == 1,
+    };
+    for code in 0..8u64 {
+        let base = 0x1000 * code;
+        let op = Op::map(Depth::Four, base, Size::K4, 0x5000, sets(code));
+        assert_eq!(rt; apply(&rt, &mut space, op), Answer::Done);
+        let mapped = Answer::Mapped(0x5000, Size::K4, sets(code));
+        assert_eq!(rt; space.resolve(base), mapped);
+        for other in 0..8u64 {
+            let changed = protect(&rt, &mut space, base, sets(other));
+            assert_eq!(rt;
+                changed,
+                Answer::Changed(sets(if other == 0 { code } else { other - 1 }))
+            );
+            let mapped = Answer::Mapped(0x5000, Size::K4, sets(other));
+            assert_eq!(rt; space.resolve(base), mapped);
+        }
+    }
+}
+
+/// More tables than a store has frames: one for each of 5,000 stretches of 2 MiB, and ten of the next level.
+#[test]
+fn pages_of_many_tables(rt: HostRuntime) {
+    let mut space = PlainSpace::new(rt.alloc(), 65_535, Depth::Four);
+    for place in 0..5_000u64 {
+        let base = place << 21;
+        assert_eq!(rt; map(&rt, &mut space, base, Size::K4, 0x1000), Answer::Done);
+    }
+    assert_eq!(rt; space.tables(), 1 + 1 + 10 + 5_000);
+    let pages = pages(&rt, &space);
+    assert_eq!(rt; pages.len(), 5_000);
+    assert_eq!(rt; pages[4_999].base, 4_999 << 21);
+}

@@ -3,7 +3,7 @@ use Rattle.std.proofs.Common.{◌≡◌, ℕ, suc, ◌+◌, ◌-◌, ◌<◌, �
 use Rattle.std.specs.Prelude.{IsSome}
 use Rattle.std.specs.FinMap as finite
 use Rattle.vs_types.specs.Depth.{levels, index_at}
-use Rattle.vs_types.specs.Entry.{meaning}
+use Rattle.vs_types.specs.Entry.{meaning, table_word}
 use Rattle.vs_types.specs.declared.depth.Depth.{Depth}
 use Rattle.vs_types.specs.declared.entry.Meaning.TheVariants as entry
 use Rattle.vs_arena.specs.Store.{zeros}
@@ -20,11 +20,12 @@ use Rattle.vs_space.proofs.Writes.{len_written}
 use Rattle.vs_space.proofs.Trees.{but_alike}
 use Rattle.vs_space.proofs.Links.{found_in_zeros, still_clear, linked, old_or_new, tree_link, walk_link, table_take, walk_take, tree_take, new_unreached, found_take}
 use Rattle.vs_space.proofs.Reached.{reached_link}
+use Rattle.vs_space.proofs.Written.{written_table}
 
 pub extended_start : (depth : Depth) (m : Memory) (root base from number : ℕ) → IsOpen depth m root base from number → IsExtended depth m m root base from from number
 extended_start depth m root base from number here = record { open_at = here; walks = λ b. refl; more = omega arith }
 
-module _ (depth : Depth) (m : Memory) (root base level number : ℕ) (here : IsOpen depth m root base level number) (deep : 1 < level) (f : ℕ) (free : finite.get m f ≡ None) (whole : AreWhole (finite.insert m f zeros)) (w index : ℕ) (leads : meaning level w ≡ entry.Table f all_rights) (is_index : index ≡ index_at level base) (low : index < 512) where
+module _ (depth : Depth) (m : Memory) (root base level number : ℕ) (here : IsOpen depth m root base level number) (deep : 1 < level) (f : ℕ) (free : finite.get m f ≡ None) (whole : AreWhole (finite.insert m f zeros)) (w index : ℕ) (leads : meaning level w ≡ entry.Table f all_rights) (is_word : w ≡ table_word f) (is_index : index ≡ index_at level base) (low : index < 512) where
   abbrev taken : Memory
   taken = finite.insert m f zeros
 
@@ -85,7 +86,7 @@ module _ (depth : Depth) (m : Memory) (root base level number : ℕ) (here : IsO
   open_new = record {
     tree = tree_new;
     filled = but_alike depth m (with_word (finite.insert m f zeros) number (index_at (levels depth - (levels depth - level)) base) w) root base was_there (λ b canonical. walks_new b) here.filled;
-    all_reached = reached_link (levels depth) root m here.tree f free whole (levels depth - level) base number at_taken w (ap table_in absent_taken) linked_new here.all_reached;
+    all_reached = reached_link (levels depth) root m here.tree f free whole (levels depth - level) base number at_taken w (ap table_in absent_taken) linked_new (written_table (levels depth - (levels depth - level)) w f leads_here is_word) here.all_reached;
     below = omega (arith, here.below);
     reached = subst (λ k. table_at (levels depth) (with_word (finite.insert m f zeros) number (index_at (levels depth - (levels depth - level)) base) w) root k base ≡ Some f) steps linked_new;
     absent = found_in_zeros (level - 1) (with_word (finite.insert m f zeros) number (index_at (levels depth - (levels depth - level)) base) w) f base

@@ -3,6 +3,7 @@ pub mod Ways
 pub mod Writes
 pub mod Trees
 pub mod Links
+pub mod Written
 pub mod Reached
 pub mod Regions
 pub mod Places

@@ -25,7 +25,7 @@ use Rattle.vs_space.proofs.Trees.{one_some, one_meaning, unreached_table, unreac
 zero_absent : (level : ℕ) → meaning level 0 ≡ entry.Absent
 zero_absent level = refl
 
-zeros_are : (i : ℕ) → slice_index zeros i ≡ 0
+pub zeros_are : (i : ℕ) → slice_index zeros i ≡ 0
 zeros_are i = ⊎_elim (λ (lt : i < 512). get_or-replicate 512 i 0 0 lt) (λ (le : 512 ≤ i). get_or_past (replicate 512 0) i 0 (omega (arith, length-replicate {A = ℕ} 512 0))) (cases_lt i 512)
 
 -- each entry of a frame of zeros is absent

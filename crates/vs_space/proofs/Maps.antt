@@ -4,7 +4,7 @@ use Rattle.std.specs.Prelude.{slice_index}
 use Rattle.std.proofs.lemmas.Bool.{cases_lt}
 use Rattle.std.specs.FinMap as finite
 use Rattle.vs_types.specs.Depth.{levels, entry_bytes, table_bytes, index_at, IsCanonical}
-use Rattle.vs_types.specs.Entry.{meaning, size_at}
+use Rattle.vs_types.specs.Entry.{meaning, size_at, leaf_word}
 use Rattle.vs_types.specs.Page.{level_of, bytes_of, covers, IsPage}
 use Rattle.vs_types.specs.Space.{Space, Holds, IsSpace, page_at, table_count, least_overlapped}
 use Rattle.vs_types.specs.Step.{step, Stepped}
@@ -39,9 +39,11 @@ use Rattle.vs_space.proofs.Writes.{table_here, found_on_way, walk_off_way, len_w
 use Rattle.vs_space.proofs.Trees.{tree_write, but_none, but_write, filled_by}
 use Rattle.vs_space.proofs.Reached.{reached_write, whole_written}
 use Rattle.vs_space.proofs.Regions.{leaf_page, nothing_at, translates_changed, covers_way, way_covers}
-use Rattle.vs_space.proofs.Protects.{IsMet, space_of, never_reserved, page_here, page_level, stays}
-use Rattle.vs_space.proofs.Meets.{page_table, met_of, never_table}
+use Rattle.vs_space.proofs.Protects.{IsMet, page_table, own_space, space_of, never_reserved, page_here, page_level, stays}
+use Rattle.vs_space.proofs.Meets.{met_of, never_table}
 use Rattle.vs_space.proofs.Prunes.{absent_under}
+use Rattle.vs_space.specs.Written.{IsWritten}
+use Rattle.vs_space.proofs.Written.{written_leaf, leaf_at_level}
 use Rattle.vs_space.proofs.Overlaps.{overlapped_none, overlapped_least}
 use Rattle.vs_space.proofs.TableCounts.{count_added}
 
@@ -78,8 +80,8 @@ module _ (depth : Depth) (m : Memory) (root : ℕ) (table : IsPageTable depth m 
 
   -- ---- a leaf on the way: its page has the base of the new one
 
-  pub leaf_overlaps : (phys : ℕ) (own : Rights) → IsPlace depth m root page.base (level_of page.size) level way (entry.Leaf phys own) → (limit bytes : ℕ) → bytes ≡ bytes_of (size_at level) → IsStep (page_table depth limit root m) (Map page) (answers.Overlap (page.base - page.base % bytes)) (page_table depth limit root m)
-  leaf_overlaps phys own place limit bytes are = stays (page_table depth limit root m) (Map page) (answers.Overlap (page.base - page.base % bytes)) (λ space is translates.
+  pub leaf_overlaps : (phys : ℕ) (own : Rights) → IsPlace depth m root page.base (level_of page.size) level way (entry.Leaf phys own) → (first limit bytes : ℕ) → bytes ≡ bytes_of (size_at level) → IsStep (page_table depth first limit root m) (Map page) (answers.Overlap (page.base - page.base % bytes)) (page_table depth first limit root m)
+  leaf_overlaps phys own place first limit bytes are = stays (page_table depth first limit root m) (Map page) (answers.Overlap (page.base - page.base % bytes)) (own_space depth first limit root m table) (λ space is translates.
       let leaf = page_here depth m root table page.base good.canonical (levels depth - level) (slice_index way level) space is translates phys own (met (entry.Leaf phys own) place) in
       let back : levels depth - (levels depth - level) ≡ level = omega (arith, place.below) in
       let same : level_of leaf.0.size ≡ level = sym (page_level depth m root table page.base good.canonical (levels depth - level) (slice_index way level) space phys own leaf.0 leaf.1) ∙ back in
@@ -118,8 +120,8 @@ module _ (depth : Depth) (m : Memory) (root : ℕ) (table : IsPageTable depth m 
         let up : suc (levels depth - level) ≡ levels depth - (level_of page.size - 1) = omega (arith, own_level, place.below, not_lowest) in
         subst (λ k. table_at (levels depth) m root k page.base ≡ Some next) up (table_next (levels depth) root m (levels depth - level) page.base (slice_index way level) here.at ∙ ap table_in here.found)
 
-    pub table_overlaps : (limit base : ℕ) → IsLeastBase depth m root page.base (levels depth - (level_of page.size - 1)) base → IsStep (page_table depth limit root m) (Map page) (answers.Overlap base) (page_table depth limit root m)
-    table_overlaps limit base first = stays (page_table depth limit root m) (Map page) (answers.Overlap base) (λ space is translates.
+    pub table_overlaps : (number limit base : ℕ) → IsLeastBase depth m root page.base (levels depth - (level_of page.size - 1)) base → IsStep (page_table depth number limit root m) (Map page) (answers.Overlap base) (page_table depth number limit root m)
+    table_overlaps number limit base first = stays (page_table depth number limit root m) (Map page) (answers.Overlap base) (own_space depth number limit root m table) (λ space is translates.
         let up : levels depth - (level_of page.size - 1) ≡ suc (levels depth - level_of page.size) = omega (arith, own_level, place.below, not_lowest) in
         let whole : (levels depth - level_of page.size) + level_of page.size ≡ levels depth = omega (arith, own_level, place.below) in
         let inside = (way_covers depth page good (levels depth - level_of page.size) whole base first.canonical (subst (λ k. SameWay (levels depth) k page.base base) up first.same_way)).0 in
@@ -179,8 +181,8 @@ module _ (depth : Depth) (m : Memory) (root : ℕ) (table : IsPageTable depth m 
           table.filled.filled (j - 1) page.base _ (subst (λ i. table_at (levels depth) m root i page.base ≡ Some (slice_index way (levels depth - j))) (reach ∙ sym up) (place.reached (levels depth - j) (omega (arith, le, place.below)) (omega arith))) (subst (λ i. NothingUnder depth m root i page.base) (sym up) empty)) in
           omega (arith, added, of.counted)
 
-    pub full_step : (limit need : ℕ) → need ≡ finite.len m + (level - level_of page.size) → limit < need → IsStep (page_table depth limit root m) (Map page) (answers.Full need) (page_table depth limit root m)
-    full_step limit need is_need above = stays (page_table depth limit root m) (Map page) (answers.Full need) (λ space is translates.
+    pub full_step : (first limit need : ℕ) → need ≡ finite.len m + (level - level_of page.size) → limit < need → IsStep (page_table depth first limit root m) (Map page) (answers.Full need) (page_table depth first limit root m)
+    full_step first limit need is_need above = stays (page_table depth first limit root m) (Map page) (answers.Full need) (own_space depth first limit root m table) (λ space is translates.
         let of = space_of depth m root space table is translates in
         let count = need_is space of in
         map_is_full depth limit space page (none_overlapped space of) (omega (arith, count, is_need, above))
@@ -190,7 +192,7 @@ module _ (depth : Depth) (m : Memory) (root : ℕ) (table : IsPageTable depth m 
     is_open = record { tree = table.tree; filled = but_none page.base table.filled; all_reached = table.reached; below = place.below; reached = here.at; absent = place.is }
 
     -- the leaf is written in the last table
-    module _ (m' : Memory) (number : ℕ) (extended : IsExtended depth m m' root page.base level (level_of page.size) number) (whole : AreWhole m') (w index : ℕ) (leads : meaning (level_of page.size) w ≡ entry.Leaf page.phys page.rights) (is_index : index ≡ index_at (level_of page.size) page.base) (low : index < 512) where
+    module _ (m' : Memory) (number : ℕ) (extended : IsExtended depth m m' root page.base level (level_of page.size) number) (whole : AreWhole m') (w index : ℕ) (leads : meaning (level_of page.size) w ≡ entry.Leaf page.phys page.rights) (is_word : w ≡ leaf_word page.size page.phys page.rights) (is_index : index ≡ index_at (level_of page.size) page.base) (low : index < 512) where
       back : levels depth - (levels depth - level_of page.size) ≡ level_of page.size
       back = omega (arith, place.above, place.below)
 
@@ -202,6 +204,9 @@ module _ (depth : Depth) (m : Memory) (root : ℕ) (table : IsPageTable depth m 
 
       leads_here : meaning (levels depth - (levels depth - level_of page.size)) w ≡ entry.Leaf page.phys page.rights
       leads_here = ap (λ l. meaning l w) back ∙ leads
+
+      written_here : IsWritten (levels depth - (levels depth - level_of page.size)) w
+      written_here = subst (λ l. IsWritten l w) (sym back) (written_leaf (level_of page.size) w page.phys page.rights leads (leaf_at_level page.size w page.phys page.rights is_word))
 
       ends : table_in (Some (meaning (levels depth - (levels depth - level_of page.size)) w)) ≡ None
       ends = ap (λ e. table_in (Some e)) leads_here
@@ -267,15 +272,17 @@ module _ (depth : Depth) (m : Memory) (root : ℕ) (table : IsPageTable depth m 
       map_table limit room = subst (λ i. IsPageTable depth (with_word m' number i w) root) index_same (record {
         tree = tree_new;
         filled = filled_new;
-        reached = reached_write (levels depth) root m' extended.open_at.tree whole (levels depth - level_of page.size) page.base number extended.open_at.reached w ended extended.open_at.all_reached;
+        reached = reached_write (levels depth) root m' extended.open_at.tree whole (levels depth - level_of page.size) page.base number extended.open_at.reached w ended written_here extended.open_at.all_reached;
         whole = whole_written m' number (index_at (levels depth - (levels depth - level_of page.size)) page.base) w (extended.open_at.tree.in_use (levels depth - level_of page.size) page.base number extended.open_at.reached) whole;
         root_fits = table.root_fits;
         some_space = ((step depth limit table.some_space.0 (Map page)).space, space_is limit room table.some_space.0 table.some_space.1);
       })
 
-      pub map_step : (limit : ℕ) → finite.len m + (level - level_of page.size) ≤ limit → IsStep (page_table depth limit root m) (Map page) answers.Done (page_table depth limit root (with_word m' number index w))
-      map_step limit room = record {
+      pub map_step : (first limit : ℕ) → finite.len m + (level - level_of page.size) ≤ limit → IsStep (page_table depth first limit root m) (Map page) answers.Done (page_table depth first limit root (with_word m' number index w))
+      map_step first limit room = record {
+        some_space = own_space depth first limit root m table;
         same = refl;
+        unchanged = λ refused. absurd (cc);
         steps = λ space is.
             let of = space_of depth m root space table is.is_space is.translates in
             let after = subst (λ i. IsSpaceOf depth (with_word m' number i w) root (step depth limit space (Map page)).space) index_same (space_is limit room space of) in

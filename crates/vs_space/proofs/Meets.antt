@@ -3,7 +3,7 @@ use Rattle.std.proofs.Common.{◌≡◌, ◌≢◌, ℕ, ◌-◌, ◌%◌, ◌^�
 use Rattle.std.specs.Prelude.{slice_index}
 use Rattle.std.proofs.lemmas.Bool.{cases_lt}
 use Rattle.vs_types.specs.Depth.{levels, entry_bytes, index_at, IsCanonical}
-use Rattle.vs_types.specs.Entry.{meaning, size_at}
+use Rattle.vs_types.specs.Entry.{meaning, size_at, leaf_word}
 use Rattle.vs_types.specs.Operation.{IsBase}
 use Rattle.vs_types.specs.Page.{level_of, bytes_of}
 use Rattle.vs_types.specs.Space.{Space, IsSpace}
@@ -21,13 +21,10 @@ use Rattle.vs_space.specs.Held.{with_word}
 use Rattle.vs_walk.specs.Ways.{AreWhole}
 use Rattle.vs_space.specs.Way.{found_at, table_in}
 use Rattle.vs_space.specs.Place.{IsPlace}
-use Rattle.vs_space.specs.Table.{PageTable, IsStep, IsSpaceOf, IsPageTable}
+use Rattle.vs_space.specs.Table.{IsStep, IsSpaceOf, IsPageTable}
 use Rattle.vs_space.proofs.Ways.{words_found}
 use Rattle.vs_space.proofs.Regions.{IsLeafPage}
-use Rattle.vs_space.proofs.Protects.{IsMet, space_of, absent_none, never_reserved, page_here, page_level, unmap_none, protect_none, unmap_inside, protect_inside, stays, answer_is, space_is, table_new}
-
-abbrev pub page_table : Depth → ℕ → ℕ → Memory → PageTable
-page_table depth limit root memory = record { depth = depth; limit = limit; root = root; memory = memory }
+use Rattle.vs_space.proofs.Protects.{IsMet, page_table, own_space, space_of, absent_none, never_reserved, page_here, page_level, unmap_none, protect_none, unmap_inside, protect_inside, stays, answer_is, space_is, table_new}
 
 pub met_of : (depth : Depth) (m : Memory) (root a lowest level : ℕ) (way : List ℕ) (e : Meaning) → 1 ≤ lowest → IsPlace depth m root a lowest level way e → IsMet depth m root a (levels depth - level) (slice_index way level) e
 met_of depth m root a lowest level way e some place =
@@ -59,12 +56,12 @@ module _ (depth : Depth) (m : Memory) (root : ℕ) (table : IsPageTable depth m 
       absurd (never_table (slice_index words.0 (index_at 1 base)) n own words.2))
       (cases_lt 1 level)
 
-  pub unmap_absent : (limit : ℕ) → IsPlace depth m root base 1 level way entry.Absent → IsStep (page_table depth limit root m) (Unmap base) answers.NotMapped (page_table depth limit root m)
-  unmap_absent limit place = stays (page_table depth limit root m) (Unmap base) answers.NotMapped (λ space is translates.
+  pub unmap_absent : (first limit : ℕ) → IsPlace depth m root base 1 level way entry.Absent → IsStep (page_table depth first limit root m) (Unmap base) answers.NotMapped (page_table depth first limit root m)
+  unmap_absent first limit place = stays (page_table depth first limit root m) (Unmap base) answers.NotMapped (own_space depth first limit root m table) (λ space is translates.
       unmap_none depth m root table base canonical 0 root limit space (absent_none depth m root table base canonical _ _ space translates (met_of depth m root base 1 level way entry.Absent (omega arith) place)))
 
-  pub protect_absent : (limit : ℕ) (rights : Rights) → IsPlace depth m root base 1 level way entry.Absent → IsStep (page_table depth limit root m) (Protect base rights) answers.NotMapped (page_table depth limit root m)
-  protect_absent limit rights place = stays (page_table depth limit root m) (Protect base rights) answers.NotMapped (λ space is translates.
+  pub protect_absent : (first limit : ℕ) (rights : Rights) → IsPlace depth m root base 1 level way entry.Absent → IsStep (page_table depth first limit root m) (Protect base rights) answers.NotMapped (page_table depth first limit root m)
+  protect_absent first limit rights place = stays (page_table depth first limit root m) (Protect base rights) answers.NotMapped (own_space depth first limit root m table) (λ space is translates.
       protect_none depth m root table base canonical 0 root limit space rights (absent_none depth m root table base canonical _ _ space translates (met_of depth m root base 1 level way entry.Absent (omega arith) place)))
 
   module _ (phys : ℕ) (own : Rights) (place : IsPlace depth m root base 1 level way (entry.Leaf phys own)) where
@@ -101,20 +98,20 @@ module _ (depth : Depth) (m : Memory) (root : ℕ) (table : IsPageTable depth m 
         let offset : base % bytes_of q.size ≡ base % bytes = ap (λ n. base % n) size in
         λ e. inside (omega (arith, leaf.base))
 
-    pub unmap_in : (limit bytes : ℕ) → bytes ≡ bytes_of (size_at level) → base % bytes ≢ 0 → IsStep (page_table depth limit root m) (Unmap base) (answers.Inside (base - base % bytes)) (page_table depth limit root m)
-    unmap_in limit bytes are inside = stays (page_table depth limit root m) (Unmap base) (answers.Inside (base - base % bytes)) (λ space is translates.
+    pub unmap_in : (first limit bytes : ℕ) → bytes ≡ bytes_of (size_at level) → base % bytes ≢ 0 → IsStep (page_table depth first limit root m) (Unmap base) (answers.Inside (base - base % bytes)) (page_table depth first limit root m)
+    unmap_in first limit bytes are inside = stays (page_table depth first limit root m) (Unmap base) (answers.Inside (base - base % bytes)) (own_space depth first limit root m table) (λ space is translates.
         let leaf = page_met space is translates in
         unmap_inside depth m root table base canonical 0 root limit space leaf.0 leaf.1.here (apart_met space leaf.0 leaf.1 bytes are inside)
         ∙ ap (λ b. let s : Stepped = record { space = space; answer = answers.Inside b } in s) (base_met space leaf.0 leaf.1 bytes are))
 
-    pub protect_in : (limit bytes : ℕ) (rights : Rights) → bytes ≡ bytes_of (size_at level) → base % bytes ≢ 0 → IsStep (page_table depth limit root m) (Protect base rights) (answers.Inside (base - base % bytes)) (page_table depth limit root m)
-    protect_in limit bytes rights are inside = stays (page_table depth limit root m) (Protect base rights) (answers.Inside (base - base % bytes)) (λ space is translates.
+    pub protect_in : (first limit bytes : ℕ) (rights : Rights) → bytes ≡ bytes_of (size_at level) → base % bytes ≢ 0 → IsStep (page_table depth first limit root m) (Protect base rights) (answers.Inside (base - base % bytes)) (page_table depth first limit root m)
+    protect_in first limit bytes rights are inside = stays (page_table depth first limit root m) (Protect base rights) (answers.Inside (base - base % bytes)) (own_space depth first limit root m table) (λ space is translates.
         let leaf = page_met space is translates in
         protect_inside depth m root table base canonical 0 root limit space rights leaf.0 leaf.1.here (apart_met space leaf.0 leaf.1 bytes are inside)
         ∙ ap (λ b. let s : Stepped = record { space = space; answer = answers.Inside b } in s) (base_met space leaf.0 leaf.1 bytes are))
 
     -- the table after the leaf has other rights
-    module _ (whole : AreWhole m) (aligned : base % 4096 ≡ 0) (rights : Rights) (w index bytes : ℕ) (leads : meaning (level_of (size_at level)) w ≡ entry.Leaf phys rights) (at : index ≡ index_at level base) (low : index < 512) (are : bytes ≡ bytes_of (size_at level)) (begins : base % bytes ≡ 0) where
+    module _ (whole : AreWhole m) (aligned : base % 4096 ≡ 0) (rights : Rights) (w index bytes : ℕ) (leads : meaning (level_of (size_at level)) w ≡ entry.Leaf phys rights) (is_word : w ≡ leaf_word (size_at level) phys rights) (at : index ≡ index_at level base) (low : index < 512) (are : bytes ≡ bytes_of (size_at level)) (begins : base % bytes ≡ 0) where
       own_level : levels depth - (levels depth - level) ≡ level
       own_level = back place.below
 
@@ -123,6 +120,9 @@ module _ (depth : Depth) (m : Memory) (root : ℕ) (table : IsPageTable depth m 
 
       leads_here : meaning (levels depth - (levels depth - level)) w ≡ entry.Leaf phys rights
       leads_here = ap (λ l. meaning l w) (own_level ∙ sym leaf_again.0) ∙ leads
+
+      word_here : w ≡ leaf_word (size_at (levels depth - (levels depth - level))) phys rights
+      word_here = is_word ∙ ap (λ l. leaf_word (size_at l) phys rights) (sym own_level)
 
       low_here : index_at (levels depth - (levels depth - level)) base < 512
       low_here = subst (λ i. i < 512) (sym index_same) low
@@ -135,14 +135,16 @@ module _ (depth : Depth) (m : Memory) (root : ℕ) (table : IsPageTable depth m 
 
       pub protect_table : IsPageTable depth (with_word m (slice_index way level) index w) root
       protect_table = subst (λ i. IsPageTable depth (with_word m (slice_index way level) i w) root) index_same
-          (table_new depth m root table whole base good _ _ phys own rights met w leads_here low_here begins_here)
+          (table_new depth m root table whole base good _ _ phys own rights met w leads_here word_here low_here begins_here)
 
-      pub protect_step : (limit : ℕ) → IsStep (page_table depth limit root m) (Protect base rights) (answers.Changed own) (page_table depth limit root (with_word m (slice_index way level) index w))
-      protect_step limit = record {
+      pub protect_step : (first limit : ℕ) → IsStep (page_table depth first limit root m) (Protect base rights) (answers.Changed own) (page_table depth first limit root (with_word m (slice_index way level) index w))
+      protect_step first limit = record {
+        some_space = own_space depth first limit root m table;
         same = refl;
+        unchanged = λ refused. absurd (cc);
         steps = λ space is.
             let of = space_of depth m root space table is.is_space is.translates in
             let after = subst (λ i. IsSpaceOf depth (with_word m (slice_index way level) i w) root (step depth limit space (Protect base rights)).space) index_same
-            (space_is depth m root table whole base good _ _ phys own rights met w leads_here low_here begins_here limit space of) in
-            (sym (answer_is depth m root table whole base good _ _ phys own rights met w leads_here low_here begins_here limit space of), record { is_space = after.is_space; translates = after.translates });
+            (space_is depth m root table whole base good _ _ phys own rights met w leads_here word_here low_here begins_here limit space of) in
+            (sym (answer_is depth m root table whole base good _ _ phys own rights met w leads_here word_here low_here begins_here limit space of), record { is_space = after.is_space; translates = after.translates });
       }

@@ -16,12 +16,13 @@ use Rattle.vs_arena.specs.Store.{zeros}
 use Rattle.vs_walk.specs.Memory.{Memory}
 use Rattle.vs_walk.specs.Walk.{as_walk, TranslatesAs, all_rights}
 use Rattle.vs_space.specs.Way.{found_at, table_at, table_in}
-use Rattle.vs_space.specs.Tree.{IsTree, IsReached}
+use Rattle.vs_space.specs.Tree.{IsTree, IsReached, AreWritten}
 use Rattle.vs_space.specs.Table.{IsTableOf, IsPageTable}
 use Rattle.vs_space.proofs.Numbered.{get-insert_same, get-insert_other, len-insert_free, whole-empty, whole-zeros}
 use Rattle.vs_space.proofs.Ways.{table_first, table_next, none_past, walk_found}
 use Rattle.vs_space.proofs.Writes.{used_some}
 use Rattle.vs_space.proofs.Links.{found_in_zeros}
+use Rattle.vs_space.proofs.Written.{written_clear}
 use Rattle.vs_types.proofs.TableCounts.{tables_of_nothing}
 
 module _ (depth : Depth) (root : ℕ) where
@@ -57,7 +58,7 @@ module _ (depth : Depth) (root : ℕ) where
   reached_alone : IsReached (levels depth) alone root
   reached_alone = record {
     way = λ n used. ⊎_elim
-        (λ (same : n ≡ root). (0, 0, table_first (levels depth) root alone 0 ∙ ap Some (sym same)))
+        (λ (same : n ≡ root). (0, 0, table_first (levels depth) root alone 0 ∙ ap Some (sym same), subst (AreWritten (levels depth - 0) alone) (sym same) (written_clear (levels depth - 0) alone root clear)))
         (λ (other : n ≢ root).
         let none : IsSome {T = List ℕ} None = subst IsSome (get-insert_other finite.empty root zeros n other ∙ finite.get-empty nat_cmp n) used in
         absurd (cc))
@@ -90,5 +91,5 @@ module _ (depth : Depth) (root : ℕ) where
     );
   }
 
-  pub new_is_empty : (limit : ℕ) → IsTableOf (record { depth = depth; limit = limit; root = root; memory = finite.insert finite.empty root zeros }) no_pages
-  new_is_empty limit = record { is_space = no_pages_space depth; translates = translates_alone }
+  pub new_is_empty : (first limit : ℕ) → IsTableOf (record { depth = depth; base = first; limit = limit; root = root; memory = finite.insert finite.empty root zeros }) no_pages
+  new_is_empty first limit = record { is_space = no_pages_space depth; translates = translates_alone }

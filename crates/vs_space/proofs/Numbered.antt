@@ -1,5 +1,5 @@
 -- The frames of a store by their numbers.
-use Rattle.std.proofs.Common.{◌≡◌, ◌≢◌, ℕ, suc, ◌+◌, ◌-◌, ◌<◌, cond, T, eqb, List, [], ◌∷◌, map, length, Option, Some, None, is_some, ⊎_elim, refl, sym, ap, subst, ◌∙◌, arith}
+use Rattle.std.proofs.Common.{◌≡◌, ◌≢◌, ℕ, suc, ◌+◌, ◌-◌, ◌<◌, ◌≤◌, cond, T, eqb, List, [], ◌∷◌, map, length, Option, Some, None, is_some, ⊎_elim, refl, sym, ap, subst, ◌∙◌, arith}
 use Rattle.std.proofs.lemmas.Bool.{cases_lt, cases_eq, eq-eqb, ne_eqb}
 use Rattle.std.proofs.lemmas.Option.{none-some}
 use Rattle.std.specs.Ordering.{nat_cmp, is_eq}
@@ -12,7 +12,7 @@ use Rattle.std.proofs.lemmas.List.{length-set, length-replicate}
 use Rattle.vs_arena.specs.Store.{Store, IsInUse, IsFree, words_of, zeros}
 use Rattle.vs_arena.proofs.Stores.{get_in_use}
 use Rattle.vs_walk.specs.Memory.{Memory}
-use Rattle.vs_space.specs.Held.{numbered, Held, word_at, with_word}
+use Rattle.vs_space.specs.Held.{numbered, Held, word_at, with_word, AreNumbered}
 use Rattle.vs_walk.specs.Ways.{AreWhole}
 
 cmp_shift : (b x y : ℕ) → nat_cmp (b + x) (b + y) ≡ nat_cmp x y
@@ -147,8 +147,8 @@ with_word_numbered base store number f index word at used =
     ∙ ap (λ n. finite.insert (numbered base store) n (slice_set (words_of store f) index word)) at
     ∙ ap (λ (o : Option (List ℕ)). finite.insert (numbered base store) number (slice_set (unwrap_or o []) index word)) (sym (some_at base store number f at used))
 
-abbrev pub held : ℕ → Memory → Held
-held limit memory = record { limit = limit; memory = memory }
+abbrev pub held : ℕ → ℕ → Memory → Held
+held base limit memory = record { base = base; limit = limit; memory = memory }
 
 pub whole_numbered : (base : ℕ) (store : Store) → AreWhole store → AreWhole (numbered base store)
 whole_numbered base store is = λ n words got. ⊎_elim
@@ -177,5 +177,44 @@ whole-remove store f is = λ i words got. ⊎_elim
     (λ (other : i ≢ f). is i words (sym (get-remove_other store f i other) ∙ got))
     (cases_eq i f)
 
-pub stored : (limit limit' base base' : ℕ) (store' : Store) (m : Memory) → limit' ≡ limit → base' ≡ base → numbered base store' ≡ m → held limit' (numbered base' store') ≡ held limit m
+pub stored : (limit limit' base base' : ℕ) (store' : Store) (m : Memory) → limit' ≡ limit → base' ≡ base → numbered base store' ≡ m → held base' limit' (numbered base' store') ≡ held base limit m
 stored limit limit' base base' store' m same_limit same_base e = rw (same_limit, same_base, e) refl
+
+-- but for their memory, they are as they were
+pub same_but_memory : (old now new : Held) (m : Memory) → new ≡ record now { memory = m } → now ≡ record old { memory = now.memory } → new ≡ record old { memory = new.memory }
+same_but_memory old now new m is same =
+    is ∙ ap (λ (h : Held). held h.base h.limit m) same ∙ ap (held old.base old.limit) (sym (ap (λ (h : Held). h.memory) is))
+
+-- ---- the numbers of the frames in use
+
+pub numbers_stored : (limit limit' base base' : ℕ) (store' : Store) (m : Memory) → limit' ≡ limit → base' ≡ base → numbered base store' ≡ m → AreNumbered base limit m → AreNumbered base' limit' (numbered base' store')
+numbers_stored limit limit' base base' store' m same_limit same_base e is = rw (same_limit, same_base, e) is
+
+pub numbers_none : (base limit : ℕ) (m : Memory) → m ≡ finite.empty → AreNumbered base limit m
+numbers_none base limit m e = record { from_base = λ n used. absurd (nothing n used); below = λ n used. absurd (nothing n used) } where
+  nothing : (n : ℕ) → IsSome (finite.get m n) → ⊥
+  nothing n used = let none : IsSome {T = List ℕ} None = subst IsSome (ap (λ (s : Memory). finite.get s n) e ∙ finite.get-empty nat_cmp n) used in cc
+
+pub numbers_insert : (base limit : ℕ) (m : Memory) (k : ℕ) (words : List ℕ) → base ≤ k → k < base + limit → AreNumbered base limit m → AreNumbered base limit (finite.insert m k words)
+numbers_insert base limit m k words low high is = record {
+  from_base = λ n used. ⊎_elim
+      (λ (same : n ≡ k). omega arith)
+      (λ (other : n ≢ k). is.from_base n (subst IsSome (get-insert_other m k words n other) used))
+      (cases_eq n k);
+  below = λ n used. ⊎_elim
+      (λ (same : n ≡ k). omega arith)
+      (λ (other : n ≢ k). is.below n (subst IsSome (get-insert_other m k words n other) used))
+      (cases_eq n k);
+}
+
+pub numbers_written : (base limit : ℕ) (m : Memory) (n i w : ℕ) → IsSome (finite.get m n) → AreNumbered base limit m → AreNumbered base limit (with_word m n i w)
+unfolding with_word
+numbers_written base limit m n i w used is = numbers_insert base limit m n _ (is.from_base n used) (is.below n used) is
+
+pub numbers_removed : (base limit : ℕ) (m : Memory) (k : ℕ) → AreNumbered base limit m → AreNumbered base limit (finite.remove m k)
+numbers_removed base limit m k is = record { from_base = λ n used. is.from_base n (before n used); below = λ n used. is.below n (before n used) } where
+  before : (n : ℕ) → IsSome (finite.get (finite.remove m k) n) → IsSome (finite.get m n)
+  before n used = ⊎_elim
+      (λ (same : n ≡ k). let none : IsSome {T = List ℕ} None = subst IsSome (ap (finite.get (finite.remove m k)) same ∙ get-remove_same m k) used in absurd (cc))
+      (λ (other : n ≢ k). subst IsSome (get-remove_other m k n other) used)
+      (cases_eq n k)

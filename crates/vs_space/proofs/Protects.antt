@@ -1,7 +1,7 @@
 -- What a page table is after the rights of a page have changed.
 use Rattle.std.proofs.Common.{◌≡◌, ◌≢◌, ℕ, suc, ◌+◌, ◌-◌, ◌%◌, ◌<◌, Some, None, refl, sym, ap, subst, ◌∙◌, arith}
 use Rattle.vs_types.specs.Depth.{levels, entry_bytes, index_at, IsCanonical}
-use Rattle.vs_types.specs.Entry.{meaning, size_at}
+use Rattle.vs_types.specs.Entry.{meaning, size_at, leaf_word}
 use Rattle.vs_types.specs.Operation.{IsBase}
 use Rattle.vs_types.specs.Page.{level_of, bytes_of}
 use Rattle.vs_types.specs.Space.{Space, IsSpace, page_at, table_count}
@@ -33,6 +33,7 @@ use Rattle.vs_space.proofs.Ways.{walk_ends}
 use Rattle.vs_space.proofs.Writes.{table_here, found_on_way, walk_off_way, len_written}
 use Rattle.vs_space.proofs.Trees.{tree_write, but_none, but_write, filled_by}
 use Rattle.vs_space.proofs.Reached.{reached_write, whole_written}
+use Rattle.vs_space.proofs.Written.{written_leaf}
 use Rattle.vs_space.proofs.Regions.{IsLeafPage, leaf_page, nothing_at, translates_changed, way_covers}
 
 -- a page table is that of just one space, which has as many tables as there are
@@ -104,10 +105,20 @@ module _ (depth : Depth) (m : Memory) (root : ℕ) (table : IsPageTable depth m 
       (λ p e is. let one : p ≡ q = cc in ap (λ (z : Page). answers.Changed z.rights) one)
       (λ p e differs. let one : p ≡ q = cc in absurd (differs (ap (λ (z : Page). z.base) one ∙ same)))
 
+-- what contracts see of a page table, whose store begins with the frame of this number
+abbrev pub page_table : Depth → ℕ → ℕ → ℕ → Memory → PageTable
+page_table depth first limit root memory = record { depth = depth; base = first; limit = limit; root = root; memory = memory }
+
+-- the space that the table is of
+pub own_space : (depth : Depth) (first limit root : ℕ) (m : Memory) → IsPageTable depth m root → (space : Space) × IsTableOf (page_table depth first limit root m) space
+own_space depth first limit root m table = (table.some_space.0, record { is_space = table.some_space.1.is_space; translates = table.some_space.1.translates })
+
 -- a table that doesn't change makes a step whose space stays
-pub stays : (old : PageTable) (action : Action) (answer : Answer) → ((space : Space) → IsSpace old.depth space → TranslatesAs old.depth old.memory old.root space → step old.depth old.limit space action ≡ record { space = space; answer = answer }) → IsStep old action answer old
-stays old action answer says = record {
+pub stays : (old : PageTable) (action : Action) (answer : Answer) → (space : Space) × IsTableOf old space → ((space : Space) → IsSpace old.depth space → TranslatesAs old.depth old.memory old.root space → step old.depth old.limit space action ≡ record { space = space; answer = answer }) → IsStep old action answer old
+stays old action answer own says = record {
+  some_space = own;
   same = refl;
+  unchanged = λ refused. refl;
   steps = λ space is.
       let e = says space is.is_space is.translates in
       (sym (ap (λ (s : Stepped). s.answer) e), subst (IsTableOf old) (sym (ap (λ (s : Stepped). s.space) e)) is);
@@ -115,7 +126,7 @@ stays old action answer says = record {
 
 -- ---- the rights of a leaf change
 
-module _ (depth : Depth) (m : Memory) (root : ℕ) (table : IsPageTable depth m root) (whole : AreWhole m) (base : ℕ) (good : IsBase depth base) (k n phys : ℕ) (own rights : Rights) (met : IsMet depth m root base k n (entry.Leaf phys own)) (w : ℕ) (leads : meaning (levels depth - k) w ≡ entry.Leaf phys rights) (low : index_at (levels depth - k) base < 512) (aligned : base % entry_bytes (levels depth - k) ≡ 0) where
+module _ (depth : Depth) (m : Memory) (root : ℕ) (table : IsPageTable depth m root) (whole : AreWhole m) (base : ℕ) (good : IsBase depth base) (k n phys : ℕ) (own rights : Rights) (met : IsMet depth m root base k n (entry.Leaf phys own)) (w : ℕ) (leads : meaning (levels depth - k) w ≡ entry.Leaf phys rights) (is_word : w ≡ leaf_word (size_at (levels depth - k)) phys rights) (low : index_at (levels depth - k) base < 512) (aligned : base % entry_bytes (levels depth - k) ≡ 0) where
   abbrev new : Memory
   new = with_word m n (index_at (levels depth - k) base) w
 
@@ -180,7 +191,7 @@ module _ (depth : Depth) (m : Memory) (root : ℕ) (table : IsPageTable depth m 
   table_new = record {
     tree = tree_new;
     filled = filled_new;
-    reached = reached_write (levels depth) root m table.tree whole k base n met.at w (ap table_in met.found) table.reached;
+    reached = reached_write (levels depth) root m table.tree whole k base n met.at w (ap table_in met.found) (written_leaf (levels depth - k) w phys rights leads is_word) table.reached;
     whole = whole_written m n (index_at (levels depth - k) base) w (table.tree.in_use k base n met.at) whole;
     root_fits = table.root_fits;
     some_space = ((step depth 0 table.some_space.0 (Protect base rights)).space, space_is 0 table.some_space.0 table.some_space.1);

@@ -10,12 +10,14 @@ use Rattle.vs_walk.specs.Memory.{Memory}
 use Rattle.vs_space.specs.Held.{with_word}
 use Rattle.vs_walk.specs.Ways.{AreWhole}
 use Rattle.vs_space.specs.Way.{found_at, table_in, table_at, SameWay}
-use Rattle.vs_space.specs.Tree.{IsTree, IsReached}
-use Rattle.vs_space.proofs.Numbered.{get-insert_other, get-remove_same, get-remove_other, whole-insert}
+use Rattle.vs_space.specs.Tree.{IsTree, IsReached, AreWritten}
+use Rattle.vs_space.specs.Written.{IsWritten}
+use Rattle.vs_space.proofs.Numbered.{get-insert_same, get-insert_other, get-remove_same, get-remove_other, whole-insert}
 use Rattle.vs_space.proofs.Ways.{table_next, none_past, same_table, found_same}
 use Rattle.vs_space.proofs.Writes.{words_in, get_written_other, table_off_way, table_above, same_or_not}
 use Rattle.vs_space.proofs.Trees.{one_some, unreached_table}
-use Rattle.vs_space.proofs.Links.{table_take, tree_take, cut_alike}
+use Rattle.vs_space.proofs.Links.{table_take, tree_take, new_unreached, cut_alike}
+use Rattle.vs_space.proofs.Written.{written_zero, written_alike, written_clear, written_on}
 
 -- ---- frames in use
 
@@ -71,22 +73,32 @@ module _ (top : ℕ) (root : ℕ) (m : Memory) (tree : IsTree top m root) (whole
     stands : (j b q : ℕ) → table_at top m root j b ≡ Some q → table_at top (with_word m n (index_at (top - k) a) w) root j b ≡ Some q
     stands j b q reached = stands_off j b q (λ same past. ended_before top root m (suc k) j b q (ended_at b same) (omega (arith, past)) reached) reached
 
-    pub reached_write : IsReached top m root → IsReached top (with_word m n (index_at (top - k) a) w) root
-    reached_write is = record {
-      way = λ q now. let old = is.way q (used_before m n (index_at (top - k) a) w q (tree.in_use k a n at) now) in (old.0, old.1, stands old.0 old.1 q old.2);
+    pub reached_write : IsWritten (top - k) w → IsReached top m root → IsReached top (with_word m n (index_at (top - k) a) w) root
+    reached_write written is = record {
+      way = λ q now.
+          let old = is.way q (used_before m n (index_at (top - k) a) w q (tree.in_use k a n at) now) in
+          (old.0, old.1, stands old.0 old.1 q old.2, written_on top root m tree whole k a n at w written old.0 old.1 q old.2 old.3);
     }
 
 -- ---- a frame that wasn't in use is linked at an absent entry
 
-pub reached_link : (top root : ℕ) (m : Memory) (tree : IsTree top m root) (f : ℕ) (free : finite.get m f ≡ None) (whole : AreWhole (finite.insert m f zeros)) (k a n : ℕ) → table_at top (finite.insert m f zeros) root k a ≡ Some n → (w : ℕ) → table_in (found_at (top - k) (finite.insert m f zeros) n a) ≡ None → table_at top (with_word (finite.insert m f zeros) n (index_at (top - k) a) w) root (suc k) a ≡ Some f → IsReached top m root → IsReached top (with_word (finite.insert m f zeros) n (index_at (top - k) a) w) root
-reached_link top root m tree f free whole k a n at w ended down is = record {
+pub reached_link : (top root : ℕ) (m : Memory) (tree : IsTree top m root) (f : ℕ) (free : finite.get m f ≡ None) (whole : AreWhole (finite.insert m f zeros)) (k a n : ℕ) → table_at top (finite.insert m f zeros) root k a ≡ Some n → (w : ℕ) → table_in (found_at (top - k) (finite.insert m f zeros) n a) ≡ None → table_at top (with_word (finite.insert m f zeros) n (index_at (top - k) a) w) root (suc k) a ≡ Some f → IsWritten (top - k) w → IsReached top m root → IsReached top (with_word (finite.insert m f zeros) n (index_at (top - k) a) w) root
+reached_link top root m tree f free whole k a n at w ended down written is = record {
   way = λ q now. ⊎_elim
-      (λ (same : q ≡ f). (suc k, a, down ∙ ap Some (sym same)))
+      (λ (same : q ≡ f).
+      let apart : f ≢ n = λ e. new_unreached top root m tree f free k a (at ∙ ap Some (sym e)) in
+      let clear : finite.get (with_word (finite.insert m f zeros) n (index_at (top - k) a) w) f ≡ Some zeros = get_written_other (finite.insert m f zeros) n (index_at (top - k) a) w f apart ∙ get-insert_same m f zeros in
+      (suc k, a, down ∙ ap Some (sym same), subst (AreWritten (top - suc k) (with_word (finite.insert m f zeros) n (index_at (top - k) a) w)) (sym same) (written_clear (top - suc k) _ f clear)))
       (λ (other : q ≢ f).
       let taken = tree_take top root m tree f free in
       let before = used_before (finite.insert m f zeros) n (index_at (top - k) a) w q (taken.in_use k a n at) now in
       let old = is.way q (subst IsSome (get-insert_other m f zeros q other) before) in
-      (old.0, old.1, stands top root (finite.insert m f zeros) taken whole k a n at w ended old.0 old.1 q (table_take top root m tree f free old.0 old.1 ∙ old.2)))
+      let there = table_take top root m tree f free old.0 old.1 ∙ old.2 in (
+        old.0,
+        old.1,
+        stands top root (finite.insert m f zeros) taken whole k a n at w ended old.0 old.1 q there,
+        written_on top root (finite.insert m f zeros) taken whole k a n at w written old.0 old.1 q there (written_alike (top - old.0) m (finite.insert m f zeros) q (get-insert_other m f zeros q other) old.3),
+      ))
       (cases_eq q f);
 }
 
@@ -105,5 +117,6 @@ reached_unlink top root m tree whole k a n f at down low empty is = record {
         old.0,
         old.1,
         unreached_table top root cut (finite.remove cut f) (cut_alike top root m tree whole k a n f at down low) old.0 old.1 ∙ stands_off top root m tree whole k a n at 0 old.0 old.1 q off old.2,
+        written_alike (top - old.0) cut (finite.remove cut f) q (get-remove_other cut f q other) (written_on top root m tree whole k a n at 0 (written_zero (top - k)) old.0 old.1 q old.2 old.3),
       );
 }

@@ -33,10 +33,11 @@ use Rattle.vs_space.proofs.Ways.{walk_ends}
 use Rattle.vs_space.proofs.Writes.{table_here, table_above, found_on_way, walk_off_way, len_written, same_or_not}
 use Rattle.vs_space.proofs.Trees.{tree_write, but_none, but_write}
 use Rattle.vs_space.proofs.Reached.{reached_write, whole_written}
+use Rattle.vs_space.proofs.Written.{written_zero}
 use Rattle.vs_space.proofs.Regions.{IsLeafPage, nothing_at, translates_changed}
-use Rattle.vs_space.proofs.Protects.{space_of}
+use Rattle.vs_space.proofs.Protects.{page_table, own_space, space_of}
 use Rattle.vs_space.proofs.TableCounts.{count_added}
-use Rattle.vs_space.proofs.Meets.{page_table, page_met, level_met}
+use Rattle.vs_space.proofs.Meets.{page_met, level_met}
 
 -- the unmap of the page that begins there
 unmap_removes : (depth : Depth) (limit : ℕ) (space : Space) (base : ℕ) (q : Page) → page_at space base ≡ Some q → q.base ≡ base → step depth limit space (Unmap base) ≡ record { space = finite.remove space base; answer = answers.Removed q.phys q.size q.rights }
@@ -100,7 +101,7 @@ module _ (depth : Depth) (m : Memory) (root : ℕ) (table : IsPageTable depth m 
   is_cut = record {
     tree = tree_cut;
     filled = but_write depth root m table.tree whole (levels depth - level) base (slice_index way level) at 0 low ends (but_none base table.filled);
-    all_reached = reached_write (levels depth) root m table.tree whole (levels depth - level) base (slice_index way level) at 0 (ap table_in found) table.reached;
+    all_reached = reached_write (levels depth) root m table.tree whole (levels depth - level) base (slice_index way level) at 0 (ap table_in found) (written_zero (levels depth - (levels depth - level))) table.reached;
     whole = whole_written m (slice_index way level) (index_at (levels depth - (levels depth - level)) base) 0 (table.tree.in_use (levels depth - level) base (slice_index way level) at) whole;
     some = place.above;
     below = place.below;
@@ -206,9 +207,11 @@ module _ (depth : Depth) (m : Memory) (root : ℕ) (table : IsPageTable depth m 
       some_space = ((step depth 0 table.some_space.0 (Unmap base)).space, space_is m' up pruned_here aligned 0 table.some_space.0 table.some_space.1);
     }
 
-    pub unmap_step : (limit : ℕ) → IsStep (page_table depth limit root m) (Unmap base) (answers.Removed phys (size_at level) own) (page_table depth limit root m')
-    unmap_step limit = record {
+    pub unmap_step : (first limit : ℕ) → IsStep (page_table depth first limit root m) (Unmap base) (answers.Removed phys (size_at level) own) (page_table depth first limit root m')
+    unmap_step first limit = record {
+      some_space = own_space depth first limit root m table;
       same = refl;
+      unchanged = λ refused. absurd (cc);
       steps = λ space is.
           let of = space_of depth m root space table is.is_space is.translates in
           let now = space_is m' up pruned_here aligned limit space of in

@@ -32,7 +32,7 @@ found_of level m n b o e = ap (λ (x : Option (List ℕ)). option_map (meaning l
 pub found_alike : (level : ℕ) (m m' : Memory) (n b : ℕ) → finite.get m' n ≡ finite.get m n → found_at level m' n b ≡ found_at level m n b
 found_alike level m m' n b e = found_of level m' n b (finite.get m n) e ∙ sym (found_of level m n b (finite.get m n) refl)
 
-get_written : (m : Memory) (n i w : ℕ) → finite.get (with_word m n i w) n ≡ Some (slice_set (unwrap_or (finite.get m n) []) i w)
+pub get_written : (m : Memory) (n i w : ℕ) → finite.get (with_word m n i w) n ≡ Some (slice_set (unwrap_or (finite.get m n) []) i w)
 unfolding with_word
 get_written m n i w = get-insert_same m n _
 

@@ -1,5 +1,5 @@
 -- The frames of a store by their numbers, and how many it can have.
-use Rattle.std.specs.Prelude.{ℕ, ◌+◌, [], map, Option, option_map, unwrap_or, slice_index, slice_set, refl}
+use Rattle.std.specs.Prelude.{ℕ, ◌+◌, ◌<◌, ◌≤◌, [], map, Option, IsSome, option_map, unwrap_or, slice_index, slice_set, refl}
 use Rattle.std.specs.Coded.{Coded, code_by, coded×, coded_ℕ, coded_list}
 use Rattle.std.specs.FinMap as finite
 use Rattle.std.specs.Ordering.{nat_cmp}
@@ -10,13 +10,20 @@ use Rattle.vs_walk.specs.Memory.{Memory}
 unfoldable pub numbered : ℕ → Store → Memory
 numbered base store = finite.from_sorted (map (λ e. (base + e.0, e.1)) (finite.entries store))
 
--- how many frames there can be in use, and those in use
+-- the number of frame 0, how many frames there can be in use, and those in use
 pub record Held : Type 0 where
+  pub base : ℕ
   pub limit : ℕ
   pub memory : Memory
 
 abbrev pub held_code : Coded Held
-held_code = code_by (ℕ × Memory) (coded× coded_ℕ (finite.code {R = nat_cmp} coded_ℕ (coded_list coded_ℕ))) (λ h. (h.limit, h.memory)) (λ p. record { limit = p.0; memory = p.1 }) (λ _. refl)
+held_code = code_by (ℕ × (ℕ × Memory)) (coded× coded_ℕ (coded× coded_ℕ (finite.code {R = nat_cmp} coded_ℕ (coded_list coded_ℕ))))
+    (λ h. (h.base, (h.limit, h.memory))) (λ p. record { base = p.0; limit = p.1.0; memory = p.1.1 }) (λ _. refl)
+
+-- the frames in use have numbers from the base on, below the base plus how many there can be
+pub record AreNumbered (base limit : ℕ) (memory : Memory) : Type 0 where
+  pub from_base : (number : ℕ) → IsSome (finite.get memory number) → base ≤ number
+  pub below : (number : ℕ) → IsSome (finite.get memory number) → number < base + limit
 
 -- the word of a frame at an index, where the frame is in use
 unfoldable pub word_at : Memory → ℕ → ℕ → Option ℕ

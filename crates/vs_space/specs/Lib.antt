@@ -1,5 +1,6 @@
 pub mod Held
 pub mod Way
+pub mod Written
 pub mod Tree
 pub mod Prune
 pub mod Grow
@@ -10,6 +11,7 @@ pub use Rattle.vs_types.specs.Page
 pub use Rattle.vs_types.specs.Operation
 pub use Rattle.vs_types.specs.Space
 pub use Rattle.vs_types.specs.Step
+pub use Rattle.vs_types.specs.Laws
 pub use Rattle.vs_walk.specs.Memory
 pub use Rattle.vs_walk.specs.Walk
 pub use Rattle.vs_arena.specs.Store

@@ -9,7 +9,9 @@ use Rattle.vs_types.specs.declared.entry.Meaning.TheVariants as entry
 use Rattle.vs_walk.specs.Memory.{Memory}
 use Rattle.vs_walk.specs.Walk.{walk}
 use Rattle.vs_walk.specs.declared.walk.Walk.TheVariants.{NotMapped}
+use Rattle.vs_space.specs.Held.{word_at}
 use Rattle.vs_space.specs.Way.{found_at, table_at, SameWay}
+use Rattle.vs_space.specs.Written.{IsWritten}
 
 -- the tables that are reached are in use, no two ways lead to one, and entries that lead to tables allow everything
 pub record IsTree (top : ℕ) (memory : Memory) (root : ℕ) : Type 0 where
@@ -25,6 +27,10 @@ NothingUnder depth memory root k a = (b : ℕ) → IsCanonical depth b → SameW
 pub record IsFilled (depth : Depth) (memory : Memory) (root : ℕ) : Type 0 where
   pub filled : (k a n : ℕ) → table_at (levels depth) memory root (suc k) a ≡ Some n → NothingUnder depth memory root (suc k) a → ⊥
 
--- each frame in use is a table that is reached
+-- each word of a frame is written as an entry of this level
+abbrev pub AreWritten : ℕ → Memory → ℕ → Type 0
+AreWritten level memory number = (index word : ℕ) → word_at memory number index ≡ Some word → IsWritten level word
+
+-- each frame in use is a table that is reached, with its words as written
 pub record IsReached (top : ℕ) (memory : Memory) (root : ℕ) : Type 0 where
-  pub way : (n : ℕ) → IsSome (finite.get memory n) → (k : ℕ) × (a : ℕ) × (table_at top memory root k a ≡ Some n)
+  pub way : (n : ℕ) → IsSome (finite.get memory n) → (k : ℕ) × (a : ℕ) × (table_at top memory root k a ≡ Some n) × AreWritten (top - k) memory n

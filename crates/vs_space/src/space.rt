@@ -1,4 +1,4 @@
-ghost use Rattle.std.specs.Prelude.{◌<◌, ◌≤◌, ◌≡◌, ◌^◌, ℕ, Contains, IsTrue, None, IfOk, OnErr};
+ghost use Rattle.std.specs.Prelude.{◌<◌, ◌≤◌, ◌≡◌, ◌^◌, ◌+◌, ℕ, Contains, IsTrue, None, IfOk, OnErr};
 ghost use Rattle.std.specs.FinMap as finite;
 ghost use Rattle.vs_types.specs.declared.op.Action.{Action};
 ghost use Rattle.vs_types.specs.Depth.{IsCanonical};
@@ -9,6 +9,7 @@ ghost use Rattle.vs_types.specs.Space.{no_pages, table_count};
 ghost use Rattle.vs_types.specs.Step.{look};
 ghost use Rattle.vs_walk.specs.Traversal.{moves, reached, walk_fault};
 ghost use Rattle.vs_space.specs.Table.{PageTable, IsTableOf, IsStep};
+ghost use Rattle.vs_space.specs.Written.{IsWrittenTable};
 
 use crate::tables::Tables;
 use std::marker::Model;
@@ -32,15 +33,16 @@ impl<S: FrameStore> Model for Space<S> {
     ghost use Rattle.std.specs.Coded.{codes, coded_ℕ, coded_list};
     ghost use Rattle.std.specs.FinMap as finite;
     ghost use Rattle.std.specs.Ordering.{nat_cmp};
+    ghost use Rattle.vs_space.specs.Held.{AreNumbered};
     ghost use Rattle.vs_space.specs.Table.{PageTable, IsPageTable};
 
     ghost Value = { PageTable };
 
     ghost coded = { Prim.hlevel (codes, finite.code {R = nat_cmp} coded_ℕ (coded_list coded_ℕ)) };
 
-    ghost view = { λ s. record { depth = s.depth; limit = s.tables.limit; root = s.root; memory = s.tables.memory } };
+    ghost view = { λ s. record { depth = s.depth; base = s.tables.base; limit = s.tables.limit; root = s.root; memory = s.tables.memory } };
 
-    ghost invariant = { λ s. IsPageTable s.depth s.tables.memory s.root };
+    ghost invariant = { λ s. IsPageTable s.depth s.tables.memory s.root × AreNumbered s.tables.base s.tables.limit s.tables.memory };
 }
 
 impl<S: FrameStore> Frames for Space<S> {
@@ -62,6 +64,7 @@ impl<S: FrameStore + Drop> Space<S> {
         requires { S.frames store ≡ finite.empty }
         ensures empty { IfOk result (λ s. IsTableOf s no_pages) }
         ensures same_depth { IfOk result (λ s. s.depth ≡ depth) }
+        ensures base { IfOk result (λ s. s.base ≡ S.base store) }
         ensures limit { IfOk result (λ s. s.limit ≡ S.size store) }
         ensures no_root { OnErr result (S.size store ≡ 0) }
     {
@@ -88,13 +91,17 @@ impl<S: FrameStore> Space<S> {
     }
 
     /// The frame number of the root. The way through all tables from there meets no fault, and reaches just the frames
-    /// in use. Frame numbers are below 2^40.
+    /// in use, each word of which is 0, or the word that `Entry` writes for a table or for a page of its level. Frame
+    /// numbers are those of the store: from its base up to below its base plus its capacity, and below 2^40.
     pub fn root(&self) -> u64
         ensures reads { result ≡ self.now.root }
         ensures some_space { (space : spaces.Space) × IsTableOf self.now space }
         ensures faultless { walk_fault self.now.depth self.now.memory self.now.root ≡ None }
         ensures in_use { (number : ℕ) → Contains (reached (moves self.now.depth self.now.memory self.now.root)) number → IsTrue (finite.contains_key self.now.memory number) }
         ensures each { (number : ℕ) → IsTrue (finite.contains_key self.now.memory number) → Contains (reached (moves self.now.depth self.now.memory self.now.root)) number }
+        ensures written { (number : ℕ) → IsTrue (finite.contains_key self.now.memory number) → IsWrittenTable self.now.depth self.now.memory self.now.root number }
+        ensures from_base { (number : ℕ) → IsTrue (finite.contains_key self.now.memory number) → self.now.base ≤ number }
+        ensures below_limit { (number : ℕ) → IsTrue (finite.contains_key self.now.memory number) → number < self.now.base + self.now.limit }
         ensures in_range { (number : ℕ) → IsTrue (finite.contains_key self.now.memory number) → number < 2 ^ 40 }
     {
         self.root

@@ -6,7 +6,7 @@ ghost use Rattle.vs_walk.specs.Walk.{walk};
 ghost use Rattle.vs_walk.specs.declared.walk.Walk.{Walk};
 ghost use Rattle.vs_types.specs.declared.entry.Meaning.{Meaning};
 ghost use Rattle.vs_space.specs.Prune.{IsCut, IsPruned};
-ghost use Rattle.vs_space.specs.Held.{numbered, word_at, with_word};
+ghost use Rattle.vs_space.specs.Held.{numbered, word_at, with_word, AreNumbered};
 ghost use Rattle.vs_walk.specs.Ways.{AreWhole};
 ghost use Rattle.vs_space.specs.Way.{found_at, table_at, entry_in, IsFirstPresent};
 ghost use Rattle.vs_space.specs.Tree.{IsTree, IsFilled};
@@ -25,22 +25,22 @@ pub(crate) struct Tables<S: FrameStore> {
 }
 
 impl<S: FrameStore> Model for Tables<S> {
-    ghost use Rattle.vs_space.specs.Held.{Held, held_code, numbered};
+    ghost use Rattle.vs_space.specs.Held.{Held, held_code, numbered, AreNumbered};
     ghost use Rattle.vs_walk.specs.Ways.{AreWhole};
 
     ghost Value = { Held };
 
     ghost coded = { held_code };
 
-    ghost view = { λ t. record { limit = S.size t.store; memory = numbered (S.base t.store) (S.frames t.store) } };
+    ghost view = { λ t. record { base = S.base t.store; limit = S.size t.store; memory = numbered (S.base t.store) (S.frames t.store) } };
 
-    ghost invariant = { λ t. AreWhole (S.frames t.store) };
+    ghost invariant = { λ t. AreWhole (S.frames t.store) × AreNumbered (S.base t.store) (S.size t.store) (numbered (S.base t.store) (S.frames t.store)) };
 }
 
 impl<S: FrameStore> Tables<S> {
     pub(crate) fn new(store: S) -> Tables<S>
         requires { S.frames store ≡ finite.empty }
-        ensures { result ≡ record { limit = S.size store; memory = finite.empty } }
+        ensures { result ≡ record { base = S.base store; limit = S.size store; memory = finite.empty } }
     {
         Tables { store }
     }
@@ -84,6 +84,7 @@ impl<S: FrameStore> Tables<S> {
         requires in_frame { index < 512 }
         ensures written { self.new ≡ record self.old { memory = with_word self.old.memory number index word } }
         ensures whole { AreWhole self.old.memory }
+        ensures numbers { AreNumbered self.new.base self.new.limit self.new.memory }
     {
         let frame = frame_of(&self.store, number);
         self.store.set(frame, index, word);
@@ -94,6 +95,7 @@ impl<S: FrameStore> Tables<S> {
         ensures was_free { IfSome result (λ n. finite.get self.old.memory n ≡ None) }
         ensures taken { IfSome result (λ n. self.new ≡ record self.old { memory = finite.insert self.old.memory n zeros }) }
         ensures in_range { IfSome result (λ n. n < 2 ^ 40) }
+        ensures numbers { IfSome result (λ _. AreNumbered self.new.base self.new.limit self.new.memory) }
         ensures all_in_use { IfNone result (finite.len self.old.memory ≡ self.old.limit) }
         ensures unchanged { IfNone result (self.new ≡ self.old) }
     {
@@ -104,7 +106,8 @@ impl<S: FrameStore> Tables<S> {
     /// Gives a frame back.
     pub(crate) fn give(&mut self, number: u64)
         requires { IsSome (finite.get self.old.memory number) }
-        ensures { self.new ≡ record self.old { memory = finite.remove self.old.memory number } }
+        ensures removed { self.new ≡ record self.old { memory = finite.remove self.old.memory number } }
+        ensures numbers { AreNumbered self.new.base self.new.limit self.new.memory }
     {
         let frame = frame_of(&self.store, number);
         self.store.give(frame);
@@ -169,9 +172,11 @@ impl<S: FrameStore> Tables<S> {
     pub(crate) fn prune(&mut self, depth: Depth, address: u64, way: &[u64; WAY], from: u8) -> u8
         requires canonical { IsCanonical depth address }
         requires faultless { (b : ℕ) → IsCanonical depth b → walk depth self.old.memory (slice_index way.now (levels depth)) b ≢ Walk.Reserved }
+        requires numbers { AreNumbered self.old.base self.old.limit self.old.memory }
         requires cut { IsCut depth self.old.memory (slice_index way.now (levels depth)) address from way.now }
         ensures pruned { IsPruned depth self.old.memory self.new.memory (slice_index way.now (levels depth)) address from result }
-        ensures same_limit { self.new.limit ≡ self.old.limit }
+        ensures same { self.new ≡ record self.old { memory = self.new.memory } }
+        ensures numbers { AreNumbered self.new.base self.new.limit self.new.memory }
     {
         let mut level = from;
         while level < depth.levels() {
@@ -203,7 +208,7 @@ impl<S: FrameStore> Tables<S> {
         requires few_levels { from ≤ 5 }
         requires room { finite.len self.old.memory + (from - lowest) ≤ self.old.limit }
         ensures extended { IsExtended depth self.old.memory self.new.memory root address from lowest result }
-        ensures same_limit { self.new.limit ≡ self.old.limit }
+        ensures same { self.new ≡ record self.old { memory = self.new.memory } }
     {
         let mut level = from;
         let mut number = last;

@@ -1,5 +1,8 @@
+pub mod Afterwards
 pub mod Computing
 pub mod LeafWords
+pub mod LogWords
+pub mod OneEntry
 pub mod Lists
 pub mod Counts
 pub mod Pages

@@ -54,11 +54,19 @@ both_halves = map_all 0x7FFFFFFFF000 K4 0x2000 ∷ map_all 0xFFFF800000000000 K4
 abbrev pub small_then_large : List Action
 small_then_large = map_all 0x40200000 K4 0x1000 ∷ map_all 0x40001000 K4 0x2000 ∷ map_all 0x40000000 G1 0x40000000 ∷ []
 
+-- a large page, a small one in it, and a protect of an address in it
+abbrev pub large_then_small : List Action
+large_then_small = map_all 0x200000 M2 0x200000 ∷ map_all 0x201000 K4 0x1000 ∷ Protect 0x201000 all_rights ∷ []
+
+-- the last page that there can be, and a small one at its end
+abbrev pub last_page : List Action
+last_page = map_all 0xFFFFFFFFC0000000 G1 0 ∷ map_all 0xFFFFFFFFFFFFF000 K4 0 ∷ []
+
 -- a page of 1 GiB, and an unmap in its midst
 abbrev pub one_gigabyte : List Action
 one_gigabyte = Map (record { base = 0x40000000; size = G1; phys = 0x40000000; rights = write_only }) ∷ Unmap 0x40001000 ∷ []
 
--- a page of 2 MiB, a small page behind it and one in it
+-- a page of 2 MiB, a small page after it and one in it
 abbrev pub past_three_tables : List Action
 past_three_tables = map_all 0x200000 M2 0x200000 ∷ map_all 0x400000 K4 0x1000 ∷ map_all 0x200000 K4 0x1000 ∷ []
 

@@ -4,9 +4,13 @@ pub mod Config
 pub mod Page
 pub mod Operation
 pub mod Query
+pub mod Codes
+pub mod Finds
+pub mod LogEntry
 pub mod Space
 pub mod Step
 pub mod Entry
 pub mod Frame
 pub mod Examples
 pub mod Laws
+pub mod Refusal

@@ -16,7 +16,7 @@ level_of G1 = 3
 abbrev pub bytes_of : Size → ℕ
 bytes_of size = entry_bytes (level_of size)
 
--- the first address behind a page; 2 ^ 64 for the last page that there can be
+-- the first address after a page; 2 ^ 64 for the last page that there can be
 abbrev pub end_of : Page → ℕ
 end_of page = page.base + bytes_of page.size
 
@@ -35,7 +35,7 @@ pub record IsPageBelow (limit : ℕ) (depth : Depth) (page : Page) : Type 0 wher
   pub phys_aligned : page.phys % bytes_of page.size ≡ 0
   pub phys_range : page.phys + bytes_of page.size ≤ limit
 
--- mapped pages lie wholly below physical 2 ^ 51; above are the tables
+-- mapped pages lie wholly below physical 2 ^ 51; the tables of a store whose frames begin there, or above, are not mapped
 abbrev pub IsPage : Depth → Page → Type 0
 IsPage = IsPageBelow (2 ^ 51)
 

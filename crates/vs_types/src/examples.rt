@@ -7,7 +7,7 @@ ghost use Rattle.vs_types.specs.declared.entry.Meaning.TheVariants.{Leaf, Reserv
 ghost use Rattle.vs_types.specs.declared.page.Size.TheVariants.{G1, K4, M2};
 ghost use Rattle.vs_types.specs.Depth.{index_at, is_canonical};
 ghost use Rattle.vs_types.specs.Entry.{all_rights, leaf_word, meaning, table_word};
-ghost use Rattle.vs_types.specs.Examples.{answers, both_halves, look_after, no_rights, one_gigabyte, other_rights, past_three_tables, small_replaced, small_then_large, tables_after, user_and_exec, write_only};
+ghost use Rattle.vs_types.specs.Examples.{answers, both_halves, large_then_small, last_page, look_after, map_all, no_rights, one_gigabyte, other_rights, past_three_tables, small_replaced, small_then_large, tables_after, user_and_exec, write_only};
 
 /// Pages at both ends of the addresses that are not canonical.
 pub fn both_halves_of_the_address_space()
@@ -25,6 +25,18 @@ pub fn overlap_names_least_base()
     ensures tables { tables_after Four 4096 small_then_large ≡ 5 }
 {}
 
+/// A page that begins before the new one is named too, and so it is to a protect of an address in it.
+pub fn overlap_names_a_page_that_begins_before()
+    ensures answers { answers Four 4096 large_then_small ≡ Done ∷ Overlap 0x200000 ∷ Inside 0x200000 ∷ [] }
+    ensures tables { tables_after Four 4096 large_then_small ≡ 3 }
+{}
+
+/// The last page of all ends at 2^64.
+pub fn last_page_of_the_address_space()
+    ensures answers { answers Four 4096 last_page ≡ Done ∷ Overlap 0xFFFFFFFFC0000000 ∷ [] }
+    ensures last_address { look_after Four 4096 last_page 0xFFFFFFFFFFFFFFFF ≡ Mapped 0x3FFFFFFF G1 all_rights }
+{}
+
 /// A page of 1 GiB, write only: an unmap in its midst names its base, and an address in it is translated.
 pub fn gigabyte_page()
     ensures answers { answers Four 4096 one_gigabyte ≡ Done ∷ Inside 0x40000000 ∷ [] }
@@ -36,6 +48,7 @@ pub fn gigabyte_page()
 pub fn full_names_its_need()
     ensures answers { answers Four 3 past_three_tables ≡ Done ∷ Full 4 ∷ Overlap 0x200000 ∷ [] }
     ensures tables { tables_after Four 3 past_three_tables ≡ 3 }
+    ensures without_tables { answers Four 0 (map_all 0 G1 0 ∷ []) ≡ Full 2 ∷ [] }
 {}
 
 /// A table is counted only where a page needs it.
@@ -52,12 +65,17 @@ pub fn protect_changes_rights()
     ensures changed { look_after Four 4096 other_rights 0x1000 ≡ Mapped 0x5000 K4 user_and_exec }
 {}
 
-/// Words as entries: a page of 1 GiB, pages of 2 MiB with a reserved bit and with the ignored one beside it, a page of
-/// 4 KiB whose ignored bits are all set, a table, and a table of the highest level that has bit 7.
+/// Words as entries: a page of 1 GiB, pages of 2 MiB and 1 GiB with a reserved bit and with the ignored one beside it, a
+/// page of 4 KiB whose ignored bits are all set, one whose address has bit 51, a table, and a table of the highest level
+/// that has bit 7.
 pub fn entry_words()
     ensures gigabyte { meaning 3 0x8000000040000083 ≡ Leaf 0x40000000 write_only }
     ensures reserved_in_large { meaning 2 0x202087 ≡ Reserved }
     ensures ignored_in_large { meaning 2 0x201087 ≡ Leaf 0x200000 all_rights }
+    ensures lowest_reserved_in_gigabyte { meaning 3 0x40002083 ≡ Reserved }
+    ensures highest_reserved_in_gigabyte { meaning 3 0x60000083 ≡ Reserved }
+    ensures ignored_in_gigabyte { meaning 3 0x40001087 ≡ Leaf 0x40000000 all_rights }
+    ensures highest_address_bit { meaning 1 0x8000000001007 ≡ Leaf 0x8000000001000 all_rights }
     ensures ignored_in_small { meaning 1 0x7FF0000000001FFF ≡ Leaf 0x1000 all_rights }
     ensures table { meaning 4 0x2007 ≡ Table 2 all_rights }
     ensures no_page_in_root { meaning 4 0x87 ≡ Reserved }

@@ -1,6 +1,6 @@
 //! Laws of the definitions in `specs/`. Each function does nothing: its clauses say what holds of every space, page,
 //! operation and limit.
-ghost use Rattle.std.specs.Prelude.{◌≡◌, ℕ, ◌<◌, ◌≤◌, ◌↔◌, Contains, IsTrue, IsFalse, Some, None};
+ghost use Rattle.std.specs.Prelude.{◌≡◌, ℕ, ◌+◌, ◌<◌, ◌≤◌, ◌↔◌, Contains, IsTrue, IsFalse, List, slice_get, Some, None};
 ghost use Rattle.vs_types.specs.declared.depth.Depth.{Depth};
 ghost use Rattle.vs_types.specs.declared.page.Page.{Page};
 ghost use Rattle.vs_types.specs.declared.page.Rights.{Rights};
@@ -14,7 +14,7 @@ ghost use Rattle.vs_types.specs.Operation.{IsAction, action_fault};
 ghost use Rattle.vs_types.specs.Page.{covers, overlaps, IsPage, IsPageBelow};
 ghost use Rattle.vs_types.specs.Query.{IsQuery, query_fault};
 ghost use Rattle.vs_types.specs.Space.{Space, no_pages, pages, Holds, IsSpace, page_at, table_count};
-ghost use Rattle.vs_types.specs.Step.{step, look};
+ghost use Rattle.vs_types.specs.Step.{step, look, after};
 
 /// A space lists the pages that it holds, and the page at an address is the one that it holds there.
 pub fn holds_is_listed()
@@ -23,6 +23,13 @@ pub fn holds_is_listed()
     ensures look { (depth : Depth) (space : Space) (address : ℕ) (page : Page) → IsSpace depth space → Holds space page → IsTrue (covers page address) → look space address ≡ as_in page address }
     ensures empty { (depth : Depth) → IsSpace depth no_pages }
     ensures empty_look { (address : ℕ) → look no_pages address ≡ Answer.NotMapped }
+{}
+
+/// The space after one operation more is that after a step by it.
+pub fn spaces_go_on_by_operations()
+    ensures start { (depth : Depth) (limit : ℕ) (actions : List Action) → after depth limit actions 0 ≡ no_pages }
+    ensures next { (depth : Depth) (limit n : ℕ) (actions : List Action) (action : Action) → slice_get actions n ≡ Some action
+        → after depth limit actions (n + 1) ≡ (step depth limit (after depth limit actions n) action).space }
 {}
 
 /// Two pages overlap exactly where some address is in both.

@@ -9,7 +9,9 @@ mod depth;
 mod entry;
 pub mod examples;
 mod frame;
-mod laws;
+pub mod laws;
+mod log_entry;
+pub mod log_laws;
 mod op;
 mod page;
 mod refusal;
@@ -20,16 +22,13 @@ pub use config::{BadConfig, Config};
 pub use depth::{Depth, index_at};
 pub use entry::{Entry, Meaning};
 pub use frame::FRAME_WORDS;
-pub use laws::{
-    changed_changes_rights_alone, done_adds_the_page, holds_is_listed,
-    other_answers_leave_the_space, overlap_is_a_shared_address, refusals_say_why,
-    removed_takes_the_page_away, spaces_that_look_alike_are_equal, step_keeps_spaces,
-    step_keeps_the_limit, well_formed_is_without_fault,
-};
+pub use log_entry::{CALLS, LogEntry, pack, unpack};
 pub use op::{Action, BadOp, Op};
 pub use page::{Page, Rights, Size};
 pub use refusal::{Fail, Memory};
 pub use request::{Query, Request};
 
+#[cfg(test)]
+mod log_tests;
 #[cfg(test)]
 mod tests;

@@ -1,5 +1,7 @@
+use Rattle.std.specs.Prelude.{[], ◌∷◌}
+use Rattle.vs_types.specs.declared.page.Size.TheVariants.{G1}
 use Rattle.vs_types.proofs.Computing.{answers_compute, tables_compute}
-use Rattle.vs_types.specs.Examples.{past_three_tables}
+use Rattle.vs_types.specs.Examples.{map_all, past_three_tables}
 use Rattle.vs_types.specs.declared.depth.Depth.TheVariants.{Four}
 use Rattle.vs_types.proofs.examples.full_names_its_need.Goals as goal
 
@@ -8,3 +10,6 @@ returns-clause-answers c = answers_compute Four 3 past_three_tables
 
 pub returns-clause-tables : goal.returns-clause-tables
 returns-clause-tables c = tables_compute Four 3 past_three_tables
+
+pub returns-clause-without_tables : goal.returns-clause-without_tables
+returns-clause-without_tables c = answers_compute Four 0 (map_all 0 G1 0 ∷ [])

@@ -1,6 +1,6 @@
 use Rattle.std.proofs.Common.{Some, sym, subst}
-use Rattle.vs_plain.specs.Listed.{listed_space}
-use Rattle.vs_plain.specs.PageMap.{IsFirstFrom}
+use Rattle.vs_plain.specs.inside.Listed.{listed_space}
+use Rattle.vs_plain.specs.inside.PageMap.{IsFirstFrom}
 use Rattle.vs_plain.proofs.Listed.{first_from_range, no_first_from_range}
 use Rattle.vs_plain.proofs.page_map.PageMap.first_from.Goals as goal
 

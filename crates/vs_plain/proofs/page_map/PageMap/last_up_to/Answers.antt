@@ -1,6 +1,6 @@
 use Rattle.std.proofs.Common.{Some, sym, subst}
-use Rattle.vs_plain.specs.Listed.{listed_space}
-use Rattle.vs_plain.specs.PageMap.{IsLastUpTo}
+use Rattle.vs_plain.specs.inside.Listed.{listed_space}
+use Rattle.vs_plain.specs.inside.PageMap.{IsLastUpTo}
 use Rattle.vs_plain.proofs.Listed.{last_from_range, no_last_from_range}
 use Rattle.vs_plain.proofs.page_map.PageMap.last_up_to.Goals as goal
 

@@ -1,6 +1,6 @@
 use Rattle.std.proofs.Common.{sym, arith, subst}
 use Rattle.vs_types.proofs.Spaces.{no_pages_space}
-use Rattle.vs_plain.specs.Plain.{IsKept}
+use Rattle.vs_plain.specs.inside.Invariant.{IsKept}
 use Rattle.vs_types.proofs.TableCounts.{tables_of_nothing}
 use Rattle.vs_plain.proofs.plain.PlainSpace.new.Goals as goal
 

@@ -1,7 +1,7 @@
 use Rattle.std.proofs.Common.{◌∙◌, Some, None, sym, subst, arith}
 use Rattle.vs_types.proofs.Overlaps.{overlapped_below}
 use Rattle.vs_plain.specs.Plain.{Kept}
-use Rattle.vs_plain.specs.PageMap.{IsFirstFrom}
+use Rattle.vs_plain.specs.inside.PageMap.{IsFirstFrom}
 use Rattle.vs_plain.proofs.Neighbours.{overlapped_above, not_overlapped_far, not_overlapped_none}
 use Rattle.vs_plain.proofs.plain.PlainSpace.overlapped.Goals as goal
 

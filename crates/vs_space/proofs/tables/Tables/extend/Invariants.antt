@@ -1,4 +1,5 @@
 use Rattle.std.proofs.Common.{◌≡◌, ◌≤◌}
+use Rattle.vs_space.specs.Held.{Held}
 use Rattle.vs_space.specs.Grow.{IsExtended}
 use Rattle.vs_space.proofs.tables.Tables.extend.Given as goal
 
@@ -7,7 +8,7 @@ invariant-loop-level g l = record {
   extended : IsExtended l.fn.depth l.fn.self.memory l.self.memory l.fn.root l.address l.from l.level l.number;
   above : l.lowest ≤ l.level;
   within : l.level ≤ l.from;
-  same_limit : l.self.limit ≡ l.fn.self.limit;
+  same : l.self ≡ (let r : Held = record l.fn.self { memory = l.self.memory } in r);
 }
 
 abbrev pub decreases-loop-level : goal.decreases-loop-level

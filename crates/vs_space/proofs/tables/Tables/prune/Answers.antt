@@ -3,6 +3,7 @@ use Rattle.std.specs.Prelude.{IsSome, slice_index}
 use Rattle.std.specs.FinMap as finite
 use Rattle.vs_types.specs.Depth.{levels}
 use Rattle.vs_space.specs.Held.{Held}
+use Rattle.vs_space.proofs.Numbered.{same_but_memory}
 use Rattle.vs_space.proofs.Prunes.{IsPruning, pruned_by, something_here, pruning_on, emptied_used}
 use Rattle.vs_space.proofs.tables.Tables.prune.Goals as goal
 
@@ -23,11 +24,12 @@ pub loop-level-preserved : goal.loop-level-preserved
 loop-level-preserved g c =
     let root = slice_index c.args.way.now (levels c.args.depth) in
     let going = c.loop-level.invariant.pruning in
-    let after = c.give.ensures ∙ ap (λ (h : Held). let given : Held = record { limit = h.limit; memory = finite.remove h.memory (slice_index c.args.way.now c.loop-level.level) } in given) c.write.ensures.written in
+    let after = c.give.ensures.removed ∙ ap (λ (h : Held). let given : Held = record { base = h.base; limit = h.limit; memory = finite.remove h.memory (slice_index c.args.way.now c.loop-level.level) } in given) c.write.ensures.written in
     record {
       pruning = subst (λ (h : Held). IsPruning c.args.depth c.args.self.now.memory h.memory root c.args.address c.args.from (c.loop-level.level + 1) c.args.way.now) (sym after)
           (pruning_on c.args.depth c.loop-level.self.memory root c.args.address c.loop-level.level c.args.way.now c.requires.canonical going.cut (omega (arith, c.loop-level-test.true, c.levels.ensures)) c.in_default.ensures.none c.index_at.result c.index_at.ensures.is c.index_at.ensures.low c.args.self.now.memory c.args.from going);
-      same_limit = ap (λ (h : Held). h.limit) after ∙ c.loop-level.invariant.same_limit;
+      same = same_but_memory c.args.self.now c.loop-level.self c.give.new.self _ after c.loop-level.invariant.same;
+      numbers = c.give.ensures.numbers;
     }
 
 pub returns-clause-pruned : goal.returns-clause-pruned

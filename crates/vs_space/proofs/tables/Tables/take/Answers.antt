@@ -1,9 +1,9 @@
-use Rattle.std.proofs.Common.{◌≡◌, ◌+◌, sym, ap, ◌∙◌}
+use Rattle.std.proofs.Common.{◌≡◌, ◌+◌, sym, ap, ◌∙◌, arith}
 use Rattle.std.specs.FinMap as finite
 use Rattle.vs_arena.specs.Store.{zeros}
 use Rattle.vs_arena.proofs.Stores.{IsInUse-insert_same}
 use Rattle.vs_space.specs.Held.{Held, numbered}
-use Rattle.vs_space.proofs.Numbered.{held, stored, whole-zeros, numbered-insert, get_numbered, len_numbered}
+use Rattle.vs_space.proofs.Numbered.{held, stored, numbers_stored, numbers_insert, whole-zeros, numbered-insert, get_numbered, len_numbered}
 use Rattle.vs_space.proofs.tables.Tables.take.Goals as goal
 
 pub returns-in_err-frame-clause-all_in_use : goal.returns-in_err-frame-clause-all_in_use
@@ -14,7 +14,18 @@ pub number-requires : goal.number-requires
 number-requires g c = rw c.in_ok-frame.ensures.cleared (IsInUse-insert_same _ c.in_ok-frame.frame zeros)
 
 pub invariant_of-self-2 : goal.invariant_of-self-2
-invariant_of-self-2 g c = rw c.in_ok-frame.ensures.cleared (whole-zeros _ _ c.self.invariant)
+invariant_of-self-2 g c = (
+  rw c.in_ok-frame.ensures.cleared (whole-zeros _ _ c.self.invariant.0),
+  numbers_stored _ _ _ _ _ _ c.take.ensures.same_size c.take.ensures.same_base
+      (ap (numbered (g.S.FrameStore.base c.self.inside.store)) c.in_ok-frame.ensures.cleared ∙ numbered-insert _ _ _ zeros)
+      (numbers_insert _ _ _ _ zeros (omega arith) (omega (arith, c.in_ok-frame.ensures.within)) c.self.invariant.1),
+)
+
+pub returns-clause-numbers : goal.returns-clause-numbers
+returns-clause-numbers g c =
+    numbers_stored _ _ _ _ _ _ c.take.ensures.same_size c.take.ensures.same_base
+    (ap (numbered (g.S.FrameStore.base c.self.inside.store)) c.in_ok-frame.ensures.cleared ∙ numbered-insert _ _ _ zeros)
+    (numbers_insert _ _ _ _ zeros (omega arith) (omega (arith, c.in_ok-frame.ensures.within)) c.self.invariant.1)
 
 pub returns-clause-was_free : goal.returns-clause-was_free
 returns-clause-was_free g c =
@@ -27,4 +38,4 @@ returns-clause-taken g c =
     let named : c.number.result ≡ g.S.FrameStore.base c.self.inside.store + c.in_ok-frame.frame = c.number.ensures.numbered ∙ ap (λ b. b + c.in_ok-frame.frame) c.take.ensures.same_base in
     stored _ _ _ _ _ _ c.take.ensures.same_size c.take.ensures.same_base
     (ap (numbered (g.S.FrameStore.base c.self.inside.store)) c.in_ok-frame.ensures.cleared ∙ numbered-insert _ _ _ zeros ∙ ap (λ n. finite.insert (numbered (g.S.FrameStore.base c.self.inside.store) (g.S.FrameStore.frames c.self.inside.store)) n zeros) (sym named))
-    ∙ ap (λ (h : Held). held h.limit (finite.insert h.memory c.number.result zeros)) c.self.view_is
+    ∙ ap (λ (h : Held). held h.base h.limit (finite.insert h.memory c.number.result zeros)) c.self.view_is

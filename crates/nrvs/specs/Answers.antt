@@ -1,0 +1,70 @@
+-- What the commands answer to bytes: a text and a status.
+use Rattle.std.specs.Prelude.{◌≡◌, ◌≤◌, ◌⊎◌, ℕ, List, Option, Some, slice_get}
+use Rattle.std.specs.Io.KnownBytes.{Appends}
+use Rattle.vs_walk.specs.Walk.{walk}
+use Rattle.vs_walk.specs.Dump.{Image}
+use Rattle.nr_trace.specs.Recording.{Recording}
+use Rattle.nr_trace.specs.Spelling.{Spells}
+use Rattle.nr_trace.specs.FirstFault.{HasFormatFault}
+use Rattle.nr_trace.specs.declared.fault.Format.{Format}
+use Rattle.nr_trace.specs.declared.fault.Fault.TheVariants as faults
+use Rattle.nr_audit.specs.Replay.{IsSoOf}
+use Rattle.nr_audit.specs.declared.found.Replay.{Replay}
+use Rattle.nrvs.specs.Text.{no_text, replay_text, replay_status, walk_text}
+use Rattle.nrvs.specs.Addresses.{SpellsCanonical}
+use Rattle.nrvs.specs.declared.command.Command.{Command}
+use Rattle.nrvs.specs.declared.command.Command.TheVariants.{Audit, Resolve}
+
+-- one byte more than the longest trace has
+abbrev pub read_limit : ℕ
+read_limit = 70647893
+
+-- of `audit`: the text and the status are those of the verdict of these bytes
+pub record IsAudit (bytes text : List ℕ) (status : ℕ) : Type 0 where
+  pub verdict : Replay
+  pub is_verdict : IsSoOf bytes verdict
+  pub text_is : text ≡ replay_text verdict
+  pub status_is : status ≡ replay_status verdict
+
+-- the bytes spell a trace, and the text is where the walk of the address ends in the dump of the replica
+pub record IsWalkInDump (bytes : List ℕ) (address replica : ℕ) (text : List ℕ) (status : ℕ) : Type 0 where
+  pub trace : Recording
+  pub spelled : Spells bytes trace
+  pub dump : Image
+  pub is_dump : slice_get trace.dumps replica ≡ Some dump
+  pub text_is : text ≡ walk_text (walk trace.layout.depth dump.frames dump.root address)
+  pub status_is : status ≡ 0
+
+-- the bytes spell no trace, and the text is that of their first fault
+pub record IsFormatRefusal (bytes text : List ℕ) (status : ℕ) : Type 0 where
+  pub fault : Format
+  pub first : HasFormatFault bytes fault
+  pub text_is : text ≡ no_text (faults.Format fault)
+  pub status_is : status ≡ 1
+
+-- where this address leads in the dump of this replica
+abbrev pub IsWalk : ℕ → ℕ → List ℕ → List ℕ → ℕ → Type 0
+IsWalk address replica bytes text status = IsWalkInDump bytes address replica text status ⊎ IsFormatRefusal bytes text status
+
+-- the bytes spell a trace that has no replica of this number
+pub record LacksReplica (bytes : List ℕ) (replica : ℕ) : Type 0 where
+  pub trace : Recording
+  pub spelled : Spells bytes trace
+  pub lacking : trace.layout.replicas ≤ replica
+
+-- of `resolve`, where this word spells the address
+pub record IsResolve (word : List ℕ) (replica : ℕ) (bytes text : List ℕ) (status : ℕ) : Type 0 where
+  pub address : ℕ
+  pub spelled : SpellsCanonical word address
+  pub is_walk : IsWalk address replica bytes text status
+
+-- the text and the status that are those of the command on these bytes
+abbrev pub IsAnswer : Command → List ℕ → List ℕ → ℕ → Type 0
+IsAnswer Audit = IsAudit
+IsAnswer (Resolve word replica) = IsResolve word.now replica
+
+-- a text that goes with the status was written after what was there, and nothing else
+pub record WritesReport (IsReport : List ℕ → ℕ → Type 0) (old new : Option (List ℕ)) (status : ℕ) : Type 0 where
+  pub text : List ℕ
+  pub is_report : IsReport text status
+  pub written : Appends old new text

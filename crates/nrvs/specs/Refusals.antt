@@ -1,0 +1,55 @@
+-- The program ends with no answer: why, its exit status, and what it tells standard error.
+use Rattle.std.specs.Prelude.{◌≡◌, ◌≢◌, ℕ, List, codes, Option, IfSome, Result, IfErr, take, ⊤}
+use Rattle.nrvs.specs.Addresses.{SpellsCanonical, IsAddressFault}
+use Rattle.nrvs.specs.Answers.{read_limit, LacksReplica}
+use Rattle.nrvs.specs.declared.command.Command.{Command}
+use Rattle.nrvs.specs.declared.command.Command.TheVariants.{Audit, Resolve}
+use Rattle.nrvs.specs.declared.fault.ProgFault.{ProgFault}
+use Rattle.nrvs.specs.declared.fault.ProgFault.TheVariants.{BadAddress, NotCanonical, NoSuchReplica, CannotRead, CannotWrite, Memory}
+
+-- 3 where memory ran out, else 2
+abbrev pub refusal_status : ProgFault → ℕ
+refusal_status BadAddress = 2
+refusal_status NotCanonical = 2
+refusal_status NoSuchReplica = 2
+refusal_status CannotRead = 2
+refusal_status CannotWrite = 2
+refusal_status Memory = 3
+
+abbrev pub refusal_text : ProgFault → List ℕ
+refusal_text BadAddress = codes "bad address"
+refusal_text NotCanonical = codes "not canonical"
+refusal_text NoSuchReplica = codes "no such replica"
+refusal_text CannotRead = codes "cannot read"
+refusal_text CannotWrite = codes "cannot write"
+refusal_text Memory = codes "out of memory"
+
+-- an end gave an error, or memory ran out: no contract says when
+abbrev pub IsEndFault : ProgFault → Type 0
+IsEndFault CannotRead = ⊤
+IsEndFault CannotWrite = ⊤
+IsEndFault Memory = ⊤
+IsEndFault _ = ⊥
+
+-- why the walk of a canonical address in the dump of a replica is not made
+abbrev pub IsWalkFault : List ℕ → ℕ → ProgFault → Type 0
+IsWalkFault bytes replica NoSuchReplica = LacksReplica bytes replica
+IsWalkFault bytes replica Memory = ⊤
+IsWalkFault bytes replica _ = ⊥
+
+-- the fault of `resolve` on this word and replica, where the input is known; the word is tested first
+abbrev pub IsResolveFault : List ℕ → ℕ → Option (List ℕ) → ProgFault → Type 0
+IsResolveFault word replica known BadAddress = IsAddressFault word BadAddress
+IsResolveFault word replica known NotCanonical = IsAddressFault word NotCanonical
+IsResolveFault word replica known NoSuchReplica =
+    ((address : ℕ) × SpellsCanonical word address) × IfSome known (λ input. LacksReplica (take read_limit input) replica)
+IsResolveFault word replica known _ = (address : ℕ) × SpellsCanonical word address
+
+-- the fault of the command, where the input is known
+abbrev pub IsRefusal : Command → Option (List ℕ) → ProgFault → Type 0
+IsRefusal Audit known = IsEndFault
+IsRefusal (Resolve word replica) known = IsResolveFault word.now replica known
+
+-- where there is no answer, the writer is as it was, but where it could not be written to
+abbrev pub WritesAnswersAlone : {W : Type 0} → W → W → Result ℕ ProgFault → Type 0
+WritesAnswersAlone old new result = IfErr result (λ fault. fault ≢ CannotWrite → new ≡ old)

@@ -1,0 +1,94 @@
+-- Words stay written as entries of their tables' levels.
+use Rattle.std.proofs.Common.{◌≡◌, ◌≢◌, ℕ, ◌-◌, ◌<◌, List, [], Option, Some, ⊎_elim, refl, sym, ap, subst, ◌∙◌, arith}
+use Rattle.std.specs.Prelude.{IsSome, option_map, unwrap_or, slice_index, slice_set}
+use Rattle.std.proofs.lemmas.Bool.{cases_eq}
+use Rattle.std.proofs.lemmas.List.{get_or-set_same, get_or-set_other}
+use Rattle.std.specs.FinMap as finite
+use Rattle.vs_types.specs.Depth.{index_at}
+use Rattle.vs_types.specs.Entry.{meaning, size_at, table_word, leaf_word}
+use Rattle.vs_types.specs.Page.{level_of}
+use Rattle.vs_types.specs.declared.page.Rights.{Rights}
+use Rattle.vs_types.specs.declared.page.Size.{Size}
+use Rattle.vs_types.specs.declared.page.Size.TheVariants.{K4, M2, G1}
+use Rattle.vs_types.specs.declared.entry.Meaning.{Meaning}
+use Rattle.vs_types.specs.declared.entry.Meaning.TheVariants as entry
+use Rattle.vs_arena.specs.Store.{zeros}
+use Rattle.vs_walk.specs.Memory.{Memory}
+use Rattle.vs_walk.specs.Walk.{all_rights}
+use Rattle.vs_walk.specs.Ways.{AreWhole}
+use Rattle.vs_space.specs.Held.{word_at, with_word}
+use Rattle.vs_space.specs.Way.{table_at}
+use Rattle.vs_space.specs.Tree.{IsTree, AreWritten}
+use Rattle.vs_space.specs.Written.{word_for, IsWritten}
+use Rattle.vs_space.proofs.Writes.{words_in, get_written, get_written_other}
+use Rattle.vs_space.proofs.Links.{zeros_are}
+
+-- ---- words that are written
+
+pub written_zero : (level : ℕ) → IsWritten level 0
+written_zero level = record { is = refl }
+
+written_as : (level word : ℕ) (e : Meaning) → meaning level word ≡ e → word ≡ word_for level e → IsWritten level word
+written_as level word e says is = record { is = is ∙ ap (word_for level) (sym says) }
+
+pub written_table : (level word number : ℕ) → meaning level word ≡ entry.Table number all_rights → word ≡ table_word number → IsWritten level word
+written_table level word number says is = written_as level word (entry.Table number all_rights) says is
+
+pub written_leaf : (level word phys : ℕ) (rights : Rights) → meaning level word ≡ entry.Leaf phys rights → word ≡ leaf_word (size_at level) phys rights → IsWritten level word
+written_leaf level word phys rights says is = written_as level word (entry.Leaf phys rights) says is
+
+size_same : (size : Size) → size_at (level_of size) ≡ size
+size_same K4 = refl
+size_same M2 = refl
+size_same G1 = refl
+
+pub leaf_at_level : (size : Size) (word phys : ℕ) (rights : Rights) → word ≡ leaf_word size phys rights → word ≡ leaf_word (size_at (level_of size)) phys rights
+leaf_at_level size word phys rights is = is ∙ ap (λ z. leaf_word z phys rights) (sym (size_same size))
+
+-- ---- the words of a frame
+
+word_of : (m : Memory) (n i : ℕ) (o : Option (List ℕ)) → finite.get m n ≡ o → word_at m n i ≡ option_map (λ words. slice_index words i) o
+unfolding word_at
+word_of m n i o got = ap (option_map (λ (words : List ℕ). slice_index words i)) got
+
+word_alike : (m m' : Memory) (n i : ℕ) → finite.get m' n ≡ finite.get m n → word_at m' n i ≡ word_at m n i
+word_alike m m' n i e = word_of m' n i (finite.get m n) e ∙ sym (word_of m n i (finite.get m n) refl)
+
+one_word : (x y : ℕ) → Some x ≡ Some y → x ≡ y
+one_word x y e = cc
+
+-- frames that are the same have the same words
+pub written_alike : (level : ℕ) (m m' : Memory) (n : ℕ) → finite.get m' n ≡ finite.get m n → AreWritten level m n → AreWritten level m' n
+written_alike level m m' n e are = λ i word got. are i word (sym (word_alike m m' n i e) ∙ got)
+
+pub written_clear : (level : ℕ) (m : Memory) (n : ℕ) → finite.get m n ≡ Some zeros → AreWritten level m n
+written_clear level m n clear = λ i word got.
+    let zero_here : word ≡ 0 = one_word word 0 (sym got ∙ word_of m n i (Some zeros) clear ∙ ap Some (zeros_are i)) in
+    subst (IsWritten level) (sym zero_here) (written_zero level)
+
+-- a frame stays written when a word that is written is put in
+pub written_set : (level : ℕ) (m : Memory) (n i w : ℕ) → AreWhole m → IsSome (finite.get m n) → i < 512 → IsWritten level w → AreWritten level m n → AreWritten level (with_word m n i w) n
+written_set level m n i w whole used low is are = λ j word got. ⊎_elim
+    (λ (same : j ≡ i).
+    let here : word ≡ w = one_word word w (sym got ∙ word_of (with_word m n i w) n j _ (get_written m n i w)
+    ∙ ap (λ x. Some (slice_index (slice_set (unwrap_or (finite.get m n) []) i w) x)) same
+    ∙ ap Some (get_or-set_same (unwrap_or (finite.get m n) []) i w 0 (omega (arith, whole n _ (words_in m n used))))) in
+    subst (IsWritten level) (sym here) is)
+    (λ (other : j ≢ i). are j word
+    (word_of m n j _ (words_in m n used) ∙ ap Some (sym (get_or-set_other (unwrap_or (finite.get m n) []) i j w 0 other))
+    ∙ sym (word_of (with_word m n i w) n j _ (get_written m n i w)) ∙ got))
+    (cases_eq j i)
+
+-- ---- the entry for an address a in the table that is reached after k entries is written
+
+pub written_on : (top root : ℕ) (m : Memory) → IsTree top m root → AreWhole m → (k a n : ℕ) → table_at top m root k a ≡ Some n → (w : ℕ) → IsWritten (top - k) w
+    → (j b q : ℕ) → table_at top m root j b ≡ Some q → AreWritten (top - j) m q → AreWritten (top - j) (with_word m n (index_at (top - k) a) w) q
+written_on top root m tree whole k a n at w is j b q reached are = ⊎_elim
+    (λ (same : q ≡ n).
+    let level : j ≡ k = (tree.once j k b a n (reached ∙ ap Some same) at).0 in
+    let here : AreWritten (top - k) m n = subst (λ x. AreWritten (top - k) m x) same (subst (λ l. AreWritten (top - l) m q) level are) in
+    let after = written_set (top - k) m n (index_at (top - k) a) w whole (tree.in_use k a n at) (omega arith) is here in
+    subst (λ l. AreWritten (top - l) (with_word m n (index_at (top - k) a) w) q) (sym level)
+    (subst (λ x. AreWritten (top - k) (with_word m n (index_at (top - k) a) w) x) (sym same) after))
+    (λ (other : q ≢ n). written_alike (top - j) m _ q (get_written_other m n (index_at (top - k) a) w q other) are)
+    (cases_eq q n)

@@ -1,0 +1,102 @@
+-- The fields of an operation are found again in the words of its entry.
+use Rattle.std.proofs.Common.{◌≡◌, ℕ, ◌+◌, ◌-◌, ◌*◌, ◌/◌, ◌%◌, ◌^◌, ◌<◌, ◌≤◌, Bool, true, false, List, [], ◌∷◌, get_or, cond, refl, ap, sym, ◌∙◌, arith}
+use Rattle.std.proofs.lemmas.Grind.{common_steps}
+use Rattle.vs_types.specs.Codes.{kind_code, size_code, rights_code}
+use Rattle.vs_types.specs.Operation.{IsAction}
+use Rattle.vs_types.specs.LogEntry.{IsLogEntry, ActionFields, action_fields, log_words, SpellsEntry, HasFields}
+use Rattle.vs_types.specs.declared.depth.Depth.{Depth}
+use Rattle.vs_types.specs.declared.page.Rights.{Rights}
+use Rattle.vs_types.specs.declared.page.Size.{Size}
+use Rattle.vs_types.specs.declared.page.Size.TheVariants.{K4, M2, G1}
+use Rattle.vs_types.specs.declared.op.Action.{Action}
+use Rattle.vs_types.specs.declared.op.Action.TheVariants.{Map, Unmap, Protect}
+use Rattle.vs_types.specs.declared.log_entry.LogEntry.{LogEntry}
+
+pub size_code_low : (size : Size) → size_code size < 3
+size_code_low K4 = omega arith
+size_code_low M2 = omega arith
+size_code_low G1 = omega arith
+
+rights_bits_low : (w u x : Bool) → rights_code (record { write = w; user = u; exec = x }) < 8
+rights_bits_low true true true = omega arith
+rights_bits_low true true false = omega arith
+rights_bits_low true false true = omega arith
+rights_bits_low true false false = omega arith
+rights_bits_low false true true = omega arith
+rights_bits_low false true false = omega arith
+rights_bits_low false false true = omega arith
+rights_bits_low false false false = omega arith
+
+pub rights_code_low : (rights : Rights) → rights_code rights < 8
+rights_code_low rights = rights_bits_low rights.write rights.user rights.exec
+
+-- the ranges of the fields
+record InRange (fields : ActionFields) : Type 0 where
+  kind : fields.kind < 3
+  size : fields.size < 3
+  rights : fields.rights < 8
+  address : fields.address % 4096 ≡ 0
+  physical : fields.physical % 4096 ≡ 0
+  physical_range : fields.physical < 2 ^ 51
+
+page_part : (size : Size) (n : ℕ) → n % Rattle.vs_types.specs.Page.bytes_of size ≡ 0 → n % 4096 ≡ 0
+page_part K4 n e = omega arith
+page_part M2 n e = omega arith
+page_part G1 n e = omega arith
+
+page_below : (size : Size) (n : ℕ) → n + Rattle.vs_types.specs.Page.bytes_of size ≤ 2 ^ 51 → n < 2 ^ 51
+page_below K4 n e = omega arith
+page_below M2 n e = omega arith
+page_below G1 n e = omega arith
+
+in_range : (depth : Depth) (action : Action) → IsAction depth action → InRange (action_fields action)
+in_range depth (Map page) is = record {
+  kind = omega arith;
+  size = size_code_low page.size;
+  rights = rights_code_low page.rights;
+  address = page_part page.size page.base is.aligned;
+  physical = page_part page.size page.phys is.phys_aligned;
+  physical_range = page_below page.size page.phys is.phys_range;
+}
+in_range depth (Unmap base) is = record { kind = omega arith; size = omega arith; rights = omega arith; address = is.aligned; physical = refl; physical_range = omega arith }
+in_range depth (Protect base rights) is =
+    record { kind = omega arith; size = omega arith; rights = rights_code_low rights; address = is.aligned; physical = refl; physical_range = omega arith }
+
+-- what two words have at the places of the fields
+abbrev pub fields_at : ℕ → ℕ → ActionFields
+fields_at operation rest =
+    record { kind = operation % 4096 % 4; size = operation % 4096 / 4 % 4; rights = operation % 4096 / 16 % 8; address = operation - operation % 4096; physical = rest % 2 ^ 39 * 4096 }
+
+same_fields : (f g : ActionFields) → f.kind ≡ g.kind → f.size ≡ g.size → f.rights ≡ g.rights → f.address ≡ g.address → f.physical ≡ g.physical → f ≡ g
+same_fields f g k s r a p = λ i. record { kind = k i; size = s i; rights = r i; address = a i; physical = p i }
+
+codes_are : (fields : ActionFields) → InRange fields → (fields.address + fields.kind + 4 * fields.size + 16 * fields.rights) % 4096 ≡ fields.kind + 4 * fields.size + 16 * fields.rights
+codes_are fields is = omega arith
+
+found : (fields : ActionFields) (call operation rest : ℕ) → InRange fields
+    → operation ≡ fields.address + fields.kind + 4 * fields.size + 16 * fields.rights → rest ≡ fields.physical / 4096 + call * 2 ^ 39
+    → fields_at operation rest ≡ fields
+found fields call operation rest is first second =
+    let codes : operation % 4096 ≡ fields.kind + 4 * fields.size + 16 * fields.rights = rw first (codes_are fields is) in
+    same_fields (fields_at operation rest) fields (omega arith) (omega arith) (omega arith) (omega arith) (omega arith)
+
+-- the codes are below 128, the call is the high part of the second word, and the fields are the operation's
+pub record Found (depth : Depth) (words : List ℕ) (entry : LogEntry) : Type 0 where
+  pub codes : get_or words 0 0 % 4096 < 128
+  pub call : get_or words 1 0 / 2 ^ 39 ≡ entry.call
+  pub in_range : entry.call < 131072
+  pub fields : HasFields depth (fields_at (get_or words 0 0) (get_or words 1 0)) entry.op
+
+pub finds_again : (depth : Depth) (words : List ℕ) (entry : LogEntry) → SpellsEntry depth words entry → Found depth words entry
+finds_again depth words entry is =
+    let fields = action_fields entry.op in
+    let ranges : InRange fields = in_range depth entry.op is.is_entry.well_formed in
+    let first : get_or words 0 0 ≡ fields.address + fields.kind + 4 * fields.size + 16 * fields.rights = ap (λ (l : List ℕ). get_or l 0 0) is.spelled in
+    let second : get_or words 1 0 ≡ fields.physical / 4096 + entry.call * 2 ^ 39 = ap (λ (l : List ℕ). get_or l 1 0) is.spelled in
+    let codes : get_or words 0 0 % 4096 ≡ fields.kind + 4 * fields.size + 16 * fields.rights = rw first (codes_are fields ranges) in
+    record {
+      codes = omega (arith, ranges.kind, ranges.size, ranges.rights);
+      call = omega (arith, ranges.physical_range);
+      in_range = is.is_entry.in_range;
+      fields = record { well_formed = is.is_entry.well_formed; fields_are = found fields entry.call (get_or words 0 0) (get_or words 1 0) ranges first second };
+    }

@@ -1,0 +1,10 @@
+use Rattle.vs_types.proofs.Computing.{answers_compute, tables_compute}
+use Rattle.vs_types.specs.Examples.{large_then_small}
+use Rattle.vs_types.specs.declared.depth.Depth.TheVariants.{Four}
+use Rattle.vs_types.proofs.examples.overlap_names_a_page_that_begins_before.Goals as goal
+
+pub returns-clause-answers : goal.returns-clause-answers
+returns-clause-answers c = answers_compute Four 4096 large_then_small
+
+pub returns-clause-tables : goal.returns-clause-tables
+returns-clause-tables c = tables_compute Four 4096 large_then_small
