@@ -37,6 +37,7 @@ struct worker {
 	unsigned thread, requests;
 	uint64_t random;
 	int has_cached, lets_other_in;
+	unsigned step; /* of the closing requests */
 	uint32_t cached_at;
 	uint64_t cached_address;
 	nrvs_answer cached;
@@ -83,8 +84,8 @@ static void let_other_in(struct worker *worker)
 	if (!closing) {
 		sched_yield();
 	} else if (worker->lets_other_in) {
-		set_turn(1);
-		wait_for_turn(2);
+		set_turn(worker->step + 1);
+		wait_for_turn(worker->step + 2);
 	}
 }
 
@@ -92,9 +93,9 @@ static void let_other_in(struct worker *worker)
 
 static nrvs_answer apply(nrvs_request request)
 {
-	if (request.kind == 0)
+	if (request.kind == NRVS_KIND_MAP)
 		return page_table_map(&table, request.address, (nrvs_size)request.size, request.phys, request.rights);
-	if (request.kind == 1)
+	if (request.kind == NRVS_KIND_UNMAP)
 		return page_table_unmap(&table, request.address);
 	return page_table_protect(&table, request.address, request.rights);
 }
@@ -153,7 +154,7 @@ static void resolve(struct worker *worker, nrvs_request request)
 
 static void request(struct worker *worker, nrvs_request asked)
 {
-	if (asked.kind == 3)
+	if (asked.kind == NRVS_KIND_RESOLVE)
 		resolve(worker, asked);
 	else
 		update(worker, asked);
@@ -212,25 +213,25 @@ static void *work(void *argument)
 /* ---- the closing requests ---- */
 
 /*
- * One after the other, by threads 0 and 1 in turn, at addresses that no random request has; each bug is met here at the
- * latest. A step with `together` lets the next one run within it, at the point where a bug calls let_other_in.
+ * One after the other, by threads 0 and 1, at addresses that no random request has; each bug is met here at the latest. Within
+ * a request marked `together` the next one runs whole, where a bug calls let_other_in.
  */
-#define A 0 /* pages by their number: 4 KiB at index k of the first table */
-#define B 1
-#define C 2
-#define OTHER 512  /* a page of the third table, which is its only one */
-#define LARGE_PAGE 256 /* the 2 MiB of the second */
+enum page {
+	A, B, C,         /* pages of 4 KiB, next to each other */
+	LARGE_PAGE = 64, /* a page of 2 MiB */
+	OTHER,           /* a page of 4 KiB which is the only one of its table */
+};
 
-static uint64_t page(unsigned number)
+static uint64_t base_of(enum page page)
 {
-	if (number == LARGE_PAGE)
+	if (page == LARGE_PAGE)
 		return address_of(300, 0, 1, 0);
-	return number == OTHER ? address_of(300, 0, 2, 0) : address_of(300, 0, 0, number);
+	return page == OTHER ? address_of(300, 0, 2, 0) : address_of(300, 0, 0, page);
 }
 
 enum ask { MAP, UNMAP, PROTECT, RESOLVE };
 
-static const struct step { unsigned thread, together; enum ask ask; unsigned page; } steps[] = {
+static const struct step { unsigned thread, together; enum ask ask; enum page page; } steps[] = {
 	{ 0, 1, MAP, B },
 	{ 1, 0, UNMAP, B },
 	{ 0, 0, MAP, B },
@@ -253,7 +254,7 @@ static const struct step { unsigned thread, together; enum ask ask; unsigned pag
 
 static nrvs_request step_request(const struct step *step)
 {
-	uint64_t address = page(step->page);
+	uint64_t address = base_of(step->page);
 
 	switch (step->ask) {
 	case MAP:
@@ -275,6 +276,7 @@ static void *close_up(void *argument)
 		if (steps[k].thread != worker->thread)
 			continue;
 		wait_for_turn(k);
+		worker->step = k;
 		worker->lets_other_in = steps[k].together != 0;
 		request(worker, step_request(&steps[k]));
 		set_turn(k + 1);
@@ -399,8 +401,8 @@ int main(int count, char **words)
 		workers[t] = (struct worker){ .thread = t, .requests = (unsigned)requests, .random = seed * 64 + t };
 
 	/* the pages whose tables the closing requests use, without rights */
-	update(&workers[0], nrvs_map(page(A), NRVS_4K, 0x1000, 0));
-	update(&workers[0], nrvs_map(page(OTHER), NRVS_4K, 0x2000, 0));
+	update(&workers[0], nrvs_map(base_of(A), NRVS_4K, 0x1000, 0));
+	update(&workers[0], nrvs_map(base_of(OTHER), NRVS_4K, 0x2000, 0));
 	run(work, (unsigned)threads);
 	closing = 1;
 	run(close_up, 2);
