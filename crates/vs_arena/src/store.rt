@@ -78,4 +78,10 @@ pub trait FrameStore {
         ensures numbered { IfSome result (λ f. base self.now + f ≡ number) }
         ensures in_use { IfSome result (IsInUse (frames self.now)) }
         ensures unknown { IfNone result ((f : ℕ) → base self.now + f ≡ number → IsFree (frames self.now) f) };
+
+    /// The frame in use with this frame number, which is that of one.
+    fn in_use(&self, number: u64) -> Frame
+        requires { (f : ℕ) × (base self.now + f ≡ number) × IsInUse (frames self.now) f }
+        ensures numbered { base self.now + result ≡ number }
+        ensures in_use { IsInUse (frames self.now) result };
 }

@@ -114,4 +114,8 @@ impl FrameStore for VecArena {
             None
         }
     }
+
+    fn in_use(&self, number: u64) -> Frame {
+        Frame::at_index((number - self.base) as u16)
+    }
 }
