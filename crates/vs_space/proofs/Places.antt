@@ -45,6 +45,13 @@ at_root depth m root a lowest level way top low long same = record {
 pub used_here : (depth : Depth) (m : Memory) (root a lowest level number : ℕ) (way : List ℕ) → IsTree (levels depth) m root → IsOnWay depth m root a lowest level number way → IsSome (finite.get m number)
 used_here depth m root a lowest level number way tree on = tree.in_use (levels depth - level) a number (on.reached level (omega arith) on.below ∙ ap Some (sym on.last))
 
+-- what is no table leads to none
+pub no_table : (e : Meaning) → ((n : ℕ) (own : Rights) → e ≢ entry.Table n own) → table_in (Some e) ≡ None
+no_table entry.Absent other = refl
+no_table entry.Reserved other = refl
+no_table (entry.Leaf phys own) other = refl
+no_table (entry.Table n own) other = absurd (other n own refl)
+
 -- and its words are as written
 pub written_on_way : (depth : Depth) (m : Memory) (root a lowest level number : ℕ) (way : List ℕ) → IsTree (levels depth) m root → IsReached (levels depth) m root → IsOnWay depth m root a lowest level number way → AreWritten level m number
 written_on_way depth m root a lowest level number way tree all on = written_level (levels depth) root m tree all level a number on.below (on.reached level (omega arith) on.below ∙ ap Some (sym on.last))

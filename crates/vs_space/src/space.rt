@@ -12,6 +12,7 @@ ghost use Rattle.vs_space.specs.Table.{PageTable, IsTableOf, IsStep};
 ghost use Rattle.vs_space.specs.Written.{IsWrittenTable};
 
 use crate::tables::Tables;
+use crate::word::read_written;
 use std::marker::Model;
 use vs_arena::{FRAME_WORDS, FrameStore};
 use vs_types::{Action, Answer, Depth, Entry, Meaning, Op, Page, Rights, Size, index_at};
@@ -113,7 +114,7 @@ impl<S: FrameStore> Space<S> {
         ensures { (space : spaces.Space) → IsTableOf self.now space → result ≡ look space address }
     {
         let place = self.tables.descend(self.depth, self.root, address, 1);
-        let Meaning::Leaf(phys, rights) = place.found else {
+        let Meaning::Leaf(phys, rights) = read_written(place.level, place.word) else {
             return Answer::NotMapped;
         };
         let size = Size::at_level(place.level);
@@ -141,7 +142,7 @@ impl<S: FrameStore> Space<S> {
         let place = self
             .tables
             .descend(self.depth, self.root, page.base, lowest);
-        match place.found {
+        match read_written(place.level, place.word) {
             Meaning::Absent => {}
             Meaning::Table(table, _) => {
                 let base = self
@@ -180,7 +181,7 @@ impl<S: FrameStore> Space<S> {
         ensures { IsStep self.old (Action.Unmap base) result self.new }
     {
         let place = self.tables.descend(self.depth, self.root, base, 1);
-        let Meaning::Leaf(phys, rights) = place.found else {
+        let Meaning::Leaf(phys, rights) = read_written(place.level, place.word) else {
             return Answer::NotMapped;
         };
         let size = Size::at_level(place.level);
@@ -199,7 +200,7 @@ impl<S: FrameStore> Space<S> {
         ensures { IsStep self.old (Action.Protect base rights) result self.new }
     {
         let place = self.tables.descend(self.depth, self.root, base, 1);
-        let Meaning::Leaf(phys, old) = place.found else {
+        let Meaning::Leaf(phys, old) = read_written(place.level, place.word) else {
             return Answer::NotMapped;
         };
         let size = Size::at_level(place.level);

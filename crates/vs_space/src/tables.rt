@@ -4,12 +4,14 @@ ghost use Rattle.vs_arena.specs.Store.{zeros, IsInUse};
 ghost use Rattle.vs_types.specs.Depth.{levels, index_at, table_bytes, IsCanonical};
 ghost use Rattle.vs_walk.specs.Walk.{walk};
 ghost use Rattle.vs_walk.specs.declared.walk.Walk.{Walk};
+ghost use Rattle.vs_types.specs.Entry.{meaning};
 ghost use Rattle.vs_types.specs.declared.entry.Meaning.{Meaning};
 ghost use Rattle.vs_space.specs.Prune.{IsCut, IsPruned};
 ghost use Rattle.vs_space.specs.Held.{numbered, word_at, with_word, AreNumbered};
 ghost use Rattle.vs_walk.specs.Ways.{AreWhole};
 ghost use Rattle.vs_space.specs.Way.{found_at, table_at, entry_in, IsFirstPresent, HasPresent};
 ghost use Rattle.vs_space.specs.Tree.{IsTree, IsFilled, IsReached, AreWritten};
+ghost use Rattle.vs_space.specs.Written.{IsWritten};
 ghost use Rattle.vs_space.specs.Grow.{IsOpen, IsExtended, IsLeastBase};
 ghost use Rattle.vs_space.specs.Place.{IsPlace};
 
@@ -133,19 +135,22 @@ impl<S: FrameStore> Tables<S> {
         requires all_reached { IsReached (levels depth) self.now.memory root }
         requires some_level { 1 ≤ lowest }
         requires within { lowest ≤ levels depth }
-        ensures { IsPlace depth self.now.memory root address lowest result.level result.way result.found }
+        ensures place { IsPlace depth self.now.memory root address lowest result.level result.way (meaning result.level result.word) }
+        ensures written { IsWritten result.level result.word }
+        ensures some_level { 1 ≤ result.level }
+        ensures few_levels { result.level ≤ 5 }
     {
         let mut level = depth.levels();
         let mut number = root;
         let mut way = [root; WAY];
         loop {
-            let found = self.entry(level, number, address);
-            let Meaning::Table(next, _) = found else {
-                return Place { way, level, found };
-            };
+            let word = self.word(number, index_at(level, address));
             if level == lowest {
-                return Place { way, level, found };
+                return Place { way, level, word };
             }
+            let Meaning::Table(next, _) = read_written(level, word) else {
+                return Place { way, level, word };
+            };
             number = next;
             level -= 1;
             way[level as usize] = number;

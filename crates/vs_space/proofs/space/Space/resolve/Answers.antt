@@ -15,8 +15,8 @@ pub returns-in_default : goal.returns-in_default
 returns-in_default g c =
     let inside = c.self.inside in
     let canonical = subst (λ (t : PageTable). IsCanonical t.depth c.args.address) (sym c.self.view_is) c.requires in
-    let place = c.descend-place.ensures in
-    let absent = absent_end inside.depth inside.tables.memory inside.root c.self.invariant.0 c.args.address canonical c.descend-place.result.level c.descend-place.result.way c.descend-place.result.found place c.in_default.not-Leaf in
+    let place = subst (λ (e : Meaning). IsPlace inside.depth inside.tables.memory inside.root c.args.address 1 c.descend-place.result.level c.descend-place.result.way e) (sym c.read_written.ensures) c.descend-place.ensures.place in
+    let absent = absent_end inside.depth inside.tables.memory inside.root c.self.invariant.0 c.args.address canonical c.descend-place.result.level c.descend-place.result.way c.read_written.result place c.in_default.not-Leaf in
     subst (λ (t : PageTable). (space : spaces.Space) → IsTableOf t space → answers.NotMapped ≡ look space c.args.address) c.self.view_is
     (λ space is. resolve_absent inside.depth inside.tables.memory inside.root c.self.invariant.0 c.args.address canonical c.descend-place.result.level c.descend-place.result.way
     (subst (λ (e : Meaning). IsPlace inside.depth inside.tables.memory inside.root c.args.address 1 c.descend-place.result.level c.descend-place.result.way e) absent place) space is.translates)
@@ -25,14 +25,14 @@ pub overflow_add-result : goal.overflow_add-result
 overflow_add-result g c =
     let inside = c.self.inside in
     let canonical = subst (λ (t : PageTable). IsCanonical t.depth c.args.address) (sym c.self.view_is) c.requires in
-    let place = subst (λ (e : Meaning). IsPlace inside.depth inside.tables.memory inside.root c.args.address 1 c.descend-place.result.level c.descend-place.result.way e) c.in-Leaf.is c.descend-place.ensures in
+    let place = subst (λ (e : Meaning). IsPlace inside.depth inside.tables.memory inside.root c.args.address 1 c.descend-place.result.level c.descend-place.result.way e) (sym c.in-Leaf.ensures) c.descend-place.ensures.place in
     omega (arith, resolve_fits inside.depth inside.tables.memory inside.root c.self.invariant.0 c.args.address canonical c.descend-place.result.level c.descend-place.result.way c.in-Leaf.phys c.in-Leaf.rights place c.bytes.result (c.bytes.ensures ∙ ap bytes_of c.at_level-size.ensures))
 
 pub returns : goal.returns
 returns g c =
     let inside = c.self.inside in
     let canonical = subst (λ (t : PageTable). IsCanonical t.depth c.args.address) (sym c.self.view_is) c.requires in
-    let place = subst (λ (e : Meaning). IsPlace inside.depth inside.tables.memory inside.root c.args.address 1 c.descend-place.result.level c.descend-place.result.way e) c.in-Leaf.is c.descend-place.ensures in
+    let place = subst (λ (e : Meaning). IsPlace inside.depth inside.tables.memory inside.root c.args.address 1 c.descend-place.result.level c.descend-place.result.way e) (sym c.in-Leaf.ensures) c.descend-place.ensures.place in
     subst (λ (t : PageTable). (space : spaces.Space) → IsTableOf t space → answers.Mapped (c.in-Leaf.phys + c.args.address % c.bytes.result) c.at_level-size.result c.in-Leaf.rights ≡ look space c.args.address) c.self.view_is
     (λ space is. subst (λ (z : Size). answers.Mapped (c.in-Leaf.phys + c.args.address % c.bytes.result) z c.in-Leaf.rights ≡ look space c.args.address) (sym c.at_level-size.ensures)
     (resolve_leaf inside.depth inside.tables.memory inside.root c.self.invariant.0 c.args.address canonical c.descend-place.result.level c.descend-place.result.way c.in-Leaf.phys c.in-Leaf.rights place c.bytes.result (c.bytes.ensures ∙ ap bytes_of c.at_level-size.ensures) space is.is_space is.translates))
