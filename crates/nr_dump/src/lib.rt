@@ -10,3 +10,6 @@ mod laws;
 pub use checking::check;
 pub use fault::DumpFault;
 pub use laws::dumps_fit_or_have_a_fault;
+
+#[cfg(test)]
+mod tests;
