@@ -21,3 +21,4 @@ pub mod Marked
 pub mod Traversed
 pub mod TraversedWords
 pub mod Places
+pub mod Gathered

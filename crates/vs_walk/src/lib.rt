@@ -6,6 +6,7 @@
 mod dump;
 pub mod examples;
 mod frames;
+mod gathering;
 mod laws;
 mod listing;
 pub mod pages;

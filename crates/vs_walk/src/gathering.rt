@@ -1,0 +1,58 @@
+ghost use Rattle.std.specs.Prelude.{◌≡◌, ◌<◌, ◌≤◌, ◌^◌, ℕ, length, All, Contains, IsTrue, Some, None, IfOk, IfErr, OnOk};
+ghost use Rattle.std.specs.FinMap as finite;
+ghost use Rattle.vs_types.specs.Refusal.{IfRefused};
+ghost use Rattle.vs_walk.specs.Traversal.{moves, reached, walk_fault};
+
+use crate::dump::Dump;
+use crate::frames::Frames;
+use crate::traversal::{PageVisitor, traverse};
+use crate::walk::WalkFault;
+use std::alloc::Global;
+use vs_types::{Depth, Fail, Memory, Page};
+
+/// Passes all pages over.
+#[derive(Drop)]
+struct PassOver;
+
+impl PageVisitor for PassOver {
+    ghost HasTaken = { λ _ _. Unit {0} };
+
+    fn take(&mut self, _page: Page) -> Result<(), Memory> {
+        Ok(())
+    }
+}
+
+impl Dump {
+    /// The dump of the page table whose root is the frame of number `root`, after `applied` entries of the log: just the
+    /// frames that are reached from there, each with its words. Takes memory for them.
+    ///
+    /// Where there is no fault on the way through the tables, at most 4,096 frames may be reached, with numbers below
+    /// 2^40. It refuses with the first fault on the way.
+    pub fn gather<F: Frames>(
+        alloc: Global,
+        frames: &F,
+        root: u64,
+        depth: Depth,
+        applied: u32,
+    ) -> Result<Dump, Fail<WalkFault>>
+        requires few { walk_fault depth (F.memory frames.now) root ≡ None → length (reached (moves depth (F.memory frames.now) root)) ≤ 4096 }
+        requires in_range { walk_fault depth (F.memory frames.now) root ≡ None → All (λ number. number < 2 ^ 40) (reached (moves depth (F.memory frames.now) root)) }
+        ensures applied { IfOk result (λ dump. dump.applied ≡ applied) }
+        ensures root { IfOk result (λ dump. dump.root ≡ root) }
+        ensures held { IfOk result (λ dump. (number : ℕ) → Contains (reached (moves depth (F.memory frames.now) root)) number → finite.get dump.frames number ≡ finite.get (F.memory frames.now) number) }
+        ensures only { IfOk result (λ dump. (number : ℕ) → IsTrue (finite.contains_key dump.frames number) → Contains (reached (moves depth (F.memory frames.now) root)) number) }
+        ensures faultless { OnOk result (walk_fault depth (F.memory frames.now) root ≡ None) }
+        ensures first { IfErr result (IfRefused (λ fault. walk_fault depth (F.memory frames.now) root ≡ Some fault)) }
+    {
+        let reached = traverse(alloc, frames, root, depth, &mut PassOver)?;
+        let mut dump = Dump::new(alloc, applied, root);
+        let numbers = reached.as_slice();
+        for number in numbers {
+            let Some(words) = frames.words(*number) else {
+                unreachable!();
+            };
+            dump.push(*number, words)?;
+        }
+        Ok(dump)
+    }
+}
