@@ -1,118 +1,121 @@
 #!/usr/bin/env python3
 """Writes large traces for the benchmarks: traces.py KIND > FILE, where KIND is one of the names below.
 
-Each is a right run: its answers are those of the space, and each dump is the page table after the whole log.
+Each is a right run, but for `most_leaves`: its answers are those of the space, and each dump is the page table after the
+whole log.
 """
-import struct
+import os
 import sys
 
-MAP, UNMAP, PROTECT, RESOLVE = 0, 1, 2, 3
-DONE, REMOVED, NOT_MAPPED, CHANGED, MAPPED = 0, 3, 4, 6, 7
-ALL = 7
+sys.path.insert(0, os.path.join(os.path.dirname(os.path.abspath(__file__)), "..", "tests"))
+from recording import (ALL, DONE, MAP, MAPPED, NOT_MAPPED, REMOVED, RESOLVE, UNMAP, call, dump, entry, frames, reply,
+                       trace)
 
 
 class Run:
-    """One thread at a time makes a call and is answered."""
+    """One call at a time is made and answered."""
 
     def __init__(self, replicas, threads):
         self.replicas, self.threads = replicas, threads
         self.log, self.events, self.pages = [], [], {}
 
-    def call(self, kind, rights, address, physical):
+    def ask(self, kind, address, rights=0, physical=0):
         thread = len(self.events) // 2 % self.threads
-        number = len(self.events)
-        self.events.append(struct.pack(">BBHBBBBQQ", 0, thread % self.replicas, thread, kind, 0, rights, 0, address, physical))
-        return number
+        self.events.append(call(thread % self.replicas, thread, kind, address, rights=rights, physical=physical))
+        return len(self.events) - 1
 
-    def reply(self, call, answer, at, rights=0, value=0):
-        self.events.append(struct.pack(">BBBBIIIQ", 1, answer, 0, rights, call, at, 0, value))
+    def update(self, kind, address, answer, rights=0, physical=0, page=(0, 0, 0)):
+        number = self.ask(kind, address, rights, physical)
+        self.log.append(number)
+        size, told, old = page
+        self.events.append(reply(number, len(self.log) - 1, answer, size, old, told))
 
-    def map(self, base, phys):
-        call = self.call(MAP, ALL, base, phys)
-        self.log.append(call)
-        self.pages[base] = phys
-        self.reply(call, DONE, len(self.log) - 1)
+    def map(self, base, physical):
+        """Of a page of 4 KiB where none is."""
+        self.pages[base] = (0, physical, ALL)
+        self.update(MAP, base, DONE, ALL, physical)
 
     def unmap(self, base):
-        call = self.call(UNMAP, 0, base, 0)
-        self.log.append(call)
-        phys = self.pages.pop(base, None)
-        if phys is None:
-            self.reply(call, NOT_MAPPED, len(self.log) - 1)
+        page = self.pages.pop(base, None)
+        if page is None:
+            self.update(UNMAP, base, NOT_MAPPED)
         else:
-            self.reply(call, REMOVED, len(self.log) - 1, ALL, phys)
+            self.update(UNMAP, base, REMOVED, page=page)
 
     def resolve(self, address):
-        call = self.call(RESOLVE, 0, address, 0)
-        phys = self.pages.get(address & ~0xFFF)
-        if phys is None:
-            self.reply(call, NOT_MAPPED, len(self.log))
+        number = self.ask(RESOLVE, address)
+        page = self.pages.get(address & ~0xFFF)
+        if page is None:
+            self.events.append(reply(number, len(self.log), NOT_MAPPED))
         else:
-            self.reply(call, MAPPED, len(self.log), ALL, phys + address % 4096)
+            self.events.append(reply(number, len(self.log), MAPPED, 0, ALL, page[1] + address % 4096))
 
-    def tables(self):
-        """The frames of the page table: number -> {index: word}; the root is frame 1."""
-        frames, places = {1: {}}, {}
-        for base, phys in self.pages.items():
-            number = 1
-            for level in (4, 3, 2):
-                index = base >> (3 + 9 * level) & 511
-                stretch = (level, base >> (3 + 9 * level))
-                if stretch not in places:
-                    places[stretch] = len(frames) + 1
-                    frames[places[stretch]] = {}
-                    frames[number][index] = places[stretch] * 4096 + 7
-                number = places[stretch]
-            frames[number][base >> 12 & 511] = phys + 7
-        return frames
-
-    def write(self, out):
-        out.write(b"NRVT" + struct.pack(">HBBHHII", 1, 4, self.replicas, self.threads, 4096, len(self.log), len(self.events)))
-        out.write(struct.pack(f">{len(self.log)}I", *self.log))
-        out.write(b"".join(self.events))
-        frames = self.tables()
-        dump = [struct.pack(">IIQ", len(self.log), len(frames), 1)]
-        for number in sorted(frames):
-            words = [0] * 512
-            for index, word in frames[number].items():
-                words[index] = word
-            dump.append(struct.pack(">Q512Q", number, *words))
-        for _ in range(self.replicas):
-            out.write(b"".join(dump))
+    def write(self, out, tables=None):
+        dumps = [dump(len(self.log), tables or frames(self.pages))] * self.replicas
+        out.write(trace(self.replicas, self.threads, 4096, self.log, self.events, dumps))
 
 
-def most_of_all():
-    """The most events, places and frames that a trace can have, and 65,360 pages in the end: near 70 MB."""
+def greatest(out):
+    """The greatest trace that there is, 70,647,892 bytes: the most events, places, replicas and frames, and 65,376 pages."""
     run = Run(4, 64)
-    for i in range(4085 * 16):
+    for i in range(4086 * 16):
         run.map((i // 16 << 21) + (i % 16 << 12), i << 12)
     while len(run.log) < 65536:
         run.unmap(1 << 46)
-    return run
+    run.write(out)
 
 
-def one_page():
+def most_leaves(out):
+    """65,536 pages, and a dump of 2,092,032 leaves: the first that the space does not have is that of 0x10000000."""
+    run = Run(1, 1)
+    for i in range(65536):
+        run.map(i << 12, i << 12)
+    tables = {1: {0: 2 * 4096 + 7}, 2: {i: (3 + i) * 4096 + 7 for i in range(8)}}
+    tables.update({3 + i: {} for i in range(8)})
+    for i in range(4086):
+        tables[3 + i // 512][i % 512] = (11 + i) * 4096 + 7
+        tables[11 + i] = {k: entry(0, (i * 512 + k) << 12, ALL) for k in range(512)}
+    run.write(out, tables)
+
+
+def most_pages(out):
+    """65,536 pages that stay."""
+    run = Run(4, 64)
+    for i in range(65536):
+        run.map(i << 12, i << 12)
+    run.write(out)
+
+
+def one_page(out):
     """65,536 updates of one page."""
     run = Run(1, 1)
-    for i in range(32768):
+    for _ in range(32768):
         run.map(0x400000, 0x1000)
         run.unmap(0x400000)
-    return run
+    run.write(out)
 
 
-def most_reads():
+def most_unmaps(out):
+    """65,536 unmaps where nothing is mapped."""
+    run = Run(1, 64)
+    for i in range(65536):
+        run.unmap(i << 21)
+    run.write(out)
+
+
+def most_reads(out):
     """256 pages and 65,280 reads."""
     run = Run(4, 64)
     for i in range(256):
         run.map(i << 12, i << 12)
     for i in range(65280):
         run.resolve((i % 512 << 12) + 5)
-    return run
+    run.write(out)
 
 
-KINDS = {kind.__name__: kind for kind in (most_of_all, one_page, most_reads)}
+KINDS = {kind.__name__: kind for kind in (greatest, most_leaves, most_pages, one_page, most_unmaps, most_reads)}
 
 if __name__ == "__main__":
     if len(sys.argv) != 2 or sys.argv[1] not in KINDS:
         sys.exit(f"usage: traces.py {' | '.join(KINDS)}")
-    KINDS[sys.argv[1]]().write(sys.stdout.buffer)
+    KINDS[sys.argv[1]](sys.stdout.buffer)

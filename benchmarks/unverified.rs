@@ -9,25 +9,26 @@ const NO_FETCH: u64 = 1 << 63;
 const NUMBER: u64 = ((1 << 40) - 1) << 12;
 const PHYS: u64 = (1 << 52) - 1;
 
-/// Frames in one vector; frame i has the number i + 1.
+/// Frames in one vector; frame i has the number base + i.
 struct Arena {
+    base: u64,
     words: Vec<[u64; 512]>,
     free: Vec<u16>,
 }
 
 impl Arena {
     fn new() -> Arena {
-        Arena { words: vec![[0; 512]; FRAMES], free: (0..FRAMES as u16).collect() }
+        Arena { base: 1 << 39, words: vec![[0; 512]; FRAMES], free: (0..FRAMES as u16).collect() }
     }
 
     fn take(&mut self) -> Option<u64> {
         let index = self.free.pop()?;
         self.words[index as usize] = [0; 512];
-        Some(index as u64 + 1)
+        Some(self.base + index as u64)
     }
 
     fn give(&mut self, number: u64) {
-        self.free.push(number as u16 - 1);
+        self.free.push((number - self.base) as u16);
     }
 
     fn used(&self) -> usize {
@@ -35,11 +36,11 @@ impl Arena {
     }
 
     fn table(&self, number: u64) -> &[u64; 512] {
-        &self.words[number as usize - 1]
+        &self.words[(number - self.base) as usize]
     }
 
     fn table_mut(&mut self, number: u64) -> &mut [u64; 512] {
-        &mut self.words[number as usize - 1]
+        &mut self.words[(number - self.base) as usize]
     }
 }
 
@@ -47,8 +48,16 @@ fn index_at(level: usize, address: u64) -> usize {
     (address >> (3 + 9 * level)) as usize % 512
 }
 
-fn is_leaf(level: usize, word: u64) -> bool {
-    level == 1 || (level < 4 && word & LARGE != 0)
+/// Whether a word leads to a table, in a table above the lowest level.
+fn leads_on(word: u64) -> bool {
+    word & (PRESENT | LARGE) == PRESENT
+}
+
+/// Whether a table has no entry. It looks beside this index first.
+fn is_empty(words: &[u64; 512], near: usize) -> bool {
+    words[(near + 1) % 512] == 0
+        && words[(near + 511) % 512] == 0
+        && words.chunks_exact(8).all(|group| group.iter().fold(0, |all, word| all | word) == 0)
 }
 
 fn rights(word: u64) -> u64 {
@@ -123,7 +132,7 @@ impl Space {
         loop {
             way[level] = number;
             let word = self.arena.table(number)[index_at(level, address)];
-            if word & PRESENT == 0 || is_leaf(level, word) || level == lowest {
+            if level == lowest || !leads_on(word) {
                 return Place { way, level, word };
             }
             number = (word & NUMBER) >> 12;
@@ -185,7 +194,7 @@ impl Space {
         }
         let mut level = place.level;
         self.arena.table_mut(place.way[level])[index_at(level, base)] = 0;
-        while level < 4 && self.arena.table(place.way[level]).iter().all(|word| word & PRESENT == 0) {
+        while level < 4 && is_empty(self.arena.table(place.way[level]), index_at(level, base)) {
             self.arena.give(place.way[level]);
             level += 1;
             self.arena.table_mut(place.way[level])[index_at(level, base)] = 0;
@@ -195,23 +204,13 @@ impl Space {
     }
 
     fn resolve(&self, address: u64) -> Answer {
-        let mut number = self.root;
-        let mut all = 7;
-        let mut level = 4;
-        loop {
-            let word = self.arena.table(number)[index_at(level, address)];
-            if word & PRESENT == 0 {
-                return Answer::NotMapped;
-            }
-            all &= rights(word);
-            if is_leaf(level, word) {
-                let bytes = 1 << (3 + 9 * level);
-                let phys = (word & PHYS & !(bytes - 1)) + address % bytes;
-                return Answer::Mapped(phys, level, all);
-            }
-            number = (word & NUMBER) >> 12;
-            level -= 1;
+        let place = self.descend(address, 1);
+        if place.word & PRESENT == 0 {
+            return Answer::NotMapped;
         }
+        let bytes = 1 << (3 + 9 * place.level);
+        let phys = (place.word & PHYS & !(bytes - 1)) + address % bytes;
+        Answer::Mapped(phys, place.level, rights(place.word))
     }
 }
 

@@ -1,11 +1,10 @@
 -- The calls that stand before one that was answered before they were made.
-use Rattle.std.proofs.Common.{◌≡◌, ℕ, ◌+◌, ◌<◌, ◌≤◌, [], ◌∷◌, ◌⊎◌, inl, inr, length, max, Some, None, Option, refl, sym, ap, subst, ◌∙◌, arith}
+use Rattle.std.proofs.Common.{◌≡◌, ℕ, ◌<◌, ◌≤◌, [], ◌∷◌, inl, inr, length, Some, None, Option, refl, sym, ap, subst, ◌∙◌, arith}
 use Rattle.std.specs.Prelude.{is_some}
 use Rattle.std.proofs.lemmas.Bool.{cases_lt, false≢true}
-use Rattle.vs_types.specs.declared.answer.Answer.{Answer}
 use Rattle.nr_trace.specs.Recording.{Recording}
-use Rattle.nr_trace.specs.Calls.{Answered, call_of, reply_of, IsCall}
-use Rattle.nr_trace.specs.Orders.{floor, known_by}
+use Rattle.nr_trace.specs.Calls.{call_of, IsCall}
+use Rattle.nr_trace.specs.Orders.{floor}
 use Rattle.nr_trace.specs.Faults.{Holds, Earlier, StandsBehind}
 use Rattle.nr_trace.specs.Laws.{HasCleanLog}
 use Rattle.nr_trace.specs.Reading.{Finds}

@@ -9,4 +9,8 @@ pub mod OrderFacts
 pub mod AnswerFacts
 pub mod AnswerEquality
 pub mod PassFacts
+pub mod FirstOfPasses
+pub mod PrefixFacts
+pub mod DumpFacts
+pub mod VerdictFacts
 pub mod LegalReplays

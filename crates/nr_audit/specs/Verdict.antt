@@ -1,6 +1,5 @@
 -- What a verdict says of a trace, and of bytes: yes with the recorded order where no fault holds, else no with the first.
-use Rattle.std.specs.Prelude.{◌≡◌, ℕ, List, ⊤, Result, Ok}
-use Rattle.vs_types.specs.declared.refusal.Memory.{Memory}
+use Rattle.std.specs.Prelude.{◌≡◌, ℕ, List, ⊤}
 use Rattle.nr_trace.specs.Recording.{Recording}
 use Rattle.nr_trace.specs.Spelling.{Spells}
 use Rattle.nr_trace.specs.Faults.{IsFirst, IsFirstOf}
@@ -20,6 +19,6 @@ IsVerdictOf bytes (Yes order) = (trace : Recording) × Spells bytes trace × IsF
 IsVerdictOf bytes (No fault) = IsFirstOf bytes fault
 
 -- where the verdict is yes, its order has the property
-abbrev pub IfYes : Verdict → (List ℕ → Type 0) → Type 0
-IfYes (Yes order) P = P order
-IfYes (No fault) P = ⊤
+abbrev pub IfYes : (List ℕ → Type 0) → Verdict → Type 0
+IfYes P (Yes order) = P order
+IfYes P (No fault) = ⊤

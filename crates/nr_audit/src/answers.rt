@@ -15,7 +15,7 @@ use vs_plain::PlainSpace;
 use vs_types::{Answer, Fail, Memory, Query};
 
 /// Serves a request on a space.
-fn serve(space: &mut PlainSpace, query: Query) -> Result<Answer, Memory>
+pub(crate) fn serve(space: &mut PlainSpace, query: Query) -> Result<Answer, Memory>
     ensures { IfOk result (λ answer. Serves space.old query answer space.new) }
 {
     match query {

@@ -40,11 +40,7 @@ fn entries_before(trace: &Trace, replies: &Replies, places: &Places, call: u32) 
 
 /// Looks for a call that stands before one that was answered before it was made: by one pass over the events, with the
 /// most entries that are known so far by a reply. Takes no memory.
-pub(crate) fn check_floors(
-    trace: &Trace,
-    replies: &Replies,
-    places: &Places,
-) -> Result<(), Fault>
+pub(crate) fn check_floors(trace: &Trace, replies: &Replies, places: &Places) -> Result<(), Fault>
     requires clean { HasCleanLog trace.now }
     requires replied { AreReplies trace.now replies.now.by_call.items }
     requires placed { ArePlaces trace.now places.now.by_call.items }

@@ -5,13 +5,19 @@
 
 mod answers;
 mod calls;
+mod dumps;
 mod events;
 mod floors;
 mod found;
+mod judging;
+mod laws;
 mod log;
 mod order;
 mod passes;
 mod positions;
+mod prefixes;
+mod search;
+mod stub;
 mod tables;
 mod verdict;
 mod whole;

@@ -1,4 +1,6 @@
 pub mod Faults
+pub mod Comparing
+pub mod Checking
 pub use Rattle.vs_types.specs.Depth
 pub use Rattle.vs_types.specs.Space
 pub use Rattle.vs_types.specs.Refusal

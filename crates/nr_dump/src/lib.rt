@@ -2,5 +2,7 @@
 #![tactic(auto)]
 
 mod fault;
+mod laws;
 
 pub use fault::DumpFault;
+pub use laws::dumps_fit_or_have_a_fault;

@@ -1,5 +1,5 @@
 -- What the commands answer to bytes: a text and a status.
-use Rattle.std.specs.Prelude.{◌≡◌, ◌≤◌, ◌⊎◌, ℕ, List, Option, Some, slice_get}
+use Rattle.std.specs.Prelude.{◌≡◌, ◌≤◌, ◌⊎◌, ℕ, List, Option, Some, IfSome, take, slice_get}
 use Rattle.std.specs.Io.KnownBytes.{Appends}
 use Rattle.vs_walk.specs.Walk.{walk}
 use Rattle.vs_walk.specs.Dump.{Image}
@@ -63,8 +63,14 @@ abbrev pub IsAnswer : Command → List ℕ → List ℕ → ℕ → Type 0
 IsAnswer Audit = IsAudit
 IsAnswer (Resolve word replica) = IsResolve word.now replica
 
--- a text that goes with the status was written after what was there, and nothing else
-pub record WritesReport (IsReport : List ℕ → ℕ → Type 0) (old new : Option (List ℕ)) (status : ℕ) : Type 0 where
+-- what was read of an input is its front, where the reader's contract specifies its bytes
+abbrev pub IsReadOf : Option (List ℕ) → List ℕ → Type 0
+IsReadOf known input = IfSome known (λ whole. input ≡ take read_limit whole)
+
+-- a text that goes with the status, on the input that was read, was written after what was there, and nothing else
+pub record WritesReport (IsReport : List ℕ → List ℕ → ℕ → Type 0) (known old new : Option (List ℕ)) (status : ℕ) : Type 0 where
+  pub input : List ℕ
+  pub is_read : IsReadOf known input
   pub text : List ℕ
-  pub is_report : IsReport text status
+  pub is_report : IsReport input text status
   pub written : Appends old new text

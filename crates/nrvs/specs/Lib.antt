@@ -2,4 +2,6 @@ pub mod Text
 pub mod Addresses
 pub mod Answers
 pub mod Refusals
+pub mod Program
 pub use Rattle.nr_audit.specs.Replay
+pub use Rattle.clap.specs.Words

@@ -1,7 +1,7 @@
 -- The program ends with no answer: why, its exit status, and what it tells standard error.
-use Rattle.std.specs.Prelude.{◌≡◌, ◌≢◌, ℕ, List, codes, Option, IfSome, Result, IfErr, take, ⊤}
+use Rattle.std.specs.Prelude.{◌≡◌, ◌≢◌, ℕ, List, codes, Option, Result, Ok, Err, IfErr, ⊤}
 use Rattle.nrvs.specs.Addresses.{SpellsCanonical, IsAddressFault}
-use Rattle.nrvs.specs.Answers.{read_limit, LacksReplica}
+use Rattle.nrvs.specs.Answers.{IsReadOf, LacksReplica}
 use Rattle.nrvs.specs.declared.command.Command.{Command}
 use Rattle.nrvs.specs.declared.command.Command.TheVariants.{Audit, Resolve}
 use Rattle.nrvs.specs.declared.fault.ProgFault.{ProgFault}
@@ -42,7 +42,7 @@ abbrev pub IsResolveFault : List ℕ → ℕ → Option (List ℕ) → ProgFault
 IsResolveFault word replica known BadAddress = IsAddressFault word BadAddress
 IsResolveFault word replica known NotCanonical = IsAddressFault word NotCanonical
 IsResolveFault word replica known NoSuchReplica =
-    ((address : ℕ) × SpellsCanonical word address) × IfSome known (λ input. LacksReplica (take read_limit input) replica)
+    ((address : ℕ) × SpellsCanonical word address) × ((input : List ℕ) × IsReadOf known input × LacksReplica input replica)
 IsResolveFault word replica known _ = (address : ℕ) × SpellsCanonical word address
 
 -- the fault of the command, where the input is known
@@ -53,3 +53,8 @@ IsRefusal (Resolve word replica) known = IsResolveFault word.now replica known
 -- where there is no answer, the writer is as it was, but where it could not be written to
 abbrev pub WritesAnswersAlone : {W : Type 0} → W → W → Result ℕ ProgFault → Type 0
 WritesAnswersAlone old new result = IfErr result (λ fault. fault ≢ CannotWrite → new ≡ old)
+
+-- the exit status of the program
+abbrev pub exit_status : Result ℕ ProgFault → ℕ
+exit_status (Ok status) = status
+exit_status (Err fault) = refusal_status fault

@@ -1,7 +1,7 @@
-ghost use Rattle.std.specs.Prelude.{◌≡◌, IfOk, IfErr, IfSome, string_bytes, take};
+ghost use Rattle.std.specs.Prelude.{◌≡◌, IfOk, IfErr, string_bytes};
 ghost use Rattle.nrvs.specs.Text.{replay_status};
 ghost use Rattle.nrvs.specs.Refusals.{IsEndFault, WritesAnswersAlone};
-ghost use Rattle.nrvs.specs.Answers.{read_limit, IsAudit, WritesReport};
+ghost use Rattle.nrvs.specs.Answers.{IsAudit, WritesReport};
 
 use crate::ends::{read_input, write_report};
 use crate::fault::ProgFault;
@@ -41,8 +41,7 @@ pub fn audit_io<R: Read + Drop, W: Write>(
     reader: R,
     writer: &mut W,
 ) -> Result<u8, ProgFault>
-    ensures ok { IfOk result (λ status. IfSome (R.remaining reader) (λ input.
-        WritesReport (IsAudit (take read_limit input)) (W.contents writer.old) (W.contents writer.new) status)) }
+    ensures ok { IfOk result (WritesReport IsAudit (R.remaining reader) (W.contents writer.old) (W.contents writer.new)) }
     ensures err { IfErr result IsEndFault }
     ensures alone { WritesAnswersAlone writer.old writer.new result }
 {

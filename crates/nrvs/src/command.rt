@@ -14,8 +14,8 @@ pub enum Command<'a> {
 }
 
 impl Command<'_> {
-    ghost use Rattle.std.specs.Prelude.{IfOk, IfErr, IfSome, take};
-    ghost use Rattle.nrvs.specs.Answers.{read_limit, IsAnswer, WritesReport};
+    ghost use Rattle.std.specs.Prelude.{IfOk, IfErr};
+    ghost use Rattle.nrvs.specs.Answers.{IsAnswer, WritesReport};
     ghost use Rattle.nrvs.specs.Refusals.{IsRefusal, WritesAnswersAlone};
 
     /// Runs the command on the input, and gives the exit status.
@@ -25,8 +25,7 @@ impl Command<'_> {
         reader: R,
         writer: &mut W,
     ) -> Result<u8, ProgFault>
-        ensures ok { IfOk result (λ status. IfSome (R.remaining reader) (λ input.
-            WritesReport (IsAnswer self.entry (take read_limit input)) (W.contents writer.old) (W.contents writer.new) status)) }
+        ensures ok { IfOk result (WritesReport (IsAnswer self.entry) (R.remaining reader) (W.contents writer.old) (W.contents writer.new)) }
         ensures err { IfErr result (IsRefusal self.entry (R.remaining reader)) }
         ensures alone { WritesAnswersAlone writer.old writer.new result }
     {

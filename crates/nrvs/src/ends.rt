@@ -1,6 +1,6 @@
-ghost use Rattle.std.specs.Prelude.{◌≡◌, ◌≢◌, IfOk, IfErr, IfSome, OnOk, take, string_bytes};
+ghost use Rattle.std.specs.Prelude.{◌≡◌, ◌≢◌, IfOk, IfErr, OnOk, string_bytes};
 ghost use Rattle.std.specs.Io.KnownBytes.{Appends};
-ghost use Rattle.nrvs.specs.Answers.{read_limit, WritesReport};
+ghost use Rattle.nrvs.specs.Answers.{IsReadOf};
 
 use crate::fault::ProgFault;
 use crate::report::Report;
@@ -12,7 +12,7 @@ const READ_LIMIT: u64 = 70_647_893;
 
 /// The input, in blocks, but no more than the limit.
 pub fn read_input<R: Read + Drop>(alloc: Global, reader: R) -> Result<Vec<u8>, ProgFault>
-    ensures ok { IfOk result (λ bytes. IfSome (R.remaining reader) (λ input. bytes.items ≡ take read_limit input)) }
+    ensures ok { IfOk result (λ bytes. IsReadOf (R.remaining reader) bytes.items) }
     ensures err { IfErr result (λ fault. (fault ≢ ProgFault.CannotRead) → fault ≡ ProgFault.Memory) }
 {
     let mut bytes = Vec::new(alloc);

@@ -16,13 +16,10 @@ use std::io;
 use std::process::ExitCode;
 
 fn main(rt: HostRuntime) -> ExitCode {
+    let alloc = rt.alloc();
     let words = words::program_words(&rt);
-    let status = program::run(
-        rt.alloc(),
-        words,
-        rt.reader(),
-        &mut io::writer(&rt),
-        &mut rt.stderr(),
-    );
+    let asked = words::read_words(alloc, &words);
+    let mut output = io::writer(&rt);
+    let status = program::run(alloc, asked, rt.reader(), &mut output, &mut rt.stderr());
     ExitCode::from(status)
 }

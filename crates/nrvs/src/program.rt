@@ -1,56 +1,67 @@
+ghost use Rattle.std.specs.Prelude.{◌≡◌, false, IfErr, IfOk, MatchResult};
+ghost use Rattle.clap.specs.Words.{kind_of};
+ghost use Rattle.nrvs.specs.Refusals.{refusal_status, exit_status};
+ghost use Rattle.nrvs.specs.Program.{is_shown, TellsRefusal, Runs, EndsWith};
+
+use crate::command::Command;
 use crate::ends::write_text;
 use crate::fault::ProgFault;
-use crate::words::read_words;
+use clap::Error;
 use clap::error::ErrorKind;
 use std::alloc::Global;
 use std::io::{Read, Write};
-use vs_types::Memory;
 
-/// Tells what clap says of the words: help on the output, a fault of the command line on the errors. Gives clap's status.
+/// Whether help or the version was asked for, which go to the output.
+fn is_shown(kind: ErrorKind) -> bool
+    ensures { result ≡ is_shown kind }
+{
+    matches!(kind, ErrorKind::DisplayHelp | ErrorKind::DisplayVersion)
+}
+
+/// Tells what clap answers to the words: help on the output, a fault of the command line on the errors.
 fn tell_refusal<W: Write, E: Write>(
     alloc: Global,
-    refusal: clap::Error,
+    refusal: Error,
     output: &mut W,
     errors: &mut E,
-) -> Result<u8, ProgFault> {
-    if refusal.kind() == ErrorKind::OutOfMemory {
+) -> Result<u8, ProgFault>
+    ensures { TellsRefusal (kind_of refusal) output.old output.new result }
+{
+    let kind = refusal.kind();
+    if kind == ErrorKind::OutOfMemory {
         return Err(ProgFault::Memory);
     }
     let text = format!(in alloc; "{refusal}")?;
-    if refusal.use_stderr() {
-        write_text(errors, text.as_bytes())?;
-        Ok(2)
-    } else {
+    if is_shown(kind) {
         write_text(output, text.as_bytes())?;
         Ok(0)
+    } else {
+        write_text(errors, text.as_bytes())?;
+        Ok(2)
     }
 }
 
-/// The program between its words and its exit status.
+/// Runs what was asked for.
 fn try_run<R: Read + Drop, W: Write, E: Write>(
     alloc: Global,
-    words: Result<Vec<String>, Memory>,
+    asked: Result<Command<'_>, Error>,
     reader: R,
     output: &mut W,
     errors: &mut E,
-) -> Result<u8, ProgFault> {
-    let words = words?;
-    match read_words(alloc, &words) {
+) -> Result<u8, ProgFault>
+    ensures { Runs asked.entry (R.remaining reader) W.contents output.old output.new result }
+{
+    match asked {
         Ok(command) => command.run(alloc, reader, output),
         Err(refusal) => tell_refusal(alloc, refusal, output, errors),
     }
 }
 
-/// The whole program over its words and its three ends, which gives the exit status. Why there is no answer is told to
-/// the errors.
-pub fn run<R: Read + Drop, W: Write, E: Write>(
-    alloc: Global,
-    words: Result<Vec<String>, Memory>,
-    reader: R,
-    output: &mut W,
-    errors: &mut E,
-) -> u8 {
-    match try_run(alloc, words, reader, output, errors) {
+/// The exit status; why there is no answer is told to the errors.
+fn end<E: Write>(outcome: Result<u8, ProgFault>, errors: &mut E) -> u8
+    ensures { result ≡ exit_status outcome }
+{
+    match outcome {
         Ok(status) => status,
         Err(fault) => {
             let text = fault.text();
@@ -58,4 +69,18 @@ pub fn run<R: Read + Drop, W: Write, E: Write>(
             fault.status()
         }
     }
+}
+
+/// The whole program over what its words ask for and its three ends: gives the exit status.
+pub fn run<R: Read + Drop, W: Write, E: Write>(
+    alloc: Global,
+    asked: Result<Command<'_>, Error>,
+    reader: R,
+    output: &mut W,
+    errors: &mut E,
+) -> u8
+    ensures { EndsWith asked.entry (R.remaining reader) W.contents output.old output.new result }
+{
+    let outcome = try_run(alloc, asked, reader, output, errors);
+    end(outcome, errors)
 }

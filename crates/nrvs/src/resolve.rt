@@ -1,8 +1,7 @@
-ghost use Rattle.std.specs.Prelude.{◌≡◌, ℕ, IfOk, IfErr, OnOk, IfSome, MatchResult, string_bytes, take};
+ghost use Rattle.std.specs.Prelude.{IfOk, IfErr, MatchResult, string_bytes};
 ghost use Rattle.vs_types.specs.Depth.{IsCanonical};
 ghost use Rattle.vs_types.specs.declared.depth.Depth.TheVariants.{Four};
-ghost use Rattle.nrvs.specs.Addresses.{SpellsCanonical};
-ghost use Rattle.nrvs.specs.Answers.{read_limit, IsResolve, IsWalk, WritesReport};
+ghost use Rattle.nrvs.specs.Answers.{IsResolve, IsWalk, WritesReport};
 ghost use Rattle.nrvs.specs.Refusals.{IsWalkFault, IsResolveFault, WritesAnswersAlone};
 
 use crate::address::read_address;
@@ -56,9 +55,7 @@ pub fn resolve_io<R: Read + Drop, W: Write>(
     address: &str,
     replica: u8,
 ) -> Result<u8, ProgFault>
-    ensures ok { IfOk result (λ status. IfSome (R.remaining reader) (λ input.
-        WritesReport (IsResolve address.now replica (take read_limit input)) (W.contents writer.old) (W.contents writer.new) status)) }
-    ensures spelled { OnOk result ((number : ℕ) × SpellsCanonical address.now number) }
+    ensures ok { IfOk result (WritesReport (IsResolve address.now replica) (R.remaining reader) (W.contents writer.old) (W.contents writer.new)) }
     ensures err { IfErr result (IsResolveFault address.now replica (R.remaining reader)) }
     ensures alone { WritesAnswersAlone writer.old writer.new result }
 {

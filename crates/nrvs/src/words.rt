@@ -3,12 +3,11 @@ use clap::error::ErrorKind;
 use clap::{Arg, Error, value_parser};
 use std::alloc::{AllocError, Global};
 use std::env;
-use vs_types::Memory;
 
 /// The program's own words, the first of which is its name.
-pub fn program_words(rt: &HostRuntime) -> Result<Vec<String>, Memory> {
-    let words = env::args(rt).map_err(|_| Memory)?;
-    Ok(words.collect(rt.alloc())?)
+pub fn program_words(rt: &HostRuntime) -> Result<Vec<String>, AllocError> {
+    let words = env::args(rt).map_err(|_| AllocError)?;
+    words.collect(rt.alloc())
 }
 
 fn command_line<'a>(alloc: Global) -> Result<clap::Command<'a>, AllocError> {
@@ -36,8 +35,15 @@ fn command_line<'a>(alloc: Global) -> Result<clap::Command<'a>, AllocError> {
         .subcommand(resolve)
 }
 
-/// What the words ask for, or what clap says of them.
-pub fn read_words<'a>(alloc: Global, words: &'a [String]) -> Result<Command<'a>, Error> {
+/// What the words ask for, or what clap answers to them. Words for which there was no memory are answered so.
+pub fn read_words<'a>(
+    alloc: Global,
+    words: &'a Result<Vec<String>, AllocError>,
+) -> Result<Command<'a>, Error> {
+    let words = match words {
+        Ok(words) => words.as_slice(),
+        Err(AllocError) => return Err(Error::from(AllocError)),
+    };
     let mut line = command_line(alloc)?;
     let matches = line.try_get_matches_from_mut(words)?;
     match matches.subcommand() {

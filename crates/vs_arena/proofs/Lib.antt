@@ -1,3 +1,9 @@
 pub mod Stores
 pub mod MarkedFrames
 pub mod NewArenas
+pub mod RawArenas
+pub mod LinkedFrames
+pub mod RegionMemory
+pub mod RegionSteps
+pub mod RegionSharing
+pub mod RegionCrosses

@@ -71,6 +71,17 @@ marked_frames-unmark marks words index in_marks =
           (λ is. let at : q ≡ index = eqb-true q index is in rw (get_or-set_at marks index q false false at in_marks) refl)
           (λ isnt. let other : q ≢ index = eqb-false q index isnt in rw (get_or-set_other marks index q false false other) refl)
 
+-- whatever is written there
+pub marked_frames-unmark_written : (marks : List Bool) (words : List (List ℕ)) (index : ℕ) (own : List ℕ) → index < length marks
+    → marked_frames (set marks index false) (set words index own) ≡ finite.remove (marked_frames marks words) index
+marked_frames-unmark_written marks words index own in_marks =
+    same_at _ _ (λ q. get-marked_frames _ _ q ∙ here q ∙ sym (get-remove _ index q ∙ ap (cond (eqb q index) None) (get-marked_frames marks words q))) where
+      here : (q : ℕ) → marked (set marks index false) (set words index own) q ≡ cond (eqb q index) None (marked marks words q)
+      here q = same_where (eqb q index) _ _ _
+          (λ is. let at : q ≡ index = eqb-true q index is in rw (get_or-set_at marks index q false false at in_marks) refl)
+          (λ isnt. let other : q ≢ index = eqb-false q index isnt in
+          rw (get_or-set_other marks index q false false other, get_or-set_other words index q own [] other) refl)
+
 marked_within : (marks : List Bool) (index : ℕ) → get_or marks index false ≡ true → index < length marks
 marked_within marks index is_marked = elim (cases_lt index (length marks)) as (λ _. index < length marks) [
   | inl lt ↦ lt

@@ -1,12 +1,10 @@
 -- An arena while it is made: whole frames, and the numbers of all of them.
-use Rattle.std.proofs.Common.{◌≡◌, ◌+◌, ◌<◌, ℕ, List, [], ◌∷◌, ◌++◌, length, get_or, refl, sym, ap, subst, ◌∙◌, inl, inr, arith}
+use Rattle.std.proofs.Common.{◌≡◌, ◌+◌, ◌<◌, ℕ, List, [], ◌∷◌, ◌++◌, length, get_or, refl, sym, ap, ◌∙◌, inl, inr, arith}
 use Rattle.std.specs.Prelude.{All}
 use Rattle.std.proofs.lemmas.List.{length_push, get_or_push, get_or_append_left}
 use Rattle.std.proofs.lemmas.List.Elements.{All-push}
 use Rattle.std.proofs.lemmas.Bool.{cases_eq}
 use Rattle.vs_types.specs.Frame.{IsFrame}
-use Rattle.vs_arena.specs.Store.{zeros}
-use Rattle.vs_arena.proofs.MarkedFrames.{IsFrame-zeros}
 
 -- this many frames, and their numbers from 0 on
 pub record HasMade (words : List (List ℕ)) (free : List ℕ) (n : ℕ) : Type 0 where
@@ -23,10 +21,10 @@ HasMade-none = record {
   free_itself = λ k below. absurd (omega arith);
 }
 
-pub HasMade-push : (words : List (List ℕ)) (free : List ℕ) (n : ℕ) (own : List ℕ) → own ≡ zeros → HasMade words free n → HasMade (words ++ own ∷ []) (free ++ n ∷ []) (n + 1)
-HasMade-push words free n own cleared made = record {
+pub HasMade-push : (words : List (List ℕ)) (free : List ℕ) (n : ℕ) (own : List ℕ) → IsFrame own → HasMade words free n → HasMade (words ++ own ∷ []) (free ++ n ∷ []) (n + 1)
+HasMade-push words free n own own_frame made = record {
   words_for_each = length_push words own ∙ ap (λ k. k + 1) made.words_for_each;
-  whole_frames = All-push IsFrame words own made.whole_frames (subst IsFrame (sym cleared) IsFrame-zeros);
+  whole_frames = All-push IsFrame words own made.whole_frames own_frame;
   room_for_each = length_push free n ∙ ap (λ k. k + 1) made.room_for_each;
   free_itself = λ k below. elim (cases_eq k n) as (λ _. get_or (free ++ n ∷ []) k 0 ≡ k) [
     | inl last ↦ get_or_push free n 0 k (made.room_for_each ∙ sym last) ∙ sym last

@@ -4,12 +4,15 @@
 #![tactic(auto)]
 
 mod frame;
+mod raw_arena;
+mod region;
 mod store;
 #[cfg(test)]
 mod tests;
 mod vec_arena;
 
 pub use frame::Frame;
+pub use raw_arena::RawArena;
 pub use store::FrameStore;
 pub use vec_arena::VecArena;
 pub use vs_types::FRAME_WORDS;

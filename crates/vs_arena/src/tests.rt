@@ -1,8 +1,10 @@
-ghost use Rattle.std.specs.Prelude.{◌≡◌};
+ghost use Rattle.std.specs.Prelude.{◌≡◌, ◌+◌, ◌^◌, ◌≤◌};
 ghost use Rattle.std.specs.FinMap as finite;
 ghost use Rattle.vs_arena.specs.Store.{zeros};
 
-use crate::{Frame, FrameStore, VecArena};
+use crate::{Frame, FrameStore, RawArena, VecArena};
+use std::alloc::Global;
+use std::marker::Send;
 use std::process::Abort;
 use std::test::Fail;
 
@@ -41,18 +43,83 @@ fn use_two<S: FrameStore>(rt: &impl Abort, store: &mut S) {
     assert_eq!(rt; BASE + again.index() as u64, number);
 }
 
+// All frames of a new store are taken, given back in that order, and taken again.
+#[tactic(auto, using(crate::proofs::Stores::in_use))]
+fn use_all<S: FrameStore>(rt: &impl Abort, alloc: Global, store: &mut S) -> Result<(), Fail> {
+    let mut order = Vec::new(alloc);
+    for _ in 0..store.capacity() {
+        let frame = take_cleared(rt, store);
+        store.set(frame, 0, 5);
+        store.set(frame, 511, 7);
+        order.push(store.number(frame))?;
+    }
+    assert_eq!(rt; store.take(), None);
+    for number in &order {
+        let frame = store.at(*number).expect(rt, "a frame in use");
+        store.give(frame);
+    }
+    assert_eq!(rt; store.used(), 0);
+    for _ in 0..store.capacity() {
+        take_cleared(rt, store);
+    }
+    assert_eq!(rt; store.take(), None);
+    Ok(())
+}
+
+fn use_none<S: FrameStore>(rt: &impl Abort, store: &mut S) {
+    assert_eq!(rt; store.capacity(), 0);
+    assert_eq!(rt; store.take(), None);
+    assert_eq!(rt; store.at(BASE), None);
+}
+
+// A new store; where one growth of memory is refused, that of a second try.
+fn raw_arena(rt: &impl Abort, alloc: Global, n: usize) -> RawArena
+    requires { n ≤ 4096 }
+    ensures { result ≡ record { base = 2 ^ 39; size = n; frames = finite.empty } }
+{
+    match RawArena::new(alloc, BASE, n) {
+        Ok(arena) => arena,
+        Err(_) => RawArena::new(alloc, BASE, n).expect(rt, "memory"),
+    }
+}
+
 #[test]
-fn arena_of_two(rt: HostRuntime) -> Result<(), Fail> {
-    let mut arena = VecArena::new(rt.alloc(), BASE, 2)?;
-    use_two(&rt, &mut arena);
+fn arenas_of_two(rt: HostRuntime) -> Result<(), Fail> {
+    use_two(&rt, &mut VecArena::new(rt.alloc(), BASE, 2)?);
+    use_two(&rt, &mut raw_arena(&rt, rt.alloc(), 2));
     Ok(())
 }
 
 #[test]
-fn arena_of_none(rt: HostRuntime) -> Result<(), Fail> {
-    let mut arena = VecArena::new(rt.alloc(), BASE, 0)?;
-    assert_eq!(rt; arena.capacity(), 0);
-    assert_eq!(rt; arena.take(), None);
-    assert_eq!(rt; arena.at(BASE), None);
+fn arenas_of_all(rt: HostRuntime) -> Result<(), Fail> {
+    use_all(&rt, rt.alloc(), &mut VecArena::new(rt.alloc(), BASE, 4096)?)?;
+    use_all(&rt, rt.alloc(), &mut raw_arena(&rt, rt.alloc(), 4096))
+}
+
+#[test]
+fn arenas_of_none(rt: HostRuntime) -> Result<(), Fail> {
+    use_none(&rt, &mut VecArena::new(rt.alloc(), BASE, 0)?);
+    use_none(&rt, &mut raw_arena(&rt, rt.alloc(), 0));
     Ok(())
+}
+
+// 16 to 4,096 frames
+#[test]
+fn arenas_of_many_sizes(rt: HostRuntime) -> Result<(), Fail> {
+    for step in 0..17 {
+        let n = 16 + 255 * step;
+        assert_eq!(rt; VecArena::new(rt.alloc(), BASE, n)?.capacity(), n);
+        assert_eq!(rt; RawArena::new(rt.alloc(), BASE, n)?.capacity(), n);
+    }
+    Ok(())
+}
+
+fn cross<T: Send>(value: T) -> T {
+    value
+}
+
+#[test]
+fn arena_moves_to_another_thread(rt: HostRuntime) {
+    let mut arena = cross(raw_arena(&rt, rt.alloc(), 2));
+    assert_eq!(rt; arena.take().is_some(), true);
 }

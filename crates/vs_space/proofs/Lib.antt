@@ -4,6 +4,7 @@ pub mod Writes
 pub mod Trees
 pub mod Links
 pub mod Written
+pub mod Zeros
 pub mod Reached
 pub mod Regions
 pub mod Places

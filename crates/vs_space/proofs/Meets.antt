@@ -1,5 +1,5 @@
 -- What a descent meets, as the code reads it, and the steps of a page table that follow.
-use Rattle.std.proofs.Common.{◌≡◌, ◌≢◌, ℕ, ◌-◌, ◌%◌, ◌^◌, ◌<◌, ◌≤◌, List, Some, None, ⊎_elim, refl, sym, ap, subst, ◌∙◌, arith}
+use Rattle.std.proofs.Common.{◌≡◌, ◌≢◌, ℕ, ◌+◌, ◌-◌, ◌%◌, ◌^◌, ◌<◌, ◌≤◌, List, Some, None, ⊎_elim, refl, sym, ap, subst, ◌∙◌, arith}
 use Rattle.std.specs.Prelude.{slice_index}
 use Rattle.std.proofs.lemmas.Bool.{cases_lt}
 use Rattle.vs_types.specs.Depth.{levels, entry_bytes, index_at, IsCanonical}
@@ -7,7 +7,8 @@ use Rattle.vs_types.specs.Entry.{meaning, size_at, leaf_word}
 use Rattle.vs_types.specs.Operation.{IsBase}
 use Rattle.vs_types.specs.Page.{level_of, bytes_of}
 use Rattle.vs_types.specs.Space.{Space, IsSpace}
-use Rattle.vs_types.specs.Step.{step, Stepped}
+use Rattle.vs_types.specs.Step.{step, look, Stepped}
+use Rattle.vs_types.proofs.Pages.{bytes_positive}
 use Rattle.vs_walk.specs.Walk.{TranslatesAs}
 use Rattle.vs_types.specs.declared.depth.Depth.{Depth}
 use Rattle.vs_types.specs.declared.op.Action.TheVariants.{Unmap, Protect}
@@ -56,6 +57,11 @@ module _ (depth : Depth) (m : Memory) (root : ℕ) (table : IsPageTable depth m 
       absurd (never_table (slice_index words.0 (index_at 1 base)) n own words.2))
       (cases_lt 1 level)
 
+  pub resolve_absent : IsPlace depth m root base 1 level way entry.Absent → (space : Space) → TranslatesAs depth m root space → answers.NotMapped ≡ look space base
+  resolve_absent place space translates =
+      let none = absent_none depth m root table base canonical _ _ space translates (met_of depth m root base 1 level way entry.Absent (omega arith) place) in
+      rw none refl
+
   pub unmap_absent : (first limit : ℕ) → IsPlace depth m root base 1 level way entry.Absent → IsStep (page_table depth first limit root m) (Unmap base) answers.NotMapped (page_table depth first limit root m)
   unmap_absent first limit place = stays (page_table depth first limit root m) (Unmap base) answers.NotMapped (own_space depth first limit root m table) (λ space is translates.
       unmap_none depth m root table base canonical 0 root limit space (absent_none depth m root table base canonical _ _ space translates (met_of depth m root base 1 level way entry.Absent (omega arith) place)))
@@ -83,6 +89,27 @@ module _ (depth : Depth) (m : Memory) (root : ℕ) (table : IsPageTable depth m 
         let size : leaf.0.size ≡ size_at level = leaf.1.size ∙ ap size_at same in
         let aligned : phys % bytes_of (size_at level) ≡ 0 = subst (λ z. phys % bytes_of z ≡ 0) size (subst (λ p. p % bytes_of leaf.0.size ≡ 0) leaf.1.phys_is leaf.1.good.phys_aligned) in
         (ap level_of (sym size) ∙ same, aligned, omega (arith, leaf.1.good.phys_range, leaf.1.phys_is))
+
+    -- an address of the page
+    pub resolve_fits : (bytes : ℕ) → bytes ≡ bytes_of (size_at level) → phys + base % bytes < 2 ^ 64
+    resolve_fits bytes are =
+        let of = table.some_space.1 in
+        let leaf = page_met table.some_space.0 of.is_space of.translates in
+        let same = level_met table.some_space.0 leaf.0 leaf.1 in
+        let size : bytes_of leaf.0.size ≡ bytes = ap bytes_of (leaf.1.size ∙ ap size_at same) ∙ sym are in
+        let positive : 0 < bytes = subst (λ n. 0 < n) size (bytes_positive leaf.0.size) in
+        let range : phys + bytes ≤ 2 ^ 51 = omega (arith, leaf.1.good.phys_range, leaf.1.phys_is, size) in
+        omega arith
+
+    pub resolve_leaf : (bytes : ℕ) → bytes ≡ bytes_of (size_at level) → (space : Space) → IsSpace depth space → TranslatesAs depth m root space → answers.Mapped (phys + base % bytes) (size_at level) own ≡ look space base
+    resolve_leaf bytes are space is translates =
+        let leaf = page_met space is translates in
+        let same = level_met space leaf.0 leaf.1 in
+        let size : leaf.0.size ≡ size_at level = leaf.1.size ∙ ap size_at same in
+        let offset : base % bytes_of leaf.0.size ≡ base % bytes = ap (λ n. base % n) (ap bytes_of size ∙ sym are) in
+        let phys_is : leaf.0.phys + (base - leaf.0.base) ≡ phys + base % bytes = omega (arith, leaf.1.base, leaf.1.phys_is) in
+        let looks : look space base ≡ answers.Mapped (leaf.0.phys + (base - leaf.0.base)) leaf.0.size leaf.0.rights = rw leaf.1.here refl in
+        sym (looks ∙ cc (phys_is, size, leaf.1.rights))
 
     base_met : (space : Space) (q : Page) → IsLeafPage depth space base (levels depth - level) phys own q → (bytes : ℕ) → bytes ≡ bytes_of (size_at level) → q.base ≡ base - base % bytes
     base_met space q leaf bytes are =

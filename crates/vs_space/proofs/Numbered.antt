@@ -136,6 +136,14 @@ some_at base store number f at used = subst (λ q. finite.get (numbered base sto
 pub not_unused : (base : ℕ) (store : Store) (number : ℕ) → IsSome (finite.get (numbered base store) number) → ((f : ℕ) → base + f ≡ number → IsFree store f) → ⊥
 not_unused base store number used free = let none : IsSome {T = List ℕ} None = subst IsSome (none_at base store number free) used in cc
 
+-- the frame of the store with the number of a frame in use
+pub named : (base : ℕ) (store : Store) (number : ℕ) → IsSome (finite.get (numbered base store) number) → (f : ℕ) × (base + f ≡ number) × IsInUse store f
+named base store number used = ⊎_elim
+    (λ low. let none : IsSome {T = List ℕ} None = subst IsSome (get_below_base base store number low) used in absurd (cc))
+    (λ high. let at : base + (number - base) ≡ number = omega arith in
+    (number - base, at, subst IsSome (get_numbered base store (number - base)) (subst (λ q. IsSome (finite.get (numbered base store) q)) (sym at) used)))
+    (cases_lt number base)
+
 pub word_numbered : (base : ℕ) (store : Store) (number f index : ℕ) → base + f ≡ number → IsInUse store f → word_at (numbered base store) number index ≡ Some (slice_index (words_of store f) index)
 unfolding word_at
 word_numbered base store number f index at used = ap (option_map (λ words. slice_index words index)) (some_at base store number f at used)

@@ -14,9 +14,10 @@ use Rattle.vs_walk.specs.Memory.{Memory}
 use Rattle.vs_walk.proofs.Walks.{few_levels}
 use Rattle.vs_space.specs.Held.{word_at}
 use Rattle.vs_space.specs.Way.{found_at, table_at, table_in}
-use Rattle.vs_space.specs.Tree.{IsTree}
+use Rattle.vs_space.specs.Tree.{IsTree, IsReached, AreWritten}
 use Rattle.vs_space.specs.Place.{IsPlace}
 use Rattle.vs_space.proofs.Ways.{table_first, table_next}
+use Rattle.vs_space.proofs.Written.{written_level}
 
 pub entry_read : (level : ℕ) (m : Memory) (n a index word : ℕ) (e : Meaning) → word_at m n index ≡ Some word → index ≡ index_at level a → e ≡ meaning level word → found_at level m n a ≡ Some e
 unfolding found_at
@@ -43,6 +44,17 @@ at_root depth m root a lowest level way top low long same = record {
 
 pub used_here : (depth : Depth) (m : Memory) (root a lowest level number : ℕ) (way : List ℕ) → IsTree (levels depth) m root → IsOnWay depth m root a lowest level number way → IsSome (finite.get m number)
 used_here depth m root a lowest level number way tree on = tree.in_use (levels depth - level) a number (on.reached level (omega arith) on.below ∙ ap Some (sym on.last))
+
+-- what is no table leads to none
+pub no_table : (e : Meaning) → ((n : ℕ) (own : Rights) → e ≢ entry.Table n own) → table_in (Some e) ≡ None
+no_table entry.Absent other = refl
+no_table entry.Reserved other = refl
+no_table (entry.Leaf phys own) other = refl
+no_table (entry.Table n own) other = absurd (other n own refl)
+
+-- and its words are as written
+pub written_on_way : (depth : Depth) (m : Memory) (root a lowest level number : ℕ) (way : List ℕ) → IsTree (levels depth) m root → IsReached (levels depth) m root → IsOnWay depth m root a lowest level number way → AreWritten level m number
+written_on_way depth m root a lowest level number way tree all on = written_level (levels depth) root m tree all level a number on.below (on.reached level (omega arith) on.below ∙ ap Some (sym on.last))
 
 pub stops : (depth : Depth) (m : Memory) (root a lowest level number : ℕ) (way : List ℕ) (e : Meaning) → IsOnWay depth m root a lowest level number way → found_at level m number a ≡ Some e → (lowest < level → table_in (Some e) ≡ None) → IsPlace depth m root a lowest level way e
 stops depth m root a lowest level number way e on found ends = record {

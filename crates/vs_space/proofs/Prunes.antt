@@ -17,8 +17,8 @@ use Rattle.vs_walk.specs.Memory.{Memory}
 use Rattle.vs_walk.specs.Walk.{walk}
 use Rattle.vs_walk.specs.declared.walk.Walk.TheVariants.{NotMapped, Mapped, Reserved}
 use Rattle.vs_space.specs.Held.{word_at, with_word}
-use Rattle.vs_space.specs.Way.{found_at, entry_in, IsFirstPresent, table_in, table_at, SameWay}
-use Rattle.vs_space.specs.Tree.{IsTree, NothingUnder}
+use Rattle.vs_space.specs.Way.{found_at, entry_in, IsFirstPresent, HasPresent, table_in, table_at, SameWay}
+use Rattle.vs_space.specs.Tree.{IsTree, NothingUnder, AreWritten}
 use Rattle.vs_space.specs.Prune.{IsCut, IsPruned}
 use Rattle.vs_space.proofs.Numbered.{len-remove_used, whole-remove}
 use Rattle.vs_space.proofs.Ways.{table_next, same_table, found_same, walk_ends}
@@ -26,6 +26,7 @@ use Rattle.vs_space.proofs.Writes.{len_written, written_in_use, same_or_not, wor
 use Rattle.vs_space.proofs.Trees.{but_alike, filled_up}
 use Rattle.vs_space.proofs.Links.{tree_unlink, table_unlink, table_kept, walk_unlink_off, walk_unlink_on, found_unlinked}
 use Rattle.vs_space.proofs.Reached.{reached_unlink, whole_written}
+use Rattle.vs_space.proofs.Written.{written_level}
 use Rattle.vs_space.proofs.Regions.{stretch_same}
 
 -- ---- entries by index
@@ -129,16 +130,16 @@ module _ (depth : Depth) (m : Memory) (root base level : ℕ) (way : List ℕ) (
   none_past_here = table_next (levels depth) root m (levels depth - level) base (slice_index way level) at ∙ ap table_in absent
 
   -- a present entry has something mapped under its table
-  pub something_here : ((b : ℕ) → IsCanonical depth b → walk depth m root b ≢ Reserved) → level < levels depth → (index : ℕ) → IsFirstPresent level m (slice_index way level) index → NothingUnder depth m root (levels depth - level) base → ⊥
-  something_here faultless below index first nothing = by e.0 refl where
-    b : (b : ℕ) × IsCanonical depth b × SameWay (levels depth) (levels depth - level) base b × (index_at level b ≡ index)
-    b = address_with depth base level index canonical cut.some below first.within
+  pub something_here : ((b : ℕ) → IsCanonical depth b → walk depth m root b ≢ Reserved) → level < levels depth → HasPresent level m (slice_index way level) → NothingUnder depth m root (levels depth - level) base → ⊥
+  something_here faultless below first nothing = by e.0 refl where
+    b : (b : ℕ) × IsCanonical depth b × SameWay (levels depth) (levels depth - level) base b × (index_at level b ≡ first.index)
+    b = address_with depth base level first.index canonical cut.some below first.within
 
     there : table_at (levels depth) m root (levels depth - level) b.0 ≡ Some (slice_index way level)
     there = sym (same_table (levels depth) root m (levels depth - level) base b.0 b.2) ∙ at
 
-    e : (e : Meaning) × (entry_in level m (slice_index way level) index ≡ Some e)
-    e = entry_some level m (slice_index way level) index (cut.tree.in_use (levels depth - level) base (slice_index way level) at)
+    e : (e : Meaning) × (entry_in level m (slice_index way level) first.index ≡ Some e)
+    e = entry_some level m (slice_index way level) first.index (cut.tree.in_use (levels depth - level) base (slice_index way level) at)
 
     found : (x : Meaning) → e.0 ≡ x → found_at (levels depth - (levels depth - level)) m (slice_index way level) b.0 ≡ Some x
     found x is = subst (λ l. found_at l m (slice_index way level) b.0 ≡ Some x) (sym back) (found_entry level m (slice_index way level) b.0 ∙ ap (entry_in level m (slice_index way level)) b.3 ∙ e.1 ∙ ap Some is)
@@ -260,6 +261,10 @@ module _ (depth : Depth) (m : Memory) (root base level : ℕ) (way : List ℕ) (
       above = omega (arith, pruning.above);
       fewer = omega (arith, one_fewer, pruning.fewer, pruning.above);
     })
+
+-- the words of the table are as written
+pub emptied_written : (depth : Depth) (m : Memory) (root base level : ℕ) (way : List ℕ) → IsCut depth m root base level way → AreWritten level m (slice_index way level)
+emptied_written depth m root base level way cut = written_level (levels depth) root m cut.tree cut.all_reached level base (slice_index way level) cut.below (cut.reached level (omega arith) cut.below)
 
 pub emptied_used : (depth : Depth) (m : Memory) (root base level : ℕ) (way : List ℕ) (n index : ℕ) → IsCut depth m root base level way → IsSome (finite.get (with_word m n index 0) (slice_index way level))
 emptied_used depth m root base level way n index cut = written_in_use m n index 0 (slice_index way level) (cut.tree.in_use (levels depth - level) base (slice_index way level) (cut.reached level (omega arith) cut.below))

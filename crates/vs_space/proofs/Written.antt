@@ -1,5 +1,5 @@
 -- Words stay written as entries of their tables' levels.
-use Rattle.std.proofs.Common.{◌≡◌, ◌≢◌, ℕ, ◌-◌, ◌<◌, List, [], Option, Some, ⊎_elim, refl, sym, ap, subst, ◌∙◌, arith}
+use Rattle.std.proofs.Common.{◌≡◌, ◌≢◌, ℕ, ◌-◌, ◌<◌, ◌≤◌, List, [], Option, Some, ⊎_elim, refl, sym, ap, subst, ◌∙◌, arith}
 use Rattle.std.specs.Prelude.{IsSome, option_map, unwrap_or, slice_index, slice_set}
 use Rattle.std.proofs.lemmas.Bool.{cases_eq}
 use Rattle.std.proofs.lemmas.List.{get_or-set_same, get_or-set_other}
@@ -17,10 +17,11 @@ use Rattle.vs_walk.specs.Memory.{Memory}
 use Rattle.vs_walk.specs.Walk.{all_rights}
 use Rattle.vs_walk.specs.Ways.{AreWhole}
 use Rattle.vs_space.specs.Held.{word_at, with_word}
-use Rattle.vs_space.specs.Way.{table_at}
-use Rattle.vs_space.specs.Tree.{IsTree, AreWritten}
+use Rattle.vs_space.specs.Way.{table_at, entry_in, HasPresent}
+use Rattle.vs_space.specs.Tree.{IsTree, IsReached, AreWritten}
 use Rattle.vs_space.specs.Written.{word_for, IsWritten}
 use Rattle.vs_space.proofs.Writes.{words_in, get_written, get_written_other}
+use Rattle.vs_space.proofs.Trees.{one_meaning}
 use Rattle.vs_space.proofs.Links.{zeros_are}
 
 -- ---- words that are written
@@ -92,3 +93,41 @@ written_on top root m tree whole k a n at w is j b q reached are = ⊎_elim
     (subst (λ x. AreWritten (top - k) (with_word m n (index_at (top - k) a) w) x) (sym same) after))
     (λ (other : q ≢ n). written_alike (top - j) m _ q (get_written_other m n (index_at (top - k) a) w q other) are)
     (cases_eq q n)
+
+-- ---- a table that is reached
+
+-- the words of a table that is reached are as written at its level
+pub written_at : (top root : ℕ) (m : Memory) → IsTree top m root → IsReached top m root → (k a n : ℕ) → table_at top m root k a ≡ Some n → AreWritten (top - k) m n
+written_at top root m tree is k a n at =
+    let own = is.way n (tree.in_use k a n at) in
+    subst (λ l. AreWritten (top - l) m n) (tree.once own.0 k own.1 a n own.2 at).0 own.3
+
+-- and at the level of a table on the way of an address
+pub written_level : (top root : ℕ) (m : Memory) → IsTree top m root → IsReached top m root → (level a n : ℕ) → level ≤ top → table_at top m root (top - level) a ≡ Some n → AreWritten level m n
+written_level top root m tree is level a n le at =
+    let back : top - (top - level) ≡ level = omega arith in
+    subst (λ l. AreWritten l m n) back (written_at top root m tree is (top - level) a n at)
+
+-- an entry is absent where its word is 0, and nowhere else
+pub entry_zero : (level : ℕ) (m : Memory) (n i : ℕ) (words : List ℕ) → finite.get m n ≡ Some words → slice_index words i ≡ 0 → entry_in level m n i ≡ Some entry.Absent
+unfolding entry_in
+entry_zero level m n i words got none = ap (option_map (meaning level)) (word_of m n i (Some words) got) ∙ ap (λ w. Some (meaning level w)) none
+
+pub entry_other : (level : ℕ) (m : Memory) (n i : ℕ) (words : List ℕ) → finite.get m n ≡ Some words → AreWritten level m n → i < 512 → slice_index words i ≢ 0 → HasPresent level m n
+unfolding entry_in
+entry_other level m n i words got are low other =
+    let here = word_of m n i (Some words) got in
+    record {
+      index = i;
+      within = low;
+      present = λ absent.
+          let says : meaning level (slice_index words i) ≡ entry.Absent = one_meaning _ _ (ap (option_map (meaning level)) (sym here) ∙ absent) in
+          other ((are i (slice_index words i) here).is ∙ ap (word_for level) says);
+    }
+
+-- no word that is written has a reserved bit
+pub never_reserved : (level word : ℕ) → IsWritten level word → meaning level word ≡ entry.Reserved → ⊥
+never_reserved level word written reserved =
+    let none : word ≡ 0 = written.is ∙ ap (word_for level) reserved in
+    let wrong : entry.Reserved ≡ entry.Absent = sym reserved ∙ ap (meaning level) none in
+    cc

@@ -33,6 +33,12 @@ SameWay top k a b = (i : ℕ) → i < k → index_at (top - i) a ≡ index_at (t
 unfoldable pub entry_in : ℕ → Memory → ℕ → ℕ → Option Meaning
 entry_in level memory number index = option_map (meaning level) (word_at memory number index)
 
+-- a table has an entry that isn't absent
+pub record HasPresent (level : ℕ) (memory : Memory) (number : ℕ) : Type 0 where
+  pub index : ℕ
+  pub within : index < 512
+  pub present : entry_in level memory number index ≡ Some entry.Absent → ⊥
+
 -- the first entry of a table that isn't absent, if there is one
 pub record IsFirstPresent (level : ℕ) (memory : Memory) (number index : ℕ) : Type 0 where
   pub within : index < 512

@@ -6,6 +6,7 @@
 mod place;
 mod space;
 mod tables;
+mod word;
 
 pub use space::{NoRoot, Space};
 

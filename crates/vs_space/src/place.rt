@@ -1,5 +1,3 @@
-use vs_types::{Meaning, Size};
-
 /// How many tables there can be on the way of an address, one for each level; the place 0 is of none.
 pub(crate) const WAY: usize = 6;
 
@@ -10,6 +8,6 @@ pub(crate) struct Place {
     pub(crate) way: [u64; WAY],
     /// The level of the last of them.
     pub(crate) level: u8,
-    /// What its entry says.
-    pub(crate) found: Meaning,
+    /// The word of its entry.
+    pub(crate) word: u64,
 }

@@ -12,10 +12,11 @@ ghost use Rattle.vs_space.specs.Table.{PageTable, IsTableOf, IsStep};
 ghost use Rattle.vs_space.specs.Written.{IsWrittenTable};
 
 use crate::tables::Tables;
+use crate::word::read_written;
 use std::marker::Model;
 use vs_arena::{FRAME_WORDS, FrameStore};
 use vs_types::{Action, Answer, Depth, Entry, Meaning, Op, Page, Rights, Size, index_at};
-use vs_walk::{Frames, Walk, translate};
+use vs_walk::Frames;
 
 /// There is no frame for the root: the store has none.
 #[derive(Clone, Copy, Debug, PartialEq, Eq)]
@@ -112,10 +113,12 @@ impl<S: FrameStore> Space<S> {
         requires { IsCanonical self.now.depth address }
         ensures { (space : spaces.Space) → IsTableOf self.now space → result ≡ look space address }
     {
-        match translate(self, self.root, self.depth, address) {
-            Walk::Mapped(phys, size, rights) => Answer::Mapped(phys, size, rights),
-            _ => Answer::NotMapped,
-        }
+        let place = self.tables.descend(self.depth, self.root, address, 1);
+        let Meaning::Leaf(phys, rights) = read_written(place.level, place.word) else {
+            return Answer::NotMapped;
+        };
+        let size = Size::at_level(place.level);
+        Answer::Mapped(phys + address % size.bytes(), size, rights)
     }
 
     /// Does an operation: the answer and the space after it are those of a step, under the store's capacity as the limit.
@@ -139,7 +142,7 @@ impl<S: FrameStore> Space<S> {
         let place = self
             .tables
             .descend(self.depth, self.root, page.base, lowest);
-        match place.found {
+        match read_written(place.level, place.word) {
             Meaning::Absent => {}
             Meaning::Table(table, _) => {
                 let base = self
@@ -178,7 +181,7 @@ impl<S: FrameStore> Space<S> {
         ensures { IsStep self.old (Action.Unmap base) result self.new }
     {
         let place = self.tables.descend(self.depth, self.root, base, 1);
-        let Meaning::Leaf(phys, rights) = place.found else {
+        let Meaning::Leaf(phys, rights) = read_written(place.level, place.word) else {
             return Answer::NotMapped;
         };
         let size = Size::at_level(place.level);
@@ -197,7 +200,7 @@ impl<S: FrameStore> Space<S> {
         ensures { IsStep self.old (Action.Protect base rights) result self.new }
     {
         let place = self.tables.descend(self.depth, self.root, base, 1);
-        let Meaning::Leaf(phys, old) = place.found else {
+        let Meaning::Leaf(phys, old) = read_written(place.level, place.word) else {
             return Answer::NotMapped;
         };
         let size = Size::at_level(place.level);

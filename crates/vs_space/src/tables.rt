@@ -1,19 +1,22 @@
-ghost use Rattle.std.specs.Prelude.{ℕ, ◌≢◌, Some, slice_index, ◌≡◌, ◌<◌, ◌≤◌, ◌^◌, ◌+◌, ◌-◌, ◌%◌, IfSome, IfNone, IsSome, option_copied};
+ghost use Rattle.std.specs.Prelude.{ℕ, ◌≢◌, Some, slice_index, ◌≡◌, ◌<◌, ◌≤◌, ◌^◌, ◌+◌, ◌-◌, ◌%◌, IfSome, IfNone, IsSome, IsTrue, IsFalse, option_copied};
 ghost use Rattle.std.specs.FinMap as finite;
 ghost use Rattle.vs_arena.specs.Store.{zeros, IsInUse};
 ghost use Rattle.vs_types.specs.Depth.{levels, index_at, table_bytes, IsCanonical};
 ghost use Rattle.vs_walk.specs.Walk.{walk};
 ghost use Rattle.vs_walk.specs.declared.walk.Walk.{Walk};
+ghost use Rattle.vs_types.specs.Entry.{meaning};
 ghost use Rattle.vs_types.specs.declared.entry.Meaning.{Meaning};
 ghost use Rattle.vs_space.specs.Prune.{IsCut, IsPruned};
 ghost use Rattle.vs_space.specs.Held.{numbered, word_at, with_word, AreNumbered};
 ghost use Rattle.vs_walk.specs.Ways.{AreWhole};
-ghost use Rattle.vs_space.specs.Way.{found_at, table_at, entry_in, IsFirstPresent};
-ghost use Rattle.vs_space.specs.Tree.{IsTree, IsFilled};
+ghost use Rattle.vs_space.specs.Way.{found_at, table_at, entry_in, IsFirstPresent, HasPresent};
+ghost use Rattle.vs_space.specs.Tree.{IsTree, IsFilled, IsReached, AreWritten};
+ghost use Rattle.vs_space.specs.Written.{IsWritten};
 ghost use Rattle.vs_space.specs.Grow.{IsOpen, IsExtended, IsLeastBase};
 ghost use Rattle.vs_space.specs.Place.{IsPlace};
 
 use crate::place::{Place, WAY};
+use crate::word::read_written;
 use std::marker::Model;
 use vs_arena::{FRAME_WORDS, Frame, FrameStore};
 use vs_types::{Depth, Entry, Meaning, index_at};
@@ -113,34 +116,41 @@ impl<S: FrameStore> Tables<S> {
         self.store.give(frame);
     }
 
-    /// What the entry for an address says in the table of this level in a frame in use.
+    /// What the entry for an address says in the table of this level in a frame in use, whose words are as written.
+    #[inline]
     pub(crate) fn entry(&self, level: u8, number: u64, address: u64) -> Meaning
         requires in_use { IsSome (finite.get self.now.memory number) }
+        requires written { AreWritten level self.now.memory number }
         requires some_level { 1 ≤ level }
         requires few_levels { level ≤ 5 }
         ensures { found_at level self.now.memory number address ≡ Some result }
     {
-        Entry::new(self.word(number, index_at(level, address))).read(level)
+        read_written(level, self.word(number, index_at(level, address)))
     }
 
     /// Goes down on the way of an address to the first entry that leads no further, but not below the lowest level.
+    #[inline]
     pub(crate) fn descend(&self, depth: Depth, root: u64, address: u64, lowest: u8) -> Place
         requires tree { IsTree (levels depth) self.now.memory root }
+        requires all_reached { IsReached (levels depth) self.now.memory root }
         requires some_level { 1 ≤ lowest }
         requires within { lowest ≤ levels depth }
-        ensures { IsPlace depth self.now.memory root address lowest result.level result.way result.found }
+        ensures place { IsPlace depth self.now.memory root address lowest result.level result.way (meaning result.level result.word) }
+        ensures written { IsWritten result.level result.word }
+        ensures some_level { 1 ≤ result.level }
+        ensures few_levels { result.level ≤ 5 }
     {
         let mut level = depth.levels();
         let mut number = root;
         let mut way = [root; WAY];
         loop {
-            let found = self.entry(level, number, address);
-            let Meaning::Table(next, _) = found else {
-                return Place { way, level, found };
-            };
+            let word = self.word(number, index_at(level, address));
             if level == lowest {
-                return Place { way, level, found };
+                return Place { way, level, word };
             }
+            let Meaning::Table(next, _) = read_written(level, word) else {
+                return Place { way, level, word };
+            };
             number = next;
             level -= 1;
             way[level as usize] = number;
@@ -167,6 +177,26 @@ impl<S: FrameStore> Tables<S> {
         None
     }
 
+    /// Whether a table of this level has no entry that is present. It looks beside this index first, and then at all words.
+    fn is_empty(&self, level: u8, number: u64, near: usize) -> bool
+        requires in_use { IsSome (finite.get self.now.memory number) }
+        requires written { AreWritten level self.now.memory number }
+        requires in_frame { near < 512 }
+        ensures empty { IsTrue result → (i : ℕ) → i < 512 → entry_in level self.now.memory number i ≡ Some Meaning.Absent }
+        ensures present { IsFalse result → HasPresent level self.now.memory number }
+    {
+        let words = self.store.frame(frame_of(&self.store, number));
+        if words[(near + 1) % 512] != 0 || words[(near + 511) % 512] != 0 {
+            return false;
+        }
+        for group in 0..FRAME_WORDS / 8 {
+            if !are_zero(words, 8 * group) {
+                return false;
+            }
+        }
+        true
+    }
+
     /// Gives back the tables on the way of an address, from this level up, that have no entry that is present, and
     /// clears what led to them. Answers the level at which it stops.
     pub(crate) fn prune(&mut self, depth: Depth, address: u64, way: &[u64; WAY], from: u8) -> u8
@@ -181,7 +211,7 @@ impl<S: FrameStore> Tables<S> {
         let mut level = from;
         while level < depth.levels() {
             let emptied = way[level as usize];
-            if let Some(_) = self.first_present(level, emptied) {
+            if !self.is_empty(level, emptied, index_at(level, address)) {
                 return level;
             }
             level += 1;
@@ -233,6 +263,7 @@ impl<S: FrameStore> Tables<S> {
         from: u8,
     ) -> u64
         requires tree { IsTree (levels depth) self.now.memory root }
+        requires all_reached { IsReached (levels depth) self.now.memory root }
         requires filled { IsFilled depth self.now.memory root }
         requires faultless { (b : ℕ) → IsCanonical depth b → walk depth self.now.memory root b ≢ Walk.Reserved }
         requires canonical { IsCanonical depth address }
@@ -259,14 +290,29 @@ impl<S: FrameStore> Tables<S> {
     }
 }
 
+/// Whether the eight words from this index on are 0.
+#[inline]
+fn are_zero(words: &[u64; FRAME_WORDS], at: usize) -> bool
+    requires { at + 8 ≤ 512 }
+    ensures zero { IsTrue result → (i : ℕ) → i < 8 → slice_index words.now (at + i) ≡ 0 }
+    ensures other { IsFalse result → (i : ℕ) × (i < 512) × (slice_index words.now i ≢ 0) }
+{
+    (words[at] == 0)
+        & (words[at + 1] == 0)
+        & (words[at + 2] == 0)
+        & (words[at + 3] == 0)
+        & (words[at + 4] == 0)
+        & (words[at + 5] == 0)
+        & (words[at + 6] == 0)
+        & (words[at + 7] == 0)
+}
+
 /// The frame in use with this number.
+#[inline]
 fn frame_of<S: FrameStore>(store: &S, number: u64) -> Frame
     requires { IsSome (finite.get (numbered (S.base store.now) (S.frames store.now)) number) }
     ensures numbered { S.base store.now + result ≡ number }
     ensures in_use { IsInUse (S.frames store.now) result }
 {
-    match store.at(number) {
-        Some(frame) => frame,
-        None => unreachable!(),
-    }
+    store.in_use(number)
 }

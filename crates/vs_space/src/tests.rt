@@ -10,6 +10,9 @@ use vs_walk::Frames;
 
 type Table = Space<VecArena>;
 
+/// The number of frame 0: all pages lie below the tables.
+const BASE: u64 = 1 << 39;
+
 const WRITE: Rights = Rights {
     write: true,
     ..Rights::NONE
@@ -45,7 +48,7 @@ fn leads_to(rt: &impl Abort, space: &Table, indexes: &[u16]) -> u64 {
 
 #[test]
 fn both_halves_of_the_address_space(rt: HostRuntime) -> Result<(), Fail> {
-    let mut space = Space::new(VecArena::new(rt.alloc(), 1, 16)?, Depth::Four)?;
+    let mut space = Space::new(VecArena::new(rt.alloc(), BASE, 16)?, Depth::Four)?;
     assert_eq!(rt; space.tables(), 1);
     let low = Op::map(Depth::Four, 0x7FFFFFFFF000, Size::K4, 0x2000, Rights::ALL)?;
     let high = Op::map(
@@ -70,7 +73,7 @@ fn both_halves_of_the_address_space(rt: HostRuntime) -> Result<(), Fail> {
 
 #[test]
 fn overlap_names_least_base(rt: HostRuntime) -> Result<(), Fail> {
-    let mut space = Space::new(VecArena::new(rt.alloc(), 1, 16)?, Depth::Four)?;
+    let mut space = Space::new(VecArena::new(rt.alloc(), BASE, 16)?, Depth::Four)?;
     let behind = Op::map(Depth::Four, 0x40200000, Size::K4, 0x1000, Rights::ALL)?;
     let before = Op::map(Depth::Four, 0x40001000, Size::K4, 0x2000, Rights::ALL)?;
     let large = Op::map(Depth::Four, 0x40000000, Size::G1, 0x40000000, Rights::ALL)?;
@@ -83,7 +86,7 @@ fn overlap_names_least_base(rt: HostRuntime) -> Result<(), Fail> {
 
 #[test]
 fn gigabyte_page(rt: HostRuntime) -> Result<(), Fail> {
-    let mut space = Space::new(VecArena::new(rt.alloc(), 1, 16)?, Depth::Four)?;
+    let mut space = Space::new(VecArena::new(rt.alloc(), BASE, 16)?, Depth::Four)?;
     let large = Op::map(Depth::Four, 0x40000000, Size::G1, 0x40000000, WRITE)?;
     assert_eq!(rt; space.apply(large), Answer::Done);
     assert_eq!(rt; space.tables(), 2);
@@ -101,7 +104,7 @@ fn gigabyte_page(rt: HostRuntime) -> Result<(), Fail> {
 
 #[test]
 fn full_names_its_need(rt: HostRuntime) -> Result<(), Fail> {
-    let mut space = Space::new(VecArena::new(rt.alloc(), 1, 3)?, Depth::Four)?;
+    let mut space = Space::new(VecArena::new(rt.alloc(), BASE, 3)?, Depth::Four)?;
     let large = Op::map(Depth::Four, 0x200000, Size::M2, 0x200000, Rights::ALL)?;
     let small = Op::map(Depth::Four, 0x400000, Size::K4, 0x1000, Rights::ALL)?;
     let inside = Op::map(Depth::Four, 0x200000, Size::K4, 0x1000, Rights::ALL)?;
@@ -114,7 +117,7 @@ fn full_names_its_need(rt: HostRuntime) -> Result<(), Fail> {
 
 #[test]
 fn unmap_frees_tables(rt: HostRuntime) -> Result<(), Fail> {
-    let mut space = Space::new(VecArena::new(rt.alloc(), 1, 16)?, Depth::Four)?;
+    let mut space = Space::new(VecArena::new(rt.alloc(), BASE, 16)?, Depth::Four)?;
     let small = Op::map(Depth::Four, 0x400000, Size::K4, 0x1000, Rights::ALL)?;
     let large = Op::map(Depth::Four, 0x400000, Size::M2, 0x200000, Rights::ALL)?;
     assert_eq!(rt; space.apply(small), Answer::Done);
@@ -133,7 +136,7 @@ fn unmap_frees_tables(rt: HostRuntime) -> Result<(), Fail> {
 
 #[test]
 fn protect_changes_rights(rt: HostRuntime) -> Result<(), Fail> {
-    let mut space = Space::new(VecArena::new(rt.alloc(), 1, 16)?, Depth::Four)?;
+    let mut space = Space::new(VecArena::new(rt.alloc(), BASE, 16)?, Depth::Four)?;
     let rights = Rights {
         write: false,
         ..Rights::ALL
@@ -157,7 +160,7 @@ fn protect_changes_rights(rt: HostRuntime) -> Result<(), Fail> {
 
 #[test]
 fn last_physical_page(rt: HostRuntime) -> Result<(), Fail> {
-    let mut space = Space::new(VecArena::new(rt.alloc(), 1, 16)?, Depth::Four)?;
+    let mut space = Space::new(VecArena::new(rt.alloc(), BASE, 16)?, Depth::Four)?;
     let page = Op::map(Depth::Four, 0, Size::K4, 0x7FFFFFFFFF000, Rights::NONE)?;
     assert_eq!(rt; space.apply(page), Answer::Done);
     assert_eq!(rt; leads_to(&rt, &space, &[0, 0, 0, 0]), 0x8007FFFFFFFFF001);
@@ -166,11 +169,39 @@ fn last_physical_page(rt: HostRuntime) -> Result<(), Fail> {
 
 #[test]
 fn arena_of_two(rt: HostRuntime) -> Result<(), Fail> {
-    let arena = VecArena::new(rt.alloc(), 1, 0)?;
+    let arena = VecArena::new(rt.alloc(), BASE, 0)?;
     assert_eq!(rt; Space::new(arena, Depth::Four).err(), Some(NoRoot));
-    let mut space = Space::new(VecArena::new(rt.alloc(), 1, 2)?, Depth::Four)?;
+    let mut space = Space::new(VecArena::new(rt.alloc(), BASE, 2)?, Depth::Four)?;
     let page = Op::map(Depth::Four, 0x1000, Size::K4, 0x5000, Rights::ALL)?;
     assert_eq!(rt; space.apply(page), Answer::Full(4));
+    assert_eq!(rt; space.tables(), 1);
+    Ok(())
+}
+
+// A page in each of a thousand gibibytes: their tables, two of the level above, and the root.
+#[test]
+fn two_thousand_tables(rt: HostRuntime) -> Result<(), Fail> {
+    let mut space = Space::new(VecArena::new(rt.alloc(), BASE, 2003)?, Depth::Four)?;
+    for number in 0..1000u64 {
+        let page = Op::map(
+            Depth::Four,
+            number << 30,
+            Size::K4,
+            number << 12,
+            Rights::ALL,
+        )?;
+        assert_eq!(rt; space.apply(page), Answer::Done);
+    }
+    assert_eq!(rt; space.tables(), 2003);
+    for number in 0..1000u64 {
+        let here = Answer::Mapped(number << 12, Size::K4, Rights::ALL);
+        assert_eq!(rt; look(&space, number << 30), here);
+        assert_eq!(rt; look(&space, (number << 30) + 4096), Answer::NotMapped);
+    }
+    for number in 0..1000u64 {
+        let removed = Answer::Removed(number << 12, Size::K4, Rights::ALL);
+        assert_eq!(rt; space.apply(Op::unmap(Depth::Four, number << 30)?), removed);
+    }
     assert_eq!(rt; space.tables(), 1);
     Ok(())
 }

@@ -1,5 +1,5 @@
-use Rattle.std.proofs.Common.{◌≡◌, ℕ, ◌<◌, ◌≤◌, length, max, Some, sym, ap, subst, ◌∙◌, arith}
-use Rattle.nr_trace.specs.Orders.{floor, known_by}
+use Rattle.std.proofs.Common.{◌≡◌, ℕ, ◌<◌, length, max, sym, ap, subst, ◌∙◌, arith}
+use Rattle.nr_trace.specs.Orders.{floor}
 use Rattle.nr_trace.specs.Calls.{Answered}
 use Rattle.nr_trace.proofs.LawsOfSteps.{floor_behind_reply, floor_behind_other}
 use Rattle.nr_audit.specs.Search.{HasNone}

@@ -2,7 +2,7 @@ use Rattle.std.proofs.Common.{◌≡◌, ℕ, List, Bool, false, length, replica
 use Rattle.std.specs.FinMap as finite
 use Rattle.std.proofs.lemmas.List.{length-replicate}
 use Rattle.vs_arena.specs.Arena.{Arena, marked_frames}
-use Rattle.vs_arena.proofs.MarkedFrames.{IsArena-new, marked_frames-none}
+use Rattle.vs_arena.proofs.MarkedFrames.{IsArena-new, IsFrame-zeros, marked_frames-none}
 use Rattle.vs_arena.proofs.NewArenas.{HasMade, HasMade-none, HasMade-push}
 use Rattle.vs_arena.proofs.vec_arena.VecArena.new.Goals as goal
 
@@ -10,7 +10,7 @@ pub loop-index-init : goal.loop-index-init
 loop-index-init c = rw (c.in_ok-words.ensures.items, c.in_ok-free.ensures.items) HasMade-none
 
 pub loop-index-preserved : goal.loop-index-preserved
-loop-index-preserved c = rw (c.in_ok-push.ensures.items, c.in_ok-push-2.ensures.items) (HasMade-push _ _ _ _ c.cleared_words.ensures c.loop-index.invariant)
+loop-index-preserved c = rw (c.in_ok-push.ensures.items, c.in_ok-push-2.ensures.items) (HasMade-push _ _ _ _ (rw c.cleared_words.ensures IsFrame-zeros) c.loop-index.invariant)
 
 marks_are : (c : goal.After-loop-index) → c.in_ok-marks.marks.items ≡ replicate c.args.n false
 marks_are c = c.in_ok-marks.ensures.items_if_clones_equal (λ y clone. search rules)

@@ -43,21 +43,21 @@ pub least_base-base-requires-clause-some_level : goal.least_base-base-requires-c
 least_base-base-requires-clause-some_level g c =
     let inside = c.self.inside in
     let good = subst (λ (t : PageTable). IsPage t.depth c.args.page) (sym c.self.view_is) c.requires in
-    let place = placed c.level-lowest.ensures c.in-Table.is c.descend-place.ensures in
+    let place = placed c.level-lowest.ensures (sym c.in-Table.ensures) c.descend-place.ensures.place in
     omega (arith, not_lowest inside.depth inside.tables.memory inside.root c.self.invariant.0 c.args.page good c.descend-place.result.level c.descend-place.result.way c.in-Table.table c.in-Table.field-1 place, c.level-lowest.ensures)
 
 pub least_base-base-requires-clause-reached : goal.least_base-base-requires-clause-reached
 least_base-base-requires-clause-reached g c =
     let inside = c.self.inside in
     let good = subst (λ (t : PageTable). IsPage t.depth c.args.page) (sym c.self.view_is) c.requires in
-    let place = placed c.level-lowest.ensures c.in-Table.is c.descend-place.ensures in
+    let place = placed c.level-lowest.ensures (sym c.in-Table.ensures) c.descend-place.ensures.place in
     subst (λ l. table_at (levels inside.depth) inside.tables.memory inside.root (levels inside.depth - (l - 1)) c.args.page.base ≡ Some c.in-Table.table) (sym c.level-lowest.ensures) (table_reached inside.depth inside.tables.memory inside.root c.self.invariant.0 c.args.page good c.descend-place.result.level c.descend-place.result.way c.in-Table.table c.in-Table.field-1 place)
 
 pub returns-in-Table : goal.returns-in-Table
 returns-in-Table g c =
     let inside = c.self.inside in
     let good = subst (λ (t : PageTable). IsPage t.depth c.args.page) (sym c.self.view_is) c.requires in
-    let place = placed c.level-lowest.ensures c.in-Table.is c.descend-place.ensures in
+    let place = placed c.level-lowest.ensures (sym c.in-Table.ensures) c.descend-place.ensures.place in
     let first = subst (λ l. IsLeastBase inside.depth inside.tables.memory inside.root c.args.page.base (levels inside.depth - (l - 1)) c.least_base-base.result) c.level-lowest.ensures c.least_base-base.ensures in
     subst (λ (t : PageTable). IsStep t (Map c.args.page) (answers.Overlap c.least_base-base.result) t) c.self.view_is
     (table_overlaps inside.depth inside.tables.memory inside.root c.self.invariant.0 c.args.page good c.descend-place.result.level c.descend-place.result.way c.in-Table.table c.in-Table.field-1 place inside.tables.base inside.tables.limit c.least_base-base.result first)
@@ -66,7 +66,7 @@ pub returns-in-Leaf : goal.returns-in-Leaf
 returns-in-Leaf g c =
     let inside = c.self.inside in
     let good = subst (λ (t : PageTable). IsPage t.depth c.args.page) (sym c.self.view_is) c.requires in
-    let place = placed c.level-lowest.ensures c.in-Leaf.is c.descend-place.ensures in
+    let place = placed c.level-lowest.ensures (sym c.in-Leaf.ensures) c.descend-place.ensures.place in
     subst (λ (t : PageTable). IsStep t (Map c.args.page) (answers.Overlap (c.args.page.base - c.args.page.base % c.bytes-bytes.result)) t) c.self.view_is
     (leaf_overlaps inside.depth inside.tables.memory inside.root c.self.invariant.0 c.args.page good c.descend-place.result.level c.descend-place.result.way c.in-Leaf.field-0 c.in-Leaf.field-1 place inside.tables.base inside.tables.limit c.bytes-bytes.result (c.bytes-bytes.ensures ∙ ap bytes_of c.at_level.ensures))
 
@@ -74,14 +74,14 @@ pub unreachable-requires : goal.unreachable-requires
 unreachable-requires g c =
     let inside = c.self.inside in
     let good = subst (λ (t : PageTable). IsPage t.depth c.args.page) (sym c.self.view_is) c.requires in
-    let place = placed c.level-lowest.ensures c.in-Reserved.is c.descend-place.ensures in
+    let place = placed c.level-lowest.ensures (sym c.in-Reserved.ensures) c.descend-place.ensures.place in
     reserved_never inside.depth inside.tables.memory inside.root c.self.invariant.0 c.args.page good c.descend-place.result.level c.descend-place.result.way place
 
 pub returns-then-need-limit : goal.returns-then-need-limit
 returns-then-need-limit g c =
     let inside = c.self.inside in
     let good = subst (λ (t : PageTable). IsPage t.depth c.args.page) (sym c.self.view_is) c.requires in
-    let place = placed c.level-lowest.ensures c.in-Absent.is c.descend-place.ensures in
+    let place = placed c.level-lowest.ensures (sym c.in-Absent.ensures) c.descend-place.ensures.place in
     let lowest_is : c.descend-place.result.level - c.level-lowest.result ≡ c.descend-place.result.level - level_of c.args.page.size = ap (λ l. c.descend-place.result.level - l) c.level-lowest.ensures in
     let need : c.used.result + c.from.result ≡ finite.len inside.tables.memory + (c.descend-place.result.level - level_of c.args.page.size) = omega (arith, lowest_is, c.used.ensures.counts, c.from.ensures) in
     subst (λ (t : PageTable). IsStep t (Map c.args.page) (answers.Full (c.used.result + c.from.result)) t) c.self.view_is
@@ -91,14 +91,14 @@ pub extend-number-requires-clause-open_at : goal.extend-number-requires-clause-o
 extend-number-requires-clause-open_at g c =
     let inside = c.self.inside in
     let good = subst (λ (t : PageTable). IsPage t.depth c.args.page) (sym c.self.view_is) c.requires in
-    let place = placed c.level-lowest.ensures c.in-Absent.is c.descend-place.ensures in
+    let place = placed c.level-lowest.ensures (sym c.in-Absent.ensures) c.descend-place.ensures.place in
     is_open inside.depth inside.tables.memory inside.root c.self.invariant.0 c.args.page good c.descend-place.result.level c.descend-place.result.way place
 
 pub invariant_of-self : goal.invariant_of-self
 invariant_of-self g c =
     let inside = c.self.inside in
     let good = subst (λ (t : PageTable). IsPage t.depth c.args.page) (sym c.self.view_is) c.requires in
-    let place = placed c.level-lowest.ensures c.in-Absent.is c.descend-place.ensures in (
+    let place = placed c.level-lowest.ensures (sym c.in-Absent.ensures) c.descend-place.ensures.place in (
       subst (λ (h : Held). IsPageTable inside.depth h.memory inside.root) (sym c.write.ensures.written)
           (mapped inside.depth inside.tables.memory inside.root c.self.invariant.0 c.args.page good c.descend-place.result.level c.descend-place.result.way place c.level-lowest.result c.level-lowest.ensures c.extend-number.new.self.memory c.extend-number.result c.extend-number.ensures.extended c.write.ensures.whole
           c.word.result c.index_at.result (ap (meaning (level_of c.args.page.size)) c.word.ensures ∙ c.leaf-leaf.ensures.read_back) (c.word.ensures ∙ c.leaf-leaf.ensures.written) c.index_at.ensures.is c.index_at.ensures.low inside.tables.base inside.tables.limit c.from.result c.from.ensures
@@ -110,7 +110,7 @@ pub returns : goal.returns
 returns g c =
     let inside = c.self.inside in
     let good = subst (λ (t : PageTable). IsPage t.depth c.args.page) (sym c.self.view_is) c.requires in
-    let place = placed c.level-lowest.ensures c.in-Absent.is c.descend-place.ensures in
+    let place = placed c.level-lowest.ensures (sym c.in-Absent.ensures) c.descend-place.ensures.place in
     let whole = c.write.ensures.written ∙ ap (λ (h : Held). let r : Held = record { base = h.base; limit = h.limit; memory = with_word c.extend-number.new.self.memory c.extend-number.result c.index_at.result c.word.result } in r) c.extend-number.ensures.same in
     subst (λ (t : PageTable). IsStep t (Map c.args.page) answers.Done (page_table inside.depth c.write.new.self.base c.write.new.self.limit inside.root c.write.new.self.memory)) c.self.view_is
     (subst (λ (h : Held). IsStep (page_table inside.depth inside.tables.base inside.tables.limit inside.root inside.tables.memory) (Map c.args.page) answers.Done (page_table inside.depth h.base h.limit inside.root h.memory)) (sym whole)

@@ -21,8 +21,8 @@ pub returns-in_default : goal.returns-in_default
 returns-in_default g c =
     let inside = c.self.inside in
     let canonical = subst (λ (t : PageTable). IsCanonical t.depth c.args.base) (sym c.self.view_is) c.requires.canonical in
-    let place = c.descend-place.ensures in
-    let absent = absent_end inside.depth inside.tables.memory inside.root c.self.invariant.0 c.args.base canonical c.descend-place.result.level c.descend-place.result.way c.descend-place.result.found place c.in_default.not-Leaf in
+    let place = subst (λ (e : Meaning). IsPlace inside.depth inside.tables.memory inside.root c.args.base 1 c.descend-place.result.level c.descend-place.result.way e) (sym c.read_written.ensures) c.descend-place.ensures.place in
+    let absent = absent_end inside.depth inside.tables.memory inside.root c.self.invariant.0 c.args.base canonical c.descend-place.result.level c.descend-place.result.way c.read_written.result place c.in_default.not-Leaf in
     subst (λ (t : PageTable). IsStep t (Unmap c.args.base) answers.NotMapped t) c.self.view_is
     (unmap_absent inside.depth inside.tables.memory inside.root c.self.invariant.0 c.args.base canonical c.descend-place.result.level c.descend-place.result.way inside.tables.base inside.tables.limit
     (subst (λ (e : Meaning). IsPlace inside.depth inside.tables.memory inside.root c.args.base 1 c.descend-place.result.level c.descend-place.result.way e) absent place))
@@ -31,7 +31,7 @@ pub returns-then-offset-ne0 : goal.returns-then-offset-ne0
 returns-then-offset-ne0 g c =
     let inside = c.self.inside in
     let canonical = subst (λ (t : PageTable). IsCanonical t.depth c.args.base) (sym c.self.view_is) c.requires.canonical in
-    let place = subst (λ (e : Meaning). IsPlace inside.depth inside.tables.memory inside.root c.args.base 1 c.descend-place.result.level c.descend-place.result.way e) c.in-Leaf.is c.descend-place.ensures in
+    let place = subst (λ (e : Meaning). IsPlace inside.depth inside.tables.memory inside.root c.args.base 1 c.descend-place.result.level c.descend-place.result.way e) (sym c.in-Leaf.ensures) c.descend-place.ensures.place in
     subst (λ (t : PageTable). IsStep t (Unmap c.args.base) (answers.Inside (c.args.base - c.args.base % c.bytes.result)) t) c.self.view_is
     (unmap_in inside.depth inside.tables.memory inside.root c.self.invariant.0 c.args.base canonical c.descend-place.result.level c.descend-place.result.way c.in-Leaf.phys c.in-Leaf.rights place inside.tables.base inside.tables.limit c.bytes.result (c.bytes.ensures ∙ ap bytes_of c.at_level-size.ensures) c.if-offset-ne0.true)
 
@@ -39,7 +39,7 @@ pub prune-stop-requires-clause-faultless : goal.prune-stop-requires-clause-fault
 prune-stop-requires-clause-faultless g c =
     let inside = c.self.inside in
     let canonical = subst (λ (t : PageTable). IsCanonical t.depth c.args.base) (sym c.self.view_is) c.requires.canonical in
-    let place = subst (λ (e : Meaning). IsPlace inside.depth inside.tables.memory inside.root c.args.base 1 c.descend-place.result.level c.descend-place.result.way e) c.in-Leaf.is c.descend-place.ensures in
+    let place = subst (λ (e : Meaning). IsPlace inside.depth inside.tables.memory inside.root c.args.base 1 c.descend-place.result.level c.descend-place.result.way e) (sym c.in-Leaf.ensures) c.descend-place.ensures.place in
     let top = way_root inside.depth inside.tables.memory inside.root c.args.base 1 c.descend-place.result.level c.descend-place.result.way _ place in
     subst (λ (h : Held). (b : ℕ) → IsCanonical inside.depth b → walk inside.depth h.memory (slice_index c.descend-place.result.way (levels inside.depth)) b ≢ Reserved) (sym c.write.ensures.written)
     (subst (λ r. (b : ℕ) → IsCanonical inside.depth b → walk inside.depth (with_word inside.tables.memory (slice_index c.descend-place.result.way c.descend-place.result.level) c.index_at.result 0) r b ≢ Reserved) (sym top)
@@ -49,7 +49,7 @@ pub prune-stop-requires-clause-cut : goal.prune-stop-requires-clause-cut
 prune-stop-requires-clause-cut g c =
     let inside = c.self.inside in
     let canonical = subst (λ (t : PageTable). IsCanonical t.depth c.args.base) (sym c.self.view_is) c.requires.canonical in
-    let place = subst (λ (e : Meaning). IsPlace inside.depth inside.tables.memory inside.root c.args.base 1 c.descend-place.result.level c.descend-place.result.way e) c.in-Leaf.is c.descend-place.ensures in
+    let place = subst (λ (e : Meaning). IsPlace inside.depth inside.tables.memory inside.root c.args.base 1 c.descend-place.result.level c.descend-place.result.way e) (sym c.in-Leaf.ensures) c.descend-place.ensures.place in
     let top = way_root inside.depth inside.tables.memory inside.root c.args.base 1 c.descend-place.result.level c.descend-place.result.way _ place in
     subst (λ (h : Held). IsCut inside.depth h.memory (slice_index c.descend-place.result.way (levels inside.depth)) c.args.base c.descend-place.result.level c.descend-place.result.way) (sym c.write.ensures.written)
     (subst (λ r. IsCut inside.depth (with_word inside.tables.memory (slice_index c.descend-place.result.way c.descend-place.result.level) c.index_at.result 0) r c.args.base c.descend-place.result.level c.descend-place.result.way) (sym top)
@@ -59,7 +59,7 @@ pub invariant_of-self : goal.invariant_of-self
 invariant_of-self g c =
     let inside = c.self.inside in
     let canonical = subst (λ (t : PageTable). IsCanonical t.depth c.args.base) (sym c.self.view_is) c.requires.canonical in
-    let place = subst (λ (e : Meaning). IsPlace inside.depth inside.tables.memory inside.root c.args.base 1 c.descend-place.result.level c.descend-place.result.way e) c.in-Leaf.is c.descend-place.ensures in
+    let place = subst (λ (e : Meaning). IsPlace inside.depth inside.tables.memory inside.root c.args.base 1 c.descend-place.result.level c.descend-place.result.way e) (sym c.in-Leaf.ensures) c.descend-place.ensures.place in
     let top = way_root inside.depth inside.tables.memory inside.root c.args.base 1 c.descend-place.result.level c.descend-place.result.way _ place in
     let pruned = subst (λ (h : Held). IsPruned inside.depth h.memory c.prune-stop.new.self.memory inside.root c.args.base c.descend-place.result.level c.prune-stop.result) c.write.ensures.written
     (subst (λ r. IsPruned inside.depth c.write.new.self.memory c.prune-stop.new.self.memory r c.args.base c.descend-place.result.level c.prune-stop.result) top c.prune-stop.ensures.pruned) in
@@ -69,7 +69,7 @@ pub returns : goal.returns
 returns g c =
     let inside = c.self.inside in
     let canonical = subst (λ (t : PageTable). IsCanonical t.depth c.args.base) (sym c.self.view_is) c.requires.canonical in
-    let place = subst (λ (e : Meaning). IsPlace inside.depth inside.tables.memory inside.root c.args.base 1 c.descend-place.result.level c.descend-place.result.way e) c.in-Leaf.is c.descend-place.ensures in
+    let place = subst (λ (e : Meaning). IsPlace inside.depth inside.tables.memory inside.root c.args.base 1 c.descend-place.result.level c.descend-place.result.way e) (sym c.in-Leaf.ensures) c.descend-place.ensures.place in
     let top = way_root inside.depth inside.tables.memory inside.root c.args.base 1 c.descend-place.result.level c.descend-place.result.way _ place in
     let pruned = subst (λ (h : Held). IsPruned inside.depth h.memory c.prune-stop.new.self.memory inside.root c.args.base c.descend-place.result.level c.prune-stop.result) c.write.ensures.written
     (subst (λ r. IsPruned inside.depth c.write.new.self.memory c.prune-stop.new.self.memory r c.args.base c.descend-place.result.level c.prune-stop.result) top c.prune-stop.ensures.pruned) in

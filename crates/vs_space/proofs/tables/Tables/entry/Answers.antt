@@ -1,7 +1,8 @@
-use Rattle.std.proofs.Common.{◌∙◌, ap}
-use Rattle.vs_types.specs.Entry.{meaning}
 use Rattle.vs_space.proofs.Places.{entry_read}
 use Rattle.vs_space.proofs.tables.Tables.entry.Goals as goal
 
+pub read_written-requires-clause-written : goal.read_written-requires-clause-written
+read_written-requires-clause-written g c = c.requires.written c.index_at.result c.word.result c.word.ensures
+
 pub returns : goal.returns
-returns g c = entry_read c.args.level _ c.args.number c.args.address _ _ _ c.word.ensures c.index_at.ensures.is (c.read.ensures ∙ ap (meaning c.args.level) c.new.ensures)
+returns g c = entry_read c.args.level _ c.args.number c.args.address _ _ _ c.word.ensures c.index_at.ensures.is c.read_written.ensures

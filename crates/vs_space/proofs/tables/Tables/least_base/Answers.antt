@@ -1,6 +1,8 @@
 use Rattle.std.proofs.Common.{◌≡◌, ◌+◌, ◌*◌, ◌%◌, ◌^◌, Some, ap, ◌∙◌, arith}
 use Rattle.vs_space.specs.Way.{found_at}
 use Rattle.vs_types.specs.declared.entry.Meaning.TheVariants as entry
+use Rattle.vs_types.specs.Depth.{levels}
+use Rattle.vs_space.proofs.Written.{written_level}
 use Rattle.vs_space.proofs.Searches.{not_empty, offset_of, canonical_fits, next_canonical, present_ends, search_on, deep_table}
 use Rattle.vs_space.proofs.tables.Tables.least_base.Goals as goal
 
@@ -30,3 +32,7 @@ loop-index-preserved g c =
     let found : found_at c.loop-index.level c.args.self.now.memory c.loop-index.number next ≡ Some (entry.Table c.in-Table.next c.in-Table.field-1) = c.entry.ensures ∙ ap Some c.in-Table.is in
     search_on c.args.depth c.args.self.now.memory c.args.root c.args.address c.args.from c.loop-index.level c.loop-index.number c.loop-index.base c.requires.tree c.loop-index.invariant c.in-Some.index c.in-Some.ensures.first next (ap (λ x. c.loop-index.base + x) offset)
     c.in-Table.next c.in-Table.field-1 found (deep_table c.loop-index.level c.args.self.now.memory c.loop-index.number next c.in-Table.next c.in-Table.field-1 c.loop-index.invariant.some found)
+
+pub entry-requires-clause-written : goal.entry-requires-clause-written
+entry-requires-clause-written g c =
+    written_level (levels c.args.depth) c.args.root c.args.self.now.memory c.requires.tree c.requires.all_reached c.loop-index.level c.loop-index.base c.loop-index.number (omega (arith, c.loop-index.invariant.below)) c.loop-index.invariant.reached

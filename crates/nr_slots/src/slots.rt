@@ -1,0 +1,93 @@
+ghost use Rattle.std.specs.Prelude.{◌≡◌, ◌<◌, ◌≤◌, ◌^◌, ℕ, [], All, IfOk, IfSome, IsErr, vec_len};
+
+use crate::answered::Answered;
+use crate::slot::{NotTaken, Occupied, Slot};
+use crate::waiting::Waiting;
+use arrayvec::ArrayVec;
+use std::alloc::Global;
+use std::marker::Model;
+use std::sync::{Mutex, Wait};
+use vs_types::{Memory, Op};
+
+/// A slot for each thread of a replica, each under a lock. Contracts see how many there are.
+#[derive(Drop)]
+pub struct Slots {
+    slots: Vec<Mutex<Slot>>,
+}
+
+impl Model for Slots {
+    ghost Value = { ℕ };
+
+    ghost view = { λ s. vec_len s.slots };
+
+    ghost invariant = { λ s. vec_len s.slots < 2 ^ 16 };
+}
+
+impl Slots {
+    ghost use Rattle.nr_slots.specs.Batch.{Rises};
+
+    /// Empty slots for threads 0 to n - 1. It takes all memory that the slots ever need.
+    pub fn new(alloc: Global, n: u16) -> Result<Slots, Memory>
+        ensures { IfOk result (λ slots. slots ≡ n) }
+    {
+        let mut slots = Vec::new(alloc);
+        slots.reserve(usize::from(n))?;
+        for _ in 0..n {
+            slots.push(Mutex::new(Slot::Empty))?;
+        }
+        Ok(Slots { slots })
+    }
+
+    /// Puts an update into the thread's slot, or says that the slot is not empty.
+    ///
+    /// Waits for the slot's lock.
+    pub fn post<R: Wait>(&self, rt: &R, thread: u16, call: u32, op: Op) -> Result<(), Occupied>
+        requires thread { thread < self.now }
+        requires call { call < 131072 }
+    {
+        let waiting = Waiting::new(thread, call, op);
+        self.slots[usize::from(thread)].lock(rt).post(waiting)
+    }
+
+    /// Takes updates that wait into the batch, by rising thread, until the batch is full.
+    ///
+    /// Waits for each slot's lock in turn.
+    pub fn collect<R: Wait>(&self, rt: &R, batch: &mut ArrayVec<Waiting, 16>)
+        requires { batch.old.items ≡ [] }
+        ensures rising { Rises batch.new.items }
+        ensures below { All (λ waiting. waiting.thread < self.now) batch.new.items }
+    {
+        for (thread, slot) in self.slots.iter().enumerate() {
+            if batch.is_full() {
+                break;
+            }
+            let taken = slot.lock(rt).take();
+            if let Some(Waiting { call, op, .. }) = taken {
+                batch.push(Waiting::new(thread as u16, call, op));
+            }
+        }
+    }
+
+    /// Leaves an answer in its thread's slot, if the slot is taken with its call.
+    ///
+    /// Waits for the slot's lock.
+    pub fn answer<R: Wait>(&self, rt: &R, answered: Answered) -> Result<(), NotTaken>
+        ensures { self.now ≤ answered.thread → IsErr result }
+    {
+        let Some(slot) = self.slots.get(usize::from(answered.thread)) else {
+            return Err(NotTaken);
+        };
+        slot.lock(rt).answer(answered)
+    }
+
+    /// Takes the thread's answer, if there is one, and leaves its slot empty.
+    ///
+    /// Waits for the slot's lock.
+    pub fn poll<R: Wait>(&self, rt: &R, thread: u16) -> Option<Answered>
+        requires { thread < self.now }
+        ensures { IfSome result (λ answered. answered.thread ≡ thread) }
+    {
+        let answered = self.slots[usize::from(thread)].lock(rt).poll()?;
+        Some(Answered { thread, ..answered })
+    }
+}
