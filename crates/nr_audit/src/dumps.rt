@@ -8,8 +8,7 @@ ghost use Rattle.nr_audit.specs.Search.{HasNone, IsFirstAmong};
 ghost use Rattle.nr_audit.specs.Steps.{space_of};
 
 use crate::prefixes::{apply_places, entries_needed};
-use crate::stub::check;
-use nr_dump::DumpFault;
+use nr_dump::{DumpFault, check};
 use nr_trace::{Fault, Trace};
 use std::alloc::Global;
 use vs_plain::PlainSpace;

@@ -17,12 +17,13 @@ mod passes;
 mod positions;
 mod prefixes;
 mod search;
-mod stub;
 mod tables;
 mod verdict;
 mod whole;
 
 pub use found::Replay;
+pub use judging::{audit, judge};
+pub use laws::one_verdict;
 pub use verdict::{Order, Verdict};
 pub use whole::replay;
 

@@ -1,6 +1,6 @@
 -- The frames of a memory that are not among some of its frames.
-use Rattle.std.proofs.Common.{◌≡◌, ◌≢◌, ℕ, ◌<◌, List, [], ◌∷◌, length, ⊎_elim, sym, subst, ◌∙◌, arith, Contains, nat_eq}
-use Rattle.std.specs.Prelude.{IsSome, slice_index}
+use Rattle.std.proofs.Common.{◌≡◌, ◌≢◌, ℕ, ◌+◌, ◌<◌, List, [], ◌∷◌, length, get_or, ⊎_elim, sym, ap, subst, ◌∙◌, arith, Contains, nat_eq}
+use Rattle.std.specs.Prelude.{All, IsSome, slice_index}
 use Rattle.std.specs.FinMap as finite
 use Rattle.std.specs.List.{AllPairs, IsDistinct}
 use Rattle.std.proofs.lemmas.Bool.{cases_lt, eqb-true}
@@ -96,3 +96,17 @@ none_by_count memory numbers rising held count number outside =
         (λ same. subst (λ n. IsSome (finite.get memory n)) same outside.0)
         (λ later. held q later)
         (Contains-cases number numbers q has))
+
+-- ---- a number above the last one
+
+pub last_below_all : (memory : Memory) (last number : ℕ) → finite.len memory ≡ last + 1 → slice_index (finite.keys memory) last < number → All (λ held. held < number) (finite.keys memory)
+last_below_all memory last number count below i d within =
+    let counted = count_is memory in
+    let is : get_or (finite.keys memory) i d ≡ slice_index (finite.keys memory) i = get_or_default (finite.keys memory) i d 0 within in
+    ⊎_elim
+    (λ less. let rise = keys_rise memory i last less (omega arith) in omega arith)
+    (λ last_or_more. let one : i ≡ last = omega arith in let same : slice_index (finite.keys memory) i ≡ slice_index (finite.keys memory) last = ap (slice_index (finite.keys memory)) one in omega arith)
+    (cases_lt i last)
+
+pub none_below_all : (memory : Memory) (number : ℕ) → finite.len memory ≡ 0 → All (λ held. held < number) (finite.keys memory)
+none_below_all memory number empty i d within = let counted = count_is memory in absurd (omega arith)

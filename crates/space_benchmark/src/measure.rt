@@ -17,6 +17,9 @@ use vs_types::{Depth, Op};
 /// How many frames the store has.
 pub const FRAMES: usize = 4096;
 
+/// The number of its first frame: all pages lie below the tables.
+const BASE: u64 = 1 << 39;
+
 /// The time that each kind of call took.
 #[derive(Clone, Copy, Debug)]
 pub struct Times {
@@ -95,7 +98,7 @@ pub fn measure(
 ) -> Result<Measured, ProgFault>
     ensures { IfOk result (λ measured. measured.sum.value ≡ (after_rounds Four FRAMES load.now rounds start).sum) }
 {
-    let arena = VecArena::new(alloc, 1, FRAMES)?;
+    let arena = VecArena::new(alloc, BASE, FRAMES)?;
     let Ok(mut space) = Space::new(arena, Depth::Four) else {
         unreachable!();
     };

@@ -26,6 +26,7 @@ impl Sum {
     }
 
     /// Goes on with a number.
+    #[inline(always)]
     pub fn add(&mut self, number: u64)
         ensures { self.new.value ≡ sums.sum_with self.old.value number }
     {
@@ -33,6 +34,7 @@ impl Sum {
     }
 
     /// Goes on with the number of an answer.
+    #[inline(always)]
     pub fn add_answer(&mut self, answer: Answer)
         ensures { self.new.value ≡ sums.sum_with self.old.value (sums.answer_number answer) }
     {
@@ -41,6 +43,7 @@ impl Sum {
 }
 
 /// The number of an answer: which one it is, its rights, the level of its size, and its address or count.
+#[inline(always)]
 fn number_of(answer: Answer) -> u64
     ensures { result ≡ sums.answer_number answer }
 {
@@ -57,6 +60,7 @@ fn number_of(answer: Answer) -> u64
 }
 
 /// A value in front of the rest.
+#[inline(always)]
 fn with_value(number: u64, value: u64) -> u64
     ensures { result ≡ sums.with_value number value }
 {
@@ -64,6 +68,7 @@ fn with_value(number: u64, value: u64) -> u64
 }
 
 /// The level of a size, and rights, in front of which answer it is.
+#[inline(always)]
 fn page_number(size: Size, rights: Rights) -> u64
     ensures is { result ≡ sums.page_number size rights }
     ensures small { result < 2 ^ 15 }
@@ -72,6 +77,7 @@ fn page_number(size: Size, rights: Rights) -> u64
 }
 
 /// Rights as three bits: write is the lowest, then user, then exec.
+#[inline(always)]
 fn rights_number(rights: Rights) -> u64
     ensures is { result ≡ sums.rights_number rights }
     ensures small { result < 8 }

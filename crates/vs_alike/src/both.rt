@@ -3,6 +3,8 @@ ghost use Rattle.std.specs.FinMap as finite;
 ghost use Rattle.vs_types.specs.Depth.{IsCanonical};
 ghost use Rattle.vs_types.specs.Space.{no_pages, table_count};
 ghost use Rattle.vs_types.specs.Step.{step, look};
+ghost use Rattle.vs_space.specs.Walk.{walk, as_walk};
+ghost use Rattle.vs_space.specs.Table as tables;
 ghost use Rattle.vs_plain.specs.Plain.{Kept, IsStep};
 ghost use Rattle.vs_alike.specs.Alike.{AreAlike};
 
@@ -20,9 +22,7 @@ pub struct Told<T> {
     pub plain: T,
 }
 
-/// A page table and a plain space that are of one space.
-///
-/// Contracts see the plain space: its depth, its limit of tables and its space.
+/// A page table and a plain space that are of one space. Contracts see both.
 #[derive(Drop)]
 pub struct Both<S: FrameStore> {
     table: Space<S>,
@@ -30,15 +30,17 @@ pub struct Both<S: FrameStore> {
 }
 
 impl<S: FrameStore> Model for Both<S> {
-    ghost use Rattle.vs_plain.specs.Plain.{Kept};
+    ghost use Rattle.std.specs.Coded.{codes, coded_ℕ, coded_list};
+    ghost use Rattle.std.specs.FinMap as finite;
+    ghost use Rattle.std.specs.Ordering.{nat_cmp};
     ghost use Rattle.vs_plain.specs.contracts.plain.PlainSpace as plain_contract;
-    ghost use Rattle.vs_alike.specs.Alike.{AreAlike};
+    ghost use Rattle.vs_alike.specs.Alike.{Pair, AreAlike};
 
-    ghost Value = { Kept };
+    ghost Value = { Pair };
 
-    ghost coded = { plain_contract.the_row.coded };
+    ghost coded = { Prim.hlevel (codes, finite.code {R = nat_cmp} coded_ℕ (coded_list coded_ℕ), plain_contract.the_row.coded) };
 
-    ghost view = { λ b. b.plain };
+    ghost view = { λ b. record { table = b.table; plain = b.plain } };
 
     ghost invariant = { λ b. AreAlike b.table b.plain };
 }
@@ -52,7 +54,9 @@ impl<S: FrameStore + Drop> Both<S> {
     pub fn new(alloc: Global, store: S, depth: Depth) -> Result<Both<S>, NoRoot>
         requires { S.frames store ≡ finite.empty }
         ensures empty { IfOk result (λ both.
-            let empty : Kept = record { depth = depth; limit = S.size store; space = no_pages } in both ≡ empty) }
+            let empty : Kept = record { depth = depth; limit = S.size store; space = no_pages } in both.plain ≡ empty) }
+        ensures alike { IfOk result (λ both. AreAlike both.table both.plain) }
+        ensures base { IfOk result (λ both. both.table.base ≡ S.base store) }
         ensures no_root { OnErr result (S.size store ≡ 0) }
     {
         let limit = store.capacity() as u16;
@@ -65,14 +69,15 @@ impl<S: FrameStore + Drop> Both<S> {
 impl<S: FrameStore> Both<S> {
     /// The page table.
     pub fn table(&self) -> &Space<S>
-        ensures { AreAlike result.now self.now }
+        ensures table { result.now ≡ self.now.table }
+        ensures alike { AreAlike self.now.table self.now.plain }
     {
         &self.table
     }
 
     /// The plain space.
     pub fn plain(&self) -> &PlainSpace
-        ensures { result.now ≡ self.now }
+        ensures { result.now ≡ self.now.plain }
     {
         &self.plain
     }
@@ -80,7 +85,8 @@ impl<S: FrameStore> Both<S> {
     /// How many tables each takes: as many as the other.
     pub fn tables(&self) -> Told<usize>
         ensures same { result.table ≡ result.plain }
-        ensures counts { result.plain ≡ table_count self.now.depth self.now.space }
+        ensures frames { result.table ≡ finite.len self.now.table.memory }
+        ensures counts { result.plain ≡ table_count self.now.plain.depth self.now.plain.space }
     {
         Told {
             table: self.table.tables(),
@@ -90,9 +96,10 @@ impl<S: FrameStore> Both<S> {
 
     /// The translation of a canonical address in each: the same.
     pub fn resolve(&self, address: u64) -> Told<Answer>
-        requires { IsCanonical self.now.depth address }
+        requires { IsCanonical self.now.plain.depth address }
         ensures same { result.table ≡ result.plain }
-        ensures looks { result.plain ≡ look self.now.space address }
+        ensures walks { walk self.now.table.depth self.now.table.memory self.now.table.root address ≡ as_walk result.table }
+        ensures looks { result.plain ≡ look self.now.plain.space address }
     {
         Told {
             table: self.table.resolve(address),
@@ -107,9 +114,10 @@ impl<S: FrameStore> Both<S> {
     /// `Memory` where a growth was refused, which only a page that is added needs; both are then unchanged.
     pub fn apply(&mut self, op: Op) -> Result<Told<Answer>, Memory>
         ensures same { IfOk result (λ told. told.table ≡ told.plain) }
-        ensures steps { IfOk result (λ told. IsStep self.old op told.plain self.new) }
+        ensures table_steps { IfOk result (λ told. tables.IsStep self.old.table op told.table self.new.table) }
+        ensures plain_steps { IfOk result (λ told. IsStep self.old.plain op told.plain self.new.plain) }
         ensures err { OnErr result (self.new ≡ self.old) }
-        ensures for_a_page { OnErr result ((step self.old.depth self.old.limit self.old.space op).answer ≡ Answer.Done) }
+        ensures for_a_page { OnErr result ((step self.old.plain.depth self.old.plain.limit self.old.plain.space op).answer ≡ Answer.Done) }
     {
         let plain = self.plain.apply(op)?;
         let table = self.table.apply(op);

@@ -31,8 +31,8 @@ fn operation(call: Call) -> Result<Option<Op>, BadOp> {
 
 /// What both answer to a call. A resolve must be of a canonical address.
 fn answers(rt: &impl Abort, both: &mut Both<VecArena>, call: Call) -> Result<Told<Answer>, Fail>
-    requires { both.old.depth ≡ Four }
-    ensures { both.new.depth ≡ Four }
+    requires { both.old.plain.depth ≡ Four }
+    ensures { both.new.plain.depth ≡ Four }
 {
     if let Some(op) = operation(call)? {
         return Ok(both.apply(op)?);
@@ -48,7 +48,7 @@ fn run(rt: &impl Abort, alloc: Global, case: &Case) -> Result<(), Fail> {
     let limit = usize::from(case.limit);
     let name = case.name;
     assert!(rt; limit <= 4096, "{name}");
-    let arena = VecArena::new(alloc, 1, limit)?;
+    let arena = VecArena::new(alloc, 1 << 39, limit)?;
     let mut both = Both::new(alloc, arena, Depth::Four)?;
     assert_eq!(rt; both.plain().pages()?.len(), 0, "{name}");
     for (place, Row(call, answer, tables)) in case.rows.iter().enumerate() {

@@ -50,7 +50,8 @@ pub next_empty : (places : List (Option (List ℕ))) (n made : ℕ) → made < n
 next_empty places n made below linked =
     let is = one_none places n made below linked in let long = linked.frames.words_for_each in
     subst (λ i. (i < length places) × (get_or places i None ≡ None)) long
-    (subst (λ l. (length linked.words < length l) × (get_or l (length linked.words) None ≡ None)) (sym is) (length-next linked.words _, get-next linked.words _))
+    (subst (λ l. (length linked.words < length l) × (get_or l (length linked.words) None ≡ None)) (sym is)
+    (length-next linked.words _, get-next linked.words _))
 
 pub HasLinked-push : (places : List (Option (List ℕ))) (n made link : ℕ) (own : List ℕ) → made < n → own ≡ set zeros 0 link → link < 2 ^ 64 → link ≡ made - 1
     → HasLinked places n made → HasLinked (set places made (Some own)) n (made + 1)
@@ -62,7 +63,8 @@ HasLinked-push places n made link own below own_is fits before linked =
       words = words ++ own ∷ [];
       free = linked.free ++ made ∷ [];
       within = omega arith;
-      all = ap (λ l. set l made (Some own)) is ∙ ap (λ i. set (map Some words ++ None ∷ replicate (n - (made + 1)) None) i (Some own)) (sym long) ∙ set-next words _ own;
+      all = ap (λ l. set l made (Some own)) is ∙ ap (λ i. set (map Some words ++ None ∷ replicate (n - (made + 1)) None) i (Some own)) (sym long)
+          ∙ set-next words _ own;
       frames = HasMade-push words linked.free made own (rw own_is (IsFrame-set zeros 0 link IsFrame-zeros fits)) linked.frames;
       links = λ k k_below. elim (cases_eq (k + 1) made) as (λ _. get_or (get_or (words ++ own ∷ []) (k + 1) []) 0 0 ≡ k) [
         | inl last ↦ ap (λ l. get_or l 0 0) (get_or_push words own [] (k + 1) (long ∙ sym last)) ∙ first ∙ (let same : link ≡ k = omega arith in same)

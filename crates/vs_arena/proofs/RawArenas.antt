@@ -136,8 +136,8 @@ module _ (base : ℕ) (places : List (Option (List ℕ))) (marks : List Bool) (c
         });
       }
 
-pub IsRawArena-new : (base n next : ℕ) (places : List (Option (List ℕ))) (words : List (List ℕ)) (free : List ℕ) → n ≤ 4096 → base + n ≤ 2 ^ 40 → places ≡ map Some words
-    → length words ≡ n → All IsFrame words → length free ≡ n → ((k : ℕ) → k < n → get_or free k 0 ≡ k)
+pub IsRawArena-new : (base n next : ℕ) (places : List (Option (List ℕ))) (words : List (List ℕ)) (free : List ℕ) → n ≤ 4096 → base + n ≤ 2 ^ 40
+    → places ≡ map Some words → length words ≡ n → All IsFrame words → length free ≡ n → ((k : ℕ) → k < n → get_or free k 0 ≡ k)
     → ((k : ℕ) → k + 1 < n → get_or (get_or words (k + 1) []) 0 0 ≡ k) → ((k : ℕ) → k + 1 ≡ n → next ≡ k)
     → IsRawArena base places (replicate n false) n next
 IsRawArena-new base n next places words free few fit all long whole free_long itself links top =

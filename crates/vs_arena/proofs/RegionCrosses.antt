@@ -43,7 +43,8 @@ module _ (R : RattleType) where
       owning_send O all (λ d. region-Keyless s d.first d.places) (λ k. quiet (to O) (exits_of k (fields O)) ((struct_send (shape O) all).leaving k))
 
   pub Region-sync : IsSync R → IsSync (Region.the_row R)
-  Region-sync y = let O = Region.the_type R in record { shared = λ d b o κ. ((struct_sync (shape O) (search sendable, tt)).shared (to O d) b o κ, region_lends-Common y d.first d.places κ) }
+  Region-sync y = let O = Region.the_type R in record
+      { shared = λ d b o κ. ((struct_sync (shape O) (search sendable, tt)).shared (to O d) b o κ, region_lends-Common y d.first d.places κ) }
 
   module _ (A : RattleType) (g : Ghosts A.Denot) where
     pub Lease-send : Frees g g.dealloc_token → IsSend (Lease.the_row R A g)

@@ -35,8 +35,10 @@ module _ {M : Type 1} {𝓤 : Ura M} (𝓛 : Logic 𝓤) (l : Lft) (R : RattleTy
   Lends-row : (b o : ℕ) (cs : List (Option R.Denot)) → Lends 𝓛 (row_of R b o cs) (row_lent R b o cs) l
   Lends-row b o [] = Lends-nothing 𝓛 ftrue l
   Lends-row b o (c ∷ cs) =
-      Lends-both 𝓛 (place R b o c) (row_of R b (o + type_size R) cs) (place_lent R b o c) (row_lent R b (o + type_size R) cs) l (Lends-place b o c) (Lends-row b (o + type_size R) cs)
+      Lends-both 𝓛 (place R b o c) (row_of R b (o + type_size R) cs) (place_lent R b o c) (row_lent R b (o + type_size R) cs) l (Lends-place b o c)
+      (Lends-row b (o + type_size R) cs)
 
   pub Lends-region : (p : Ptr) (cs : List (Option R.Denot)) → Lends 𝓛 (region_owns R p cs) (region_lends R p cs) l
-  Lends-region (block_ptr b o) cs = Lends-both 𝓛 (fit R cs) (row_of R b o cs) (said (fit R cs)) (row_lent R b o cs) l (Lends-said 𝓛 (fit R cs) tt l) (Lends-row b o cs)
+  Lends-region (block_ptr b o) cs = Lends-both 𝓛 (fit R cs) (row_of R b o cs) (said (fit R cs)) (row_lent R b o cs) l (Lends-said 𝓛 (fit R cs) tt l)
+      (Lends-row b o cs)
   Lends-region null_ptr cs = Lends-false 𝓛 (said ffalse) l

@@ -73,9 +73,11 @@ module _ (E : El) {M : Type 1} {𝓤 : Ura M} {𝓛 : Logic 𝓤} {K : Type 0} {
       opens t z (Rr E) {h = d} rb ro (λ vs. move t (1 ∷ []) $ region_had E t d vs (λ b o e is fit.
       rewrite t 1 (λ (ws : List Val). ‵ (cell_at full_share (Rr E).mir ws rb ro)) is refl $ k b o e fit))
 
-  pub region_closes : K → Soaks G → {κ : Lft} {q : Share} {u v : Gv} {γ : GName} (d : Region (el_x E)) (b o rb ro : ℕ) → d.first ≡ block_ptr b o → length d.places * sz E < 2 ^ 63
+  pub region_closes : K → Soaks G → {κ : Lft} {q : Share} {u v : Gv} {γ : GName} (d : Region (el_x E)) (b o rb ro : ℕ) → d.first ≡ block_ptr b o
+      → length d.places * sz E < 2 ^ 63
       → Step K 𝓛 (‵ (fobs γ ((Rr E).coded.code d)) ∷ ‵ (fbor κ (Body (mem (Rr E)) rb ro γ)) ∷ ‵ (flft κ q) ∷ Γ) G
-      (‵ (row_of (R E) b o d.places) ∷ ‵ (cell_at full_share (Rr E).mir (word (block_ptr b o) ∷ []) rb ro) ∷ ‵ (fobor κ q (Body (mem (Rr E)) rb ro γ)) ∷ ‵ (fobs γ u) ∷ ‵ (fauth γ v) ∷ Γ) G
+      (‵ (row_of (R E) b o d.places) ∷ ‵ (cell_at full_share (Rr E).mir (word (block_ptr b o) ∷ []) rb ro) ∷ ‵ (fobor κ q (Body (mem (Rr E)) rb ro γ))
+      ∷ ‵ (fobs γ u) ∷ ‵ (fauth γ v) ∷ Γ) G
   region_closes t z d b o rb ro at fit = step (λ s.
       region_made E t d b o at fit $ move t (1 ∷ 0 ∷ []) $ closes t z (Rr E) d (word (block_ptr b o) ∷ []) rb ro $ s)
 
@@ -85,7 +87,8 @@ module _ {M : Type 1} {𝓤 : Ura M} {𝓛 : Logic 𝓤} {K : Type 0} {Γ : List
       → ((q' : Share) → Seq K 𝓛 (‵ (fat q' ty_ptr b at (vptr pb po)) ∷ Shut 𝓛 κ q (part_at RawPtr q' p b at) ∷ Γ) G)
       → Seq K 𝓛 (‵ (hidden_shr RawPtr κ p b at) ∷ ‵ (flft κ q) ∷ Γ) G
   pointer_in t z p pb po is b at k =
-      looks t z RawPtr (plain_Copied 𝓛 Ptr coded_ptr (ty_ptr ∷ []) ptr_own rawptr_pure ptr_val RawPtr-laws.tells).opens p b at (λ q' vs. move t (1 ∷ []) $ feq_l t (λ e.
+      looks t z RawPtr (plain_Copied 𝓛 Ptr coded_ptr (ty_ptr ∷ []) ptr_own rawptr_pure ptr_val RawPtr-laws.tells).opens p b at (λ q' vs. move t (1 ∷ []) $
+      feq_l t (λ e.
       rewrite t 0 (λ (us : List Val). ‵ (cell_at q' RawPtr.mir us b at)) (e ∙ ap (λ (r : Ptr). ptr_val r ∷ []) is) refl $ move t (2 ∷ []) $ drop t $ k q'))
 
   pub pointer_out : K → Soaks G → {κ : Lft} {q q' : Share} (p : Ptr) (pb po : ℕ) → p ≡ block_ptr pb po → (b at : ℕ)
@@ -125,7 +128,8 @@ module _ (E : El) (Z : Al) {M : Type 1} {𝓤 : Ura M} {𝓛 : Logic 𝓤} {K : 
       → (vs ≡ mark ∷ [] → Seq K 𝓛 (‵ (lease_owns (R E) (token Z d.alloc) d.first d.len) ∷ Γ) G) → Seq K 𝓛 (‵ ((Lr E Z).own_val d vs) ∷ Γ) G
   lease_had t d vs k = fsplit t $ mark_had t E (P E Z) Z.g vs k
 
-module _ {M : Type 1} {𝓤 : Ura M} (𝓛 : Logic 𝓤) (T : Ended) (hs : Stays T.signature.params T.kept) (c : Clauses 𝓤 T) (run : Fun 𝓤) (y : (walk_of 𝓛 T hs c).Ghost) where
+module _ {M : Type 1} {𝓤 : Ura M} (𝓛 : Logic 𝓤) (T : Ended) (hs : Stays T.signature.params T.kept) (c : Clauses 𝓤 T) (run : Fun 𝓤)
+    (y : (walk_of 𝓛 T hs c).Ghost) where
   abbrev Rs : List RattleType
   Rs = types_at T.signature.params y.0.0
 
@@ -136,5 +140,6 @@ module _ {M : Type 1} {𝓤 : Ura M} (𝓛 : Logic 𝓤) (T : Ended) (hs : Stays
   knowing k =
       let a = y.0.3 in let vss = y.0.4 in
       let entry : SProp 𝓤 = on_entry 𝓛 T.signature y.0.0 y.0.1 a vss in
-      fact_use 𝓤 (Are Rs (Ises Rs) a vss) (via 𝓤 (sem 𝓛 (owns Rs a vss)) (via 𝓤 entry (fst∗ 𝓤 entry ((c y.0.0 a).requires y.1)) (snd∗ 𝓤 (alive 𝓛 T.signature y.0.0 y.0.1) (sem 𝓛 (owns Rs a vss))))
+      fact_use 𝓤 (Are Rs (Ises Rs) a vss) (via 𝓤 (sem 𝓛 (owns Rs a vss))
+      (via 𝓤 entry (fst∗ 𝓤 entry ((c y.0.0 a).requires y.1)) (snd∗ 𝓤 (alive 𝓛 T.signature y.0.0 y.0.1) (sem 𝓛 (owns Rs a vss))))
       (owns_show 𝓛 Rs (Ises Rs) (showss 𝓛 Rs) a vss)) k

@@ -8,6 +8,8 @@ pub(crate) struct Place {
     pub(crate) way: [u64; WAY],
     /// The level of the last of them.
     pub(crate) level: u8,
+    /// The frame number of the last of them.
+    pub(crate) number: u64,
     /// The word of its entry.
     pub(crate) word: u64,
 }

@@ -161,12 +161,11 @@ impl<S: FrameStore> Space<S> {
         if need > limit {
             return Answer::Full(need as u64);
         }
-        let last = place.way[place.level as usize];
         let number = self.tables.extend(
             self.depth,
             self.root,
             page.base,
-            last,
+            place.number,
             place.level,
             lowest,
         );
@@ -209,9 +208,8 @@ impl<S: FrameStore> Space<S> {
             return Answer::Inside(base - offset);
         }
         let leaf = Entry::leaf(size, phys, rights);
-        let number = place.way[place.level as usize];
         self.tables
-            .write(number, index_at(place.level, base), leaf.word());
+            .write(place.number, index_at(place.level, base), leaf.word());
         Answer::Changed(old)
     }
 }

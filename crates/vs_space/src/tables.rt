@@ -136,6 +136,7 @@ impl<S: FrameStore> Tables<S> {
         requires some_level { 1 ≤ lowest }
         requires within { lowest ≤ levels depth }
         ensures place { IsPlace depth self.now.memory root address lowest result.level result.way (meaning result.level result.word) }
+        ensures last { result.number ≡ slice_index result.way result.level }
         ensures written { IsWritten result.level result.word }
         ensures some_level { 1 ≤ result.level }
         ensures few_levels { result.level ≤ 5 }
@@ -146,10 +147,20 @@ impl<S: FrameStore> Tables<S> {
         loop {
             let word = self.word(number, index_at(level, address));
             if level == lowest {
-                return Place { way, level, word };
+                return Place {
+                    way,
+                    level,
+                    number,
+                    word,
+                };
             }
             let Meaning::Table(next, _) = read_written(level, word) else {
-                return Place { way, level, word };
+                return Place {
+                    way,
+                    level,
+                    number,
+                    word,
+                };
             };
             number = next;
             level -= 1;

@@ -39,7 +39,8 @@ invariant_of-result c =
 
 -- an arena of which no frame is in use
 empty_arena : (base n : ℕ) (words : List (List ℕ)) (marks : List Bool) → marks ≡ replicate n false
-    → ◌≡◌ {A = Arena} (record { base = base; size = length marks; frames = marked_frames marks words }) (record { base = base; size = n; frames = finite.empty })
+    → ◌≡◌ {A = Arena} (record { base = base; size = length marks; frames = marked_frames marks words })
+    (record { base = base; size = n; frames = finite.empty })
 empty_arena base n words marks none =
     ap (λ m. record { base = base; size = length m; frames = marked_frames m words }) none
     ∙ (λ i. record { base = base; size = length-replicate n false i; frames = marked_frames-none n words i })

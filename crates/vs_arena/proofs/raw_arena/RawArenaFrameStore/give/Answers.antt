@@ -11,7 +11,8 @@ pub get_mut-words-requires : goal.get_mut-words-requires
 get_mut-words-requires c =
     let raw = c.self.invariant.0 in let places = c.self.inside.region.places in let marks = c.self.inside.marks.items in
     let in_use = subst (λ (a : Arena). IsInUse a.frames c.args.frame) (sym c.self.view_is) c.requires in
-    let marked = subst (λ i. IsMarked marks (values places) i) (sym c.index-index.ensures.reads) (IsMarked-from_use marks (values places) c.args.frame in_use) in
+    let marked = subst (λ i. IsMarked marks (values places) i) (sym c.index-index.ensures.reads)
+    (IsMarked-from_use marks (values places) c.args.frame in_use) in
     let within : c.index-index.result < length (values places) = omega (arith, marked.in_marks, raw.arena.words_for_each) in
     IsFilled-within places raw.filled c.index-index.result [] within
 
@@ -19,10 +20,12 @@ pub invariant_of-self : goal.invariant_of-self
 invariant_of-self c =
     let raw = c.self.invariant.0 in let places = c.self.inside.region.places in let marks = c.self.inside.marks.items in
     let in_use = subst (λ (a : Arena). IsInUse a.frames c.args.frame) (sym c.self.view_is) c.requires in
-    let marked = subst (λ i. IsMarked marks (values places) i) (sym c.index-index.ensures.reads) (IsMarked-from_use marks (values places) c.args.frame in_use) in
+    let marked = subst (λ i. IsMarked marks (values places) i) (sym c.index-index.ensures.reads)
+    (IsMarked-from_use marks (values places) c.args.frame in_use) in
     let within : c.index-index.result < length (values places) = omega (arith, marked.in_marks, raw.arena.words_for_each) in
     let old = value_at places raw.filled c.index-index.result [] c.get_mut-words.result.now within c.get_mut-words.ensures.value in
-    let whole = IsFrame-set c.get_mut-words.result.now 0 c.self.inside.next_free (rw old (raw.arena.whole_frames c.index-index.result [] within)) (omega (arith, c.self.ranges)) in (
+    let whole = IsFrame-set c.get_mut-words.result.now 0 c.self.inside.next_free (rw old (raw.arena.whole_frames c.index-index.result [] within))
+    (omega (arith, c.self.ranges)) in (
       IsRawArena-give _ _ _ _ _ raw c.index-index.result _ marked (ap (λ l. set l 0 c.self.inside.next_free) old) whole,
       c.self.invariant.1,
       c.self.invariant.2 ∙ sym (length-set marks c.index-index.result false),
@@ -33,7 +36,8 @@ pub returns-clause-removed : goal.returns-clause-removed
 returns-clause-removed c =
     let raw = c.self.invariant.0 in let places = c.self.inside.region.places in let marks = c.self.inside.marks.items in
     let in_use = subst (λ (a : Arena). IsInUse a.frames c.args.frame) (sym c.self.view_is) c.requires in
-    let marked = subst (λ i. IsMarked marks (values places) i) (sym c.index-index.ensures.reads) (IsMarked-from_use marks (values places) c.args.frame in_use) in
+    let marked = subst (λ i. IsMarked marks (values places) i) (sym c.index-index.ensures.reads)
+    (IsMarked-from_use marks (values places) c.args.frame in_use) in
     let within : c.index-index.result < length (values places) = omega (arith, marked.in_marks, raw.arena.words_for_each) in
     ap (λ l. marked_frames (set marks c.index-index.result false) l) (values-set places raw.filled c.index-index.result _)
     ∙ marked_frames-unmark_written marks (values places) c.index-index.result _ marked.in_marks

@@ -22,7 +22,8 @@ invariant_of-self c =
     let marked = IsMarked-from_use marks (values places) c.args.frame in_use in
     let within : c.index.result < length (values places) = omega (arith, marked.in_marks, raw.arena.words_for_each, c.index.ensures.reads) in
     let old = value_at places raw.filled c.index.result [] c.get_mut-words.result.now within c.get_mut-words.ensures.value in
-    let whole = IsFrame-set c.get_mut-words.result.now c.args.index c.args.word (rw old (raw.arena.whole_frames c.index.result [] within)) (omega (arith, c.ranges.word)) in
+    let whole = IsFrame-set c.get_mut-words.result.now c.args.index c.args.word (rw old (raw.arena.whole_frames c.index.result [] within))
+    (omega (arith, c.ranges.word)) in
     let here = subst (λ i. IsMarked marks (values places) i) (sym c.index.ensures.reads) marked in
     (IsRawArena-write _ _ _ _ _ raw c.index.result _ whole here, c.self.invariant.1, c.self.invariant.2, c.self.invariant.3)
 
@@ -35,5 +36,6 @@ returns-clause-written c =
     let old = value_at places raw.filled c.index.result [] c.get_mut-words.result.now within c.get_mut-words.ensures.value in
     let was = subst (λ i. c.get_mut-words.result.now ≡ get_or (values places) i []) c.index.ensures.reads old in
     ap (λ l. marked_frames marks l) (values-set places raw.filled c.index.result _)
-    ∙ rw (c.index.ensures.reads, was, ← marked.own) (marked_frames-write marks (values places) c.args.frame _ marked.mark (omega (arith, marked.in_marks, raw.arena.words_for_each)))
+    ∙ rw (c.index.ensures.reads, was, ← marked.own) (marked_frames-write marks (values places) c.args.frame _ marked.mark
+    (omega (arith, marked.in_marks, raw.arena.words_for_each)))
     ∙ ap (λ (a : Arena). finite.insert a.frames c.args.frame (set (words_of a.frames c.args.frame) c.args.index c.args.word)) c.self.view_is

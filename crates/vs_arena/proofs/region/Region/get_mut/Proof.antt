@@ -99,11 +99,13 @@ module _ (E : El) where
     walk : (z : Bound) → z.0.3.1.0 < 2 ^ 64 → Goes (spelled z)
     walk z fi =
         let κ = z.0.0.0 in let κ₁ = z.0.0.1.0 in let q = z.0.1.0 in let q₁ = z.0.1.1.0 in
-        let rb : ℕ = z.0.3.0.ref_ptr.0 in let ro : ℕ = z.0.3.0.ref_ptr.1 in let γ : GName = z.0.3.0.ghost_name in let h : Region (el_x E) = z.0.3.0.now in let i : ℕ = z.0.3.1.0 in
+        let rb : ℕ = z.0.3.0.ref_ptr.0 in let ro : ℕ = z.0.3.0.ref_ptr.1 in let γ : GName = z.0.3.0.ghost_name in let h : Region
+        (el_x E) = z.0.3.0.now in let i : ℕ = z.0.3.1.0 in
         let Post : Val → SProp 𝓤 = (walk_of 𝓛 ended stayed held).post (spelled z) in
         let Ok : Type 0 = IsFilled h.places i in
         let s : ℕ = sz E in
-        qed 𝓛 (((‵ (flft κ q) ⊛ ‵ (flft κ₁ q₁) ⊛ ‵ ftrue) ⊛ ‵ (owns (types_at ended.signature.params z.0.0) z.0.3 (spelled z).0.4)) ∷ (raw (fact 𝓤 (κ₁ ⊑ E.row.lives)) ⊛ raw (fact 𝓤 Ok)) ∷ []) ∵
+        qed 𝓛 (((‵ (flft κ q) ⊛ ‵ (flft κ₁ q₁) ⊛ ‵ ftrue) ⊛ ‵ (owns (types_at ended.signature.params z.0.0) z.0.3 (spelled z).0.4))
+        ∷ (raw (fact 𝓤 (κ₁ ⊑ E.row.lives)) ⊛ raw (fact 𝓤 Ok)) ∷ []) ∵
         move ! (1 ∷ []) $ split ! $ drop ! $ heard ! Ok (λ ok.
         let x : el_x E = ok.0 in let within = filled_within h.places i x ok.1 in
         split ! $ split ! $ move ! (2 ∷ []) $ fsplit ! $ fsplit3 ! $ keep ! (1 ∷ 2 ∷ 4 ∷ 5 ∷ []) $
@@ -121,17 +123,23 @@ module _ (E : El) where
         rewrite ! 0 (λ (c : Place E). ‵ (place (R E) b (i * s + o) c)) ok.1 refl $
         move ! (1 ∷ 2 ∷ []) $ fjoin ! $ move ! (2 ∷ 3 ∷ 4 ∷ 1 ∷ 0 ∷ []) $ group ! 5 $
         let code_of = (Rr E).coded.code h in let follow = new E 𝓛 rb ro b o h i in
-        use1 𝓛 (later (some (λ (γ' : GName). ‵ ((MutRef (named 0) κ (R E)).own_val (record { ref_ptr = (b, i * s + o); ghost_name = γ'; now = x }) (vptr b (i * s + o) ∷ []))
+        use1 𝓛 (later (some (λ (γ' : GName). ‵ ((MutRef (named 0) κ (R E)).own_val (record { ref_ptr = (b, i * s + o); ghost_name = γ'; now = x })
+        (vptr b (i * s + o) ∷ []))
         ⊛ ‵ (flft κ q) ⊛ ‵ (follows (Rr E) (R E) γ γ' follow))))
-        (lends_Part 𝓛 (Rr E) (R E) follow (named 0) κ q rb ro b (i * s + o) γ (sem 𝓛 (Rest E 𝓛 rb ro b o h i)) (back E 𝓛 rb ro b o h i at_b fit within) code_of code_of x) $
+        (lends_Part 𝓛 (Rr E) (R E) follow (named 0) κ q rb ro b (i * s + o) γ (sem 𝓛 (Rest E 𝓛 rb ro b o h i))
+        (back E 𝓛 rb ro b o h i at_b fit within) code_of code_of x) $
         await ! tt $ pick ! (λ γ'. split3 ! $ returns ! (look_at ! 0 refl) $ free_all ! refl $
-        suffices ! _ (ends_at 𝓛 ended stayed held (spelled z) (vptr b (i * s + o)) (record { ref_ptr = (b, i * s + o); ghost_name = γ'; now = x }) (tt, (tt, tt)) (tt, (tt, tt))) $
-        nothing ! $ nothing ! $ fjoin ! $ nothing ! $ fjoin ! $ join ! $ move ! (1 ∷ 3 ∷ []) $ join ! $ join ! $ frame ! $ says ! ok.1 $ keep ! (0 ∷ []) $ done !))))
+        suffices ! _ (ends_at 𝓛 ended stayed held (spelled z) (vptr b (i * s + o)) (record { ref_ptr = (b, i * s + o); ghost_name = γ'; now = x })
+        (tt, (tt, tt)) (tt, (tt, tt))) $
+        nothing ! $ nothing ! $ fjoin ! $ nothing ! $ fjoin ! $ join ! $ move ! (1 ∷ 3 ∷ []) $ join ! $ join ! $ frame ! $ says ! ok.1 $ keep ! (0 ∷ []) $
+        done !))))
 
     meets : Meets 𝓛 ended.signature (WpFn 𝓤 H 𝓣.C 𝓣.Λ here) (closing 𝓛 ended held)
     meets =
-        walk_Meets 𝓛 ended stayed (Goes-spent_ref 𝓛 2 (0 ∷ []) tt (plain (λ _. Rr E)), (Goes-dropped 𝓛 2 (plain (λ _. usize)) yes (λ κs x f. refl), tt)) held (WpFn 𝓤 H 𝓣.C 𝓣.Λ here) (WpFn-mono 𝓤 H 𝓛.laws 𝓣 here)
-        (walked 𝓛 ended stayed held (WpFn 𝓤 H 𝓣.C 𝓣.Λ here) (λ κs. (mut_vals, (uint_vals w64, tt))) (λ κs. (mut_Tells (named 0) κs.0 (Rr E), (uint_Tells w64, tt)))
+        walk_Meets 𝓛 ended stayed (Goes-spent_ref 𝓛 2 (0 ∷ []) tt (plain (λ _. Rr E)), (Goes-dropped 𝓛 2 (plain (λ _. usize)) yes (λ κs x f. refl), tt))
+        held (WpFn 𝓤 H 𝓣.C 𝓣.Λ here) (WpFn-mono 𝓤 H 𝓛.laws 𝓣 here)
+        (walked 𝓛 ended stayed held (WpFn 𝓤 H 𝓣.C 𝓣.Λ here) (λ κs. (mut_vals, (uint_vals w64, tt)))
+        (λ κs. (mut_Tells (named 0) κs.0 (Rr E), (uint_Tells w64, tt)))
         (λ κs qs bounds a g are. walk ((κs, qs, bounds, a, (mut_vals a.0, (uint_vals w64 a.1.0, tt))), g) are.1.0.1))
 
 pub get_mut_spec : {M : Type 1} → stated.statement M

@@ -14,7 +14,7 @@ use Rattle.vs_space.specs.Held.{Held, with_word}
 use Rattle.vs_walk.specs.Ways.{AreWhole}
 use Rattle.vs_space.specs.Place.{IsPlace}
 use Rattle.vs_space.specs.Way.{table_at}
-use Rattle.vs_space.specs.Grow.{IsExtended, IsLeastBase}
+use Rattle.vs_space.specs.Grow.{IsOpen, IsExtended, IsLeastBase}
 use Rattle.vs_space.specs.Table.{PageTable, IsStep, IsPageTable}
 use Rattle.vs_space.proofs.Protects.{page_table}
 use Rattle.vs_space.proofs.Maps.{reserved_never, leaf_overlaps, not_lowest, table_reached, table_overlaps, full_step, is_open, map_table, map_step}
@@ -92,7 +92,8 @@ extend-number-requires-clause-open_at g c =
     let inside = c.self.inside in
     let good = subst (λ (t : PageTable). IsPage t.depth c.args.page) (sym c.self.view_is) c.requires in
     let place = placed c.level-lowest.ensures (sym c.in-Absent.ensures) c.descend-place.ensures.place in
-    is_open inside.depth inside.tables.memory inside.root c.self.invariant.0 c.args.page good c.descend-place.result.level c.descend-place.result.way place
+    subst (λ n. IsOpen inside.depth inside.tables.memory inside.root c.args.page.base c.descend-place.result.level n) (sym c.descend-place.ensures.last)
+    (is_open inside.depth inside.tables.memory inside.root c.self.invariant.0 c.args.page good c.descend-place.result.level c.descend-place.result.way place)
 
 pub invariant_of-self : goal.invariant_of-self
 invariant_of-self g c =

@@ -1,4 +1,4 @@
-use Rattle.std.proofs.Common.{◌≡◌, ◌-◌, ◌%◌, sym, ap, subst, ◌∙◌}
+use Rattle.std.proofs.Common.{◌≡◌, ◌-◌, ◌%◌, sym, ap, subst, ◌∙◌, arith}
 use Rattle.vs_types.specs.Depth.{IsCanonical}
 use Rattle.vs_types.specs.Entry.{meaning, leaf_word}
 use Rattle.vs_types.specs.Page.{bytes_of, level_of}
@@ -7,7 +7,10 @@ use Rattle.vs_types.specs.declared.entry.Meaning.TheVariants as entry
 use Rattle.vs_types.specs.declared.op.Action.TheVariants.{Protect}
 use Rattle.vs_types.specs.declared.answer.Answer.TheVariants as answers
 use Rattle.vs_types.specs.declared.page.Size.{Size}
-use Rattle.vs_space.specs.Held.{Held}
+use Rattle.std.specs.Prelude.{IsSome}
+use Rattle.std.specs.FinMap as finite
+use Rattle.vs_space.specs.Held.{Held, with_word}
+use Rattle.vs_space.proofs.Numbered.{held}
 use Rattle.vs_space.specs.Place.{IsPlace}
 use Rattle.vs_space.specs.Table.{PageTable, IsStep, IsPageTable}
 use Rattle.vs_space.proofs.Protects.{page_table}
@@ -46,13 +49,21 @@ leaf-leaf-requires-clause-in_range g c =
     let place = subst (λ (e : Meaning). IsPlace inside.depth inside.tables.memory inside.root c.args.base 1 c.descend-place.result.level c.descend-place.result.way e) (sym c.in-Leaf.ensures) c.descend-place.ensures.place in
     (leaf_again inside.depth inside.tables.memory inside.root c.self.invariant.0 c.args.base canonical c.descend-place.result.level c.descend-place.result.way c.in-Leaf.phys c.in-Leaf.old place).2
 
+pub write-requires-clause-in_use : goal.write-requires-clause-in_use
+write-requires-clause-in_use g c =
+    let inside = c.self.inside in
+    let place = c.descend-place.ensures.place in
+    subst (λ n. IsSome (finite.get inside.tables.memory n)) (sym c.descend-place.ensures.last)
+    (c.self.invariant.0.tree.in_use _ c.args.base _ (place.reached c.descend-place.result.level (omega arith) place.below))
+
 pub invariant_of-self : goal.invariant_of-self
 invariant_of-self g c =
     let inside = c.self.inside in
     let canonical = subst (λ (t : PageTable). IsCanonical t.depth c.args.base) (sym c.self.view_is) c.requires.canonical in
     let place = subst (λ (e : Meaning). IsPlace inside.depth inside.tables.memory inside.root c.args.base 1 c.descend-place.result.level c.descend-place.result.way e) (sym c.in-Leaf.ensures) c.descend-place.ensures.place in
+    let written = c.write.ensures.written ∙ ap (λ n. held inside.tables.base inside.tables.limit (with_word inside.tables.memory n c.index_at.result c.word.result)) c.descend-place.ensures.last in
     let leads = subst (λ (z : Size). meaning (level_of z) c.leaf-leaf.result ≡ entry.Leaf c.in-Leaf.phys c.args.rights) c.at_level-size.ensures c.leaf-leaf.ensures.read_back in (
-      subst (λ (h : Held). IsPageTable inside.depth h.memory inside.root) (sym c.write.ensures.written)
+      subst (λ (h : Held). IsPageTable inside.depth h.memory inside.root) (sym written)
           (protect_table inside.depth inside.tables.memory inside.root c.self.invariant.0 c.args.base canonical c.descend-place.result.level c.descend-place.result.way c.in-Leaf.phys c.in-Leaf.old place c.write.ensures.whole c.requires.aligned c.args.rights c.word.result c.index_at.result c.bytes.result (rw c.word.ensures leads) (c.word.ensures ∙ c.leaf-leaf.ensures.written ∙ ap (λ z. leaf_word z c.in-Leaf.phys c.args.rights) c.at_level-size.ensures) c.index_at.ensures.is c.index_at.ensures.low (c.bytes.ensures ∙ ap bytes_of c.at_level-size.ensures) c.if-offset-ne0.false),
       c.write.ensures.numbers,
     )
@@ -62,7 +73,8 @@ returns g c =
     let inside = c.self.inside in
     let canonical = subst (λ (t : PageTable). IsCanonical t.depth c.args.base) (sym c.self.view_is) c.requires.canonical in
     let place = subst (λ (e : Meaning). IsPlace inside.depth inside.tables.memory inside.root c.args.base 1 c.descend-place.result.level c.descend-place.result.way e) (sym c.in-Leaf.ensures) c.descend-place.ensures.place in
+    let written = c.write.ensures.written ∙ ap (λ n. held inside.tables.base inside.tables.limit (with_word inside.tables.memory n c.index_at.result c.word.result)) c.descend-place.ensures.last in
     let leads = subst (λ (z : Size). meaning (level_of z) c.leaf-leaf.result ≡ entry.Leaf c.in-Leaf.phys c.args.rights) c.at_level-size.ensures c.leaf-leaf.ensures.read_back in
     subst (λ (t : PageTable). IsStep t (Protect c.args.base c.args.rights) (answers.Changed c.in-Leaf.old) (page_table inside.depth c.write.new.self.base c.write.new.self.limit inside.root c.write.new.self.memory)) c.self.view_is
-    (subst (λ (h : Held). IsStep (page_table inside.depth inside.tables.base inside.tables.limit inside.root inside.tables.memory) (Protect c.args.base c.args.rights) (answers.Changed c.in-Leaf.old) (page_table inside.depth h.base h.limit inside.root h.memory)) (sym c.write.ensures.written)
+    (subst (λ (h : Held). IsStep (page_table inside.depth inside.tables.base inside.tables.limit inside.root inside.tables.memory) (Protect c.args.base c.args.rights) (answers.Changed c.in-Leaf.old) (page_table inside.depth h.base h.limit inside.root h.memory)) (sym written)
     (protect_step inside.depth inside.tables.memory inside.root c.self.invariant.0 c.args.base canonical c.descend-place.result.level c.descend-place.result.way c.in-Leaf.phys c.in-Leaf.old place c.write.ensures.whole c.requires.aligned c.args.rights c.word.result c.index_at.result c.bytes.result (rw c.word.ensures leads) (c.word.ensures ∙ c.leaf-leaf.ensures.written ∙ ap (λ z. leaf_word z c.in-Leaf.phys c.args.rights) c.at_level-size.ensures) c.index_at.ensures.is c.index_at.ensures.low (c.bytes.ensures ∙ ap bytes_of c.at_level-size.ensures) c.if-offset-ne0.false inside.tables.base inside.tables.limit))

@@ -32,3 +32,9 @@ returns-in_default-clause-written g c =
 pub read_written-requires-clause-written : goal.read_written-requires-clause-written
 read_written-requires-clause-written g c =
     written_on_way _ _ c.args.root _ c.args.lowest _ _ _ c.requires.tree c.requires.all_reached c.loop-level.invariant _ _ c.word-word.ensures
+
+pub returns-then-level-lowest-clause-last : goal.returns-then-level-lowest-clause-last
+returns-then-level-lowest-clause-last g c = c.loop-level.invariant.last
+
+pub returns-in_default-clause-last : goal.returns-in_default-clause-last
+returns-in_default-clause-last g c = c.loop-level.invariant.last

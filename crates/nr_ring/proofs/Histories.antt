@@ -1,0 +1,90 @@
+-- What events change.
+use Rattle.std.proofs.Common.{◌≡◌, ℕ, zero, suc, ◌+◌, ◌<◌, ◌≤◌, List, [], ◌∷◌, ◌++◌, All, length, get_or, set, replicate, ◌⊎◌, inl, inr, ⊎_elim, refl, ap, sym, ◌∙◌, le_refl, le_trans, arith}
+use Rattle.std.proofs.Math.ListN.{length-append, length-set}
+use Rattle.std.proofs.lemmas.List.{append-nil, append_assoc, get_or-set_same}
+use Rattle.vs_types.specs.LogEntry.{IsLogEntry}
+use Rattle.vs_types.specs.declared.depth.Depth.{Depth}
+use Rattle.vs_types.specs.declared.log_entry.LogEntry.{LogEntry}
+use Rattle.nr_ring.specs.History.{Log, new_log, tail, local_of, completed, MayAppend, MayFollow, MayGoOn, IsHistory, IsEnded, IsFull, after, after_all, log_after}
+use Rattle.nr_ring.specs.Laws.{HasGoneOn, HasSameTails, FitsTheRing}
+use Rattle.nr_ring.specs.declared.event.Event.{Event}
+use Rattle.nr_ring.specs.declared.event.Event.TheVariants.{Append, Advance}
+use Rattle.nr_ring.proofs.Tails.{below_greatest, greatest_least, raised, still_below, le_or_lt, all_or_one}
+
+gone_on : (p q : Log) → (rest : List LogEntry) × (q.entries ≡ p.entries ++ rest) → length q.locals ≡ length p.locals → ((replica : ℕ) → local_of p replica ≤ local_of q replica) → HasGoneOn p q
+gone_on p q more same higher = record {
+  entries = more;
+  replicas = same;
+  locals = higher;
+  completed = greatest_least p.locals (completed q) (λ i. le_trans (higher i) (below_greatest q.locals i));
+}
+
+stands : (p : Log) → HasGoneOn p p
+stands p = gone_on p p ([], sym (append-nil p.entries)) refl (λ r. le_refl _)
+
+goes_on : (p q r : Log) → HasGoneOn p q → HasGoneOn q r → HasGoneOn p r
+goes_on p q r a b =
+    gone_on p r
+    (a.entries.0 ++ b.entries.0, b.entries.1 ∙ ap (λ (l : List LogEntry). l ++ b.entries.0) a.entries.1 ∙ append_assoc p.entries a.entries.0 b.entries.0)
+    (b.replicas ∙ a.replicas)
+    (λ i. le_trans (a.locals i) (b.locals i))
+
+one_event : (depth : Depth) (log : Log) (event : Event) → MayFollow depth log event → HasGoneOn log (after log event)
+one_event depth log (Append batch) may = gone_on log (after log (Append batch)) (batch, refl) refl (λ r. le_refl _)
+one_event depth log (Advance replica to) may =
+    gone_on log (after log (Advance replica to)) ([], sym (append-nil log.entries)) (length-set log.locals replica to) (λ r. raised log.locals replica to r (omega (arith, may.some)))
+
+pub events_go_on : (depth : Depth) (log : Log) (events : List Event) → MayGoOn depth log events → HasGoneOn log (after_all log events)
+events_go_on depth log [] may = stands log
+events_go_on depth log (event ∷ events) may =
+    goes_on log (after log event) (after_all (after log event) events) (one_event depth log event may.0) (events_go_on depth (after log event) events may.1)
+
+tail_rises : (p q : Log) → HasGoneOn p q → tail p ≤ tail q
+tail_rises p q on = omega (arith, length-append p.entries on.entries.0, ap (λ (l : List LogEntry). length l) on.entries.1)
+
+pub no_event : (depth : Depth) (log : Log) (events : List Event) → MayGoOn depth log events → HasSameTails (after_all log events) log → events ≡ []
+no_event depth log [] may same = refl
+no_event depth log (Append batch ∷ events) may same =
+    let later = tail_rises (after log (Append batch)) (after_all (after log (Append batch)) events) (events_go_on depth (after log (Append batch)) events may.1) in
+    absurd (omega (arith, later, same.tail, may.0.some, length-append log.entries batch))
+no_event depth log (Advance replica to ∷ events) may same =
+    let later = (events_go_on depth (after log (Advance replica to)) events may.1).locals replica in
+    let there = get_or-set_same log.locals replica to 0 may.0.there in
+    absurd (omega (arith, later, there, same.locals replica, may.0.some))
+
+fits_new : (replicas : ℕ) → FitsTheRing (new_log replicas)
+fits_new replicas = record { written = zeros replicas; kept_up = λ r lt. omega arith; ends = omega arith } where
+  zeros : (n r : ℕ) → get_or (replicate n 0) r 0 ≤ 0
+  zeros zero r = le_refl 0
+  zeros (suc n) zero = le_refl 0
+  zeros (suc n) (suc r) = zeros n r
+
+fits_after : (depth : Depth) (log : Log) (event : Event) → MayFollow depth log event → FitsTheRing log → FitsTheRing (after log event)
+fits_after depth log (Append batch) may is = record {
+  written = λ r. omega (arith, is.written r, length-append log.entries batch);
+  kept_up = λ r lt. omega (arith, may.kept_up r lt, length-append log.entries batch);
+  ends = omega (arith, may.room, length-append log.entries batch);
+}
+fits_after depth log (Advance replica to) may is = record {
+  written = λ r. still_below log.locals replica to r (tail log) may.written is.written;
+  kept_up = λ r lt.
+      let before = is.kept_up r (omega (arith, lt, length-set log.locals replica to)) in
+      let higher = raised log.locals replica to r (omega (arith, may.some)) in
+      omega (arith, before, higher);
+  ends = is.ends;
+}
+
+fits_all : (depth : Depth) (log : Log) (events : List Event) → MayGoOn depth log events → FitsTheRing log → FitsTheRing (after_all log events)
+fits_all depth log [] may is = is
+fits_all depth log (event ∷ events) may is = fits_all depth (after log event) events may.1 (fits_after depth log event may.0 is)
+
+pub history_fits : (depth : Depth) (replicas : ℕ) (events : List Event) → IsHistory depth replicas events → FitsTheRing (log_after replicas events)
+history_fits depth replicas events is = fits_all depth (new_log replicas) events is (fits_new replicas)
+
+pub refused : (depth : Depth) (log : Log) (batch : List LogEntry) → 1 ≤ length batch → length batch ≤ 16 → All (IsLogEntry depth) batch
+    → MayAppend depth log batch ⊎ (IsEnded log (length batch) ⊎ IsFull log (length batch))
+refused depth log batch some few fit =
+    ⊎_elim
+    (λ room. ⊎_elim (λ up. inl (record { some = some; few = few; entries = fit; room = room; kept_up = up })) (λ behind. inr (inr behind)) (all_or_one (tail log + length batch) log.locals))
+    (λ ended. inr (inl ended))
+    (le_or_lt (tail log + length batch) 65536)

@@ -1,0 +1,3 @@
+pub mod Tails
+pub mod Histories
+pub mod Rounds

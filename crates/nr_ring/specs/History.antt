@@ -1,0 +1,87 @@
+-- The log as one thread keeps it (Node Replication, ASPLOS 2017): what may happen to it, and what it is after that.
+use Rattle.std.specs.Prelude.{◌≡◌, ℕ, ◌+◌, ◌<◌, ◌≤◌, max, List, [], ◌∷◌, ◌++◌, All, length, replicate, slice_index, slice_set, ⊤}
+use Rattle.vs_types.specs.LogEntry.{IsLogEntry}
+use Rattle.vs_types.specs.declared.depth.Depth.{Depth}
+use Rattle.vs_types.specs.declared.log_entry.LogEntry.{LogEntry}
+use Rattle.nr_ring.specs.declared.event.Event.{Event}
+use Rattle.nr_ring.specs.declared.event.Event.TheVariants.{Append, Advance}
+
+-- all entries since the start, and how many of them each replica has taken: its local tail
+pub record Log : Type 0 where
+  pub entries : List LogEntry
+  pub locals : List ℕ
+
+-- the new log of so many replicas
+abbrev pub new_log : ℕ → Log
+new_log replicas = record { entries = []; locals = replicate replicas 0 }
+
+-- the place at which the next entry will stand
+abbrev pub tail : Log → ℕ
+tail log = length log.entries
+
+abbrev pub local_of : Log → ℕ → ℕ
+local_of log replica = slice_index log.locals replica
+
+abbrev pub greatest : List ℕ → ℕ
+greatest [] = 0
+greatest (x ∷ xs) = max x (greatest xs)
+
+-- the greatest local tail
+abbrev pub completed : Log → ℕ
+completed log = greatest log.locals
+
+-- the log ends at 65,536 entries
+abbrev pub HasRoom : Log → ℕ → Type 0
+HasRoom log n = tail log + n ≤ 65536
+
+-- no replica has more than 16 entries to take
+abbrev pub AllKeepUp : Log → ℕ → Type 0
+AllKeepUp log n = (replica : ℕ) → replica < length log.locals → tail log + n ≤ local_of log replica + 16
+
+-- a batch may be appended: 1 to 16 entries at the log's depth
+pub record MayAppend (depth : Depth) (log : Log) (batch : List LogEntry) : Type 0 where
+  pub some : 1 ≤ length batch
+  pub few : length batch ≤ 16
+  pub entries : All (IsLogEntry depth) batch
+  pub room : HasRoom log (length batch)
+  pub kept_up : AllKeepUp log (length batch)
+
+-- a replica may take the entries up to a place: at least one, and none that is not there
+pub record MayAdvance (log : Log) (replica to : ℕ) : Type 0 where
+  pub there : replica < length log.locals
+  pub some : local_of log replica < to
+  pub written : to ≤ tail log
+
+abbrev pub MayFollow : Depth → Log → Event → Type 0
+MayFollow depth log (Append batch) = MayAppend depth log batch
+MayFollow depth log (Advance replica to) = MayAdvance log replica to
+
+-- the log after an event
+abbrev pub after : Log → Event → Log
+after log (Append batch) = record { entries = log.entries ++ batch; locals = log.locals }
+after log (Advance replica to) = record { entries = log.entries; locals = slice_set log.locals replica to }
+
+-- the log after events
+abbrev pub after_all : Log → List Event → Log
+after_all log [] = log
+after_all log (event ∷ events) = after_all (after log event) events
+
+-- each event may follow those before it
+abbrev pub MayGoOn : Depth → Log → List Event → Type 0
+MayGoOn depth log [] = ⊤
+MayGoOn depth log (event ∷ events) = MayFollow depth log event × MayGoOn depth (after log event) events
+
+-- a history of the log of so many replicas, and the log after it
+abbrev pub IsHistory : Depth → ℕ → List Event → Type 0
+IsHistory depth replicas events = MayGoOn depth (new_log replicas) events
+
+abbrev pub log_after : ℕ → List Event → Log
+log_after replicas events = after_all (new_log replicas) events
+
+-- why a batch of so many entries is refused: the log would go past its end, or some replica has still to take an entry whose
+-- place in the ring the batch needs
+abbrev pub IsEnded : Log → ℕ → Type 0
+IsEnded log n = 65536 < tail log + n
+
+abbrev pub IsFull : Log → ℕ → Type 0
+IsFull log n = (replica : ℕ) × (replica < length log.locals) × (local_of log replica + 16 < tail log + n)

@@ -1,0 +1,22 @@
+-- What the laws of `src/laws.rt` say of two logs.
+use Rattle.std.specs.Prelude.{◌≡◌, ℕ, ◌≤◌, ◌<◌, ◌+◌, List, ◌++◌, length}
+use Rattle.vs_types.specs.declared.log_entry.LogEntry.{LogEntry}
+use Rattle.nr_ring.specs.History.{Log, tail, local_of, completed}
+
+-- the later log begins with the entries of the earlier one, and no tail has fallen
+pub record HasGoneOn (earlier later : Log) : Type 0 where
+  pub entries : (rest : List LogEntry) × (later.entries ≡ earlier.entries ++ rest)
+  pub replicas : length later.locals ≡ length earlier.locals
+  pub locals : (replica : ℕ) → local_of earlier replica ≤ local_of later replica
+  pub completed : completed earlier ≤ completed later
+
+-- the two logs have the same tail and the same local tails
+pub record HasSameTails (p q : Log) : Type 0 where
+  pub tail : tail p ≡ tail q
+  pub locals : (replica : ℕ) → local_of p replica ≡ local_of q replica
+
+-- no replica has taken an entry that is not there, or is more than 16 entries behind
+pub record FitsTheRing (log : Log) : Type 0 where
+  pub written : (replica : ℕ) → local_of log replica ≤ tail log
+  pub kept_up : (replica : ℕ) → replica < length log.locals → tail log ≤ local_of log replica + 16
+  pub ends : tail log ≤ 65536

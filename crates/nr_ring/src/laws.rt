@@ -1,0 +1,36 @@
+//! Laws of the definitions in `specs/`. Each function does nothing: its clauses say what holds of every history.
+ghost use Rattle.std.specs.Prelude.{◌≡◌, ℕ, ◌<◌, ◌≤◌, ◌⊎◌, List, [], All, length};
+ghost use Rattle.vs_types.specs.LogEntry.{IsLogEntry};
+ghost use Rattle.vs_types.specs.declared.depth.Depth.{Depth};
+ghost use Rattle.vs_types.specs.declared.log_entry.LogEntry.{LogEntry};
+ghost use Rattle.nr_ring.specs.History.{Log, MayGoOn, MayAppend, IsHistory, IsEnded, IsFull, after_all, log_after, local_of, completed};
+ghost use Rattle.nr_ring.specs.Laws.{HasGoneOn, HasSameTails, FitsTheRing};
+ghost use Rattle.nr_ring.specs.declared.event.Event.{Event};
+
+/// Events only add entries at the end, and no tail falls.
+pub fn tails_never_fall()
+    ensures { (depth : Depth) (log : Log) (events : List Event) → MayGoOn depth log events → HasGoneOn log (after_all log events) }
+{}
+
+/// Each event raises a tail, so that where the tails are as before nothing has happened.
+pub fn equal_tails_mean_no_event()
+    ensures { (depth : Depth) (log : Log) (events : List Event) → MayGoOn depth log events → HasSameTails (after_all log events) log → events ≡ [] }
+{}
+
+/// The entries that a replica has still to take are the last 16 at most.
+pub fn needed_entries_fit_the_ring()
+    ensures { (depth : Depth) (replicas : ℕ) (events : List Event) → IsHistory depth replicas events → FitsTheRing (log_after replicas events) }
+{}
+
+/// The completed tail is the local tail of some replica, and no local tail is greater.
+pub fn completed_is_a_local_tail()
+    ensures reached { (log : Log) → 0 < length log.locals → (replica : ℕ) × (replica < length log.locals) × (local_of log replica ≡ completed log) }
+    ensures greatest { (log : Log) (replica : ℕ) → local_of log replica ≤ completed log }
+{}
+
+/// A batch of 1 to 16 entries at the log's depth may be appended, unless the log would end or is full.
+pub fn refused_for_a_reason()
+    ensures one { (depth : Depth) (log : Log) (batch : List LogEntry) → 1 ≤ length batch → length batch ≤ 16 → All (IsLogEntry depth) batch → MayAppend depth log batch ⊎ (IsEnded log (length batch) ⊎ IsFull log (length batch)) }
+    ensures ended { (depth : Depth) (log : Log) (batch : List LogEntry) → MayAppend depth log batch → IsEnded log (length batch) → ⊥ }
+    ensures full { (depth : Depth) (log : Log) (batch : List LogEntry) → MayAppend depth log batch → IsFull log (length batch) → ⊥ }
+{}

@@ -1,0 +1,15 @@
+//! The shared log: what one thread may do to a log and what the log is then, with laws and worked examples.
+//!
+//! Places and tails count entries from 0. A replica's local tail is the number of entries that it has taken; the completed
+//! tail is the greatest local tail.
+#![tactic(auto)]
+
+mod event;
+pub mod examples;
+mod laws;
+
+pub use event::Event;
+pub use laws::{
+    completed_is_a_local_tail, equal_tails_mean_no_event, needed_entries_fit_the_ring,
+    refused_for_a_reason, tails_never_fall,
+};
