@@ -114,10 +114,11 @@ impl<S: FrameStore> Space<S> {
         ensures { (space : spaces.Space) → IsTableOf self.now space → result ≡ look space address }
     {
         let place = self.tables.descend(self.depth, self.root, address, 1);
-        let Meaning::Leaf(phys, rights) = read_written(place.level, place.word) else {
+        let level = place.level as u8;
+        let Meaning::Leaf(phys, rights) = read_written(level, place.word) else {
             return Answer::NotMapped;
         };
-        let size = Size::at_level(place.level);
+        let size = Size::at_level(level);
         Answer::Mapped(phys + address % size.bytes(), size, rights)
     }
 
@@ -142,7 +143,8 @@ impl<S: FrameStore> Space<S> {
         let place = self
             .tables
             .descend(self.depth, self.root, page.base, lowest);
-        match read_written(place.level, place.word) {
+        let level = place.level as u8;
+        match read_written(level, place.word) {
             Meaning::Absent => {}
             Meaning::Table(table, _) => {
                 let base = self
@@ -151,13 +153,13 @@ impl<S: FrameStore> Space<S> {
                 return Answer::Overlap(base);
             }
             Meaning::Leaf(_, _) => {
-                let bytes = Size::at_level(place.level).bytes();
+                let bytes = Size::at_level(level).bytes();
                 return Answer::Overlap(page.base - page.base % bytes);
             }
             Meaning::Reserved => unreachable!(),
         }
         let limit = self.tables.limit();
-        let need = self.tables.used() + usize::from(place.level - lowest);
+        let need = self.tables.used() + usize::from(level - lowest);
         if need > limit {
             return Answer::Full(need as u64);
         }
@@ -166,7 +168,7 @@ impl<S: FrameStore> Space<S> {
             self.root,
             page.base,
             place.number,
-            place.level,
+            level,
             lowest,
         );
         let leaf = Entry::leaf(page.size, page.phys, page.rights);
@@ -180,17 +182,18 @@ impl<S: FrameStore> Space<S> {
         ensures { IsStep self.old (Action.Unmap base) result self.new }
     {
         let place = self.tables.descend(self.depth, self.root, base, 1);
-        let Meaning::Leaf(phys, rights) = read_written(place.level, place.word) else {
+        let level = place.level as u8;
+        let Meaning::Leaf(phys, rights) = read_written(level, place.word) else {
             return Answer::NotMapped;
         };
-        let size = Size::at_level(place.level);
+        let size = Size::at_level(level);
         let offset = base % size.bytes();
         if offset != 0 {
             return Answer::Inside(base - offset);
         }
-        let number = place.way[place.level as usize];
-        self.tables.write(number, index_at(place.level, base), 0);
-        let _stop = self.tables.prune(self.depth, base, &place.way, place.level);
+        let number = place.way[place.level];
+        self.tables.write(number, index_at(level, base), 0);
+        let _stop = self.tables.prune(self.depth, base, &place.way, level);
         Answer::Removed(phys, size, rights)
     }
 
@@ -199,17 +202,18 @@ impl<S: FrameStore> Space<S> {
         ensures { IsStep self.old (Action.Protect base rights) result self.new }
     {
         let place = self.tables.descend(self.depth, self.root, base, 1);
-        let Meaning::Leaf(phys, old) = read_written(place.level, place.word) else {
+        let level = place.level as u8;
+        let Meaning::Leaf(phys, old) = read_written(level, place.word) else {
             return Answer::NotMapped;
         };
-        let size = Size::at_level(place.level);
+        let size = Size::at_level(level);
         let offset = base % size.bytes();
         if offset != 0 {
             return Answer::Inside(base - offset);
         }
         let leaf = Entry::leaf(size, phys, rights);
         self.tables
-            .write(place.number, index_at(place.level, base), leaf.word());
+            .write(place.number, index_at(level, base), leaf.word());
         Answer::Changed(old)
     }
 }

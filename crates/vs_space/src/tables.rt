@@ -149,7 +149,7 @@ impl<S: FrameStore> Tables<S> {
             if level == lowest {
                 return Place {
                     way,
-                    level,
+                    level: level as usize,
                     number,
                     word,
                 };
@@ -157,7 +157,7 @@ impl<S: FrameStore> Tables<S> {
             let Meaning::Table(next, _) = read_written(level, word) else {
                 return Place {
                     way,
-                    level,
+                    level: level as usize,
                     number,
                     word,
                 };
