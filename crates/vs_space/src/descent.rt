@@ -1,11 +1,11 @@
-/// How many tables there can be on the way of an address, one for each level; the place 0 is of none.
-pub(crate) const WAY: usize = 6;
+/// The length of a path: an index for each level that there can be, of which 0 is of none.
+pub(crate) const PATH_LENGTH: usize = 6;
 
 /// Where a descent through the tables ends.
 #[derive(Clone, Copy)]
-pub(crate) struct Place {
-    /// The frame numbers of the tables on the way, by level.
-    pub(crate) way: [u64; WAY],
+pub(crate) struct Descent {
+    /// The frame numbers of the tables on the path, by level.
+    pub(crate) path: [u64; PATH_LENGTH],
     /// The level of the last of them. As wide as the other fields, so that no gap between them is copied.
     pub(crate) level: usize,
     /// The frame number of the last of them.
