@@ -1,4 +1,4 @@
--- Tables are linked on the way of an address, one by one.
+-- Tables are linked on the path of an address, one by one.
 use Rattle.std.proofs.Common.{◌≡◌, ℕ, suc, ◌+◌, ◌-◌, ◌<◌, ◌≤◌, Some, None, ⊎_elim, refl, sym, ap, subst, ◌∙◌, arith}
 use Rattle.std.specs.Prelude.{IsSome}
 use Rattle.std.specs.FinMap as finite
@@ -12,7 +12,7 @@ use Rattle.vs_walk.specs.Memory.{Memory}
 use Rattle.vs_walk.specs.Walk.{all_rights, walk}
 use Rattle.vs_space.specs.Held.{with_word}
 use Rattle.vs_walk.specs.Ways.{AreWhole}
-use Rattle.vs_space.specs.Way.{found_at, table_in, table_at, SameWay}
+use Rattle.vs_space.specs.Path.{found_at, table_in, table_at, SamePath}
 use Rattle.vs_space.specs.Tree.{IsTree}
 use Rattle.vs_space.specs.Grow.{IsOpen, IsExtended}
 use Rattle.vs_space.proofs.Numbered.{get-insert_same, len-insert_free}
@@ -56,8 +56,8 @@ module _ (depth : Depth) (m : Memory) (root base level number : ℕ) (here : IsO
   clear : finite.get (finite.insert m f zeros) f ≡ Some zeros
   clear = get-insert_same m f zeros
 
-  whole_way : suc (levels depth - level) + suc (level - 2) ≡ levels depth
-  whole_way = omega (arith, here.below)
+  whole_path : suc (levels depth - level) + suc (level - 2) ≡ levels depth
+  whole_path = omega (arith, here.below)
 
   abbrev after : ℕ → Memory
   after i = with_word (finite.insert m f zeros) number i w
@@ -66,21 +66,21 @@ module _ (depth : Depth) (m : Memory) (root base level number : ℕ) (here : IsO
   new = with_word (finite.insert m f zeros) number (index_at (levels depth - (levels depth - level)) base) w
 
   tree_new : IsTree (levels depth) (with_word (finite.insert m f zeros) number (index_at (levels depth - (levels depth - level)) base) w) root
-  tree_new = tree_link (levels depth) root (finite.insert m f zeros) tree_taken whole (levels depth - level) base number at_taken w f low_here leads_here clear (new_unreached (levels depth) root m here.tree f free) absent_taken (level - 2) whole_way
+  tree_new = tree_link (levels depth) root (finite.insert m f zeros) tree_taken whole (levels depth - level) base number at_taken w f low_here leads_here clear (new_unreached (levels depth) root m here.tree f free) absent_taken (level - 2) whole_path
 
   walks_new : (b : ℕ) → walk depth (with_word (finite.insert m f zeros) number (index_at (levels depth - (levels depth - level)) base) w) root b ≡ walk depth m root b
   walks_new b =
-      walk_link (levels depth) root (finite.insert m f zeros) tree_taken whole (levels depth - level) base number at_taken w f low_here leads_here clear (new_unreached (levels depth) root m here.tree f free) absent_taken (level - 2) whole_way b
+      walk_link (levels depth) root (finite.insert m f zeros) tree_taken whole (levels depth - level) base number at_taken w f low_here leads_here clear (new_unreached (levels depth) root m here.tree f free) absent_taken (level - 2) whole_path b
       ∙ walk_take (levels depth) root m here.tree f free b
 
-  was_there : (j b q : ℕ) → table_at (levels depth) (with_word (finite.insert m f zeros) number (index_at (levels depth - (levels depth - level)) base) w) root (suc j) b ≡ Some q → (SameWay (levels depth) (suc j) base b → ⊥) → table_at (levels depth) m root (suc j) b ≡ Some q
+  was_there : (j b q : ℕ) → table_at (levels depth) (with_word (finite.insert m f zeros) number (index_at (levels depth - (levels depth - level)) base) w) root (suc j) b ≡ Some q → (SamePath (levels depth) (suc j) base b → ⊥) → table_at (levels depth) m root (suc j) b ≡ Some q
   was_there j b q r off = ⊎_elim
       (λ old. sym (table_take (levels depth) root m here.tree f free (suc j) b) ∙ old)
-      (λ fresh. absurd (off (subst (λ i. SameWay (levels depth) i base b) (sym fresh.0) fresh.1)))
-      (old_or_new (levels depth) root (finite.insert m f zeros) tree_taken whole (levels depth - level) base number at_taken w f low_here leads_here clear (new_unreached (levels depth) root m here.tree f free) absent_taken (level - 2) whole_way (suc j) b q r)
+      (λ fresh. absurd (off (subst (λ i. SamePath (levels depth) i base b) (sym fresh.0) fresh.1)))
+      (old_or_new (levels depth) root (finite.insert m f zeros) tree_taken whole (levels depth - level) base number at_taken w f low_here leads_here clear (new_unreached (levels depth) root m here.tree f free) absent_taken (level - 2) whole_path (suc j) b q r)
 
   linked_new : table_at (levels depth) (with_word (finite.insert m f zeros) number (index_at (levels depth - (levels depth - level)) base) w) root (suc (levels depth - level)) base ≡ Some f
-  linked_new = linked (levels depth) root (finite.insert m f zeros) tree_taken whole (levels depth - level) base number at_taken w f low_here leads_here clear (new_unreached (levels depth) root m here.tree f free) absent_taken (level - 2) whole_way base (λ i lt. refl)
+  linked_new = linked (levels depth) root (finite.insert m f zeros) tree_taken whole (levels depth - level) base number at_taken w f low_here leads_here clear (new_unreached (levels depth) root m here.tree f free) absent_taken (level - 2) whole_path base (λ i lt. refl)
 
   open_new : IsOpen depth (with_word (finite.insert m f zeros) number (index_at (levels depth - (levels depth - level)) base) w) root base (level - 1) f
   open_new = record {
@@ -90,7 +90,7 @@ module _ (depth : Depth) (m : Memory) (root base level number : ℕ) (here : IsO
     below = omega (arith, here.below);
     reached = subst (λ k. table_at (levels depth) (with_word (finite.insert m f zeros) number (index_at (levels depth - (levels depth - level)) base) w) root k base ≡ Some f) steps linked_new;
     absent = found_in_zeros (level - 1) (with_word (finite.insert m f zeros) number (index_at (levels depth - (levels depth - level)) base) w) f base
-        (still_clear (levels depth) root (finite.insert m f zeros) tree_taken whole (levels depth - level) base number at_taken w f low_here leads_here clear (new_unreached (levels depth) root m here.tree f free) absent_taken (level - 2) whole_way);
+        (still_clear (levels depth) root (finite.insert m f zeros) tree_taken whole (levels depth - level) base number at_taken w f low_here leads_here clear (new_unreached (levels depth) root m here.tree f free) absent_taken (level - 2) whole_path);
   }
 
   one_more : finite.len (with_word (finite.insert m f zeros) number (index_at (levels depth - (levels depth - level)) base) w) ≡ finite.len m + 1

@@ -1,5 +1,5 @@
 pub mod Numbered
-pub mod Ways
+pub mod Paths
 pub mod Writes
 pub mod Trees
 pub mod Links
@@ -7,7 +7,7 @@ pub mod Written
 pub mod Zeros
 pub mod Reached
 pub mod Regions
-pub mod Places
+pub mod Descents
 pub mod Protects
 pub mod Meets
 pub mod Prunes

@@ -14,11 +14,11 @@ use Rattle.vs_walk.specs.Walk.{all_rights, walk_from}
 use Rattle.vs_walk.specs.declared.walk.Walk.TheVariants.{NotMapped}
 use Rattle.vs_space.specs.Held.{word_at, with_word}
 use Rattle.vs_walk.specs.Ways.{AreWhole}
-use Rattle.vs_space.specs.Way.{found_at, table_in, table_at, SameWay}
+use Rattle.vs_space.specs.Path.{found_at, table_in, table_at, SamePath}
 use Rattle.vs_space.specs.Tree.{IsTree}
 use Rattle.vs_space.proofs.Numbered.{get-insert_other, get-remove_other}
-use Rattle.vs_space.proofs.Ways.{table_next, none_past, same_table, walk_ends, found_same}
-use Rattle.vs_space.proofs.Writes.{off_way, above, table_off_way, table_above, walk_off_way, table_here, found_on_way, same_or_not, found_alike, written_in_use, used_some, get_written_other}
+use Rattle.vs_space.proofs.Paths.{table_next, none_past, same_table, walk_ends, found_same}
+use Rattle.vs_space.proofs.Writes.{off_path, above, table_off_path, table_above, walk_off_path, table_here, found_on_path, same_or_not, found_alike, written_in_use, used_some, get_written_other}
 use Rattle.vs_space.proofs.Trees.{one_some, one_meaning, unreached_table, unreached_walk, unreached_tree, none_here, fewer, tree_write}
 
 -- the word 0 is absent at each level
@@ -35,7 +35,7 @@ found_in_zeros level m f b got =
     ap (λ (o : Option (List ℕ)). option_map (meaning level) (option_map (λ words. slice_index words (index_at level b)) o)) got
     ∙ ap (λ x. Some (meaning level x)) (zeros_are (index_at level b)) ∙ ap Some (zero_absent level)
 
--- ---- a frame that no way reaches, all zero, is linked at an absent entry
+-- ---- a frame that no path reaches, all zero, is linked at an absent entry
 
 module _ (top : ℕ) (root : ℕ) (m : Memory) (tree : IsTree top m root) (whole : AreWhole m) (k a n : ℕ) (at : table_at top m root k a ≡ Some n) (w f : ℕ) (low : index_at (top - k) a < 512)
     (leads : meaning (top - k) w ≡ entry.Table f all_rights) (clear : finite.get m f ≡ Some zeros) (unreached : (j b : ℕ) → table_at top m root j b ≢ Some f) (absent : found_at (top - k) m n a ≡ Some entry.Absent) (left : ℕ) (deep : suc k + suc left ≡ top) where
@@ -48,32 +48,32 @@ module _ (top : ℕ) (root : ℕ) (m : Memory) (tree : IsTree top m root) (whole
   pub still_clear : finite.get new f ≡ Some zeros
   still_clear = get_written_other m n (index_at (top - k) a) w f apart_frames ∙ clear
 
-  pub linked : (b : ℕ) → SameWay top (suc k) a b → table_at top new root (suc k) b ≡ Some f
+  pub linked : (b : ℕ) → SamePath top (suc k) a b → table_at top new root (suc k) b ≡ Some f
   linked b same =
       table_next top root new k b n (table_here top root m tree whole k a n at w b same)
-      ∙ ap table_in (found_on_way top root m tree whole k a n at w b low same ∙ ap Some leads)
+      ∙ ap table_in (found_on_path top root m tree whole k a n at w b low same ∙ ap Some leads)
 
-  pub ends_below : (b : ℕ) → SameWay top (suc k) a b → table_at top new root (suc (suc k)) b ≡ None
+  pub ends_below : (b : ℕ) → SamePath top (suc k) a b → table_at top new root (suc (suc k)) b ≡ None
   ends_below b same = table_next top root new (suc k) b f (linked b same) ∙ ap table_in (found_in_zeros (top - suc k) new f b still_clear)
 
   -- each table was there, or is the new one
-  pub old_or_new : (j b q : ℕ) → table_at top new root j b ≡ Some q → (table_at top m root j b ≡ Some q) ⊎ ((j ≡ suc k) × SameWay top (suc k) a b × (q ≡ f))
+  pub old_or_new : (j b q : ℕ) → table_at top new root j b ≡ Some q → (table_at top m root j b ≡ Some q) ⊎ ((j ≡ suc k) × SamePath top (suc k) a b × (q ≡ f))
   old_or_new j b q r = ⊎_elim
       (λ same. ⊎_elim
       (λ (past : k < j). ⊎_elim
       (λ (here : j ≡ suc k). inr (here, same, one_some q f (sym r ∙ ap (λ i. table_at top new root i b) here ∙ linked b same)))
       (λ (other : j ≢ suc k).
       let gone = none_past top root new (suc (suc k)) (j - suc (suc k)) b (ends_below b same) in
-      let way : (j - suc (suc k)) + suc (suc k) ≡ j = omega arith in
-      let nowhere : table_at top new root j b ≡ None = subst (λ i. table_at top new root i b ≡ None) way gone in
+      let path : (j - suc (suc k)) + suc (suc k) ≡ j = omega arith in
+      let nowhere : table_at top new root j b ≡ None = subst (λ i. table_at top new root i b ≡ None) path gone in
       absurd (cc))
       (cases_eq j (suc k)))
       (λ (le : j ≤ k). inl (sym (table_above top root m tree whole k a n at w b j le) ∙ r))
       (cases_lt k j))
-      (λ apart. inl (sym (table_off_way top root m tree whole k a n at w b j apart) ∙ r))
+      (λ apart. inl (sym (table_off_path top root m tree whole k a n at w b j apart) ∙ r))
       (same_or_not top (suc k) a b)
 
-  once_new : (j l b c q : ℕ) → table_at top new root j b ≡ Some q → table_at top new root l c ≡ Some q → (j ≡ l) × SameWay top j b c
+  once_new : (j l b c q : ℕ) → table_at top new root j b ≡ Some q → table_at top new root l c ≡ Some q → (j ≡ l) × SamePath top j b c
   once_new j l b c q r s = ⊎_elim
       (λ r_old. ⊎_elim
       (λ s_old. tree.once j l b c q r_old s_old)
@@ -92,11 +92,11 @@ module _ (top : ℕ) (root : ℕ) (m : Memory) (tree : IsTree top m root) (whole
       let there = table_here top root m tree whole k a n at w b same in
       let q_is : q ≡ n = one_some q n (sym r ∙ ap (λ i. table_at top new root i b) here ∙ there) in
       let found : found_at (top - k) new n b ≡ Some (entry.Table next own) = subst (λ i. found_at (top - i) new n b ≡ Some (entry.Table next own)) here (subst (λ x. found_at (top - j) new x b ≡ Some (entry.Table next own)) q_is g) in
-      let one : entry.Table next own ≡ entry.Table f all_rights = one_meaning _ _ (sym found ∙ found_on_way top root m tree whole k a n at w b low same ∙ ap Some leads) in
+      let one : entry.Table next own ≡ entry.Table f all_rights = one_meaning _ _ (sym found ∙ found_on_path top root m tree whole k a n at w b low same ∙ ap Some leads) in
       cc)
       (λ (other : j ≢ k). tree.allows j b q next own old (sym (above top root m tree whole k a n at w b j q other old) ∙ g))
       (cases_eq j k))
-      (λ apart. tree.allows j b q next own old (sym (off_way top root m tree whole k a n at w b apart j q old) ∙ g))
+      (λ apart. tree.allows j b q next own old (sym (off_path top root m tree whole k a n at w b apart j q old) ∙ g))
       (same_or_not top (suc k) a b)
 
   pub tree_link : IsTree top new root
@@ -121,7 +121,7 @@ module _ (top : ℕ) (root : ℕ) (m : Memory) (tree : IsTree top m root) (whole
   level_below : top - suc k ≡ suc left
   level_below = omega arith
 
-  found_as : (b : ℕ) → SameWay top (suc k) a b → found_at (top - k) m n b ≡ Some entry.Absent
+  found_as : (b : ℕ) → SamePath top (suc k) a b → found_at (top - k) m n b ≡ Some entry.Absent
   found_as b same = sym (found_same top root (top - k) m n a b (same k (omega arith))) ∙ absent
 
   -- each address is walked as before
@@ -130,7 +130,7 @@ module _ (top : ℕ) (root : ℕ) (m : Memory) (tree : IsTree top m root) (whole
       (λ same.
       walk_ends top root new tree_link.allows b (suc k) left f entry.Absent deep (linked b same) (found_in_zeros (suc left) new f b still_clear)
       ∙ sym (walk_ends top root m tree.allows b k (suc left) n entry.Absent (omega arith) (sym (same_table top root m k a b (λ i lt. same i (omega arith))) ∙ at) (subst (λ l. found_at l m n b ≡ Some entry.Absent) level_here (found_as b same))))
-      (λ apart. walk_off_way top root m tree whole k a n at w b apart)
+      (λ apart. walk_off_path top root m tree whole k a n at w b apart)
       (same_or_not top (suc k) a b)
 
 -- ---- a frame that isn't in use is taken and cleared
@@ -179,7 +179,7 @@ module _ (top : ℕ) (root : ℕ) (m : Memory) (tree : IsTree top m root) (whole
   cut_unreached j b q r e =
       let was = fewer top root m tree whole k a n at 0 low ends j b q r in
       let both = tree.once j (suc k) b a f (was ∙ ap Some e) down in
-      let here : SameWay top (suc k) a b = λ i lt. sym (both.1 i (omega (arith, both.0))) in
+      let here : SamePath top (suc k) a b = λ i lt. sym (both.1 i (omega (arith, both.0))) in
       let none : table_at top cut root j b ≡ None = ap (λ i. table_at top cut root i b) both.0 ∙ none_here top root m tree whole k a n at 0 low ends b here in
       cc
 
@@ -195,18 +195,18 @@ module _ (top : ℕ) (root : ℕ) (m : Memory) (tree : IsTree top m root) (whole
   pub table_kept : (j b : ℕ) → j ≤ k → table_at top given root j b ≡ table_at top m root j b
   table_kept j b le = unreached_table top root cut given cut_alike j b ∙ table_above top root m tree whole k a n at 0 b j le
 
-  pub none_after : (b : ℕ) → SameWay top (suc k) a b → table_at top given root (suc k) b ≡ None
+  pub none_after : (b : ℕ) → SamePath top (suc k) a b → table_at top given root (suc k) b ≡ None
   none_after b same = unreached_table top root cut given cut_alike (suc k) b ∙ none_here top root m tree whole k a n at 0 low ends b same
 
-  pub walk_unlink_off : (b : ℕ) → (SameWay top (suc k) a b → ⊥) → walk_from given top root all_rights b ≡ walk_from m top root all_rights b
-  walk_unlink_off b apart = unreached_walk top root cut given cut_alike b ∙ walk_off_way top root m tree whole k a n at 0 b apart
+  pub walk_unlink_off : (b : ℕ) → (SamePath top (suc k) a b → ⊥) → walk_from given top root all_rights b ≡ walk_from m top root all_rights b
+  walk_unlink_off b apart = unreached_walk top root cut given cut_alike b ∙ walk_off_path top root m tree whole k a n at 0 b apart
 
-  pub found_unlinked : (b : ℕ) → SameWay top (suc k) a b → found_at (top - k) given n b ≡ Some entry.Absent
+  pub found_unlinked : (b : ℕ) → SamePath top (suc k) a b → found_at (top - k) given n b ≡ Some entry.Absent
   found_unlinked b same =
       found_alike (top - k) cut given n b (cut_alike k b n (table_here top root m tree whole k a n at 0 b same))
-      ∙ found_on_way top root m tree whole k a n at 0 b low same ∙ ap Some (zero_absent (top - k))
+      ∙ found_on_path top root m tree whole k a n at 0 b low same ∙ ap Some (zero_absent (top - k))
 
-  pub walk_unlink_on : (b left : ℕ) → k + suc left ≡ top → SameWay top (suc k) a b → walk_from given top root all_rights b ≡ NotMapped
+  pub walk_unlink_on : (b left : ℕ) → k + suc left ≡ top → SamePath top (suc k) a b → walk_from given top root all_rights b ≡ NotMapped
   walk_unlink_on b left deep same =
       let level : top - k ≡ suc left = omega arith in
       walk_ends top root given tree_unlink.allows b k left n entry.Absent deep (unreached_table top root cut given cut_alike k b ∙ table_here top root m tree whole k a n at 0 b same)

@@ -29,16 +29,16 @@ use Rattle.vs_walk.specs.declared.walk.Walk.TheVariants.{Mapped, Reserved}
 use Rattle.vs_walk.proofs.Translates.{not_reserved}
 use Rattle.vs_space.specs.Held.{with_word}
 use Rattle.vs_walk.specs.Ways.{AreWhole}
-use Rattle.vs_space.specs.Way.{found_at, table_at, table_in, SameWay}
+use Rattle.vs_space.specs.Path.{found_at, table_at, table_in, SamePath}
 use Rattle.vs_space.specs.Tree.{IsTree, IsFilled, NothingUnder}
 use Rattle.vs_space.specs.Grow.{IsOpen, IsExtended, IsLeastBase}
-use Rattle.vs_space.specs.Place.{IsPlace}
+use Rattle.vs_space.specs.Descent.{IsDescent}
 use Rattle.vs_space.specs.Table.{IsStep, IsSpaceOf, IsPageTable}
-use Rattle.vs_space.proofs.Ways.{table_next, walk_ends, words_found}
-use Rattle.vs_space.proofs.Writes.{table_here, found_on_way, walk_off_way, len_written}
+use Rattle.vs_space.proofs.Paths.{table_next, walk_ends, words_found}
+use Rattle.vs_space.proofs.Writes.{table_here, found_on_path, walk_off_path, len_written}
 use Rattle.vs_space.proofs.Trees.{tree_write, but_none, but_write, filled_by}
 use Rattle.vs_space.proofs.Reached.{reached_write, whole_written}
-use Rattle.vs_space.proofs.Regions.{leaf_page, nothing_at, translates_changed, covers_way, way_covers}
+use Rattle.vs_space.proofs.Regions.{leaf_page, nothing_at, translates_changed, covers_path, path_covers}
 use Rattle.vs_space.proofs.Protects.{IsMet, page_table, own_space, space_of, never_reserved, page_here, page_level, stays}
 use Rattle.vs_space.proofs.Meets.{met_of, never_table}
 use Rattle.vs_space.proofs.Prunes.{absent_under}
@@ -65,26 +65,26 @@ map_is_done depth limit space page least few = map_cases (λ s. s ≡ record { s
     (λ other e. absurd (cc))
     (λ e t. absurd (omega (arith, few, leb-false (table_count depth (finite.insert space page.base page)) limit t)))
 
-module _ (depth : Depth) (m : Memory) (root : ℕ) (table : IsPageTable depth m root) (page : Page) (good : IsPage depth page) (level : ℕ) (way : List ℕ) where
+module _ (depth : Depth) (m : Memory) (root : ℕ) (table : IsPageTable depth m root) (page : Page) (good : IsPage depth page) (level : ℕ) (path : List ℕ) where
   faultless : (b : ℕ) → IsCanonical depth b → walk depth m root b ≢ Reserved
   faultless b is_b reserved = not_reserved depth m root table.some_space.0 b table.some_space.1.translates is_b reserved
 
   pub no_walk_reserved : (b : ℕ) → IsCanonical depth b → walk depth m root b ≢ Reserved
   no_walk_reserved b is_b reserved = faultless b is_b reserved
 
-  met : (e : Meaning) → IsPlace depth m root page.base (level_of page.size) level way e → IsMet depth m root page.base (levels depth - level) (slice_index way level) e
-  met e place = met_of depth m root page.base (level_of page.size) level way e (level_some page.size) place
+  met : (e : Meaning) → IsDescent depth m root page.base (level_of page.size) level path e → IsMet depth m root page.base (levels depth - level) (slice_index path level) e
+  met e descent = met_of depth m root page.base (level_of page.size) level path e (level_some page.size) descent
 
-  pub reserved_never : IsPlace depth m root page.base (level_of page.size) level way entry.Reserved → ⊥
-  reserved_never place = never_reserved depth m root table page.base good.canonical (levels depth - level) (slice_index way level) (met entry.Reserved place)
+  pub reserved_never : IsDescent depth m root page.base (level_of page.size) level path entry.Reserved → ⊥
+  reserved_never descent = never_reserved depth m root table page.base good.canonical (levels depth - level) (slice_index path level) (met entry.Reserved descent)
 
-  -- ---- a leaf on the way: its page has the base of the new one
+  -- ---- a leaf on the path: its page has the base of the new one
 
-  pub leaf_overlaps : (phys : ℕ) (own : Rights) → IsPlace depth m root page.base (level_of page.size) level way (entry.Leaf phys own) → (first limit bytes : ℕ) → bytes ≡ bytes_of (size_at level) → IsStep (page_table depth first limit root m) (Map page) (answers.Overlap (page.base - page.base % bytes)) (page_table depth first limit root m)
-  leaf_overlaps phys own place first limit bytes are = stays (page_table depth first limit root m) (Map page) (answers.Overlap (page.base - page.base % bytes)) (own_space depth first limit root m table) (λ space is translates.
-      let leaf = page_here depth m root table page.base good.canonical (levels depth - level) (slice_index way level) space is translates phys own (met (entry.Leaf phys own) place) in
-      let back : levels depth - (levels depth - level) ≡ level = omega (arith, place.below) in
-      let same : level_of leaf.0.size ≡ level = sym (page_level depth m root table page.base good.canonical (levels depth - level) (slice_index way level) space phys own leaf.0 leaf.1) ∙ back in
+  pub leaf_overlaps : (phys : ℕ) (own : Rights) → IsDescent depth m root page.base (level_of page.size) level path (entry.Leaf phys own) → (first limit bytes : ℕ) → bytes ≡ bytes_of (size_at level) → IsStep (page_table depth first limit root m) (Map page) (answers.Overlap (page.base - page.base % bytes)) (page_table depth first limit root m)
+  leaf_overlaps phys own descent first limit bytes are = stays (page_table depth first limit root m) (Map page) (answers.Overlap (page.base - page.base % bytes)) (own_space depth first limit root m table) (λ space is translates.
+      let leaf = page_here depth m root table page.base good.canonical (levels depth - level) (slice_index path level) space is translates phys own (met (entry.Leaf phys own) descent) in
+      let back : levels depth - (levels depth - level) ≡ level = omega (arith, descent.below) in
+      let same : level_of leaf.0.size ≡ level = sym (page_level depth m root table page.base good.canonical (levels depth - level) (slice_index path level) space phys own leaf.0 leaf.1) ∙ back in
       let size : bytes_of leaf.0.size ≡ bytes = ap bytes_of (leaf.1.size ∙ ap size_at same) ∙ sym are in
       let offset : page.base % bytes_of leaf.0.size ≡ page.base % bytes = ap (λ n. page.base % n) size in
       let base_is : leaf.0.base ≡ page.base - page.base % bytes = omega (arith, leaf.1.base) in
@@ -92,11 +92,11 @@ module _ (depth : Depth) (m : Memory) (root : ℕ) (table : IsPageTable depth m 
 
   -- ---- a table at the page's own level: the first page below it
 
-  module _ (next : ℕ) (rights : Rights) (place : IsPlace depth m root page.base (level_of page.size) level way (entry.Table next rights)) where
+  module _ (next : ℕ) (rights : Rights) (descent : IsDescent depth m root page.base (level_of page.size) level path (entry.Table next rights)) where
     own_level : level ≡ level_of page.size
     own_level = ⊎_elim
-        (λ (deep : level_of page.size < level). let none : table_in (Some (entry.Table next rights)) ≡ None = place.ends deep in absurd (cc))
-        (λ (le : level ≤ level_of page.size). omega (arith, place.above))
+        (λ (deep : level_of page.size < level). let none : table_in (Some (entry.Table next rights)) ≡ None = descent.ends deep in absurd (cc))
+        (λ (le : level ≤ level_of page.size). omega (arith, descent.above))
         (cases_lt (level_of page.size) level)
 
     pub not_lowest : 1 < level_of page.size
@@ -104,27 +104,27 @@ module _ (depth : Depth) (m : Memory) (root : ℕ) (table : IsPageTable depth m 
         (λ (deep : 1 < level_of page.size). deep)
         (λ (le : level_of page.size ≤ 1).
         let one : level ≡ 1 = omega (arith, own_level, level_some page.size) in
-        let words = words_found 1 m (slice_index way level) page.base (entry.Table next rights) (subst (λ l. found_at l m (slice_index way level) page.base ≡ Some (entry.Table next rights)) one place.is) in
+        let words = words_found 1 m (slice_index path level) page.base (entry.Table next rights) (subst (λ l. found_at l m (slice_index path level) page.base ≡ Some (entry.Table next rights)) one descent.is) in
         absurd (never_table (slice_index words.0 (index_at 1 page.base)) next rights words.2))
         (cases_lt 1 (level_of page.size))
 
     pub within_root : level_of page.size - 1 < levels depth
-    within_root = omega (arith, own_level, place.below, not_lowest)
+    within_root = omega (arith, own_level, descent.below, not_lowest)
 
     pub base_aligned : page.base % table_bytes (level_of page.size - 1) ≡ 0
     base_aligned = let e : 12 + 9 * (level_of page.size - 1) ≡ 3 + 9 * level_of page.size = omega (arith, not_lowest) in subst (λ n. page.base % 2 ^ n ≡ 0) (sym e) good.aligned
 
     pub table_reached : table_at (levels depth) m root (levels depth - (level_of page.size - 1)) page.base ≡ Some next
     table_reached =
-        let here = met (entry.Table next rights) place in
-        let up : suc (levels depth - level) ≡ levels depth - (level_of page.size - 1) = omega (arith, own_level, place.below, not_lowest) in
-        subst (λ k. table_at (levels depth) m root k page.base ≡ Some next) up (table_next (levels depth) root m (levels depth - level) page.base (slice_index way level) here.at ∙ ap table_in here.found)
+        let here = met (entry.Table next rights) descent in
+        let up : suc (levels depth - level) ≡ levels depth - (level_of page.size - 1) = omega (arith, own_level, descent.below, not_lowest) in
+        subst (λ k. table_at (levels depth) m root k page.base ≡ Some next) up (table_next (levels depth) root m (levels depth - level) page.base (slice_index path level) here.at ∙ ap table_in here.found)
 
     pub table_overlaps : (number limit base : ℕ) → IsLeastBase depth m root page.base (levels depth - (level_of page.size - 1)) base → IsStep (page_table depth number limit root m) (Map page) (answers.Overlap base) (page_table depth number limit root m)
     table_overlaps number limit base first = stays (page_table depth number limit root m) (Map page) (answers.Overlap base) (own_space depth number limit root m table) (λ space is translates.
-        let up : levels depth - (level_of page.size - 1) ≡ suc (levels depth - level_of page.size) = omega (arith, own_level, place.below, not_lowest) in
-        let whole : (levels depth - level_of page.size) + level_of page.size ≡ levels depth = omega (arith, own_level, place.below) in
-        let inside = (way_covers depth page good (levels depth - level_of page.size) whole base first.canonical (subst (λ k. SameWay (levels depth) k page.base base) up first.same_way)).0 in
+        let up : levels depth - (level_of page.size - 1) ≡ suc (levels depth - level_of page.size) = omega (arith, own_level, descent.below, not_lowest) in
+        let whole : (levels depth - level_of page.size) + level_of page.size ≡ levels depth = omega (arith, own_level, descent.below) in
+        let inside = (path_covers depth page good (levels depth - level_of page.size) whole base first.canonical (subst (λ k. SamePath (levels depth) k page.base base) up first.same_path)).0 in
         let back : levels depth - (levels depth - first.leaf.level) ≡ first.leaf.level = omega (arith, first.leaf.below) in
         let low : first.leaf.level ≡ suc (first.leaf.level - 1) = omega (arith, first.leaf.some) in
         let leaf = leaf_page depth m root space is translates table.tree base (levels depth - first.leaf.level) (first.leaf.level - 1) first.leaf.number first.leaf.phys first.leaf.own first.canonical (omega (arith, first.leaf.some, first.leaf.below)) first.leaf.reached
@@ -144,18 +144,18 @@ module _ (depth : Depth) (m : Memory) (root : ℕ) (table : IsPageTable depth m 
 
   -- ---- an absent entry: nothing is overlapped
 
-  module _ (place : IsPlace depth m root page.base (level_of page.size) level way entry.Absent) where
-    here : IsMet depth m root page.base (levels depth - level) (slice_index way level) entry.Absent
-    here = met entry.Absent place
+  module _ (descent : IsDescent depth m root page.base (level_of page.size) level path entry.Absent) where
+    here : IsMet depth m root page.base (levels depth - level) (slice_index path level) entry.Absent
+    here = met entry.Absent descent
 
     nothing : NothingUnder depth m root (suc (levels depth - level)) page.base
-    nothing = absent_under depth m root page.base (levels depth - level) (slice_index way level) table.tree here.deep here.at here.found
+    nothing = absent_under depth m root page.base (levels depth - level) (slice_index path level) table.tree here.deep here.at here.found
 
-    whole_way : (levels depth - level_of page.size) + level_of page.size ≡ levels depth
-    whole_way = omega (arith, place.above, place.below)
+    whole_path : (levels depth - level_of page.size) + level_of page.size ≡ levels depth
+    whole_path = omega (arith, descent.above, descent.below)
 
-    in_page : (a : ℕ) → IsTrue (covers page a) → SameWay (levels depth) (suc (levels depth - level)) page.base a
-    in_page a covered = λ i lt. covers_way depth page good (levels depth - level_of page.size) whole_way a covered i (omega (arith, lt, place.above, place.below))
+    in_page : (a : ℕ) → IsTrue (covers page a) → SamePath (levels depth) (suc (levels depth - level)) page.base a
+    in_page a covered = λ i lt. covers_path depth page good (levels depth - level_of page.size) whole_path a covered i (omega (arith, lt, descent.above, descent.below))
 
     module _ (space : Space) (of : IsSpaceOf depth m root space) where
       none_there : (a : ℕ) → IsTrue (covers page a) → page_at space a ≡ None
@@ -174,11 +174,11 @@ module _ (depth : Depth) (m : Memory) (root : ℕ) (table : IsPageTable depth m 
 
       need_is : table_count depth (finite.insert space page.base page) ≡ finite.len m + (level - level_of page.size)
       need_is =
-          let added = count_added depth m root space page level of.is_space of.translates good is_with absent_base (none_there page.base (covers_base page)) place.above place.below nothing
+          let added = count_added depth m root space page level of.is_space of.translates good is_with absent_base (none_there page.base (covers_base page)) descent.above descent.below nothing
           (λ j some le empty.
           let up : suc (j - 1) ≡ j = omega (arith, some) in
           let reach : levels depth - (levels depth - j) ≡ j = omega (arith, le) in
-          table.filled.filled (j - 1) page.base _ (subst (λ i. table_at (levels depth) m root i page.base ≡ Some (slice_index way (levels depth - j))) (reach ∙ sym up) (place.reached (levels depth - j) (omega (arith, le, place.below)) (omega arith))) (subst (λ i. NothingUnder depth m root i page.base) (sym up) empty)) in
+          table.filled.filled (j - 1) page.base _ (subst (λ i. table_at (levels depth) m root i page.base ≡ Some (slice_index path (levels depth - j))) (reach ∙ sym up) (descent.reached (levels depth - j) (omega (arith, le, descent.below)) (omega arith))) (subst (λ i. NothingUnder depth m root i page.base) (sym up) empty)) in
           omega (arith, added, of.counted)
 
     pub full_step : (first limit need : ℕ) → need ≡ finite.len m + (level - level_of page.size) → limit < need → IsStep (page_table depth first limit root m) (Map page) (answers.Full need) (page_table depth first limit root m)
@@ -188,13 +188,13 @@ module _ (depth : Depth) (m : Memory) (root : ℕ) (table : IsPageTable depth m 
         map_is_full depth limit space page (none_overlapped space of) (omega (arith, count, is_need, above))
         ∙ ap (λ n. let s : Stepped = record { space = space; answer = answers.Full n } in s) (count ∙ sym is_need))
 
-    pub is_open : IsOpen depth m root page.base level (slice_index way level)
-    is_open = record { tree = table.tree; filled = but_none page.base table.filled; all_reached = table.reached; below = place.below; reached = here.at; absent = place.is }
+    pub is_open : IsOpen depth m root page.base level (slice_index path level)
+    is_open = record { tree = table.tree; filled = but_none page.base table.filled; all_reached = table.reached; below = descent.below; reached = here.at; absent = descent.is }
 
     -- the leaf is written in the last table
     module _ (m' : Memory) (number : ℕ) (extended : IsExtended depth m m' root page.base level (level_of page.size) number) (whole : AreWhole m') (w index : ℕ) (leads : meaning (level_of page.size) w ≡ entry.Leaf page.phys page.rights) (is_word : w ≡ leaf_word page.size page.phys page.rights) (is_index : index ≡ index_at (level_of page.size) page.base) (low : index < 512) where
       back : levels depth - (levels depth - level_of page.size) ≡ level_of page.size
-      back = omega (arith, place.above, place.below)
+      back = omega (arith, descent.above, descent.below)
 
       index_same : index_at (levels depth - (levels depth - level_of page.size)) page.base ≡ index
       index_same = ap (λ l. index_at l page.base) back ∙ sym is_index
@@ -220,18 +220,18 @@ module _ (depth : Depth) (m : Memory) (root : ℕ) (table : IsPageTable depth m 
       tree_new : IsTree (levels depth) (with_word m' number (index_at (levels depth - (levels depth - level_of page.size)) page.base) w) root
       tree_new = tree_write (levels depth) root m' extended.open_at.tree whole (levels depth - level_of page.size) page.base number extended.open_at.reached w low_here ends
 
-      walk_on : (b : ℕ) → SameWay (levels depth) (suc (levels depth - level_of page.size)) page.base b → walk depth (with_word m' number (index_at (levels depth - (levels depth - level_of page.size)) page.base) w) root b ≡ Mapped (page.phys + b % bytes_of page.size) (size_at (level_of page.size)) page.rights
+      walk_on : (b : ℕ) → SamePath (levels depth) (suc (levels depth - level_of page.size)) page.base b → walk depth (with_word m' number (index_at (levels depth - (levels depth - level_of page.size)) page.base) w) root b ≡ Mapped (page.phys + b % bytes_of page.size) (size_at (level_of page.size)) page.rights
       walk_on b same =
-          let up : levels depth - (levels depth - level_of page.size) ≡ suc (level_of page.size - 1) = omega (arith, place.above, place.below, level_some page.size) in
+          let up : levels depth - (levels depth - level_of page.size) ≡ suc (level_of page.size - 1) = omega (arith, descent.above, descent.below, level_some page.size) in
           let plain : level_of page.size ≡ suc (level_of page.size - 1) = omega (arith, level_some page.size) in
-          let found = found_on_way (levels depth) root m' extended.open_at.tree whole (levels depth - level_of page.size) page.base number extended.open_at.reached w b low_here same ∙ ap Some leads_here in
+          let found = found_on_path (levels depth) root m' extended.open_at.tree whole (levels depth - level_of page.size) page.base number extended.open_at.reached w b low_here same ∙ ap Some leads_here in
           subst (λ l. walk depth (with_word m' number (index_at (levels depth - (levels depth - level_of page.size)) page.base) w) root b ≡ Mapped (page.phys + b % entry_bytes l) (size_at l) page.rights) (sym plain)
-          (walk_ends (levels depth) root (with_word m' number (index_at (levels depth - (levels depth - level_of page.size)) page.base) w) tree_new.allows b (levels depth - level_of page.size) (level_of page.size - 1) number (entry.Leaf page.phys page.rights) (omega (arith, place.above, place.below, level_some page.size))
+          (walk_ends (levels depth) root (with_word m' number (index_at (levels depth - (levels depth - level_of page.size)) page.base) w) tree_new.allows b (levels depth - level_of page.size) (level_of page.size - 1) number (entry.Leaf page.phys page.rights) (omega (arith, descent.above, descent.below, level_some page.size))
           (table_here (levels depth) root m' extended.open_at.tree whole (levels depth - level_of page.size) page.base number extended.open_at.reached w b same)
           (subst (λ l. found_at l (with_word m' number (index_at (levels depth - (levels depth - level_of page.size)) page.base) w) number b ≡ Some (entry.Leaf page.phys page.rights)) up found))
 
-      walk_off : (b : ℕ) → (SameWay (levels depth) (suc (levels depth - level_of page.size)) page.base b → ⊥) → walk depth (with_word m' number (index_at (levels depth - (levels depth - level_of page.size)) page.base) w) root b ≡ walk depth m root b
-      walk_off b apart = walk_off_way (levels depth) root m' extended.open_at.tree whole (levels depth - level_of page.size) page.base number extended.open_at.reached w b apart ∙ extended.walks b
+      walk_off : (b : ℕ) → (SamePath (levels depth) (suc (levels depth - level_of page.size)) page.base b → ⊥) → walk depth (with_word m' number (index_at (levels depth - (levels depth - level_of page.size)) page.base) w) root b ≡ walk depth m root b
+      walk_off b apart = walk_off_path (levels depth) root m' extended.open_at.tree whole (levels depth - level_of page.size) page.base number extended.open_at.reached w b apart ∙ extended.walks b
 
       filled_new : IsFilled depth (with_word m' number (index_at (levels depth - (levels depth - level_of page.size)) page.base) w) root
       filled_new = filled_by depth (with_word m' number (index_at (levels depth - (levels depth - level_of page.size)) page.base) w) root page.base
@@ -252,16 +252,16 @@ module _ (depth : Depth) (m : Memory) (root : ℕ) (table : IsPageTable depth m 
         looks : LooksChanged page (as_in page) space (step depth limit space (Map page)).space
         looks = done_looks limit of.is_space page good answer_is
 
-        inside_is : (b : ℕ) → IsCanonical depth b → SameWay (levels depth) (suc (levels depth - level_of page.size)) page.base b → walk depth (with_word m' number (index_at (levels depth - (levels depth - level_of page.size)) page.base) w) root b ≡ as_walk (as_in page b)
+        inside_is : (b : ℕ) → IsCanonical depth b → SamePath (levels depth) (suc (levels depth - level_of page.size)) page.base b → walk depth (with_word m' number (index_at (levels depth - (levels depth - level_of page.size)) page.base) w) root b ≡ as_walk (as_in page b)
         inside_is b is_b same =
-            let at = (way_covers depth page good (levels depth - level_of page.size) whole_way b is_b same).1 in
+            let at = (path_covers depth page good (levels depth - level_of page.size) whole_path b is_b same).1 in
             let offset : page.phys + b % bytes_of page.size ≡ page.phys + (b - page.base) = omega (arith, at) in
             walk_on b same ∙ ap (λ p. Mapped p (size_at (level_of page.size)) page.rights) offset ∙ ap (λ z. Mapped (page.phys + (b - page.base)) z page.rights) (size_same page.size)
 
         pub space_is : IsSpaceOf depth (with_word m' number (index_at (levels depth - (levels depth - level_of page.size)) page.base) w) root (step depth limit space (Map page)).space
         space_is = record {
           is_space = step_space limit of.is_space (Map page) good;
-          translates = translates_changed depth m (with_word m' number (index_at (levels depth - (levels depth - level_of page.size)) page.base) w) root space (step depth limit space (Map page)).space page (as_in page) (levels depth - level_of page.size) looks of.translates good whole_way inside_is (λ b is_b apart. walk_off b apart);
+          translates = translates_changed depth m (with_word m' number (index_at (levels depth - (levels depth - level_of page.size)) page.base) w) root space (step depth limit space (Map page)).space page (as_in page) (levels depth - level_of page.size) looks of.translates good whole_path inside_is (λ b is_b apart. walk_off b apart);
           counted =
               let written = len_written m' number (index_at (levels depth - (levels depth - level_of page.size)) page.base) w (extended.open_at.tree.in_use (levels depth - level_of page.size) page.base number extended.open_at.reached) in
               let count : table_count depth (step depth limit space (Map page)).space ≡ table_count depth (finite.insert space page.base page) = ap (λ (s : Stepped). table_count depth s.space) done in

@@ -20,65 +20,65 @@ use Rattle.vs_types.specs.declared.answer.Answer.TheVariants as answers
 use Rattle.vs_walk.specs.Memory.{Memory}
 use Rattle.vs_space.specs.Held.{with_word}
 use Rattle.vs_walk.specs.Ways.{AreWhole}
-use Rattle.vs_space.specs.Way.{found_at, table_in}
-use Rattle.vs_space.specs.Place.{IsPlace}
+use Rattle.vs_space.specs.Path.{found_at, table_in}
+use Rattle.vs_space.specs.Descent.{IsDescent}
 use Rattle.vs_space.specs.Table.{IsStep, IsSpaceOf, IsPageTable}
-use Rattle.vs_space.proofs.Ways.{words_found}
+use Rattle.vs_space.proofs.Paths.{words_found}
 use Rattle.vs_space.proofs.Regions.{IsLeafPage}
 use Rattle.vs_space.proofs.Protects.{IsMet, page_table, own_space, space_of, absent_none, never_reserved, page_here, page_level, unmap_none, protect_none, unmap_inside, protect_inside, stays, answer_is, space_is, table_new}
 
-pub met_of : (depth : Depth) (m : Memory) (root a lowest level : ℕ) (way : List ℕ) (e : Meaning) → 1 ≤ lowest → IsPlace depth m root a lowest level way e → IsMet depth m root a (levels depth - level) (slice_index way level) e
-met_of depth m root a lowest level way e some place =
-    let back : levels depth - (levels depth - level) ≡ level = omega (arith, place.below) in
+pub met_of : (depth : Depth) (m : Memory) (root a lowest level : ℕ) (path : List ℕ) (e : Meaning) → 1 ≤ lowest → IsDescent depth m root a lowest level path e → IsMet depth m root a (levels depth - level) (slice_index path level) e
+met_of depth m root a lowest level path e some descent =
+    let back : levels depth - (levels depth - level) ≡ level = omega (arith, descent.below) in
     record {
-      deep = omega (arith, place.above, place.below);
-      at = place.reached level (omega arith) place.below;
-      found = subst (λ l. found_at l m (slice_index way level) a ≡ Some e) (sym back) place.is;
+      deep = omega (arith, descent.above, descent.below);
+      at = descent.reached level (omega arith) descent.below;
+      found = subst (λ l. found_at l m (slice_index path level) a ≡ Some e) (sym back) descent.is;
     }
 
 -- an entry of the lowest level leads to no table
 pub never_table : (word n : ℕ) (own : Rights) → meaning 1 word ≡ entry.Table n own → ⊥
 never_table word n own is = grind arith
 
-module _ (depth : Depth) (m : Memory) (root : ℕ) (table : IsPageTable depth m root) (base : ℕ) (canonical : IsCanonical depth base) (level : ℕ) (way : List ℕ) where
+module _ (depth : Depth) (m : Memory) (root : ℕ) (table : IsPageTable depth m root) (base : ℕ) (canonical : IsCanonical depth base) (level : ℕ) (path : List ℕ) where
   back : level ≤ levels depth → levels depth - (levels depth - level) ≡ level
   back few = omega arith
 
-  -- what is no leaf at the end of the way is absent
-  pub absent_end : (e : Meaning) → IsPlace depth m root base 1 level way e → ((phys : ℕ) (own : Rights) → e ≢ entry.Leaf phys own) → e ≡ entry.Absent
-  absent_end entry.Absent place other = refl
-  absent_end entry.Reserved place other = absurd (never_reserved depth m root table base canonical _ _ (met_of depth m root base 1 level way entry.Reserved (omega arith) place))
-  absent_end (entry.Leaf phys own) place other = absurd (other phys own refl)
-  absent_end (entry.Table n own) place other = ⊎_elim
-      (λ (deep : 1 < level). let none : table_in (Some (entry.Table n own)) ≡ None = place.ends deep in cc)
+  -- what is no leaf at the end of the path is absent
+  pub absent_end : (e : Meaning) → IsDescent depth m root base 1 level path e → ((phys : ℕ) (own : Rights) → e ≢ entry.Leaf phys own) → e ≡ entry.Absent
+  absent_end entry.Absent descent other = refl
+  absent_end entry.Reserved descent other = absurd (never_reserved depth m root table base canonical _ _ (met_of depth m root base 1 level path entry.Reserved (omega arith) descent))
+  absent_end (entry.Leaf phys own) descent other = absurd (other phys own refl)
+  absent_end (entry.Table n own) descent other = ⊎_elim
+      (λ (deep : 1 < level). let none : table_in (Some (entry.Table n own)) ≡ None = descent.ends deep in cc)
       (λ (last : level ≤ 1).
-      let one : level ≡ 1 = omega (arith, place.above) in
-      let words = words_found 1 m (slice_index way level) base (entry.Table n own) (subst (λ l. found_at l m (slice_index way level) base ≡ Some (entry.Table n own)) one place.is) in
+      let one : level ≡ 1 = omega (arith, descent.above) in
+      let words = words_found 1 m (slice_index path level) base (entry.Table n own) (subst (λ l. found_at l m (slice_index path level) base ≡ Some (entry.Table n own)) one descent.is) in
       absurd (never_table (slice_index words.0 (index_at 1 base)) n own words.2))
       (cases_lt 1 level)
 
-  pub resolve_absent : IsPlace depth m root base 1 level way entry.Absent → (space : Space) → TranslatesAs depth m root space → answers.NotMapped ≡ look space base
-  resolve_absent place space translates =
-      let none = absent_none depth m root table base canonical _ _ space translates (met_of depth m root base 1 level way entry.Absent (omega arith) place) in
+  pub resolve_absent : IsDescent depth m root base 1 level path entry.Absent → (space : Space) → TranslatesAs depth m root space → answers.NotMapped ≡ look space base
+  resolve_absent descent space translates =
+      let none = absent_none depth m root table base canonical _ _ space translates (met_of depth m root base 1 level path entry.Absent (omega arith) descent) in
       rw none refl
 
-  pub unmap_absent : (first limit : ℕ) → IsPlace depth m root base 1 level way entry.Absent → IsStep (page_table depth first limit root m) (Unmap base) answers.NotMapped (page_table depth first limit root m)
-  unmap_absent first limit place = stays (page_table depth first limit root m) (Unmap base) answers.NotMapped (own_space depth first limit root m table) (λ space is translates.
-      unmap_none depth m root table base canonical 0 root limit space (absent_none depth m root table base canonical _ _ space translates (met_of depth m root base 1 level way entry.Absent (omega arith) place)))
+  pub unmap_absent : (first limit : ℕ) → IsDescent depth m root base 1 level path entry.Absent → IsStep (page_table depth first limit root m) (Unmap base) answers.NotMapped (page_table depth first limit root m)
+  unmap_absent first limit descent = stays (page_table depth first limit root m) (Unmap base) answers.NotMapped (own_space depth first limit root m table) (λ space is translates.
+      unmap_none depth m root table base canonical 0 root limit space (absent_none depth m root table base canonical _ _ space translates (met_of depth m root base 1 level path entry.Absent (omega arith) descent)))
 
-  pub protect_absent : (first limit : ℕ) (rights : Rights) → IsPlace depth m root base 1 level way entry.Absent → IsStep (page_table depth first limit root m) (Protect base rights) answers.NotMapped (page_table depth first limit root m)
-  protect_absent first limit rights place = stays (page_table depth first limit root m) (Protect base rights) answers.NotMapped (own_space depth first limit root m table) (λ space is translates.
-      protect_none depth m root table base canonical 0 root limit space rights (absent_none depth m root table base canonical _ _ space translates (met_of depth m root base 1 level way entry.Absent (omega arith) place)))
+  pub protect_absent : (first limit : ℕ) (rights : Rights) → IsDescent depth m root base 1 level path entry.Absent → IsStep (page_table depth first limit root m) (Protect base rights) answers.NotMapped (page_table depth first limit root m)
+  protect_absent first limit rights descent = stays (page_table depth first limit root m) (Protect base rights) answers.NotMapped (own_space depth first limit root m table) (λ space is translates.
+      protect_none depth m root table base canonical 0 root limit space rights (absent_none depth m root table base canonical _ _ space translates (met_of depth m root base 1 level path entry.Absent (omega arith) descent)))
 
-  module _ (phys : ℕ) (own : Rights) (place : IsPlace depth m root base 1 level way (entry.Leaf phys own)) where
-    pub met : IsMet depth m root base (levels depth - level) (slice_index way level) (entry.Leaf phys own)
-    met = met_of depth m root base 1 level way (entry.Leaf phys own) (omega arith) place
+  module _ (phys : ℕ) (own : Rights) (descent : IsDescent depth m root base 1 level path (entry.Leaf phys own)) where
+    pub met : IsMet depth m root base (levels depth - level) (slice_index path level) (entry.Leaf phys own)
+    met = met_of depth m root base 1 level path (entry.Leaf phys own) (omega arith) descent
 
     pub page_met : (space : Space) → IsSpace depth space → TranslatesAs depth m root space → (q : Page) × IsLeafPage depth space base (levels depth - level) phys own q
     page_met space is translates = page_here depth m root table base canonical _ _ space is translates phys own met
 
     pub level_met : (space : Space) (q : Page) → IsLeafPage depth space base (levels depth - level) phys own q → level_of q.size ≡ level
-    level_met space q leaf = sym (page_level depth m root table base canonical (levels depth - level) (slice_index way level) space phys own q leaf) ∙ back place.below
+    level_met space q leaf = sym (page_level depth m root table base canonical (levels depth - level) (slice_index path level) space phys own q leaf) ∙ back descent.below
 
     -- what may be written in the place of the leaf
     pub leaf_again : (level_of (size_at level) ≡ level) × (phys % bytes_of (size_at level) ≡ 0) × (phys < 2 ^ 52)
@@ -140,7 +140,7 @@ module _ (depth : Depth) (m : Memory) (root : ℕ) (table : IsPageTable depth m 
     -- the table after the leaf has other rights
     module _ (whole : AreWhole m) (aligned : base % 4096 ≡ 0) (rights : Rights) (w index bytes : ℕ) (leads : meaning (level_of (size_at level)) w ≡ entry.Leaf phys rights) (is_word : w ≡ leaf_word (size_at level) phys rights) (at : index ≡ index_at level base) (low : index < 512) (are : bytes ≡ bytes_of (size_at level)) (begins : base % bytes ≡ 0) where
       own_level : levels depth - (levels depth - level) ≡ level
-      own_level = back place.below
+      own_level = back descent.below
 
       index_same : index_at (levels depth - (levels depth - level)) base ≡ index
       index_same = ap (λ l. index_at l base) own_level ∙ sym at
@@ -160,18 +160,18 @@ module _ (depth : Depth) (m : Memory) (root : ℕ) (table : IsPageTable depth m 
       good : IsBase depth base
       good = record { canonical = canonical; aligned = aligned }
 
-      pub protect_table : IsPageTable depth (with_word m (slice_index way level) index w) root
-      protect_table = subst (λ i. IsPageTable depth (with_word m (slice_index way level) i w) root) index_same
+      pub protect_table : IsPageTable depth (with_word m (slice_index path level) index w) root
+      protect_table = subst (λ i. IsPageTable depth (with_word m (slice_index path level) i w) root) index_same
           (table_new depth m root table whole base good _ _ phys own rights met w leads_here word_here low_here begins_here)
 
-      pub protect_step : (first limit : ℕ) → IsStep (page_table depth first limit root m) (Protect base rights) (answers.Changed own) (page_table depth first limit root (with_word m (slice_index way level) index w))
+      pub protect_step : (first limit : ℕ) → IsStep (page_table depth first limit root m) (Protect base rights) (answers.Changed own) (page_table depth first limit root (with_word m (slice_index path level) index w))
       protect_step first limit = record {
         some_space = own_space depth first limit root m table;
         same = refl;
         unchanged = λ refused. absurd (cc);
         steps = λ space is.
             let of = space_of depth m root space table is.is_space is.translates in
-            let after = subst (λ i. IsSpaceOf depth (with_word m (slice_index way level) i w) root (step depth limit space (Protect base rights)).space) index_same
+            let after = subst (λ i. IsSpaceOf depth (with_word m (slice_index path level) i w) root (step depth limit space (Protect base rights)).space) index_same
             (space_is depth m root table whole base good _ _ phys own rights met w leads_here word_here low_here begins_here limit space of) in
             (sym (answer_is depth m root table whole base good _ _ phys own rights met w leads_here word_here low_here begins_here limit space of), record { is_space = after.is_space; translates = after.translates });
       }

@@ -15,11 +15,11 @@ use Rattle.vs_types.proofs.Spaces.{no_pages_space, look_of_nothing}
 use Rattle.vs_arena.specs.Store.{zeros}
 use Rattle.vs_walk.specs.Memory.{Memory}
 use Rattle.vs_walk.specs.Walk.{as_walk, TranslatesAs, all_rights}
-use Rattle.vs_space.specs.Way.{found_at, table_at, table_in}
+use Rattle.vs_space.specs.Path.{found_at, table_at, table_in}
 use Rattle.vs_space.specs.Tree.{IsTree, IsReached, AreWritten}
 use Rattle.vs_space.specs.Table.{IsTableOf, IsPageTable}
 use Rattle.vs_space.proofs.Numbered.{get-insert_same, get-insert_other, len-insert_free, whole-empty, whole-zeros}
-use Rattle.vs_space.proofs.Ways.{table_first, table_next, none_past, walk_found}
+use Rattle.vs_space.proofs.Paths.{table_first, table_next, none_past, walk_found}
 use Rattle.vs_space.proofs.Writes.{used_some}
 use Rattle.vs_space.proofs.Links.{found_in_zeros}
 use Rattle.vs_space.proofs.Written.{written_clear}
@@ -41,8 +41,8 @@ module _ (depth : Depth) (root : ℕ) where
     same x y e = cc
   only_root (suc k) a n r =
       let none = none_past (levels depth) root alone 1 k a (none_below a) in
-      let way : k + 1 ≡ suc k = omega arith in
-      let nowhere : table_at (levels depth) alone root (suc k) a ≡ None = subst (λ i. table_at (levels depth) alone root i a ≡ None) way none in
+      let path : k + 1 ≡ suc k = omega arith in
+      let nowhere : table_at (levels depth) alone root (suc k) a ≡ None = subst (λ i. table_at (levels depth) alone root i a ≡ None) path none in
       cc
 
   tree_alone : IsTree (levels depth) alone root
@@ -57,7 +57,7 @@ module _ (depth : Depth) (root : ℕ) where
 
   reached_alone : IsReached (levels depth) alone root
   reached_alone = record {
-    way = λ n used. ⊎_elim
+    path = λ n used. ⊎_elim
         (λ (same : n ≡ root). (0, 0, table_first (levels depth) root alone 0 ∙ ap Some (sym same), subst (AreWritten (levels depth - 0) alone) (sym same) (written_clear (levels depth - 0) alone root clear)))
         (λ (other : n ≢ root).
         let none : IsSome {T = List ℕ} None = subst IsSome (get-insert_other finite.empty root zeros n other ∙ finite.get-empty nat_cmp n) used in

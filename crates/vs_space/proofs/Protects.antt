@@ -26,15 +26,15 @@ use Rattle.vs_walk.specs.declared.walk.Walk.TheVariants.{NotMapped, Mapped}
 use Rattle.vs_walk.proofs.Translates.{one_space, not_reserved}
 use Rattle.vs_space.specs.Held.{with_word}
 use Rattle.vs_walk.specs.Ways.{AreWhole}
-use Rattle.vs_space.specs.Way.{found_at, table_at, table_in, SameWay}
+use Rattle.vs_space.specs.Path.{found_at, table_at, table_in, SamePath}
 use Rattle.vs_space.specs.Tree.{IsTree, IsFilled}
 use Rattle.vs_space.specs.Table.{PageTable, IsTableOf, IsStep, IsSpaceOf, IsPageTable}
-use Rattle.vs_space.proofs.Ways.{walk_ends}
-use Rattle.vs_space.proofs.Writes.{table_here, found_on_way, walk_off_way, len_written}
+use Rattle.vs_space.proofs.Paths.{walk_ends}
+use Rattle.vs_space.proofs.Writes.{table_here, found_on_path, walk_off_path, len_written}
 use Rattle.vs_space.proofs.Trees.{tree_write, but_none, but_write, filled_by}
 use Rattle.vs_space.proofs.Reached.{reached_write, whole_written}
 use Rattle.vs_space.proofs.Written.{written_leaf}
-use Rattle.vs_space.proofs.Regions.{IsLeafPage, leaf_page, nothing_at, translates_changed, way_covers}
+use Rattle.vs_space.proofs.Regions.{IsLeafPage, leaf_page, nothing_at, translates_changed, path_covers}
 
 -- a page table is that of just one space, which has as many tables as there are
 pub space_of : (depth : Depth) (m : Memory) (root : ℕ) (space : Space) → IsPageTable depth m root → IsSpace depth space → TranslatesAs depth m root space → IsSpaceOf depth m root space
@@ -43,7 +43,7 @@ space_of depth m root space table is translates =
     let same : table.some_space.0 ≡ space = one_space depth m root table.some_space.0 space own.is_space is own.translates translates in
     record { is_space = is; translates = translates; counted = own.counted ∙ ap (table_count depth) same }
 
--- ---- what is met on the way of an address after k tables
+-- ---- what is met on the path of an address after k tables
 
 pub record IsMet (depth : Depth) (m : Memory) (root a k n : ℕ) (e : Meaning) : Type 0 where
   pub deep : k < levels depth
@@ -137,15 +137,15 @@ module _ (depth : Depth) (m : Memory) (root : ℕ) (table : IsPageTable depth m 
   tree_new = tree_write (levels depth) root m table.tree whole k base n met.at w low ends
 
   -- how an address of the page is walked
-  walk_new : (b : ℕ) → SameWay (levels depth) (suc k) base b → walk depth new root b ≡ Mapped (phys + b % entry_bytes (levels depth - k)) (size_at (levels depth - k)) rights
+  walk_new : (b : ℕ) → SamePath (levels depth) (suc k) base b → walk depth new root b ≡ Mapped (phys + b % entry_bytes (levels depth - k)) (size_at (levels depth - k)) rights
   walk_new b same =
       let level : levels depth - k ≡ suc (levels depth - k - 1) = omega (arith, met.deep) in
-      let found = found_on_way (levels depth) root m table.tree whole k base n met.at w b low same ∙ ap Some leads in
+      let found = found_on_path (levels depth) root m table.tree whole k base n met.at w b low same ∙ ap Some leads in
       subst (λ l. walk depth new root b ≡ Mapped (phys + b % entry_bytes l) (size_at l) rights) (sym level)
       (walk_ends (levels depth) root new tree_new.allows b k (levels depth - k - 1) n (entry.Leaf phys rights) (omega (arith, met.deep)) (table_here (levels depth) root m table.tree whole k base n met.at w b same) (subst (λ l. found_at l new n b ≡ Some (entry.Leaf phys rights)) level found))
 
-  walk_off : (b : ℕ) → (SameWay (levels depth) (suc k) base b → ⊥) → walk depth new root b ≡ walk depth m root b
-  walk_off b apart = walk_off_way (levels depth) root m table.tree whole k base n met.at w b apart
+  walk_off : (b : ℕ) → (SamePath (levels depth) (suc k) base b → ⊥) → walk depth new root b ≡ walk depth m root b
+  walk_off b apart = walk_off_path (levels depth) root m table.tree whole k base n met.at w b apart
 
   filled_new : IsFilled depth new root
   filled_new = filled_by depth new root base (but_write depth root m table.tree whole k base n met.at w low ends (but_none base table.filled)) good.canonical (λ none. let walked = walk_new base (λ i lt. refl) in cc)
@@ -172,18 +172,18 @@ module _ (depth : Depth) (m : Memory) (root : ℕ) (table : IsPageTable depth m 
     looks = subst (λ a. LooksChanged leaf.0 (as_in (record leaf.0 { rights = rights })) space (step depth limit space (Protect a rights)).space) begins
         (changed_looks limit of.is_space leaf.0 rights own leaf.1.held (subst (λ a. (step depth limit space (Protect a rights)).answer ≡ answers.Changed own) (sym begins) answer_is))
 
-    inside_is : (b : ℕ) → IsCanonical depth b → SameWay (levels depth) (suc k) leaf.0.base b → walk depth new root b ≡ as_walk (as_in (record leaf.0 { rights = rights }) b)
+    inside_is : (b : ℕ) → IsCanonical depth b → SamePath (levels depth) (suc k) leaf.0.base b → walk depth new root b ≡ as_walk (as_in (record leaf.0 { rights = rights }) b)
     inside_is b canonical same =
-        let at = (way_covers depth leaf.0 leaf.1.good k leaf.1.level b canonical same).1 in
+        let at = (path_covers depth leaf.0 leaf.1.good k leaf.1.level b canonical same).1 in
         let offset : phys + b % entry_bytes (levels depth - k) ≡ leaf.0.phys + (b - leaf.0.base) = subst (λ l. phys + b % entry_bytes l ≡ leaf.0.phys + (b - leaf.0.base)) (sym level) (omega (arith, at, leaf.1.phys_is)) in
         let size : size_at (levels depth - k) ≡ leaf.0.size = ap size_at level ∙ sym leaf.1.size in
-        walk_new b (subst (λ a. SameWay (levels depth) (suc k) a b) begins same) ∙ ap (λ p. Mapped p (size_at (levels depth - k)) rights) offset ∙ ap (λ z. Mapped (leaf.0.phys + (b - leaf.0.base)) z rights) size
+        walk_new b (subst (λ a. SamePath (levels depth) (suc k) a b) begins same) ∙ ap (λ p. Mapped p (size_at (levels depth - k)) rights) offset ∙ ap (λ z. Mapped (leaf.0.phys + (b - leaf.0.base)) z rights) size
 
     pub space_is : IsSpaceOf depth new root (step depth limit space (Protect base rights)).space
     space_is = record {
       is_space = step_space limit of.is_space (Protect base rights) good;
       translates = translates_changed depth m new root space (step depth limit space (Protect base rights)).space leaf.0 (as_in (record leaf.0 { rights = rights })) k looks of.translates leaf.1.good leaf.1.level inside_is
-          (λ b canonical apart. walk_off b (λ same. apart (subst (λ a. SameWay (levels depth) (suc k) a b) (sym begins) same)));
+          (λ b canonical apart. walk_off b (λ same. apart (subst (λ a. SamePath (levels depth) (suc k) a b) (sym begins) same)));
       counted = len_written m n (index_at (levels depth - k) base) w (table.tree.in_use k base n met.at) ∙ of.counted ∙ sym (protect_tables limit of.is_space base rights);
     }
 

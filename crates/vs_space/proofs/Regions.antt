@@ -1,4 +1,4 @@
--- Which addresses take one way: those of an aligned stretch. What a walk's end says of the space.
+-- Which addresses take one path: those of an aligned stretch. What a walk's end says of the space.
 use Rattle.std.proofs.Common.{◌≡◌, ◌≢◌, ℕ, zero, suc, ◌+◌, ◌-◌, ◌*◌, ◌/◌, ◌%◌, ◌^◌, ◌<◌, ◌≤◌, true, false, Some, None, IsTrue, ⊎_elim, refl, sym, ap, subst, ◌∙◌, mod-lt, arith}
 use lib.Pow.{pow_pos, split, shr-shr}
 use Rattle.std.proofs.lemmas.Nat.{div-mul-add}
@@ -23,9 +23,9 @@ use Rattle.vs_walk.specs.Memory.{Memory}
 use Rattle.vs_walk.specs.Walk.{walk, as_walk, TranslatesAs}
 use Rattle.vs_walk.specs.declared.walk.Walk.TheVariants.{NotMapped, Mapped}
 use Rattle.vs_walk.proofs.Walks.{leaf_level}
-use Rattle.vs_space.specs.Way.{found_at, table_at, SameWay}
+use Rattle.vs_space.specs.Path.{found_at, table_at, SamePath}
 use Rattle.vs_space.specs.Tree.{IsTree}
-use Rattle.vs_space.proofs.Ways.{words_found, walk_ends}
+use Rattle.vs_space.proofs.Paths.{words_found, walk_ends}
 
 -- ---- stretches
 
@@ -39,8 +39,8 @@ top_same Four a b is_a is_b same = ⊎_elim
 parts_same : (x y : ℕ) → x / 512 ≡ y / 512 → x % 512 ≡ y % 512 → x ≡ y
 parts_same x y p q = omega arith
 
--- addresses that take the same way lie in one stretch
-pub same_stretch : (depth : Depth) (k a b : ℕ) → IsCanonical depth a → IsCanonical depth b → suc k ≤ levels depth → SameWay (levels depth) (suc k) a b → a / 2 ^ (12 + 9 * (levels depth - suc k)) ≡ b / 2 ^ (12 + 9 * (levels depth - suc k))
+-- addresses that take the same path lie in one stretch
+pub same_stretch : (depth : Depth) (k a b : ℕ) → IsCanonical depth a → IsCanonical depth b → suc k ≤ levels depth → SamePath (levels depth) (suc k) a b → a / 2 ^ (12 + 9 * (levels depth - suc k)) ≡ b / 2 ^ (12 + 9 * (levels depth - suc k))
 same_stretch depth zero a b is_a is_b few same = let one : levels depth - 1 ≡ levels depth - suc zero = omega arith in let first : levels depth - 0 ≡ levels depth = omega arith in top_same depth a b is_a is_b (subst (λ l. index_at l a ≡ index_at l b) first (same 0 (omega arith)))
 same_stretch depth (suc k) a b is_a is_b few same =
     let above = same_stretch depth k a b is_a is_b (omega arith) (λ i lt. same i (omega arith)) in
@@ -51,8 +51,8 @@ same_stretch depth (suc k) a b is_a is_b few same =
     let low : a / 2 ^ e % 512 ≡ b / 2 ^ e % 512 = subst (λ n. a / 2 ^ n % 512 ≡ b / 2 ^ n % 512) own (same (suc k) (omega arith)) in
     parts_same (a / 2 ^ e) (b / 2 ^ e) high low
 
--- addresses of one stretch take the same way
-pub stretch_same : (top k a b : ℕ) → suc k ≤ top → a / 2 ^ (12 + 9 * (top - suc k)) ≡ b / 2 ^ (12 + 9 * (top - suc k)) → SameWay top (suc k) a b
+-- addresses of one stretch take the same path
+pub stretch_same : (top k a b : ℕ) → suc k ≤ top → a / 2 ^ (12 + 9 * (top - suc k)) ≡ b / 2 ^ (12 + 9 * (top - suc k)) → SamePath top (suc k) a b
 stretch_same top k a b few same = λ i lt.
     let e = 12 + 9 * (top - suc k) in
     let d = 9 * (k - i) in
@@ -74,7 +74,7 @@ in_block e base b at low high =
     let parts : b ≡ base / 2 ^ e * 2 ^ e + (b - base) = omega arith in
     sym (ap (λ x. x / 2 ^ e) parts ∙ div-mul-add (base / 2 ^ e) (2 ^ e) (b - base) (omega arith))
 
--- a page has the canonical addresses that take its way
+-- a page has the canonical addresses that take its path
 module _ (depth : Depth) (q : Page) (good : IsPage depth q) (k : ℕ) (level : k + level_of q.size ≡ levels depth) where
   few : suc k ≤ levels depth
   few = omega (arith, level_some q.size)
@@ -82,13 +82,13 @@ module _ (depth : Depth) (q : Page) (good : IsPage depth q) (k : ℕ) (level : k
   exponent : 12 + 9 * (levels depth - suc k) ≡ 3 + 9 * level_of q.size
   exponent = omega (arith, level_some q.size)
 
-  pub covers_way : (b : ℕ) → IsTrue (covers q b) → SameWay (levels depth) (suc k) q.base b
-  covers_way b covered =
+  pub covers_path : (b : ℕ) → IsTrue (covers q b) → SamePath (levels depth) (suc k) q.base b
+  covers_path b covered =
       let at = (covers_means q b).0 covered in
       stretch_same (levels depth) k q.base b few (subst (λ n. q.base / 2 ^ n ≡ b / 2 ^ n) (sym exponent) (in_block (3 + 9 * level_of q.size) q.base b good.aligned at.0 at.1))
 
-  pub way_covers : (b : ℕ) → IsCanonical depth b → SameWay (levels depth) (suc k) q.base b → IsTrue (covers q b) × (q.base + b % bytes_of q.size ≡ b)
-  way_covers b canonical same =
+  pub path_covers : (b : ℕ) → IsCanonical depth b → SamePath (levels depth) (suc k) q.base b → IsTrue (covers q b) × (q.base + b % bytes_of q.size ≡ b)
+  path_covers b canonical same =
       let quotient = subst (λ n. q.base / 2 ^ n ≡ b / 2 ^ n) exponent (same_stretch depth k q.base b good.canonical canonical few same) in
       let at = block (3 + 9 * level_of q.size) q.base b good.aligned quotient in
       ((covers_means q b).1 (at.0, at.1), at.2)
@@ -129,7 +129,7 @@ page_walked depth m root space a phys size rights translates canonical is =
           (q, e, cc, cc, cc)
     ] refl
 
--- the page whose leaf is met on the way of an address
+-- the page whose leaf is met on the path of an address
 pub record IsLeafPage (depth : Depth) (space : Space) (a k phys : ℕ) (own : Rights) (q : Page) : Type 0 where
   pub here : page_at space a ≡ Some q
   pub held : Holds space q
@@ -161,13 +161,13 @@ leaf_page depth m root space is translates tree a k left n phys own canonical de
 -- ---- a space with another look at the addresses of a page
 
 pub translates_changed : (depth : Depth) (m m' : Memory) (root : ℕ) (before after : Space) (q : Page) (inside : ℕ → Answer) (k : ℕ) → LooksChanged q inside before after → TranslatesAs depth m root before → IsPage depth q → k + level_of q.size ≡ levels depth
-    → ((b : ℕ) → IsCanonical depth b → SameWay (levels depth) (suc k) q.base b → walk depth m' root b ≡ as_walk (inside b))
-    → ((b : ℕ) → IsCanonical depth b → (SameWay (levels depth) (suc k) q.base b → ⊥) → walk depth m' root b ≡ walk depth m root b)
+    → ((b : ℕ) → IsCanonical depth b → SamePath (levels depth) (suc k) q.base b → walk depth m' root b ≡ as_walk (inside b))
+    → ((b : ℕ) → IsCanonical depth b → (SamePath (levels depth) (suc k) q.base b → ⊥) → walk depth m' root b ≡ walk depth m root b)
     → TranslatesAs depth m' root after
 translates_changed depth m m' root before after q inside k looks translates good level there elsewhere = λ b canonical.
     elim (covers q b) as (λ c. covers q b ≡ c → walk depth m' root b ≡ as_walk (look after b)) [
-      | true ↦ λ covered. there b canonical (covers_way depth q good k level b covered) ∙ ap as_walk (sym (looks.there b covered))
+      | true ↦ λ covered. there b canonical (covers_path depth q good k level b covered) ∙ ap as_walk (sym (looks.there b covered))
       | false ↦ λ uncovered.
-          elsewhere b canonical (λ same. let covered = (way_covers depth q good k level b canonical same).0 in cc)
+          elsewhere b canonical (λ same. let covered = (path_covers depth q good k level b canonical same).0 in cc)
           ∙ translates b canonical ∙ ap as_walk (sym (looks.elsewhere b uncovered))
     ] refl

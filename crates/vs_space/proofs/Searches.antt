@@ -17,19 +17,19 @@ use Rattle.vs_walk.proofs.Walks.{few_levels}
 use Rattle.vs_walk.specs.Memory.{Memory}
 use Rattle.vs_walk.specs.Walk.{walk}
 use Rattle.vs_walk.specs.declared.walk.Walk.TheVariants.{NotMapped, Reserved}
-use Rattle.vs_space.specs.Way.{found_at, entry_in, IsFirstPresent, table_in, table_at, SameWay}
+use Rattle.vs_space.specs.Path.{found_at, entry_in, IsFirstPresent, table_in, table_at, SamePath}
 use Rattle.vs_space.specs.Tree.{IsTree, IsFilled}
 use Rattle.vs_space.specs.Grow.{IsLeastBase}
-use Rattle.vs_space.proofs.Ways.{table_next, same_table, walk_ends, words_found}
+use Rattle.vs_space.proofs.Paths.{table_next, same_table, walk_ends, words_found}
 use Rattle.vs_space.proofs.Meets.{never_table}
 use Rattle.vs_space.proofs.Regions.{same_stretch, stretch_same, in_block}
 use Rattle.vs_space.proofs.Prunes.{found_entry, canonical_stretch}
 
--- a table on the way down: it begins at the base, and nothing is mapped from the start up to there
+-- a table on the path down: it begins at the base, and nothing is mapped from the start up to there
 pub record IsSearching (depth : Depth) (m : Memory) (root start from level number base : ℕ) : Type 0 where
   pub canonical : IsCanonical depth base
   pub from_start : start ≤ base
-  pub same_way : SameWay (levels depth) (levels depth - from) start base
+  pub same_path : SamePath (levels depth) (levels depth - from) start base
   pub before : (b : ℕ) → IsCanonical depth b → start ≤ b → b < base → walk depth m root b ≡ NotMapped
   pub some : 1 ≤ level
   pub within : level ≤ from
@@ -41,7 +41,7 @@ pub searching_start : (depth : Depth) (m : Memory) (root start from number : ℕ
 searching_start depth m root start from number canonical some below aligned reached = record {
   canonical = canonical;
   from_start = omega arith;
-  same_way = λ i lt. refl;
+  same_path = λ i lt. refl;
   before = λ b is_b lo hi. absurd (omega arith);
   some = some;
   within = omega arith;
@@ -95,15 +95,15 @@ module _ (depth : Depth) (m : Memory) (root start from level number base : ℕ) 
   pub used : IsSome (finite.get m number)
   used = tree.in_use (levels depth - level) base number search.reached
 
-  -- addresses of the table's stretch take its way
-  in_stretch : (b : ℕ) → base / 2 ^ (12 + 9 * level) ≡ b / 2 ^ (12 + 9 * level) → SameWay (levels depth) (levels depth - level) base b
-  in_stretch b same = subst (λ j. SameWay (levels depth) j base b) (sym steps) (stretch_same (levels depth) (levels depth - level - 1) base b (omega (arith, search.below)) (subst (λ n. base / 2 ^ n ≡ b / 2 ^ n) (sym exponent) same))
+  -- addresses of the table's stretch take its path
+  in_stretch : (b : ℕ) → base / 2 ^ (12 + 9 * level) ≡ b / 2 ^ (12 + 9 * level) → SamePath (levels depth) (levels depth - level) base b
+  in_stretch b same = subst (λ j. SamePath (levels depth) j base b) (sym steps) (stretch_same (levels depth) (levels depth - level - 1) base b (omega (arith, search.below)) (subst (λ n. base / 2 ^ n ≡ b / 2 ^ n) (sym exponent) same))
 
-  of_stretch : (b : ℕ) → IsCanonical depth b → SameWay (levels depth) (levels depth - level) base b → base / 2 ^ (12 + 9 * level) ≡ b / 2 ^ (12 + 9 * level)
-  of_stretch b is_b same = subst (λ n. base / 2 ^ n ≡ b / 2 ^ n) exponent (same_stretch depth (levels depth - level - 1) base b search.canonical is_b (omega (arith, search.below)) (subst (λ j. SameWay (levels depth) j base b) steps same))
+  of_stretch : (b : ℕ) → IsCanonical depth b → SamePath (levels depth) (levels depth - level) base b → base / 2 ^ (12 + 9 * level) ≡ b / 2 ^ (12 + 9 * level)
+  of_stretch b is_b same = subst (λ n. base / 2 ^ n ≡ b / 2 ^ n) exponent (same_stretch depth (levels depth - level - 1) base b search.canonical is_b (omega (arith, search.below)) (subst (λ j. SamePath (levels depth) j base b) steps same))
 
   -- an address of the stretch whose entry is absent
-  quiet : (b : ℕ) → SameWay (levels depth) (levels depth - level) base b → entry_in level m number (index_at level b) ≡ Some entry.Absent → walk depth m root b ≡ NotMapped
+  quiet : (b : ℕ) → SamePath (levels depth) (levels depth - level) base b → entry_in level m number (index_at level b) ≡ Some entry.Absent → walk depth m root b ≡ NotMapped
   quiet b same absent =
       let there = sym (same_table (levels depth) root m (levels depth - level) base b same) ∙ search.reached in
       let up : level ≡ suc (level - 1) = omega (arith, search.some) in
@@ -113,7 +113,7 @@ module _ (depth : Depth) (m : Memory) (root start from level number base : ℕ) 
   pub not_empty : IsFilled depth m root → ((i : ℕ) → i < 512 → entry_in level m number i ≡ Some entry.Absent) → ⊥
   not_empty filled empty =
       filled.filled (levels depth - level - 1) base number (subst (λ j. table_at (levels depth) m root j base ≡ Some number) steps search.reached)
-      (λ b is_b same. quiet b (subst (λ j. SameWay (levels depth) j base b) (sym steps) same) (empty (index_at level b) (index_low b)))
+      (λ b is_b same. quiet b (subst (λ j. SamePath (levels depth) j base b) (sym steps) same) (empty (index_at level b) (index_low b)))
     where
       index_low : (b : ℕ) → index_at level b < 512
       index_low b = omega arith
@@ -144,14 +144,14 @@ module _ (depth : Depth) (m : Memory) (root start from level number base : ℕ) 
         ∙ sym (sym (shr-shr next (3 + 9 * level) 9) ∙ ap (λ y. y / 512) quotient_next ∙ div-mul-add (base / 2 ^ (3 + 9 * level + 9)) 512 index first.within)
         ∙ ap (λ n. next / 2 ^ n) (sym wide)
 
-    pub next_way : SameWay (levels depth) (levels depth - level) base next
-    next_way = in_stretch next quotient_same
+    pub next_path : SamePath (levels depth) (levels depth - level) base next
+    next_path = in_stretch next quotient_same
 
     pub next_canonical : IsCanonical depth next
     next_canonical = canonical_stretch depth base next (12 + 9 * level) search.canonical (omega (arith, search.below)) quotient_same
 
     pub next_reached : table_at (levels depth) m root (levels depth - level) next ≡ Some number
-    next_reached = sym (same_table (levels depth) root m (levels depth - level) base next next_way) ∙ search.reached
+    next_reached = sym (same_table (levels depth) root m (levels depth - level) base next next_path) ∙ search.reached
 
     pub next_aligned : next % 2 ^ (3 + 9 * level) ≡ 0
     next_aligned = ap (λ x. x % 2 ^ (3 + 9 * level)) (sum_is ∙ sym (plus_zero _)) ∙ mod-mul-add (base / 2 ^ (3 + 9 * level + 9) * 512 + index) (2 ^ (3 + 9 * level)) 0 (pow_pos (3 + 9 * level)) where
@@ -184,7 +184,7 @@ module _ (depth : Depth) (m : Memory) (root start from level number base : ℕ) 
     search_on found own is deep = record {
       canonical = next_canonical;
       from_start = omega (arith, search.from_start, from_base);
-      same_way = λ i lt. search.same_way i lt ∙ next_way i (omega (arith, lt, search.within));
+      same_path = λ i lt. search.same_path i lt ∙ next_path i (omega (arith, lt, search.within));
       before = next_before;
       some = omega arith;
       within = omega (arith, search.within);
@@ -200,7 +200,7 @@ module _ (depth : Depth) (m : Memory) (root start from level number base : ℕ) 
     search_ends phys own is = record {
       canonical = next_canonical;
       from_start = omega (arith, search.from_start, from_base);
-      same_way = λ i lt. search.same_way i lt ∙ next_way i (omega (arith, lt, search.within));
+      same_path = λ i lt. search.same_path i lt ∙ next_path i (omega (arith, lt, search.within));
       before = next_before;
       leaf = record {
         level = level;

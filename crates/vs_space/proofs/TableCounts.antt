@@ -1,4 +1,4 @@
--- How the table count changes with one page, by what is mapped on its way.
+-- How the table count changes with one page, by what is mapped on its path.
 use Rattle.std.proofs.Common.{◌≡◌, ◌≢◌, ℕ, zero, suc, ◌+◌, ◌-◌, ◌*◌, ◌/◌, ◌^◌, ◌<◌, ◌≤◌, true, false, cond, nat_eq, nat_lt, Some, None, IsTrue, ⊎_elim, refl, sym, ap, ◌∙◌, subst, arith}
 use lib.Pow.{shr-shr}
 use Rattle.std.specs.FinMap as finite
@@ -16,7 +16,7 @@ use Rattle.vs_types.proofs.TableCounts.{has_table, stretches, tables_with, table
 use Rattle.vs_walk.specs.Memory.{Memory}
 use Rattle.vs_walk.specs.Walk.{walk, TranslatesAs}
 use Rattle.vs_walk.specs.declared.walk.Walk.TheVariants.{NotMapped}
-use Rattle.vs_space.specs.Way.{SameWay}
+use Rattle.vs_space.specs.Path.{SamePath}
 use Rattle.vs_space.specs.Tree.{NothingUnder}
 use Rattle.vs_space.proofs.Regions.{same_stretch, stretch_same, block, in_block, walked_to_page, walked_to_nothing}
 
@@ -61,12 +61,12 @@ module _ (depth : Depth) (m : Memory) (root : ℕ) (space : Space) (is : IsSpace
   exponent : 12 + 9 * (levels depth - suc (levels depth - level - 1)) ≡ 12 + 9 * level
   exponent = omega arith
 
-  -- addresses of the stretch take one way
-  in_stretch : (b : ℕ) → base / table_bytes level ≡ b / table_bytes level → SameWay (levels depth) (levels depth - level) base b
-  in_stretch b same = subst (λ j. SameWay (levels depth) j base b) (sym steps) (stretch_same (levels depth) (levels depth - level - 1) base b (omega arith) (subst (λ n. base / 2 ^ n ≡ b / 2 ^ n) (sym exponent) same))
+  -- addresses of the stretch take one path
+  in_stretch : (b : ℕ) → base / table_bytes level ≡ b / table_bytes level → SamePath (levels depth) (levels depth - level) base b
+  in_stretch b same = subst (λ j. SamePath (levels depth) j base b) (sym steps) (stretch_same (levels depth) (levels depth - level - 1) base b (omega arith) (subst (λ n. base / 2 ^ n ≡ b / 2 ^ n) (sym exponent) same))
 
-  of_stretch : (b : ℕ) → IsCanonical depth b → SameWay (levels depth) (levels depth - level) base b → base / table_bytes level ≡ b / table_bytes level
-  of_stretch b is_b same = subst (λ n. base / 2 ^ n ≡ b / 2 ^ n) exponent (same_stretch depth (levels depth - level - 1) base b canonical is_b (omega arith) (subst (λ j. SameWay (levels depth) j base b) steps same))
+  of_stretch : (b : ℕ) → IsCanonical depth b → SamePath (levels depth) (levels depth - level) base b → base / table_bytes level ≡ b / table_bytes level
+  of_stretch b is_b same = subst (λ n. base / 2 ^ n ≡ b / 2 ^ n) exponent (same_stretch depth (levels depth - level - 1) base b canonical is_b (omega arith) (subst (λ j. SamePath (levels depth) j base b) steps same))
 
   -- where nothing is mapped, no page begins
   pub none_begins : NothingUnder depth m root (levels depth - level) base → is_member nat_eq (stretches level space) (base / table_bytes level) ≡ false
@@ -122,7 +122,7 @@ module _ (depth : Depth) (m : Memory) (root : ℕ) (space : Space) (is : IsSpace
             ] refl))
       ] refl
 
--- what a page adds to the table count, where the way of its base ends at the table of this level
+-- what a page adds to the table count, where the path of its base ends at the table of this level
 pub count_added : (depth : Depth) (m : Memory) (root : ℕ) (space : Space) (page : Page) (level : ℕ) → IsSpace depth space → TranslatesAs depth m root space → IsPage depth page → IsSpace depth (finite.insert space page.base page) → ((q : Page) → Holds space q → q.base ≢ page.base) → page_at space page.base ≡ None
     → level_of page.size ≤ level → level ≤ levels depth → NothingUnder depth m root (suc (levels depth - level)) page.base → ((j : ℕ) → 0 < j → j ≤ levels depth - level → NothingUnder depth m root j page.base → ⊥)
     → table_count depth (finite.insert space page.base page) ≡ (level - level_of page.size) + table_count depth space

@@ -1,4 +1,4 @@
--- The way through all tables of a tree: it reaches each frame in use once, and no other, and it meets no fault where the
+-- The path through all tables of a tree: it reaches each frame in use once, and no other, and it meets no fault where the
 -- memory translates as a space.
 use Rattle.std.proofs.Common.{◌≡◌, ℕ, zero, suc, ◌+◌, ◌-◌, ◌*◌, ◌/◌, ◌%◌, ◌^◌, ◌==◌, ◌<◌, ◌≤◌, List, [], ◌∷◌, ◌++◌, Option, Some, None, Bool, true, false, not, if◌then◌else◌, length, get_or, flat_map, Contains, IsTrue, ⊎_elim, refl, sym, ap, subst, ◌∙◌, arith, mod-lt}
 use Rattle.std.specs.Prelude.{⊤, IsSome, option_map, slice_index}
@@ -29,10 +29,10 @@ use Rattle.vs_walk.proofs.WaysLaws.{shared_reached}
 use Rattle.vs_walk.proofs.WaysSpaces.{translates_shared}
 use Rattle.vs_space.specs.Held.{word_at}
 use Rattle.vs_walk.specs.Ways.{AreWhole}
-use Rattle.vs_space.specs.Way.{found_at, table_in, table_at, SameWay}
+use Rattle.vs_space.specs.Path.{found_at, table_in, table_at, SamePath}
 use Rattle.vs_space.specs.Tree.{IsTree, IsReached}
 use Rattle.vs_space.specs.Table.{IsPageTable}
-use Rattle.vs_space.proofs.Ways.{words_found, table_first, table_next, none_past, table_before, same_table}
+use Rattle.vs_space.proofs.Paths.{words_found, table_first, table_next, none_past, table_before, same_table}
 use Rattle.vs_space.proofs.Writes.{same_longer}
 use Rattle.vs_space.proofs.Regions.{stretch_same}
 use Rattle.vs_space.proofs.Trees.{one_some}
@@ -113,32 +113,32 @@ above_zero : (level word number : ℕ) (own : Rights) → meaning (suc level) wo
 above_zero zero word number own says = absurd (no_table_below word number own says)
 above_zero (suc level) word number own says = omega arith
 
--- where a table begins, and what lies in it, take the same way to it
-way_into : (top k level times start rest : ℕ) → k + level ≡ top → start ≡ times * table_bytes level → rest < table_bytes level → SameWay top k start (start + rest)
-way_into top zero level times start rest deep is lt = λ i less. absurd (omega arith)
-way_into top (suc k) level times start rest deep is lt =
+-- where a table begins, and what lies in it, take the same path to it
+path_into : (top k level times start rest : ℕ) → k + level ≡ top → start ≡ times * table_bytes level → rest < table_bytes level → SamePath top k start (start + rest)
+path_into top zero level times start rest deep is lt = λ i less. absurd (omega arith)
+path_into top (suc k) level times start rest deep is lt =
     let bytes : ℕ = table_bytes level in
     let own : start / bytes ≡ times = ap (λ n. n / bytes) (is ∙ omega arith) ∙ div-mul-add times bytes 0 (omega arith) in
     let other : (start + rest) / bytes ≡ times = ap (λ n. (n + rest) / bytes) is ∙ div-mul-add times bytes rest lt in
     let here : level ≡ top - suc k = omega arith in
     stretch_same top k start (start + rest) (omega arith) (subst (λ l. start / 2 ^ (12 + 9 * l) ≡ (start + rest) / 2 ^ (12 + 9 * l)) here (own ∙ sym other))
 
--- ---- tables on their ways
+-- ---- tables on their paths
 
 module _ (depth : Depth) (top : ℕ) (root : ℕ) (m : Memory) (whole : AreWhole m) where
-  -- the table is reached after k entries, on the way of the address at which it begins
-  record IsOnWay (k level : ℕ) (table : Table) : Type 0 where
+  -- the table is reached after k entries, on the path of the address at which it begins
+  record IsOnPath (k level : ℕ) (table : Table) : Type 0 where
     deep : k + level ≡ top
-    placed : IsPlaced level table
+    descended : IsPlaced level table
     at : table_at top m root k table.start ≡ Some table.number
 
-  root_on_way : IsOnWay 0 top (record { number = root; start = 0; rights = all_rights })
-  root_on_way = record { deep = omega arith; placed = root_placed top root; at = table_first top root m 0 }
+  root_on_path : IsOnPath 0 top (record { number = root; start = 0; rights = all_rights })
+  root_on_path = record { deep = omega arith; descended = root_placed top root; at = table_first top root m 0 }
 
-  -- an entry of a table on its way
-  module _ (k level : ℕ) (table : Table) (on : IsOnWay k (suc level) table) (words : List ℕ) (is : finite.get m table.number ≡ Some words) (index : ℕ) (within : index < 512) where
-    entry_way : SameWay top k table.start (entry_start level table index)
-    entry_way = subst (λ r. SameWay top k table.start (table.start + r)) (omega arith) (way_into top k (suc level) on.placed.times table.start (index * entry_bytes (suc level) + 0) on.deep on.placed.at (offset_fits level index 0 within (entry_some (suc level))))
+  -- an entry of a table on its path
+  module _ (k level : ℕ) (table : Table) (on : IsOnPath k (suc level) table) (words : List ℕ) (is : finite.get m table.number ≡ Some words) (index : ℕ) (within : index < 512) where
+    entry_path : SamePath top k table.start (entry_start level table index)
+    entry_path = subst (λ r. SamePath top k table.start (table.start + r)) (omega arith) (path_into top k (suc level) on.descended.times table.start (index * entry_bytes (suc level) + 0) on.deep on.descended.at (offset_fits level index 0 within (entry_some (suc level))))
 
     own_level : top - k ≡ suc level
     own_level = omega (arith, on.deep)
@@ -146,14 +146,14 @@ module _ (depth : Depth) (top : ℕ) (root : ℕ) (m : Memory) (whole : AreWhole
     entry_index : index_at (top - k) (entry_start level table index) ≡ index
     entry_index =
         ap (λ l. index_at l (entry_start level table index)) own_level
-        ∙ (at_entry level on.placed.times index 0 (entry_start level table index) within (entry_some (suc level)) (ap (λ n. n + index * entry_bytes (suc level)) on.placed.at ∙ omega arith)).0
+        ∙ (at_entry level on.descended.times index 0 (entry_start level table index) within (entry_some (suc level)) (ap (λ n. n + index * entry_bytes (suc level)) on.descended.at ∙ omega arith)).0
 
-    -- the table to which it leads is on its way
-    next_on_way : (number : ℕ) (own : Rights) → meaning (suc level) (get_or words index 0) ≡ entry.Table number own → IsOnWay (suc k) level (next_table level table index number own)
-    next_on_way number own says = record {
+    -- the table to which it leads is on its path
+    next_on_path : (number : ℕ) (own : Rights) → meaning (suc level) (get_or words index 0) ≡ entry.Table number own → IsOnPath (suc k) level (next_table level table index number own)
+    next_on_path number own says = record {
       deep = omega (arith, on.deep);
-      placed = place_below level table index number own on.placed;
-      at = table_next top root m k _ table.number (sym (same_table top root m k _ _ entry_way) ∙ on.at)
+      descended = place_below level table index number own on.descended;
+      at = table_next top root m k _ table.number (sym (same_table top root m k _ _ entry_path) ∙ on.at)
           ∙ ap table_in (found_in (top - k) m table.number _ index words (entry.Table number own) is entry_index (subst (λ l. meaning l (get_or words index 0) ≡ entry.Table number own) (sym own_level) says));
     }
 
@@ -163,14 +163,14 @@ module _ (depth : Depth) (top : ℕ) (root : ℕ) (m : Memory) (whole : AreWhole
         word_is_met depth m level table words index move is (omega (arith, whole table.number words is))
         (subst (λ means. Contains (entry_moves depth (suc level) table index (λ next. table_moves depth m level next) means) move) (sym says) met)
 
-  -- ---- what is reached is on a way
+  -- ---- what is reached is on a path
 
-  -- a way to the frame takes the first k entries as this one does
+  -- a path to the frame takes the first k entries as this one does
   record IsUnder (k start n : ℕ) : Type 0 where
     steps : ℕ
     address : ℕ
     below : k ≤ steps
-    way : SameWay top k start address
+    path : SamePath top k start address
     at : table_at top m root steps address ≡ Some n
 
   -- and then the entry at this index
@@ -178,39 +178,39 @@ module _ (depth : Depth) (top : ℕ) (root : ℕ) (m : Memory) (whole : AreWhole
     steps : ℕ
     address : ℕ
     below : k < steps
-    way : SameWay top k start address
+    path : SamePath top k start address
     turns : index_at (top - k) address ≡ index
     at : table_at top m root steps address ≡ Some n
 
-  through : (k level : ℕ) (table : Table) (on : IsOnWay k (suc level) table) (words : List ℕ) → finite.get m table.number ≡ Some words
-      → ((next : Table) → IsOnWay (suc k) level next → (n : ℕ) → Contains (table_moves depth m level next) (Reaches n) → IsUnder (suc k) next.start n)
+  through : (k level : ℕ) (table : Table) (on : IsOnPath k (suc level) table) (words : List ℕ) → finite.get m table.number ≡ Some words
+      → ((next : Table) → IsOnPath (suc k) level next → (n : ℕ) → Contains (table_moves depth m level next) (Reaches n) → IsUnder (suc k) next.start n)
       → (index n : ℕ) → index < length words → Contains (at_word_met depth m level table (index, get_or words index 0)) (Reaches n) → IsThrough k table.start index n
   through k level table on words is lower index n lt met =
       let within : index < 512 = omega (arith, whole table.number words is) in
       let into = into_table depth level table index (λ next. table_moves depth m level next) (meaning (suc level) (get_or words index 0)) n met in
-      let under = lower (next_table level table index into.0 into.1) (next_on_way k level table on words is index within into.0 into.1 into.2) n into.3 in
+      let under = lower (next_table level table index into.0 into.1) (next_on_path k level table on words is index within into.0 into.1 into.2) n into.3 in
       record {
         steps = under.steps;
         address = under.address;
         below = omega (arith, under.below);
-        way = λ i less. entry_way k level table on words is index within i less ∙ under.way i (omega arith);
-        turns = sym (under.way k (omega arith)) ∙ entry_index k level table on words is index within;
+        path = λ i less. entry_path k level table on words is index within i less ∙ under.path i (omega arith);
+        turns = sym (under.path k (omega arith)) ∙ entry_index k level table on words is index within;
         at = under.at;
       }
 
-  own_under : (k level : ℕ) (table : Table) (n : ℕ) → IsOnWay k level table → table.number ≡ n → IsUnder k table.start n
+  own_under : (k level : ℕ) (table : Table) (n : ℕ) → IsOnPath k level table → table.number ≡ n → IsUnder k table.start n
   own_under k level table n on same = record {
     steps = k;
     address = table.start;
     below = omega arith;
-    way = λ i less. refl;
+    path = λ i less. refl;
     at = on.at ∙ ap Some same;
   }
 
   from_through : {k start index n : ℕ} → IsThrough k start index n → IsUnder k start n
-  from_through {k} {start} {index} {n} t = record { steps = t.steps; address = t.address; below = omega (arith, t.below); way = t.way; at = t.at }
+  from_through {k} {start} {index} {n} t = record { steps = t.steps; address = t.address; below = omega (arith, t.below); path = t.path; at = t.at }
 
-  table_reaches : (k level : ℕ) (table : Table) → IsOnWay k level table → (n : ℕ) → Contains (table_moves depth m level table) (Reaches n) → IsUnder k table.start n
+  table_reaches : (k level : ℕ) (table : Table) → IsOnPath k level table → (n : ℕ) → Contains (table_moves depth m level table) (Reaches n) → IsUnder k table.start n
   table_reaches k zero table on n met = absurd (not_in_nil _ (subst (λ ms. Contains ms (Reaches n)) (nothing_met depth m table) met))
   table_reaches k (suc level) table on n met =
       elim (finite.get m table.number) as (λ o. finite.get m table.number ≡ o → IsUnder k table.start n) [
@@ -232,19 +232,19 @@ module _ (depth : Depth) (top : ℕ) (root : ℕ) (m : Memory) (whole : AreWhole
   -- ---- each frame once
 
   module _ (tree : IsTree top m root) where
-    -- ways to one frame take the same entry
+    -- paths to one frame take the same entry
     one_turn : (k start i j n : ℕ) → IsThrough k start i n → IsThrough k start j n → i ≡ j
     one_turn k start i j n left right =
         let both = tree.once left.steps right.steps left.address right.address n left.at right.at in
         sym left.turns ∙ both.1 k left.below ∙ right.turns
 
     -- and none goes through the frame itself
-    not_own : (k level : ℕ) (table : Table) → IsOnWay k level table → (index : ℕ) → IsThrough k table.start index table.number → ⊥
+    not_own : (k level : ℕ) (table : Table) → IsOnPath k level table → (index : ℕ) → IsThrough k table.start index table.number → ⊥
     not_own k level table on index t =
         let both = tree.once k t.steps table.start t.address table.number on.at t.at in
         omega (arith, both.0, t.below)
 
-    table_once : (k level : ℕ) (table : Table) → IsOnWay k level table → Once (reached (table_moves depth m level table))
+    table_once : (k level : ℕ) (table : Table) → IsOnPath k level table → Once (reached (table_moves depth m level table))
     table_once k zero table on = subst (λ ms. Once (reached ms)) (sym (nothing_met depth m table)) tt
     table_once k (suc level) table on =
         elim (finite.get m table.number) as (λ o. finite.get m table.number ≡ o → Once (reached (table_moves depth m (suc level) table))) [
@@ -259,12 +259,12 @@ module _ (depth : Depth) (top : ℕ) (root : ℕ) (m : Memory) (whole : AreWhole
                 words_once (at_word_met depth m level table) (IsThrough k table.start) words 0 (one_turn k table.start)
                     (λ index lt. subst (λ i. Once (reached (at_word_met depth m level table (i, get_or words index 0)))) (omega arith)
                     (entry_once depth level table index (λ next. table_moves depth m level next) (meaning (suc level) (get_or words index 0))
-                    (λ number own says. table_once (suc k) level _ (next_on_way k level table on words is index (omega (arith, whole table.number words is)) number own says))))
+                    (λ number own says. table_once (suc k) level _ (next_on_path k level table on words is index (omega (arith, whole table.number words is)) number own says))))
                     (λ index n lt met. subst (λ i. IsThrough k table.start i n) (omega arith) (by_index index n lt (subst (λ i. Contains (at_word_met depth m level table (i, get_or words index 0)) (Reaches n)) (omega arith) met))),
               )
         ] refl
 
-  -- ---- each table on a way is reached
+  -- ---- each table on a path is reached
 
   some_there : (d k a n : ℕ) → table_at top m root (d + k) a ≡ Some n → (p : ℕ) × (table_at top m root k a ≡ Some p)
   some_there d k a n at = elim (table_at top m root k a) as (λ o. table_at top m root k a ≡ o → (p : ℕ) × (table_at top m root k a ≡ Some p)) [
@@ -272,14 +272,14 @@ module _ (depth : Depth) (top : ℕ) (root : ℕ) (m : Memory) (whole : AreWhole
     | Some p ↦ λ is. (p, is)
   ] refl
 
-  way_reached : (d k level : ℕ) (table : Table) → 0 < level → IsOnWay k level table → (a n : ℕ) → SameWay top k table.start a → table_at top m root (d + k) a ≡ Some n → Contains (table_moves depth m level table) (Reaches n)
-  way_reached d k zero table some on a n same at = absurd (omega arith)
-  way_reached zero k (suc level) table some on a n same at =
+  path_reached : (d k level : ℕ) (table : Table) → 0 < level → IsOnPath k level table → (a n : ℕ) → SamePath top k table.start a → table_at top m root (d + k) a ≡ Some n → Contains (table_moves depth m level table) (Reaches n)
+  path_reached d k zero table some on a n same at = absurd (omega arith)
+  path_reached zero k (suc level) table some on a n same at =
       let number : table.number ≡ n = one_some table.number n (sym on.at ∙ same_table top root m k table.start a same ∙ subst (λ j. table_at top m root j a ≡ Some n) (omega arith) at) in
       let first = first_met depth m level table in
       subst (λ x. Contains (table_moves depth m (suc level) table) (Reaches x)) number
       (subst (λ ms. Contains ms (Reaches table.number)) (sym first.1) (Contains-head (Reaches table.number) first.0))
-  way_reached (suc d) k (suc level) table some on a n same at =
+  path_reached (suc d) k (suc level) table some on a n same at =
       let further : table_at top m root (d + suc k) a ≡ Some n = subst (λ j. table_at top m root j a ≡ Some n) (omega arith) at in
       let next = some_there d (suc k) a n further in
       let before = table_before top root m k a next.0 next.1 in
@@ -291,8 +291,8 @@ module _ (depth : Depth) (top : ℕ) (root : ℕ) (m : Memory) (whole : AreWhole
       let within : index < 512 = mod-lt (a / entry_bytes (suc level)) (omega arith) in
       let turns : index_at (top - k) (entry_start level table index) ≡ index_at (top - k) a = entry_index k level table on words.0 words.1 index within ∙ ap (λ l. index_at l a) (sym level_is) in
       next_is_met k level table on words.0 words.1 index within next.0 before.1 (Reaches n) words.2
-      (way_reached d (suc k) level (next_table level table index next.0 before.1) (above_zero level (get_or words.0 index 0) next.0 before.1 words.2) (next_on_way k level table on words.0 words.1 index within next.0 before.1 words.2) a n
-      (same_longer top k (entry_start level table index) a (λ i less. sym (entry_way k level table on words.0 words.1 index within i less) ∙ same i less) turns)
+      (path_reached d (suc k) level (next_table level table index next.0 before.1) (above_zero level (get_or words.0 index 0) next.0 before.1 words.2) (next_on_path k level table on words.0 words.1 index within next.0 before.1 words.2) a n
+      (same_longer top k (entry_start level table index) a (λ i less. sym (entry_path k level table on words.0 words.1 index within i less) ∙ same i less) turns)
       further)
 
 -- ---- from the root on
@@ -301,16 +301,16 @@ module _ (depth : Depth) (memory : Memory) (root : ℕ) (whole : AreWhole memory
   -- each frame that is reached is in use
   pub in_use : IsTree (levels depth) memory root → (n : ℕ) → Contains (reached (moves depth memory root)) n → IsSome (finite.get memory n)
   in_use tree n is =
-      let under = table_reaches depth (levels depth) root memory whole 0 (levels depth) _ (root_on_way depth (levels depth) root memory whole) n (reached_is_met (moves depth memory root) n is) in
+      let under = table_reaches depth (levels depth) root memory whole 0 (levels depth) _ (root_on_path depth (levels depth) root memory whole) n (reached_is_met (moves depth memory root) n is) in
       tree.in_use under.steps under.address n under.at
 
   -- and each frame in use is reached
   pub each : IsReached (levels depth) memory root → (n : ℕ) → IsSome (finite.get memory n) → Contains (reached (moves depth memory root)) n
-  each ways n used =
-      let way = ways.way n used in
+  each paths n used =
+      let path = paths.path n used in
       met_is_reached (moves depth memory root) n
-      (way_reached depth (levels depth) root memory whole way.0 0 (levels depth) _ (some_levels depth) (root_on_way depth (levels depth) root memory whole) way.1 n (λ i less. absurd (omega arith))
-      (subst (λ j. table_at (levels depth) memory root j way.1 ≡ Some n) (omega arith) way.2))
+      (path_reached depth (levels depth) root memory whole path.0 0 (levels depth) _ (some_levels depth) (root_on_path depth (levels depth) root memory whole) path.1 n (λ i less. absurd (omega arith))
+      (subst (λ j. table_at (levels depth) memory root j path.1 ≡ Some n) (omega arith) path.2))
 
   -- and there is no fault
   pub faultless : IsTree (levels depth) memory root → (space : Space) → TranslatesAs depth memory root space → walk_fault depth memory root ≡ None
@@ -319,7 +319,7 @@ module _ (depth : Depth) (memory : Memory) (root : ℕ) (whole : AreWhole memory
       (λ shared.
       let twice = shared_reached depth memory root shared.0 shared.1 in
       absurd (not_twice shared.0 twice.0 twice.1
-      (subst Once twice.2 (table_once depth (levels depth) root memory whole tree 0 (levels depth) _ (root_on_way depth (levels depth) root memory whole))) twice.3))
+      (subst Once twice.2 (table_once depth (levels depth) root memory whole tree 0 (levels depth) _ (root_on_path depth (levels depth) root memory whole))) twice.3))
       (translates_shared depth memory root space whole translates)
 
 -- a page table's traversal meets no fault, and reaches just the frames in use
@@ -349,7 +349,7 @@ table_fits level word n own is =
 
 -- a frame in use is the root, or an entry leads to it
 pub numbers_fit : (depth : Depth) (memory : Memory) (root : ℕ) → IsPageTable depth memory root → (n : ℕ) → IsSome (finite.get memory n) → n < 2 ^ 40
-numbers_fit depth memory root table n used = let way = table.reached.way n used in by_steps way.0 way.1 way.2 where
+numbers_fit depth memory root table n used = let path = table.reached.path n used in by_steps path.0 path.1 path.2 where
   by_steps : (k a : ℕ) → table_at (levels depth) memory root k a ≡ Some n → n < 2 ^ 40
   by_steps zero a at = subst (λ number. number < 2 ^ 40) (one_some root n (sym (table_first (levels depth) root memory a) ∙ at)) table.root_fits
   by_steps (suc k) a at =

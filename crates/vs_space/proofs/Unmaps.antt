@@ -24,13 +24,13 @@ use Rattle.vs_walk.specs.declared.walk.Walk.TheVariants.{NotMapped, Reserved}
 use Rattle.vs_walk.proofs.Translates.{not_reserved}
 use Rattle.vs_space.specs.Held.{with_word}
 use Rattle.vs_walk.specs.Ways.{AreWhole}
-use Rattle.vs_space.specs.Way.{found_at, table_at, table_in, SameWay}
+use Rattle.vs_space.specs.Path.{found_at, table_at, table_in, SamePath}
 use Rattle.vs_space.specs.Tree.{IsTree, NothingUnder}
 use Rattle.vs_space.specs.Prune.{IsCut, IsPruned}
-use Rattle.vs_space.specs.Place.{IsPlace}
+use Rattle.vs_space.specs.Descent.{IsDescent}
 use Rattle.vs_space.specs.Table.{IsStep, IsSpaceOf, IsPageTable}
-use Rattle.vs_space.proofs.Ways.{walk_ends}
-use Rattle.vs_space.proofs.Writes.{table_here, table_above, found_on_way, walk_off_way, len_written, same_or_not}
+use Rattle.vs_space.proofs.Paths.{walk_ends}
+use Rattle.vs_space.proofs.Writes.{table_here, table_above, found_on_path, walk_off_path, len_written, same_or_not}
 use Rattle.vs_space.proofs.Trees.{tree_write, but_none, but_write}
 use Rattle.vs_space.proofs.Reached.{reached_write, whole_written}
 use Rattle.vs_space.proofs.Written.{written_zero}
@@ -45,90 +45,90 @@ unmap_removes depth limit space base q here same = unmap_cases (λ s. s ≡ reco
     (λ p e is. let one : p ≡ q = cc in ap (λ (z : Page). let s : Stepped = record { space = finite.remove space base; answer = answers.Removed z.phys z.size z.rights } in s) one)
     (λ p e differs. let one : p ≡ q = cc in absurd (differs (ap (λ (z : Page). z.base) one ∙ same)))
 
-module _ (depth : Depth) (m : Memory) (root : ℕ) (table : IsPageTable depth m root) (base : ℕ) (canonical : IsCanonical depth base) (level : ℕ) (way : List ℕ) (phys : ℕ) (own : Rights) (place : IsPlace depth m root base 1 level way (entry.Leaf phys own))
+module _ (depth : Depth) (m : Memory) (root : ℕ) (table : IsPageTable depth m root) (base : ℕ) (canonical : IsCanonical depth base) (level : ℕ) (path : List ℕ) (phys : ℕ) (own : Rights) (descent : IsDescent depth m root base 1 level path (entry.Leaf phys own))
     (whole : AreWhole m) (bytes : ℕ) (are : bytes ≡ bytes_of (size_at level)) (begins : base % bytes ≡ 0) where
   k : ℕ
   k = levels depth - level
 
   back : levels depth - (levels depth - level) ≡ level
-  back = omega (arith, place.below)
+  back = omega (arith, descent.below)
 
   deep : levels depth - level < levels depth
-  deep = omega (arith, place.above, place.below)
+  deep = omega (arith, descent.above, descent.below)
 
-  at : table_at (levels depth) m root (levels depth - level) base ≡ Some (slice_index way level)
-  at = place.reached level (omega arith) place.below
+  at : table_at (levels depth) m root (levels depth - level) base ≡ Some (slice_index path level)
+  at = descent.reached level (omega arith) descent.below
 
-  found : found_at (levels depth - (levels depth - level)) m (slice_index way level) base ≡ Some (entry.Leaf phys own)
-  found = subst (λ l. found_at l m (slice_index way level) base ≡ Some (entry.Leaf phys own)) (sym back) place.is
+  found : found_at (levels depth - (levels depth - level)) m (slice_index path level) base ≡ Some (entry.Leaf phys own)
+  found = subst (λ l. found_at l m (slice_index path level) base ≡ Some (entry.Leaf phys own)) (sym back) descent.is
 
   low : index_at (levels depth - (levels depth - level)) base < 512
   low = omega arith
 
   abbrev cleared : ℕ → Memory
-  cleared i = with_word m (slice_index way level) i 0
+  cleared i = with_word m (slice_index path level) i 0
 
   abbrev cut : Memory
-  cut = with_word m (slice_index way level) (index_at (levels depth - (levels depth - level)) base) 0
+  cut = with_word m (slice_index path level) (index_at (levels depth - (levels depth - level)) base) 0
 
   -- the word 0 is absent
   ends : table_in (Some (meaning (levels depth - (levels depth - level)) 0)) ≡ None
   ends = refl
 
-  tree_cut : IsTree (levels depth) (with_word m (slice_index way level) (index_at (levels depth - (levels depth - level)) base) 0) root
-  tree_cut = tree_write (levels depth) root m table.tree whole (levels depth - level) base (slice_index way level) at 0 low ends
+  tree_cut : IsTree (levels depth) (with_word m (slice_index path level) (index_at (levels depth - (levels depth - level)) base) 0) root
+  tree_cut = tree_write (levels depth) root m table.tree whole (levels depth - level) base (slice_index path level) at 0 low ends
 
-  found_cut : (b : ℕ) → SameWay (levels depth) (suc (levels depth - level)) base b → found_at (levels depth - (levels depth - level)) (with_word m (slice_index way level) (index_at (levels depth - (levels depth - level)) base) 0) (slice_index way level) b ≡ Some entry.Absent
-  found_cut b same = found_on_way (levels depth) root m table.tree whole (levels depth - level) base (slice_index way level) at 0 b low same
+  found_cut : (b : ℕ) → SamePath (levels depth) (suc (levels depth - level)) base b → found_at (levels depth - (levels depth - level)) (with_word m (slice_index path level) (index_at (levels depth - (levels depth - level)) base) 0) (slice_index path level) b ≡ Some entry.Absent
+  found_cut b same = found_on_path (levels depth) root m table.tree whole (levels depth - level) base (slice_index path level) at 0 b low same
 
-  walk_on : (b : ℕ) → SameWay (levels depth) (suc (levels depth - level)) base b → walk depth (with_word m (slice_index way level) (index_at (levels depth - (levels depth - level)) base) 0) root b ≡ NotMapped
+  walk_on : (b : ℕ) → SamePath (levels depth) (suc (levels depth - level)) base b → walk depth (with_word m (slice_index path level) (index_at (levels depth - (levels depth - level)) base) 0) root b ≡ NotMapped
   walk_on b same =
-      let up : levels depth - (levels depth - level) ≡ suc (level - 1) = omega (arith, place.above, place.below) in
-      walk_ends (levels depth) root (with_word m (slice_index way level) (index_at (levels depth - (levels depth - level)) base) 0) tree_cut.allows b (levels depth - level) (level - 1) (slice_index way level) entry.Absent (omega (arith, place.above, place.below))
-      (table_here (levels depth) root m table.tree whole (levels depth - level) base (slice_index way level) at 0 b same)
-      (subst (λ l. found_at l (with_word m (slice_index way level) (index_at (levels depth - (levels depth - level)) base) 0) (slice_index way level) b ≡ Some entry.Absent) up (found_cut b same))
+      let up : levels depth - (levels depth - level) ≡ suc (level - 1) = omega (arith, descent.above, descent.below) in
+      walk_ends (levels depth) root (with_word m (slice_index path level) (index_at (levels depth - (levels depth - level)) base) 0) tree_cut.allows b (levels depth - level) (level - 1) (slice_index path level) entry.Absent (omega (arith, descent.above, descent.below))
+      (table_here (levels depth) root m table.tree whole (levels depth - level) base (slice_index path level) at 0 b same)
+      (subst (λ l. found_at l (with_word m (slice_index path level) (index_at (levels depth - (levels depth - level)) base) 0) (slice_index path level) b ≡ Some entry.Absent) up (found_cut b same))
 
-  walk_off : (b : ℕ) → (SameWay (levels depth) (suc (levels depth - level)) base b → ⊥) → walk depth (with_word m (slice_index way level) (index_at (levels depth - (levels depth - level)) base) 0) root b ≡ walk depth m root b
-  walk_off b apart = walk_off_way (levels depth) root m table.tree whole (levels depth - level) base (slice_index way level) at 0 b apart
+  walk_off : (b : ℕ) → (SamePath (levels depth) (suc (levels depth - level)) base b → ⊥) → walk depth (with_word m (slice_index path level) (index_at (levels depth - (levels depth - level)) base) 0) root b ≡ walk depth m root b
+  walk_off b apart = walk_off_path (levels depth) root m table.tree whole (levels depth - level) base (slice_index path level) at 0 b apart
 
-  faultless_cut : (b : ℕ) → IsCanonical depth b → walk depth (with_word m (slice_index way level) (index_at (levels depth - (levels depth - level)) base) 0) root b ≢ Reserved
+  faultless_cut : (b : ℕ) → IsCanonical depth b → walk depth (with_word m (slice_index path level) (index_at (levels depth - (levels depth - level)) base) 0) root b ≢ Reserved
   faultless_cut b is_b reserved = ⊎_elim
       (λ same. let wrong : NotMapped ≡ Reserved = sym (walk_on b same) ∙ reserved in cc)
       (λ apart. not_reserved depth m root table.some_space.0 b table.some_space.1.translates is_b (sym (walk_off b apart) ∙ reserved))
       (same_or_not (levels depth) (suc (levels depth - level)) base b)
 
-  is_cut : IsCut depth (with_word m (slice_index way level) (index_at (levels depth - (levels depth - level)) base) 0) root base level way
+  is_cut : IsCut depth (with_word m (slice_index path level) (index_at (levels depth - (levels depth - level)) base) 0) root base level path
   is_cut = record {
     tree = tree_cut;
-    filled = but_write depth root m table.tree whole (levels depth - level) base (slice_index way level) at 0 low ends (but_none base table.filled);
-    all_reached = reached_write (levels depth) root m table.tree whole (levels depth - level) base (slice_index way level) at 0 (ap table_in found) (written_zero (levels depth - (levels depth - level))) table.reached;
-    whole = whole_written m (slice_index way level) (index_at (levels depth - (levels depth - level)) base) 0 (table.tree.in_use (levels depth - level) base (slice_index way level) at) whole;
-    some = place.above;
-    below = place.below;
-    reached = λ j from to. table_above (levels depth) root m table.tree whole (levels depth - level) base (slice_index way level) at 0 base (levels depth - j) (omega arith) ∙ place.reached j from to;
-    absent = subst (λ l. found_at l (with_word m (slice_index way level) (index_at (levels depth - (levels depth - level)) base) 0) (slice_index way level) base ≡ Some entry.Absent) back (found_cut base (λ i lt. refl));
+    filled = but_write depth root m table.tree whole (levels depth - level) base (slice_index path level) at 0 low ends (but_none base table.filled);
+    all_reached = reached_write (levels depth) root m table.tree whole (levels depth - level) base (slice_index path level) at 0 (ap table_in found) (written_zero (levels depth - (levels depth - level))) table.reached;
+    whole = whole_written m (slice_index path level) (index_at (levels depth - (levels depth - level)) base) 0 (table.tree.in_use (levels depth - level) base (slice_index path level) at) whole;
+    some = descent.above;
+    below = descent.below;
+    reached = λ j from to. table_above (levels depth) root m table.tree whole (levels depth - level) base (slice_index path level) at 0 base (levels depth - j) (omega arith) ∙ descent.reached j from to;
+    absent = subst (λ l. found_at l (with_word m (slice_index path level) (index_at (levels depth - (levels depth - level)) base) 0) (slice_index path level) base ≡ Some entry.Absent) back (found_cut base (λ i lt. refl));
   }
 
   index_same : (index : ℕ) → index ≡ index_at level base → index_at (levels depth - (levels depth - level)) base ≡ index
   index_same index is = ap (λ l. index_at l base) back ∙ sym is
 
-  pub cut_here : (index : ℕ) → index ≡ index_at level base → IsCut depth (with_word m (slice_index way level) index 0) root base level way
-  cut_here index is = subst (λ i. IsCut depth (with_word m (slice_index way level) i 0) root base level way) (index_same index is) is_cut
+  pub cut_here : (index : ℕ) → index ≡ index_at level base → IsCut depth (with_word m (slice_index path level) index 0) root base level path
+  cut_here index is = subst (λ i. IsCut depth (with_word m (slice_index path level) i 0) root base level path) (index_same index is) is_cut
 
-  pub faultless_here : (index : ℕ) → index ≡ index_at level base → (b : ℕ) → IsCanonical depth b → walk depth (with_word m (slice_index way level) index 0) root b ≢ Reserved
-  faultless_here index is = subst (λ i. (b : ℕ) → IsCanonical depth b → walk depth (with_word m (slice_index way level) i 0) root b ≢ Reserved) (index_same index is) faultless_cut
+  pub faultless_here : (index : ℕ) → index ≡ index_at level base → (b : ℕ) → IsCanonical depth b → walk depth (with_word m (slice_index path level) index 0) root b ≢ Reserved
+  faultless_here index is = subst (λ i. (b : ℕ) → IsCanonical depth b → walk depth (with_word m (slice_index path level) i 0) root b ≢ Reserved) (index_same index is) faultless_cut
 
   -- ---- the tables after what is left empty was given back
 
-  module _ (m' : Memory) (up : ℕ) (pruned : IsPruned depth (with_word m (slice_index way level) (index_at (levels depth - (levels depth - level)) base) 0) m' root base level up) (aligned : base % 4096 ≡ 0) (limit : ℕ) (space : Space) (of : IsSpaceOf depth m root space) where
+  module _ (m' : Memory) (up : ℕ) (pruned : IsPruned depth (with_word m (slice_index path level) (index_at (levels depth - (levels depth - level)) base) 0) m' root base level up) (aligned : base % 4096 ≡ 0) (limit : ℕ) (space : Space) (of : IsSpaceOf depth m root space) where
     good : IsBase depth base
     good = record { canonical = canonical; aligned = aligned }
 
     leaf : (q : Page) × IsLeafPage depth space base (levels depth - level) phys own q
-    leaf = page_met depth m root table base canonical level way phys own place space of.is_space of.translates
+    leaf = page_met depth m root table base canonical level path phys own descent space of.is_space of.translates
 
     same_level : level_of leaf.0.size ≡ level
-    same_level = level_met depth m root table base canonical level way phys own place space leaf.0 leaf.1
+    same_level = level_met depth m root table base canonical level path phys own descent space leaf.0 leaf.1
 
     size : leaf.0.size ≡ size_at level
     size = leaf.1.size ∙ ap size_at same_level
@@ -155,13 +155,13 @@ module _ (depth : Depth) (m : Memory) (root : ℕ) (table : IsPageTable depth m 
     is_after : IsSpace depth (step depth limit space (Unmap base)).space
     is_after = step_space limit of.is_space (Unmap base) good
 
-    same_way : (b : ℕ) → SameWay (levels depth) (suc (levels depth - level)) leaf.0.base b → SameWay (levels depth) (suc (levels depth - level)) base b
-    same_way b same = subst (λ a. SameWay (levels depth) (suc (levels depth - level)) a b) begins_here same
+    same_path : (b : ℕ) → SamePath (levels depth) (suc (levels depth - level)) leaf.0.base b → SamePath (levels depth) (suc (levels depth - level)) base b
+    same_path b same = subst (λ a. SamePath (levels depth) (suc (levels depth - level)) a b) begins_here same
 
     translates_after : TranslatesAs depth m' root (step depth limit space (Unmap base)).space
     translates_after = translates_changed depth m m' root space (step depth limit space (Unmap base)).space leaf.0 (λ address. answers.NotMapped) (levels depth - level) looks of.translates leaf.1.good leaf.1.level
-        (λ b is_b same. pruned.walks b is_b ∙ walk_on b (same_way b same))
-        (λ b is_b apart. pruned.walks b is_b ∙ walk_off b (λ same. apart (subst (λ a. SameWay (levels depth) (suc (levels depth - level)) a b) (sym begins_here) same)))
+        (λ b is_b same. pruned.walks b is_b ∙ walk_on b (same_path b same))
+        (λ b is_b apart. pruned.walks b is_b ∙ walk_off b (λ same. apart (subst (λ a. SamePath (levels depth) (suc (levels depth - level)) a b) (sym begins_here) same)))
 
     removed_is : (step depth limit space (Unmap base)).space ≡ finite.remove space leaf.0.base
     removed_is = ap (λ (s : Stepped). s.space) removes ∙ ap (finite.remove space) (sym begins_here)
@@ -188,14 +188,14 @@ module _ (depth : Depth) (m : Memory) (root : ℕ) (table : IsPageTable depth m 
       is_space = is_after;
       translates = translates_after;
       counted =
-          let cut_len = len_written m (slice_index way level) (index_at (levels depth - (levels depth - level)) base) 0 (table.tree.in_use (levels depth - level) base (slice_index way level) at) in
+          let cut_len = len_written m (slice_index path level) (index_at (levels depth - (levels depth - level)) base) 0 (table.tree.in_use (levels depth - level) base (slice_index path level) at) in
           omega (arith, cut_len, pruned.fewer, added, of.counted);
     }
 
   -- as the code has it: the entry at this index was cleared
-  module _ (index : ℕ) (is_index : index ≡ index_at level base) (m' : Memory) (up : ℕ) (pruned : IsPruned depth (with_word m (slice_index way level) index 0) m' root base level up) (aligned : base % 4096 ≡ 0) where
-    pruned_here : IsPruned depth (with_word m (slice_index way level) (index_at (levels depth - (levels depth - level)) base) 0) m' root base level up
-    pruned_here = subst (λ i. IsPruned depth (with_word m (slice_index way level) i 0) m' root base level up) (sym (index_same index is_index)) pruned
+  module _ (index : ℕ) (is_index : index ≡ index_at level base) (m' : Memory) (up : ℕ) (pruned : IsPruned depth (with_word m (slice_index path level) index 0) m' root base level up) (aligned : base % 4096 ≡ 0) where
+    pruned_here : IsPruned depth (with_word m (slice_index path level) (index_at (levels depth - (levels depth - level)) base) 0) m' root base level up
+    pruned_here = subst (λ i. IsPruned depth (with_word m (slice_index path level) i 0) m' root base level up) (sym (index_same index is_index)) pruned
 
     pub unmap_table : IsPageTable depth m' root
     unmap_table = record {

@@ -1,4 +1,4 @@
--- What a write of one entry does to ways and walks.
+-- What a write of one entry does to paths and walks.
 use Rattle.std.proofs.Common.{◌≡◌, ◌≢◌, ℕ, zero, suc, ◌-◌, ◌<◌, ◌≤◌, List, [], Option, Some, None, inl, inr, ◌⊎◌, ⊎_elim, refl, sym, ap, subst, ◌∙◌, arith}
 use Rattle.std.specs.Prelude.{option_map, unwrap_or, IsSome, slice_index, slice_set}
 use Rattle.std.proofs.lemmas.Bool.{cases_eq}
@@ -10,10 +10,10 @@ use Rattle.vs_walk.specs.Memory.{Memory}
 use Rattle.vs_walk.specs.Walk.{all_rights, walk_from}
 use Rattle.vs_space.specs.Held.{word_at, with_word}
 use Rattle.vs_walk.specs.Ways.{AreWhole}
-use Rattle.vs_space.specs.Way.{found_at, table_at, SameWay}
+use Rattle.vs_space.specs.Path.{found_at, table_at, SamePath}
 use Rattle.vs_space.specs.Tree.{IsTree}
 use Rattle.vs_space.proofs.Numbered.{get-insert_same, get-insert_other, len-insert_used}
-use Rattle.vs_space.proofs.Ways.{same_table, agree_table, agree_walk}
+use Rattle.vs_space.proofs.Paths.{same_table, agree_table, agree_walk}
 
 -- the frame's own words
 pub words_in : (m : Memory) (n : ℕ) → IsSome (finite.get m n) → finite.get m n ≡ Some (unwrap_or (finite.get m n) [])
@@ -67,8 +67,8 @@ found_elsewhere level m n i w q b used apart = ⊎_elim
     (λ (other : q ≢ n). found_alike level m (with_word m n i w) q b (get_written_other m n i w q other))
     (cases_eq q n)
 
--- whether two addresses take the same way
-pub same_or_not : (top k a b : ℕ) → SameWay top k a b ⊎ (SameWay top k a b → ⊥)
+-- whether two addresses take the same path
+pub same_or_not : (top k a b : ℕ) → SamePath top k a b ⊎ (SamePath top k a b → ⊥)
 same_or_not top zero a b = inl (λ i lt. absurd (omega arith))
 same_or_not top (suc k) a b = ⊎_elim
     (λ before. ⊎_elim
@@ -78,7 +78,7 @@ same_or_not top (suc k) a b = ⊎_elim
     (λ apart. inr (λ same. apart (λ i lt. same i (omega arith))))
     (same_or_not top k a b)
 
-pub same_longer : (top k a b : ℕ) → SameWay top k a b → index_at (top - k) a ≡ index_at (top - k) b → SameWay top (suc k) a b
+pub same_longer : (top k a b : ℕ) → SamePath top k a b → index_at (top - k) a ≡ index_at (top - k) b → SamePath top (suc k) a b
 same_longer top k a b before here = λ i lt. ⊎_elim (λ (last : i ≡ k). subst (λ j. index_at (top - j) a ≡ index_at (top - j) b) (sym last) here) (λ other. before i (omega arith)) (cases_eq i k)
 
 -- ---- the entry for an address a in the table that is reached after k entries is written
@@ -90,9 +90,9 @@ module _ (top : ℕ) (root : ℕ) (m : Memory) (tree : IsTree top m root) (whole
   used : IsSome (finite.get m n)
   used = tree.in_use k a n at
 
-  -- off the way of a, all is found as before
-  pub off_way : (b : ℕ) → (SameWay top (suc k) a b → ⊥) → (j q : ℕ) → table_at top m root j b ≡ Some q → found_at (top - j) after_write q b ≡ found_at (top - j) m q b
-  off_way b apart j q reached = found_elsewhere (top - j) m n (index_at (top - k) a) w q b used (λ same here.
+  -- off the path of a, all is found as before
+  pub off_path : (b : ℕ) → (SamePath top (suc k) a b → ⊥) → (j q : ℕ) → table_at top m root j b ≡ Some q → found_at (top - j) after_write q b ≡ found_at (top - j) m q b
+  off_path b apart j q reached = found_elsewhere (top - j) m n (index_at (top - k) a) w q b used (λ same here.
       let both = tree.once j k b a n (subst (λ x. table_at top m root j b ≡ Some x) same reached) at in
       apart (same_longer top k a b (λ i lt. sym (both.1 i (omega (arith, both.0)))) (subst (λ x. index_at (top - k) a ≡ index_at (top - x) b) both.0 (sym here))))
 
@@ -100,17 +100,17 @@ module _ (top : ℕ) (root : ℕ) (m : Memory) (tree : IsTree top m root) (whole
   pub above : (b j q : ℕ) → j ≢ k → table_at top m root j b ≡ Some q → found_at (top - j) after_write q b ≡ found_at (top - j) m q b
   above b j q other reached = found_elsewhere (top - j) m n (index_at (top - k) a) w q b used (λ same here. absurd (other (tree.once j k b a n (subst (λ x. table_at top m root j b ≡ Some x) same reached) at).0))
 
-  pub table_off_way : (b j : ℕ) → (SameWay top (suc k) a b → ⊥) → table_at top after_write root j b ≡ table_at top m root j b
-  table_off_way b j apart = agree_table top root m after_write b j (λ i q lt reached. off_way b apart i q reached)
+  pub table_off_path : (b j : ℕ) → (SamePath top (suc k) a b → ⊥) → table_at top after_write root j b ≡ table_at top m root j b
+  table_off_path b j apart = agree_table top root m after_write b j (λ i q lt reached. off_path b apart i q reached)
 
   pub table_above : (b j : ℕ) → j ≤ k → table_at top after_write root j b ≡ table_at top m root j b
   table_above b j le = agree_table top root m after_write b j (λ i q lt reached. above b i q (λ e. omega arith) reached)
 
-  pub walk_off_way : (b : ℕ) → (SameWay top (suc k) a b → ⊥) → walk_from after_write top root all_rights b ≡ walk_from m top root all_rights b
-  walk_off_way b apart = agree_walk top root m after_write b (λ i q lt reached. off_way b apart i q reached)
+  pub walk_off_path : (b : ℕ) → (SamePath top (suc k) a b → ⊥) → walk_from after_write top root all_rights b ≡ walk_from m top root all_rights b
+  walk_off_path b apart = agree_walk top root m after_write b (λ i q lt reached. off_path b apart i q reached)
 
-  pub table_here : (b : ℕ) → SameWay top (suc k) a b → table_at top after_write root k b ≡ Some n
+  pub table_here : (b : ℕ) → SamePath top (suc k) a b → table_at top after_write root k b ≡ Some n
   table_here b same = table_above b k (omega arith) ∙ sym (same_table top root m k a b (λ i lt. same i (omega arith))) ∙ at
 
-  pub found_on_way : (b : ℕ) → index_at (top - k) a < 512 → SameWay top (suc k) a b → found_at (top - k) after_write n b ≡ Some (meaning (top - k) w)
-  found_on_way b low same = found_here (top - k) m n (index_at (top - k) a) w b whole used low (sym (same k (omega arith)))
+  pub found_on_path : (b : ℕ) → index_at (top - k) a < 512 → SamePath top (suc k) a b → found_at (top - k) after_write n b ≡ Some (meaning (top - k) w)
+  found_on_path b low same = found_here (top - k) m n (index_at (top - k) a) w b whole used low (sym (same k (omega arith)))

@@ -17,7 +17,7 @@ use Rattle.vs_walk.specs.Memory.{Memory}
 use Rattle.vs_walk.specs.Walk.{all_rights}
 use Rattle.vs_walk.specs.Ways.{AreWhole}
 use Rattle.vs_space.specs.Held.{word_at, with_word}
-use Rattle.vs_space.specs.Way.{table_at, entry_in, HasPresent}
+use Rattle.vs_space.specs.Path.{table_at, entry_in, HasPresent}
 use Rattle.vs_space.specs.Tree.{IsTree, IsReached, AreWritten}
 use Rattle.vs_space.specs.Written.{word_for, IsWritten}
 use Rattle.vs_space.proofs.Writes.{words_in, get_written, get_written_other}
@@ -99,10 +99,10 @@ written_on top root m tree whole k a n at w is j b q reached are = ⊎_elim
 -- the words of a table that is reached are as written at its level
 pub written_at : (top root : ℕ) (m : Memory) → IsTree top m root → IsReached top m root → (k a n : ℕ) → table_at top m root k a ≡ Some n → AreWritten (top - k) m n
 written_at top root m tree is k a n at =
-    let own = is.way n (tree.in_use k a n at) in
+    let own = is.path n (tree.in_use k a n at) in
     subst (λ l. AreWritten (top - l) m n) (tree.once own.0 k own.1 a n own.2 at).0 own.3
 
--- and at the level of a table on the way of an address
+-- and at the level of a table on the path of an address
 pub written_level : (top root : ℕ) (m : Memory) → IsTree top m root → IsReached top m root → (level a n : ℕ) → level ≤ top → table_at top m root (top - level) a ≡ Some n → AreWritten level m n
 written_level top root m tree is level a n le at =
     let back : top - (top - level) ≡ level = omega arith in

@@ -1,11 +1,11 @@
 pub mod Held
-pub mod Way
+pub mod Path
 pub mod Written
 pub mod Tree
 pub mod Prune
 pub mod Grow
 pub mod Table
-pub mod Place
+pub mod Descent
 pub use Rattle.vs_types.specs.Depth
 pub use Rattle.vs_types.specs.Page
 pub use Rattle.vs_types.specs.Operation

@@ -10,18 +10,18 @@ use Rattle.vs_walk.specs.Memory.{Memory}
 use Rattle.vs_walk.specs.Walk.{walk}
 use Rattle.vs_walk.specs.declared.walk.Walk.TheVariants.{NotMapped}
 use Rattle.vs_space.specs.Held.{word_at}
-use Rattle.vs_space.specs.Way.{found_at, table_at, SameWay}
+use Rattle.vs_space.specs.Path.{found_at, table_at, SamePath}
 use Rattle.vs_space.specs.Written.{IsWritten}
 
--- the tables that are reached are in use, no two ways lead to one, and entries that lead to tables allow everything
+-- the tables that are reached are in use, no two paths lead to one, and entries that lead to tables allow everything
 pub record IsTree (top : ℕ) (memory : Memory) (root : ℕ) : Type 0 where
   pub in_use : (k a n : ℕ) → table_at top memory root k a ≡ Some n → IsSome (finite.get memory n)
-  pub once : (j k a b n : ℕ) → table_at top memory root j a ≡ Some n → table_at top memory root k b ≡ Some n → (j ≡ k) × SameWay top j a b
+  pub once : (j k a b n : ℕ) → table_at top memory root j a ≡ Some n → table_at top memory root k b ≡ Some n → (j ≡ k) × SamePath top j a b
   pub allows : (k a n next : ℕ) (own : Rights) → table_at top memory root k a ≡ Some n → found_at (top - k) memory n a ≡ Some (entry.Table next own) → own ≡ all_rights
 
--- no address that takes the way of this one through the first k tables is mapped
+-- no address that takes the path of this one through the first k tables is mapped
 abbrev pub NothingUnder : Depth → Memory → ℕ → ℕ → ℕ → Type 0
-NothingUnder depth memory root k a = (b : ℕ) → IsCanonical depth b → SameWay (levels depth) k a b → walk depth memory root b ≡ NotMapped
+NothingUnder depth memory root k a = (b : ℕ) → IsCanonical depth b → SamePath (levels depth) k a b → walk depth memory root b ≡ NotMapped
 
 -- each table below the root has an address that is mapped
 pub record IsFilled (depth : Depth) (memory : Memory) (root : ℕ) : Type 0 where
@@ -33,4 +33,4 @@ AreWritten level memory number = (index word : ℕ) → word_at memory number in
 
 -- each frame in use is a table that is reached, with its words as written
 pub record IsReached (top : ℕ) (memory : Memory) (root : ℕ) : Type 0 where
-  pub way : (n : ℕ) → IsSome (finite.get memory n) → (k : ℕ) × (a : ℕ) × (table_at top memory root k a ≡ Some n) × AreWritten (top - k) memory n
+  pub path : (n : ℕ) → IsSome (finite.get memory n) → (k : ℕ) × (a : ℕ) × (table_at top memory root k a ≡ Some n) × AreWritten (top - k) memory n

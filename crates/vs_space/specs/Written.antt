@@ -7,7 +7,7 @@ use Rattle.vs_types.specs.declared.entry.Meaning.{Meaning}
 use Rattle.vs_types.specs.declared.entry.Meaning.TheVariants as entry
 use Rattle.vs_walk.specs.Memory.{Memory}
 use Rattle.vs_space.specs.Held.{word_at}
-use Rattle.vs_space.specs.Way.{table_at}
+use Rattle.vs_space.specs.Path.{table_at}
 
 -- the word that is written for what an entry of this level says: 0, or that of a table or of a page; none that says Reserved is written
 abbrev pub word_for : ℕ → Meaning → ℕ

@@ -3,7 +3,7 @@
 //! Addresses are in bytes. A frame number is a physical address divided by 4,096. No call takes memory or waits.
 #![tactic(auto)]
 
-mod place;
+mod descent;
 mod space;
 mod tables;
 mod word;

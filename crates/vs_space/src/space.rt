@@ -91,7 +91,7 @@ impl<S: FrameStore> Space<S> {
         self.tables.used()
     }
 
-    /// The frame number of the root. The way through all tables from there meets no fault, and reaches just the frames
+    /// The frame number of the root. The path through all tables from there meets no fault, and reaches just the frames
     /// in use, each word of which is 0, or the word that `Entry` writes for a table or for a page of its level. Frame
     /// numbers are those of the store: from its base up to below its base plus its capacity, and below 2^40.
     pub fn root(&self) -> u64
@@ -113,11 +113,12 @@ impl<S: FrameStore> Space<S> {
         requires { IsCanonical self.now.depth address }
         ensures { (space : spaces.Space) → IsTableOf self.now space → result ≡ look space address }
     {
-        let place = self.tables.descend(self.depth, self.root, address, 1);
-        let Meaning::Leaf(phys, rights) = read_written(place.level, place.word) else {
+        let descent = self.tables.descend(self.depth, self.root, address, 1);
+        let level = descent.level as u8;
+        let Meaning::Leaf(phys, rights) = read_written(level, descent.word) else {
             return Answer::NotMapped;
         };
-        let size = Size::at_level(place.level);
+        let size = Size::at_level(level);
         Answer::Mapped(phys + address % size.bytes(), size, rights)
     }
 
@@ -139,10 +140,11 @@ impl<S: FrameStore> Space<S> {
         ensures { IsStep self.old (Action.Map page) result self.new }
     {
         let lowest = page.size.level();
-        let place = self
+        let descent = self
             .tables
             .descend(self.depth, self.root, page.base, lowest);
-        match read_written(place.level, place.word) {
+        let level = descent.level as u8;
+        match read_written(level, descent.word) {
             Meaning::Absent => {}
             Meaning::Table(table, _) => {
                 let base = self
@@ -151,13 +153,13 @@ impl<S: FrameStore> Space<S> {
                 return Answer::Overlap(base);
             }
             Meaning::Leaf(_, _) => {
-                let bytes = Size::at_level(place.level).bytes();
+                let bytes = Size::at_level(level).bytes();
                 return Answer::Overlap(page.base - page.base % bytes);
             }
             Meaning::Reserved => unreachable!(),
         }
         let limit = self.tables.limit();
-        let need = self.tables.used() + usize::from(place.level - lowest);
+        let need = self.tables.used() + usize::from(level - lowest);
         if need > limit {
             return Answer::Full(need as u64);
         }
@@ -165,8 +167,8 @@ impl<S: FrameStore> Space<S> {
             self.depth,
             self.root,
             page.base,
-            place.number,
-            place.level,
+            descent.number,
+            level,
             lowest,
         );
         let leaf = Entry::leaf(page.size, page.phys, page.rights);
@@ -179,18 +181,19 @@ impl<S: FrameStore> Space<S> {
         requires { IsBase self.old.depth base }
         ensures { IsStep self.old (Action.Unmap base) result self.new }
     {
-        let place = self.tables.descend(self.depth, self.root, base, 1);
-        let Meaning::Leaf(phys, rights) = read_written(place.level, place.word) else {
+        let descent = self.tables.descend(self.depth, self.root, base, 1);
+        let level = descent.level as u8;
+        let Meaning::Leaf(phys, rights) = read_written(level, descent.word) else {
             return Answer::NotMapped;
         };
-        let size = Size::at_level(place.level);
+        let size = Size::at_level(level);
         let offset = base % size.bytes();
         if offset != 0 {
             return Answer::Inside(base - offset);
         }
-        let number = place.way[place.level as usize];
-        self.tables.write(number, index_at(place.level, base), 0);
-        let _stop = self.tables.prune(self.depth, base, &place.way, place.level);
+        let number = descent.path[descent.level];
+        self.tables.write(number, index_at(level, base), 0);
+        let _stop = self.tables.prune(self.depth, base, &descent.path, level);
         Answer::Removed(phys, size, rights)
     }
 
@@ -198,18 +201,19 @@ impl<S: FrameStore> Space<S> {
         requires { IsBase self.old.depth base }
         ensures { IsStep self.old (Action.Protect base rights) result self.new }
     {
-        let place = self.tables.descend(self.depth, self.root, base, 1);
-        let Meaning::Leaf(phys, old) = read_written(place.level, place.word) else {
+        let descent = self.tables.descend(self.depth, self.root, base, 1);
+        let level = descent.level as u8;
+        let Meaning::Leaf(phys, old) = read_written(level, descent.word) else {
             return Answer::NotMapped;
         };
-        let size = Size::at_level(place.level);
+        let size = Size::at_level(level);
         let offset = base % size.bytes();
         if offset != 0 {
             return Answer::Inside(base - offset);
         }
         let leaf = Entry::leaf(size, phys, rights);
         self.tables
-            .write(place.number, index_at(place.level, base), leaf.word());
+            .write(descent.number, index_at(level, base), leaf.word());
         Answer::Changed(old)
     }
 }

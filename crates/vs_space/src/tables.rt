@@ -9,13 +9,13 @@ ghost use Rattle.vs_types.specs.declared.entry.Meaning.{Meaning};
 ghost use Rattle.vs_space.specs.Prune.{IsCut, IsPruned};
 ghost use Rattle.vs_space.specs.Held.{numbered, word_at, with_word, AreNumbered};
 ghost use Rattle.vs_walk.specs.Ways.{AreWhole};
-ghost use Rattle.vs_space.specs.Way.{found_at, table_at, entry_in, IsFirstPresent, HasPresent};
+ghost use Rattle.vs_space.specs.Path.{found_at, table_at, entry_in, IsFirstPresent, HasPresent};
 ghost use Rattle.vs_space.specs.Tree.{IsTree, IsFilled, IsReached, AreWritten};
 ghost use Rattle.vs_space.specs.Written.{IsWritten};
 ghost use Rattle.vs_space.specs.Grow.{IsOpen, IsExtended, IsLeastBase};
-ghost use Rattle.vs_space.specs.Place.{IsPlace};
+ghost use Rattle.vs_space.specs.Descent.{IsDescent};
 
-use crate::place::{Place, WAY};
+use crate::descent::{Descent, PATH_LENGTH};
 use crate::word::read_written;
 use std::marker::Model;
 use vs_arena::{FRAME_WORDS, Frame, FrameStore};
@@ -128,43 +128,43 @@ impl<S: FrameStore> Tables<S> {
         read_written(level, self.word(number, index_at(level, address)))
     }
 
-    /// Goes down on the way of an address to the first entry that leads no further, but not below the lowest level.
+    /// Goes down on the path of an address to the first entry that leads no further, but not below the lowest level.
     #[inline]
-    pub(crate) fn descend(&self, depth: Depth, root: u64, address: u64, lowest: u8) -> Place
+    pub(crate) fn descend(&self, depth: Depth, root: u64, address: u64, lowest: u8) -> Descent
         requires tree { IsTree (levels depth) self.now.memory root }
         requires all_reached { IsReached (levels depth) self.now.memory root }
         requires some_level { 1 ≤ lowest }
         requires within { lowest ≤ levels depth }
-        ensures place { IsPlace depth self.now.memory root address lowest result.level result.way (meaning result.level result.word) }
-        ensures last { result.number ≡ slice_index result.way result.level }
+        ensures descent { IsDescent depth self.now.memory root address lowest result.level result.path (meaning result.level result.word) }
+        ensures last { result.number ≡ slice_index result.path result.level }
         ensures written { IsWritten result.level result.word }
         ensures some_level { 1 ≤ result.level }
         ensures few_levels { result.level ≤ 5 }
     {
         let mut level = depth.levels();
         let mut number = root;
-        let mut way = [root; WAY];
+        let mut path = [root; PATH_LENGTH];
         loop {
             let word = self.word(number, index_at(level, address));
             if level == lowest {
-                return Place {
-                    way,
-                    level,
+                return Descent {
+                    path,
+                    level: level as usize,
                     number,
                     word,
                 };
             }
             let Meaning::Table(next, _) = read_written(level, word) else {
-                return Place {
-                    way,
-                    level,
+                return Descent {
+                    path,
+                    level: level as usize,
                     number,
                     word,
                 };
             };
             number = next;
             level -= 1;
-            way[level as usize] = number;
+            path[level as usize] = number;
         }
     }
 
@@ -208,31 +208,37 @@ impl<S: FrameStore> Tables<S> {
         true
     }
 
-    /// Gives back the tables on the way of an address, from this level up, that have no entry that is present, and
+    /// Gives back the tables on the path of an address, from this level up, that have no entry that is present, and
     /// clears what led to them. Answers the level at which it stops.
-    pub(crate) fn prune(&mut self, depth: Depth, address: u64, way: &[u64; WAY], from: u8) -> u8
+    pub(crate) fn prune(
+        &mut self,
+        depth: Depth,
+        address: u64,
+        path: &[u64; PATH_LENGTH],
+        from: u8,
+    ) -> u8
         requires canonical { IsCanonical depth address }
-        requires faultless { (b : ℕ) → IsCanonical depth b → walk depth self.old.memory (slice_index way.now (levels depth)) b ≢ Walk.Reserved }
+        requires faultless { (b : ℕ) → IsCanonical depth b → walk depth self.old.memory (slice_index path.now (levels depth)) b ≢ Walk.Reserved }
         requires numbers { AreNumbered self.old.base self.old.limit self.old.memory }
-        requires cut { IsCut depth self.old.memory (slice_index way.now (levels depth)) address from way.now }
-        ensures pruned { IsPruned depth self.old.memory self.new.memory (slice_index way.now (levels depth)) address from result }
+        requires cut { IsCut depth self.old.memory (slice_index path.now (levels depth)) address from path.now }
+        ensures pruned { IsPruned depth self.old.memory self.new.memory (slice_index path.now (levels depth)) address from result }
         ensures same { self.new ≡ record self.old { memory = self.new.memory } }
         ensures numbers { AreNumbered self.new.base self.new.limit self.new.memory }
     {
         let mut level = from;
         while level < depth.levels() {
-            let emptied = way[level as usize];
+            let emptied = path[level as usize];
             if !self.is_empty(level, emptied, index_at(level, address)) {
                 return level;
             }
             level += 1;
-            self.write(way[level as usize], index_at(level, address), 0);
+            self.write(path[level as usize], index_at(level, address), 0);
             self.give(emptied);
         }
         level
     }
 
-    /// Links new tables on the way of an address below its last table, which has this frame number and level, down to
+    /// Links new tables on the path of an address below its last table, which has this frame number and level, down to
     /// the lowest level. Answers the last one's number.
     pub(crate) fn extend(
         &mut self,

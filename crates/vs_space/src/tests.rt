@@ -34,7 +34,7 @@ fn word(space: &Table, number: u64, index: usize) -> Option<u64>
     Some(words[index])
 }
 
-// The words at these indexes on a way from the root down.
+// The words at these indexes on a path from the root down.
 fn leads_to(rt: &impl Abort, space: &Table, indexes: &[u16]) -> u64 {
     let mut number = space.root();
     let mut last = 0;

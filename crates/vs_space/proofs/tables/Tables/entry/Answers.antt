@@ -1,4 +1,4 @@
-use Rattle.vs_space.proofs.Places.{entry_read}
+use Rattle.vs_space.proofs.Descents.{entry_read}
 use Rattle.vs_space.proofs.tables.Tables.entry.Goals as goal
 
 pub read_written-requires-clause-written : goal.read_written-requires-clause-written

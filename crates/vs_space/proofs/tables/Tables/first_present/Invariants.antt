@@ -1,6 +1,6 @@
 use Rattle.std.proofs.Common.{◌≡◌, ℕ, ◌<◌, Some}
 use Rattle.vs_types.specs.declared.entry.Meaning.TheVariants as entry
-use Rattle.vs_space.specs.Way.{entry_in}
+use Rattle.vs_space.specs.Path.{entry_in}
 use Rattle.vs_space.proofs.tables.Tables.first_present.Given as goal
 
 abbrev pub invariant-loop-index : goal.invariant-loop-index

@@ -1,5 +1,5 @@
 use Rattle.std.proofs.Common.{◌≡◌, ◌+◌, ◌*◌, ◌%◌, ◌^◌, Some, ap, ◌∙◌, arith}
-use Rattle.vs_space.specs.Way.{found_at}
+use Rattle.vs_space.specs.Path.{found_at}
 use Rattle.vs_types.specs.declared.entry.Meaning.TheVariants as entry
 use Rattle.vs_types.specs.Depth.{levels}
 use Rattle.vs_space.proofs.Written.{written_level}

@@ -1,4 +1,4 @@
--- The tables on the way of an address, from the root down, in a memory.
+-- The tables on the path of an address, from the root down, in a memory.
 use Rattle.std.specs.Prelude.{◌≡◌, ℕ, zero, suc, ◌-◌, ◌<◌, Option, Some, None, option_map, option_and_then}
 use Rattle.vs_types.specs.Depth.{index_at}
 use Rattle.vs_types.specs.Entry.{meaning}
@@ -19,15 +19,15 @@ table_in (Some entry.Reserved) = None
 table_in (Some (entry.Table number own)) = Some number
 table_in (Some (entry.Leaf phys own)) = None
 
--- the table that is reached on the way of an address after this many entries, where the root has the level top
+-- the table that is reached on the path of an address after this many entries, where the root has the level top
 unfoldable pub table_at : ℕ → Memory → ℕ → ℕ → ℕ → Option ℕ
 table_at top memory root zero address = Some root
 table_at top memory root (suc k) address =
     option_and_then (λ number. table_in (found_at (top - k) memory number address)) (table_at top memory root k address)
 
 -- two addresses that take the same entry at each of the first k tables
-abbrev pub SameWay : ℕ → ℕ → ℕ → ℕ → Type 0
-SameWay top k a b = (i : ℕ) → i < k → index_at (top - i) a ≡ index_at (top - i) b
+abbrev pub SamePath : ℕ → ℕ → ℕ → ℕ → Type 0
+SamePath top k a b = (i : ℕ) → i < k → index_at (top - i) a ≡ index_at (top - i) b
 
 -- what the entry at an index says, in the table of this level in this frame
 unfoldable pub entry_in : ℕ → Memory → ℕ → ℕ → Option Meaning

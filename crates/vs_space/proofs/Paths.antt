@@ -1,4 +1,4 @@
--- The ways of addresses through the tables of a memory.
+-- The paths of addresses through the tables of a memory.
 use Rattle.std.proofs.Common.{◌≡◌, ℕ, zero, suc, ◌+◌, ◌-◌, ◌<◌, List, Option, Some, None, refl, sym, ap, subst, ◌∙◌, arith}
 use Rattle.std.specs.Prelude.{option_and_then, option_map, slice_index}
 use Rattle.std.specs.FinMap as finite
@@ -13,7 +13,7 @@ use Rattle.vs_walk.specs.Walk.{all_rights, walk_entry, walk_from}
 use Rattle.vs_walk.specs.declared.walk.Walk.TheVariants.{Missing}
 use Rattle.vs_walk.proofs.Walks.{walk_nowhere, walk_missing, walk_at}
 use Rattle.vs_space.specs.Held.{word_at}
-use Rattle.vs_space.specs.Way.{found_at, table_in, table_at, SameWay}
+use Rattle.vs_space.specs.Path.{found_at, table_in, table_at, SamePath}
 
 -- ---- an entry on a walk
 
@@ -41,7 +41,7 @@ walk_found m below n rights a e is = let at = words_found (suc below) m n a e is
 pub walk_lost : (m : Memory) (below n : ℕ) (rights : Rights) (a : ℕ) → found_at (suc below) m n a ≡ None → walk_from m (suc below) n rights a ≡ Missing
 walk_lost m below n rights a is = walk_missing m below n rights a (nothing_found (suc below) m n a is)
 
--- ---- the tables on a way
+-- ---- the tables on a path
 
 module _ (top : ℕ) (root : ℕ) where
   pub table_first : (m : Memory) (a : ℕ) → table_at top m root 0 a ≡ Some root
@@ -79,8 +79,8 @@ module _ (top : ℕ) (root : ℕ) where
   unfolding found_at
   found_same level m n a b e = ap (λ i. option_map (meaning level) (word_at m n i)) e
 
-  -- the same way leads to the same tables
-  pub same_table : (m : Memory) (k a b : ℕ) → SameWay top k a b → table_at top m root k a ≡ table_at top m root k b
+  -- the same path leads to the same tables
+  pub same_table : (m : Memory) (k a b : ℕ) → SamePath top k a b → table_at top m root k a ≡ table_at top m root k b
   same_table m zero a b same = table_first m a ∙ sym (table_first m b)
   same_table m (suc k) a b same =
       let before = same_table m k a b (λ i lt. same i (omega arith)) in
@@ -126,7 +126,7 @@ module _ (top : ℕ) (root : ℕ) where
   pub agree_walk : (m m' : Memory) (b : ℕ) → ((j n : ℕ) → j < top → table_at top m root j b ≡ Some n → found_at (top - j) m' n b ≡ found_at (top - j) m n b) → walk_from m' top root all_rights b ≡ walk_from m top root all_rights b
   agree_walk m m' b alike = agree_from m m' b alike top 0 root all_rights (omega arith) (table_first m b)
 
-  -- ---- a walk from a table on its way
+  -- ---- a walk from a table on its path
 
   -- entries that lead to tables allow everything
   abbrev pub AllowsAll : Memory → Type 0

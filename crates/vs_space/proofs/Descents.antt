@@ -1,0 +1,108 @@
+-- A descent through the tables, table by table.
+use Rattle.std.proofs.Common.{◌≡◌, ◌≢◌, ℕ, zero, suc, ◌-◌, ◌<◌, ◌≤◌, List, [], ◌∷◌, length, Some, None, ⊎_elim, refl, sym, ap, subst, ◌∙◌, arith}
+use Rattle.std.specs.Prelude.{IsSome, option_map, slice_index, slice_set}
+use Rattle.std.proofs.lemmas.Bool.{cases_eq}
+use Rattle.std.proofs.lemmas.List.{get_or-set_same, get_or-set_other, length-set}
+use Rattle.std.specs.FinMap as finite
+use Rattle.vs_types.specs.Depth.{levels, index_at}
+use Rattle.vs_types.specs.Entry.{meaning}
+use Rattle.vs_types.specs.declared.depth.Depth.{Depth}
+use Rattle.vs_types.specs.declared.page.Rights.{Rights}
+use Rattle.vs_types.specs.declared.entry.Meaning.{Meaning}
+use Rattle.vs_types.specs.declared.entry.Meaning.TheVariants as entry
+use Rattle.vs_walk.specs.Memory.{Memory}
+use Rattle.vs_walk.proofs.Walks.{few_levels}
+use Rattle.vs_space.specs.Held.{word_at}
+use Rattle.vs_space.specs.Path.{found_at, table_at, table_in}
+use Rattle.vs_space.specs.Tree.{IsTree, IsReached, AreWritten}
+use Rattle.vs_space.specs.Descent.{IsDescent}
+use Rattle.vs_space.proofs.Paths.{table_first, table_next}
+use Rattle.vs_space.proofs.Written.{written_level}
+
+pub entry_read : (level : ℕ) (m : Memory) (n a index word : ℕ) (e : Meaning) → word_at m n index ≡ Some word → index ≡ index_at level a → e ≡ meaning level word → found_at level m n a ≡ Some e
+unfolding found_at
+entry_read level m n a index word e got is reads = ap (λ i. option_map (meaning level) (word_at m n i)) (sym is) ∙ ap (option_map (meaning level)) got ∙ ap Some (sym reads)
+
+-- the tables on the path of an address, from the root down to this level
+pub record IsOnPath (depth : Depth) (memory : Memory) (root address lowest level number : ℕ) (path : List ℕ) : Type 0 where
+  pub above : lowest ≤ level
+  pub below : level ≤ levels depth
+  pub long : length path ≡ 6
+  pub last : number ≡ slice_index path level
+  pub reached : (j : ℕ) → level ≤ j → j ≤ levels depth → table_at (levels depth) memory root (levels depth - j) address ≡ Some (slice_index path j)
+
+pub at_root : (depth : Depth) (m : Memory) (root a lowest level : ℕ) (path : List ℕ) → level ≡ levels depth → lowest ≤ levels depth → length path ≡ 6 → ((j : ℕ) → j < 6 → slice_index path j ≡ root) → IsOnPath depth m root a lowest level root path
+at_root depth m root a lowest level path top low long same = record {
+  above = omega arith;
+  below = omega arith;
+  long = long;
+  last = sym (same level (omega (arith, few_levels depth)));
+  reached = λ j from to.
+      let first : levels depth - j ≡ 0 = omega arith in
+      subst (λ k. table_at (levels depth) m root k a ≡ Some (slice_index path j)) (sym first) (table_first (levels depth) root m a ∙ ap Some (sym (same j (omega (arith, few_levels depth)))));
+}
+
+pub used_here : (depth : Depth) (m : Memory) (root a lowest level number : ℕ) (path : List ℕ) → IsTree (levels depth) m root → IsOnPath depth m root a lowest level number path → IsSome (finite.get m number)
+used_here depth m root a lowest level number path tree on = tree.in_use (levels depth - level) a number (on.reached level (omega arith) on.below ∙ ap Some (sym on.last))
+
+-- what is no table leads to none
+pub no_table : (e : Meaning) → ((n : ℕ) (own : Rights) → e ≢ entry.Table n own) → table_in (Some e) ≡ None
+no_table entry.Absent other = refl
+no_table entry.Reserved other = refl
+no_table (entry.Leaf phys own) other = refl
+no_table (entry.Table n own) other = absurd (other n own refl)
+
+-- and its words are as written
+pub written_on_path : (depth : Depth) (m : Memory) (root a lowest level number : ℕ) (path : List ℕ) → IsTree (levels depth) m root → IsReached (levels depth) m root → IsOnPath depth m root a lowest level number path → AreWritten level m number
+written_on_path depth m root a lowest level number path tree all on = written_level (levels depth) root m tree all level a number on.below (on.reached level (omega arith) on.below ∙ ap Some (sym on.last))
+
+pub stops : (depth : Depth) (m : Memory) (root a lowest level number : ℕ) (path : List ℕ) (e : Meaning) → IsOnPath depth m root a lowest level number path → found_at level m number a ≡ Some e → (lowest < level → table_in (Some e) ≡ None) → IsDescent depth m root a lowest level path e
+stops depth m root a lowest level number path e on found ends = record {
+  above = on.above;
+  below = on.below;
+  reached = on.reached;
+  is = subst (λ n. found_at level m n a ≡ Some e) on.last found;
+  ends = ends;
+}
+
+pub goes_down : (depth : Depth) (m : Memory) (root a lowest level number next : ℕ) (own : Rights) (path : List ℕ) → 1 ≤ lowest → IsOnPath depth m root a lowest level number path → found_at level m number a ≡ Some (entry.Table next own) → lowest ≢ level → IsOnPath depth m root a lowest (level - 1) next (slice_set path (level - 1) next)
+goes_down depth m root a lowest level number next own path some on found other = record {
+  above = omega (arith, on.above);
+  below = omega (arith, on.below);
+  long = length-set path (level - 1) next ∙ on.long;
+  last = sym here;
+  reached = λ j from to. ⊎_elim
+      (λ (same : j ≡ level - 1). subst (λ i. table_at (levels depth) m root (levels depth - i) a ≡ Some (slice_index (slice_set path (level - 1) next) i)) (sym same) (reaches ∙ ap Some (sym here)))
+      (λ (apart : j ≢ level - 1). on.reached j (omega (arith, on.above)) to ∙ ap Some (sym (get_or-set_other path (level - 1) j next 0 apart)))
+      (cases_eq j (level - 1));
+} where
+  here : slice_index (slice_set path (level - 1) next) (level - 1) ≡ next
+  here = get_or-set_same path (level - 1) next 0 (omega (arith, on.long, on.below, few_levels depth, on.above))
+
+  steps : levels depth - (level - 1) ≡ suc (levels depth - level)
+  steps = omega (arith, on.below, on.above)
+
+  back : levels depth - (levels depth - level) ≡ level
+  back = omega (arith, on.below)
+
+  reaches : table_at (levels depth) m root (levels depth - (level - 1)) a ≡ Some next
+  reaches = ap (λ k. table_at (levels depth) m root k a) steps ∙ table_next (levels depth) root m (levels depth - level) a number (on.reached level (omega arith) on.below ∙ ap Some (sym on.last))
+      ∙ ap (λ l. table_in (found_at l m number a)) back ∙ ap table_in found
+
+pub all_root : (root j : ℕ) → j < 6 → slice_index (root ∷ root ∷ root ∷ root ∷ root ∷ root ∷ []) j ≡ root
+all_root root zero lt = refl
+all_root root (suc zero) lt = refl
+all_root root (suc (suc zero)) lt = refl
+all_root root (suc (suc (suc zero))) lt = refl
+all_root root (suc (suc (suc (suc zero)))) lt = refl
+all_root root (suc (suc (suc (suc (suc zero))))) lt = refl
+all_root root (suc (suc (suc (suc (suc (suc j)))))) lt = absurd (omega arith)
+
+-- the highest table on the path is the root
+pub path_root : (depth : Depth) (m : Memory) (root a lowest level : ℕ) (path : List ℕ) (e : Meaning) → IsDescent depth m root a lowest level path e → slice_index path (levels depth) ≡ root
+path_root depth m root a lowest level path e descent =
+    let first : levels depth - levels depth ≡ 0 = omega arith in
+    same _ _ (sym (descent.reached (levels depth) descent.below (omega arith)) ∙ ap (λ k. table_at (levels depth) m root k a) first ∙ table_first (levels depth) root m a)
+  where
+    same : (x y : ℕ) → Some x ≡ Some y → x ≡ y
+    same x y e = cc
