@@ -24,7 +24,7 @@ pub use traversal::{PageVisitor, traverse};
 pub use vs_types::FRAME_WORDS;
 pub use walk::{Walk, WalkFault, translate};
 pub use ways::{
-    dumps_are_whole, faults_are_met, faults_are_walked, found_pages_are_the_space,
+    dumps_are_whole, faults_are_met, faults_are_walked, few_are_reached, found_pages_are_the_space,
     found_pages_are_the_walks, found_pages_rise, reached_once,
 };
 

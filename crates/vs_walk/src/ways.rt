@@ -1,6 +1,6 @@
 //! Laws of the way through all tables, and of the walks of single addresses. Each function does nothing: its clauses
 //! say what holds of every memory.
-ghost use Rattle.std.specs.Prelude.{◌≡◌, ◌≢◌, ◌≤◌, ◌<◌, ◌^◌, ◌⊎◌, ◌++◌, ◌∷◌, ℕ, List, All, Contains, IsTrue, IsFalse, Some, None, nat_eq};
+ghost use Rattle.std.specs.Prelude.{◌≡◌, ◌≢◌, ◌≤◌, ◌<◌, ◌^◌, ◌⊎◌, ◌++◌, ◌∷◌, ℕ, List, length, All, Contains, IsTrue, IsFalse, Some, None, nat_eq};
 ghost use Rattle.std.specs.FinMap as finite;
 ghost use Rattle.std.specs.List.{AllPairs, IsDistinct};
 ghost use Rattle.vs_types.specs.declared.depth.Depth.{Depth};
@@ -51,8 +51,8 @@ pub fn faults_are_met()
     ensures reserved { (depth : Depth) (memory : Memory) (root number index : ℕ) → walk_fault depth memory root ≡ Some (faults.Reserved number index) → HasReserved depth memory number index × Contains (reached (moves depth memory root)) number }
 {}
 
-/// Where a frame is missing, or a reserved bit is set, the walk of some canonical address meets it. Where there is no
-/// fault, no walk does.
+/// Where the first fault on the way is a frame that is missing or a reserved bit, the walk of some canonical address
+/// ends there. Where there is no fault on the way, no walk meets one. A frame that is reached twice ends no walk.
 pub fn faults_are_walked()
     ensures missing { (depth : Depth) (memory : Memory) (root number : ℕ) → AreWhole memory → walk_fault depth memory root ≡ Some (faults.Missing number) → (address : ℕ) × IsCanonical depth address × (walk depth memory root address ≡ ends.Missing) }
     ensures reserved { (depth : Depth) (memory : Memory) (root number index : ℕ) → AreWhole memory → walk_fault depth memory root ≡ Some (faults.Reserved number index) → (address : ℕ) × IsCanonical depth address × (walk depth memory root address ≡ ends.Reserved) }
@@ -73,4 +73,12 @@ pub fn found_pages_are_the_space()
 /// Each frame of a dump has 512 words.
 pub fn dumps_are_whole()
     ensures { (dump : Image) → IsDump dump → AreWhole dump.frames }
+{}
+
+/// Without a fault on the way, no more frames are reached than the memory has: of a dump at most 4,096, with numbers
+/// below 2^40.
+pub fn few_are_reached()
+    ensures few { (depth : Depth) (memory : Memory) (root : ℕ) → walk_fault depth memory root ≡ None → length (reached (moves depth memory root)) ≤ finite.len memory }
+    ensures of_dump { (dump : Image) (depth : Depth) (root : ℕ) → IsDump dump → walk_fault depth dump.frames root ≡ None → length (reached (moves depth dump.frames root)) ≤ 4096 }
+    ensures in_range { (dump : Image) (depth : Depth) (root : ℕ) → IsDump dump → walk_fault depth dump.frames root ≡ None → All (λ number. number < 2 ^ 40) (reached (moves depth dump.frames root)) }
 {}
