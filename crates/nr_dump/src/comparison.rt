@@ -1,4 +1,4 @@
-ghost use Rattle.std.specs.Prelude.{◌≡◌, ◌↔◌, ◌+◌, ◌<◌, ◌^◌, List, IsTrue, IfSome, option_map};
+ghost use Rattle.std.specs.Prelude.{◌≡◌, ◌↔◌, ◌+◌, ◌<◌, ◌^◌, ◌++◌, ◌∷◌, [], List, IsTrue, IsOk, IfOk, IfSome, option_map};
 ghost use Rattle.std.specs.List.{slice_get};
 ghost use Rattle.nr_dump.specs.Comparing.{AreTaken, HasCompared, IsCompared};
 ghost use Rattle.vs_types.specs.declared.page.Page.{Page};
@@ -61,7 +61,11 @@ impl Comparison {
 impl PageVisitor for Comparison {
     ghost HasTaken = { λ comparison pages. HasCompared comparison.pages.items comparison.met comparison.difference pages };
 
-    fn take(&mut self, page: Page) -> Result<(), Memory> {
+    /// It takes no memory.
+    fn take(&mut self, page: Page) -> Result<(), Memory>
+        ensures taken { IfOk result (λ _. (told : List Page) → HasCompared self.old.pages.items self.old.met self.old.difference told → HasCompared self.new.pages.items self.new.met self.new.difference (told ++ page ∷ [])) }
+        ensures answers { IsOk result }
+    {
         if self.difference.is_some() {
             return Ok(());
         }
