@@ -1,11 +1,13 @@
 -- What events change.
-use Rattle.std.proofs.Common.{◌≡◌, ℕ, zero, suc, ◌+◌, ◌<◌, ◌≤◌, List, [], ◌∷◌, ◌++◌, All, length, get_or, set, replicate, ◌⊎◌, inl, inr, ⊎_elim, refl, ap, sym, ◌∙◌, le_refl, le_trans, arith}
-use Rattle.std.proofs.Math.ListN.{length-append, length-set}
+use Rattle.std.proofs.Common.{◌≡◌, ℕ, zero, suc, ◌+◌, ◌<◌, ◌≤◌, List, [], ◌∷◌, ◌++◌, All, length, get_or, replicate, subst, ◌⊎◌, inl, inr, ⊎_elim, refl, ap, sym, ◌∙◌, le_refl, le_trans, arith}
+use Rattle.std.proofs.Math.ListN.{length-append, length-set, length-replicate}
 use Rattle.std.proofs.lemmas.List.{append-nil, append_assoc, get_or-set_same}
 use Rattle.vs_types.specs.LogEntry.{IsLogEntry}
 use Rattle.vs_types.specs.declared.depth.Depth.{Depth}
 use Rattle.vs_types.specs.declared.log_entry.LogEntry.{LogEntry}
 use Rattle.nr_ring.specs.History.{Log, new_log, tail, local_of, completed, MayAppend, MayFollow, MayGoOn, IsHistory, IsEnded, IsFull, after, after_all, log_after}
+use Rattle.nr_ring.specs.Words.{IsWordsOf}
+use Rattle.nr_ring.specs.View.{StartsWith}
 use Rattle.nr_ring.specs.Laws.{HasGoneOn, HasSameTails, FitsTheRing}
 use Rattle.nr_ring.specs.declared.event.Event.{Event}
 use Rattle.nr_ring.specs.declared.event.Event.TheVariants.{Append, Advance}
@@ -88,3 +90,40 @@ refused depth log batch some few fit =
     (λ room. ⊎_elim (λ up. inl (record { some = some; few = few; entries = fit; room = room; kept_up = up })) (λ behind. inr (inr behind)) (all_or_one (tail log + length batch) log.locals))
     (λ ended. inr (inl ended))
     (le_or_lt (tail log + length batch) 65536)
+
+pub goes_on_after : (depth : Depth) (log : Log) (seen rest : List Event) → MayGoOn depth log (seen ++ rest) → MayGoOn depth (after_all log seen) rest
+goes_on_after depth log [] rest may = may
+goes_on_after depth log (event ∷ seen) rest may = goes_on_after depth (after log event) seen rest may.1
+
+pub after_both : (log : Log) (seen rest : List Event) → after_all log (seen ++ rest) ≡ after_all (after_all log seen) rest
+after_both log [] rest = refl
+after_both log (event ∷ seen) rest = after_both (after log event) seen rest
+
+goes_on_before : (depth : Depth) (log : Log) (seen rest : List Event) → MayGoOn depth log (seen ++ rest) → MayGoOn depth log seen
+goes_on_before depth log [] rest may = tt
+goes_on_before depth log (event ∷ seen) rest may = (may.0, goes_on_before depth (after log event) seen rest may.1)
+
+pub as_many_locals : (depth : Depth) (replicas : ℕ) (events : List Event) → IsHistory depth replicas events → length (log_after replicas events).locals ≡ replicas
+as_many_locals depth replicas events is = (events_go_on depth (new_log replicas) events is).replicas ∙ length-replicate replicas 0
+
+past_end : (xs : List ℕ) (i : ℕ) → length xs ≤ i → get_or xs i 0 ≡ 0
+past_end [] i le = refl
+past_end (x ∷ xs) zero le = absurd (omega arith)
+past_end (x ∷ xs) (suc i) le = past_end xs i (omega arith)
+
+-- where the words are those after what was seen, all was seen
+pub seen_all : (depth : Depth) (replicas : ℕ) (history seen : List Event) (words : List ℕ) → replicas ≤ 4 → IsHistory depth replicas history → StartsWith history seen
+    → IsWordsOf (log_after replicas seen) words → IsWordsOf (log_after replicas history) words → history ≡ seen
+seen_all depth replicas history seen words few is begins before now =
+    let all : IsHistory depth replicas (seen ++ begins.0) = rw begins.1 at is in
+    let first : IsHistory depth replicas seen = goes_on_before depth (new_log replicas) seen begins.0 all in
+    let later : MayGoOn depth (log_after replicas seen) begins.0 = goes_on_after depth (new_log replicas) seen begins.0 all in
+    let log : log_after replicas history ≡ after_all (log_after replicas seen) begins.0 = ap (log_after replicas) begins.1 ∙ after_both (new_log replicas) seen begins.0 in
+    let low : (r : ℕ) → r < 4 → local_of (log_after replicas history) r ≡ local_of (log_after replicas seen) r = λ r lt. sym (now.locals_are r lt) ∙ before.locals_are r lt in
+    let high : (r : ℕ) → 4 ≤ r → local_of (log_after replicas history) r ≡ local_of (log_after replicas seen) r = λ r le.
+    past_end (log_after replicas history).locals r (omega (arith, as_many_locals depth replicas history is))
+    ∙ sym (past_end (log_after replicas seen).locals r (omega (arith, as_many_locals depth replicas seen first))) in
+    let same : HasSameTails (log_after replicas history) (log_after replicas seen) = record { tail = sym now.tail_is ∙ before.tail_is; locals = λ r. ⊎_elim (high r) (low r) (le_or_lt 4 r) } in
+    let P : Log → Type 0 = λ l. HasSameTails l (log_after replicas seen) in
+    let none : begins.0 ≡ [] = no_event depth (log_after replicas seen) begins.0 later (subst P log same) in
+    begins.1 ∙ ap (λ (l : List Event). seen ++ l) none ∙ append-nil seen

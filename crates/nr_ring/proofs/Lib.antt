@@ -1,3 +1,5 @@
 pub mod Tails
 pub mod Histories
 pub mod Rounds
+pub mod Views
+pub mod Turns

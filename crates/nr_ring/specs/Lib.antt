@@ -1,3 +1,7 @@
 pub mod History
+pub mod Words
+pub mod View
+pub mod Rule
+pub mod Calls
 pub mod Examples
 pub mod Laws

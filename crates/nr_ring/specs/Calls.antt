@@ -1,0 +1,28 @@
+-- What the calls on a log tell the pass that makes them.
+use Rattle.std.specs.Prelude.{◌≡◌, ℕ, List, [], ◌∷◌, ◌++◌, All, Contains, length, ⊤}
+use Rattle.vs_types.specs.declared.depth.Depth.{Depth}
+use Rattle.nr_ring.specs.History.{MayFollow, IsHistory, log_after}
+use Rattle.nr_ring.specs.Words.{IsWordsOf}
+use Rattle.nr_ring.specs.View.{StartsWith}
+use Rattle.nr_ring.specs.declared.event.Event.{Event}
+use Rattle.nr_ring.specs.declared.event.Event.TheVariants.{Append, Advance}
+use Rattle.nr_ring.specs.declared.view.View.{View}
+
+-- after a look: the pass has seen a history that begins with all that it had seen and was told; it made no event, and the words
+-- are those of the log after that history
+pub record Looks (depth : Depth) (replicas : ℕ) (words : List ℕ) (before after : View) : Type 0 where
+  pub is_history : IsHistory depth replicas after.seen
+  pub seen : StartsWith after.seen before.seen
+  pub told : All (StartsWith after.seen) before.told
+  pub mine : after.mine ≡ before.mine
+  pub owns : after.owns ≡ before.owns
+  pub words_are : IsWordsOf (log_after replicas after.seen) words
+
+-- only the owner of a replica advances it
+abbrev pub MayMake : View → Event → Type 0
+MayMake view (Append batch) = ⊤
+MayMake view (Advance replica to) = Contains view.owns replica
+
+-- the view of a pass that made an event when it had seen all
+abbrev pub with_event : View → Event → View
+with_event view event = record { seen = view.seen ++ event ∷ []; mine = view.mine ++ length view.seen ∷ []; owns = view.owns; told = view.told }

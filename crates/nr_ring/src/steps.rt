@@ -1,0 +1,31 @@
+//! The steps on the cell of a log keep its rule. Each function does nothing: its clauses say what holds of every cell.
+ghost use Rattle.std.specs.Prelude.{◌≡◌, ℕ, ◌≤◌, List, slice_set};
+ghost use mathlib.Core.Option.{some};
+ghost use lib.ListN.{get_elem?};
+ghost use Rattle.crossbeam_utils.specs.Register.{Turns};
+ghost use Rattle.vs_types.specs.declared.depth.Depth.{Depth};
+ghost use Rattle.nr_ring.specs.Calls.{Looks, MayMake, with_event};
+ghost use Rattle.nr_ring.specs.History.{IsHistory, MayFollow, after, log_after};
+ghost use Rattle.nr_ring.specs.Rule.{IsKept};
+ghost use Rattle.nr_ring.specs.View.{StartsWith};
+ghost use Rattle.nr_ring.specs.Words.{IsWordsOf};
+ghost use Rattle.nr_ring.specs.declared.event.Event.{Event};
+ghost use Rattle.nr_ring.specs.declared.view.View.{View};
+
+/// A load of the cell keeps the rule, and is a look.
+pub fn looks_keep_the_rule()
+    ensures { (depth : Depth) (replicas pass : ℕ) (v : View) → Turns (IsKept depth replicas) pass v (λ words. words) (λ before words words' after. Looks depth replicas words' before after) }
+{}
+
+/// Where the words are those after what a pass has seen, it has seen the whole history.
+pub fn own_words_mean_all_seen()
+    ensures { (depth : Depth) (replicas : ℕ) (history seen : List Event) (words : List ℕ) → replicas ≤ 4 → IsHistory depth replicas history → StartsWith history seen → IsWordsOf (log_after replicas seen) words → IsWordsOf (log_after replicas history) words → history ≡ seen }
+{}
+
+/// An exchange of the words after what a pass has seen, by the words after one event more, keeps the rule: the event may follow,
+/// and where it is an advance the pass owns the replica.
+pub fn events_keep_the_rule()
+    ensures { (depth : Depth) (replicas pass : ℕ) (v : View) (event : Event) (words words' : List ℕ) (views : List View) → replicas ≤ 4 → IsKept depth replicas words views → get_elem? views pass ≡ some v
+        → IsWordsOf (log_after replicas v.seen) words → MayFollow depth (log_after replicas v.seen) event → MayMake v event → IsWordsOf (after (log_after replicas v.seen) event) words'
+        → IsKept depth replicas words' (slice_set views pass (with_event v event)) }
+{}
