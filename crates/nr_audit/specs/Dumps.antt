@@ -1,4 +1,4 @@
--- What is wrong with a dump, told of its replica. No public clause cites this.
+-- What is wrong with a dump, told of its replica. No public clause cites this file.
 use Rattle.std.specs.Prelude.{ℕ}
 use Rattle.nr_dump.specs.declared.fault.DumpFault.{DumpFault}
 use Rattle.nr_dump.specs.declared.fault.DumpFault.TheVariants as dumps

@@ -1,3 +1,7 @@
+-- the promise
+pub mod Verdict
+pub mod Headline
+-- the passes
 pub mod Search
 pub mod Passes
 pub mod Tables
@@ -5,6 +9,3 @@ pub mod Told
 pub mod Steps
 pub mod Prefixes
 pub mod Dumps
-pub mod Replay
-pub mod Verdict
-pub mod Headline

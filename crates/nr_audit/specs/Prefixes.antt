@@ -1,4 +1,4 @@
--- How far the log has to be applied to a dump. No public clause cites these.
+-- How far the log has to be applied to a dump. No public clause cites this file.
 use Rattle.std.specs.Prelude.{◌≡◌, ℕ, ◌<◌, ◌≤◌, List, length, slice_index_or, Some}
 use Rattle.nr_trace.specs.Recording.{Recording}
 use Rattle.nr_trace.specs.Calls.{Made, call_of, Answered, reply_of}

@@ -1,4 +1,4 @@
--- What a search for some faults of a trace finds: none of them, or the first.
+-- What a search for some faults of a trace finds: none of them, or the first. No public clause cites this file.
 use Rattle.nr_trace.specs.Recording.{Recording}
 use Rattle.nr_trace.specs.Faults.{Holds, Earlier}
 use Rattle.nr_trace.specs.declared.fault.Fault.{Fault}

@@ -1,4 +1,4 @@
--- What a request does to a plain space, and how it is answered.
+-- What a request does to a plain space, and how it is answered. No public clause cites this file.
 use Rattle.std.specs.Prelude.{◌≡◌}
 use Rattle.vs_types.specs.Config.{Layout}
 use Rattle.vs_types.specs.Space.{Space}

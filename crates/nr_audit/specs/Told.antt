@@ -1,4 +1,4 @@
--- What the replies of a trace tell of its calls.
+-- What the replies of a trace tell of its calls. No public clause cites this file.
 use Rattle.std.specs.Prelude.{ℕ, ◌+◌, ◌<◌, ◌≡◌, List, [], length, slice_index_or, Option, option_map, option_and_then}
 use Rattle.nr_trace.specs.Recording.{Recording}
 use Rattle.nr_trace.specs.Calls.{Answered, reply_to, address_of}

@@ -1,8 +1,10 @@
-ghost use Rattle.std.specs.Prelude.{◌≡◌, ◌↔◌, OnOk, IfErr, IsTrue, Some, slice_get};
+ghost use Rattle.std.specs.Prelude.{◌≡◌, ◌↔◌, OnOk, IfOk, IfErr, IsTrue, Some, slice_get};
 ghost use Rattle.nr_audit.specs.Search.{HasNone, IsFirstAmong};
-ghost use Rattle.nr_audit.specs.Passes.{IsPositionFault};
+ghost use Rattle.nr_audit.specs.Passes.{IsCallFault, IsLogFault, IsPositionFault};
+ghost use Rattle.nr_audit.specs.Tables.{ArePlaces, ArePositions};
 
 use crate::events::query_of;
+use crate::tables::{Places, Positions};
 use nr_trace::{Event, Fault, Trace};
 use vs_types::Query;
 
@@ -13,14 +15,18 @@ fn stands_at(log: &[u32], place: u32, call: u32) -> bool
 }
 
 /// Looks for a reply that gives an update another place than its own, and one that gives a read more entries than the
-/// log has. Takes no memory.
-pub(crate) fn check_positions(trace: &Trace) -> Result<(), Fault>
+/// log has. Makes the table of positions of that of places, and takes no memory.
+pub(crate) fn check_positions(trace: &Trace, places: Places) -> Result<Positions, Fault>
+    requires calls { HasNone IsCallFault trace.now }
+    requires log { HasNone IsLogFault trace.now }
+    requires table { ArePlaces trace.now places.by_call.items }
+    ensures table { IfOk result (λ positions. ArePositions trace.now positions.by_call.items) }
     ensures clean { OnOk result (HasNone IsPositionFault trace.now) }
     ensures first { IfErr result (IsFirstAmong IsPositionFault trace.now) }
 {
     let log = trace.log();
-    let events = trace.events();
-    for (index, event) in events.iter().enumerate() {
+    let mut positions = places.by_call;
+    for (index, event) in trace.events().iter().enumerate() {
         let Event::Reply { call, at, .. } = *event else {
             continue;
         };
@@ -34,9 +40,10 @@ pub(crate) fn check_positions(trace: &Trace) -> Result<(), Fault>
                 if at as usize > log.len() {
                     return Err(Fault::PastLog(index as u32));
                 }
+                positions[call as usize] = Some(at);
             }
             None => {}
         }
     }
-    Ok(())
+    Ok(Positions { by_call: positions })
 }

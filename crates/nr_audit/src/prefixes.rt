@@ -13,7 +13,7 @@ use vs_plain::PlainSpace;
 use vs_types::Memory;
 
 /// The replica at which a call was made, or `None` where no call has this number.
-fn replica_of(trace: &Trace, call: u32) -> Option<u8>
+pub(crate) fn replica_of(trace: &Trace, call: u32) -> Option<u8>
     ensures made { result ≡ option_map (λ made. made.replica) (call_of trace.now call) }
     ensures in_range { IfSome result (λ replica. replica < 4) }
 {

@@ -22,13 +22,14 @@ pub(crate) fn search(alloc: Global, trace: &Trace) -> Result<Vec<u32>, Fail<Faul
 {
     let replies = check_calls(alloc, trace)?;
     let places = check_log(alloc, trace)?;
-    if let Err(fault) = check_positions(trace) {
+    let positions = match check_positions(trace, places) {
+        Ok(positions) => positions,
+        Err(fault) => return Err(Fail::Refused(fault)),
+    };
+    if let Err(fault) = check_floors(trace, &positions) {
         return Err(Fail::Refused(fault));
     }
-    if let Err(fault) = check_floors(trace, &replies, &places) {
-        return Err(Fail::Refused(fault));
-    }
-    let order = list_order(alloc, trace, &replies)?;
+    let order = list_order(alloc, trace, &positions)?;
     check_answers(alloc, trace, &replies, &order)?;
     check_dumps(alloc, trace)?;
     Ok(order)

@@ -42,6 +42,13 @@ pub(crate) struct Places {
     pub(crate) by_call: Vec<Option<u32>>,
 }
 
+/// For each event of a trace after how many entries of the log it stands in the recorded order, where it is a call that
+/// stands there: the place of an update, and how many entries an answered read saw.
+#[derive(Debug, Drop)]
+pub(crate) struct Positions {
+    pub(crate) by_call: Vec<Option<u32>>,
+}
+
 /// A table of this many rows, with nothing in any of them.
 pub(crate) fn empty_table(alloc: Global, rows: usize) -> Result<Vec<Option<u32>>, Memory>
     ensures { IfOk result (λ table. table.items ≡ replicate rows None) }

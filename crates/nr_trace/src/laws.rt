@@ -22,6 +22,12 @@ pub fn bytes_spell_one_trace()
     ensures { (bytes : List ℕ) (first second : Recording) → Spells bytes first → Spells bytes second → first ≡ second }
 {}
 
+/// Bytes that spell a trace are at most 20 + 4 * 65,536 + 24 * 131,072 + 4 * (16 + 4,096 * 4,104): counts, log, events and
+/// the dumps of four replicas.
+pub fn no_longer_trace()
+    ensures { (bytes : List ℕ) (trace : Recording) → Spells bytes trace → length bytes ≤ 70647892 }
+{}
+
 /// Bytes have at most one fault of the format.
 pub fn one_format_fault()
     ensures { (bytes : List ℕ) (first second : Format) → HasFormatFault bytes first → HasFormatFault bytes second → first ≡ second }

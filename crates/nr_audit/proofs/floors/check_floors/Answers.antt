@@ -1,5 +1,8 @@
-use Rattle.std.proofs.Common.{◌≡◌, ℕ, ◌<◌, length, max, sym, ap, subst, ◌∙◌, arith}
+use Rattle.std.proofs.Common.{◌≡◌, ℕ, ◌<◌, length, max, None, sym, ap, subst, ◌∙◌, arith}
+use Rattle.std.proofs.lemmas.List.{get_or_read}
 use Rattle.nr_trace.specs.Orders.{floor}
+use Rattle.nr_trace.specs.Faults.{StandsBehind}
+use Rattle.nr_trace.specs.Reading.{Finds}
 use Rattle.nr_trace.specs.Calls.{Answered}
 use Rattle.nr_trace.proofs.LawsOfSteps.{floor_behind_reply, floor_behind_other}
 use Rattle.nr_audit.specs.Search.{HasNone}
@@ -13,7 +16,10 @@ use Rattle.nr_audit.proofs.floors.check_floors.Goals.{in-Call+in-Some+else-entri
 -- src/floors.rt:65:25
 pub returns-then-entries-floor-clause-first : goal.returns-then-entries-floor-clause-first
 returns-then-entries-floor-clause-first c =
-    first_early c.args.trace.now c.loop-index.index c.entries_before.result c.in-Some.entries c.loop-index.invariant.none c.entries_before.ensures c.in-Some.is
+    let within : c.loop-index.index < length c.args.positions.now.by_call.items = omega (arith, c.loop-index-test.true, c.requires.table.one_each, ap length c.events-events.ensures.reads) in
+    let read = get_or_read c.args.positions.now.by_call.items c.loop-index.index c.index.result.now within c.index.ensures None in
+    let found = subst (λ o. Finds (StandsBehind c.args.trace.now c.loop-index.index) o) (sym read) (c.requires.table.each c.loop-index.index within) in
+    first_early c.args.trace.now c.loop-index.index c.index.result.now c.in-Some.entries c.loop-index.invariant.none found c.in-Some.is
     (subst (λ n. c.in-Some.entries < n) c.loop-index.invariant.floor c.if-entries-floor.true)
 
 -- src/floors.rt:60:5
@@ -21,13 +27,16 @@ pub loop-index-preserved : goal.loop-index-preserved
 loop-index-preserved c =
     let trace = c.args.trace.now in
     let index = c.loop-index.index in
+    let within : index < length c.args.positions.now.by_call.items = omega (arith, c.loop-index-test.true, c.requires.table.one_each, ap length c.events-events.ensures.reads) in
     elim c.match-event.branch [
       | in-Call+in-Some+else-entries-floor w ↦
+          let read = get_or_read c.args.positions.now.by_call.items index w.index.result.now within w.index.ensures None in
+          let found = subst (λ o. Finds (StandsBehind trace index) o) (sym read) (c.requires.table.each index within) in
           let is = read_event trace c.events-events.result.now index _ _ c.events-events.ensures.reads c.loop-index-test.true c.index-events-index.is w.in-Call.is in
           record {
             floor = w.floor-is ∙ c.loop-index.invariant.floor ∙ sym (floor_behind_other trace index (no_reply_at_call trace index _ _ _ is));
-            none = more_of IsFloorFaultAt trace index c.loop-index.invariant.none (none_at_call trace index w.entries_before.result c.requires.clean w.entries_before.ensures
-                (λ entries found.
+            none = more_of IsFloorFaultAt trace index c.loop-index.invariant.none (none_at_call trace index w.index.result.now c.requires.clean found
+                (λ entries there.
                 let own = w.in-Some.is in
                 let same : w.in-Some.entries ≡ entries = cc in
                 let kept = w.if-entries-floor.false in
@@ -35,11 +44,13 @@ loop-index-preserved c =
                 omega arith));
           }
       | in-Call+in_default w ↦
+          let read = get_or_read c.args.positions.now.by_call.items index w.index.result.now within w.index.ensures None in
+          let found = subst (λ o. Finds (StandsBehind trace index) o) (sym read) (c.requires.table.each index within) in
           let is = read_event trace c.events-events.result.now index _ _ c.events-events.ensures.reads c.loop-index-test.true c.index-events-index.is w.in-Call.is in
           record {
             floor = w.floor-is ∙ c.loop-index.invariant.floor ∙ sym (floor_behind_other trace index (no_reply_at_call trace index _ _ _ is));
-            none = more_of IsFloorFaultAt trace index c.loop-index.invariant.none (none_at_call trace index w.entries_before.result c.requires.clean w.entries_before.ensures
-                (λ entries found. absurd (w.in_default.not-Some entries found)));
+            none = more_of IsFloorFaultAt trace index c.loop-index.invariant.none (none_at_call trace index w.index.result.now c.requires.clean found
+                (λ entries there. absurd (w.in_default.not-Some entries there)));
           }
       | in-Reply w ↦
           let is = read_event trace c.events-events.result.now index _ _ c.events-events.ensures.reads c.loop-index-test.true c.index-events-index.is w.in-Reply.is in
