@@ -3,9 +3,14 @@ pub mod EventFacts
 pub mod Known
 pub mod Logged
 pub mod PositionFacts
+pub mod FloorFacts
 pub mod ReplyFacts
 pub mod OrderFacts
 pub mod AnswerFacts
 pub mod AnswerEquality
 pub mod PassFacts
+pub mod FirstOfPasses
+pub mod PrefixFacts
+pub mod DumpFacts
+pub mod VerdictFacts
 pub mod LegalReplays

@@ -10,7 +10,7 @@ use Rattle.nr_trace.specs.Faults.{Holds, Earlier, rank}
 use Rattle.nr_trace.specs.Laws.{HasCleanLog}
 use Rattle.nr_trace.specs.declared.fault.Fault.{Fault}
 use Rattle.nr_trace.specs.declared.fault.Fault.TheVariants.{Format, ThreadOpen, NoSuchCall, AnsweredTwice, NotAnUpdate, PlacedTwice, NotPlaced, PastLog, WrongAnswer}
-use Rattle.nr_trace.specs.Reading.{IfRefused}
+use Rattle.vs_types.specs.Refusal.{IfRefused}
 use Rattle.nr_audit.specs.Search.{HasNone, IsFirstAmong}
 use Rattle.vs_types.specs.declared.refusal.Fail.{Fail}
 use Rattle.vs_types.specs.declared.refusal.Fail.TheVariants.{Memory, Refused}

@@ -9,6 +9,9 @@ use Rattle.std.proofs.lemmas.Bool.{cases_lt}
 use Rattle.nr_trace.specs.Recording.{Recording}
 use Rattle.nr_trace.specs.Faults.{rank}
 use Rattle.nr_trace.specs.declared.fault.Fault.{Fault}
+use Rattle.vs_types.specs.Refusal.{IfRefused}
+use Rattle.vs_types.specs.declared.refusal.Fail.{Fail}
+use Rattle.vs_types.specs.declared.refusal.Fail.TheVariants.{Memory, Refused}
 use Rattle.nr_audit.specs.Search.{HasNone, IsFirstAmong}
 
 then_less : (r s : Ordering) → ordering_then r s ≡ Less → (r ≡ Less) ⊎ ((r ≡ Equal) × (s ≡ Less))
@@ -81,3 +84,8 @@ lower_number p i m j n e same =
         | inr also ↦ also.1
       ]
     ]
+
+-- what is refused, by what it is besides
+pub refused_as : (P Q : Fault → Type 0) (fail : Fail Fault) → ((fault : Fault) → P fault → Q fault) → IfRefused P fail → IfRefused Q fail
+refused_as P Q Memory widen refused = tt
+refused_as P Q (Refused fault) widen refused = widen fault refused

@@ -3,4 +3,8 @@ pub mod Passes
 pub mod Tables
 pub mod Told
 pub mod Steps
+pub mod Prefixes
+pub mod Dumps
 pub mod Replay
+pub mod Verdict
+pub mod Headline

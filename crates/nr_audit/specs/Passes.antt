@@ -1,7 +1,7 @@
 -- The faults by the pass that looks for them, and where in that pass they stand.
 use Rattle.std.specs.Prelude.{◌≡◌, ℕ, ⊤}
 use Rattle.nr_trace.specs.declared.fault.Fault.{Fault}
-use Rattle.nr_trace.specs.declared.fault.Fault.TheVariants.{ThreadOpen, NoSuchCall, AnsweredTwice, NotAnUpdate, PlacedTwice, NotPlaced, PastLog, WrongAnswer}
+use Rattle.nr_trace.specs.declared.fault.Fault.TheVariants.{ThreadOpen, NoSuchCall, AnsweredTwice, NotAnUpdate, PlacedTwice, NotPlaced, PastLog, Early, WrongAnswer, PrefixPastLog, PrefixShort, MissingFrame, SharedFrame, ReservedBit, StrayFrame, Differs}
 
 -- a fault of calls and replies, at the event of this index
 abbrev pub IsCallFaultAt : ℕ → Fault → Type 0
@@ -22,6 +22,22 @@ IsPositionFaultAt index (NotPlaced event) = event ≡ index
 IsPositionFaultAt index (PastLog event) = event ≡ index
 IsPositionFaultAt index fault = ⊥
 
+-- a fault of precedence, of the call of this number
+abbrev pub IsFloorFaultAt : ℕ → Fault → Type 0
+IsFloorFaultAt index (Early call) = call ≡ index
+IsFloorFaultAt index fault = ⊥
+
+-- a fault of the dump of this replica
+abbrev pub IsDumpFaultAt : ℕ → Fault → Type 0
+IsDumpFaultAt replica (PrefixPastLog at) = at ≡ replica
+IsDumpFaultAt replica (PrefixShort at) = at ≡ replica
+IsDumpFaultAt replica (MissingFrame at number) = at ≡ replica
+IsDumpFaultAt replica (SharedFrame at number) = at ≡ replica
+IsDumpFaultAt replica (ReservedBit at number index) = at ≡ replica
+IsDumpFaultAt replica (StrayFrame at number) = at ≡ replica
+IsDumpFaultAt replica (Differs at address) = at ≡ replica
+IsDumpFaultAt replica fault = ⊥
+
 abbrev pub IsCallFault : Fault → Type 0
 IsCallFault fault = (index : ℕ) × IsCallFaultAt index fault
 
@@ -34,3 +50,9 @@ IsPositionFault fault = (index : ℕ) × IsPositionFaultAt index fault
 abbrev pub IsAnswerFault : Fault → Type 0
 IsAnswerFault (WrongAnswer call) = ⊤
 IsAnswerFault fault = ⊥
+
+abbrev pub IsFloorFault : Fault → Type 0
+IsFloorFault fault = (call : ℕ) × IsFloorFaultAt call fault
+
+abbrev pub IsDumpFault : Fault → Type 0
+IsDumpFault fault = (replica : ℕ) × IsDumpFaultAt replica fault

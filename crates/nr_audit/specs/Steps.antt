@@ -1,5 +1,7 @@
 -- What a request does to a plain space, and how it is answered.
 use Rattle.std.specs.Prelude.{◌≡◌}
+use Rattle.vs_types.specs.Config.{Layout}
+use Rattle.vs_types.specs.Space.{Space}
 use Rattle.vs_types.specs.Step.{look}
 use Rattle.vs_types.specs.declared.answer.Answer.{Answer}
 use Rattle.vs_types.specs.declared.request.Query.{Query}
@@ -10,3 +12,7 @@ use Rattle.vs_plain.specs.Plain.{Kept, IsStep}
 abbrev pub Serves : Kept → Query → Answer → Kept → Type 0
 Serves old (Update action) answer new = IsStep old action answer new
 Serves old (Resolve address) answer new = (answer ≡ look old.space address) × (new ≡ old)
+
+-- what is kept of a space with the layout's depth and limit
+abbrev pub space_of : Layout → Space → Kept
+space_of layout space = record { depth = layout.depth; limit = layout.tables; space = space }

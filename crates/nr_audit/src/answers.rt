@@ -1,7 +1,7 @@
 ghost use Rattle.std.specs.Prelude.{◌≡◌, ◌↔◌, IfOk, OnOk, IfErr, IfSome, IsTrue};
 ghost use Rattle.nr_trace.specs.Laws.{HasCleanLog};
 ghost use Rattle.nr_trace.specs.Orders.{recorded_order};
-ghost use Rattle.nr_trace.specs.Reading.{IfRefused};
+ghost use Rattle.vs_types.specs.Refusal.{IfRefused};
 ghost use Rattle.nr_audit.specs.Search.{HasNone, IsFirstAmong};
 ghost use Rattle.nr_audit.specs.Passes.{IsAnswerFault};
 ghost use Rattle.nr_audit.specs.Steps.{Serves};
@@ -15,7 +15,7 @@ use vs_plain::PlainSpace;
 use vs_types::{Answer, Fail, Memory, Query};
 
 /// Serves a request on a space.
-fn serve(space: &mut PlainSpace, query: Query) -> Result<Answer, Memory>
+pub(crate) fn serve(space: &mut PlainSpace, query: Query) -> Result<Answer, Memory>
     ensures { IfOk result (λ answer. Serves space.old query answer space.new) }
 {
     match query {

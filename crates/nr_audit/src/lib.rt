@@ -5,16 +5,26 @@
 
 mod answers;
 mod calls;
+mod dumps;
 mod events;
+mod floors;
 mod found;
+mod judging;
+mod laws;
 mod log;
 mod order;
 mod passes;
 mod positions;
+mod prefixes;
+mod search;
 mod tables;
+mod verdict;
 mod whole;
 
 pub use found::Replay;
+pub use judging::{audit, judge};
+pub use laws::one_verdict;
+pub use verdict::{Order, Verdict};
 pub use whole::replay;
 
 #[cfg(test)]

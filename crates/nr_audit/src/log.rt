@@ -1,5 +1,5 @@
 ghost use Rattle.std.specs.Prelude.{OnOk, IfOk, IfErr};
-ghost use Rattle.nr_trace.specs.Reading.{IfRefused};
+ghost use Rattle.vs_types.specs.Refusal.{IfRefused};
 ghost use Rattle.nr_audit.specs.Search.{HasNone, IsFirstAmong};
 ghost use Rattle.nr_audit.specs.Passes.{IsLogFault};
 ghost use Rattle.nr_audit.specs.Tables.{ArePlaces};

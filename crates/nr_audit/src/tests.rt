@@ -1,5 +1,3 @@
-ghost use Rattle.std.specs.Prelude.{◌<◌};
-
 use super::*;
 use nr_trace::{Fault, Format};
 use std::alloc::{AllocError, Global};
@@ -25,6 +23,38 @@ const MAPPED: [u8; 24] = [
     1, 7, 0, 7, 0, 0, 0, 2, 0, 0, 0, 1, 0, 0, 0, 0, 0, 0, 0, 0, 0, 0, 0x11, 0x23,
 ];
 
+/// Call 2 saw no entry, and found its address not mapped.
+const NOT_MAPPED: [u8; 24] = [
+    1, 4, 0, 0, 0, 0, 0, 2, 0, 0, 0, 0, 0, 0, 0, 0, 0, 0, 0, 0, 0, 0, 0, 0,
+];
+
+/// Thread 2 unmaps 0x400000.
+const UNMAP: [u8; 24] = [
+    0, 0, 0, 2, 1, 0, 0, 0, 0, 0, 0, 0, 0, 0x40, 0, 0, 0, 0, 0, 0, 0, 0, 0, 0,
+];
+
+/// A dump: how many entries it has applied, its root, and of each frame, numbered from 1, the one word that is not 0.
+#[derive(Clone, Copy)]
+struct Table {
+    applied: u8,
+    root: u64,
+    words: &'static [(u64, u64)],
+}
+
+/// The page table without pages.
+const EMPTY: Table = Table {
+    applied: 0,
+    root: 1,
+    words: &[(0, 0)],
+};
+
+/// The page table with the page of `MAP`.
+const ONE_PAGE: Table = Table {
+    applied: 1,
+    root: 1,
+    words: &[(0, 0x2007), (0, 0x3007), (2, 0x4007), (0, 0x1007)],
+};
+
 /// The event with another byte at an index below 24.
 fn with(event: [u8; 24], at: usize, byte: u8) -> [u8; 24]
     requires { at < 24 }
@@ -34,17 +64,19 @@ fn with(event: [u8; 24], at: usize, byte: u8) -> [u8; 24]
     changed
 }
 
-/// A trace of one replica and 3 threads, whose dump has one empty frame.
+/// The bytes of a trace of 3 threads.
 fn trace_of(
     alloc: Global,
     tables: u8,
     log: &[u8],
     events: &[[u8; 24]],
+    dumps: &[Table],
 ) -> Result<Vec<u8>, AllocError> {
+    let replicas = dumps.len().min(255) as u8;
     let places = log.len().min(255) as u8;
     let count = events.len().min(255) as u8;
     let mut bytes = vec![in alloc;
-        0x4e, 0x52, 0x56, 0x54, 0, 1, 4, 1, 0, 3, 0, tables, 0, 0, 0, places, 0, 0, 0, count,
+        0x4e, 0x52, 0x56, 0x54, 0, 1, 4, replicas, 0, 3, 0, tables, 0, 0, 0, places, 0, 0, 0, count,
     ]?;
     for call in log {
         bytes.extend_from_slice(&[0, 0, 0, *call])?;
@@ -52,96 +84,270 @@ fn trace_of(
     for event in events {
         bytes.extend_from_slice(event)?;
     }
-    bytes.extend_from_slice(&[0, 0, 0, 0, 0, 0, 0, 1])?;
-    for word in 0..514u64 {
-        let number = if word < 2 { 1u64 } else { 0 };
-        bytes.extend_from_slice(&number.to_be_bytes())?;
+    for dump in dumps {
+        let frames = dump.words.len().min(255) as u8;
+        bytes.extend_from_slice(&[0, 0, 0, dump.applied, 0, 0, 0, frames])?;
+        bytes.extend_from_slice(&dump.root.to_be_bytes())?;
+        for (index, word) in dump.words.iter().enumerate() {
+            bytes.extend_from_slice(&(index as u64 + 1).to_be_bytes())?;
+            for place in 0..512u64 {
+                let value = if place == word.0 { word.1 } else { 0 };
+                bytes.extend_from_slice(&value.to_be_bytes())?;
+            }
+        }
     }
     Ok(bytes)
 }
 
-fn found(alloc: Global, log: &[u8], events: &[[u8; 24]]) -> Result<Replay, Fail> {
-    let bytes = trace_of(alloc, 4, log, events)?;
-    Ok(replay(alloc, &bytes)?)
+/// Whether the verdict is yes with this order.
+fn is_yes(verdict: &Verdict, order: &[u32]) -> bool {
+    match verdict {
+        Verdict::Yes(found) => found.calls() == order,
+        Verdict::No(_) => false,
+    }
+}
+
+/// Whether the verdict is no with this fault.
+fn is_no(verdict: &Verdict, fault: Fault) -> bool {
+    match verdict {
+        Verdict::Yes(_) => false,
+        Verdict::No(found) => *found == fault,
+    }
+}
+
+fn verdict_of(
+    alloc: Global,
+    log: &[u8],
+    events: &[[u8; 24]],
+    dumps: &[Table],
+) -> Result<Verdict, Fail> {
+    let bytes = trace_of(alloc, 4, log, events, dumps)?;
+    Ok(audit(alloc, &bytes)?)
 }
 
 #[test]
 fn empty_trace(rt: HostRuntime) -> Result<(), Fail> {
-    assert!(rt; found(rt.alloc(), &[], &[])? == Replay::Replayed);
+    assert!(rt; is_yes(&verdict_of(rt.alloc(), &[], &[], &[EMPTY])?, &[]));
     Ok(())
 }
 
 #[test]
 fn map_then_resolve(rt: HostRuntime) -> Result<(), Fail> {
     let events = [MAP, DONE, RESOLVE, MAPPED];
-    assert!(rt; found(rt.alloc(), &[0], &events)? == Replay::Replayed);
-    let bytes = trace_of(rt.alloc(), 3, &[0], &events)?;
-    assert!(rt; replay(rt.alloc(), &bytes)? == Replay::No(Fault::WrongAnswer(0)));
+    assert!(rt;
+        is_yes(
+            &verdict_of(rt.alloc(), &[0], &events, &[ONE_PAGE])?,
+            &[0, 2]
+        )
+    );
+    let bytes = trace_of(rt.alloc(), 3, &[0], &events, &[ONE_PAGE])?;
+    assert!(rt; is_no(&audit(rt.alloc(), &bytes)?, Fault::WrongAnswer(0)));
     Ok(())
 }
 
 #[test]
 fn read_before_and_after(rt: HostRuntime) -> Result<(), Fail> {
-    let after = with(MAPPED, 7, 1);
-    let before = [
-        1, 4, 0, 0, 0, 0, 0, 2, 0, 0, 0, 0, 0, 0, 0, 0, 0, 0, 0, 0, 0, 0, 0, 0,
-    ];
     let events = [
         MAP,
         with(RESOLVE, 3, 1),
         with(RESOLVE, 3, 2),
         DONE,
-        after,
-        before,
+        with(MAPPED, 7, 1),
+        NOT_MAPPED,
     ];
-    assert!(rt; found(rt.alloc(), &[0], &events)? == Replay::Replayed);
+    assert!(rt;
+        is_yes(
+            &verdict_of(rt.alloc(), &[0], &events, &[ONE_PAGE])?,
+            &[2, 0, 1]
+        )
+    );
+    Ok(())
+}
+
+#[test]
+fn stale_read_is_early(rt: HostRuntime) -> Result<(), Fail> {
     let events = [
         MAP,
         with(RESOLVE, 3, 1),
-        with(RESOLVE, 3, 2),
-        DONE,
-        with(after, 11, 0),
-        before,
+        with(MAPPED, 7, 1),
+        with(with(RESOLVE, 3, 2), 1, 1),
+        with(NOT_MAPPED, 7, 3),
     ];
-    assert!(rt; found(rt.alloc(), &[0], &events)? == Replay::No(Fault::WrongAnswer(1)));
+    let verdict = verdict_of(rt.alloc(), &[0], &events, &[EMPTY, EMPTY])?;
+    assert!(rt; is_no(&verdict, Fault::Early(3)));
     Ok(())
 }
 
 #[test]
 fn unanswered_update_left_out(rt: HostRuntime) -> Result<(), Fail> {
-    let unmap = [
-        0, 0, 0, 2, 1, 0, 0, 0, 0, 0, 0, 0, 0, 0x40, 0, 0, 0, 0, 0, 0, 0, 0, 0, 0,
-    ];
-    let events = [MAP, with(RESOLVE, 3, 1), unmap, with(MAPPED, 7, 1)];
-    assert!(rt; found(rt.alloc(), &[0], &events)? == Replay::Replayed);
-    assert!(rt; found(rt.alloc(), &[2, 0], &events)? == Replay::No(Fault::WrongAnswer(1)));
+    let events = [MAP, with(RESOLVE, 3, 1), UNMAP, with(MAPPED, 7, 1)];
+    assert!(rt;
+        is_yes(
+            &verdict_of(rt.alloc(), &[0], &events, &[ONE_PAGE])?,
+            &[0, 1]
+        )
+    );
+    Ok(())
+}
+
+#[test]
+fn unanswered_update_too_early(rt: HostRuntime) -> Result<(), Fail> {
+    let other = with(with(UNMAP, 3, 1), 13, 0x50);
+    let events = [MAP, with(DONE, 11, 1), other];
+    assert!(rt;
+        is_no(
+            &verdict_of(rt.alloc(), &[2, 0], &events, &[EMPTY])?,
+            Fault::Early(2)
+        )
+    );
+    Ok(())
+}
+
+#[test]
+fn ignored_bits_and_rights(rt: HostRuntime) -> Result<(), Fail> {
+    let events = [MAP, DONE, RESOLVE, MAPPED];
+    let ignored = Table {
+        applied: 1,
+        root: 1,
+        words: &[
+            (0, 0x2007),
+            (0, 0x3007),
+            (2, 0x4007),
+            (0, 0x7ff0_0000_0000_1fff),
+        ],
+    };
+    assert!(rt; is_yes(&verdict_of(rt.alloc(), &[0], &events, &[ignored])?, &[0, 2]));
+    let for_system = Table {
+        applied: 1,
+        root: 1,
+        words: &[(0, 0x2007), (0, 0x3007), (2, 0x4003), (0, 0x1007)],
+    };
+    let verdict = verdict_of(rt.alloc(), &[0], &events, &[for_system])?;
+    assert!(rt; is_no(&verdict, Fault::Differs(0, 0x400000)));
+    Ok(())
+}
+
+/// The verdict on a trace without calls whose dump has these words.
+fn verdict_on_table(
+    alloc: Global,
+    root: u64,
+    words: &'static [(u64, u64)],
+) -> Result<Verdict, Fail> {
+    let table = Table {
+        applied: 0,
+        root,
+        words,
+    };
+    verdict_of(alloc, &[], &[], &[table])
+}
+
+#[test]
+fn faulty_dumps(rt: HostRuntime) -> Result<(), Fail> {
+    let alloc = rt.alloc();
+    let reserved = verdict_on_table(alloc, 1, &[(0, 0x2007), (0, 0x3007), (1, 0x202087)])?;
+    assert!(rt; is_no(&reserved, Fault::ReservedBit(0, 3, 1)));
+    let large = verdict_on_table(alloc, 1, &[(0, 0x2007), (0, 0x3007), (1, 0x201087)])?;
+    assert!(rt; is_no(&large, Fault::Differs(0, 0x200000)));
+    let shared = verdict_on_table(alloc, 1, &[(0, 0x1007)])?;
+    assert!(rt; is_no(&shared, Fault::SharedFrame(0, 1)));
+    let missing = verdict_on_table(alloc, 1, &[(0, 0x2007)])?;
+    assert!(rt; is_no(&missing, Fault::MissingFrame(0, 2)));
+    let stray = verdict_on_table(alloc, 1, &[(0, 0), (0, 0)])?;
+    assert!(rt; is_no(&stray, Fault::StrayFrame(0, 2)));
+    let no_root = verdict_on_table(alloc, 5, &[(0, 0)])?;
+    assert!(rt; is_no(&no_root, Fault::MissingFrame(0, 5)));
     Ok(())
 }
 
 #[test]
 fn one_fault_each(rt: HostRuntime) -> Result<(), Fail> {
     let alloc = rt.alloc();
-    let events = [MAP, DONE, RESOLVE, MAPPED];
-    assert!(rt; found(alloc, &[0], &[MAP, RESOLVE, MAPPED])? == Replay::No(Fault::ThreadOpen(1)));
+    let table = &[ONE_PAGE];
+    let right = [MAP, DONE, RESOLVE, MAPPED];
+    let open = verdict_of(alloc, &[0], &[MAP, RESOLVE, with(MAPPED, 7, 1)], table)?;
+    assert!(rt; is_no(&open, Fault::ThreadOpen(1)));
     let other_call = [MAP, DONE, RESOLVE, with(MAPPED, 7, 1)];
-    assert!(rt; found(alloc, &[0], &other_call)? == Replay::No(Fault::NoSuchCall(3)));
+    assert!(rt;
+        is_no(
+            &verdict_of(alloc, &[0], &other_call, table)?,
+            Fault::NoSuchCall(3)
+        )
+    );
     let same_call = [MAP, DONE, RESOLVE, with(MAPPED, 7, 0)];
-    assert!(rt; found(alloc, &[0], &same_call)? == Replay::No(Fault::AnsweredTwice(3)));
-    assert!(rt; found(alloc, &[2], &events)? == Replay::No(Fault::NotAnUpdate(0)));
-    assert!(rt; found(alloc, &[0, 0], &events)? == Replay::No(Fault::PlacedTwice(1)));
+    assert!(rt;
+        is_no(
+            &verdict_of(alloc, &[0], &same_call, table)?,
+            Fault::AnsweredTwice(3)
+        )
+    );
+    assert!(rt;
+        is_no(
+            &verdict_of(alloc, &[2], &right, table)?,
+            Fault::NotAnUpdate(0)
+        )
+    );
+    assert!(rt;
+        is_no(
+            &verdict_of(alloc, &[0, 0], &right, table)?,
+            Fault::PlacedTwice(1)
+        )
+    );
     let other_place = [MAP, with(DONE, 11, 1), RESOLVE, MAPPED];
-    assert!(rt; found(alloc, &[0], &other_place)? == Replay::No(Fault::NotPlaced(1)));
+    assert!(rt;
+        is_no(
+            &verdict_of(alloc, &[0], &other_place, table)?,
+            Fault::NotPlaced(1)
+        )
+    );
     let far = [MAP, DONE, RESOLVE, with(MAPPED, 11, 2)];
-    assert!(rt; found(alloc, &[0], &far)? == Replay::No(Fault::PastLog(3)));
+    assert!(rt; is_no(&verdict_of(alloc, &[0], &far, table)?, Fault::PastLog(3)));
     let other_answer = [MAP, DONE, RESOLVE, with(MAPPED, 23, 0x24)];
-    assert!(rt; found(alloc, &[0], &other_answer)? == Replay::No(Fault::WrongAnswer(2)));
+    assert!(rt;
+        is_no(
+            &verdict_of(alloc, &[0], &other_answer, table)?,
+            Fault::WrongAnswer(2)
+        )
+    );
+    let ahead = Table {
+        applied: 2,
+        ..ONE_PAGE
+    };
+    assert!(rt;
+        is_no(
+            &verdict_of(alloc, &[0], &right, &[ahead])?,
+            Fault::PrefixPastLog(0)
+        )
+    );
+    let late = Table {
+        applied: 0,
+        ..ONE_PAGE
+    };
+    assert!(rt;
+        is_no(
+            &verdict_of(alloc, &[0], &right, &[late])?,
+            Fault::PrefixShort(0)
+        )
+    );
     Ok(())
 }
 
 #[test]
 fn malformed_bytes(rt: HostRuntime) -> Result<(), Fail> {
-    assert!(rt; replay(rt.alloc(), &[])? == Replay::No(Fault::Format(Format::Truncated)));
+    let nothing = audit(rt.alloc(), &[])?;
+    assert!(rt; is_no(&nothing, Fault::Format(Format::Truncated)));
     let events = [with(MAP, 7, 1)];
-    assert!(rt; found(rt.alloc(), &[], &events)? == Replay::No(Fault::Format(Format::BadEvent(0))));
+    let verdict = verdict_of(rt.alloc(), &[], &events, &[EMPTY])?;
+    assert!(rt; is_no(&verdict, Fault::Format(Format::BadEvent(0))));
+    Ok(())
+}
+
+/// A later replica's dump may have applied fewer entries.
+#[test]
+fn dumps_of_other_prefixes(rt: HostRuntime) -> Result<(), Fail> {
+    let events = [MAP, with(RESOLVE, 3, 1), with(MAPPED, 7, 1)];
+    let verdict = verdict_of(rt.alloc(), &[0], &events, &[ONE_PAGE, EMPTY])?;
+    assert!(rt; is_yes(&verdict, &[0, 1]));
+    let verdict = verdict_of(rt.alloc(), &[0], &events, &[ONE_PAGE, EMPTY, ONE_PAGE])?;
+    assert!(rt; is_yes(&verdict, &[0, 1]));
     Ok(())
 }

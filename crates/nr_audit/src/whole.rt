@@ -1,5 +1,5 @@
 ghost use Rattle.std.specs.Prelude.{◌≡◌, IfOk, IfErr};
-ghost use Rattle.nr_trace.specs.Reading.{IfRefused};
+ghost use Rattle.vs_types.specs.Refusal.{IfRefused};
 ghost use Rattle.nr_audit.specs.Replay.{IsFaultless, IsFirstFault, IsLegallyOrdered, IsSoOf};
 
 use crate::found::Replay;

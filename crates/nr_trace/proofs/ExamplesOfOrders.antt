@@ -72,10 +72,12 @@ is_a_call call made e = rw e refl
 
 pub legal : IsLegalOrder map_then_resolve order
 legal = record {
-  once = distinct;
-  calls = λ call m. both (IsCall map_then_resolve) refl refl call (members call m);
-  answered = λ call c a. both (Contains order) holds_first holds_second call (calls call c);
-  others = λ call m. inl (both (IsAnswered map_then_resolve) refl refl call (members call m));
+  members = record {
+    once = distinct;
+    calls = λ call m. both (IsCall map_then_resolve) refl refl call (members call m);
+    answered = λ call c a. both (Contains order) holds_first holds_second call (calls call c);
+    others = λ call m. inl (both (IsAnswered map_then_resolve) refl refl call (members call m));
+  };
   precedence = λ first second a b. precedes first second (members first a) (members second b);
   answers = λ call made reply e f. both Right first_right second_right call (calls call (is_a_call call made e)) made reply e f;
 }

@@ -258,10 +258,12 @@ right_answer trace right call made reply e f = by_case (same_or_not reply.answer
 
 pub legal_but_precedence : (trace : Recording) → HasCleanLog trace → ((call : ℕ) → Holds trace (WrongAnswer call) → ⊥) → IsLegalButPrecedence trace (recorded_order trace)
 legal_but_precedence trace clean right = record {
-  once = order_distinct trace clean;
-  calls = λ call m. is_call call (member_stands trace call clean (in_from_Contains call (recorded_order trace) m));
-  answered = λ call c a. stands call (the_some (reply_to trace call) a);
-  others = λ call m. kind call (member_stands trace call clean (in_from_Contains call (recorded_order trace) m));
+  members = record {
+    once = order_distinct trace clean;
+    calls = λ call m. is_call call (member_stands trace call clean (in_from_Contains call (recorded_order trace) m));
+    answered = λ call c a. stands call (the_some (reply_to trace call) a);
+    others = λ call m. kind call (member_stands trace call clean (in_from_Contains call (recorded_order trace) m));
+  };
   answers = right_answer trace right;
 } where
   is_call : (call : ℕ) → (n : ℕ) × (n ≤ length trace.log) × StandsBehind trace call n → IsCall trace call

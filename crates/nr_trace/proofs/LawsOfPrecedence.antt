@@ -118,10 +118,7 @@ pub legal : (trace : Recording) → HasCleanLog trace → ((call : ℕ) → Hold
 legal trace clean in_time right =
     let but = legal_but_precedence trace clean right in
     record {
-      once = but.once;
-      calls = but.calls;
-      answered = but.answered;
-      others = but.others;
+      members = but.members;
       precedence = λ first second a b p. in_front first second (member_stands trace second clean (in_from_Contains second (recorded_order trace) b)) p;
       answers = but.answers;
     } where

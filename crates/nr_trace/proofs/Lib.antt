@@ -14,6 +14,7 @@ mod ExamplesOfFaults
 mod ExamplesOfRanges
 pub mod LawsOfUnits
 pub mod LawsOfSpelling
+pub mod LawsOfLength
 pub mod LawsOfFormat
 pub mod LawsOfLists
 pub mod LawsOfCalls

@@ -1,9 +1,7 @@
 -- What the laws of `src/laws.rt` say of orders.
-use Rattle.std.specs.Prelude.{◌≡◌, ℕ, ◌≤◌, ◌⊎◌, List, length, Contains, Some, nat_eq, ⊤}
-use Rattle.std.specs.List.{IsDistinct}
+use Rattle.std.specs.Prelude.{ℕ, ◌≤◌, List, length, Contains, ⊤}
 use Rattle.nr_trace.specs.Recording.{Recording}
-use Rattle.nr_trace.specs.Calls.{Made, Answered, call_of, reply_to, IsCall, IsUpdate, IsAnswered}
-use Rattle.nr_trace.specs.Orders.{before, space_after, answer_in, recorded_order}
+use Rattle.nr_trace.specs.Orders.{HasItsCalls, HasTheAnswers, recorded_order}
 use Rattle.nr_trace.specs.declared.fault.Fault.{Fault}
 use Rattle.nr_trace.specs.declared.fault.Fault.TheVariants.{ThreadOpen, NoSuchCall, AnsweredTwice, NotAnUpdate, PlacedTwice, NotPlaced, PastLog, WrongAnswer}
 use Rattle.nr_trace.specs.Faults.{Holds, StandsBehind}
@@ -22,14 +20,10 @@ pub record HasCleanLog (trace : Recording) : Type 0 where
 abbrev pub Stands : Recording → ℕ → Type 0
 Stands trace call = (entries : ℕ) × (entries ≤ length trace.log) × StandsBehind trace call entries
 
--- a legal order, but that a call answered before another was made may come behind it
+-- a legal order, but that a call answered before another was made may come after it
 pub record IsLegalButPrecedence (trace : Recording) (order : List ℕ) : Type 0 where
-  pub once : IsDistinct nat_eq order
-  pub calls : (call : ℕ) → Contains order call → IsCall trace call
-  pub answered : (call : ℕ) → IsCall trace call → IsAnswered trace call → Contains order call
-  pub others : (call : ℕ) → Contains order call → IsAnswered trace call ⊎ IsUpdate trace call
-  pub answers : (call : ℕ) (made : Made) (reply : Answered) → call_of trace call ≡ Some made → reply_to trace call ≡ Some reply
-      → reply.answer ≡ answer_in trace.layout (space_after trace (before call order)) made.request
+  pub members : HasItsCalls trace order
+  pub answers : HasTheAnswers trace order
 
 -- wrong answers are compared in the recorded order, so that the call has to stand there
 abbrev pub HasRank : Recording → Fault → Type 0

@@ -34,16 +34,27 @@ abbrev pub answer_in : Layout → Space → Query → Answer
 answer_in layout space (Update action) = (step layout.depth layout.tables space action).answer
 answer_in layout space (Resolve address) = look space address
 
--- a legal order: distinct calls, all answered ones and some unanswered updates, in which a call answered before another was
--- made comes first, and each answer is what the space gives after the updates that stand before
-pub record IsLegalOrder (trace : Recording) (order : List ℕ) : Type 0 where
+-- the order has distinct calls, all answered ones and some unanswered updates
+pub record HasItsCalls (trace : Recording) (order : List ℕ) : Type 0 where
   pub once : IsDistinct nat_eq order
   pub calls : (call : ℕ) → Contains order call → IsCall trace call
   pub answered : (call : ℕ) → IsCall trace call → IsAnswered trace call → Contains order call
   pub others : (call : ℕ) → Contains order call → IsAnswered trace call ⊎ IsUpdate trace call
-  pub precedence : (first second : ℕ) → Contains order first → Contains order second → Precedes trace first second → Contains (before second order) first
-  pub answers : (call : ℕ) (made : Made) (reply : Answered) → call_of trace call ≡ Some made → reply_to trace call ≡ Some reply
-      → reply.answer ≡ answer_in trace.layout (space_after trace (before call order)) made.request
+
+-- of two members, one that was answered before the other was made comes first
+abbrev pub KeepsPrecedence : Recording → List ℕ → Type 0
+KeepsPrecedence trace order = (first second : ℕ) → Contains order first → Contains order second → Precedes trace first second → Contains (before second order) first
+
+-- each answer is what the space gives after the updates that stand before
+abbrev pub HasTheAnswers : Recording → List ℕ → Type 0
+HasTheAnswers trace order = (call : ℕ) (made : Made) (reply : Answered) → call_of trace call ≡ Some made → reply_to trace call ≡ Some reply
+    → reply.answer ≡ answer_in trace.layout (space_after trace (before call order)) made.request
+
+-- a legal order: a linearization of the calls
+pub record IsLegalOrder (trace : Recording) (order : List ℕ) : Type 0 where
+  pub members : HasItsCalls trace order
+  pub precedence : KeepsPrecedence trace order
+  pub answers : HasTheAnswers trace order
 
 -- the dump of a replica fits an order: it translates as the space after the first updates, as many as it has applied, and
 -- among these are all on which an answer given at the replica rests

@@ -1,7 +1,5 @@
 -- What the parts of the reader find.
-use Rattle.std.specs.Prelude.{◌≡◌, ℕ, List, Option, MatchOption, ⊤}
-use Rattle.vs_types.specs.declared.refusal.Fail.{Fail}
-use Rattle.vs_types.specs.declared.refusal.Fail.TheVariants.{Memory, Refused}
+use Rattle.std.specs.Prelude.{◌≡◌, ℕ, List, Option, MatchOption}
 use Rattle.vs_types.specs.Query.{IsQuery}
 use Rattle.vs_types.specs.declared.depth.Depth.{Depth}
 use Rattle.vs_types.specs.declared.request.Query.{Query}
@@ -22,11 +20,6 @@ Finds {A} P found = MatchOption found ((value : A) → P value → ⊥) P
 
 abbrev pub fields_of : Asked → RequestFields
 fields_of asked = record { size = asked.size; rights = asked.rights; address = asked.address; physical = asked.physical }
-
--- a refusal of a call's own has the property
-abbrev pub IfRefused : {E : Type 0} → (E → Type 0) → Fail E → Type 0
-IfRefused P Memory = ⊤
-IfRefused P (Refused fault) = P fault
 
 -- a well-formed request of this kind, with these fields
 pub record IsRequest (depth : Depth) (kind : ℕ) (fields : RequestFields) (request : Query) : Type 0 where

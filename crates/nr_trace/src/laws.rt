@@ -11,7 +11,7 @@ ghost use Rattle.nr_trace.specs.FirstFault.{HasFormatFault};
 ghost use Rattle.nr_trace.specs.Faults.{Earlier, Holds, IsFirst, IsFirstOf, StandsBehind};
 ghost use Rattle.nr_trace.specs.Laws.{HasCleanLog, HasRank, IsFaultless, IsLegalButPrecedence, Stands};
 ghost use Rattle.nr_trace.specs.Orders.{before, floor, known_by, recorded_order, space_after, updates, FitsOrder, IsLegalOrder};
-ghost use Rattle.nr_trace.specs.Recording.{IsRecording, Recording};
+ghost use Rattle.nr_trace.specs.Recording.{Recording};
 ghost use Rattle.nr_trace.specs.Spelling.{Spells};
 ghost use Rattle.nr_trace.specs.declared.fault.Fault.{Fault};
 ghost use Rattle.nr_trace.specs.declared.fault.Fault.TheVariants.{Early, WrongAnswer};
@@ -20,6 +20,12 @@ ghost use Rattle.nr_trace.specs.declared.fault.Format.{Format};
 /// Bytes spell at most one trace.
 pub fn bytes_spell_one_trace()
     ensures { (bytes : List ℕ) (first second : Recording) → Spells bytes first → Spells bytes second → first ≡ second }
+{}
+
+/// Bytes that spell a trace are at most 20 + 4 * 65,536 + 24 * 131,072 + 4 * (16 + 4,096 * 4,104): counts, log, events and
+/// the dumps of four replicas.
+pub fn no_longer_trace()
+    ensures { (bytes : List ℕ) (trace : Recording) → Spells bytes trace → length bytes ≤ 70647892 }
 {}
 
 /// Bytes have at most one fault of the format.
@@ -35,12 +41,12 @@ pub fn no_fault_of_a_spelling()
 /// Where no fault holds of the events, the log and the replies' places, and no answer is wrong, the recorded order is
 /// legal but for precedence.
 pub fn recorded_order_is_legal_but_precedence()
-    ensures { (trace : Recording) → IsRecording trace → HasCleanLog trace → ((call : ℕ) → Holds trace (WrongAnswer call) → ⊥) → IsLegalButPrecedence trace (recorded_order trace) }
+    ensures { (trace : Recording) → HasCleanLog trace → ((call : ℕ) → Holds trace (WrongAnswer call) → ⊥) → IsLegalButPrecedence trace (recorded_order trace) }
 {}
 
 /// Where moreover no call stands too early, the recorded order is legal.
 pub fn recorded_order_is_legal()
-    ensures { (trace : Recording) → IsRecording trace → HasCleanLog trace → ((call : ℕ) → Holds trace (Early call) → ⊥) → ((call : ℕ) → Holds trace (WrongAnswer call) → ⊥) → IsLegalOrder trace (recorded_order trace) }
+    ensures { (trace : Recording) → HasCleanLog trace → ((call : ℕ) → Holds trace (Early call) → ⊥) → ((call : ℕ) → Holds trace (WrongAnswer call) → ⊥) → IsLegalOrder trace (recorded_order trace) }
 {}
 
 /// Of two faults that hold of a trace, one is earlier, or they are one.
@@ -60,8 +66,8 @@ pub fn one_first_fault_of_bytes()
 
 /// Where no fault holds of a recording, the recorded order is legal, and each dump fits it.
 pub fn faultless_recordings_have_an_order()
-    ensures legal { (trace : Recording) → IsRecording trace → IsFaultless trace → IsLegalOrder trace (recorded_order trace) }
-    ensures fits { (trace : Recording) (replica : ℕ) (dump : Image) → IsRecording trace → IsFaultless trace → slice_get trace.dumps replica ≡ Some dump → FitsOrder trace (recorded_order trace) replica dump }
+    ensures legal { (trace : Recording) → IsFaultless trace → IsLegalOrder trace (recorded_order trace) }
+    ensures fits { (trace : Recording) (replica : ℕ) (dump : Image) → IsFaultless trace → slice_get trace.dumps replica ≡ Some dump → FitsOrder trace (recorded_order trace) replica dump }
 {}
 
 /// The members of the recorded order are the calls that stand behind some entries, each behind one number of them. Before a

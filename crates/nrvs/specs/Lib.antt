@@ -4,5 +4,5 @@ pub mod Answers
 pub mod Refusals
 pub mod Program
 pub mod CommandLine
-pub use Rattle.nr_audit.specs.Replay
+pub use Rattle.nr_audit.specs.Verdict
 pub use Rattle.clap.specs.Words

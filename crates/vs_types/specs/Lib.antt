@@ -10,3 +10,4 @@ pub mod Entry
 pub mod Frame
 pub mod Examples
 pub mod Laws
+pub mod Refusal

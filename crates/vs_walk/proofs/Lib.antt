@@ -17,3 +17,7 @@ pub mod WaysSpaces
 pub mod WaysDumps
 pub mod WaysSame
 pub mod WaysBuilt
+pub mod Marked
+pub mod Traversed
+pub mod TraversedWords
+pub mod Places

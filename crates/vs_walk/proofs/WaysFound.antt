@@ -108,7 +108,7 @@ entry_in depth memory level table index word (entry.Table number own) placed low
     (sym (entry_is_table level))
     (lower (record { number = number; start = table.start + index * entry_bytes (suc level); rights = joined table.rights own }) (place_below level table index number own placed))
 
-entry_fits : (level start index : ℕ) → index < 512 → start + index * entry_bytes (suc level) + entry_bytes (suc level) ≤ start + table_bytes (suc level)
+pub entry_fits : (level start index : ℕ) → index < 512 → start + index * entry_bytes (suc level) + entry_bytes (suc level) ≤ start + table_bytes (suc level)
 entry_fits level start index lt = sums start (index * entry_bytes (suc level)) (entry_bytes (suc level)) (table_bytes (suc level)) (row_fits index (entry_bytes (suc level)) 512 (entry_bytes (suc level)) lt (omega arith)) (table_is_entries level) where
   sums : (start a b whole : ℕ) → a + b ≤ 512 * b → whole ≡ 512 * b → start + a + b ≤ start + whole
   sums start a b whole le is = omega arith

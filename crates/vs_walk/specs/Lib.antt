@@ -1,6 +1,8 @@
 pub mod Memory
 pub mod Walk
 pub mod Traversal
+pub mod Reached
+pub mod Traversed
 pub mod Differences
 pub mod Dump
 pub mod Examples

@@ -7,12 +7,16 @@ mod dump;
 pub mod examples;
 mod frames;
 mod laws;
+mod reached;
+mod traversal;
 mod walk;
 mod ways;
 
 pub use dump::Dump;
 pub use frames::Frames;
 pub use laws::{spaces_translate_without_fault, translates_as_one_space};
+pub use reached::Reached;
+pub use traversal::{PageVisitor, traverse};
 pub use vs_types::FRAME_WORDS;
 pub use walk::{Walk, WalkFault, translate};
 pub use ways::{

@@ -4,7 +4,7 @@ ghost use Rattle.std.specs.Prelude.{◌≡◌, IfOk, IfErr, MatchResult};
 ghost use Rattle.nr_trace.specs.Recording.{Recording};
 ghost use Rattle.nr_trace.specs.Spelling.{Spells};
 ghost use Rattle.nr_trace.specs.FirstFault.{HasFormatFault};
-ghost use Rattle.nr_trace.specs.Reading.{IfRefused};
+ghost use Rattle.vs_types.specs.Refusal.{IfRefused};
 
 use crate::fault::Format;
 use crate::reading::parts::Reader;

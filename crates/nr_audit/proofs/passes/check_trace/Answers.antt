@@ -1,5 +1,5 @@
 use Rattle.std.proofs.lemmas.Result.{err_from_is_err_and, on_ok_weaker, IfErr-weaker}
-use Rattle.nr_trace.specs.Reading.{IfRefused}
+use Rattle.vs_types.specs.Refusal.{IfRefused}
 use Rattle.nr_audit.specs.Search.{IsFirstAmong}
 use Rattle.nr_audit.specs.Passes.{IsCallFault, IsLogFault, IsAnswerFault}
 use Rattle.nr_audit.specs.Replay.{IsReplayFault}

@@ -2,7 +2,7 @@ use Rattle.nr_trace.proofs.LawsOfDumps.{legal_if_faultless, fits_if_faultless}
 use Rattle.nr_trace.proofs.laws.faultless_recordings_have_an_order.Goals as goal
 
 pub returns-clause-legal : goal.returns-clause-legal
-returns-clause-legal c = λ trace _ faultless. legal_if_faultless trace faultless
+returns-clause-legal c = λ trace faultless. legal_if_faultless trace faultless
 
 pub returns-clause-fits : goal.returns-clause-fits
-returns-clause-fits c = λ trace replica dump _ faultless is. fits_if_faultless trace replica dump faultless is
+returns-clause-fits c = λ trace replica dump faultless is. fits_if_faultless trace replica dump faultless is

@@ -1,0 +1,274 @@
+-- What is wrong with the dump of one replica, and which of it comes first.
+use Rattle.std.proofs.Common.{◌≡◌, ℕ, ◌<◌, ◌≤◌, ◌⊎◌, inl, inr, List, [], ◌∷◌, length, take, slice_get, get_or, Some, refl, sym, ap, subst, ◌∙◌, arith, lit<}
+use Rattle.std.specs.Ordering.{nat_cmp}
+use Rattle.std.specs.Cmp.Lexicographic.{slice_cmp}
+use Rattle.std.specs.declared.cmp.Ordering.TheVariants.{Less}
+use Rattle.std.proofs.lemmas.Bool.{cases_lt}
+use Rattle.std.proofs.lemmas.Option.{slice_get_within, slice_get_past, slice_get-get_or, same_Some}
+use Rattle.vs_walk.specs.Dump.{Image}
+use Rattle.nr_trace.specs.Recording.{Recording}
+use Rattle.nr_trace.specs.Calls.{Answered, reply_of}
+use Rattle.nr_trace.specs.Orders.{space_after}
+use Rattle.nr_trace.specs.Faults.{Holds, Earlier, rank, RestsOnMore, HasDump}
+use Rattle.nr_trace.specs.declared.fault.Fault.{Fault}
+use Rattle.nr_trace.specs.declared.fault.Fault.TheVariants.{PrefixPastLog, PrefixShort, MissingFrame, SharedFrame, ReservedBit, StrayFrame, Differs}
+use Rattle.nr_trace.proofs.LawsOfCalls.{reply_in_event}
+use Rattle.nr_dump.specs.Faults as dumps
+use Rattle.nr_dump.specs.declared.fault.DumpFault.{DumpFault}
+use Rattle.nr_dump.specs.declared.fault.DumpFault.TheVariants as of_dump
+use Rattle.nr_audit.specs.Search.{HasNone, IsFirstAmong}
+use Rattle.nr_audit.specs.Passes.{IsDumpFaultAt, IsDumpFault}
+use Rattle.nr_audit.specs.Dumps.{at_replica}
+use Rattle.nr_audit.specs.Prefixes.{AreNeeds}
+use Rattle.nr_audit.proofs.Ranks.{IsRanked, none_of_all, first_of_all, lower_number}
+
+pub dump_ranks : (trace : Recording) → IsRanked IsDumpFaultAt 7 trace
+dump_ranks trace replica (PrefixPastLog at) among = (11, ap (λ i. 7 ∷ i ∷ 11 ∷ []) among)
+dump_ranks trace replica (PrefixShort at) among = (12, ap (λ i. 7 ∷ i ∷ 12 ∷ []) among)
+dump_ranks trace replica (MissingFrame at number) among = (13, ap (λ i. 7 ∷ i ∷ 13 ∷ []) among)
+dump_ranks trace replica (SharedFrame at number) among = (14, ap (λ i. 7 ∷ i ∷ 14 ∷ []) among)
+dump_ranks trace replica (ReservedBit at number index) among = (15, ap (λ i. 7 ∷ i ∷ 15 ∷ []) among)
+dump_ranks trace replica (StrayFrame at number) among = (16, ap (λ i. 7 ∷ i ∷ 16 ∷ []) among)
+dump_ranks trace replica (Differs at address) among = (17, ap (λ i. 7 ∷ i ∷ 17 ∷ []) among)
+dump_ranks trace replica fault among = absurd among
+
+-- the first fault of a replica, after replicas that have none, is the first of the dumps
+pub first_dump_fault : (trace : Recording) (replica : ℕ) (fault : Fault) → ((lower : ℕ) → lower < replica → HasNone (IsDumpFaultAt lower) trace)
+    → IsFirstAmong (IsDumpFaultAt replica) trace fault → IsFirstAmong IsDumpFault trace fault
+first_dump_fault trace = first_of_all IsDumpFaultAt 7 trace (dump_ranks trace)
+
+-- a dump, as it is read
+pub read_dump : (dumps real : List Image) (i : ℕ) (dump : Image) → dumps ≡ real → i < length real → dump ≡ get_or dumps i dump → slice_get real i ≡ Some dump
+read_dump dumps real i dump same lt read =
+    subst (λ (xs : List Image). slice_get xs i ≡ Some dump) same (slice_get-get_or dumps i dump (omega (arith, ap length same)) ∙ ap (λ d. Some d) (sym read))
+
+-- where there is no dump nothing is wrong with it
+no_dump_past : (trace : Recording) (replica : ℕ) (P : Image → Type 0) → length trace.dumps ≤ replica → HasDump trace replica P → ⊥
+no_dump_past trace replica P past has = let none = slice_get_past trace.dumps replica past in let there = has.1 in cc
+
+none_past : (trace : Recording) (replica : ℕ) → length trace.dumps ≤ replica → HasNone (IsDumpFaultAt replica) trace
+none_past trace replica past (PrefixPastLog at) among holds = no_dump_past trace at _ (subst (λ r. length trace.dumps ≤ r) (sym among) past) holds
+none_past trace replica past (PrefixShort at) among holds = no_dump_past trace at _ (subst (λ r. length trace.dumps ≤ r) (sym among) past) holds
+none_past trace replica past (MissingFrame at frame) among holds = no_dump_past trace at _ (subst (λ r. length trace.dumps ≤ r) (sym among) past) holds
+none_past trace replica past (SharedFrame at frame) among holds = no_dump_past trace at _ (subst (λ r. length trace.dumps ≤ r) (sym among) past) holds
+none_past trace replica past (ReservedBit at frame index) among holds = no_dump_past trace at _ (subst (λ r. length trace.dumps ≤ r) (sym among) past) holds
+none_past trace replica past (StrayFrame at frame) among holds = no_dump_past trace at _ (subst (λ r. length trace.dumps ≤ r) (sym among) past) holds
+none_past trace replica past (Differs at address) among holds = no_dump_past trace at _ (subst (λ r. length trace.dumps ≤ r) (sym among) past) holds
+none_past trace replica past other among holds = among
+
+pub no_dump_fault : (trace : Recording) → ((lower : ℕ) → lower < length trace.dumps → HasNone (IsDumpFaultAt lower) trace) → HasNone IsDumpFault trace
+no_dump_fault trace none = none_of_all IsDumpFaultAt trace (λ replica. elim (cases_lt replica (length trace.dumps)) [
+  | inl low ↦ none replica low
+  | inr past ↦ none_past trace replica past
+])
+
+-- ---- one replica's faults, by number
+
+abbrev number_of : Fault → ℕ
+number_of (PrefixPastLog at) = 11
+number_of (PrefixShort at) = 12
+number_of (MissingFrame at number) = 13
+number_of (SharedFrame at number) = 14
+number_of (ReservedBit at number index) = 15
+number_of (StrayFrame at number) = 16
+number_of (Differs at address) = 17
+number_of fault = 0
+
+module _ (trace : Recording) (replica number : ℕ) (fault : Fault) (is : rank trace fault ≡ 7 ∷ replica ∷ number ∷ []) where
+  ordered : (other : Fault) (at own : ℕ) → rank trace other ≡ 7 ∷ at ∷ own ∷ [] → at ≡ replica → Earlier trace other fault → own < number
+  ordered other at own ranks same earlier =
+      lower_number 7 at own replica number
+      (subst (λ r. slice_cmp nat_cmp (7 ∷ at ∷ own ∷ []) r ≡ Less) is (subst (λ r. slice_cmp nat_cmp r (rank trace fault) ≡ Less) ranks earlier)) same
+
+  lower : (other : Fault) → IsDumpFaultAt replica other → Earlier trace other fault → number_of other < number
+  lower (PrefixPastLog at) among = ordered (PrefixPastLog at) at 11 refl among
+  lower (PrefixShort at) among = ordered (PrefixShort at) at 12 refl among
+  lower (MissingFrame at frame) among = ordered (MissingFrame at frame) at 13 refl among
+  lower (SharedFrame at frame) among = ordered (SharedFrame at frame) at 14 refl among
+  lower (ReservedBit at frame index) among = ordered (ReservedBit at frame index) at 15 refl among
+  lower (StrayFrame at frame) among = ordered (StrayFrame at frame) at 16 refl among
+  lower (Differs at address) among = ordered (Differs at address) at 17 refl among
+  lower other among = absurd among
+
+-- no fault of a dump has a lower number
+none_lower : (replica : ℕ) (other : Fault) → IsDumpFaultAt replica other → number_of other < 11 → ⊥
+none_lower replica (PrefixPastLog at) among lt = omega arith
+none_lower replica (PrefixShort at) among lt = omega arith
+none_lower replica (MissingFrame at frame) among lt = omega arith
+none_lower replica (SharedFrame at frame) among lt = omega arith
+none_lower replica (ReservedBit at frame index) among lt = omega arith
+none_lower replica (StrayFrame at frame) among lt = omega arith
+none_lower replica (Differs at address) among lt = omega arith
+none_lower replica other among lt = among
+
+one_lower : (trace : Recording) (replica : ℕ) (other : Fault) → (Holds trace (PrefixPastLog replica) → ⊥) → IsDumpFaultAt replica other → Holds trace other → number_of other < 12 → ⊥
+one_lower trace replica (PrefixPastLog at) none among holds lt = none (subst (λ r. Holds trace (PrefixPastLog r)) among holds)
+one_lower trace replica (PrefixShort at) none among holds lt = omega arith
+one_lower trace replica (MissingFrame at frame) none among holds lt = omega arith
+one_lower trace replica (SharedFrame at frame) none among holds lt = omega arith
+one_lower trace replica (ReservedBit at frame index) none among holds lt = omega arith
+one_lower trace replica (StrayFrame at frame) none among holds lt = omega arith
+one_lower trace replica (Differs at address) none among holds lt = omega arith
+one_lower trace replica other none among holds lt = among
+
+-- ---- faults of the tables
+
+abbrev number_in : DumpFault → ℕ
+number_in (of_dump.MissingFrame frame) = 13
+number_in (of_dump.SharedFrame frame) = 14
+number_in (of_dump.ReservedBit frame index) = 15
+number_in (of_dump.StrayFrame frame) = 16
+number_in (of_dump.Differs address) = 17
+
+rank_in : (trace : Recording) (replica : ℕ) (fault : DumpFault) → rank trace (at_replica replica fault) ≡ 7 ∷ replica ∷ number_in fault ∷ []
+rank_in trace replica (of_dump.MissingFrame frame) = refl
+rank_in trace replica (of_dump.SharedFrame frame) = refl
+rank_in trace replica (of_dump.ReservedBit frame index) = refl
+rank_in trace replica (of_dump.StrayFrame frame) = refl
+rank_in trace replica (of_dump.Differs address) = refl
+
+is_of_replica : (replica : ℕ) (fault : DumpFault) → IsDumpFaultAt replica (at_replica replica fault)
+is_of_replica replica (of_dump.MissingFrame frame) = refl
+is_of_replica replica (of_dump.SharedFrame frame) = refl
+is_of_replica replica (of_dump.ReservedBit frame index) = refl
+is_of_replica replica (of_dump.StrayFrame frame) = refl
+is_of_replica replica (of_dump.Differs address) = refl
+
+reply_below : (trace : Recording) (index : ℕ) (reply : Answered) → reply_of trace index ≡ Some reply → index < length trace.events
+reply_below trace index reply is = let (event, at, own) = reply_in_event (slice_get trace.events index) reply is in slice_get_within trace.events index event at
+
+module _ (trace : Recording) (replica : ℕ) (dump : Image) (is : slice_get trace.dumps replica ≡ Some dump) where
+  -- what holds of the dump holds of the trace
+  told : (fault : DumpFault) → dumps.Holds trace.layout.depth dump (space_after trace (take dump.applied trace.log)) fault → Holds trace (at_replica replica fault)
+  told (of_dump.MissingFrame frame) holds = (dump, is, holds)
+  told (of_dump.SharedFrame frame) holds = (dump, is, holds)
+  told (of_dump.ReservedBit frame index) holds = (dump, is, holds)
+  told (of_dump.StrayFrame frame) holds = (dump, is, holds)
+  told (of_dump.Differs address) holds = (dump, is, holds)
+
+  own_dump : (at : ℕ) (other : Image) → at ≡ replica → slice_get trace.dumps at ≡ Some other → other ≡ dump
+  own_dump at other same there = same_Some other dump (sym there ∙ ap (slice_get trace.dumps) same ∙ is)
+
+  -- a fault of the replica that holds is one of its prefix, or one of the dump's
+  back : (other : Fault) → IsDumpFaultAt replica other → Holds trace other → (number_of other < 13)
+      ⊎ ((fault : DumpFault) × dumps.Holds trace.layout.depth dump (space_after trace (take dump.applied trace.log)) fault × (number_in fault ≡ number_of other))
+  back (PrefixPastLog at) among holds = inl (lit< tt)
+  back (PrefixShort at) among holds = inl (lit< tt)
+  back (MissingFrame at frame) among holds =
+      inr (of_dump.MissingFrame frame, subst (λ d. dumps.Holds trace.layout.depth d (space_after trace (take d.applied trace.log)) (of_dump.MissingFrame frame)) (own_dump at holds.0 among holds.1) holds.2, refl)
+  back (SharedFrame at frame) among holds =
+      inr (of_dump.SharedFrame frame, subst (λ d. dumps.Holds trace.layout.depth d (space_after trace (take d.applied trace.log)) (of_dump.SharedFrame frame)) (own_dump at holds.0 among holds.1) holds.2, refl)
+  back (ReservedBit at frame index) among holds =
+      inr (of_dump.ReservedBit frame index, subst (λ d. dumps.Holds trace.layout.depth d (space_after trace (take d.applied trace.log)) (of_dump.ReservedBit frame index)) (own_dump at holds.0 among holds.1) holds.2, refl)
+  back (StrayFrame at frame) among holds =
+      inr (of_dump.StrayFrame frame, subst (λ d. dumps.Holds trace.layout.depth d (space_after trace (take d.applied trace.log)) (of_dump.StrayFrame frame)) (own_dump at holds.0 among holds.1) holds.2, refl)
+  back (Differs at address) among holds =
+      inr (of_dump.Differs address, subst (λ d. dumps.Holds trace.layout.depth d (space_after trace (take d.applied trace.log)) (of_dump.Differs address)) (own_dump at holds.0 among holds.1) holds.2, refl)
+  back other among holds = absurd among
+
+  past_log : Holds trace (PrefixPastLog replica) → length trace.log < dump.applied
+  past_log holds = subst (λ (d : Image). length trace.log < d.applied) (own_dump replica holds.0 refl holds.1) holds.2
+
+  rests_on_more : Holds trace (PrefixShort replica) → RestsOnMore trace replica dump
+  rests_on_more holds = subst (λ (d : Image). RestsOnMore trace replica d) (own_dump replica holds.0 refl holds.1) holds.2
+
+  -- a fault of a lower number comes earlier
+  comes_earlier : (other fault : DumpFault) → number_in other < number_in fault → dumps.Holds trace.layout.depth dump (space_after trace (take dump.applied trace.log)) other
+      → dumps.Holds trace.layout.depth dump (space_after trace (take dump.applied trace.log)) fault → dumps.rank other < dumps.rank fault
+  comes_earlier (of_dump.MissingFrame a) (of_dump.MissingFrame b) lt f g = absurd (omega arith)
+  comes_earlier (of_dump.MissingFrame a) (of_dump.SharedFrame b) lt f g = absurd cc
+  comes_earlier (of_dump.MissingFrame a) (of_dump.ReservedBit b i) lt f g = absurd cc
+  comes_earlier (of_dump.MissingFrame a) (of_dump.StrayFrame b) lt f g = lit< tt
+  comes_earlier (of_dump.MissingFrame a) (of_dump.Differs b) lt f g = lit< tt
+  comes_earlier (of_dump.SharedFrame a) (of_dump.MissingFrame b) lt f g = absurd (omega arith)
+  comes_earlier (of_dump.SharedFrame a) (of_dump.SharedFrame b) lt f g = absurd (omega arith)
+  comes_earlier (of_dump.SharedFrame a) (of_dump.ReservedBit b i) lt f g = absurd cc
+  comes_earlier (of_dump.SharedFrame a) (of_dump.StrayFrame b) lt f g = lit< tt
+  comes_earlier (of_dump.SharedFrame a) (of_dump.Differs b) lt f g = lit< tt
+  comes_earlier (of_dump.ReservedBit a i) (of_dump.MissingFrame b) lt f g = absurd (omega arith)
+  comes_earlier (of_dump.ReservedBit a i) (of_dump.SharedFrame b) lt f g = absurd (omega arith)
+  comes_earlier (of_dump.ReservedBit a i) (of_dump.ReservedBit b j) lt f g = absurd (omega arith)
+  comes_earlier (of_dump.ReservedBit a i) (of_dump.StrayFrame b) lt f g = lit< tt
+  comes_earlier (of_dump.ReservedBit a i) (of_dump.Differs b) lt f g = lit< tt
+  comes_earlier (of_dump.StrayFrame a) (of_dump.MissingFrame b) lt f g = absurd (omega arith)
+  comes_earlier (of_dump.StrayFrame a) (of_dump.SharedFrame b) lt f g = absurd (omega arith)
+  comes_earlier (of_dump.StrayFrame a) (of_dump.ReservedBit b i) lt f g = absurd (omega arith)
+  comes_earlier (of_dump.StrayFrame a) (of_dump.StrayFrame b) lt f g = absurd (omega arith)
+  comes_earlier (of_dump.StrayFrame a) (of_dump.Differs b) lt f g = lit< tt
+  comes_earlier (of_dump.Differs a) (of_dump.MissingFrame b) lt f g = absurd (omega arith)
+  comes_earlier (of_dump.Differs a) (of_dump.SharedFrame b) lt f g = absurd (omega arith)
+  comes_earlier (of_dump.Differs a) (of_dump.ReservedBit b i) lt f g = absurd (omega arith)
+  comes_earlier (of_dump.Differs a) (of_dump.StrayFrame b) lt f g = absurd (omega arith)
+  comes_earlier (of_dump.Differs a) (of_dump.Differs b) lt f g = absurd (omega arith)
+
+  -- ---- how many entries are applied
+
+  pub first_past_log : length trace.log < dump.applied → IsFirstAmong (IsDumpFaultAt replica) trace (PrefixPastLog replica)
+  first_past_log past = record {
+    is_among = refl;
+    holds = (dump, is, past);
+    none_earlier = λ other among holds earlier. none_lower replica other among (lower trace replica 11 (PrefixPastLog replica) refl other among earlier);
+  }
+
+  module _ (within : dump.applied ≤ length trace.log) where
+    not_past : Holds trace (PrefixPastLog replica) → ⊥
+    not_past holds = let past = past_log holds in omega arith
+
+    pub first_short : (needs : List ℕ) → AreNeeds trace (length trace.events) needs → dump.applied < get_or needs replica 0 → IsFirstAmong (IsDumpFaultAt replica) trace (PrefixShort replica)
+    first_short needs are short =
+        let known = are.reached replica (omega arith) in
+        record {
+          is_among = refl;
+          holds = (
+            dump,
+            is,
+            record {
+              index = known.index;
+              reply = known.reply;
+              is_reply = known.at.is_reply;
+              made = known.at.made;
+              is_made = known.at.is_made;
+              here = known.at.here;
+              more = let just = known.just in omega arith;
+            },
+          );
+          none_earlier = λ other among holds earlier. one_lower trace replica other not_past among holds (lower trace replica 12 (PrefixShort replica) refl other among earlier);
+        }
+
+    module _ (needs : List ℕ) (are : AreNeeds trace (length trace.events) needs) (enough : get_or needs replica 0 ≤ dump.applied) where
+      not_short : Holds trace (PrefixShort replica) → ⊥
+      not_short holds =
+          let rests = rests_on_more holds in
+          let most = are.most replica rests.index rests.reply (record { below = reply_below trace rests.index rests.reply rests.is_reply; is_reply = rests.is_reply; made = rests.made; is_made = rests.is_made; here = rests.here }) in
+          let more = rests.more in
+          omega arith
+
+      no_prefix : (other : Fault) → IsDumpFaultAt replica other → Holds trace other → number_of other < 13 → ⊥
+      no_prefix (PrefixPastLog at) among holds lt = not_past (subst (λ r. Holds trace (PrefixPastLog r)) among holds)
+      no_prefix (PrefixShort at) among holds lt = not_short (subst (λ r. Holds trace (PrefixShort r)) among holds)
+      no_prefix (MissingFrame at frame) among holds lt = omega arith
+      no_prefix (SharedFrame at frame) among holds lt = omega arith
+      no_prefix (ReservedBit at frame index) among holds lt = omega arith
+      no_prefix (StrayFrame at frame) among holds lt = omega arith
+      no_prefix (Differs at address) among holds lt = omega arith
+      no_prefix other among holds lt = among
+
+      -- ---- the tables
+
+      pub none_of_replica : dumps.HasNoFault trace.layout.depth dump (space_after trace (take dump.applied trace.log)) → HasNone (IsDumpFaultAt replica) trace
+      none_of_replica none other among holds = elim (back other among holds) [
+        | inl low ↦ no_prefix other among holds low
+        | inr there ↦ none there.0 there.1
+      ]
+
+      pub first_of_replica : (fault : DumpFault) → dumps.IsFirst trace.layout.depth dump (space_after trace (take dump.applied trace.log)) fault → IsFirstAmong (IsDumpFaultAt replica) trace (at_replica replica fault)
+      first_of_replica fault first = record {
+        is_among = is_of_replica replica fault;
+        holds = told fault first.holds;
+        none_earlier = λ other among holds earlier.
+            let less = lower trace replica (number_in fault) (at_replica replica fault) (rank_in trace replica fault) other among earlier in
+            elim (back other among holds) [
+              | inl low ↦ no_prefix other among holds low
+              | inr there ↦ first.none_earlier there.0 there.1 (comes_earlier there.0 fault (let same = there.2 in omega arith) there.1 first.holds)
+            ];
+      }

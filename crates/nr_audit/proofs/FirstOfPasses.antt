@@ -1,0 +1,345 @@
+-- The passes one after another: the first fault of a pass, where none of an earlier pass holds, is the first of all.
+use Rattle.std.proofs.Common.{◌≡◌, ℕ, ◌+◌, ◌<◌, [], ◌∷◌, inl, inr, refl, subst, ◌∙◌, arith, lit<, length}
+use Rattle.std.specs.Ordering.{nat_cmp}
+use Rattle.std.specs.Cmp.Lexicographic.{slice_cmp}
+use Rattle.std.specs.declared.cmp.Ordering.TheVariants.{Less}
+use Rattle.std.proofs.lemmas.Bool.{cases_lt}
+use Rattle.nr_trace.specs.Recording.{Recording}
+use Rattle.nr_trace.specs.Orders.{before, recorded_order}
+use Rattle.nr_trace.specs.Faults.{Holds, rank, IsFirst}
+use Rattle.nr_trace.specs.Laws.{HasCleanLog, IsFaultless}
+use Rattle.nr_trace.specs.declared.fault.Fault.{Fault}
+use Rattle.nr_trace.specs.declared.fault.Fault.TheVariants.{Format, ThreadOpen, NoSuchCall, AnsweredTwice, NotAnUpdate, PlacedTwice, NotPlaced, PastLog, Early, WrongAnswer, PrefixPastLog, PrefixShort, MissingFrame, SharedFrame, ReservedBit, StrayFrame, Differs}
+use Rattle.vs_types.specs.Refusal.{IfRefused}
+use Rattle.vs_types.specs.declared.refusal.Fail.{Fail}
+use Rattle.vs_types.specs.declared.refusal.Fail.TheVariants.{Memory, Refused}
+use Rattle.nr_audit.specs.Search.{HasNone, IsFirstAmong}
+use Rattle.nr_audit.specs.Passes.{IsCallFault, IsLogFault, IsPositionFault, IsFloorFault, IsAnswerFault, IsDumpFault}
+use Rattle.nr_audit.proofs.Ranks.{earlier_cases}
+
+-- the pass that looks for a fault
+abbrev pub pass_of : Fault → ℕ
+pass_of (Format fault) = 1
+pass_of (ThreadOpen index) = 2
+pass_of (NoSuchCall index) = 2
+pass_of (AnsweredTwice index) = 2
+pass_of (NotAnUpdate place) = 3
+pass_of (PlacedTwice place) = 3
+pass_of (NotPlaced index) = 4
+pass_of (PastLog index) = 4
+pass_of (Early call) = 5
+pass_of (WrongAnswer call) = 6
+pass_of (PrefixPastLog replica) = 7
+pass_of (PrefixShort replica) = 7
+pass_of (MissingFrame replica number) = 7
+pass_of (SharedFrame replica number) = 7
+pass_of (ReservedBit replica number index) = 7
+pass_of (StrayFrame replica number) = 7
+pass_of (Differs replica address) = 7
+
+-- a fault stands by its pass first
+record Ranked (trace : Recording) (fault : Fault) : Type 0 where
+  at : ℕ
+  number : ℕ
+  is : rank trace fault ≡ pass_of fault ∷ at ∷ number ∷ []
+
+ranked : (trace : Recording) (fault : Fault) → Ranked trace fault
+ranked trace (Format fault) = record { at = 0; number = 1; is = refl }
+ranked trace (ThreadOpen index) = record { at = index; number = 2; is = refl }
+ranked trace (NoSuchCall index) = record { at = index; number = 3; is = refl }
+ranked trace (AnsweredTwice index) = record { at = index; number = 4; is = refl }
+ranked trace (NotAnUpdate place) = record { at = place; number = 5; is = refl }
+ranked trace (PlacedTwice place) = record { at = place; number = 6; is = refl }
+ranked trace (NotPlaced index) = record { at = index; number = 7; is = refl }
+ranked trace (PastLog index) = record { at = index; number = 8; is = refl }
+ranked trace (Early call) = record { at = call; number = 9; is = refl }
+ranked trace (WrongAnswer call) = record { at = length (before call (recorded_order trace)); number = 10; is = refl }
+ranked trace (PrefixPastLog replica) = record { at = replica; number = 11; is = refl }
+ranked trace (PrefixShort replica) = record { at = replica; number = 12; is = refl }
+ranked trace (MissingFrame replica number) = record { at = replica; number = 13; is = refl }
+ranked trace (SharedFrame replica number) = record { at = replica; number = 14; is = refl }
+ranked trace (ReservedBit replica number index) = record { at = replica; number = 15; is = refl }
+ranked trace (StrayFrame replica number) = record { at = replica; number = 16; is = refl }
+ranked trace (Differs replica address) = record { at = replica; number = 17; is = refl }
+
+-- the faults among these are those of the pass
+pub record AreOfPass (pass : ℕ) (Among : Fault → Type 0) : Type 0 where
+  pub all : (fault : Fault) → pass_of fault ≡ pass → Among fault
+  pub only : (fault : Fault) → Among fault → pass_of fault ≡ pass
+
+-- no fault of a pass before this one holds
+abbrev pub HasNoneBefore : ℕ → Recording → Type 0
+HasNoneBefore pass trace = (fault : Fault) → pass_of fault < pass → Holds trace fault → ⊥
+
+pub none_of_format : (trace : Recording) → HasNoneBefore 2 trace
+none_of_format trace (Format fault) lt holds = holds
+none_of_format trace (ThreadOpen index) lt holds = omega arith
+none_of_format trace (NoSuchCall index) lt holds = omega arith
+none_of_format trace (AnsweredTwice index) lt holds = omega arith
+none_of_format trace (NotAnUpdate place) lt holds = omega arith
+none_of_format trace (PlacedTwice place) lt holds = omega arith
+none_of_format trace (NotPlaced index) lt holds = omega arith
+none_of_format trace (PastLog index) lt holds = omega arith
+none_of_format trace (Early call) lt holds = omega arith
+none_of_format trace (WrongAnswer call) lt holds = omega arith
+none_of_format trace (PrefixPastLog replica) lt holds = omega arith
+none_of_format trace (PrefixShort replica) lt holds = omega arith
+none_of_format trace (MissingFrame replica number) lt holds = omega arith
+none_of_format trace (SharedFrame replica number) lt holds = omega arith
+none_of_format trace (ReservedBit replica number index) lt holds = omega arith
+none_of_format trace (StrayFrame replica number) lt holds = omega arith
+none_of_format trace (Differs replica address) lt holds = omega arith
+
+-- one pass more
+pub none_before_next : (pass : ℕ) (Among : Fault → Type 0) (trace : Recording) → AreOfPass pass Among → HasNoneBefore pass trace → HasNone Among trace → HasNoneBefore (pass + 1) trace
+none_before_next pass Among trace are none here fault lt holds = elim (cases_lt (pass_of fault) pass) [
+  | inl low ↦ none fault low holds
+  | inr same ↦ here fault (are.all fault (omega arith)) holds
+]
+
+-- the first fault of a pass is the first of all
+pub first_of_pass : (pass : ℕ) (Among : Fault → Type 0) (trace : Recording) (fault : Fault) → AreOfPass pass Among → HasNoneBefore pass trace → IsFirstAmong Among trace fault → IsFirst trace fault
+first_of_pass pass Among trace fault are none first = record {
+  holds = first.holds;
+  none_earlier = λ other holds earlier.
+      let r = ranked trace other in
+      let s = ranked trace fault in
+      let own = are.only fault first.is_among in
+      let ordered : slice_cmp nat_cmp (pass_of other ∷ r.at ∷ r.number ∷ []) (pass_of fault ∷ s.at ∷ s.number ∷ []) ≡ Less =
+      subst (λ b. slice_cmp nat_cmp (pass_of other ∷ r.at ∷ r.number ∷ []) b ≡ Less) s.is (subst (λ a. slice_cmp nat_cmp a (rank trace fault) ≡ Less) r.is earlier) in
+      elim (earlier_cases (pass_of other) r.at r.number (pass_of fault) s.at s.number ordered) [
+        | inl low ↦ none other (omega arith) holds
+        | inr same ↦ first.none_earlier other (are.all other (same.0 ∙ own)) holds earlier
+      ];
+}
+
+-- what a pass refuses is the first of all
+pub refused_by_pass : (pass : ℕ) (Among : Fault → Type 0) (trace : Recording) (fail : Fail Fault) → AreOfPass pass Among → HasNoneBefore pass trace → IfRefused (IsFirstAmong Among trace) fail → IfRefused (IsFirst trace) fail
+refused_by_pass pass Among trace Memory are none first = tt
+refused_by_pass pass Among trace (Refused fault) are none first = first_of_pass pass Among trace fault are none first
+
+call_from : (fault : Fault) → pass_of fault ≡ 2 → IsCallFault fault
+call_from (Format fault) e = absurd (omega arith)
+call_from (ThreadOpen index) e = (index, refl)
+call_from (NoSuchCall index) e = (index, refl)
+call_from (AnsweredTwice index) e = (index, refl)
+call_from (NotAnUpdate place) e = absurd (omega arith)
+call_from (PlacedTwice place) e = absurd (omega arith)
+call_from (NotPlaced index) e = absurd (omega arith)
+call_from (PastLog index) e = absurd (omega arith)
+call_from (Early call) e = absurd (omega arith)
+call_from (WrongAnswer call) e = absurd (omega arith)
+call_from (PrefixPastLog replica) e = absurd (omega arith)
+call_from (PrefixShort replica) e = absurd (omega arith)
+call_from (MissingFrame replica number) e = absurd (omega arith)
+call_from (SharedFrame replica number) e = absurd (omega arith)
+call_from (ReservedBit replica number index) e = absurd (omega arith)
+call_from (StrayFrame replica number) e = absurd (omega arith)
+call_from (Differs replica address) e = absurd (omega arith)
+
+from_call : (fault : Fault) → IsCallFault fault → pass_of fault ≡ 2
+from_call (ThreadOpen index) among = refl
+from_call (NoSuchCall index) among = refl
+from_call (AnsweredTwice index) among = refl
+from_call fault among = absurd among.1
+
+pub call_faults : AreOfPass 2 IsCallFault
+call_faults = record { all = call_from; only = from_call }
+
+log_from : (fault : Fault) → pass_of fault ≡ 3 → IsLogFault fault
+log_from (Format fault) e = absurd (omega arith)
+log_from (ThreadOpen index) e = absurd (omega arith)
+log_from (NoSuchCall index) e = absurd (omega arith)
+log_from (AnsweredTwice index) e = absurd (omega arith)
+log_from (NotAnUpdate place) e = (place, refl)
+log_from (PlacedTwice place) e = (place, refl)
+log_from (NotPlaced index) e = absurd (omega arith)
+log_from (PastLog index) e = absurd (omega arith)
+log_from (Early call) e = absurd (omega arith)
+log_from (WrongAnswer call) e = absurd (omega arith)
+log_from (PrefixPastLog replica) e = absurd (omega arith)
+log_from (PrefixShort replica) e = absurd (omega arith)
+log_from (MissingFrame replica number) e = absurd (omega arith)
+log_from (SharedFrame replica number) e = absurd (omega arith)
+log_from (ReservedBit replica number index) e = absurd (omega arith)
+log_from (StrayFrame replica number) e = absurd (omega arith)
+log_from (Differs replica address) e = absurd (omega arith)
+
+from_log : (fault : Fault) → IsLogFault fault → pass_of fault ≡ 3
+from_log (NotAnUpdate place) among = refl
+from_log (PlacedTwice place) among = refl
+from_log fault among = absurd among.1
+
+pub log_faults : AreOfPass 3 IsLogFault
+log_faults = record { all = log_from; only = from_log }
+
+position_from : (fault : Fault) → pass_of fault ≡ 4 → IsPositionFault fault
+position_from (Format fault) e = absurd (omega arith)
+position_from (ThreadOpen index) e = absurd (omega arith)
+position_from (NoSuchCall index) e = absurd (omega arith)
+position_from (AnsweredTwice index) e = absurd (omega arith)
+position_from (NotAnUpdate place) e = absurd (omega arith)
+position_from (PlacedTwice place) e = absurd (omega arith)
+position_from (NotPlaced index) e = (index, refl)
+position_from (PastLog index) e = (index, refl)
+position_from (Early call) e = absurd (omega arith)
+position_from (WrongAnswer call) e = absurd (omega arith)
+position_from (PrefixPastLog replica) e = absurd (omega arith)
+position_from (PrefixShort replica) e = absurd (omega arith)
+position_from (MissingFrame replica number) e = absurd (omega arith)
+position_from (SharedFrame replica number) e = absurd (omega arith)
+position_from (ReservedBit replica number index) e = absurd (omega arith)
+position_from (StrayFrame replica number) e = absurd (omega arith)
+position_from (Differs replica address) e = absurd (omega arith)
+
+from_position : (fault : Fault) → IsPositionFault fault → pass_of fault ≡ 4
+from_position (NotPlaced index) among = refl
+from_position (PastLog index) among = refl
+from_position fault among = absurd among.1
+
+pub position_faults : AreOfPass 4 IsPositionFault
+position_faults = record { all = position_from; only = from_position }
+
+floor_from : (fault : Fault) → pass_of fault ≡ 5 → IsFloorFault fault
+floor_from (Format fault) e = absurd (omega arith)
+floor_from (ThreadOpen index) e = absurd (omega arith)
+floor_from (NoSuchCall index) e = absurd (omega arith)
+floor_from (AnsweredTwice index) e = absurd (omega arith)
+floor_from (NotAnUpdate place) e = absurd (omega arith)
+floor_from (PlacedTwice place) e = absurd (omega arith)
+floor_from (NotPlaced index) e = absurd (omega arith)
+floor_from (PastLog index) e = absurd (omega arith)
+floor_from (Early call) e = (call, refl)
+floor_from (WrongAnswer call) e = absurd (omega arith)
+floor_from (PrefixPastLog replica) e = absurd (omega arith)
+floor_from (PrefixShort replica) e = absurd (omega arith)
+floor_from (MissingFrame replica number) e = absurd (omega arith)
+floor_from (SharedFrame replica number) e = absurd (omega arith)
+floor_from (ReservedBit replica number index) e = absurd (omega arith)
+floor_from (StrayFrame replica number) e = absurd (omega arith)
+floor_from (Differs replica address) e = absurd (omega arith)
+
+from_floor : (fault : Fault) → IsFloorFault fault → pass_of fault ≡ 5
+from_floor (Early call) among = refl
+from_floor fault among = absurd among.1
+
+pub floor_faults : AreOfPass 5 IsFloorFault
+floor_faults = record { all = floor_from; only = from_floor }
+
+answer_from : (fault : Fault) → pass_of fault ≡ 6 → IsAnswerFault fault
+answer_from (Format fault) e = absurd (omega arith)
+answer_from (ThreadOpen index) e = absurd (omega arith)
+answer_from (NoSuchCall index) e = absurd (omega arith)
+answer_from (AnsweredTwice index) e = absurd (omega arith)
+answer_from (NotAnUpdate place) e = absurd (omega arith)
+answer_from (PlacedTwice place) e = absurd (omega arith)
+answer_from (NotPlaced index) e = absurd (omega arith)
+answer_from (PastLog index) e = absurd (omega arith)
+answer_from (Early call) e = absurd (omega arith)
+answer_from (WrongAnswer call) e = tt
+answer_from (PrefixPastLog replica) e = absurd (omega arith)
+answer_from (PrefixShort replica) e = absurd (omega arith)
+answer_from (MissingFrame replica number) e = absurd (omega arith)
+answer_from (SharedFrame replica number) e = absurd (omega arith)
+answer_from (ReservedBit replica number index) e = absurd (omega arith)
+answer_from (StrayFrame replica number) e = absurd (omega arith)
+answer_from (Differs replica address) e = absurd (omega arith)
+
+from_answer : (fault : Fault) → IsAnswerFault fault → pass_of fault ≡ 6
+from_answer (WrongAnswer call) among = refl
+from_answer fault among = absurd among
+
+pub answer_faults : AreOfPass 6 IsAnswerFault
+answer_faults = record { all = answer_from; only = from_answer }
+
+dump_from : (fault : Fault) → pass_of fault ≡ 7 → IsDumpFault fault
+dump_from (Format fault) e = absurd (omega arith)
+dump_from (ThreadOpen index) e = absurd (omega arith)
+dump_from (NoSuchCall index) e = absurd (omega arith)
+dump_from (AnsweredTwice index) e = absurd (omega arith)
+dump_from (NotAnUpdate place) e = absurd (omega arith)
+dump_from (PlacedTwice place) e = absurd (omega arith)
+dump_from (NotPlaced index) e = absurd (omega arith)
+dump_from (PastLog index) e = absurd (omega arith)
+dump_from (Early call) e = absurd (omega arith)
+dump_from (WrongAnswer call) e = absurd (omega arith)
+dump_from (PrefixPastLog replica) e = (replica, refl)
+dump_from (PrefixShort replica) e = (replica, refl)
+dump_from (MissingFrame replica number) e = (replica, refl)
+dump_from (SharedFrame replica number) e = (replica, refl)
+dump_from (ReservedBit replica number index) e = (replica, refl)
+dump_from (StrayFrame replica number) e = (replica, refl)
+dump_from (Differs replica address) e = (replica, refl)
+
+from_dump : (fault : Fault) → IsDumpFault fault → pass_of fault ≡ 7
+from_dump (PrefixPastLog replica) among = refl
+from_dump (PrefixShort replica) among = refl
+from_dump (MissingFrame replica number) among = refl
+from_dump (SharedFrame replica number) among = refl
+from_dump (ReservedBit replica number index) among = refl
+from_dump (StrayFrame replica number) among = refl
+from_dump (Differs replica address) among = refl
+from_dump fault among = absurd among.1
+
+pub dump_faults : AreOfPass 7 IsDumpFault
+dump_faults = record { all = dump_from; only = from_dump }
+
+-- a fault is of one of the passes
+last_pass : (fault : Fault) → pass_of fault < 8
+last_pass (Format fault) = lit< tt
+last_pass (ThreadOpen index) = lit< tt
+last_pass (NoSuchCall index) = lit< tt
+last_pass (AnsweredTwice index) = lit< tt
+last_pass (NotAnUpdate place) = lit< tt
+last_pass (PlacedTwice place) = lit< tt
+last_pass (NotPlaced index) = lit< tt
+last_pass (PastLog index) = lit< tt
+last_pass (Early call) = lit< tt
+last_pass (WrongAnswer call) = lit< tt
+last_pass (PrefixPastLog replica) = lit< tt
+last_pass (PrefixShort replica) = lit< tt
+last_pass (MissingFrame replica number) = lit< tt
+last_pass (SharedFrame replica number) = lit< tt
+last_pass (ReservedBit replica number index) = lit< tt
+last_pass (StrayFrame replica number) = lit< tt
+last_pass (Differs replica address) = lit< tt
+
+pub faultless_after_all : (trace : Recording) → HasNoneBefore 8 trace → IsFaultless trace
+faultless_after_all trace none fault holds = none fault (last_pass fault) holds
+
+-- nothing is wrong with the events, the log and the positions
+pub clean_after_positions : (trace : Recording) → HasNoneBefore 5 trace → HasCleanLog trace
+clean_after_positions trace none = record {
+  no_thread_open = λ index. none (ThreadOpen index) (lit< tt);
+  no_such_call = λ index. none (NoSuchCall index) (lit< tt);
+  none_twice = λ index. none (AnsweredTwice index) (lit< tt);
+  updates_alone = λ place. none (NotAnUpdate place) (lit< tt);
+  placed_once = λ place. none (PlacedTwice place) (lit< tt);
+  all_placed = λ index. none (NotPlaced index) (lit< tt);
+  none_past_log = λ index. none (PastLog index) (lit< tt);
+}
+
+-- ---- the passes that found nothing
+
+module _ (trace : Recording) (calls : HasNone IsCallFault trace) where
+  pub after_calls : HasNoneBefore 3 trace
+  after_calls = none_before_next 2 IsCallFault trace call_faults (none_of_format trace) calls
+
+  module _ (log : HasNone IsLogFault trace) where
+    pub after_log : HasNoneBefore 4 trace
+    after_log = none_before_next 3 IsLogFault trace log_faults after_calls log
+
+    module _ (positions : HasNone IsPositionFault trace) where
+      pub after_positions : HasNoneBefore 5 trace
+      after_positions = none_before_next 4 IsPositionFault trace position_faults after_log positions
+
+      module _ (floors : HasNone IsFloorFault trace) where
+        pub after_floors : HasNoneBefore 6 trace
+        after_floors = none_before_next 5 IsFloorFault trace floor_faults after_positions floors
+
+        module _ (answers : HasNone IsAnswerFault trace) where
+          pub after_answers : HasNoneBefore 7 trace
+          after_answers = none_before_next 6 IsAnswerFault trace answer_faults after_floors answers
+
+          pub after_dumps : HasNone IsDumpFault trace → HasNoneBefore 8 trace
+          after_dumps dumps = none_before_next 7 IsDumpFault trace dump_faults after_answers dumps

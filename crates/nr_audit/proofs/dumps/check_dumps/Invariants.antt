@@ -1,0 +1,12 @@
+use Rattle.std.proofs.Common.{◌≡◌, ℕ, ◌<◌, take}
+use Rattle.nr_trace.specs.Orders.{space_after}
+use Rattle.nr_audit.specs.Search.{HasNone}
+use Rattle.nr_audit.specs.Passes.{IsDumpFaultAt}
+use Rattle.nr_audit.specs.Steps.{space_of}
+use Rattle.nr_audit.proofs.dumps.check_dumps.Given as goal
+
+abbrev pub invariant-loop-replica : goal.invariant-loop-replica
+invariant-loop-replica l = record {
+  space : l.space ≡ space_of l.trace.layout (space_after l.trace (take l.applied l.trace.log));
+  none : (lower : ℕ) → lower < l.replica → HasNone (IsDumpFaultAt lower) l.trace;
+}

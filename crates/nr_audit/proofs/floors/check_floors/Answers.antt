@@ -1,0 +1,59 @@
+use Rattle.std.proofs.Common.{◌≡◌, ℕ, ◌<◌, length, max, sym, ap, subst, ◌∙◌, arith}
+use Rattle.nr_trace.specs.Orders.{floor}
+use Rattle.nr_trace.specs.Calls.{Answered}
+use Rattle.nr_trace.proofs.LawsOfSteps.{floor_behind_reply, floor_behind_other}
+use Rattle.nr_audit.specs.Search.{HasNone}
+use Rattle.nr_audit.specs.Passes.{IsFloorFaultAt}
+use Rattle.nr_audit.proofs.EventFacts.{read_event, reply_here, no_reply_at_call, no_call_at_reply}
+use Rattle.nr_audit.proofs.Ranks.{more_of}
+use Rattle.nr_audit.proofs.FloorFacts.{none_at_call, none_at_other, no_floor_fault, first_early}
+use Rattle.nr_audit.proofs.floors.check_floors.Goals as goal
+use Rattle.nr_audit.proofs.floors.check_floors.Goals.{in-Call+in-Some+else-entries-floor, in-Call+in_default, in-Reply}
+
+-- src/floors.rt:65:25
+pub returns-then-entries-floor-clause-first : goal.returns-then-entries-floor-clause-first
+returns-then-entries-floor-clause-first c =
+    first_early c.args.trace.now c.loop-index.index c.entries_before.result c.in-Some.entries c.loop-index.invariant.none c.entries_before.ensures c.in-Some.is
+    (subst (λ n. c.in-Some.entries < n) c.loop-index.invariant.floor c.if-entries-floor.true)
+
+-- src/floors.rt:60:5
+pub loop-index-preserved : goal.loop-index-preserved
+loop-index-preserved c =
+    let trace = c.args.trace.now in
+    let index = c.loop-index.index in
+    elim c.match-event.branch [
+      | in-Call+in-Some+else-entries-floor w ↦
+          let is = read_event trace c.events-events.result.now index _ _ c.events-events.ensures.reads c.loop-index-test.true c.index-events-index.is w.in-Call.is in
+          record {
+            floor = w.floor-is ∙ c.loop-index.invariant.floor ∙ sym (floor_behind_other trace index (no_reply_at_call trace index _ _ _ is));
+            none = more_of IsFloorFaultAt trace index c.loop-index.invariant.none (none_at_call trace index w.entries_before.result c.requires.clean w.entries_before.ensures
+                (λ entries found.
+                let own = w.in-Some.is in
+                let same : w.in-Some.entries ≡ entries = cc in
+                let kept = w.if-entries-floor.false in
+                let known = c.loop-index.invariant.floor in
+                omega arith));
+          }
+      | in-Call+in_default w ↦
+          let is = read_event trace c.events-events.result.now index _ _ c.events-events.ensures.reads c.loop-index-test.true c.index-events-index.is w.in-Call.is in
+          record {
+            floor = w.floor-is ∙ c.loop-index.invariant.floor ∙ sym (floor_behind_other trace index (no_reply_at_call trace index _ _ _ is));
+            none = more_of IsFloorFaultAt trace index c.loop-index.invariant.none (none_at_call trace index w.entries_before.result c.requires.clean w.entries_before.ensures
+                (λ entries found. absurd (w.in_default.not-Some entries found)));
+          }
+      | in-Reply w ↦
+          let is = read_event trace c.events-events.result.now index _ _ c.events-events.ensures.reads c.loop-index-test.true c.index-events-index.is w.in-Reply.is in
+          let reply : Answered = record { call = w.in-Reply.call; at = w.in-Reply.at; answer = w.in-Reply.answer } in
+          let known = w.entries_known.ensures w.in-Reply.answer in
+          record {
+            floor = w.floor-is ∙ w.max-floor.ensures ∙ ap (λ n. max n w.entries_known.result) c.loop-index.invariant.floor ∙ ap (λ n. max (floor trace index) n) known
+                ∙ sym (floor_behind_reply trace index reply (reply_here trace index _ _ _ is));
+            none = more_of IsFloorFaultAt trace index c.loop-index.invariant.none (none_at_other trace index (no_call_at_reply trace index _ _ _ is));
+          }
+    ]
+
+-- src/floors.rt:50:1
+pub returns-clause-clean : goal.returns-clause-clean
+returns-clause-clean c =
+    let at_end : c.loop-index.index ≡ length c.args.trace.now.events = omega (arith, ap length c.events-events.ensures.reads) in
+    no_floor_fault c.args.trace.now (subst (λ n. (lower : ℕ) → lower < n → HasNone (IsFloorFaultAt lower) c.args.trace.now) at_end c.loop-index.invariant.none)

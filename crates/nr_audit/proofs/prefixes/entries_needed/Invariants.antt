@@ -1,0 +1,5 @@
+use Rattle.nr_audit.specs.Prefixes.{AreNeeds}
+use Rattle.nr_audit.proofs.prefixes.entries_needed.Given as goal
+
+abbrev pub invariant-loop-index : goal.invariant-loop-index
+invariant-loop-index l = AreNeeds l.trace l._index l.needed

@@ -1,0 +1,70 @@
+ghost use Rattle.std.specs.Prelude.{◌≡◌, IfOk};
+ghost use Rattle.nr_trace.specs.Faults.{IsFirst, IsFirstOf};
+ghost use Rattle.nr_trace.specs.Laws.{IsFaultless};
+ghost use Rattle.nr_trace.specs.Orders.{recorded_order, HasItsCalls, HasTheAnswers, KeepsPrecedence};
+ghost use Rattle.nr_trace.specs.Recording.{Recording};
+ghost use Rattle.nr_trace.specs.Spelling.{Spells};
+ghost use Rattle.nr_trace.specs.declared.fault.Fault.{Fault};
+ghost use Rattle.nr_audit.specs.Headline.{AreRightWith, HasFittingDumps, IsSpelledWith, SpellsAlone};
+ghost use Rattle.nr_audit.specs.Verdict.{IfYes, IsVerdictOf, IsVerdictOn};
+
+use crate::search::search;
+use crate::verdict::{Order, Verdict};
+use nr_trace::{Fault, Trace, read};
+use std::alloc::Global;
+use vs_types::{Fail, Memory};
+
+/// Whether a trace is right: `Yes` with the recorded order of its calls where none of the faults holds, else `No` with the
+/// first. The recorded order has the updates by place, and each answered read after the entries that it saw.
+///
+/// `Yes` says that the trace is linearizable, by this order: it has all answered calls and some unanswered updates, each
+/// once, a call answered before another was made comes first, and each answer is that of one sequential address space;
+/// and that each dump translates every canonical address as that space does after so many updates as the replica had
+/// applied. `No` does not say that no other order explains the trace.
+///
+/// Takes memory in all of the size of the trace.
+///
+/// # Errors
+///
+/// `Memory` where a growth of memory was refused.
+pub fn judge(alloc: Global, trace: &Trace) -> Result<Verdict, Memory>
+    ensures verdict { IfOk result (IsVerdictOn trace.now) }
+    ensures yes { IsFaultless trace.now → IfOk result (λ verdict. verdict ≡ Verdict.Yes (recorded_order trace.now)) }
+    ensures no { (fault : Fault) → IsFirst trace.now fault → IfOk result (λ verdict. verdict ≡ Verdict.No fault) }
+    ensures members { IfOk result (IfYes (HasItsCalls trace.now)) }
+    ensures precedence { IfOk result (IfYes (KeepsPrecedence trace.now)) }
+    ensures answers { IfOk result (IfYes (HasTheAnswers trace.now)) }
+    ensures dumps { IfOk result (IfYes (HasFittingDumps trace.now)) }
+{
+    match search(alloc, trace) {
+        Ok(order) => Ok(Verdict::Yes(Order::of(order))),
+        Err(Fail::Memory) => Err(Memory),
+        Err(Fail::Refused(fault)) => Ok(Verdict::No(fault)),
+    }
+}
+
+/// Whether bytes are those of a right trace: they are read, and what they spell is judged. `No` with a fault of the format
+/// where they spell none.
+///
+/// Takes memory in all of the size of the bytes.
+///
+/// # Errors
+///
+/// `Memory` where a growth of memory was refused.
+pub fn audit(alloc: Global, bytes: &[u8]) -> Result<Verdict, Memory>
+    ensures verdict { IfOk result (IsVerdictOf bytes.now) }
+    ensures yes { (trace : Recording) → Spells bytes.now trace → IsFaultless trace → IfOk result (λ verdict. verdict ≡ Verdict.Yes (recorded_order trace)) }
+    ensures no { (fault : Fault) → IsFirstOf bytes.now fault → IfOk result (λ verdict. verdict ≡ Verdict.No fault) }
+    ensures right { IfOk result (IfYes (AreRightWith bytes.now)) }
+    ensures one_trace { IfOk result (IfYes (λ order. (trace : Recording) × SpellsAlone bytes.now trace)) }
+    ensures members { IfOk result (IfYes (λ order. IsSpelledWith bytes.now (λ trace. HasItsCalls trace order))) }
+    ensures precedence { IfOk result (IfYes (λ order. IsSpelledWith bytes.now (λ trace. KeepsPrecedence trace order))) }
+    ensures answers { IfOk result (IfYes (λ order. IsSpelledWith bytes.now (λ trace. HasTheAnswers trace order))) }
+    ensures dumps { IfOk result (IfYes (λ order. IsSpelledWith bytes.now (λ trace. HasFittingDumps trace order))) }
+{
+    match read(alloc, bytes) {
+        Ok(trace) => judge(alloc, &trace),
+        Err(Fail::Memory) => Err(Memory),
+        Err(Fail::Refused(fault)) => Ok(Verdict::No(Fault::Format(fault))),
+    }
+}

@@ -1,0 +1,35 @@
+ghost use Rattle.std.specs.Prelude.{◌≡◌, IfOk, IfErr};
+ghost use Rattle.vs_types.specs.Refusal.{IfRefused};
+ghost use Rattle.nr_trace.specs.Faults.{IsFirst};
+ghost use Rattle.nr_trace.specs.Laws.{IsFaultless};
+ghost use Rattle.nr_trace.specs.Orders.{recorded_order};
+
+use crate::answers::check_answers;
+use crate::calls::check_calls;
+use crate::dumps::check_dumps;
+use crate::floors::check_floors;
+use crate::log::check_log;
+use crate::order::list_order;
+use crate::positions::check_positions;
+use nr_trace::{Fault, Trace};
+use std::alloc::Global;
+use vs_types::Fail;
+
+/// The passes over a trace, one after another, up to the first fault. Gives the recorded order where there is none.
+pub(crate) fn search(alloc: Global, trace: &Trace) -> Result<Vec<u32>, Fail<Fault>>
+    ensures none { IfOk result (λ order. IsFaultless trace.now × (order.items ≡ recorded_order trace.now)) }
+    ensures first { IfErr result (IfRefused (IsFirst trace.now)) }
+{
+    let replies = check_calls(alloc, trace)?;
+    let places = check_log(alloc, trace)?;
+    if let Err(fault) = check_positions(trace) {
+        return Err(Fail::Refused(fault));
+    }
+    if let Err(fault) = check_floors(trace, &replies, &places) {
+        return Err(Fail::Refused(fault));
+    }
+    let order = list_order(alloc, trace, &replies)?;
+    check_answers(alloc, trace, &replies, &order)?;
+    check_dumps(alloc, trace)?;
+    Ok(order)
+}

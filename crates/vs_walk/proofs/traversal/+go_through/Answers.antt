@@ -1,0 +1,122 @@
+use Rattle.std.proofs.Common.{◌≡◌, ◌<◌, [], ◌∷◌, Some, None, sym, ap, ◌∙◌, subst, refl, get_or, length, arith, Contains}
+use Rattle.std.proofs.lemmas.Result.{err_from_is_err_and}
+use Rattle.std.specs.FinMap as finite
+use Rattle.vs_types.specs.Entry.{meaning}
+use Rattle.vs_types.specs.declared.entry.Meaning.TheVariants as entry
+use Rattle.vs_walk.specs.Traversal.{Reaches, Finds, table_moves}
+use Rattle.vs_walk.specs.Traversed.{GoesOn, Stops, TakesFound, table_at}
+use Rattle.vs_walk.specs.declared.walk.WalkFault.TheVariants.{Missing, Shared, Reserved}
+use Rattle.vs_walk.proofs.Traversed.{stops_before, takes_none, none_on, finds_on, meets_stops, missing_stops, shared_stops, new_on}
+use Rattle.vs_walk.proofs.TraversedWords.{missing_is, begun, all_met, means, leads_below, refused_at, goes_to_next, takes_to_next, stops_at_word}
+use Rattle.vs_walk.proofs.traversal.+go_through.Goals.{in-Absent, in-Leaf+in_ok-take-in-Leaf, in-Table+in_ok-go_through-in-Table}
+use Rattle.vs_walk.proofs.traversal.+go_through.Goals as goal
+
+pub returns-in_default-clause-stops : goal.returns-in_default-clause-stops
+returns-in_default-clause-stops g t c =
+    let memory = g.F.Frames.memory c.args.frames.now in
+    let none : finite.get memory c.args.place.number ≡ None = sym c.in_default.ensures in
+    subst (λ ms. Stops memory c.args.marks.now ms (Missing c.args.place.number))
+    (sym (missing_is c.args.depth memory c.args.place.level (table_at c.args.place) c.requires.lowest none))
+    (missing_stops memory c.args.marks.now c.args.place.number none)
+
+pub returns-then-not-branch-clause-stops : goal.returns-then-not-branch-clause-stops
+returns-then-not-branch-clause-stops g t c =
+    let memory = g.F.Frames.memory c.args.frames.now in
+    let words = c.in-Some.frame.now in
+    let some : finite.get memory c.args.place.number ≡ Some words = sym c.in-Some.ensures in
+    let held : Contains c.args.marks.now c.args.place.number = c.in_ok-add.ensures.new.0 (rw c.if-not-branch.true refl) in
+    subst (λ ms. Stops memory c.args.marks.now ms (Shared c.args.place.number))
+    (sym (begun c.args.depth memory c.args.place.level (table_at c.args.place) words c.requires.lowest some))
+    (stops_before memory c.args.marks.now (Reaches c.args.place.number ∷ []) _ (Shared c.args.place.number) (shared_stops memory c.args.marks.now c.args.place.number words some held))
+
+pub loop-index-init : goal.loop-index-init
+loop-index-init g t c =
+    let memory = g.F.Frames.memory c.args.frames.now in
+    let words = c.table_words-words.result.now in
+    let some : finite.get memory c.args.place.number ≡ Some words = sym c.in-Some.ensures ∙ ap (λ ws. Some ws) (sym c.table_words-words.ensures.is) in
+    record {
+      goes_on = new_on memory c.args.marks.now c.add.new.self c.in_ok-add.field-0 c.args.place.number words some c.in_ok-add.ensures.new c.if-not-branch.false c.in_ok-add.ensures.added;
+      takes = takes_none g.V.PageVisitor.HasTaken c.args.visitor.now (Reaches c.args.place.number ∷ []) refl;
+    }
+
+pub returns-in-Reserved-clause-stops : goal.returns-in-Reserved-clause-stops
+returns-in-Reserved-clause-stops g t c =
+    let memory = g.F.Frames.memory c.args.frames.now in
+    let words = c.table_words-words.result.now in
+    let table = table_at c.args.place in
+    let some : finite.get memory c.args.place.number ≡ Some words = sym c.in-Some.ensures ∙ ap (λ ws. Some ws) (sym c.table_words-words.ensures.is) in
+    let is : meaning c.args.place.level (get_or words c.loop-index.index 0) ≡ entry.Reserved = ap (meaning c.args.place.level) (sym c.new.ensures) ∙ sym c.read.ensures ∙ c.in-Reserved.is in
+    stops_at_word c.args.depth memory c.args.place.level table words c.loop-index.index c.args.marks.now c.loop-index.marks _ (Reserved c.args.place.number c.loop-index.index)
+    c.requires.lowest some c.loop-index-test.true
+    (means c.args.depth memory c.args.place.level table c.loop-index.index (get_or words c.loop-index.index 0) entry.Reserved is)
+    c.loop-index.invariant.goes_on
+    (meets_stops memory c.loop-index.marks c.args.place.number c.loop-index.index)
+
+pub go_through-requires : goal.go_through-requires
+go_through-requires g t c κs within = (let less = c.below-below.ensures.level in let now = c.decreases in let some = c.requires.lowest in omega arith, (within.0, (within.1, c.below-below.ensures.fits)))
+
+pub returns-in_err-go_through-in-Table-clause-stops :
+    goal.returns-in_err-go_through-in-Table-clause-stops
+returns-in_err-go_through-in-Table-clause-stops g t c =
+    let memory = g.F.Frames.memory c.args.frames.now in
+    let words = c.table_words-words.result.now in
+    let table = table_at c.args.place in
+    let index = c.loop-index.index in
+    let some : finite.get memory c.args.place.number ≡ Some words = sym c.in-Some.ensures ∙ ap (λ ws. Some ws) (sym c.table_words-words.ensures.is) in
+    let p = err_from_is_err_and c.from_residual-in_err-go_through-in-Table.result c.from_residual-in_err-go_through-in-Table.ensures.1 in
+    rw (p.1, p.2)
+    (refused_at c.in_err-go_through-in-Table.field-0.0 (λ fault stops.
+    stops_at_word c.args.depth memory c.args.place.level table words index c.args.marks.now c.loop-index.marks (table_moves c.args.depth memory c.below-below.result.level (table_at c.below-below.result)) fault
+    c.requires.lowest some c.loop-index-test.true
+    (leads_below c.args.depth memory c.args.place c.below-below.result index (get_or words index 0) c.in-Table.number c.in-Table.own
+    (ap (meaning c.args.place.level) (sym c.new.ensures) ∙ sym c.in-Table.ensures) c.below-below.ensures.level c.below-below.ensures.stands)
+    c.loop-index.invariant.goes_on stops)
+    c.in_err-go_through-in-Table.ensures.stops)
+
+pub loop-index-preserved : goal.loop-index-preserved
+loop-index-preserved g t c =
+    let memory = g.F.Frames.memory c.args.frames.now in
+    let words = c.table_words-words.result.now in
+    let table = table_at c.args.place in
+    let index = c.loop-index.index in
+    let within : index < length words = c.loop-index-test.true in
+    let read : meaning c.args.place.level (get_or words index 0) ≡ c.read.result = ap (meaning c.args.place.level) (sym c.new.ensures) ∙ sym c.read.ensures in
+    let goes = goes_to_next c.args.depth memory c.args.place.level table words index c.args.marks.now c.loop-index.marks in
+    let takes = takes_to_next g.V.PageVisitor.HasTaken c.args.depth memory c.args.place.level table words index c.args.visitor.now c.loop-index.visitor in
+    elim c.match-read.branch [
+      | in-Absent w ↦
+          let met = means c.args.depth memory c.args.place.level table index (get_or words index 0) entry.Absent (read ∙ w.in-Absent.is) in
+          rw (w.marks-is, w.visitor-is) record {
+            goes_on = goes c.loop-index.marks [] within met c.loop-index.invariant.goes_on (none_on memory c.loop-index.marks);
+            takes = takes c.loop-index.visitor [] within met c.loop-index.invariant.takes (takes_none g.V.PageVisitor.HasTaken c.loop-index.visitor [] refl);
+          }
+      | in-Leaf+in_ok-take-in-Leaf w ↦
+          let met = means c.args.depth memory c.args.place.level table index (get_or words index 0) (entry.Leaf w.in-Leaf.phys w.in-Leaf.own) (read ∙ w.in-Leaf.is) ∙ ap (λ page. Finds page ∷ []) (sym w.page.ensures) in
+          rw (w.marks-is, w.visitor-is) record {
+            goes_on = goes c.loop-index.marks (Finds w.page.result ∷ []) within met c.loop-index.invariant.goes_on (finds_on memory c.loop-index.marks w.page.result);
+            takes = takes w.take.new.self (Finds w.page.result ∷ []) within met c.loop-index.invariant.takes w.in_ok-take-in-Leaf.ensures;
+          }
+      | in-Table+in_ok-go_through-in-Table w ↦
+          let below = w.below-below.result in
+          let met = leads_below c.args.depth memory c.args.place below index (get_or words index 0) w.in-Table.number w.in-Table.own (read ∙ w.in-Table.is) w.below-below.ensures.level w.below-below.ensures.stands in
+          rw (w.marks-is, w.visitor-is) record {
+            goes_on = goes w.go_through.new.marks (table_moves c.args.depth memory below.level (table_at below)) within met c.loop-index.invariant.goes_on w.in_ok-go_through-in-Table.ensures.goes_on;
+            takes = takes w.go_through.new.visitor (table_moves c.args.depth memory below.level (table_at below)) within met c.loop-index.invariant.takes w.in_ok-go_through-in-Table.ensures.pages;
+          }
+    ]
+
+pub returns-clause-pages : goal.returns-clause-pages
+returns-clause-pages g t c =
+    let memory = g.F.Frames.memory c.args.frames.now in
+    let words = c.table_words-words.result.now in
+    let some : finite.get memory c.args.place.number ≡ Some words = sym c.in-Some.ensures ∙ ap (λ ws. Some ws) (sym c.table_words-words.ensures.is) in
+    subst (TakesFound (g.V.PageVisitor.HasTaken c.args.visitor.now) (g.V.PageVisitor.HasTaken c.loop-index.visitor))
+    (sym (all_met c.args.depth memory c.args.place.level (table_at c.args.place) words c.loop-index.index c.requires.lowest some c.loop-index-test.false)) c.loop-index.invariant.takes
+
+pub returns-clause-goes_on : goal.returns-clause-goes_on
+returns-clause-goes_on g t c =
+    let memory = g.F.Frames.memory c.args.frames.now in
+    let words = c.table_words-words.result.now in
+    let some : finite.get memory c.args.place.number ≡ Some words = sym c.in-Some.ensures ∙ ap (λ ws. Some ws) (sym c.table_words-words.ensures.is) in
+    subst (GoesOn memory c.args.marks.now c.loop-index.marks)
+    (sym (all_met c.args.depth memory c.args.place.level (table_at c.args.place) words c.loop-index.index c.requires.lowest some c.loop-index-test.false)) c.loop-index.invariant.goes_on

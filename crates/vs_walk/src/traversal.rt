@@ -1,0 +1,155 @@
+ghost use Rattle.std.specs.Prelude.{◌≡◌, ◌+◌, ◌-◌, ◌*◌, ◌<◌, List, Some, None, IfOk, IfErr, OnOk, length, ◌++◌, ◌∷◌, []};
+ghost use Rattle.vs_types.specs.declared.page.Page.{Page};
+ghost use Rattle.vs_types.specs.Depth.{half_bytes, entry_bytes};
+ghost use Rattle.vs_types.specs.Entry.{size_at};
+ghost use Rattle.vs_types.specs.Page.{joined};
+ghost use Rattle.vs_types.specs.Refusal.{IfRefused};
+ghost use Rattle.vs_walk.specs.Traversal.{canonical_from, moves, table_moves, reached, found, walk_fault};
+ghost use Rattle.vs_walk.specs.Reached.{AreJust};
+ghost use Rattle.vs_walk.specs.Traversed.{Fits, GoesOn, Stops, TakesFound, table_at};
+
+use crate::frames::Frames;
+use crate::reached::{Marks, Reached};
+use crate::walk::WalkFault;
+use std::alloc::Global;
+use vs_types::{Depth, Entry, FRAME_WORDS, Fail, Meaning, Memory, Page, Rights, Size};
+
+/// Takes the pages of a page table, one after another.
+pub trait PageVisitor {
+    /// It has taken these pages, in this order.
+    ghost HasTaken: { Self → List Page → Type 0 };
+
+    /// Takes the next page. It may take memory.
+    fn take(&mut self, page: Page) -> Result<(), Memory>
+        ensures { IfOk result (λ _. (pages : List Page) → HasTaken self.old pages → HasTaken self.new (pages ++ page ∷ [])) };
+}
+
+/// Where a table stands: its level, its frame, the translated bits at which it begins, and what the entries above it
+/// allow.
+#[derive(Clone, Copy)]
+struct Place {
+    level: u8,
+    number: u64,
+    start: u64,
+    rights: Rights,
+}
+
+impl Place {
+    /// The translated bits at which its entry of this index begins.
+    fn start_of(self, depth: Depth, index: usize) -> u64
+        requires within { index < 512 }
+        requires fits { Fits depth self }
+        ensures { result ≡ self.start + index * entry_bytes self.level }
+    {
+        self.start + ((index as u64) << (3 + 9 * self.level))
+    }
+
+    /// The table to which its entry of this index leads.
+    fn below(self, depth: Depth, index: usize, number: u64, own: Rights) -> Place
+        requires within { index < 512 }
+        requires fits { Fits depth self }
+        requires lower { 1 < self.level }
+        ensures level { result.level ≡ self.level - 1 }
+        ensures stands { table_at result ≡ record { number = number; start = self.start + index * entry_bytes self.level; rights = joined self.rights own } }
+        ensures fits { Fits depth result }
+    {
+        Place {
+            level: self.level - 1,
+            number,
+            start: self.start_of(depth, index),
+            rights: self.rights.joined(own),
+        }
+    }
+
+    /// The page that its entry of this index maps. Its address repeats the highest of the translated bits above them.
+    fn page(self, depth: Depth, index: usize, phys: u64, own: Rights) -> Page
+        requires within { index < 512 }
+        requires fits { Fits depth self }
+        ensures { result ≡ record { base = canonical_from depth (self.start + index * entry_bytes self.level); size = size_at self.level; phys = phys; rights = joined self.rights own } }
+    {
+        let start = self.start_of(depth, index);
+        let half = 1u64 << (11 + 9 * depth.levels());
+        Page {
+            base: if start < half {
+                start
+            } else {
+                start + (u64::MAX - half - half + 1)
+            },
+            size: Size::at_level(self.level),
+            phys,
+            rights: self.rights.joined(own),
+        }
+    }
+}
+
+/// The words of a table, 512.
+fn table_words(words: &[u64; FRAME_WORDS]) -> &[u64]
+    ensures is { result.now ≡ words.now }
+    ensures whole { length result.now ≡ 512 }
+{
+    words
+}
+
+/// Goes through a table and all that it leads to.
+fn go_through<F: Frames, V: PageVisitor>(
+    frames: &F,
+    depth: Depth,
+    place: Place,
+    marks: &mut Marks,
+    visitor: &mut V,
+) -> Result<(), Fail<WalkFault>>
+    requires { Fits depth place }
+    ensures pages { IfOk result (λ _. TakesFound (V.HasTaken visitor.old) (V.HasTaken visitor.new) (table_moves depth (F.memory frames.now) place.level (table_at place))) }
+    ensures goes_on { IfOk result (λ _. GoesOn (F.memory frames.now) marks.old marks.new (table_moves depth (F.memory frames.now) place.level (table_at place))) }
+    ensures stops { IfErr result (IfRefused (Stops (F.memory frames.now) marks.old (table_moves depth (F.memory frames.now) place.level (table_at place)))) }
+{
+    let Some(frame) = frames.words(place.number) else {
+        return Err(Fail::Refused(WalkFault::Missing(place.number)));
+    };
+    if !marks.add(place.number)? {
+        return Err(Fail::Refused(WalkFault::Shared(place.number)));
+    }
+    let words = table_words(frame);
+    for (index, word) in words.iter().enumerate() {
+        match Entry::new(*word).read(place.level) {
+            Meaning::Absent => {}
+            Meaning::Reserved => {
+                return Err(Fail::Refused(WalkFault::Reserved(place.number, index as u16)));
+            }
+            Meaning::Leaf(phys, own) => visitor.take(place.page(depth, index, phys, own))?,
+            Meaning::Table(number, own) => {
+                let below = place.below(depth, index, number, own);
+                go_through(frames, depth, below, marks, visitor)?;
+            }
+        }
+    }
+    Ok(())
+}
+
+/// Goes once through all tables from the root on: each table's words by index, the table below an entry before the next
+/// entry. The visitor takes each page as it is found, by rising base, with the rights that all levels allow; its answer
+/// on memory ends the way. Takes memory for the numbers of the frames that are reached.
+///
+/// It refuses with the first fault on the way.
+pub fn traverse<F: Frames, V: PageVisitor>(
+    alloc: Global,
+    frames: &F,
+    root: u64,
+    depth: Depth,
+    visitor: &mut V,
+) -> Result<Reached, Fail<WalkFault>>
+    ensures pages { IfOk result (λ _. (pages : List Page) → V.HasTaken visitor.old pages → V.HasTaken visitor.new (pages ++ found (moves depth (F.memory frames.now) root))) }
+    ensures faultless { OnOk result (walk_fault depth (F.memory frames.now) root ≡ None) }
+    ensures reached { IfOk result (λ r. AreJust r (reached (moves depth (F.memory frames.now) root))) }
+    ensures first { IfErr result (IfRefused (λ fault. walk_fault depth (F.memory frames.now) root ≡ Some fault)) }
+{
+    let mut marks = Marks::new(alloc);
+    let top = Place {
+        level: depth.levels(),
+        number: root,
+        start: 0,
+        rights: Rights::ALL,
+    };
+    go_through(frames, depth, top, &mut marks, visitor)?;
+    Ok(marks.list()?)
+}
