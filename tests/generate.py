@@ -1,8 +1,8 @@
 #!/usr/bin/env python3
-"""Writes runs of many threads, with what `nrvs audit` has to print of each: generate.py FOLDER [replay]
+"""Writes runs of many threads, with what `nrvs audit` has to print of each: generate.py FOLDER
 
-A run is made so that its order is known, and a wrong one has one thing wrong, which is known too. With `replay` only what
-a replay finds is told. FOLDER gets NAME.trace and NAME.output of each; the status is 0 where the output begins with no `no`.
+A run is made so that its order is known, and a wrong one has one thing wrong, which is known too. FOLDER gets
+NAME.trace and NAME.output of each; the status is 0 where the output begins with no `no`.
 """
 import os
 import random
@@ -165,19 +165,13 @@ def cases():
     yield "run_a_byte_less", whole[:-1], "no 1 Format Truncated"
 
 
-def as_replayed(said):
-    """What a replay says of it: it looks for no early call, and not into dumps."""
-    number = int(said.split()[1]) if said.startswith("no") else 0
-    return said if 1 <= number <= 8 or number == 10 else "replayed"
-
-
-def main(folder, judged):
+def main(folder):
     for name, data, said in cases():
         with open(os.path.join(folder, name + ".trace"), "wb") as out:
             out.write(data)
         with open(os.path.join(folder, name + ".output"), "w") as out:
-            out.write((as_replayed(said) if judged == "replay" else said) + "\n")
+            out.write(said + "\n")
 
 
 if __name__ == "__main__":
-    main(sys.argv[1], sys.argv[2] if len(sys.argv) > 2 else "audit")
+    main(sys.argv[1])

@@ -1,3 +1,4 @@
 pub mod Addresses
+pub mod CommandLines
 pub mod Input
 pub mod Reports

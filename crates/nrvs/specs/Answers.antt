@@ -8,9 +8,9 @@ use Rattle.nr_trace.specs.Spelling.{Spells}
 use Rattle.nr_trace.specs.FirstFault.{HasFormatFault}
 use Rattle.nr_trace.specs.declared.fault.Format.{Format}
 use Rattle.nr_trace.specs.declared.fault.Fault.TheVariants as faults
-use Rattle.nr_audit.specs.Replay.{IsSoOf}
-use Rattle.nr_audit.specs.declared.found.Replay.{Replay}
-use Rattle.nrvs.specs.Text.{no_text, replay_text, replay_status, walk_text}
+use Rattle.nr_audit.specs.Verdict.{IsVerdictOf}
+use Rattle.nr_audit.specs.declared.verdict.Verdict.{Verdict}
+use Rattle.nrvs.specs.Text.{no_text, verdict_text, verdict_status, walk_text}
 use Rattle.nrvs.specs.Addresses.{SpellsCanonical}
 use Rattle.nrvs.specs.declared.command.Command.{Command}
 use Rattle.nrvs.specs.declared.command.Command.TheVariants.{Audit, Resolve}
@@ -21,10 +21,10 @@ read_limit = 70647893
 
 -- of `audit`: the text and the status are those of the verdict of these bytes
 pub record IsAudit (bytes text : List ℕ) (status : ℕ) : Type 0 where
-  pub verdict : Replay
-  pub is_verdict : IsSoOf bytes verdict
-  pub text_is : text ≡ replay_text verdict
-  pub status_is : status ≡ replay_status verdict
+  pub verdict : Verdict
+  pub is_verdict : IsVerdictOf bytes verdict
+  pub text_is : text ≡ verdict_text verdict
+  pub status_is : status ≡ verdict_status verdict
 
 -- the bytes spell a trace, and the text is where the walk of the address ends in the dump of the replica
 pub record IsWalkInDump (bytes : List ℕ) (address replica : ℕ) (text : List ℕ) (status : ℕ) : Type 0 where

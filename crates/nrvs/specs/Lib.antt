@@ -3,5 +3,6 @@ pub mod Addresses
 pub mod Answers
 pub mod Refusals
 pub mod Program
-pub use Rattle.nr_audit.specs.Replay
+pub mod CommandLine
+pub use Rattle.nr_audit.specs.Verdict
 pub use Rattle.clap.specs.Words

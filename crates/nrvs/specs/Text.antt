@@ -1,13 +1,13 @@
 -- What the program prints of a fault and of a verdict: numbers in decimal, addresses in hexadecimal.
-use Rattle.std.specs.Prelude.{ℕ, Bool, false, ◌++◌, List, codes, decimal, if◌then◌else◌}
+use Rattle.std.specs.Prelude.{ℕ, Bool, false, ◌++◌, List, codes, decimal, flat_map, if◌then◌else◌}
 use Rattle.std.specs.Fmt.{digits}
 use Rattle.vs_types.specs.declared.page.Size.{Size}
 use Rattle.vs_types.specs.declared.page.Size.TheVariants.{K4, M2, G1}
 use Rattle.vs_types.specs.declared.page.Rights.{Rights}
 use Rattle.vs_walk.specs.declared.walk.Walk.{Walk}
 use Rattle.vs_walk.specs.declared.walk.Walk.TheVariants.{NotMapped, Reserved, Missing, Mapped}
-use Rattle.nr_audit.specs.declared.found.Replay.{Replay}
-use Rattle.nr_audit.specs.declared.found.Replay.TheVariants.{Replayed, No}
+use Rattle.nr_audit.specs.declared.verdict.Verdict.{Verdict}
+use Rattle.nr_audit.specs.declared.verdict.Verdict.TheVariants.{Yes, No}
 use Rattle.nr_trace.specs.declared.fault.Format.{Format}
 use Rattle.nr_trace.specs.declared.fault.Format.TheVariants as formats
 use Rattle.nr_trace.specs.declared.fault.Fault.{Fault}
@@ -57,15 +57,23 @@ fault_text (faults.Differs replica address) = codes "17 Differs " ++ (decimal re
 abbrev pub no_text : Fault → List ℕ
 no_text fault = codes "no " ++ (fault_text fault ++ line_end)
 
--- the lines of a replay
-abbrev pub replay_text : Replay → List ℕ
-replay_text Replayed = codes "replayed" ++ line_end
-replay_text (No fault) = no_text fault
+-- a call of an order, after a space
+abbrev pub call_text : ℕ → List ℕ
+call_text call = space ++ decimal call
 
--- 0 where nothing was found wrong, else 1
-abbrev pub replay_status : Replay → ℕ
-replay_status Replayed = 0
-replay_status (No fault) = 1
+-- the lines of a trace that is right, with this order of its calls
+abbrev pub yes_text : List ℕ → List ℕ
+yes_text order = codes "yes\norder" ++ (flat_map call_text order ++ line_end)
+
+-- the lines of a verdict
+abbrev pub verdict_text : Verdict → List ℕ
+verdict_text (Yes order) = yes_text order
+verdict_text (No fault) = no_text fault
+
+-- 0 where the trace is right, else 1
+abbrev pub verdict_status : Verdict → ℕ
+verdict_status (Yes order) = 0
+verdict_status (No fault) = 1
 
 abbrev pub size_text : Size → List ℕ
 size_text K4 = codes "4K"

@@ -1,39 +1,40 @@
 ghost use Rattle.std.specs.Prelude.{◌≡◌, IfOk, IfErr, string_bytes};
-ghost use Rattle.nrvs.specs.Text.{replay_status};
+ghost use Rattle.nrvs.specs.Text.{verdict_status};
 ghost use Rattle.nrvs.specs.Refusals.{IsEndFault, WritesAnswersAlone};
 ghost use Rattle.nrvs.specs.Answers.{IsAudit, WritesReport};
 
 use crate::ends::{read_input, write_report};
 use crate::fault::ProgFault;
 use crate::report::Report;
-use crate::text::replay_text;
-use nr_audit::{Replay, replay};
+use crate::text::verdict_text;
+use nr_audit::{Verdict, audit};
 use std::alloc::Global;
 use std::io::{Read, Write};
 use vs_types::Memory;
 
-fn status_of(answer: Replay) -> u8
-    ensures { result ≡ replay_status answer }
+fn status_of(verdict: &Verdict) -> u8
+    ensures { result ≡ verdict_status verdict.now }
 {
-    match answer {
-        Replay::Replayed => 0,
-        Replay::No(_) => 1,
+    match verdict {
+        Verdict::Yes(_) => 0,
+        Verdict::No(_) => 1,
     }
 }
 
-/// What `audit` answers to these bytes: the text of their verdict, and 0 where nothing is wrong with them, else 1. Takes
+/// What `audit` answers to these bytes: the text of their verdict, and 0 where they are those of a right trace, else 1. Takes
 /// memory for the trace and the text.
 pub fn audit_bytes(alloc: Global, bytes: &[u8]) -> Result<Report, Memory>
     ensures { IfOk result (λ report. IsAudit bytes.now (string_bytes report.text) report.status) }
 {
-    let answer = replay(alloc, bytes)?;
+    let verdict = audit(alloc, bytes)?;
+    let text = verdict_text(alloc, &verdict)?;
     Ok(Report {
-        text: replay_text(alloc, answer)?,
-        status: status_of(answer),
+        text,
+        status: status_of(&verdict),
     })
 }
 
-/// Reads a trace, judges it, and writes the verdict; the status is 0 where nothing was found wrong, else 1. It reads at
+/// Reads a trace, judges it, and writes the verdict; the status is 0 where it is right, else 1. It reads at
 /// most one byte more than the longest trace has. Where it gives no answer some input may have been read, and nothing
 /// was written but where that failed.
 pub fn audit_io<R: Read + Drop, W: Write>(

@@ -18,7 +18,7 @@ use std::process::ExitCode;
 fn main(rt: HostRuntime) -> ExitCode {
     let alloc = rt.alloc();
     let words = words::program_words(&rt);
-    let asked = words::read_words(alloc, &words);
+    let asked = words::read_program_words(alloc, &words);
     let mut output = io::writer(&rt);
     let status = program::run(alloc, asked, rt.reader(), &mut output, &mut rt.stderr());
     ExitCode::from(status)

@@ -1,3 +1,7 @@
+ghost use Rattle.std.specs.Prelude.{◌≡◌, ◌∷◌, [], false, IfOk, IfErr, map, string_bytes};
+ghost use Rattle.clap.specs.Words.{app_of, fault_of, subcommand_of, HasKind};
+ghost use Rattle.nrvs.specs.CommandLine.{command_line, Asks};
+
 use crate::command::Command;
 use clap::error::ErrorKind;
 use clap::{Arg, Error, value_parser};
@@ -10,7 +14,9 @@ pub fn program_words(rt: &HostRuntime) -> Result<Vec<String>, AllocError> {
     words.collect(rt.alloc())
 }
 
-fn command_line<'a>(alloc: Global) -> Result<clap::Command<'a>, AllocError> {
+fn command_line<'a>(alloc: Global) -> Result<clap::Command<'a>, AllocError>
+    ensures app { IfOk result (λ command. app_of command ≡ command_line) }
+{
     let audit = clap::Command::new(alloc, "audit").about(
         "Reads a trace from standard input and prints whether it is right",
     );
@@ -35,15 +41,12 @@ fn command_line<'a>(alloc: Global) -> Result<clap::Command<'a>, AllocError> {
         .subcommand(resolve)
 }
 
-/// What the words ask for, or what clap answers to them. Words for which there was no memory are answered so.
-pub fn read_words<'a>(
-    alloc: Global,
-    words: &'a Result<Vec<String>, AllocError>,
-) -> Result<Command<'a>, Error> {
-    let words = match words {
-        Ok(words) => words.as_slice(),
-        Err(AllocError) => return Err(Error::from(AllocError)),
-    };
+/// What the words ask for, or what clap answers to them.
+fn read_words<'a>(alloc: Global, words: &'a [String]) -> Result<Command<'a>, Error>
+    ensures asks { IfOk result (Asks (subcommand_of command_line (map (λ word. string_bytes word) words.entry.now))) }
+    ensures faultless { IfOk result (λ _. fault_of command_line (map (λ word. string_bytes word) words.entry.now) ≡ []) }
+    ensures fault { IfErr result (HasKind (ErrorKind.MissingSubcommand ∷ fault_of command_line (map (λ word. string_bytes word) words.entry.now))) }
+{
     let mut line = command_line(alloc)?;
     let matches = line.try_get_matches_from_mut(words)?;
     match matches.subcommand() {
@@ -54,5 +57,16 @@ pub fn read_words<'a>(
             Ok(Command::Resolve(address, replica))
         }
         _ => Err(line.error(ErrorKind::MissingSubcommand, "a subcommand is required")?),
+    }
+}
+
+/// The same, where there was memory for the words.
+pub fn read_program_words<'a>(
+    alloc: Global,
+    words: &'a Result<Vec<String>, AllocError>,
+) -> Result<Command<'a>, Error> {
+    match words {
+        Ok(words) => read_words(alloc, words.as_slice()),
+        Err(AllocError) => Err(Error::from(AllocError)),
     }
 }

@@ -1,0 +1,41 @@
+-- What the words of the command line ask for, as clap's definitions read words.
+use Rattle.std.specs.Prelude.{◌≡◌, ◌⊎◌, ℕ, List, [], ◌∷◌, Option, Some, None, Ok, Err, codes, pos, true, unwrap_or}
+use Rattle.std.specs.Str.Parse.{ParsesUnsigned}
+use Rattle.clap.specs.Words.{App, Row, Rule, Text, first_of, new_app, new_rule, with_rule, with_subcommand}
+use Rattle.clap.specs.Walk.{one_of}
+use Rattle.clap.specs.declared.builder.value_parser.ValueParser.TheVariants as parsers
+use Rattle.nrvs.specs.declared.command.Command.{Command}
+use Rattle.nrvs.specs.declared.command.Command.TheVariants.{Audit, Resolve}
+
+-- --address TEXT, which is required
+abbrev pub address_option : Rule
+address_option = record (new_rule (codes "address")) { long = Some (codes "address"); required = true }
+
+-- --replica NUMBER, from 0 to 255, and 0 where it is not given
+abbrev pub replica_option : Rule
+replica_option = record (new_rule (codes "replica")) { long = Some (codes "replica"); parser = Some (parsers.Signed (pos 0) (pos 255)); defaults = codes "0" ∷ [] }
+
+abbrev pub audit_app : App
+audit_app = new_app (codes "audit")
+
+abbrev pub resolve_app : App
+resolve_app = with_rule (with_rule (new_app (codes "resolve")) address_option) replica_option
+
+-- the program, of which one of its two subcommands is required
+abbrev pub program_app : App
+program_app = record (new_app (codes "nrvs")) { top = record (new_app (codes "nrvs")).top { subcommand_required = true; disable_help_subcommand = true } }
+
+abbrev pub command_line : App
+command_line = with_subcommand (with_subcommand program_app audit_app.top) resolve_app.top
+
+-- the number that a text is, or 0 where it is none below 256, or there is none
+abbrev pub IsReplica : Option Text → ℕ → Type 0
+IsReplica None replica = replica ≡ 0
+IsReplica (Some text) replica = ParsesUnsigned {E = Unit {0}} 8 10 text (Ok replica) ⊎ ((replica ≡ 0) × ParsesUnsigned {E = Unit {0}} 8 10 text (Err tt))
+
+-- a subcommand and what was given with it ask for the command
+abbrev pub Asks : Option (Text × List Row) → Command → Type 0
+Asks None command = ⊥
+Asks (Some given) Audit = given.0 ≡ codes "audit"
+Asks (Some given) (Resolve address replica) =
+    (given.0 ≡ codes "resolve") × (unwrap_or (first_of (codes "address") given.1) [] ≡ address.now) × IsReplica (one_of (codes "replica") given.1) replica
