@@ -3,3 +3,4 @@ pub mod Histories
 pub mod Rounds
 pub mod Views
 pub mod Turns
+pub mod CellWords

@@ -1,6 +1,7 @@
 -- Local tails: the greatest, one of them raised, and the first that lies too far behind.
 use Rattle.std.proofs.Common.{◌≡◌, ◌≢◌, ℕ, zero, suc, ◌+◌, ◌-◌, ◌<◌, ◌≤◌, max, List, [], ◌∷◌, length, get_or, set, ◌⊎◌, inl, inr, ⊎_elim, refl, sym, ◌∙◌, le_refl, le_trans, arith}
-use Rattle.std.proofs.Math.Nat.{le-max_left, le-max_right, max-le, eq-or-lt_of_le}
+use Rattle.std.proofs.Math.Nat.{le-max_left, le-max_right, max-le, eq-or-lt_of_le, le_antisymm}
+use Rattle.std.proofs.lemmas.List.{get_or-set_same}
 use Rattle.std.proofs.lemmas.Bool.Decides.{eqb_tells}
 use Rattle.nr_ring.specs.History.{greatest}
 
@@ -54,3 +55,14 @@ all_or_one end (x ∷ xs) = ⊎_elim (λ le. ⊎_elim (λ all. inl (within le al
   within : end ≤ x + 16 → ((i : ℕ) → i < length xs → end ≤ get_or xs i 0 + 16) → (i : ℕ) → i < length (x ∷ xs) → end ≤ get_or (x ∷ xs) i 0 + 16
   within le all zero lt = le
   within le all (suc i) lt = all i (omega arith)
+
+-- where one is raised, the greatest is the greater of the greatest and that one
+pub greatest_raised : (xs : List ℕ) (i v : ℕ) → i < length xs → get_or xs i 0 ≤ v → greatest (set xs i v) ≡ max (greatest xs) v
+greatest_raised xs i v within le =
+    let here = get_or-set_same xs i v 0 within in
+    let high = below_greatest (set xs i v) i in
+    let up : greatest xs ≤ greatest (set xs i v) = greatest_least xs (greatest (set xs i v)) (λ j. le_trans (raised xs i v j le) (below_greatest (set xs i v) j)) in
+    let own : v ≤ greatest (set xs i v) = omega arith in
+    le_antisymm
+    (greatest_least (set xs i v) (max (greatest xs) v) (λ j. still_below xs i v j (max (greatest xs) v) (le-max_right (greatest xs) v) (λ k. le_trans (below_greatest xs k) (le-max_left (greatest xs) v))))
+    (max-le up own)

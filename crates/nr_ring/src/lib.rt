@@ -4,12 +4,14 @@
 //! tail is the greatest local tail.
 #![tactic(auto)]
 
+mod cell_words;
 mod event;
 pub mod examples;
 mod laws;
 mod steps;
 mod view;
 
+pub use cell_words::{advances_change_two_words, appends_keep_needed_entries};
 pub use event::Event;
 pub use laws::{
     completed_is_a_local_tail, equal_tails_mean_no_event, needed_entries_fit_the_ring,
