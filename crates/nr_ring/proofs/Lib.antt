@@ -4,3 +4,4 @@ pub mod Rounds
 pub mod Views
 pub mod Turns
 pub mod CellWords
+pub mod Splits

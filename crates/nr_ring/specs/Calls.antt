@@ -26,3 +26,16 @@ MayMake view (Advance replica to) = Contains view.owns replica
 -- the view of a pass that made an event when it had seen all
 abbrev pub with_event : View → Event → View
 with_event view event = record { seen = view.seen ++ event ∷ []; mine = view.mine ++ length view.seen ∷ []; owns = view.owns; told = view.told }
+
+-- what a pass owns is cut in two, of which it keeps the first
+pub record IsCut (owned kept given : List ℕ) : Type 0 where
+  pub kept_of : (replica : ℕ) → Contains kept replica → Contains owned replica
+  pub given_of : (replica : ℕ) → Contains given replica → Contains owned replica
+  pub apart : (replica : ℕ) → Contains kept replica → Contains given replica → ⊥
+
+-- the view of the pass after that, and of the new pass: it has seen as much, and has made nothing
+abbrev pub keeping : View → List ℕ → View
+keeping view kept = record { seen = view.seen; mine = view.mine; owns = kept; told = view.told }
+
+abbrev pub copied : View → List ℕ → View
+copied view given = record { seen = view.seen; mine = []; owns = given; told = [] }

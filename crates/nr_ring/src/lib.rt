@@ -17,5 +17,7 @@ pub use laws::{
     completed_is_a_local_tail, equal_tails_mean_no_event, needed_entries_fit_the_ring,
     refused_for_a_reason, tails_never_fall,
 };
-pub use steps::{events_keep_the_rule, looks_keep_the_rule, own_words_mean_all_seen};
+pub use steps::{
+    events_keep_the_rule, looks_keep_the_rule, own_words_mean_all_seen, splits_keep_the_rule,
+};
 pub use view::View;

@@ -2,9 +2,9 @@
 ghost use Rattle.std.specs.Prelude.{◌≡◌, ℕ, ◌≤◌, List, slice_set};
 ghost use mathlib.Core.Option.{some};
 ghost use lib.ListN.{get_elem?};
-ghost use Rattle.crossbeam_utils.specs.Register.{Turns};
+ghost use Rattle.crossbeam_utils.specs.Register.{Forks, Turns};
 ghost use Rattle.vs_types.specs.declared.depth.Depth.{Depth};
-ghost use Rattle.nr_ring.specs.Calls.{Looks, MayMake, with_event};
+ghost use Rattle.nr_ring.specs.Calls.{IsCut, Looks, MayMake, copied, keeping, with_event};
 ghost use Rattle.nr_ring.specs.History.{IsHistory, MayFollow, after, log_after};
 ghost use Rattle.nr_ring.specs.Rule.{IsKept};
 ghost use Rattle.nr_ring.specs.View.{StartsWith};
@@ -28,4 +28,10 @@ pub fn events_keep_the_rule()
     ensures { (depth : Depth) (replicas pass : ℕ) (v : View) (event : Event) (words words' : List ℕ) (views : List View) → replicas ≤ 4 → IsKept depth replicas words views → get_elem? views pass ≡ some v
         → IsWordsOf (log_after replicas v.seen) words → MayFollow depth (log_after replicas v.seen) event → MayMake v event → IsWordsOf (after (log_after replicas v.seen) event) words'
         → IsKept depth replicas words' (slice_set views pass (with_event v event)) }
+{}
+
+/// Splitting a pass keeps the rule: the new pass has seen as much, has made nothing, and takes some of the replicas that the
+/// other owned.
+pub fn splits_keep_the_rule()
+    ensures { (depth : Depth) (replicas pass : ℕ) (v : View) (kept given : List ℕ) → IsCut v.owns kept given → Forks (IsKept depth replicas) pass v (keeping v kept) (copied v given) }
 {}
