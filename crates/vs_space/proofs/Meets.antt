@@ -22,7 +22,8 @@ use Rattle.vs_space.specs.Held.{with_word}
 use Rattle.vs_walk.specs.Ways.{AreWhole}
 use Rattle.vs_space.specs.Path.{found_at, table_in}
 use Rattle.vs_space.specs.Descent.{IsDescent}
-use Rattle.vs_space.specs.Table.{IsStep, IsSpaceOf, IsPageTable}
+use Rattle.vs_space.specs.Table.{IsStep}
+use Rattle.vs_space.specs.Invariant.{IsSpaceOf, IsPageTable}
 use Rattle.vs_space.proofs.Paths.{words_found}
 use Rattle.vs_space.proofs.Regions.{IsLeafPage}
 use Rattle.vs_space.proofs.Protects.{IsMet, page_table, own_space, space_of, absent_none, never_reserved, page_here, page_level, unmap_none, protect_none, unmap_inside, protect_inside, stays, answer_is, space_is, table_new}

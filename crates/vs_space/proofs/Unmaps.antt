@@ -28,7 +28,8 @@ use Rattle.vs_space.specs.Path.{found_at, table_at, table_in, SamePath}
 use Rattle.vs_space.specs.Tree.{IsTree, NothingUnder}
 use Rattle.vs_space.specs.Prune.{IsCut, IsPruned}
 use Rattle.vs_space.specs.Descent.{IsDescent}
-use Rattle.vs_space.specs.Table.{IsStep, IsSpaceOf, IsPageTable}
+use Rattle.vs_space.specs.Table.{IsStep}
+use Rattle.vs_space.specs.Invariant.{IsSpaceOf, IsPageTable}
 use Rattle.vs_space.proofs.Paths.{walk_ends}
 use Rattle.vs_space.proofs.Writes.{table_here, table_above, found_on_path, walk_off_path, len_written, same_or_not}
 use Rattle.vs_space.proofs.Trees.{tree_write, but_none, but_write}

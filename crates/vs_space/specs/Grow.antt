@@ -1,4 +1,4 @@
--- New tables on the path of an address, and the first page that is found from an address on.
+-- New tables on the path of an address, and the first page that is found from an address on. No public clause cites it.
 use Rattle.std.specs.Prelude.{◌≡◌, ℕ, ◌+◌, ◌-◌, ◌%◌, ◌<◌, ◌≤◌, Some}
 use Rattle.std.specs.FinMap as finite
 use Rattle.vs_types.specs.Depth.{levels, entry_bytes, IsCanonical}

@@ -5,6 +5,7 @@ pub mod Tree
 pub mod Prune
 pub mod Grow
 pub mod Table
+pub mod Invariant
 pub mod Descent
 pub use Rattle.vs_types.specs.Depth
 pub use Rattle.vs_types.specs.Page

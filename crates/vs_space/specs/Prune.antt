@@ -1,4 +1,4 @@
--- What is left when tables under which nothing is mapped are given back.
+-- What is left when tables under which nothing is mapped are given back. No public clause cites it.
 use Rattle.std.specs.Prelude.{◌≡◌, ℕ, suc, ◌+◌, ◌-◌, ◌<◌, ◌≤◌, List, Some, slice_index}
 use Rattle.std.specs.FinMap as finite
 use Rattle.vs_types.specs.Depth.{levels, IsCanonical}

@@ -35,7 +35,8 @@ impl<S: FrameStore> Model for Space<S> {
     ghost use Rattle.std.specs.FinMap as finite;
     ghost use Rattle.std.specs.Ordering.{nat_cmp};
     ghost use Rattle.vs_space.specs.Held.{AreNumbered};
-    ghost use Rattle.vs_space.specs.Table.{PageTable, IsPageTable};
+    ghost use Rattle.vs_space.specs.Table.{PageTable};
+    ghost use Rattle.vs_space.specs.Invariant.{IsPageTable};
 
     ghost Value = { PageTable };
 

@@ -15,7 +15,8 @@ use Rattle.vs_walk.specs.Ways.{AreWhole}
 use Rattle.vs_space.specs.Descent.{IsDescent}
 use Rattle.vs_space.specs.Path.{table_at}
 use Rattle.vs_space.specs.Grow.{IsOpen, IsExtended, IsLeastBase}
-use Rattle.vs_space.specs.Table.{PageTable, IsStep, IsPageTable}
+use Rattle.vs_space.specs.Table.{PageTable, IsStep}
+use Rattle.vs_space.specs.Invariant.{IsPageTable}
 use Rattle.vs_space.proofs.Protects.{page_table}
 use Rattle.vs_space.proofs.Maps.{reserved_never, leaf_overlaps, not_lowest, table_reached, table_overlaps, full_step, is_open, map_table, map_step}
 use Rattle.vs_space.proofs.space.Space.map.Goals as goal

@@ -12,7 +12,8 @@ use Rattle.std.specs.FinMap as finite
 use Rattle.vs_space.specs.Held.{Held, with_word}
 use Rattle.vs_space.proofs.Numbered.{held}
 use Rattle.vs_space.specs.Descent.{IsDescent}
-use Rattle.vs_space.specs.Table.{PageTable, IsStep, IsPageTable}
+use Rattle.vs_space.specs.Table.{PageTable, IsStep}
+use Rattle.vs_space.specs.Invariant.{IsPageTable}
 use Rattle.vs_space.proofs.Protects.{page_table}
 use Rattle.vs_space.proofs.Meets.{absent_end, leaf_again, protect_absent, protect_in, protect_table, protect_step}
 use Rattle.vs_space.proofs.space.Space.protect.Goals as goal
