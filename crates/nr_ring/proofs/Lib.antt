@@ -5,3 +5,4 @@ pub mod Views
 pub mod Turns
 pub mod CellWords
 pub mod Splits
+pub mod Joins
