@@ -6,3 +6,4 @@ pub mod Turns
 pub mod CellWords
 pub mod Splits
 pub mod Joins
+pub mod NewLog
