@@ -5,3 +5,5 @@ pub mod Views
 pub mod Turns
 pub mod CellWords
 pub mod Splits
+pub mod Joins
+pub mod NewLog

@@ -1,5 +1,5 @@
 -- What the calls on a log tell the pass that makes them.
-use Rattle.std.specs.Prelude.{◌≡◌, ℕ, List, [], ◌∷◌, ◌++◌, All, Contains, length, ⊤}
+use Rattle.std.specs.Prelude.{◌≡◌, ℕ, List, [], ◌∷◌, ◌++◌, All, Contains, length, nat_lt, if◌then◌else◌, ⊤}
 use Rattle.vs_types.specs.declared.depth.Depth.{Depth}
 use Rattle.nr_ring.specs.History.{MayFollow, IsHistory, log_after}
 use Rattle.nr_ring.specs.Words.{IsWordsOf}
@@ -39,3 +39,16 @@ keeping view kept = record { seen = view.seen; mine = view.mine; owns = kept; to
 
 abbrev pub copied : View → List ℕ → View
 copied view given = record { seen = view.seen; mine = []; owns = given; told = [] }
+
+-- the view of a pass that was joined by another: it has seen what the longer of the two had, and was told what both had
+abbrev pub joined : View → View → View
+joined view other = record {
+  seen = if nat_lt (length view.seen) (length other.seen) then other.seen else view.seen;
+  mine = view.mine;
+  owns = view.owns;
+  told = other.seen ∷ view.seen ∷ view.told;
+}
+
+-- the view of a pass that was joined away
+abbrev pub spent : View
+spent = record { seen = []; mine = []; owns = []; told = [] }

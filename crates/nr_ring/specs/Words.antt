@@ -1,5 +1,5 @@
 -- The words of the cell that the log is kept in: 39, of which the last 32 are a ring of 16 entries.
-use Rattle.std.specs.Prelude.{◌≡◌, ◌⊎◌, ℕ, ◌+◌, ◌*◌, ◌%◌, ◌<◌, ◌≤◌, List, length, Some, slice_get, slice_index, slice_set, max}
+use Rattle.std.specs.Prelude.{◌≡◌, ◌⊎◌, ◌∷◌, replicate, ℕ, ◌+◌, ◌*◌, ◌%◌, ◌<◌, ◌≤◌, List, length, Some, slice_get, slice_index, slice_set, max}
 use Rattle.vs_types.specs.LogEntry.{log_words}
 use Rattle.vs_types.specs.declared.log_entry.LogEntry.{LogEntry}
 use Rattle.nr_ring.specs.History.{Log, tail, local_of, completed}
@@ -30,3 +30,7 @@ pub record IsAppended (log : Log) (batch : List LogEntry) (before after : List �
   pub head_stays : (word : ℕ) → 0 < word → word < 7 → slice_index after word ≡ slice_index before word
   pub entries_are : (i : ℕ) (entry : LogEntry) (k : ℕ) → slice_get batch i ≡ Some entry → k < 2 → slice_index after (word_of (tail log + i) + k) ≡ slice_index (log_words entry) k
   pub others_stay : (word : ℕ) → 7 ≤ word → ((i : ℕ) → i < length batch → (word < word_of (tail log + i)) ⊎ (word_of (tail log + i) + 2 ≤ word)) → slice_index after word ≡ slice_index before word
+
+-- the words of a new log of so many replicas
+abbrev pub new_words : ℕ → List ℕ
+new_words replicas = 0 ∷ 0 ∷ 0 ∷ 0 ∷ 0 ∷ 0 ∷ replicas ∷ replicate 32 0

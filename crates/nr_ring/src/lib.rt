@@ -18,6 +18,7 @@ pub use laws::{
     refused_for_a_reason, tails_never_fall,
 };
 pub use steps::{
-    events_keep_the_rule, looks_keep_the_rule, own_words_mean_all_seen, splits_keep_the_rule,
+    events_keep_the_rule, joins_keep_the_rule, looks_keep_the_rule, new_logs_keep_the_rule,
+    own_words_mean_all_seen, splits_keep_the_rule,
 };
 pub use view::View;

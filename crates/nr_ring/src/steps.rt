@@ -1,14 +1,14 @@
 //! The steps on the cell of a log keep its rule. Each function does nothing: its clauses say what holds of every cell.
-ghost use Rattle.std.specs.Prelude.{◌≡◌, ℕ, ◌≤◌, List, slice_set};
+ghost use Rattle.std.specs.Prelude.{◌≡◌, ℕ, ◌≤◌, List, [], ◌∷◌, slice_set};
 ghost use mathlib.Core.Option.{some};
 ghost use lib.ListN.{get_elem?};
-ghost use Rattle.crossbeam_utils.specs.Register.{Forks, Turns};
+ghost use Rattle.crossbeam_utils.specs.Register.{Forks, Merges, Turns};
 ghost use Rattle.vs_types.specs.declared.depth.Depth.{Depth};
-ghost use Rattle.nr_ring.specs.Calls.{IsCut, Looks, MayMake, copied, keeping, with_event};
+ghost use Rattle.nr_ring.specs.Calls.{IsCut, Looks, MayMake, copied, joined, keeping, spent, with_event};
 ghost use Rattle.nr_ring.specs.History.{IsHistory, MayFollow, after, log_after};
 ghost use Rattle.nr_ring.specs.Rule.{IsKept};
 ghost use Rattle.nr_ring.specs.View.{StartsWith};
-ghost use Rattle.nr_ring.specs.Words.{IsWordsOf};
+ghost use Rattle.nr_ring.specs.Words.{IsWordsOf, new_words};
 ghost use Rattle.nr_ring.specs.declared.event.Event.{Event};
 ghost use Rattle.nr_ring.specs.declared.view.View.{View};
 
@@ -34,4 +34,15 @@ pub fn events_keep_the_rule()
 /// other owned.
 pub fn splits_keep_the_rule()
     ensures { (depth : Depth) (replicas pass : ℕ) (v : View) (kept given : List ℕ) → IsCut v.owns kept given → Forks (IsKept depth replicas) pass v (keeping v kept) (copied v given) }
+{}
+
+/// Joining a pass that has made nothing keeps the rule. It tells nothing of how the two lists that were seen compare; the next
+/// look tells that both are beginnings of what it sees.
+pub fn joins_keep_the_rule()
+    ensures { (depth : Depth) (replicas pass other : ℕ) (v w : View) → w.mine ≡ [] → Merges (IsKept depth replicas) pass v other w (joined v w) spent }
+{}
+
+/// The rule holds of a new log, whose first pass has seen and made nothing, whatever it owns.
+pub fn new_logs_keep_the_rule()
+    ensures { (depth : Depth) (replicas : ℕ) (v : View) → v.seen ≡ [] → v.mine ≡ [] → v.told ≡ [] → IsKept depth replicas (new_words replicas) (v ∷ []) }
 {}
