@@ -2,8 +2,8 @@
 """Compares the words that a reader has to believe with docs/DEFINITIONS.md, which reads each of them aloud.
 
 A word of the trust base is a definition of some specs/ folder that a clause of a public call cites, or that such a word
-cites. In DEFINITIONS.md a word is read aloud where it stands in bold code: **`word`**. Prints each word that is missing on
-either side, and with --list the words by file.
+cites; worked examples aside. In DEFINITIONS.md a word is read aloud where it stands in bold code: **`word`**. Prints each word
+that is missing on either side, and with --list the words by file, in brackets those that are not of the trust base.
 """
 import re
 import sys
@@ -121,6 +121,7 @@ def main(words):
             names = sorted(name for at, name in found if at == place)
             print(f"{place}: {' '.join(name if (place, name) in base else f'({name})' for name in names)}")
     told = re.findall(r"\*\*`([^`]+)`\*\*", (ROOT / "docs/DEFINITIONS.md").read_text())
+    base = {(place, name) for place, name in base if not place.endswith(".Examples")}
     names = {name for _, name in base}
     missing = sorted(names - set(told))
     for name in missing:
@@ -128,7 +129,9 @@ def main(words):
     others = sorted(set(told) - names)
     for name in others:
         print(f"read aloud, and no clause rests on it: {name}")
-    return 1 if missing or others else 0
+    wrong = len(missing) + len(others)
+    print(f"{len(names) - len(missing)} passed, {wrong} failed")
+    return 1 if wrong else 0
 
 
 if __name__ == "__main__":
