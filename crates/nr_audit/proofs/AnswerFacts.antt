@@ -14,9 +14,9 @@ use Rattle.vs_types.specs.declared.op.Action.{Action}
 use Rattle.vs_types.specs.declared.request.Query.{Query}
 use Rattle.vs_types.specs.declared.request.Query.TheVariants.{Update, Resolve}
 use Rattle.vs_types.specs.declared.answer.Answer.{Answer}
-use Rattle.vs_plain.specs.Plain.{Kept}
+use Rattle.vs_plain.specs.Plain.{BoundedSpace}
 use Rattle.nr_trace.specs.Recording.{Recording}
-use Rattle.nr_trace.specs.Calls.{Made, call_of, operation_of, Answered, reply_to}
+use Rattle.nr_trace.specs.Calls.{Invocation, call_of, operation_of, Response, reply_to}
 use Rattle.nr_trace.specs.Orders.{before, operations, space_after, answer_in, recorded_order}
 use Rattle.nr_trace.specs.Faults.{Holds, Earlier, IsWrong}
 use Rattle.nr_trace.specs.Laws.{HasCleanLog}
@@ -24,10 +24,10 @@ use Rattle.nr_trace.specs.declared.fault.Fault.{Fault}
 use Rattle.nr_trace.specs.declared.fault.Fault.TheVariants.{WrongAnswer}
 use Rattle.nr_trace.proofs.LawsOfOrder.{order_distinct}
 use Rattle.nr_trace.proofs.LawsOfFaults.{wrong_is_member}
-use Rattle.nr_audit.specs.Search.{HasNone, IsFirstAmong}
-use Rattle.nr_audit.specs.Passes.{IsAnswerFault}
-use Rattle.nr_audit.specs.Steps.{Serves}
-use Rattle.nr_audit.specs.Told.{told_to}
+use Rattle.nr_audit.specs.inside.Search.{HasNone, IsFirstAmong}
+use Rattle.nr_audit.specs.inside.Passes.{IsAnswerFault}
+use Rattle.nr_audit.specs.inside.Steps.{Serves}
+use Rattle.nr_audit.specs.inside.Told.{told_to}
 use Rattle.nr_audit.specs.declared.tables.Told.{Told}
 use Rattle.nr_audit.proofs.Ranks.{earlier_cases}
 use Rattle.nr_audit.proofs.EventFacts.{no_call_past}
@@ -79,14 +79,14 @@ served layout space (Update action) = (step layout.depth layout.tables space act
 served layout space (Resolve address) = space
 
 -- the space that is kept for a layout
-abbrev pub kept : Layout → Space → Kept
+abbrev pub kept : Layout → Space → BoundedSpace
 kept layout space = record { depth = layout.depth; limit = layout.tables; space = space }
 
-pub answered : (layout : Layout) (space : Space) (query : Query) (answer : Answer) (new : Kept) → Serves (kept layout space) query answer new → answer ≡ answer_in layout space query
+pub answered : (layout : Layout) (space : Space) (query : Query) (answer : Answer) (new : BoundedSpace) → Serves (kept layout space) query answer new → answer ≡ answer_in layout space query
 answered layout space (Update action) answer new h = h.0
 answered layout space (Resolve address) answer new h = h.0
 
-pub left : (layout : Layout) (space : Space) (query : Query) (answer : Answer) (new : Kept) → Serves (kept layout space) query answer new → new ≡ kept layout (served layout space query)
+pub left : (layout : Layout) (space : Space) (query : Query) (answer : Answer) (new : BoundedSpace) → Serves (kept layout space) query answer new → new ≡ kept layout (served layout space query)
 unfolding served
 left layout space (Update action) answer new h = h.1
 left layout space (Resolve address) answer new h = h.1
@@ -98,25 +98,25 @@ more trace order k d within =
     ∙ after_all-append trace.layout.depth trace.layout.tables no_pages (operations trace (take k order)) (operations trace (get_or order k d ∷ []))
 
 -- what is no call leaves the space
-pub space_stays : (trace : Recording) (order : List ℕ) (k d : ℕ) → k < length order → option_map (λ (made : Made). made.request) (call_of trace (get_or order k d)) ≡ None → space_after trace (take k order) ≡ space_after trace (take (k + 1) order)
+pub space_stays : (trace : Recording) (order : List ℕ) (k d : ℕ) → k < length order → option_map (λ (made : Invocation). made.request) (call_of trace (get_or order k d)) ≡ None → space_after trace (take k order) ≡ space_after trace (take (k + 1) order)
 space_stays trace order k d within none =
     sym (more trace order k d within ∙ ap (λ o. after_all trace.layout.depth trace.layout.tables (space_after trace (take k order)) (cons_option o [])) (operation_by trace (get_or order k d) None (sym none)))
 
 -- a call leaves the space that its request leaves
-pub space_moves : (trace : Recording) (order : List ℕ) (k d : ℕ) (query : Query) → k < length order → Some query ≡ option_map (λ (made : Made). made.request) (call_of trace (get_or order k d)) → served trace.layout (space_after trace (take k order)) query ≡ space_after trace (take (k + 1) order)
+pub space_visits : (trace : Recording) (order : List ℕ) (k d : ℕ) (query : Query) → k < length order → Some query ≡ option_map (λ (made : Invocation). made.request) (call_of trace (get_or order k d)) → served trace.layout (space_after trace (take k order)) query ≡ space_after trace (take (k + 1) order)
 unfolding served
-space_moves trace order k d (Update action) within asks =
+space_visits trace order k d (Update action) within asks =
     sym (more trace order k d within ∙ ap (λ o. after_all trace.layout.depth trace.layout.tables (space_after trace (take k order)) (cons_option o [])) (operation_by trace (get_or order k d) (Some (Update action)) asks))
-space_moves trace order k d (Resolve address) within asks =
+space_visits trace order k d (Resolve address) within asks =
     sym (more trace order k d within ∙ ap (λ o. after_all trace.layout.depth trace.layout.tables (space_after trace (take k order)) (cons_option o [])) (operation_by trace (get_or order k d) (Some (Resolve address)) asks))
 
 -- ---- answers
 
-made_of : (o : Option Made) (query : Query) → Some query ≡ option_map (λ (made : Made). made.request) o → (made : Made) × (o ≡ Some made) × (made.request ≡ query)
+made_of : (o : Option Invocation) (query : Query) → Some query ≡ option_map (λ (made : Invocation). made.request) o → (made : Invocation) × (o ≡ Some made) × (made.request ≡ query)
 made_of None query e = absurd (cc)
 made_of (Some made) query e = (made, refl, cc)
 
-reply_told : (o : Option Answered) (told : Told) → option_map (λ (r : Answered). let t : Told = record { at = r.at; answer = r.answer } in t) o ≡ Some told → (reply : Answered) × (o ≡ Some reply) × (reply.answer ≡ told.answer)
+reply_told : (o : Option Response) (told : Told) → option_map (λ (r : Response). let t : Told = record { at = r.at; answer = r.answer } in t) o ≡ Some told → (reply : Response) × (o ≡ Some reply) × (reply.answer ≡ told.answer)
 reply_told None told e = absurd (cc)
 reply_told (Some reply) told e = (reply, refl, (let same : ◌≡◌ {A = Told} (record { at = reply.at; answer = reply.answer }) told = cc in ap (λ (t : Told). t.answer) same))
 
@@ -129,7 +129,7 @@ module _ (trace : Recording) (order : List ℕ) (listed : order ≡ recorded_ord
   before_here k within = subst (λ xs. before (get_or order k 0) xs ≡ take k order) listed (before_at order k 0 distinct within)
 
   -- an answer that is told and is not the space's is wrong
-  pub wrong_here : (k : ℕ) (query : Query) (answer : Answer) (told : Option Told) → k < length order → Some query ≡ option_map (λ (made : Made). made.request) (call_of trace (get_or order k 0))
+  pub wrong_here : (k : ℕ) (query : Query) (answer : Answer) (told : Option Told) → k < length order → Some query ≡ option_map (λ (made : Invocation). made.request) (call_of trace (get_or order k 0))
       → answer ≡ answer_in trace.layout (space_after trace (take k order)) query → told ≡ told_to trace (get_or order k 0) → (IfSome told (λ reply. reply.answer ≡ answer) → ⊥) → IsWrong trace (get_or order k 0)
   wrong_here k query answer None within asks gives is differs = absurd (differs tt)
   wrong_here k query answer (Some told) within asks gives is differs =
@@ -146,21 +146,21 @@ module _ (trace : Recording) (order : List ℕ) (listed : order ≡ recorded_ord
       }
 
   -- one that is told, if any is, and is the space's is not
-  pub right_here : (k : ℕ) (query : Query) (answer : Answer) (told : Option Told) → k < length order → Some query ≡ option_map (λ (made : Made). made.request) (call_of trace (get_or order k 0))
+  pub right_here : (k : ℕ) (query : Query) (answer : Answer) (told : Option Told) → k < length order → Some query ≡ option_map (λ (made : Invocation). made.request) (call_of trace (get_or order k 0))
       → answer ≡ answer_in trace.layout (space_after trace (take k order)) query → told ≡ told_to trace (get_or order k 0) → IfSome told (λ reply. reply.answer ≡ answer) → IsWrong trace (get_or order k 0) → ⊥
   right_here k query answer told within asks gives is agrees wrong =
       let made = made_of (call_of trace (get_or order k 0)) query asks in
       let one = made.1 in
       let two = wrong.is_made in
       let same : made.0 ≡ wrong.made = cc in
-      let here = is ∙ ap (λ o. option_map (λ (r : Answered). let t : Told = record { at = r.at; answer = r.answer } in t) o) wrong.is_reply in
+      let here = is ∙ ap (λ o. option_map (λ (r : Response). let t : Told = record { at = r.at; answer = r.answer } in t) o) wrong.is_reply in
       wrong.differs (subst (λ o. IfSome o (λ reply. reply.answer ≡ answer)) here agrees ∙ gives
-      ∙ ap (λ q. answer_in trace.layout (space_after trace (take k order)) q) (sym made.2 ∙ ap (λ (m : Made). m.request) same)
+      ∙ ap (λ q. answer_in trace.layout (space_after trace (take k order)) q) (sym made.2 ∙ ap (λ (m : Invocation). m.request) same)
       ∙ ap (λ xs. answer_in trace.layout (space_after trace xs) wrong.made.request) (sym (before_here k within)))
 
   -- what is no call has no answer
-  pub no_call_is_right : (call : ℕ) → option_map (λ (made : Made). made.request) (call_of trace call) ≡ None → IsWrong trace call → ⊥
-  no_call_is_right call none wrong = let made = ap (λ o. option_map (λ (made : Made). made.request) o) wrong.is_made in cc
+  pub no_call_is_right : (call : ℕ) → option_map (λ (made : Invocation). made.request) (call_of trace call) ≡ None → IsWrong trace call → ⊥
+  no_call_is_right call none wrong = let made = ap (λ o. option_map (λ (made : Invocation). made.request) o) wrong.is_made in cc
 
   -- the first wrong answer in the recorded order is the first of all
   pub first_wrong : (k : ℕ) → k < length order → ((j : ℕ) → j < k → IsWrong trace (get_or order j 0) → ⊥) → IsWrong trace (get_or order k 0) → IsFirstAmong IsAnswerFault trace (WrongAnswer (get_or order k 0))
@@ -192,10 +192,10 @@ module _ (trace : Recording) (order : List ℕ) (listed : order ≡ recorded_ord
   none_wrong none other among holds = among
 
 -- what has a query is an event
-pub query_within : (trace : Recording) (call : ℕ) (query : Query) → Some query ≡ option_map (λ (made : Made). made.request) (call_of trace call) → call < length trace.events
+pub query_within : (trace : Recording) (call : ℕ) (query : Query) → Some query ≡ option_map (λ (made : Invocation). made.request) (call_of trace call) → call < length trace.events
 query_within trace call query asks = elim (cases_lt call (length trace.events)) [
   | inl low ↦ low
-  | inr past ↦ absurd (let none = ap (λ o. option_map (λ (made : Made). made.request) o) (no_call_past trace call past) in cc)
+  | inr past ↦ absurd (let none = ap (λ o. option_map (λ (made : Invocation). made.request) o) (no_call_past trace call past) in cc)
 ]
 
 -- one more place that is not wrong

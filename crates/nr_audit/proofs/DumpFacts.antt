@@ -7,7 +7,7 @@ use Rattle.std.proofs.lemmas.Bool.{cases_lt}
 use Rattle.std.proofs.lemmas.Option.{slice_get_within, slice_get_past, slice_get-get_or, same_Some}
 use Rattle.vs_walk.specs.Dump.{Image}
 use Rattle.nr_trace.specs.Recording.{Recording}
-use Rattle.nr_trace.specs.Calls.{Answered, reply_of}
+use Rattle.nr_trace.specs.Calls.{Response, reply_of}
 use Rattle.nr_trace.specs.Orders.{space_after}
 use Rattle.nr_trace.specs.Faults.{Holds, Earlier, rank, RestsOnMore, HasDump}
 use Rattle.nr_trace.specs.declared.fault.Fault.{Fault}
@@ -16,10 +16,10 @@ use Rattle.nr_trace.proofs.LawsOfCalls.{reply_in_event}
 use Rattle.nr_dump.specs.Faults as dumps
 use Rattle.nr_dump.specs.declared.fault.DumpFault.{DumpFault}
 use Rattle.nr_dump.specs.declared.fault.DumpFault.TheVariants as of_dump
-use Rattle.nr_audit.specs.Search.{HasNone, IsFirstAmong}
-use Rattle.nr_audit.specs.Passes.{IsDumpFaultAt, IsDumpFault}
-use Rattle.nr_audit.specs.Dumps.{at_replica}
-use Rattle.nr_audit.specs.Prefixes.{AreNeeds}
+use Rattle.nr_audit.specs.inside.Search.{HasNone, IsFirstAmong}
+use Rattle.nr_audit.specs.inside.Passes.{IsDumpFaultAt, IsDumpFault}
+use Rattle.nr_audit.specs.inside.Dumps.{at_replica}
+use Rattle.nr_audit.specs.inside.Prefixes.{AreNeeds}
 use Rattle.nr_audit.proofs.Ranks.{IsRanked, none_of_all, first_of_all, lower_number}
 
 pub dump_ranks : (trace : Recording) → IsRanked IsDumpFaultAt 7 trace
@@ -134,12 +134,12 @@ is_of_replica replica (of_dump.ReservedBit frame index) = refl
 is_of_replica replica (of_dump.StrayFrame frame) = refl
 is_of_replica replica (of_dump.Differs address) = refl
 
-reply_below : (trace : Recording) (index : ℕ) (reply : Answered) → reply_of trace index ≡ Some reply → index < length trace.events
+reply_below : (trace : Recording) (index : ℕ) (reply : Response) → reply_of trace index ≡ Some reply → index < length trace.events
 reply_below trace index reply is = let (event, at, own) = reply_in_event (slice_get trace.events index) reply is in slice_get_within trace.events index event at
 
 module _ (trace : Recording) (replica : ℕ) (dump : Image) (is : slice_get trace.dumps replica ≡ Some dump) where
   -- what holds of the dump holds of the trace
-  told : (fault : DumpFault) → dumps.Holds trace.layout.depth dump (space_after trace (take dump.applied trace.log)) fault → Holds trace (at_replica replica fault)
+  told : (fault : DumpFault) → dumps.HoldsOfDump trace.layout.depth dump (space_after trace (take dump.applied trace.log)) fault → Holds trace (at_replica replica fault)
   told (of_dump.MissingFrame frame) holds = (dump, is, holds)
   told (of_dump.SharedFrame frame) holds = (dump, is, holds)
   told (of_dump.ReservedBit frame index) holds = (dump, is, holds)
@@ -151,19 +151,19 @@ module _ (trace : Recording) (replica : ℕ) (dump : Image) (is : slice_get trac
 
   -- a fault of the replica that holds is one of its prefix, or one of the dump's
   back : (other : Fault) → IsDumpFaultAt replica other → Holds trace other → (number_of other < 13)
-      ⊎ ((fault : DumpFault) × dumps.Holds trace.layout.depth dump (space_after trace (take dump.applied trace.log)) fault × (number_in fault ≡ number_of other))
+      ⊎ ((fault : DumpFault) × dumps.HoldsOfDump trace.layout.depth dump (space_after trace (take dump.applied trace.log)) fault × (number_in fault ≡ number_of other))
   back (PrefixPastLog at) among holds = inl (lit< tt)
   back (PrefixShort at) among holds = inl (lit< tt)
   back (MissingFrame at frame) among holds =
-      inr (of_dump.MissingFrame frame, subst (λ d. dumps.Holds trace.layout.depth d (space_after trace (take d.applied trace.log)) (of_dump.MissingFrame frame)) (own_dump at holds.0 among holds.1) holds.2, refl)
+      inr (of_dump.MissingFrame frame, subst (λ d. dumps.HoldsOfDump trace.layout.depth d (space_after trace (take d.applied trace.log)) (of_dump.MissingFrame frame)) (own_dump at holds.0 among holds.1) holds.2, refl)
   back (SharedFrame at frame) among holds =
-      inr (of_dump.SharedFrame frame, subst (λ d. dumps.Holds trace.layout.depth d (space_after trace (take d.applied trace.log)) (of_dump.SharedFrame frame)) (own_dump at holds.0 among holds.1) holds.2, refl)
+      inr (of_dump.SharedFrame frame, subst (λ d. dumps.HoldsOfDump trace.layout.depth d (space_after trace (take d.applied trace.log)) (of_dump.SharedFrame frame)) (own_dump at holds.0 among holds.1) holds.2, refl)
   back (ReservedBit at frame index) among holds =
-      inr (of_dump.ReservedBit frame index, subst (λ d. dumps.Holds trace.layout.depth d (space_after trace (take d.applied trace.log)) (of_dump.ReservedBit frame index)) (own_dump at holds.0 among holds.1) holds.2, refl)
+      inr (of_dump.ReservedBit frame index, subst (λ d. dumps.HoldsOfDump trace.layout.depth d (space_after trace (take d.applied trace.log)) (of_dump.ReservedBit frame index)) (own_dump at holds.0 among holds.1) holds.2, refl)
   back (StrayFrame at frame) among holds =
-      inr (of_dump.StrayFrame frame, subst (λ d. dumps.Holds trace.layout.depth d (space_after trace (take d.applied trace.log)) (of_dump.StrayFrame frame)) (own_dump at holds.0 among holds.1) holds.2, refl)
+      inr (of_dump.StrayFrame frame, subst (λ d. dumps.HoldsOfDump trace.layout.depth d (space_after trace (take d.applied trace.log)) (of_dump.StrayFrame frame)) (own_dump at holds.0 among holds.1) holds.2, refl)
   back (Differs at address) among holds =
-      inr (of_dump.Differs address, subst (λ d. dumps.Holds trace.layout.depth d (space_after trace (take d.applied trace.log)) (of_dump.Differs address)) (own_dump at holds.0 among holds.1) holds.2, refl)
+      inr (of_dump.Differs address, subst (λ d. dumps.HoldsOfDump trace.layout.depth d (space_after trace (take d.applied trace.log)) (of_dump.Differs address)) (own_dump at holds.0 among holds.1) holds.2, refl)
   back other among holds = absurd among
 
   past_log : Holds trace (PrefixPastLog replica) → length trace.log < dump.applied
@@ -173,8 +173,8 @@ module _ (trace : Recording) (replica : ℕ) (dump : Image) (is : slice_get trac
   rests_on_more holds = subst (λ (d : Image). RestsOnMore trace replica d) (own_dump replica holds.0 refl holds.1) holds.2
 
   -- a fault of a lower number comes earlier
-  comes_earlier : (other fault : DumpFault) → number_in other < number_in fault → dumps.Holds trace.layout.depth dump (space_after trace (take dump.applied trace.log)) other
-      → dumps.Holds trace.layout.depth dump (space_after trace (take dump.applied trace.log)) fault → dumps.rank other < dumps.rank fault
+  comes_earlier : (other fault : DumpFault) → number_in other < number_in fault → dumps.HoldsOfDump trace.layout.depth dump (space_after trace (take dump.applied trace.log)) other
+      → dumps.HoldsOfDump trace.layout.depth dump (space_after trace (take dump.applied trace.log)) fault → dumps.rank_in_dump other < dumps.rank_in_dump fault
   comes_earlier (of_dump.MissingFrame a) (of_dump.MissingFrame b) lt f g = absurd (omega arith)
   comes_earlier (of_dump.MissingFrame a) (of_dump.SharedFrame b) lt f g = absurd cc
   comes_earlier (of_dump.MissingFrame a) (of_dump.ReservedBit b i) lt f g = absurd cc
@@ -261,7 +261,7 @@ module _ (trace : Recording) (replica : ℕ) (dump : Image) (is : slice_get trac
         | inr there ↦ none there.0 there.1
       ]
 
-      pub first_of_replica : (fault : DumpFault) → dumps.IsFirst trace.layout.depth dump (space_after trace (take dump.applied trace.log)) fault → IsFirstAmong (IsDumpFaultAt replica) trace (at_replica replica fault)
+      pub first_of_replica : (fault : DumpFault) → dumps.IsFirstOfDump trace.layout.depth dump (space_after trace (take dump.applied trace.log)) fault → IsFirstAmong (IsDumpFaultAt replica) trace (at_replica replica fault)
       first_of_replica fault first = record {
         is_among = is_of_replica replica fault;
         holds = told fault first.holds;

@@ -5,7 +5,7 @@ use Rattle.std.proofs.lemmas.Bool.{false≢true, eqb-true, eq-eqb, cond-true, co
 use Rattle.std.proofs.lemmas.Option.{slice_get_past, slice_get-get_or}
 use Rattle.std.proofs.lemmas.List.Elements.{All-get_or}
 use Rattle.nr_trace.specs.Recording.{Recording, IsRecording, IsEvent}
-use Rattle.nr_trace.specs.Calls.{Made, made_by, call_of, Answered, reply_in, reply_of, Answers, IsCall}
+use Rattle.nr_trace.specs.Calls.{Invocation, made_by, call_of, Response, reply_in, reply_of, Answers, IsCall}
 use Rattle.nr_trace.specs.Faults.{IsReplyWith}
 use Rattle.nr_trace.specs.declared.event.Event.{Event}
 use Rattle.nr_trace.specs.declared.event.Event.TheVariants.{Call, Reply}
@@ -37,14 +37,14 @@ pub read_call : (trace : Recording) (i : ℕ) (event : Event) → i < length tra
 read_call trace i event lt e = ap (λ o. option_and_then made_by o) (slice_get-get_or trace.events i event lt ∙ ap (λ x. Some x) (sym e))
 
 -- a reply to the call is a reply that names it
-pub answers_by : (trace : Recording) (i call : ℕ) (reply : Answered) → reply_of trace i ≡ Some reply → reply.call ≡ call → Answers trace i call
+pub answers_by : (trace : Recording) (i call : ℕ) (reply : Response) → reply_of trace i ≡ Some reply → reply.call ≡ call → Answers trace i call
 answers_by trace i call reply is same =
-    subst (λ (o : Option Answered). IsSome (option_and_then (λ (r : Answered). if r.call == call then Some r else None) o)) (sym is)
+    subst (λ (o : Option Response). IsSome (option_and_then (λ (r : Response). if r.call == call then Some r else None) o)) (sym is)
     (ap is_some (cond-true (reply.call == call) (Some reply) None (eq-eqb reply.call call same)))
 
-pub reply_by : (trace : Recording) (i call : ℕ) → Answers trace i call → (reply : Answered) × (reply_of trace i ≡ Some reply) × (reply.call ≡ call)
+pub reply_by : (trace : Recording) (i call : ℕ) → Answers trace i call → (reply : Response) × (reply_of trace i ≡ Some reply) × (reply.call ≡ call)
 reply_by trace i call h =
-    elim (reply_of trace i) as (λ o. IsSome (option_and_then (λ (r : Answered). if r.call == call then Some r else None) o) → (reply : Answered) × (o ≡ Some reply) × (reply.call ≡ call)) [
+    elim (reply_of trace i) as (λ o. IsSome (option_and_then (λ (r : Response). if r.call == call then Some r else None) o) → (reply : Response) × (o ≡ Some reply) × (reply.call ≡ call)) [
       | None ↦ λ h. absurd (false≢true h)
       | Some reply ↦ λ h. elim (cases_Bool (reply.call == call)) [
         | inl t ↦ (reply, refl, eqb-true reply.call call t)
@@ -53,28 +53,28 @@ reply_by trace i call h =
     ] h
 
 -- where no reply stands there is none of any kind
-pub no_reply_with : (trace : Recording) (i : ℕ) (P : Answered → Type 0) → reply_of trace i ≡ None → IsReplyWith trace i P → ⊥
+pub no_reply_with : (trace : Recording) (i : ℕ) (P : Response → Type 0) → reply_of trace i ≡ None → IsReplyWith trace i P → ⊥
 no_reply_with trace i P none h = let there = h.1 in cc
 
 pub no_answer : (trace : Recording) (i call : ℕ) → reply_of trace i ≡ None → Answers trace i call → ⊥
 no_answer trace i call none h = let there = (reply_by trace i call h).1 in cc
 
 -- a reply is to no other call than the one that it names
-pub answers_only : (trace : Recording) (i call : ℕ) (reply : Answered) → reply_of trace i ≡ Some reply → Answers trace i call → reply.call ≡ call
+pub answers_only : (trace : Recording) (i call : ℕ) (reply : Response) → reply_of trace i ≡ Some reply → Answers trace i call → reply.call ≡ call
 answers_only trace i call reply is h =
     let other = reply_by trace i call h in
     let one = is in
     let two = other.1 in
     let named = other.2 in
     let same : reply ≡ other.0 = cc in
-    ap (λ (r : Answered). r.call) same ∙ named
+    ap (λ (r : Response). r.call) same ∙ named
 
-pub is_call_from : (trace : Recording) (i : ℕ) (made : Made) → call_of trace i ≡ Some made → IsCall trace i
+pub is_call_from : (trace : Recording) (i : ℕ) (made : Invocation) → call_of trace i ≡ Some made → IsCall trace i
 is_call_from trace i made e = ap is_some e
 
-pub made_from : (trace : Recording) (i : ℕ) → IsCall trace i → (made : Made) × (call_of trace i ≡ Some made)
+pub made_from : (trace : Recording) (i : ℕ) → IsCall trace i → (made : Invocation) × (call_of trace i ≡ Some made)
 made_from trace i h =
-    elim (call_of trace i) as (λ o. IsSome o → (made : Made) × (o ≡ Some made)) [
+    elim (call_of trace i) as (λ o. IsSome o → (made : Invocation) × (o ≡ Some made)) [
       | None ↦ λ h. absurd (false≢true h)
       | Some made ↦ λ h. (made, refl)
     ] h

@@ -13,8 +13,8 @@ use Rattle.nr_trace.specs.declared.fault.Fault.TheVariants.{Format, ThreadOpen, 
 use Rattle.vs_types.specs.Refusal.{IfRefused}
 use Rattle.vs_types.specs.declared.refusal.Fail.{Fail}
 use Rattle.vs_types.specs.declared.refusal.Fail.TheVariants.{Memory, Refused}
-use Rattle.nr_audit.specs.Search.{HasNone, IsFirstAmong}
-use Rattle.nr_audit.specs.Passes.{IsCallFault, IsLogFault, IsPositionFault, IsFloorFault, IsAnswerFault, IsDumpFault}
+use Rattle.nr_audit.specs.inside.Search.{HasNone, IsFirstAmong}
+use Rattle.nr_audit.specs.inside.Passes.{IsCallFault, IsLogFault, IsPositionFault, IsFloorFault, IsAnswerFault, IsDumpFault}
 use Rattle.nr_audit.proofs.Ranks.{earlier_cases}
 
 -- the pass that looks for a fault

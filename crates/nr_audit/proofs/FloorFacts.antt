@@ -5,14 +5,14 @@ use Rattle.std.proofs.lemmas.Bool.{cases_lt, false≢true}
 use Rattle.nr_trace.specs.Recording.{Recording}
 use Rattle.nr_trace.specs.Calls.{call_of, IsCall}
 use Rattle.nr_trace.specs.Orders.{floor}
-use Rattle.nr_trace.specs.Faults.{Holds, Earlier, StandsBehind}
+use Rattle.nr_trace.specs.Faults.{Holds, Earlier, StandsAfter}
 use Rattle.nr_trace.specs.Laws.{HasCleanLog}
-use Rattle.nr_trace.specs.Reading.{Finds}
+use Rattle.nr_trace.specs.inside.Reading.{Finds}
 use Rattle.nr_trace.specs.declared.fault.Fault.{Fault}
 use Rattle.nr_trace.specs.declared.fault.Fault.TheVariants.{Early}
 use Rattle.nr_trace.proofs.LawsOfCalls.{call_within, stands_once, update_is_call, read_is_call}
-use Rattle.nr_audit.specs.Search.{HasNone, IsFirstAmong}
-use Rattle.nr_audit.specs.Passes.{IsFloorFaultAt, IsFloorFault}
+use Rattle.nr_audit.specs.inside.Search.{HasNone, IsFirstAmong}
+use Rattle.nr_audit.specs.inside.Passes.{IsFloorFaultAt, IsFloorFault}
 use Rattle.nr_audit.proofs.Ranks.{IsRanked, none_of_all, first_of_all, lower_number}
 
 pub floor_ranks : (trace : Recording) → IsRanked IsFloorFaultAt 5 trace
@@ -23,7 +23,7 @@ none_at : (trace : Recording) (index : ℕ) → (Holds trace (Early index) → �
 none_at trace index none (Early call) among holds = none (subst (λ c. Holds trace (Early c)) among holds)
 none_at trace index none fault among holds = absurd among
 
-stands_as_call : (trace : Recording) (call entries : ℕ) → StandsBehind trace call entries → IsCall trace call
+stands_as_call : (trace : Recording) (call entries : ℕ) → StandsAfter trace call entries → IsCall trace call
 stands_as_call trace call entries (inl h) = update_is_call trace call h.0
 stands_as_call trace call entries (inr h) = read_is_call trace call h.0
 
@@ -32,7 +32,7 @@ pub none_at_other : (trace : Recording) (index : ℕ) → call_of trace index �
 none_at_other trace index none = none_at trace index (λ held. false≢true (sym (ap is_some none) ∙ stands_as_call trace index held.0 held.1))
 
 -- a call that stands after at least as many entries as its floor, or nowhere
-pub none_at_call : (trace : Recording) (index : ℕ) (found : Option ℕ) → HasCleanLog trace → Finds (StandsBehind trace index) found
+pub none_at_call : (trace : Recording) (index : ℕ) (found : Option ℕ) → HasCleanLog trace → Finds (StandsAfter trace index) found
     → ((entries : ℕ) → found ≡ Some entries → floor trace index ≤ entries) → HasNone (IsFloorFaultAt index) trace
 none_at_call trace index None clean none kept = none_at trace index (λ held. none held.0 held.1)
 none_at_call trace index (Some entries) clean stands kept = none_at trace index (λ held.
@@ -53,9 +53,9 @@ no_earlier trace index other among earlier = absurd among
 
 -- a call below its floor, after calls that are not below theirs
 pub first_early : (trace : Recording) (index : ℕ) (found : Option ℕ) (entries : ℕ) → ((lower : ℕ) → lower < index → HasNone (IsFloorFaultAt lower) trace)
-    → Finds (StandsBehind trace index) found → found ≡ Some entries → entries < floor trace index → IsFirstAmong IsFloorFault trace (Early index)
+    → Finds (StandsAfter trace index) found → found ≡ Some entries → entries < floor trace index → IsFirstAmong IsFloorFault trace (Early index)
 first_early trace index found entries none finds is low = first_of_all IsFloorFaultAt 5 trace (floor_ranks trace) index (Early index) none (record {
   is_among = refl;
-  holds = (entries, subst (Finds (StandsBehind trace index)) is finds, low);
+  holds = (entries, subst (Finds (StandsAfter trace index)) is finds, low);
   none_earlier = λ other among holds earlier. no_earlier trace index other among earlier;
 })

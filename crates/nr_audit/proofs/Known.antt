@@ -4,16 +4,16 @@ use Rattle.std.specs.Prelude.{slice_get}
 use Rattle.std.proofs.lemmas.List.{get_or-replicate, get_or_past, length-set, length-replicate}
 use Rattle.std.proofs.lemmas.Bool.{cases_lt, cases_eq}
 use Rattle.nr_trace.specs.Recording.{Recording}
-use Rattle.nr_trace.specs.Calls.{Made, call_of, Answered, reply_of, Answers, IsCall}
+use Rattle.nr_trace.specs.Calls.{Invocation, call_of, Response, reply_of, Answers, IsCall}
 use Rattle.nr_trace.specs.Faults.{Holds, Earlier, OpensTwice, IsReplyWith}
 use Rattle.nr_trace.specs.declared.fault.Fault.{Fault}
 use Rattle.nr_trace.specs.declared.fault.Fault.TheVariants.{ThreadOpen, NoSuchCall, AnsweredTwice}
 use Rattle.nr_trace.specs.declared.event.Event.TheVariants.{Call, Reply}
 use Rattle.vs_types.specs.declared.request.Query.{Query}
 use Rattle.vs_types.specs.declared.answer.Answer.{Answer}
-use Rattle.nr_audit.specs.Search.{HasNone, IsFirstAmong}
-use Rattle.nr_audit.specs.Passes.{IsCallFaultAt, IsCallFault}
-use Rattle.nr_audit.specs.Tables.{IsReplyBelow, AreReplies}
+use Rattle.nr_audit.specs.inside.Search.{HasNone, IsFirstAmong}
+use Rattle.nr_audit.specs.inside.Passes.{IsCallFaultAt, IsCallFault}
+use Rattle.nr_audit.specs.inside.Tables.{IsReplyBelow, AreReplies}
 use Rattle.nr_audit.proofs.Ranks.{IsRanked, none_of_all, first_of_all, lower_number}
 use Rattle.nr_audit.proofs.EventFacts.{made_here, no_reply_at_call, reply_here, no_call_at_reply, no_call_past, no_reply_past, answers_by, no_reply_with, no_answer, answers_only}
 
@@ -21,8 +21,8 @@ pub record IsKnown (trace : Recording) (end : ℕ) (last table : List (Option �
   pub threads : length last ≡ trace.layout.threads
   pub one_each : length table ≡ length trace.events
   pub replies : (call : ℕ) → call < length table → IsReplyBelow trace end call (get_or table call None)
-  pub last_made : (thread call : ℕ) → get_or last thread None ≡ Some call → (made : Made) × (call < end) × (call_of trace call ≡ Some made) × (made.thread ≡ thread)
-  pub others_answered : (call : ℕ) (made : Made) → call < end → call_of trace call ≡ Some made
+  pub last_made : (thread call : ℕ) → get_or last thread None ≡ Some call → (made : Invocation) × (call < end) × (call_of trace call ≡ Some made) × (made.thread ≡ thread)
+  pub others_answered : (call : ℕ) (made : Invocation) → call < end → call_of trace call ≡ Some made
       → (get_or last made.thread None ≡ Some call) ⊎ ((index : ℕ) × (index < end) × Answers trace index call)
 
 pub nothing : (n i : ℕ) → ◌≡◌ {A = Option ℕ} (get_or (replicate n None) i None) None
@@ -103,7 +103,7 @@ call_ranks trace index (NoSuchCall event) among = (3, ap (λ i. 2 ∷ i ∷ 3 �
 call_ranks trace index (AnsweredTwice event) among = (4, ap (λ i. 2 ∷ i ∷ 4 ∷ []) among)
 call_ranks trace index fault among = absurd among
 
--- the first fault of an event, behind events that have none, is the first of all calls
+-- the first fault of an event, after events that have none, is the first of all calls
 pub first_call_fault : (trace : Recording) (index : ℕ) (fault : Fault) → ((lower : ℕ) → lower < index → HasNone (IsCallFaultAt lower) trace) → IsFirstAmong (IsCallFaultAt index) trace fault → IsFirstAmong IsCallFault trace fault
 first_call_fault trace = first_of_all IsCallFaultAt 2 trace (call_ranks trace)
 
@@ -156,7 +156,7 @@ module _ (trace : Recording) (end : ℕ) (last table : List (Option ℕ)) (known
             let mine = made_here trace end replica thread request is in
             let told = subst (λ i. call_of trace i ≡ Some made) it e in
             let same : made ≡ record { replica = replica; thread = thread; request = request } = cc in
-            inl (subst (λ (m : Made). get_or (set last thread (Some end)) m.thread None ≡ Some call) (sym same)
+            inl (subst (λ (m : Invocation). get_or (set last thread (Some end)) m.thread None ≡ Some call) (sym same)
             (get_or-set_same last thread (Some end) None (omega (arith, known.threads)) ∙ ap (λ i. Some i) (sym it)))
       ];
     }
@@ -168,7 +168,7 @@ module _ (trace : Recording) (end : ℕ) (last table : List (Option ℕ)) (known
         let mine = made_here trace end replica thread request is in
         let told = twice.is_made in
         let same : twice.made ≡ record { replica = replica; thread = thread; request = request } = cc in
-        let threads : twice.earlier_made.thread ≡ thread = twice.same_thread ∙ ap (λ (m : Made). m.thread) same in
+        let threads : twice.earlier_made.thread ≡ thread = twice.same_thread ∙ ap (λ (m : Invocation). m.thread) same in
         elim (known.others_answered twice.earlier twice.earlier_made twice.is_earlier twice.is_earlier_made) [
           | inl at_last ↦
               let reply = answered trace end twice.earlier (get_or table twice.earlier None) (idle twice.earlier (subst (λ t. get_or last t None ≡ Some twice.earlier) threads at_last)) (known.replies twice.earlier (below_table twice.earlier twice.is_earlier)) in
@@ -205,7 +205,7 @@ module _ (trace : Recording) (end : ℕ) (last table : List (Option ℕ)) (known
     no_open : OpensTwice trace end → ⊥
     no_open twice = let none = no_call_at_reply trace end call at answer is in let told = twice.is_made in cc
 
-    names_it : (P : Answered → Type 0) → IsReplyWith trace end P → P (record { call = call; at = at; answer = answer })
+    names_it : (P : Response → Type 0) → IsReplyWith trace end P → P (record { call = call; at = at; answer = answer })
     names_it P held = let own = mine in let told = held.1 in let same : held.0 ≡ record { call = call; at = at; answer = answer } = cc in subst P same held.2
 
     -- a reply to what is no earlier call

@@ -5,13 +5,13 @@ use Rattle.std.proofs.lemmas.List.{length-set, length-replicate}
 use Rattle.std.proofs.lemmas.Bool.{cases_lt, cases_eq, false≢true}
 use Rattle.std.proofs.lemmas.Option.{slice_get_past}
 use Rattle.nr_trace.specs.Recording.{Recording}
-use Rattle.nr_trace.specs.Calls.{Made, made_by, operation_in, IsUpdate}
+use Rattle.nr_trace.specs.Calls.{Invocation, made_by, operation_in, IsUpdate}
 use Rattle.nr_trace.specs.Faults.{Holds, Earlier, HasPlaced}
 use Rattle.nr_trace.specs.declared.fault.Fault.{Fault}
 use Rattle.nr_trace.specs.declared.fault.Fault.TheVariants.{NotAnUpdate, PlacedTwice}
-use Rattle.nr_audit.specs.Search.{HasNone, IsFirstAmong}
-use Rattle.nr_audit.specs.Passes.{IsLogFaultAt, IsLogFault}
-use Rattle.nr_audit.specs.Tables.{IsPlaceBelow, ArePlaces}
+use Rattle.nr_audit.specs.inside.Search.{HasNone, IsFirstAmong}
+use Rattle.nr_audit.specs.inside.Passes.{IsLogFaultAt, IsLogFault}
+use Rattle.nr_audit.specs.inside.Tables.{IsPlaceBelow, ArePlaces}
 use Rattle.nr_audit.proofs.Ranks.{IsRanked, none_of_all, first_of_all, lower_number}
 use Rattle.nr_audit.proofs.Known.{nothing}
 
@@ -57,7 +57,7 @@ log_ranks trace place (NotAnUpdate at) among = (5, ap (λ i. 3 ∷ i ∷ 5 ∷ [
 log_ranks trace place (PlacedTwice at) among = (6, ap (λ i. 3 ∷ i ∷ 6 ∷ []) among)
 log_ranks trace place fault among = absurd among
 
--- the first fault of a place, behind places that have none, is the first of the log
+-- the first fault of a place, after places that have none, is the first of the log
 pub first_log_fault : (trace : Recording) (place : ℕ) (fault : Fault) → ((lower : ℕ) → lower < place → HasNone (IsLogFaultAt lower) trace) → IsFirstAmong (IsLogFaultAt place) trace fault → IsFirstAmong IsLogFault trace fault
 first_log_fault trace = first_of_all IsLogFaultAt 3 trace (log_ranks trace)
 
@@ -88,7 +88,7 @@ twice_is_first trace place fault update among holds earlier = absurd among
 pub update_within : (trace : Recording) (call : ℕ) → IsUpdate trace call → call < length trace.events
 update_within trace call update = elim (cases_lt call (length trace.events)) [
   | inl low ↦ low
-  | inr past ↦ absurd (false≢true (sym (ap is_some (ap (λ o. option_and_then (λ (made : Made). operation_in made.request) (option_and_then made_by o)) (slice_get_past trace.events call past))) ∙ update))
+  | inr past ↦ absurd (false≢true (sym (ap is_some (ap (λ o. option_and_then (λ (made : Invocation). operation_in made.request) (option_and_then made_by o)) (slice_get_past trace.events call past))) ∙ update))
 ]
 
 module _ (trace : Recording) (end call : ℕ) (table : List (Option ℕ)) (logged : IsLogged trace end table) (has : slice_get trace.log end ≡ Some call) where

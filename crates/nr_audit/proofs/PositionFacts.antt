@@ -3,7 +3,7 @@ use Rattle.std.proofs.Common.{◌≡◌, ◌≢◌, ℕ, ◌<◌, ◌≤◌, [],
 use Rattle.std.specs.Prelude.{slice_get, is_some, option_map, option_and_then}
 use Rattle.std.proofs.lemmas.Bool.{cases_lt, false≢true}
 use Rattle.nr_trace.specs.Recording.{Recording}
-use Rattle.nr_trace.specs.Calls.{Made, call_of, operation_in, operation_of, address_in, address_of, IsUpdate, IsRead, Answered, reply_of}
+use Rattle.nr_trace.specs.Calls.{Invocation, call_of, operation_in, operation_of, address_in, address_of, IsUpdate, IsRead, Response, reply_of}
 use Rattle.nr_trace.specs.Faults.{Holds, Earlier, IsReplyWith}
 use Rattle.nr_trace.specs.declared.fault.Fault.{Fault}
 use Rattle.nr_trace.specs.declared.fault.Fault.TheVariants.{NotPlaced, PastLog}
@@ -12,24 +12,24 @@ use Rattle.vs_types.specs.declared.op.Action.{Action}
 use Rattle.vs_types.specs.declared.request.Query.{Query}
 use Rattle.vs_types.specs.declared.request.Query.TheVariants.{Update, Resolve}
 use Rattle.vs_types.specs.declared.answer.Answer.{Answer}
-use Rattle.nr_audit.specs.Search.{HasNone, IsFirstAmong}
-use Rattle.nr_audit.specs.Passes.{IsPositionFaultAt, IsPositionFault}
+use Rattle.nr_audit.specs.inside.Search.{HasNone, IsFirstAmong}
+use Rattle.nr_audit.specs.inside.Passes.{IsPositionFaultAt, IsPositionFault}
 use Rattle.nr_audit.proofs.Ranks.{IsRanked, none_of_all, first_of_all, lower_number}
 use Rattle.nr_audit.proofs.EventFacts.{reply_here, no_reply_past, no_reply_with}
 
-asked : (o : Option Made) → option_and_then (λ (made : Made). operation_in made.request) o ≡ option_and_then operation_in (option_map (λ (made : Made). made.request) o)
+asked : (o : Option Invocation) → option_and_then (λ (made : Invocation). operation_in made.request) o ≡ option_and_then operation_in (option_map (λ (made : Invocation). made.request) o)
 asked None = refl
 asked (Some made) = refl
 
-asked_at : (o : Option Made) → option_and_then (λ (made : Made). address_in made.request) o ≡ option_and_then address_in (option_map (λ (made : Made). made.request) o)
+asked_at : (o : Option Invocation) → option_and_then (λ (made : Invocation). address_in made.request) o ≡ option_and_then address_in (option_map (λ (made : Invocation). made.request) o)
 asked_at None = refl
 asked_at (Some made) = refl
 
 -- what a query tells of its call
-pub operation_by : (trace : Recording) (call : ℕ) (query : Option Query) → query ≡ option_map (λ (made : Made). made.request) (call_of trace call) → operation_of trace call ≡ option_and_then operation_in query
+pub operation_by : (trace : Recording) (call : ℕ) (query : Option Query) → query ≡ option_map (λ (made : Invocation). made.request) (call_of trace call) → operation_of trace call ≡ option_and_then operation_in query
 operation_by trace call query e = asked (call_of trace call) ∙ ap (λ q. option_and_then operation_in q) (sym e)
 
-pub address_by : (trace : Recording) (call : ℕ) (query : Option Query) → query ≡ option_map (λ (made : Made). made.request) (call_of trace call) → address_of trace call ≡ option_and_then address_in query
+pub address_by : (trace : Recording) (call : ℕ) (query : Option Query) → query ≡ option_map (λ (made : Invocation). made.request) (call_of trace call) → address_of trace call ≡ option_and_then address_in query
 address_by trace call query e = asked_at (call_of trace call) ∙ ap (λ q. option_and_then address_in q) (sym e)
 
 pub is_update : (trace : Recording) (call : ℕ) (action : Action) → operation_of trace call ≡ Some action → IsUpdate trace call
@@ -54,7 +54,7 @@ position_ranks trace index (NotPlaced event) among = (7, ap (λ i. 4 ∷ i ∷ 7
 position_ranks trace index (PastLog event) among = (8, ap (λ i. 4 ∷ i ∷ 8 ∷ []) among)
 position_ranks trace index fault among = absurd among
 
--- the first fault of an event, behind events that have none, is the first of all positions
+-- the first fault of an event, after events that have none, is the first of all positions
 pub first_position_fault : (trace : Recording) (index : ℕ) (fault : Fault) → ((lower : ℕ) → lower < index → HasNone (IsPositionFaultAt lower) trace) → IsFirstAmong (IsPositionFaultAt index) trace fault → IsFirstAmong IsPositionFault trace fault
 first_position_fault trace = first_of_all IsPositionFaultAt 4 trace (position_ranks trace)
 
@@ -79,11 +79,11 @@ past_is_first trace index (NotPlaced j) none among holds earlier = none (subst (
 past_is_first trace index (PastLog j) none among holds earlier = let h = lower_number 4 j 8 index 8 earlier among in absurd (omega arith)
 past_is_first trace index fault none among holds earlier = absurd among
 
-module _ (trace : Recording) (index call at : ℕ) (answer : Answer) (is : slice_get trace.events index ≡ Some (Reply call at answer)) (query : Option Query) (asks : query ≡ option_map (λ (made : Made). made.request) (call_of trace call)) where
+module _ (trace : Recording) (index call at : ℕ) (answer : Answer) (is : slice_get trace.events index ≡ Some (Reply call at answer)) (query : Option Query) (asks : query ≡ option_map (λ (made : Invocation). made.request) (call_of trace call)) where
   mine : reply_of trace index ≡ Some (record { call = call; at = at; answer = answer })
   mine = reply_here trace index call at answer is
 
-  it_is : (P : Answered → Type 0) → IsReplyWith trace index P → P (record { call = call; at = at; answer = answer })
+  it_is : (P : Response → Type 0) → IsReplyWith trace index P → P (record { call = call; at = at; answer = answer })
   it_is P held = let own = mine in let told = held.1 in let same : held.0 ≡ record { call = call; at = at; answer = answer } = cc in subst P same held.2
 
   pub first_not_placed : (action : Action) → query ≡ Some (Update action) → slice_get trace.log at ≢ Some call → IsFirstAmong (IsPositionFaultAt index) trace (NotPlaced index)

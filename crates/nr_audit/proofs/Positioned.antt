@@ -5,21 +5,21 @@ use Rattle.std.proofs.lemmas.Bool.{cases_lt, cases_eq}
 use Rattle.std.proofs.lemmas.List.{length-set}
 use Rattle.std.proofs.lemmas.Option.{slice_get_within, same_Some}
 use Rattle.nr_trace.specs.Recording.{Recording}
-use Rattle.nr_trace.specs.Calls.{Answered, reply_of, reply_to, address_of, IsUpdate, IsRead}
-use Rattle.nr_trace.specs.Faults.{StandsBehind}
+use Rattle.nr_trace.specs.Calls.{Response, reply_of, reply_to, address_of, IsUpdate, IsRead}
+use Rattle.nr_trace.specs.Faults.{StandsAfter}
 use Rattle.nr_trace.specs.Laws.{HasCleanLog}
-use Rattle.nr_trace.specs.Reading.{Finds}
+use Rattle.nr_trace.specs.inside.Reading.{Finds}
 use Rattle.nr_trace.specs.declared.fault.Fault.TheVariants.{NotAnUpdate}
 use Rattle.nr_trace.proofs.LawsOfCalls.{update_from_not_not, reply_event, reply_is_first, reply_in_event, not_both}
-use Rattle.nr_audit.specs.Search.{HasNone}
-use Rattle.nr_audit.specs.Passes.{IsLogFault}
-use Rattle.nr_audit.specs.Tables.{IsPlaceBelow, ArePlaces, ArePositions}
-use Rattle.nr_audit.specs.Told.{entries_seen}
+use Rattle.nr_audit.specs.inside.Search.{HasNone}
+use Rattle.nr_audit.specs.inside.Passes.{IsLogFault}
+use Rattle.nr_audit.specs.inside.Tables.{IsPlaceBelow, ArePlaces, ArePositions}
+use Rattle.nr_audit.specs.inside.Told.{entries_seen}
 
 -- a reply of an event below an end gives the read this number of entries
 pub record SawBelow (trace : Recording) (end call entries : ℕ) : Type 0 where
   pub index : ℕ
-  pub reply : Answered
+  pub reply : Response
   pub below : index < end
   pub is_reply : reply_of trace index ≡ Some reply
   pub to_call : reply.call ≡ call
@@ -61,7 +61,7 @@ later_saw trace end call entries saw = record {
 }
 
 -- an event that is no reply to this read tells nothing of it
-finds_more : (trace : Recording) (end call : ℕ) (o : Option ℕ) → ((reply : Answered) → IsRead trace call → reply_of trace end ≡ Some reply → reply.call ≡ call → ⊥)
+finds_more : (trace : Recording) (end call : ℕ) (o : Option ℕ) → ((reply : Response) → IsRead trace call → reply_of trace end ≡ Some reply → reply.call ≡ call → ⊥)
     → Finds (StandsBelow trace end call) o → Finds (StandsBelow trace (end + 1) call) o
 finds_more trace end call (Some entries) other (inl u) = inl u
 finds_more trace end call (Some entries) other (inr r) = inr (r.0, later_saw trace end call entries r.1)
@@ -73,7 +73,7 @@ finds_more trace end call None other none = λ entries stands. elim stands [
   ]
 ]
 
-pub positioned_stays : (trace : Recording) (end : ℕ) (table : List (Option ℕ)) → ((call : ℕ) (reply : Answered) → IsRead trace call → reply_of trace end ≡ Some reply → reply.call ≡ call → ⊥)
+pub positioned_stays : (trace : Recording) (end : ℕ) (table : List (Option ℕ)) → ((call : ℕ) (reply : Response) → IsRead trace call → reply_of trace end ≡ Some reply → reply.call ≡ call → ⊥)
     → IsPositioned trace end table → IsPositioned trace (end + 1) table
 positioned_stays trace end table other are = record {
   one_each = are.one_each;
@@ -81,7 +81,7 @@ positioned_stays trace end table other are = record {
 }
 
 -- an event that is a reply to a read tells the position of that read alone
-pub positioned_grows : (trace : Recording) (end : ℕ) (table : List (Option ℕ)) (own : Answered) → reply_of trace end ≡ Some own → IsRead trace own.call → own.call < length table
+pub positioned_grows : (trace : Recording) (end : ℕ) (table : List (Option ℕ)) (own : Response) → reply_of trace end ≡ Some own → IsRead trace own.call → own.call < length table
     → IsPositioned trace end table → IsPositioned trace (end + 1) (set table own.call (Some own.at))
 positioned_grows trace end table own is read within are = record {
   one_each = length-set table own.call (Some own.at) ∙ are.one_each;
@@ -96,20 +96,20 @@ positioned_grows trace end table own is read within are = record {
         (are.each call (omega (arith, length-set table own.call (Some own.at)))))
   ];
 } where
-  other_call : (call : ℕ) (reply : Answered) → reply_of trace end ≡ Some reply → reply.call ≡ call → call ≡ own.call
-  other_call call reply there to_call = sym to_call ∙ ap (λ (r : Answered). r.call) (same_Some reply own (sym there ∙ is))
+  other_call : (call : ℕ) (reply : Response) → reply_of trace end ≡ Some reply → reply.call ≡ call → call ≡ own.call
+  other_call call reply there to_call = sym to_call ∙ ap (λ (r : Response). r.call) (same_Some reply own (sym there ∙ is))
 
 -- no reply, one to an update and one to nothing
-pub no_reply_told : (trace : Recording) (end : ℕ) → reply_of trace end ≡ None → (call : ℕ) (reply : Answered) → IsRead trace call → reply_of trace end ≡ Some reply → reply.call ≡ call → ⊥
+pub no_reply_told : (trace : Recording) (end : ℕ) → reply_of trace end ≡ None → (call : ℕ) (reply : Response) → IsRead trace call → reply_of trace end ≡ Some reply → reply.call ≡ call → ⊥
 no_reply_told trace end none call reply read is to_call = cc
 
-pub no_read_told : (trace : Recording) (end : ℕ) (own : Answered) → reply_of trace end ≡ Some own → (IsRead trace own.call → ⊥) → (call : ℕ) (reply : Answered) → IsRead trace call → reply_of trace end ≡ Some reply → reply.call ≡ call → ⊥
+pub no_read_told : (trace : Recording) (end : ℕ) (own : Response) → reply_of trace end ≡ Some own → (IsRead trace own.call → ⊥) → (call : ℕ) (reply : Response) → IsRead trace call → reply_of trace end ≡ Some reply → reply.call ≡ call → ⊥
 no_read_told trace end own is none call reply read there to_call =
-    none (subst (λ c. IsRead trace c) (sym to_call ∙ ap (λ (r : Answered). r.call) (same_Some reply own (sym there ∙ is))) read)
+    none (subst (λ c. IsRead trace c) (sym to_call ∙ ap (λ (r : Response). r.call) (same_Some reply own (sym there ∙ is))) read)
 
 -- ---- after the last event
 
-to_position : (trace : Recording) (call : ℕ) (o : Option ℕ) → HasCleanLog trace → Finds (StandsBelow trace (length trace.events) call) o → Finds (StandsBehind trace call) o
+to_position : (trace : Recording) (call : ℕ) (o : Option ℕ) → HasCleanLog trace → Finds (StandsBelow trace (length trace.events) call) o → Finds (StandsAfter trace call) o
 to_position trace call (Some entries) clean (inl u) = inl u
 to_position trace call (Some entries) clean (inr r) =
     inr (r.0, r.1.reply, ap (reply_to trace) (sym r.1.to_call) ∙ reply_is_first trace r.1.index r.1.reply clean r.1.is_reply, r.1.saw)
@@ -119,7 +119,7 @@ to_position trace call None clean none = λ entries stands. elim stands [
       let event = reply_event trace call r.1 r.2 in
       none entries (inr (r.0, record { index = event.0; reply = r.1; below = reply_below trace event.0 r.1 event.1; is_reply = event.1; to_call = event.2; saw = r.3 }))
 ] where
-  reply_below : (trace : Recording) (index : ℕ) (reply : Answered) → reply_of trace index ≡ Some reply → index < length trace.events
+  reply_below : (trace : Recording) (index : ℕ) (reply : Response) → reply_of trace index ≡ Some reply → index < length trace.events
   reply_below trace index reply is = let (event, at, own) = reply_in_event (slice_get trace.events index) reply is in slice_get_within trace.events index event at
 
 pub positions_at_end : (trace : Recording) (table : List (Option ℕ)) → HasCleanLog trace → IsPositioned trace (length trace.events) table → ArePositions trace table
@@ -130,19 +130,19 @@ positions_at_end trace table clean are = record {
 
 -- ---- how many entries a read saw
 
-seen_of : (address : Option ℕ) (reply : Option Answered) (at : ℕ) (own : Answered) → IsSome address → reply ≡ Some own → own.at ≡ at
-    → ◌≡◌ {A = Option ℕ} (option_and_then (λ (a : ℕ). option_map (λ (r : Answered). r.at) reply) address) (Some at)
+seen_of : (address : Option ℕ) (reply : Option Response) (at : ℕ) (own : Response) → IsSome address → reply ≡ Some own → own.at ≡ at
+    → ◌≡◌ {A = Option ℕ} (option_and_then (λ (a : ℕ). option_map (λ (r : Response). r.at) reply) address) (Some at)
 seen_of None reply at own read is saw = absurd cc
-seen_of (Some address) reply at own read is saw = ap (option_map (λ (r : Answered). r.at)) is ∙ ap (λ n. Some n) saw
+seen_of (Some address) reply at own read is saw = ap (option_map (λ (r : Response). r.at)) is ∙ ap (λ n. Some n) saw
 
-seen_none : (address : Option ℕ) (reply : Option Answered) → reply ≡ None → ◌≡◌ {A = Option ℕ} (option_and_then (λ (a : ℕ). option_map (λ (r : Answered). r.at) reply) address) None
+seen_none : (address : Option ℕ) (reply : Option Response) → reply ≡ None → ◌≡◌ {A = Option ℕ} (option_and_then (λ (a : ℕ). option_map (λ (r : Response). r.at) reply) address) None
 seen_none None reply none = refl
-seen_none (Some address) reply none = ap (option_map (λ (r : Answered). r.at)) none
+seen_none (Some address) reply none = ap (option_map (λ (r : Response). r.at)) none
 
-pub seen_at_position : (trace : Recording) (call : ℕ) (o : Option ℕ) → IsRead trace call → Finds (StandsBehind trace call) o → o ≡ entries_seen trace call
+pub seen_at_position : (trace : Recording) (call : ℕ) (o : Option ℕ) → IsRead trace call → Finds (StandsAfter trace call) o → o ≡ entries_seen trace call
 seen_at_position trace call (Some entries) read (inl u) = absurd (not_both trace call u.0 read)
 seen_at_position trace call (Some entries) read (inr r) = sym (seen_of (address_of trace call) (reply_to trace call) entries r.1 read r.2 r.3)
 seen_at_position trace call None read none = sym (seen_none (address_of trace call) (reply_to trace call) (no_reply (reply_to trace call) refl)) where
-  no_reply : (reply : Option Answered) → reply_to trace call ≡ reply → reply ≡ None
+  no_reply : (reply : Option Response) → reply_to trace call ≡ reply → reply ≡ None
   no_reply None is = refl
   no_reply (Some reply) is = absurd (none reply.at (inr (read, reply, is, refl)))

@@ -8,9 +8,9 @@ use Rattle.std.proofs.lemmas.Cmp.{ranked}
 use Rattle.std.proofs.lemmas.Bool.{cases_lt, cases_eq}
 use Rattle.std.proofs.lemmas.List.{length-set, length-replicate, get_or-replicate, get_or_past}
 use Rattle.nr_trace.specs.Recording.{Recording}
-use Rattle.nr_trace.specs.Calls.{Made, call_of, Answered, reply_of}
+use Rattle.nr_trace.specs.Calls.{Invocation, call_of, Response, reply_of}
 use Rattle.nr_trace.specs.Orders.{known_by}
-use Rattle.nr_audit.specs.Prefixes.{IsReplyAt, KnowsJust, AreNeeds}
+use Rattle.nr_audit.specs.inside.Prefixes.{IsReplyAt, KnowsJust, AreNeeds}
 
 no_needs : (replica : ℕ) → ◌≡◌ {A = ℕ} (get_or (replicate {A = ℕ} 4 0) replica 0) 0
 no_needs replica = elim (cases_lt replica 4) [
@@ -25,7 +25,7 @@ needs_at_start trace needs e = subst (λ (xs : List ℕ). AreNeeds trace 0 xs) (
   reached = λ replica some. let none = no_needs replica in absurd (omega arith);
 })
 
-later_reply : (trace : Recording) (end replica index : ℕ) (reply : Answered) → IsReplyAt trace end replica index reply → IsReplyAt trace (end + 1) replica index reply
+later_reply : (trace : Recording) (end replica index : ℕ) (reply : Response) → IsReplyAt trace end replica index reply → IsReplyAt trace (end + 1) replica index reply
 later_reply trace end replica index reply at = record {
   below = let low = at.below in omega arith;
   is_reply = at.is_reply;
@@ -43,14 +43,14 @@ later_known trace end replica entries known = record {
 }
 
 -- a reply below the next end is one below this, or the last
-earlier_or_last : (trace : Recording) (end replica index : ℕ) (reply : Answered) → IsReplyAt trace (end + 1) replica index reply → IsReplyAt trace end replica index reply ⊎ (index ≡ end)
+earlier_or_last : (trace : Recording) (end replica index : ℕ) (reply : Response) → IsReplyAt trace (end + 1) replica index reply → IsReplyAt trace end replica index reply ⊎ (index ≡ end)
 earlier_or_last trace end replica index reply at = elim (cases_lt index end) [
   | inl low ↦ inl (record { below = low; is_reply = at.is_reply; made = at.made; is_made = at.is_made; here = at.here })
   | inr past ↦ inr (let low = at.below in omega arith)
 ]
 
 -- an event that is no reply to a call changes nothing
-pub needs_stay : (trace : Recording) (end : ℕ) (needs : List ℕ) → ((replica : ℕ) (reply : Answered) → IsReplyAt trace (end + 1) replica end reply → ⊥) → AreNeeds trace end needs → AreNeeds trace (end + 1) needs
+pub needs_stay : (trace : Recording) (end : ℕ) (needs : List ℕ) → ((replica : ℕ) (reply : Response) → IsReplyAt trace (end + 1) replica end reply → ⊥) → AreNeeds trace end needs → AreNeeds trace (end + 1) needs
 needs_stay trace end needs none are = record {
   four = are.four;
   most = λ replica index reply at. elim (earlier_or_last trace end replica index reply at) [
@@ -60,19 +60,19 @@ needs_stay trace end needs none are = record {
   reached = λ replica some. later_known trace end replica (get_or needs replica 0) (are.reached replica some);
 }
 
-pub no_reply_at : (trace : Recording) (end replica : ℕ) (reply : Answered) → reply_of trace end ≡ None → IsReplyAt trace (end + 1) replica end reply → ⊥
+pub no_reply_at : (trace : Recording) (end replica : ℕ) (reply : Response) → reply_of trace end ≡ None → IsReplyAt trace (end + 1) replica end reply → ⊥
 no_reply_at trace end replica reply none at = let is = at.is_reply in cc
 
-pub no_call_at : (trace : Recording) (end replica : ℕ) (own reply : Answered) → reply_of trace end ≡ Some own → call_of trace own.call ≡ None → IsReplyAt trace (end + 1) replica end reply → ⊥
+pub no_call_at : (trace : Recording) (end replica : ℕ) (own reply : Response) → reply_of trace end ≡ Some own → call_of trace own.call ≡ None → IsReplyAt trace (end + 1) replica end reply → ⊥
 no_call_at trace end replica own reply is none at =
     let other = at.is_reply in
     let same : own ≡ reply = cc in
     let made = at.is_made in
-    let gone = ap (λ (r : Answered). call_of trace r.call) same in
+    let gone = ap (λ (r : Response). call_of trace r.call) same in
     cc
 
 -- a reply to a call at a replica raises what the replica needs to what is known by it
-pub needs_grow : (trace : Recording) (end : ℕ) (needs : List ℕ) (own : Answered) (made : Made) → reply_of trace end ≡ Some own → call_of trace own.call ≡ Some made → made.replica < 4
+pub needs_grow : (trace : Recording) (end : ℕ) (needs : List ℕ) (own : Response) (made : Invocation) → reply_of trace end ≡ Some own → call_of trace own.call ≡ Some made → made.replica < 4
     → AreNeeds trace end needs → AreNeeds trace (end + 1) (set needs made.replica (max (get_or needs made.replica 0) (known_by trace own)))
 needs_grow trace end needs own made is is_made within are = record {
   four = length-set needs made.replica most_known ∙ are.four;
@@ -105,19 +105,19 @@ needs_grow trace end needs own made is is_made within are = record {
   here : get_or grown made.replica 0 ≡ most_known
   here = get_or-set_same needs made.replica most_known 0 (let four = are.four in omega arith)
 
-  same_reply : (index : ℕ) (reply : Answered) → index ≡ end → reply_of trace index ≡ Some reply → own ≡ reply
+  same_reply : (index : ℕ) (reply : Response) → index ≡ end → reply_of trace index ≡ Some reply → own ≡ reply
   same_reply index reply last at = let there = ap (reply_of trace) last in cc
 
-  known_now : (index : ℕ) (reply : Answered) → index ≡ end → reply_of trace index ≡ Some reply → known_by trace reply ≡ known_by trace own
+  known_now : (index : ℕ) (reply : Response) → index ≡ end → reply_of trace index ≡ Some reply → known_by trace reply ≡ known_by trace own
   known_now index reply last at = ap (known_by trace) (sym (same_reply index reply last at))
 
-  own_replica : (replica index : ℕ) (reply : Answered) → index ≡ end → IsReplyAt trace (end + 1) replica index reply → replica ≡ made.replica
+  own_replica : (replica index : ℕ) (reply : Response) → index ≡ end → IsReplyAt trace (end + 1) replica index reply → replica ≡ made.replica
   own_replica replica index reply last at =
       let one = same_reply index reply last at.is_reply in
-      let two = ap (λ (r : Answered). call_of trace r.call) one in
+      let two = ap (λ (r : Response). call_of trace r.call) one in
       let three = at.is_made in
       let same : made ≡ at.made = cc in
-      sym at.here ∙ sym (ap (λ (m : Made). m.replica) same)
+      sym at.here ∙ sym (ap (λ (m : Invocation). m.replica) same)
 
   last_reply : IsReplyAt trace (end + 1) made.replica end own
   last_reply = record { below = omega arith; is_reply = is; made = made; is_made = is_made; here = refl }
@@ -137,10 +137,10 @@ greater_is a b = by_cmp (nat_cmp b a) refl where
   by_cmp Equal e = let h = ranked b a Equal e in let it : b ≡ max a b = omega arith in it
   by_cmp Greater e = let h = ranked b a Greater e in let it : b ≡ max a b = omega arith in it
 
-pub made_at : (o : Option Made) (replica : ℕ) → Some replica ≡ option_map (λ (made : Made). made.replica) o → (made : Made) × (o ≡ Some made) × (made.replica ≡ replica)
+pub made_at : (o : Option Invocation) (replica : ℕ) → Some replica ≡ option_map (λ (made : Invocation). made.replica) o → (made : Invocation) × (o ≡ Some made) × (made.replica ≡ replica)
 made_at None replica e = absurd cc
 made_at (Some made) replica e = (made, refl, cc)
 
-pub made_nowhere : (o : Option Made) → option_map (λ (made : Made). made.replica) o ≡ None → o ≡ None
+pub made_nowhere : (o : Option Invocation) → option_map (λ (made : Invocation). made.replica) o ≡ None → o ≡ None
 made_nowhere None e = refl
 made_nowhere (Some made) e = absurd cc

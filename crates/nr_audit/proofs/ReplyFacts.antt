@@ -4,14 +4,14 @@ use Rattle.std.specs.Prelude.{slice_get, filter_map, option_and_then, ◌==◌, 
 use Rattle.std.specs.List.{cons_option}
 use Rattle.std.proofs.lemmas.Option.{slice_get_within}
 use Rattle.nr_trace.specs.Recording.{Recording}
-use Rattle.nr_trace.specs.Calls.{Answered, reply_in, reply_of, reply_to}
+use Rattle.nr_trace.specs.Calls.{Response, reply_in, reply_of, reply_to}
 use Rattle.nr_trace.specs.declared.event.Event.{Event}
 use Rattle.std.proofs.lemmas.Bool.{eq-eqb, cond-true}
 use Rattle.std.specs.Prelude.{option_map}
-use Rattle.nr_trace.specs.Calls.{Made, call_of, address_in, address_of}
+use Rattle.nr_trace.specs.Calls.{Invocation, call_of, address_in, address_of}
 use Rattle.vs_types.specs.declared.request.Query.{Query}
-use Rattle.nr_audit.specs.Tables.{IsReplyBelow, AreReplies}
-use Rattle.nr_audit.specs.Told.{told_to, entries_seen}
+use Rattle.nr_audit.specs.inside.Tables.{IsReplyBelow, AreReplies}
+use Rattle.nr_audit.specs.inside.Told.{told_to, entries_seen}
 use Rattle.nr_audit.specs.declared.tables.Told.{Told}
 use Rattle.nr_audit.proofs.EventFacts.{reply_by}
 use Rattle.nr_audit.proofs.PositionFacts.{address_by}
@@ -37,10 +37,10 @@ none_given h (e ∷ es) none = skip (h e) refl (none_given h es (λ k z w is giv
   skip (Some w) told rest = absurd (none 0 e w refl (sym told))
 
 -- what an event says of a call
-abbrev says : ℕ → Event → Option Answered
-says call event = option_and_then (λ (reply : Answered). if reply.call == call then Some reply else None) (reply_in event)
+abbrev says : ℕ → Event → Option Response
+says call event = option_and_then (λ (reply : Response). if reply.call == call then Some reply else None) (reply_in event)
 
-some_event : (o : Option Event) (reply : Answered) → option_and_then reply_in o ≡ Some reply → (event : Event) × (o ≡ Some event) × (reply_in event ≡ Some reply)
+some_event : (o : Option Event) (reply : Response) → option_and_then reply_in o ≡ Some reply → (event : Event) × (o ≡ Some event) × (reply_in event ≡ Some reply)
 some_event None reply e = absurd (cc)
 some_event (Some event) reply e = (event, refl, e)
 
@@ -48,34 +48,34 @@ some_event (Some event) reply e = (event, refl, e)
 pub replied : (trace : Recording) (call : ℕ) (o : Option ℕ) → IsReplyBelow trace (length trace.events) call o → reply_to trace call ≡ option_and_then (λ index. reply_of trace index) o
 replied trace call None h = none_given (says call) trace.events (λ k event reply is given.
     h k (slice_get_within trace.events k event is)
-    (ap (λ (p : Option Event). is_some (option_and_then (λ (reply : Answered). if reply.call == call then Some reply else None) (option_and_then reply_in p))) is ∙ ap is_some given))
+    (ap (λ (p : Option Event). is_some (option_and_then (λ (reply : Response). if reply.call == call then Some reply else None) (option_and_then reply_in p))) is ∙ ap is_some given))
 replied trace call (Some index) h =
     let named = reply_by trace index call h.1 in
     let event = some_event (slice_get trace.events index) named.0 named.1 in
     let gives : says call event.0 ≡ Some named.0 =
-    ap (λ o. option_and_then (λ (reply : Answered). if reply.call == call then Some reply else None) o) event.2 ∙ cond-true (named.0.call == call) (Some named.0) None (eq-eqb named.0.call call named.2) in
+    ap (λ o. option_and_then (λ (reply : Response). if reply.call == call then Some reply else None) o) event.2 ∙ cond-true (named.0.call == call) (Some named.0) None (eq-eqb named.0.call call named.2) in
     only_given (says call) trace.events index event.0 named.0 event.1 gives (λ k other reply is given.
     h.2 k (slice_get_within trace.events k other is)
-    (ap (λ (p : Option Event). is_some (option_and_then (λ (reply : Answered). if reply.call == call then Some reply else None) (option_and_then reply_in p))) is ∙ ap is_some given)) ∙ sym named.1
+    (ap (λ (p : Option Event). is_some (option_and_then (λ (reply : Response). if reply.call == call then Some reply else None) (option_and_then reply_in p))) is ∙ ap is_some given)) ∙ sym named.1
 
 -- what the table tells of a call
 pub told_by : (trace : Recording) (table : List (Option ℕ)) (call : ℕ) (o : Option ℕ) → AreReplies trace table → call < length trace.events → o ≡ get_or table call None
-    → told_to trace call ≡ option_map (λ (reply : Answered). let told : Told = record { at = reply.at; answer = reply.answer } in told) (option_and_then (λ index. reply_of trace index) o)
+    → told_to trace call ≡ option_map (λ (reply : Response). let told : Told = record { at = reply.at; answer = reply.answer } in told) (option_and_then (λ index. reply_of trace index) o)
 told_by trace table call o are lt e =
-    ap (λ r. option_map (λ (reply : Answered). let told : Told = record { at = reply.at; answer = reply.answer } in told) r)
+    ap (λ r. option_map (λ (reply : Response). let told : Told = record { at = reply.at; answer = reply.answer } in told) r)
     (replied trace call (get_or table call None) (are.each call (omega (arith, are.one_each))) ∙ ap (λ p. option_and_then (λ index. reply_of trace index) p) (sym e))
 
 -- the index that the table has is one of an event
 pub index_within : (trace : Recording) (table : List (Option ℕ)) (call index : ℕ) → AreReplies trace table → call < length trace.events → get_or table call None ≡ Some index → index < length trace.events
 index_within trace table call index are lt e = (subst (λ o. IsReplyBelow trace (length trace.events) call o) e (are.each call (omega (arith, are.one_each)))).0
 
-seen_of : (address : Option ℕ) (reply : Option Answered) → option_and_then (λ (a : ℕ). option_map (λ (r : Answered). r.at) reply) address
-    ≡ option_and_then (λ (a : ℕ). option_map (λ (t : Told). t.at) (option_map (λ (r : Answered). let told : Told = record { at = r.at; answer = r.answer } in told) reply)) address
+seen_of : (address : Option ℕ) (reply : Option Response) → option_and_then (λ (a : ℕ). option_map (λ (r : Response). r.at) reply) address
+    ≡ option_and_then (λ (a : ℕ). option_map (λ (t : Told). t.at) (option_map (λ (r : Response). let told : Told = record { at = r.at; answer = r.answer } in told) reply)) address
 seen_of None reply = refl
 seen_of (Some a) None = refl
 seen_of (Some a) (Some r) = refl
 
 -- how many entries a read saw, by its query and its reply
-pub seen_by : (trace : Recording) (call : ℕ) (query : Option Query) → query ≡ option_map (λ (made : Made). made.request) (call_of trace call)
+pub seen_by : (trace : Recording) (call : ℕ) (query : Option Query) → query ≡ option_map (λ (made : Invocation). made.request) (call_of trace call)
     → entries_seen trace call ≡ option_and_then (λ (a : ℕ). option_map (λ (t : Told). t.at) (told_to trace call)) (option_and_then address_in query)
 seen_by trace call query asks = seen_of (address_of trace call) (reply_to trace call) ∙ ap (λ o. option_and_then (λ (a : ℕ). option_map (λ (t : Told). t.at) (told_to trace call)) o) (address_by trace call query asks)

@@ -2,10 +2,4 @@
 pub mod Verdict
 pub mod Headline
 -- the passes
-pub mod Search
-pub mod Passes
-pub mod Tables
-pub mod Told
-pub mod Steps
-pub mod Prefixes
-pub mod Dumps
+pub mod inside

@@ -2,10 +2,10 @@ ghost use Rattle.std.specs.Prelude.{◌≡◌, ◌↔◌, IfOk, OnOk, IfErr, IfS
 ghost use Rattle.nr_trace.specs.Laws.{HasCleanLog};
 ghost use Rattle.nr_trace.specs.Orders.{recorded_order};
 ghost use Rattle.vs_types.specs.Refusal.{IfRefused};
-ghost use Rattle.nr_audit.specs.Search.{HasNone, IsFirstAmong};
-ghost use Rattle.nr_audit.specs.Passes.{IsAnswerFault};
-ghost use Rattle.nr_audit.specs.Steps.{Serves};
-ghost use Rattle.nr_audit.specs.Tables.{AreReplies};
+ghost use Rattle.nr_audit.specs.inside.Search.{HasNone, IsFirstAmong};
+ghost use Rattle.nr_audit.specs.inside.Passes.{IsAnswerFault};
+ghost use Rattle.nr_audit.specs.inside.Steps.{Serves};
+ghost use Rattle.nr_audit.specs.inside.Tables.{AreReplies};
 
 use crate::events::query_of;
 use crate::tables::{Replies, Told};

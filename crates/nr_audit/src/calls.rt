@@ -1,8 +1,8 @@
 ghost use Rattle.std.specs.Prelude.{◌≡◌, ◌<◌, ◌↔◌, OnOk, IfOk, IfErr, IfSome, IsSomeAnd, IsTrue, length, slice_index_or};
 ghost use Rattle.vs_types.specs.Refusal.{IfRefused};
-ghost use Rattle.nr_audit.specs.Search.{HasNone, IsFirstAmong};
-ghost use Rattle.nr_audit.specs.Passes.{IsCallFault};
-ghost use Rattle.nr_audit.specs.Tables.{AreReplies};
+ghost use Rattle.nr_audit.specs.inside.Search.{HasNone, IsFirstAmong};
+ghost use Rattle.nr_audit.specs.inside.Passes.{IsCallFault};
+ghost use Rattle.nr_audit.specs.inside.Tables.{AreReplies};
 
 use crate::events::is_call;
 use crate::tables::{Replies, empty_table};

@@ -1,11 +1,11 @@
 ghost use Rattle.std.specs.Prelude.{◌≡◌, ◌≤◌, ◌<◌, OnOk, IfOk, IfErr, length, take};
 ghost use Rattle.vs_types.specs.Refusal.{IfRefused};
 ghost use Rattle.nr_trace.specs.Orders.{space_after};
-ghost use Rattle.nr_audit.specs.Dumps.{at_replica};
-ghost use Rattle.nr_audit.specs.Passes.{IsDumpFault, IsDumpFaultAt};
-ghost use Rattle.nr_audit.specs.Prefixes.{AreNeeds};
-ghost use Rattle.nr_audit.specs.Search.{HasNone, IsFirstAmong};
-ghost use Rattle.nr_audit.specs.Steps.{space_of};
+ghost use Rattle.nr_audit.specs.inside.Dumps.{at_replica};
+ghost use Rattle.nr_audit.specs.inside.Passes.{IsDumpFault, IsDumpFaultAt};
+ghost use Rattle.nr_audit.specs.inside.Prefixes.{AreNeeds};
+ghost use Rattle.nr_audit.specs.inside.Search.{HasNone, IsFirstAmong};
+ghost use Rattle.nr_audit.specs.inside.Steps.{space_of};
 
 use crate::prefixes::{apply_places, entries_needed};
 use nr_dump::{DumpFault, check};

@@ -1,11 +1,11 @@
 ghost use Rattle.std.specs.Prelude.{◌≡◌, OnOk, IfErr};
 ghost use Rattle.vs_types.specs.declared.answer.Answer.{Answer};
-ghost use Rattle.nr_trace.specs.Calls.{Answered};
+ghost use Rattle.nr_trace.specs.Calls.{Response};
 ghost use Rattle.nr_trace.specs.Laws.{HasCleanLog};
 ghost use Rattle.nr_trace.specs.Orders.{known_by};
-ghost use Rattle.nr_audit.specs.Search.{HasNone, IsFirstAmong};
-ghost use Rattle.nr_audit.specs.Passes.{IsFloorFault};
-ghost use Rattle.nr_audit.specs.Tables.{ArePositions};
+ghost use Rattle.nr_audit.specs.inside.Search.{HasNone, IsFirstAmong};
+ghost use Rattle.nr_audit.specs.inside.Passes.{IsFloorFault};
+ghost use Rattle.nr_audit.specs.inside.Tables.{ArePositions};
 
 use crate::events::is_update;
 use crate::tables::Positions;
@@ -13,7 +13,7 @@ use nr_trace::{Event, Fault, Trace};
 
 /// How many entries of the log are known by a reply: those up to the update's own, or those that the read saw.
 pub(crate) fn entries_known(trace: &Trace, call: u32, at: u32) -> u64
-    ensures { (answer : Answer) → let reply : Answered = record { call = call; at = at; answer = answer } in result ≡ known_by trace.now reply }
+    ensures { (answer : Answer) → let reply : Response = record { call = call; at = at; answer = answer } in result ≡ known_by trace.now reply }
 {
     if is_update(trace, call) {
         at as u64 + 1

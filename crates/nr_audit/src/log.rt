@@ -1,8 +1,8 @@
 ghost use Rattle.std.specs.Prelude.{OnOk, IfOk, IfErr};
 ghost use Rattle.vs_types.specs.Refusal.{IfRefused};
-ghost use Rattle.nr_audit.specs.Search.{HasNone, IsFirstAmong};
-ghost use Rattle.nr_audit.specs.Passes.{IsLogFault};
-ghost use Rattle.nr_audit.specs.Tables.{ArePlaces};
+ghost use Rattle.nr_audit.specs.inside.Search.{HasNone, IsFirstAmong};
+ghost use Rattle.nr_audit.specs.inside.Passes.{IsLogFault};
+ghost use Rattle.nr_audit.specs.inside.Tables.{ArePlaces};
 
 use crate::events::is_update;
 use crate::tables::{Places, empty_table};

@@ -1,7 +1,7 @@
 ghost use Rattle.std.specs.Prelude.{◌≡◌, ◌↔◌, OnOk, IfOk, IfErr, IsTrue, Some, slice_get};
-ghost use Rattle.nr_audit.specs.Search.{HasNone, IsFirstAmong};
-ghost use Rattle.nr_audit.specs.Passes.{IsCallFault, IsLogFault, IsPositionFault};
-ghost use Rattle.nr_audit.specs.Tables.{ArePlaces, ArePositions};
+ghost use Rattle.nr_audit.specs.inside.Search.{HasNone, IsFirstAmong};
+ghost use Rattle.nr_audit.specs.inside.Passes.{IsCallFault, IsLogFault, IsPositionFault};
+ghost use Rattle.nr_audit.specs.inside.Tables.{ArePlaces, ArePositions};
 
 use crate::events::query_of;
 use crate::tables::{Places, Positions};

@@ -1,8 +1,8 @@
 ghost use Rattle.std.specs.Prelude.{◌≡◌, ◌<◌, ◌≤◌, OnOk, IfSome, length, option_map, take};
 ghost use Rattle.nr_trace.specs.Calls.{call_of};
 ghost use Rattle.nr_trace.specs.Orders.{space_after};
-ghost use Rattle.nr_audit.specs.Prefixes.{AreNeeds};
-ghost use Rattle.nr_audit.specs.Steps.{space_of};
+ghost use Rattle.nr_audit.specs.inside.Prefixes.{AreNeeds};
+ghost use Rattle.nr_audit.specs.inside.Steps.{space_of};
 
 use crate::answers::serve;
 use crate::events::query_of;

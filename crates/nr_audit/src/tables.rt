@@ -1,6 +1,6 @@
 ghost use Rattle.std.specs.Prelude.{◌≡◌, ◌<◌, IfOk, length, replicate};
-ghost use Rattle.nr_audit.specs.Tables.{AreReplies};
-ghost use Rattle.nr_audit.specs.Told.{told_to};
+ghost use Rattle.nr_audit.specs.inside.Tables.{AreReplies};
+ghost use Rattle.nr_audit.specs.inside.Told.{told_to};
 
 use nr_trace::{Event, Trace};
 use std::alloc::Global;

@@ -13,7 +13,7 @@ use Rattle.vs_types.proofs.Pages.{covers_means, covers_base, same_page}
 use Rattle.vs_walk.specs.Differences.{IsLeast}
 use Rattle.vs_walk.specs.Ways.{covering, as_found}
 use Rattle.vs_walk.proofs.WaysSpaces.{ArePages, rises_first, rises_rest}
-use Rattle.nr_dump.specs.Comparing.{HeadsDiffer}
+use Rattle.nr_dump.specs.inside.Comparing.{HeadsDiffer}
 
 -- the two lists translate a canonical address otherwise
 abbrev pub DiffersAt : Depth → List Page → List Page → ℕ → Type 0
@@ -151,7 +151,7 @@ least_of_heads {depth} (p ∷ ps) (q ∷ qs) base left right h = (
     three : (a b : ℕ) → (a < b) ⊎ ((a ≡ b) ⊎ (b < a))
     three a b = ⊎_elim (λ less. inl less) (λ le. ⊎_elim (λ more. inr (inr more)) (λ ge. inr (inl (omega arith))) (cases_lt b a)) (cases_lt a b)
 
--- ---- behind pages that both have
+-- ---- after pages that both have
 
 base_of_head : (ps qs : List Page) (base : ℕ) → HeadsDiffer ps qs base → ((p : Page) × Contains ps p × (p.base ≡ base)) ⊎ ((q : Page) × Contains qs q × (q.base ≡ base))
 base_of_head [] [] base h = absurd h

@@ -8,7 +8,7 @@ use Rattle.vs_types.specs.declared.page.Rights.{Rights}
 use Rattle.vs_types.specs.declared.page.Size.{Size}
 use Rattle.vs_types.specs.declared.page.Size.TheVariants.{K4, M2, G1}
 use Rattle.vs_types.proofs.Pages.{same_page}
-use Rattle.vs_walk.specs.Traversal.{moves, found, walk_fault}
+use Rattle.vs_walk.specs.Traversal.{traversal, found, walk_fault}
 use Rattle.vs_walk.specs.Differences.{IsStray, IsLeast}
 use Rattle.vs_walk.specs.Dump.{Image}
 use Rattle.vs_walk.specs.Ways.{AreWhole}
@@ -16,8 +16,8 @@ use Rattle.vs_walk.specs.declared.walk.WalkFault.{WalkFault}
 use Rattle.vs_walk.specs.declared.walk.WalkFault.TheVariants as walks
 use Rattle.nr_dump.specs.declared.fault.DumpFault.{DumpFault}
 use Rattle.nr_dump.specs.declared.fault.DumpFault.TheVariants.{MissingFrame, SharedFrame, ReservedBit, StrayFrame, Differs}
-use Rattle.nr_dump.specs.Faults.{Holds, rank, IsFirst, HasNoFault, FitsSpace}
-use Rattle.nr_dump.specs.Comparing.{IsCompared}
+use Rattle.nr_dump.specs.Faults.{HoldsOfDump, rank_in_dump, IsFirstOfDump, HasNoFault, FitsSpace}
+use Rattle.nr_dump.specs.inside.Comparing.{IsCompared}
 use Rattle.nr_dump.proofs.Fitting.{NoneStray, fits_by_pages, first_difference}
 
 -- ---- pages are equal or not
@@ -107,14 +107,14 @@ way_without depth dump space clean = by_fault (walk_fault depth dump.frames dump
   by_fault (Some (walks.Reserved number index)) is = absurd (clean (ReservedBit number index) is)
 
 pub faultless_fits : (depth : Depth) (dump : Image) (space : Space) → AreWhole dump.frames → IsSpace depth space → HasNoFault depth dump space → FitsSpace depth dump space
-faultless_fits depth dump space whole is clean = by_answer (compare_pages (found (moves depth dump.frames dump.root)) (pages space)) where
+faultless_fits depth dump space whole is clean = by_answer (compare_pages (found (traversal depth dump.frames dump.root)) (pages space)) where
   way : walk_fault depth dump.frames dump.root ≡ None
   way = way_without depth dump space clean
 
   stray : NoneStray depth dump
   stray = none_at_all (IsStray depth dump.frames dump.root) (λ number least. clean (StrayFrame number) least)
 
-  by_answer : (answer : Option ℕ) × IsCompared (found (moves depth dump.frames dump.root)) (pages space) answer → FitsSpace depth dump space
+  by_answer : (answer : Option ℕ) × IsCompared (found (traversal depth dump.frames dump.root)) (pages space) answer → FitsSpace depth dump space
   by_answer (None, compared) = fits_by_pages depth dump space whole way stray compared
   by_answer (Some base, compared) = absurd (clean (Differs base) (first_difference depth dump.frames dump.root space base whole is way compared))
 
@@ -127,7 +127,7 @@ same_least P m n left right =
     (λ le. ⊎_elim (λ more. absurd (left.1 n more right.0)) (λ ge. omega arith) (cases_lt n m))
     (cases_lt m n)
 
-same_rank : (depth : Depth) (dump : Image) (space : Space) (fault other : DumpFault) → Holds depth dump space fault → Holds depth dump space other → rank fault ≡ rank other → fault ≡ other
+same_rank : (depth : Depth) (dump : Image) (space : Space) (fault other : DumpFault) → HoldsOfDump depth dump space fault → HoldsOfDump depth dump space other → rank_in_dump fault ≡ rank_in_dump other → fault ≡ other
 same_rank depth dump space (MissingFrame a) (MissingFrame b) h k same = cc
 same_rank depth dump space (MissingFrame a) (SharedFrame b) h k same = cc
 same_rank depth dump space (MissingFrame a) (ReservedBit b i) h k same = cc
@@ -154,10 +154,10 @@ same_rank depth dump space (Differs a) (SharedFrame b) h k same = absurd (omega 
 same_rank depth dump space (Differs a) (ReservedBit b i) h k same = absurd (omega arith)
 same_rank depth dump space (Differs a) (StrayFrame b) h k same = absurd (omega arith)
 
-pub one_first : (depth : Depth) (dump : Image) (space : Space) (fault other : DumpFault) → IsFirst depth dump space fault → IsFirst depth dump space other → fault ≡ other
+pub one_first : (depth : Depth) (dump : Image) (space : Space) (fault other : DumpFault) → IsFirstOfDump depth dump space fault → IsFirstOfDump depth dump space other → fault ≡ other
 one_first depth dump space fault other left right =
     same_rank depth dump space fault other left.holds right.holds
     (⊎_elim
     (λ less. absurd (right.none_earlier fault left.holds less))
-    (λ le. ⊎_elim (λ more. absurd (left.none_earlier other right.holds more)) (λ ge. omega arith) (cases_lt (rank other) (rank fault)))
-    (cases_lt (rank fault) (rank other)))
+    (λ le. ⊎_elim (λ more. absurd (left.none_earlier other right.holds more)) (λ ge. omega arith) (cases_lt (rank_in_dump other) (rank_in_dump fault)))
+    (cases_lt (rank_in_dump fault) (rank_in_dump other)))

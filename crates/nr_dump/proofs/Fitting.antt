@@ -13,7 +13,7 @@ use Rattle.vs_types.specs.declared.depth.Depth.{Depth}
 use Rattle.vs_types.specs.declared.page.Page.{Page}
 use Rattle.vs_walk.specs.Memory.{Memory}
 use Rattle.vs_walk.specs.Walk.{as_walk, TranslatesAs}
-use Rattle.vs_walk.specs.Traversal.{moves, reached, found, walk_fault}
+use Rattle.vs_walk.specs.Traversal.{traversal, reached, found, walk_fault}
 use Rattle.vs_walk.specs.Differences.{IsStray, TranslatesOtherwise, IsLeast}
 use Rattle.vs_walk.specs.Dump.{Image}
 use Rattle.vs_walk.specs.Ways.{AreWhole, as_found}
@@ -21,9 +21,9 @@ use Rattle.vs_walk.proofs.WaysLaws.{faultless_walk, reached_distinct, reached_he
 use Rattle.vs_walk.proofs.WaysSpaces.{ArePages, found_are_pages, space_pages, found_translates, translates_shared}
 use Rattle.nr_dump.specs.declared.fault.DumpFault.{DumpFault}
 use Rattle.nr_dump.specs.declared.fault.DumpFault.TheVariants.{MissingFrame, SharedFrame, ReservedBit, StrayFrame, Differs}
-use Rattle.nr_dump.specs.Faults.{Holds, rank, IsFirst, HasNoFault, FitsSpace}
-use Rattle.nr_dump.specs.Checking.{IsOutside}
-use Rattle.nr_dump.specs.Comparing.{IsCompared, mark}
+use Rattle.nr_dump.specs.Faults.{HoldsOfDump, rank_in_dump, IsFirstOfDump, HasNoFault, FitsSpace}
+use Rattle.nr_dump.specs.inside.Checking.{IsOutside}
+use Rattle.nr_dump.specs.inside.Comparing.{IsCompared, mark}
 use Rattle.nr_dump.proofs.Differing.{DiffersAt, least_behind}
 
 -- ---- the first difference of the pages is the first of the translations
@@ -33,19 +33,19 @@ as_looked space address None e = rw e refl
 as_looked space address (Some page) e = rw e refl
 
 -- without a fault on the way the tables translate as their pages do
-otherwise_by_pages : (depth : Depth) (memory : Memory) (root : ℕ) (space : Space) (address : ℕ) → AreWhole memory → walk_fault depth memory root ≡ None → DiffersAt depth (found (moves depth memory root)) (pages space) address → TranslatesOtherwise depth memory root space address
+otherwise_by_pages : (depth : Depth) (memory : Memory) (root : ℕ) (space : Space) (address : ℕ) → AreWhole memory → walk_fault depth memory root ≡ None → DiffersAt depth (found (traversal depth memory root)) (pages space) address → TranslatesOtherwise depth memory root space address
 otherwise_by_pages depth memory root space address whole none (canonical, differ) =
     (canonical, λ same. differ (sym (faultless_walk depth memory root address whole canonical none) ∙ same ∙ as_looked space address (page_at space address) refl))
 
-pages_otherwise : (depth : Depth) (memory : Memory) (root : ℕ) (space : Space) (address : ℕ) → AreWhole memory → walk_fault depth memory root ≡ None → TranslatesOtherwise depth memory root space address → DiffersAt depth (found (moves depth memory root)) (pages space) address
+pages_otherwise : (depth : Depth) (memory : Memory) (root : ℕ) (space : Space) (address : ℕ) → AreWhole memory → walk_fault depth memory root ≡ None → TranslatesOtherwise depth memory root space address → DiffersAt depth (found (traversal depth memory root)) (pages space) address
 pages_otherwise depth memory root space address whole none (canonical, differ) =
     (canonical, λ same. differ (faultless_walk depth memory root address whole canonical none ∙ same ∙ sym (as_looked space address (page_at space address) refl)))
 
-pub first_difference : (depth : Depth) (memory : Memory) (root : ℕ) (space : Space) (base : ℕ) → AreWhole memory → IsSpace depth space → walk_fault depth memory root ≡ None → IsCompared (found (moves depth memory root)) (pages space) (Some base) → IsLeast (TranslatesOtherwise depth memory root space) base
+pub first_difference : (depth : Depth) (memory : Memory) (root : ℕ) (space : Space) (base : ℕ) → AreWhole memory → IsSpace depth space → walk_fault depth memory root ≡ None → IsCompared (found (traversal depth memory root)) (pages space) (Some base) → IsLeast (TranslatesOtherwise depth memory root space) base
 first_difference depth memory root space base whole is none (common, left, right, ps, qs, h) =
     let least = subst (λ xs. IsLeast (DiffersAt depth xs (common ++ right)) base) (sym ps) (least_behind common left right base
     (subst (λ xs. ArePages depth xs) ps (found_are_pages depth memory root whole)) (subst (λ xs. ArePages depth xs) qs (space_pages is)) h) in
-    let both = subst (λ xs. IsLeast (DiffersAt depth (found (moves depth memory root)) xs) base) (sym qs) least in (
+    let both = subst (λ xs. IsLeast (DiffersAt depth (found (traversal depth memory root)) xs) base) (sym qs) least in (
       otherwise_by_pages depth memory root space base whole none both.0,
       λ other below differs. both.1 other below (pages_otherwise depth memory root space other whole none differs),
     )
@@ -60,13 +60,13 @@ once_only number xs before after distinct parts (k, within, is) =
     let second : get_or (before ++ number ∷ after) (length before + 0) number ≡ number = get_or-append-add before (number ∷ after) 0 number in
     apart k (length before + 0) number (omega arith) (omega (arith, length-append before (number ∷ after))) (first ∙ sym second)
 
-faultless_way : (depth : Depth) (memory : Memory) (root : ℕ) (space : Space) → AreWhole memory → TranslatesAs depth memory root space → IsDistinct nat_eq (reached (moves depth memory root)) → walk_fault depth memory root ≡ None
+faultless_way : (depth : Depth) (memory : Memory) (root : ℕ) (space : Space) → AreWhole memory → TranslatesAs depth memory root space → IsDistinct nat_eq (reached (traversal depth memory root)) → walk_fault depth memory root ≡ None
 faultless_way depth memory root space whole translates once =
     ⊎_elim
     (λ none. none)
     (λ shared.
     let twice = shared_reached depth memory root shared.0 shared.1 in
-    absurd (once_only shared.0 (reached (moves depth memory root)) twice.0 twice.1 once twice.2 twice.3))
+    absurd (once_only shared.0 (reached (traversal depth memory root)) twice.0 twice.1 once twice.2 twice.3))
     (translates_shared depth memory root space whole translates)
 
 pub fits_faultless : (depth : Depth) (dump : Image) (space : Space) → AreWhole dump.frames → FitsSpace depth dump space → HasNoFault depth dump space
@@ -81,7 +81,7 @@ fits_faultless depth dump space whole fits = none where
   none (StrayFrame number) holds = fits.none_stray number holds.0
   none (Differs address) holds = holds.0.1 (fits.translates address holds.0.0)
 
-pub fault_unfits : (depth : Depth) (dump : Image) (space : Space) (fault : DumpFault) → AreWhole dump.frames → Holds depth dump space fault → FitsSpace depth dump space → ⊥
+pub fault_unfits : (depth : Depth) (dump : Image) (space : Space) (fault : DumpFault) → AreWhole dump.frames → HoldsOfDump depth dump space fault → FitsSpace depth dump space → ⊥
 fault_unfits depth dump space fault whole holds fits = fits_faultless depth dump space whole fits fault holds
 
 -- ---- what check finds
@@ -89,7 +89,7 @@ fault_unfits depth dump space fault whole holds fits = fits_faultless depth dump
 abbrev pub NoneStray : Depth → Image → Type 0
 NoneStray depth dump = (number : ℕ) → IsStray depth dump.frames dump.root number → ⊥
 
-pub fits_by_pages : (depth : Depth) (dump : Image) (space : Space) → AreWhole dump.frames → walk_fault depth dump.frames dump.root ≡ None → NoneStray depth dump → IsCompared (found (moves depth dump.frames dump.root)) (pages space) None → FitsSpace depth dump space
+pub fits_by_pages : (depth : Depth) (dump : Image) (space : Space) → AreWhole dump.frames → walk_fault depth dump.frames dump.root ≡ None → NoneStray depth dump → IsCompared (found (traversal depth dump.frames dump.root)) (pages space) None → FitsSpace depth dump space
 fits_by_pages depth dump space whole way stray same = record {
   translates = found_translates depth dump.frames dump.root space whole way same;
   once = reached_distinct depth dump.frames dump.root way;
@@ -97,13 +97,13 @@ fits_by_pages depth dump space whole way stray same = record {
 }
 
 -- nothing comes before a fault on the way
-pub way_fault_first : (depth : Depth) (dump : Image) (space : Space) (fault : DumpFault) → rank fault ≡ 1 → Holds depth dump space fault → IsFirst depth dump space fault
+pub way_fault_first : (depth : Depth) (dump : Image) (space : Space) (fault : DumpFault) → rank_in_dump fault ≡ 1 → HoldsOfDump depth dump space fault → IsFirstOfDump depth dump space fault
 way_fault_first depth dump space fault lowest holds = record {
   holds = holds;
-  none_earlier = λ other _ earlier. not_below other (subst (λ n. rank other < n) lowest earlier);
+  none_earlier = λ other _ earlier. not_below other (subst (λ n. rank_in_dump other < n) lowest earlier);
 }
   where
-    not_below : (other : DumpFault) → rank other < 1 → ⊥
+    not_below : (other : DumpFault) → rank_in_dump other < 1 → ⊥
     not_below (MissingFrame number) less = omega arith
     not_below (SharedFrame number) less = omega arith
     not_below (ReservedBit number index) less = omega arith
@@ -111,9 +111,9 @@ way_fault_first depth dump space fault lowest holds = record {
     not_below (Differs address) less = omega arith
 
 -- before a stray frame come the faults on the way
-pub stray_first : (depth : Depth) (dump : Image) (space : Space) (number : ℕ) → walk_fault depth dump.frames dump.root ≡ None → IsLeast (IsStray depth dump.frames dump.root) number → IsFirst depth dump space (StrayFrame number)
+pub stray_first : (depth : Depth) (dump : Image) (space : Space) (number : ℕ) → walk_fault depth dump.frames dump.root ≡ None → IsLeast (IsStray depth dump.frames dump.root) number → IsFirstOfDump depth dump space (StrayFrame number)
 stray_first depth dump space number way least = record { holds = least; none_earlier = earlier } where
-  earlier : (other : DumpFault) → Holds depth dump space other → rank other < 2 → ⊥
+  earlier : (other : DumpFault) → HoldsOfDump depth dump space other → rank_in_dump other < 2 → ⊥
   earlier (MissingFrame other) holds less = cc (holds, way)
   earlier (SharedFrame other) holds less = cc (holds, way)
   earlier (ReservedBit other index) holds less = cc (holds, way)
@@ -121,13 +121,13 @@ stray_first depth dump space number way least = record { holds = least; none_ear
   earlier (Differs address) holds less = omega arith
 
 -- before an address that is translated otherwise come those, and the stray frames
-pub difference_first : (depth : Depth) (dump : Image) (space : Space) (base : ℕ) → AreWhole dump.frames → IsSpace depth space → walk_fault depth dump.frames dump.root ≡ None → NoneStray depth dump → IsCompared (found (moves depth dump.frames dump.root)) (pages space) (Some base) → IsFirst depth dump space (Differs base)
+pub difference_first : (depth : Depth) (dump : Image) (space : Space) (base : ℕ) → AreWhole dump.frames → IsSpace depth space → walk_fault depth dump.frames dump.root ≡ None → NoneStray depth dump → IsCompared (found (traversal depth dump.frames dump.root)) (pages space) (Some base) → IsFirstOfDump depth dump space (Differs base)
 difference_first depth dump space base whole is way stray compared = record {
   holds = first_difference depth dump.frames dump.root space base whole is way compared;
   none_earlier = earlier;
 }
   where
-    earlier : (other : DumpFault) → Holds depth dump space other → rank other < 3 → ⊥
+    earlier : (other : DumpFault) → HoldsOfDump depth dump space other → rank_in_dump other < 3 → ⊥
     earlier (MissingFrame other) holds less = cc (holds, way)
     earlier (SharedFrame other) holds less = cc (holds, way)
     earlier (ReservedBit other index) holds less = cc (holds, way)
@@ -141,12 +141,12 @@ unmarked is has = let aligned = (space_pages is).aligned mark has in omega arith
 -- ---- the frames that are reached, by a list with the same numbers
 
 abbrev pub AreReached : Depth → Memory → ℕ → List ℕ → Type 0
-AreReached depth memory root numbers = (number : ℕ) → Contains numbers number ↔ Contains (reached (moves depth memory root)) number
+AreReached depth memory root numbers = (number : ℕ) → Contains numbers number ↔ Contains (reached (traversal depth memory root)) number
 
 pub reached_are_held : (depth : Depth) (memory : Memory) (root : ℕ) (numbers : List ℕ) → walk_fault depth memory root ≡ None → AreReached depth memory root numbers
     → (number : ℕ) → Contains numbers number → IsSome (finite.get memory number)
 reached_are_held depth memory root numbers way are number has =
-    All-contains (λ n. IsTrue (finite.contains_key memory n)) (reached (moves depth memory root)) number (reached_held depth memory root way) ((are number).0 has)
+    All-contains (λ n. IsTrue (finite.contains_key memory n)) (reached (traversal depth memory root)) number (reached_held depth memory root way) ((are number).0 has)
 
 stray_outside : (depth : Depth) (memory : Memory) (root : ℕ) (numbers : List ℕ) (number : ℕ) → AreReached depth memory root numbers → IsStray depth memory root number → IsOutside memory numbers number
 stray_outside depth memory root numbers number are stray = (stray.0, λ has. stray.1 ((are number).0 has))

@@ -17,7 +17,7 @@ use Rattle.vs_types.proofs.Spaces.{same_key, is_true}
 use Rattle.vs_walk.specs.Memory.{Memory}
 use Rattle.vs_walk.specs.Differences.{IsLeast}
 use Rattle.vs_walk.proofs.Dumps.{numbers_rise}
-use Rattle.nr_dump.specs.Checking.{IsOutside}
+use Rattle.nr_dump.specs.inside.Checking.{IsOutside}
 
 -- ---- the numbers of a memory's frames
 

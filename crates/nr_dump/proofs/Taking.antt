@@ -5,20 +5,20 @@ use Rattle.std.specs.List.{slice_get}
 use Rattle.std.proofs.lemmas.List.{append_assoc, append-nil, length-append}
 use Rattle.vs_types.specs.declared.page.Page.{Page}
 use Rattle.vs_types.proofs.Lists.{Contains-head, Contains-tail}
-use Rattle.nr_dump.specs.Comparing.{HeadsDiffer, IsCompared, AreTaken, mark, HasCompared}
+use Rattle.nr_dump.specs.inside.Comparing.{HeadsDiffer, IsCompared, AreTaken, mark, HasCompared}
 
 get_behind : (xs ys : List Page) → slice_get (xs ++ ys) (length xs) ≡ slice_get ys 0
 get_behind [] ys = refl
 get_behind (x ∷ xs) ys = get_behind xs ys
 
--- the page that stands behind those that were taken
+-- the page that stands after those that were taken
 next_of : (pages taken later : List Page) (met : ℕ) → pages ≡ taken ++ later → met ≡ length taken → slice_get pages met ≡ slice_get later 0
 next_of pages taken later met parts count = ap (slice_get pages) count ∙ ap (λ ps. slice_get ps (length taken)) parts ∙ get_behind taken later
 
 told_more : (pages taken told : List Page) (page : Page) → told ≡ pages ++ mark ∷ taken → told ++ page ∷ [] ≡ pages ++ mark ∷ (taken ++ page ∷ [])
 told_more pages taken told page is = ap (λ xs. xs ++ page ∷ []) is ∙ append_assoc pages (mark ∷ taken) (page ∷ [])
 
--- the lesser base stays what it is as more pages come behind
+-- the lesser base stays what it is as more pages come after
 heads_stay : (first : Page) (rest more right : List Page) (base : ℕ) → HeadsDiffer (first ∷ rest) right base → HeadsDiffer (first ∷ (rest ++ more)) right base
 heads_stay first rest more [] base h = h
 heads_stay first rest more (q ∷ qs) base h = h
@@ -80,7 +80,7 @@ meets_beyond pages met (Some base) told page none past has = cc
 pub ends_known : (pages : List Page) (met base : ℕ) (taken : List Page) → AreTaken pages met (Some base) taken → IsCompared taken pages (Some base)
 ends_known pages met base taken (common, rest, right, first, is, parts, h) = (common, first ∷ rest, right, is, parts, h)
 
--- behind pages that agree comes the next page of the space
+-- after pages that agree comes the next page of the space
 pub ends_at_next : (pages : List Page) (met : ℕ) (taken : List Page) → AreTaken pages met None taken → IsCompared taken pages (option_map (λ (page : Page). page.base) (slice_get pages met))
 ends_at_next pages met taken (later, parts, count) =
     subst (λ next. IsCompared taken pages (option_map (λ (page : Page). page.base) next)) (sym (next_of pages taken later met parts count)) (by_later later parts) where

@@ -4,7 +4,7 @@ use Rattle.std.specs.List.{IsDistinct}
 use Rattle.vs_types.specs.Space.{Space}
 use Rattle.vs_types.specs.declared.depth.Depth.{Depth}
 use Rattle.vs_walk.specs.Walk.{TranslatesAs}
-use Rattle.vs_walk.specs.Traversal.{moves, reached, walk_fault}
+use Rattle.vs_walk.specs.Traversal.{traversal, reached, walk_fault}
 use Rattle.vs_walk.specs.Differences.{IsStray, TranslatesOtherwise, IsLeast}
 use Rattle.vs_walk.specs.Dump.{Image}
 use Rattle.vs_walk.specs.declared.walk.WalkFault.TheVariants as walks
@@ -12,31 +12,31 @@ use Rattle.nr_dump.specs.declared.fault.DumpFault.{DumpFault}
 use Rattle.nr_dump.specs.declared.fault.DumpFault.TheVariants.{MissingFrame, SharedFrame, ReservedBit, StrayFrame, Differs}
 
 -- what each fault says of a dump and of the space that it is to translate as
-abbrev pub Holds : Depth → Image → Space → DumpFault → Type 0
-Holds depth dump space (MissingFrame number) = walk_fault depth dump.frames dump.root ≡ Some (walks.Missing number)
-Holds depth dump space (SharedFrame number) = walk_fault depth dump.frames dump.root ≡ Some (walks.Shared number)
-Holds depth dump space (ReservedBit number index) = walk_fault depth dump.frames dump.root ≡ Some (walks.Reserved number index)
-Holds depth dump space (StrayFrame number) = IsLeast (IsStray depth dump.frames dump.root) number
-Holds depth dump space (Differs address) = IsLeast (TranslatesOtherwise depth dump.frames dump.root space) address
+abbrev pub HoldsOfDump : Depth → Image → Space → DumpFault → Type 0
+HoldsOfDump depth dump space (MissingFrame number) = walk_fault depth dump.frames dump.root ≡ Some (walks.Missing number)
+HoldsOfDump depth dump space (SharedFrame number) = walk_fault depth dump.frames dump.root ≡ Some (walks.Shared number)
+HoldsOfDump depth dump space (ReservedBit number index) = walk_fault depth dump.frames dump.root ≡ Some (walks.Reserved number index)
+HoldsOfDump depth dump space (StrayFrame number) = IsLeast (IsStray depth dump.frames dump.root) number
+HoldsOfDump depth dump space (Differs address) = IsLeast (TranslatesOtherwise depth dump.frames dump.root space) address
 
 -- the first fault on the way through the tables comes first, then a stray frame, then a translation that differs
-abbrev pub rank : DumpFault → ℕ
-rank (MissingFrame number) = 1
-rank (SharedFrame number) = 1
-rank (ReservedBit number index) = 1
-rank (StrayFrame number) = 2
-rank (Differs address) = 3
+abbrev pub rank_in_dump : DumpFault → ℕ
+rank_in_dump (MissingFrame number) = 1
+rank_in_dump (SharedFrame number) = 1
+rank_in_dump (ReservedBit number index) = 1
+rank_in_dump (StrayFrame number) = 2
+rank_in_dump (Differs address) = 3
 
 -- the fault holds of the dump, and no earlier one does
-pub record IsFirst (depth : Depth) (dump : Image) (space : Space) (fault : DumpFault) : Type 0 where
-  pub holds : Holds depth dump space fault
-  pub none_earlier : (other : DumpFault) → Holds depth dump space other → rank other < rank fault → ⊥
+pub record IsFirstOfDump (depth : Depth) (dump : Image) (space : Space) (fault : DumpFault) : Type 0 where
+  pub holds : HoldsOfDump depth dump space fault
+  pub none_earlier : (other : DumpFault) → HoldsOfDump depth dump space other → rank_in_dump other < rank_in_dump fault → ⊥
 
 abbrev pub HasNoFault : Depth → Image → Space → Type 0
-HasNoFault depth dump space = (fault : DumpFault) → Holds depth dump space fault → ⊥
+HasNoFault depth dump space = (fault : DumpFault) → HoldsOfDump depth dump space fault → ⊥
 
 -- the dump translates as the space, its tables lead to no frame twice, and they lead to each of its frames
 pub record FitsSpace (depth : Depth) (dump : Image) (space : Space) : Type 0 where
   pub translates : TranslatesAs depth dump.frames dump.root space
-  pub once : IsDistinct nat_eq (reached (moves depth dump.frames dump.root))
+  pub once : IsDistinct nat_eq (reached (traversal depth dump.frames dump.root))
   pub none_stray : (number : ℕ) → IsStray depth dump.frames dump.root number → ⊥

@@ -1,6 +1,5 @@
 pub mod Faults
-pub mod Comparing
-pub mod Checking
+pub mod inside
 pub use Rattle.vs_types.specs.Depth
 pub use Rattle.vs_types.specs.Space
 pub use Rattle.vs_types.specs.Refusal

@@ -3,8 +3,8 @@ ghost use Rattle.std.specs.FinMap as finite;
 ghost use Rattle.vs_types.specs.Refusal.{IfRefused};
 ghost use Rattle.vs_walk.specs.Differences.{IsLeast};
 ghost use Rattle.vs_walk.specs.Dump.{IsDump};
-ghost use Rattle.nr_dump.specs.Checking.{IsOutside};
-ghost use Rattle.nr_dump.specs.Faults.{IsFirst, HasNoFault, FitsSpace};
+ghost use Rattle.nr_dump.specs.inside.Checking.{IsOutside};
+ghost use Rattle.nr_dump.specs.Faults.{IsFirstOfDump, HasNoFault, FitsSpace};
 
 use crate::comparison::Comparison;
 use crate::fault::DumpFault;
@@ -47,7 +47,7 @@ fn least_outside(dump: &Dump, numbers: &Reached) -> Option<u64>
 pub fn check(alloc: Global, dump: &Dump, space: &PlainSpace) -> Result<(), Fail<DumpFault>>
     ensures fits { OnOk result (FitsSpace space.now.depth dump.now space.now.space) }
     ensures faultless { OnOk result (HasNoFault space.now.depth dump.now space.now.space) }
-    ensures first { IfErr result (IfRefused (IsFirst space.now.depth dump.now space.now.space)) }
+    ensures first { IfErr result (IfRefused (IsFirstOfDump space.now.depth dump.now space.now.space)) }
 {
     let mut comparison = Comparison::new(space.pages()?);
     let reached = match traverse(alloc, dump, dump.root(), space.depth(), &mut comparison) {

@@ -1,6 +1,6 @@
 ghost use Rattle.std.specs.Prelude.{◌≡◌, ◌↔◌, ◌+◌, ◌<◌, ◌^◌, ◌++◌, ◌∷◌, [], List, IsTrue, IsOk, IfOk, IfSome, option_map};
 ghost use Rattle.std.specs.List.{slice_get};
-ghost use Rattle.nr_dump.specs.Comparing.{AreTaken, HasCompared, IsCompared};
+ghost use Rattle.nr_dump.specs.inside.Comparing.{AreTaken, HasCompared, IsCompared};
 ghost use Rattle.vs_types.specs.declared.page.Page.{Page};
 
 use vs_types::{Memory, Page};

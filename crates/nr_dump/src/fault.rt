@@ -1,5 +1,5 @@
 ghost use Rattle.std.specs.Prelude.{◌≡◌};
-ghost use Rattle.nr_dump.specs.Checking.{of_walk};
+ghost use Rattle.nr_dump.specs.inside.Checking.{of_walk};
 
 use vs_walk::WalkFault;
 

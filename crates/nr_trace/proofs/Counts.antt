@@ -2,7 +2,7 @@
 use Rattle.std.proofs.Common.{◌≡◌, ℕ, ◌^◌, ◌<◌, List, ◌++◌, drop, sym, ap, ◌∙◌, arith}
 use Rattle.std.specs.Int.{w8, w16, w32, to_be_bytes, from_be_bytes}
 use Rattle.std.proofs.lemmas.Nat.{from_be_bytes-to_be_bytes_4}
-use Rattle.nr_trace.specs.Reading.{SpellsCounts}
+use Rattle.nr_trace.specs.inside.Reading.{SpellsCounts}
 use Rattle.nr_trace.specs.declared.reading.header.Header.{Header}
 
 abbrev pub counts_bytes : ℕ → ℕ → ℕ → ℕ → ℕ → ℕ → List ℕ → List ℕ

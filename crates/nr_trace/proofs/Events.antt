@@ -18,7 +18,7 @@ use Rattle.vs_types.specs.declared.answer.Answer.TheVariants.{Done, Overlap, Ful
 use Rattle.nr_trace.specs.Codes.{kind_code, size_code, rights_code, answer_code}
 use Rattle.nr_trace.specs.Recording.{IsAnswer}
 use Rattle.nr_trace.specs.Spelling.{RequestFields, request_fields, AnswerFields, answer_fields}
-use Rattle.nr_trace.specs.Reading.{IsRequest, HasFields, SpellsEvent}
+use Rattle.nr_trace.specs.inside.Reading.{IsRequest, HasFields, SpellsEvent}
 use Rattle.nr_trace.specs.declared.event.Event.{Event}
 use Rattle.nr_trace.specs.declared.event.Event.TheVariants.{Call, Reply}
 use Rattle.nr_trace.proofs.Fields.{same_u8, same_u16, same_u32, same_u64}
@@ -48,13 +48,13 @@ request_fits depth (Update (Unmap base)) h = record { kind = omega arith; size =
 request_fits depth (Update (Protect base rights)) h = record { kind = omega arith; size = omega arith; rights = rights_fit rights; address = below_64 depth base h.canonical; physical = omega arith }
 request_fits depth (Resolve address) h = record { kind = omega arith; size = omega arith; rights = omega arith; address = below_64 depth address h; physical = omega arith }
 
--- the bytes behind the tag of a call
+-- the bytes after the tag of a call
 abbrev pub call_bytes : ℕ → ℕ → ℕ → RequestFields → ℕ → List ℕ → List ℕ
 call_bytes replica thread kind fields unused rest =
     to_be_bytes w8 replica ++ (to_be_bytes w16 thread ++ (to_be_bytes w8 kind ++ (to_be_bytes w8 fields.size ++ (to_be_bytes w8 fields.rights
     ++ (to_be_bytes w8 unused ++ (to_be_bytes w64 fields.address ++ (to_be_bytes w64 fields.physical ++ rest)))))))
 
--- the numbers in the bytes behind the tag of a call, and their ranges
+-- the numbers in the bytes after the tag of a call, and their ranges
 pub record CallNumbers (bytes : List ℕ) (replica thread kind : ℕ) (fields : RequestFields) (unused : ℕ) (rest : List ℕ) : Type 0 where
   pub parts : bytes ≡ call_bytes replica thread kind fields unused rest
   pub replica_fits : replica < 2 ^ 8
@@ -122,13 +122,13 @@ answer_fits (Inside base) h = only_value_fits base h
 answer_fits (Changed rights) h = record { size = omega arith; rights = rights_fit rights; value = omega arith }
 answer_fits (Mapped phys size rights) h = record { size = size_fits size; rights = rights_fit rights; value = h }
 
--- the bytes behind the tag of a reply
+-- the bytes after the tag of a reply
 abbrev pub reply_bytes : ℕ → AnswerFields → ℕ → ℕ → ℕ → List ℕ → List ℕ
 reply_bytes code fields call at unused rest =
     to_be_bytes w8 code ++ (to_be_bytes w8 fields.size ++ (to_be_bytes w8 fields.rights ++ (to_be_bytes w32 call ++ (to_be_bytes w32 at
     ++ (to_be_bytes w32 unused ++ (to_be_bytes w64 fields.value ++ rest))))))
 
--- the numbers in the bytes behind the tag of a reply, and their ranges
+-- the numbers in the bytes after the tag of a reply, and their ranges
 pub record ReplyNumbers (bytes : List ℕ) (code : ℕ) (fields : AnswerFields) (call at unused : ℕ) (rest : List ℕ) : Type 0 where
   pub parts : bytes ≡ reply_bytes code fields call at unused rest
   pub code_fits : code < 2 ^ 8

@@ -3,7 +3,7 @@ use Rattle.std.proofs.Common.{◌≡◌, ℕ, zero, suc, ◌<◌, List, [], ◌�
 use Rattle.std.specs.List.{IsDistinct}
 use Rattle.std.specs.Prelude.{nat_eq}
 use Rattle.std.proofs.lemmas.Option.{same_Some}
-use Rattle.nr_trace.specs.Calls.{Made, Answered, IsCall, IsAnswered, Answers, Precedes, call_of, reply_to}
+use Rattle.nr_trace.specs.Calls.{Invocation, Response, IsCall, IsAnswered, Answers, Precedes, call_of, reply_to}
 use Rattle.nr_trace.specs.Orders.{before, space_after, answer_in, IsLegalOrder}
 use Rattle.nr_trace.specs.Examples.{map_then_resolve}
 use Rattle.nr_trace.proofs.ExamplesOfAnswers.{map_answer, resolve_answer}
@@ -54,20 +54,20 @@ precedes first second a b = both (λ first. Precedes map_then_resolve first seco
       none_before index h = omega arith
 
 abbrev Right : ℕ → Type 0
-Right call = (made : Made) (reply : Answered) → call_of map_then_resolve call ≡ Some made → reply_to map_then_resolve call ≡ Some reply
+Right call = (made : Invocation) (reply : Response) → call_of map_then_resolve call ≡ Some made → reply_to map_then_resolve call ≡ Some reply
     → reply.answer ≡ answer_in map_then_resolve.layout (space_after map_then_resolve (before call order)) made.request
 
 first_right : Right 0
 first_right made reply e f =
-    ap (λ (r : Answered). r.answer) (sym (same_Some _ reply f)) ∙ sym map_answer
-    ∙ ap (λ (m : Made). answer_in map_then_resolve.layout (space_after map_then_resolve []) m.request) (same_Some _ made e)
+    ap (λ (r : Response). r.answer) (sym (same_Some _ reply f)) ∙ sym map_answer
+    ∙ ap (λ (m : Invocation). answer_in map_then_resolve.layout (space_after map_then_resolve []) m.request) (same_Some _ made e)
 
 second_right : Right 2
 second_right made reply e f =
-    ap (λ (r : Answered). r.answer) (sym (same_Some _ reply f)) ∙ sym resolve_answer
-    ∙ ap (λ (m : Made). answer_in map_then_resolve.layout (space_after map_then_resolve (0 ∷ [])) m.request) (same_Some _ made e)
+    ap (λ (r : Response). r.answer) (sym (same_Some _ reply f)) ∙ sym resolve_answer
+    ∙ ap (λ (m : Invocation). answer_in map_then_resolve.layout (space_after map_then_resolve (0 ∷ [])) m.request) (same_Some _ made e)
 
-is_a_call : (call : ℕ) (made : Made) → call_of map_then_resolve call ≡ Some made → IsCall map_then_resolve call
+is_a_call : (call : ℕ) (made : Invocation) → call_of map_then_resolve call ≡ Some made → IsCall map_then_resolve call
 is_a_call call made e = rw e refl
 
 pub legal : IsLegalOrder map_then_resolve order

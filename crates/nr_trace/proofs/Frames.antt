@@ -16,10 +16,10 @@ use Rattle.vs_walk.specs.Dump.{Image}
 use Rattle.vs_types.specs.Frame.{IsFrame}
 use Rattle.nr_trace.specs.Recording.{IsImage}
 use Rattle.nr_trace.specs.Spelling.{dump_head, frame_number, frame_words, dump}
-use Rattle.nr_trace.specs.Reading.{SpellsHead}
+use Rattle.nr_trace.specs.inside.Reading.{SpellsHead}
 use Rattle.nr_trace.specs.declared.reading.header.DumpHead.{DumpHead}
 use Rattle.nr_trace.specs.FirstFault.{AtUnit, AtFrames, AtDumps, IsNext, Head, IsHead}
-use Rattle.nr_trace.specs.Progress.{HasRead, AreInRange, IsOpened, AreBelow, BehindDumps, Ahead, said, whole_spelling, opened_spelling}
+use Rattle.nr_trace.specs.inside.Progress.{HasRead, AreInRange, IsOpened, AreBelow, BehindDumps, Ahead, said, whole_spelling, opened_spelling}
 use Rattle.nr_trace.specs.declared.fault.Format.{Format}
 use Rattle.nr_trace.specs.declared.fault.Format.TheVariants.{BadCount, BadFrame}
 use Rattle.nr_trace.specs.declared.reading.parts.Parts.{Parts}
@@ -109,7 +109,7 @@ grown_spelled opened number words unit some above is =
     ∙ sym (append_assoc (opened_spelling opened) (frame_number number) (frame_words words))
     ∙ ap (λ (l : List ℕ). opened_spelling opened ++ frame_number number ++ l) (sym is)
 
--- the frame goes behind the others, whatever the reader does then
+-- the frame goes after the others, whatever the reader does then
 words_faults : (parts : Parts) (opened : Opened) (number : ℕ) (words unit rest : List ℕ) (fault : Format) → AreBelow opened number → IsFrame words → unit ≡ frame_words words
     → AtFrames (length parts.dumps.items) (finite.len (grown opened number words).dump.frames) (opened.left - 1) (Some number) (BehindDumps parts 1) rest fault
     → Ahead (Words parts opened number) (unit ++ rest) fault
@@ -171,7 +171,7 @@ grown_is_image parts opened number words is_opened fits above are =
       words = grown_words opened number words is_opened.words are above;
     }
 
--- no frame is left, and the dump goes behind the others
+-- no frame is left, and the dump goes after the others
 pub dump_taken : (parts : Parts) (held : Vec Image) (opened : Opened) (number : ℕ) (words unit : List ℕ) → IsOpened parts opened → number < 2 ^ 40 → AreBelow opened number → IsFrame words → unit ≡ frame_words words
     → opened.left - 1 ≡ 0 → held.items ≡ parts.dumps.items ++ (grown opened number words).dump ∷ []
     → HasRead (said (Words parts opened number) ++ unit) (λ rest fault. Ahead (Words parts opened number) (unit ++ rest) fault) (Dumps (record parts { dumps = held }))

@@ -1,4 +1,4 @@
--- Calls, their first replies, and the entries that they stand behind, where no fault holds of the events, the log or a
+-- Calls, their first replies, and the entries that they stand after, where no fault holds of the events, the log or a
 -- reply's place.
 use Rattle.std.proofs.Common.{◌≡◌, ◌≢◌, ℕ, ◌<◌, ◌≤◌, ◌⊎◌, inl, inr, Bool, true, false, ◌==◌, length, slice_get, Option, Some, None, is_some, IsSome, option_and_then, refl, ap, sym, ◌∙◌, subst, arith, eq-eqb, eqb-true, if◌then◌else◌}
 use Rattle.std.proofs.lemmas.Bool.{both_ways, cases_eq, cases_order, cases_lt}
@@ -6,8 +6,8 @@ use Rattle.std.proofs.lemmas.Option.{same_Some, none-some, slice_get_within}
 use Rattle.vs_types.specs.declared.request.Query.{Query}
 use Rattle.vs_types.specs.declared.request.Query.TheVariants.{Update, Resolve}
 use Rattle.nr_trace.specs.Recording.{Recording}
-use Rattle.nr_trace.specs.Calls.{Made, made_by, call_of, operation_in, address_in, operation_of, IsCall, IsUpdate, IsRead, Answered, reply_in, reply_of, reply_to, Answers}
-use Rattle.nr_trace.specs.Faults.{StandsBehind}
+use Rattle.nr_trace.specs.Calls.{Invocation, made_by, call_of, operation_in, address_in, operation_of, IsCall, IsUpdate, IsRead, Response, reply_in, reply_of, reply_to, Answers}
+use Rattle.nr_trace.specs.Faults.{StandsAfter}
 use Rattle.nr_trace.specs.Laws.{HasCleanLog}
 use Rattle.nr_trace.specs.declared.event.Event.{Event}
 use Rattle.nr_trace.proofs.LawsOfLists.{first_given, given_first}
@@ -27,7 +27,7 @@ some_or_none (Some x) = inl refl
 
 -- ---- kinds of calls
 
-made_kinds : (o : Option Made) → IsSome o → IsSome (option_and_then (λ made. operation_in made.request) o) ⊎ IsSome (option_and_then (λ made. address_in made.request) o)
+made_kinds : (o : Option Invocation) → IsSome o → IsSome (option_and_then (λ made. operation_in made.request) o) ⊎ IsSome (option_and_then (λ made. address_in made.request) o)
 made_kinds None h = absurd cc
 made_kinds (Some made) h = by_kind made.request where
   by_kind : (request : Query) → IsSome (operation_in request) ⊎ IsSome (address_in request)
@@ -37,7 +37,7 @@ made_kinds (Some made) h = by_kind made.request where
 pub update_or_read : (trace : Recording) (call : ℕ) → IsCall trace call → IsUpdate trace call ⊎ IsRead trace call
 update_or_read trace call h = made_kinds (call_of trace call) h
 
-made_both : (o : Option Made) → IsSome (option_and_then (λ made. operation_in made.request) o) → IsSome (option_and_then (λ made. address_in made.request) o) → ⊥
+made_both : (o : Option Invocation) → IsSome (option_and_then (λ made. operation_in made.request) o) → IsSome (option_and_then (λ made. address_in made.request) o) → ⊥
 made_both None h k = cc
 made_both (Some made) h k = by_kind made.request h k where
   by_kind : (request : Query) → IsSome (operation_in request) → IsSome (address_in request) → ⊥
@@ -52,10 +52,10 @@ then_some f None h = absurd cc
 then_some f (Some x) h = refl
 
 pub update_is_call : (trace : Recording) (call : ℕ) → IsUpdate trace call → IsCall trace call
-update_is_call trace call h = then_some (λ (made : Made). operation_in made.request) (call_of trace call) h
+update_is_call trace call h = then_some (λ (made : Invocation). operation_in made.request) (call_of trace call) h
 
 pub read_is_call : (trace : Recording) (call : ℕ) → IsRead trace call → IsCall trace call
-read_is_call trace call h = then_some (λ (made : Made). address_in made.request) (call_of trace call) h
+read_is_call trace call h = then_some (λ (made : Invocation). address_in made.request) (call_of trace call) h
 
 pub call_within : (trace : Recording) (call : ℕ) → IsCall trace call → call < length trace.events
 call_within trace call h =
@@ -77,54 +77,54 @@ update_from_not_not trace call h = by_case (some_or_none (operation_of trace cal
 
 -- ---- first replies
 
-abbrev naming : ℕ → Event → Option Answered
-naming call event = option_and_then (λ (reply : Answered). if reply.call == call then Some reply else None) (reply_in event)
+abbrev naming : ℕ → Event → Option Response
+naming call event = option_and_then (λ (reply : Response). if reply.call == call then Some reply else None) (reply_in event)
 
-named : (call : ℕ) (o : Option Answered) (reply : Answered) → option_and_then (λ (r : Answered). if r.call == call then Some r else None) o ≡ Some reply → (o ≡ Some reply) × (reply.call ≡ call)
+named : (call : ℕ) (o : Option Response) (reply : Response) → option_and_then (λ (r : Response). if r.call == call then Some r else None) o ≡ Some reply → (o ≡ Some reply) × (reply.call ≡ call)
 named call None reply e = absurd (none-some reply e)
 named call (Some r) reply e = by_test (r.call == call) refl e where
   by_test : (b : Bool) → (r.call == call) ≡ b → (if b then Some r else None) ≡ Some reply → (Some r ≡ Some reply) × (reply.call ≡ call)
-  by_test true h k = (k, ap (λ (a : Answered). a.call) (sym (same_Some r reply k)) ∙ eqb-true r.call call h)
+  by_test true h k = (k, ap (λ (a : Response). a.call) (sym (same_Some r reply k)) ∙ eqb-true r.call call h)
   by_test false h k = absurd (none-some reply k)
 
-naming_it : (call : ℕ) (o : Option Answered) (reply : Answered) → o ≡ Some reply → reply.call ≡ call → option_and_then (λ (r : Answered). if r.call == call then Some r else None) o ≡ Some reply
+naming_it : (call : ℕ) (o : Option Response) (reply : Response) → o ≡ Some reply → reply.call ≡ call → option_and_then (λ (r : Response). if r.call == call then Some r else None) o ≡ Some reply
 naming_it call o reply e f =
     let h = eq-eqb reply.call call f in
     rw (e, h) refl
 
 -- a first reply is the reply of some event, and names the call
-pub reply_event : (trace : Recording) (call : ℕ) (reply : Answered) → reply_to trace call ≡ Some reply → (index : ℕ) × (reply_of trace index ≡ Some reply) × (reply.call ≡ call)
+pub reply_event : (trace : Recording) (call : ℕ) (reply : Response) → reply_to trace call ≡ Some reply → (index : ℕ) × (reply_of trace index ≡ Some reply) × (reply.call ≡ call)
 reply_event trace call reply e =
     let (index, event, at, gives) = first_given (naming call) trace.events reply e in
     let both = named call (reply_in event) reply gives in
     (index, ap (option_and_then reply_in) at ∙ both.0, both.1)
 
-pub answers_from : (trace : Recording) (index call : ℕ) (reply : Answered) → reply_of trace index ≡ Some reply → reply.call ≡ call → Answers trace index call
+pub answers_from : (trace : Recording) (index call : ℕ) (reply : Response) → reply_of trace index ≡ Some reply → reply.call ≡ call → Answers trace index call
 answers_from trace index call reply e f = is_some_from _ reply (naming_it call (reply_of trace index) reply e f)
 
-pub reply_that_answers : (trace : Recording) (index call : ℕ) → Answers trace index call → (reply : Answered) × (reply_of trace index ≡ Some reply) × (reply.call ≡ call)
+pub reply_that_answers : (trace : Recording) (index call : ℕ) → Answers trace index call → (reply : Response) × (reply_of trace index ≡ Some reply) × (reply.call ≡ call)
 reply_that_answers trace index call h =
     let (reply, is) = the_some _ h in
     let both = named call (reply_of trace index) reply is in
     (reply, both.0, both.1)
 
-pub reply_in_event : (o : Option Event) (reply : Answered) → option_and_then reply_in o ≡ Some reply → (event : Event) × (o ≡ Some event) × (reply_in event ≡ Some reply)
+pub reply_in_event : (o : Option Event) (reply : Response) → option_and_then reply_in o ≡ Some reply → (event : Event) × (o ≡ Some event) × (reply_in event ≡ Some reply)
 reply_in_event None reply e = absurd (none-some reply e)
 reply_in_event (Some event) reply e = (event, refl, e)
 
-naming_none : (call : ℕ) (o : Option Event) → (IsSome (option_and_then (λ (r : Answered). if r.call == call then Some r else None) (option_and_then reply_in o)) → ⊥) → option_and_then (naming call) o ≡ None
+naming_none : (call : ℕ) (o : Option Event) → (IsSome (option_and_then (λ (r : Response). if r.call == call then Some r else None) (option_and_then reply_in o)) → ⊥) → option_and_then (naming call) o ≡ None
 naming_none call None h = refl
 naming_none call (Some event) h = none_from_not_some (naming call event) h
 
 -- where no call is answered twice, each reply is the first to its call
-pub reply_is_first : (trace : Recording) (index : ℕ) (reply : Answered) → HasCleanLog trace → reply_of trace index ≡ Some reply → reply_to trace reply.call ≡ Some reply
+pub reply_is_first : (trace : Recording) (index : ℕ) (reply : Response) → HasCleanLog trace → reply_of trace index ≡ Some reply → reply_to trace reply.call ≡ Some reply
 reply_is_first trace index reply clean e =
     let (event, at, is) = reply_in_event (slice_get trace.events index) reply e in
     given_first (naming reply.call) trace.events reply index event at (naming_it reply.call (reply_in event) reply is refl)
     (λ j l. naming_none reply.call (slice_get trace.events j) (λ h. clean.none_twice index (reply, e, (j, l, h))))
 
--- a reply comes behind its call
-pub reply_behind_call : (trace : Recording) (index : ℕ) (reply : Answered) → HasCleanLog trace → reply_of trace index ≡ Some reply → (reply.call < index) × IsCall trace reply.call
+-- a reply comes after its call
+pub reply_behind_call : (trace : Recording) (index : ℕ) (reply : Response) → HasCleanLog trace → reply_of trace index ≡ Some reply → (reply.call < index) × IsCall trace reply.call
 reply_behind_call trace index reply clean e = by_order (cases_lt reply.call index) (some_or_none (call_of trace reply.call)) where
   too_late : reply.call < index → index ≤ reply.call → ⊥
   too_late h l = omega arith
@@ -143,8 +143,8 @@ same_option (Some m) n h = by_order (cases_eq m n) where
   by_order (inl e) = ap Some e
   by_order (inr k) = absurd (h (λ e. k (same_Some m n e)))
 
--- an answered call stands behind as many entries as its reply says
-pub answered_stands : (trace : Recording) (call : ℕ) (reply : Answered) → HasCleanLog trace → reply_to trace call ≡ Some reply → StandsBehind trace call reply.at × (reply.at ≤ length trace.log)
+-- an answered call stands after as many entries as its reply says
+pub answered_stands : (trace : Recording) (call : ℕ) (reply : Response) → HasCleanLog trace → reply_to trace call ≡ Some reply → StandsAfter trace call reply.at × (reply.at ≤ length trace.log)
 answered_stands trace call reply clean e = by_kind (update_or_read trace call is_call) where
   event : (index : ℕ) × (reply_of trace index ≡ Some reply) × (reply.call ≡ call)
   event = reply_event trace call reply e
@@ -152,7 +152,7 @@ answered_stands trace call reply clean e = by_kind (update_or_read trace call is
   is_call : IsCall trace call
   is_call = subst (IsCall trace) event.2 (reply_behind_call trace event.0 reply clean event.1).1
 
-  by_kind : IsUpdate trace call ⊎ IsRead trace call → StandsBehind trace call reply.at × (reply.at ≤ length trace.log)
+  by_kind : IsUpdate trace call ⊎ IsRead trace call → StandsAfter trace call reply.at × (reply.at ≤ length trace.log)
   by_kind (inl u) =
       let placed : slice_get trace.log reply.at ≡ Some reply.call = same_option (slice_get trace.log reply.at) reply.call (λ apart. clean.all_placed event.0 (reply, event.1, (subst (IsUpdate trace) (sym event.2) u, apart))) in
       let here : slice_get trace.log reply.at ≡ Some call = placed ∙ ap Some event.2 in
@@ -167,8 +167,8 @@ answered_stands trace call reply clean e = by_kind (update_or_read trace call is
 pub placed_is_update : (trace : Recording) (place call : ℕ) → HasCleanLog trace → slice_get trace.log place ≡ Some call → IsUpdate trace call
 placed_is_update trace place call clean e = update_from_not_not trace call (λ h. clean.updates_alone place (call, e, h))
 
--- a call stands behind one number of entries at most
-pub stands_once : (trace : Recording) (call m n : ℕ) → HasCleanLog trace → StandsBehind trace call m → StandsBehind trace call n → m ≡ n
+-- a call stands after one number of entries at most
+pub stands_once : (trace : Recording) (call m n : ℕ) → HasCleanLog trace → StandsAfter trace call m → StandsAfter trace call n → m ≡ n
 stands_once trace call m n clean (inl (u, e)) (inl (v, f)) = by_order (cases_order m n) where
   by_order : (m ≡ n) ⊎ ((m < n) ⊎ (n < m)) → m ≡ n
   by_order (inl h) = h
@@ -177,4 +177,4 @@ stands_once trace call m n clean (inl (u, e)) (inl (v, f)) = by_order (cases_ord
 stands_once trace call m n clean (inl (u, e)) (inr (r, reply, f, g)) = absurd (not_both trace call u r)
 stands_once trace call m n clean (inr (r, reply, f, g)) (inl (u, e)) = absurd (not_both trace call u r)
 stands_once trace call m n clean (inr (r, reply, f, g)) (inr (s, other, h, k)) =
-    sym g ∙ ap (λ (a : Answered). a.at) (same_Some reply other (sym f ∙ h)) ∙ k
+    sym g ∙ ap (λ (a : Response). a.at) (same_Some reply other (sym f ∙ h)) ∙ k

@@ -9,9 +9,9 @@ use Rattle.vs_walk.specs.declared.walk.Walk.TheVariants as walks
 use Rattle.nr_trace.specs.Recording.{Recording}
 use Rattle.nr_trace.specs.Codes.{size_code, rights_code}
 use Rattle.nr_trace.specs.Spelling.{AnswerFields}
-use Rattle.nr_trace.specs.Calls.{Made, call_of, IsUpdate, IsRead, Answered, reply_of, reply_to}
+use Rattle.nr_trace.specs.Calls.{Invocation, call_of, IsUpdate, IsRead, Response, reply_of, reply_to}
 use Rattle.nr_trace.specs.Orders.{below, before, updates, space_after, recorded_order, known_by, IsLegalOrder, FitsOrder}
-use Rattle.nr_trace.specs.Faults.{StandsBehind, RestsOnMore}
+use Rattle.nr_trace.specs.Faults.{StandsAfter, RestsOnMore}
 use Rattle.vs_walk.specs.Differences.{IsLeast, TranslatesOtherwise}
 use Rattle.nr_trace.specs.Laws.{HasCleanLog, IsFaultless}
 use Rattle.nr_trace.specs.declared.fault.Fault.TheVariants.{ThreadOpen, NoSuchCall, AnsweredTwice, NotAnUpdate, PlacedTwice, NotPlaced, PastLog, Early, WrongAnswer, PrefixPastLog, PrefixShort, Differs}
@@ -97,7 +97,7 @@ pub legal_if_faultless : (trace : Recording) → IsFaultless trace → IsLegalOr
 legal_if_faultless trace faultless = legal trace (clean_if_faultless trace faultless) (λ call h. faultless (Early call) h) (λ call h. faultless (WrongAnswer call) h)
 
 -- the dump has applied what an answer given at its replica rests on
-known_applied : (trace : Recording) (replica : ℕ) (dump : Image) (call : ℕ) (made : Made) (reply : Answered) → (RestsOnMore trace replica dump → ⊥)
+known_applied : (trace : Recording) (replica : ℕ) (dump : Image) (call : ℕ) (made : Invocation) (reply : Response) → (RestsOnMore trace replica dump → ⊥)
     → call_of trace call ≡ Some made → made.replica ≡ replica → reply_to trace call ≡ Some reply → (known_by trace reply ≤ dump.applied) × (reply.call ≡ call)
 known_applied trace replica dump call made reply no_more is_made here is_reply = (by_order (cases_lt dump.applied (known_by trace reply)), event.2) where
   event : (index : ℕ) × (reply_of trace index ≡ Some reply) × (reply.call ≡ call)
@@ -119,18 +119,18 @@ Applied trace dump call = Contains (take dump.applied trace.log) call
 applied_place : (trace : Recording) (dump : Image) (place call : ℕ) → place < dump.applied → slice_get trace.log place ≡ Some call → Applied trace dump call
 applied_place trace dump place call l e = Contains-from_in call (take dump.applied trace.log) (in_taken trace.log place dump.applied call l e)
 
-own_update : (trace : Recording) (dump : Image) (call : ℕ) (reply : Answered) → IsUpdate trace call → reply.call ≡ call → known_by trace reply ≤ dump.applied → StandsBehind trace call reply.at → Applied trace dump call
+own_update : (trace : Recording) (dump : Image) (call : ℕ) (reply : Response) → IsUpdate trace call → reply.call ≡ call → known_by trace reply ≤ dump.applied → StandsAfter trace call reply.at → Applied trace dump call
 own_update trace dump call reply u g l (inl (v, e)) =
     let k = known_of_update trace reply (subst (IsUpdate trace) (sym g) u) in
     applied_place trace dump reply.at call (omega arith) e
 own_update trace dump call reply u g l (inr r) = absurd (not_both trace call u r.0)
 
-earlier_update : (trace : Recording) (dump : Image) (call earlier : ℕ) (reply : Answered) → HasCleanLog trace → IsRead trace call → reply_to trace call ≡ Some reply → reply.call ≡ call → known_by trace reply ≤ dump.applied → reply.at ≤ length trace.log
+earlier_update : (trace : Recording) (dump : Image) (call earlier : ℕ) (reply : Response) → HasCleanLog trace → IsRead trace call → reply_to trace call ≡ Some reply → reply.call ≡ call → known_by trace reply ≤ dump.applied → reply.at ≤ length trace.log
     → IsUpdate trace earlier → In earlier (before call (recorded_order trace)) → Applied trace dump earlier
 earlier_update trace dump call earlier reply clean r is_reply g l within u i =
     let k = known_of_read trace reply (subst (IsRead trace) (sym g) r) in
     by_side (omega arith) (in_either earlier (blocks trace reply.at) (earlier_reads trace reply.at call) (subst (In earlier) (before_read trace reply.at call clean within (r, reply, is_reply, refl)) i)) where
-      by_stand : (m : ℕ) → m < dump.applied → StandsBehind trace earlier m → Applied trace dump earlier
+      by_stand : (m : ℕ) → m < dump.applied → StandsAfter trace earlier m → Applied trace dump earlier
       by_stand m m_less (inl (v, e)) = applied_place trace dump m earlier m_less e
       by_stand m m_less (inr s) = absurd (not_both trace earlier u s.0)
 
@@ -164,12 +164,12 @@ fits_if_faultless trace replica dump faultless is = record {
   in_log : (call : ℕ) → Applied trace dump call → Contains (take dump.applied (updates trace (recorded_order trace))) call
   in_log call h = subst (λ (log : List ℕ). Contains (take dump.applied log) call) (sym log_is) h
 
-  of_update : (call : ℕ) (made : Made) → call_of trace call ≡ Some made → made.replica ≡ replica → IsUpdate trace call → (reply : Answered) × (reply_to trace call ≡ Some reply) → Applied trace dump call
+  of_update : (call : ℕ) (made : Invocation) → call_of trace call ≡ Some made → made.replica ≡ replica → IsUpdate trace call → (reply : Response) × (reply_to trace call ≡ Some reply) → Applied trace dump call
   of_update call made is_made here u (reply, e) =
       let known = known_applied trace replica dump call made reply no_more is_made here e in
       own_update trace dump call reply u known.1 known.0 (answered_stands trace call reply clean e).0
 
-  of_read : (call earlier : ℕ) (made : Made) → call_of trace call ≡ Some made → made.replica ≡ replica → IsRead trace call → (reply : Answered) × (reply_to trace call ≡ Some reply) → IsUpdate trace earlier
+  of_read : (call earlier : ℕ) (made : Invocation) → call_of trace call ≡ Some made → made.replica ≡ replica → IsRead trace call → (reply : Response) × (reply_to trace call ≡ Some reply) → IsUpdate trace earlier
       → Contains (before call (recorded_order trace)) earlier → Applied trace dump earlier
   of_read call earlier made is_made here r (reply, e) u i =
       let known = known_applied trace replica dump call made reply no_more is_made here e in

@@ -14,7 +14,7 @@ use Rattle.vs_walk.specs.declared.walk.WalkFault.TheVariants as walks
 use Rattle.nr_trace.specs.Recording.{Recording}
 use Rattle.nr_trace.specs.Spelling.{Spells}
 use Rattle.nr_trace.specs.FirstFault.{HasFormatFault}
-use Rattle.nr_trace.specs.Calls.{Made, call_of, Answered}
+use Rattle.nr_trace.specs.Calls.{Invocation, call_of, Response}
 use Rattle.nr_trace.specs.Orders.{before, space_after, recorded_order}
 use Rattle.vs_walk.specs.Differences.{IsLeast, IsStray, TranslatesOtherwise}
 use Rattle.nr_trace.specs.Faults.{IsReplyWith, HasPlaced, HasDump, IsWrong, Holds, rank, Earlier, IsFirst, IsFirstOf}
@@ -147,7 +147,7 @@ earlier_parts trace f g e = below_from_less _ _ _ _ _ _ (ap₂ (slice_cmp nat_cm
 
 -- ---- the indexes of what holds
 
-pub reply_within : (trace : Recording) (index : ℕ) (P : Answered → Type 0) → IsReplyWith trace index P → index < length trace.events
+pub reply_within : (trace : Recording) (index : ℕ) (P : Response → Type 0) → IsReplyWith trace index P → index < length trace.events
 reply_within trace index P (reply, e, h) =
     let (event, at, is) = reply_in_event (slice_get trace.events index) reply e in
     slice_get_within trace.events index event at
@@ -158,7 +158,7 @@ placed_within trace place P (call, e, h) = slice_get_within trace.log place call
 pub dump_within : (trace : Recording) (replica : ℕ) (P : Image → Type 0) → HasDump trace replica P → replica < length trace.dumps
 dump_within trace replica P (dump, e, h) = slice_get_within trace.dumps replica dump e
 
-pub made_within : (trace : Recording) (call : ℕ) (made : Made) → call_of trace call ≡ Some made → call < length trace.events
+pub made_within : (trace : Recording) (call : ℕ) (made : Invocation) → call_of trace call ≡ Some made → call < length trace.events
 made_within trace call made e = call_within trace call (is_some_from (call_of trace call) made e)
 
 pub wrong_is_member : (trace : Recording) (call : ℕ) → HasCleanLog trace → IsWrong trace call → Contains (recorded_order trace) call

@@ -14,10 +14,10 @@ use Rattle.vs_types.specs.declared.answer.Answer.{Answer}
 use Rattle.nr_trace.specs.Recording.{Recording}
 use Rattle.nr_trace.specs.Codes.{answer_code}
 use Rattle.nr_trace.specs.Spelling.{answer_fields}
-use Rattle.nr_trace.specs.Calls.{Made, call_of, operation_of, address_of, IsCall, IsUpdate, IsRead, Answered, reply_to, IsAnswered}
+use Rattle.nr_trace.specs.Calls.{Invocation, call_of, operation_of, address_of, IsCall, IsUpdate, IsRead, Response, reply_to, IsAnswered}
 use Rattle.nr_trace.specs.Orders.{below, before, updates, operations, space_after, answer_in, reads_at, recorded_order}
-use Rattle.nr_trace.specs.Faults.{Holds, StandsBehind}
-use Rattle.nr_trace.specs.Laws.{HasCleanLog, IsLegalButPrecedence}
+use Rattle.nr_trace.specs.Faults.{Holds, StandsAfter}
+use Rattle.nr_trace.specs.Laws.{HasCleanLog, IsSerialOrder}
 use Rattle.nr_trace.specs.declared.fault.Fault.TheVariants.{WrongAnswer}
 use Rattle.nr_trace.proofs.LawsOfUnits.{answer_apart}
 use Rattle.nr_trace.proofs.LawsOfLists.{In, Contains-from_in, in_from_Contains, in_left, in_right, in_either, in_filter, in_filtered, in_flat_map, in_flat_mapped, in_below, below_in, below_split, distinct_append, distinct_filter, option_distinct, below_distinct, flat_map_distinct, flat_map_next, before_split, option_parts, take-next}
@@ -28,15 +28,15 @@ use Rattle.nr_trace.proofs.LawsOfCalls.{the_some, is_some_from, not_both, update
 abbrev pub saw : Recording → ℕ → ℕ → Bool
 saw trace n call = is_some (address_of trace call) && option_map_or (λ reply. reply.at == n) (reply_to trace call) false
 
-at_from_test : (o : Option Answered) (n : ℕ) → option_map_or (λ (reply : Answered). reply.at == n) o false ≡ true → (reply : Answered) × (o ≡ Some reply) × (reply.at ≡ n)
+at_from_test : (o : Option Response) (n : ℕ) → option_map_or (λ (reply : Response). reply.at == n) o false ≡ true → (reply : Response) × (o ≡ Some reply) × (reply.at ≡ n)
 at_from_test None n h = absurd (false≢true h)
 at_from_test (Some reply) n h = (reply, refl, eqb-true reply.at n h)
 
-test_from_at : (o : Option Answered) (n : ℕ) (reply : Answered) → o ≡ Some reply → reply.at ≡ n → option_map_or (λ (reply : Answered). reply.at == n) o false ≡ true
+test_from_at : (o : Option Response) (n : ℕ) (reply : Response) → o ≡ Some reply → reply.at ≡ n → option_map_or (λ (reply : Response). reply.at == n) o false ≡ true
 test_from_at o n reply e f = rw e (eq-eqb reply.at n f)
 
 abbrev ReadBehind : Recording → ℕ → ℕ → Type 0
-ReadBehind trace call n = IsRead trace call × (reply : Answered) × (reply_to trace call ≡ Some reply) × (reply.at ≡ n)
+ReadBehind trace call n = IsRead trace call × (reply : Response) × (reply_to trace call ≡ Some reply) × (reply.at ≡ n)
 
 pub read_from_saw : (trace : Recording) (n call : ℕ) → saw trace n call ≡ true → ReadBehind trace call n
 read_from_saw trace n call h =
@@ -56,47 +56,47 @@ reads_at_in trace n call h = in_filtered (saw trace n) call (below (length trace
 abbrev pub block : Recording → ℕ → List ℕ
 block trace n = reads_at trace n ++ option_to_list (slice_get trace.log n)
 
-pub in_block : (trace : Recording) (n call : ℕ) → HasCleanLog trace → In call (block trace n) → StandsBehind trace call n
+pub in_block : (trace : Recording) (n call : ℕ) → HasCleanLog trace → In call (block trace n) → StandsAfter trace call n
 in_block trace n call clean i = by_side (in_either call (reads_at trace n) (option_to_list (slice_get trace.log n)) i) where
-  by_side : In call (reads_at trace n) ⊎ In call (option_to_list (slice_get trace.log n)) → StandsBehind trace call n
+  by_side : In call (reads_at trace n) ⊎ In call (option_to_list (slice_get trace.log n)) → StandsAfter trace call n
   by_side (inl j) = inr (in_reads_at trace n call j)
   by_side (inr j) =
       let e = option_parts call (slice_get trace.log n) j in
       inl (placed_is_update trace n call clean e, e)
 
-pub block_in : (trace : Recording) (n call : ℕ) → StandsBehind trace call n → In call (block trace n)
+pub block_in : (trace : Recording) (n call : ℕ) → StandsAfter trace call n → In call (block trace n)
 block_in trace n call (inl (u, e)) = in_right call (reads_at trace n) (option_to_list (slice_get trace.log n)) (rw e (inl refl))
 block_in trace n call (inr h) = in_left call (reads_at trace n) (option_to_list (slice_get trace.log n)) (reads_at_in trace n call h)
 
 -- ---- the members of the order
 
--- what stands behind fewer than n entries, or places an entry before n
+-- what stands after fewer than n entries, or places an entry before n
 abbrev pub blocks : Recording → ℕ → List ℕ
 blocks trace n = flat_map (block trace) (below n)
 
-pub in_blocks : (trace : Recording) (n call : ℕ) → HasCleanLog trace → In call (blocks trace n) → (m : ℕ) × (m < n) × StandsBehind trace call m
+pub in_blocks : (trace : Recording) (n call : ℕ) → HasCleanLog trace → In call (blocks trace n) → (m : ℕ) × (m < n) × StandsAfter trace call m
 in_blocks trace n call clean i =
     let (m, j, k) = in_flat_map (block trace) call (below n) i in
     (m, in_below m n j, in_block trace m call clean k)
 
-pub blocks_in : (trace : Recording) (m n call : ℕ) → m < n → StandsBehind trace call m → In call (blocks trace n)
+pub blocks_in : (trace : Recording) (m n call : ℕ) → m < n → StandsAfter trace call m → In call (blocks trace n)
 blocks_in trace m n call l h = in_flat_mapped (block trace) call m (below n) (below_in m n l) (block_in trace m call h)
 
--- a member of the order stands behind some entries
-pub member_stands : (trace : Recording) (call : ℕ) → HasCleanLog trace → In call (recorded_order trace) → (n : ℕ) × (n ≤ length trace.log) × StandsBehind trace call n
+-- a member of the order stands after some entries
+pub member_stands : (trace : Recording) (call : ℕ) → HasCleanLog trace → In call (recorded_order trace) → (n : ℕ) × (n ≤ length trace.log) × StandsAfter trace call n
 member_stands trace call clean i =
     let (n, l, h) = in_blocks trace (length trace.log + 1) call clean i in
     (n, omega arith, h)
 
--- and what stands behind some entries is a member
-pub standing_is_member : (trace : Recording) (n call : ℕ) → n ≤ length trace.log → StandsBehind trace call n → In call (recorded_order trace)
+-- and what stands after some entries is a member
+pub standing_is_member : (trace : Recording) (n call : ℕ) → n ≤ length trace.log → StandsAfter trace call n → In call (recorded_order trace)
 standing_is_member trace n call l h = blocks_in trace n (length trace.log + 1) call (omega arith) h
 
-stands_as_call : (trace : Recording) (call n : ℕ) → StandsBehind trace call n → IsCall trace call
+stands_as_call : (trace : Recording) (call n : ℕ) → StandsAfter trace call n → IsCall trace call
 stands_as_call trace call n (inl (u, e)) = update_is_call trace call u
 stands_as_call trace call n (inr h) = read_is_call trace call h.0
 
-stands_answered : (trace : Recording) (call n : ℕ) → StandsBehind trace call n → IsAnswered trace call ⊎ IsUpdate trace call
+stands_answered : (trace : Recording) (call n : ℕ) → StandsAfter trace call n → IsAnswered trace call ⊎ IsUpdate trace call
 stands_answered trace call n (inl (u, e)) = inr u
 stands_answered trace call n (inr (r, reply, e, f)) = inl (is_some_from (reply_to trace call) reply e)
 
@@ -119,19 +119,19 @@ order_split trace n l =
     let (later, is) = below_split n (length trace.log + 1) (omega arith) in
     (flat_map (block trace) later, ap (flat_map (block trace)) is ∙ flat_map-append (block trace) (below n) (n ∷ later))
 
-not_in_blocks : (trace : Recording) (n call : ℕ) → HasCleanLog trace → StandsBehind trace call n → In call (blocks trace n) → ⊥
+not_in_blocks : (trace : Recording) (n call : ℕ) → HasCleanLog trace → StandsAfter trace call n → In call (blocks trace n) → ⊥
 not_in_blocks trace n call clean h i =
     let (m, l, k) = in_blocks trace n call clean i in
     let e = stands_once trace call m n clean k h in
     omega arith
 
-joined : (xs ys zs : List ℕ) (call : ℕ) → xs ++ ((ys ++ call ∷ []) ++ zs) ≡ (xs ++ ys) ++ call ∷ zs
-joined xs ys zs call = ap (λ ws. xs ++ ws) (append_assoc ys (call ∷ []) zs) ∙ sym (append_assoc xs ys (call ∷ zs))
+intersection : (xs ys zs : List ℕ) (call : ℕ) → xs ++ ((ys ++ call ∷ []) ++ zs) ≡ (xs ++ ys) ++ call ∷ zs
+intersection xs ys zs call = ap (λ ws. xs ++ ws) (append_assoc ys (call ∷ []) zs) ∙ sym (append_assoc xs ys (call ∷ zs))
 
 pub before_update : (trace : Recording) (n call : ℕ) → HasCleanLog trace → IsUpdate trace call → slice_get trace.log n ≡ Some call → before call (recorded_order trace) ≡ blocks trace n ++ reads_at trace n
 before_update trace n call clean u e =
     let (rest, is) = order_split trace n (within (slice_get_within trace.log n call e)) in
-    let split : recorded_order trace ≡ (blocks trace n ++ reads_at trace n) ++ call ∷ rest = is ∙ ap (λ o. blocks trace n ++ ((reads_at trace n ++ option_to_list o) ++ rest)) e ∙ joined (blocks trace n) (reads_at trace n) rest call in
+    let split : recorded_order trace ≡ (blocks trace n ++ reads_at trace n) ++ call ∷ rest = is ∙ ap (λ o. blocks trace n ++ ((reads_at trace n ++ option_to_list o) ++ rest)) e ∙ intersection (blocks trace n) (reads_at trace n) rest call in
     ap (before call) split ∙ before_split call (blocks trace n ++ reads_at trace n) rest (λ i. nowhere (in_either call (blocks trace n) (reads_at trace n) i)) where
       within : n < length trace.log → n ≤ length trace.log
       within l = omega arith
@@ -140,7 +140,7 @@ before_update trace n call clean u e =
       nowhere (inl i) = not_in_blocks trace n call clean (inl (u, e)) i
       nowhere (inr i) = not_both trace call u (in_reads_at trace n call i).0
 
--- the reads behind n entries with lower numbers than this one
+-- the reads after n entries with lower numbers than this one
 abbrev pub earlier_reads : Recording → ℕ → ℕ → List ℕ
 earlier_reads trace n call = filter (saw trace n) (below call)
 
@@ -151,8 +151,8 @@ reads_split trace n call h =
     let kept : filter (saw trace n) (call ∷ later) ≡ call ∷ filter (saw trace n) later = rw test refl in
     (filter (saw trace n) later, ap (filter (saw trace n)) is ∙ filter-append (saw trace n) (below call) (call ∷ later) ∙ ap (λ ys. earlier_reads trace n call ++ ys) kept)
 
-joined_inside : (xs ys zs ws us : List ℕ) (call : ℕ) → xs ++ (((ys ++ call ∷ zs) ++ ws) ++ us) ≡ (xs ++ ys) ++ call ∷ ((zs ++ ws) ++ us)
-joined_inside xs ys zs ws us call =
+intersection_inside : (xs ys zs ws us : List ℕ) (call : ℕ) → xs ++ (((ys ++ call ∷ zs) ++ ws) ++ us) ≡ (xs ++ ys) ++ call ∷ ((zs ++ ws) ++ us)
+intersection_inside xs ys zs ws us call =
     ap (λ vs. xs ++ (vs ++ us)) (append_assoc ys (call ∷ zs) ws) ∙ ap (λ vs. xs ++ vs) (append_assoc ys (call ∷ (zs ++ ws)) us) ∙ sym (append_assoc xs ys (call ∷ ((zs ++ ws) ++ us)))
 
 pub before_read : (trace : Recording) (n call : ℕ) → HasCleanLog trace → n ≤ length trace.log → ReadBehind trace call n → before call (recorded_order trace) ≡ blocks trace n ++ earlier_reads trace n call
@@ -161,7 +161,7 @@ before_read trace n call clean l h =
     let (later, reads) = reads_split trace n call h in
     let option = option_to_list (slice_get trace.log n) in
     let split : recorded_order trace ≡ (blocks trace n ++ earlier_reads trace n call) ++ call ∷ ((later ++ option) ++ rest) =
-    is ∙ ap (λ ys. blocks trace n ++ ((ys ++ option) ++ rest)) reads ∙ joined_inside (blocks trace n) (earlier_reads trace n call) later option rest call in
+    is ∙ ap (λ ys. blocks trace n ++ ((ys ++ option) ++ rest)) reads ∙ intersection_inside (blocks trace n) (earlier_reads trace n call) later option rest call in
     ap (before call) split ∙ before_split call (blocks trace n ++ earlier_reads trace n call) ((later ++ option) ++ rest) (λ i. nowhere (in_either call (blocks trace n) (earlier_reads trace n call) i)) where
       not_below : In call (below call) → ⊥
       not_below i = let l = in_below call call i in omega arith
@@ -195,15 +195,15 @@ with_reads trace n reads h =
     ∙ ap₂ ◌++◌ (operations_of_blocks trace n) (no_operations trace reads h)
     ∙ append-nil (operations trace (take n trace.log))
 
--- before a call that stands behind n entries come the operations of the first n places
-pub operations_before : (trace : Recording) (n call : ℕ) → HasCleanLog trace → n ≤ length trace.log → StandsBehind trace call n → operations trace (before call (recorded_order trace)) ≡ operations trace (take n trace.log)
+-- before a call that stands after n entries come the operations of the first n places
+pub operations_before : (trace : Recording) (n call : ℕ) → HasCleanLog trace → n ≤ length trace.log → StandsAfter trace call n → operations trace (before call (recorded_order trace)) ≡ operations trace (take n trace.log)
 operations_before trace n call clean l (inl (u, e)) =
     ap (operations trace) (before_update trace n call clean u e) ∙ with_reads trace n (reads_at trace n) (λ c i. (in_reads_at trace n c i).0)
 operations_before trace n call clean l (inr h) =
     ap (operations trace) (before_read trace n call clean l h)
     ∙ with_reads trace n (earlier_reads trace n call) (λ c i. (read_from_saw trace n c (in_filter (saw trace n) c (below call) i).1).0)
 
-pub space_before : (trace : Recording) (n call : ℕ) → HasCleanLog trace → n ≤ length trace.log → StandsBehind trace call n → space_after trace (before call (recorded_order trace)) ≡ space_after trace (take n trace.log)
+pub space_before : (trace : Recording) (n call : ℕ) → HasCleanLog trace → n ≤ length trace.log → StandsAfter trace call n → space_after trace (before call (recorded_order trace)) ≡ space_after trace (take n trace.log)
 space_before trace n call clean l h = ap (after_all trace.layout.depth trace.layout.tables no_pages) (operations_before trace n call clean l h)
 
 no_updates : (trace : Recording) (calls : List ℕ) → ((call : ℕ) → In call calls → IsRead trace call) → updates trace calls ≡ []
@@ -248,7 +248,7 @@ same_or_not a b =
       by_parts (inl c) (inl s) (inr n) v = inr (λ e. n (ap (λ x. (answer_fields x).rights) e))
       by_parts (inl c) (inl s) (inl r) (inr n) = inr (λ e. n (ap (λ x. (answer_fields x).value) e))
 
-pub right_answer : (trace : Recording) → ((call : ℕ) → Holds trace (WrongAnswer call) → ⊥) → (call : ℕ) (made : Made) (reply : Answered) → call_of trace call ≡ Some made → reply_to trace call ≡ Some reply
+pub right_answer : (trace : Recording) → ((call : ℕ) → Holds trace (WrongAnswer call) → ⊥) → (call : ℕ) (made : Invocation) (reply : Response) → call_of trace call ≡ Some made → reply_to trace call ≡ Some reply
     → reply.answer ≡ answer_in trace.layout (space_after trace (before call (recorded_order trace))) made.request
 right_answer trace right call made reply e f = by_case (same_or_not reply.answer (answer_in trace.layout (space_after trace (before call (recorded_order trace))) made.request)) where
   by_case : (reply.answer ≡ answer_in trace.layout (space_after trace (before call (recorded_order trace))) made.request) ⊎ (reply.answer ≢ answer_in trace.layout (space_after trace (before call (recorded_order trace))) made.request)
@@ -256,7 +256,7 @@ right_answer trace right call made reply e f = by_case (same_or_not reply.answer
   by_case (inl h) = h
   by_case (inr n) = absurd (right call (record { made = made; is_made = e; reply = reply; is_reply = f; differs = n }))
 
-pub legal_but_precedence : (trace : Recording) → HasCleanLog trace → ((call : ℕ) → Holds trace (WrongAnswer call) → ⊥) → IsLegalButPrecedence trace (recorded_order trace)
+pub legal_but_precedence : (trace : Recording) → HasCleanLog trace → ((call : ℕ) → Holds trace (WrongAnswer call) → ⊥) → IsSerialOrder trace (recorded_order trace)
 legal_but_precedence trace clean right = record {
   members = record {
     once = order_distinct trace clean;
@@ -266,13 +266,13 @@ legal_but_precedence trace clean right = record {
   };
   answers = right_answer trace right;
 } where
-  is_call : (call : ℕ) → (n : ℕ) × (n ≤ length trace.log) × StandsBehind trace call n → IsCall trace call
+  is_call : (call : ℕ) → (n : ℕ) × (n ≤ length trace.log) × StandsAfter trace call n → IsCall trace call
   is_call call (n, l, h) = stands_as_call trace call n h
 
-  kind : (call : ℕ) → (n : ℕ) × (n ≤ length trace.log) × StandsBehind trace call n → IsAnswered trace call ⊎ IsUpdate trace call
+  kind : (call : ℕ) → (n : ℕ) × (n ≤ length trace.log) × StandsAfter trace call n → IsAnswered trace call ⊎ IsUpdate trace call
   kind call (n, l, h) = stands_answered trace call n h
 
-  stands : (call : ℕ) → (reply : Answered) × (reply_to trace call ≡ Some reply) → Contains (recorded_order trace) call
+  stands : (call : ℕ) → (reply : Response) × (reply_to trace call ≡ Some reply) → Contains (recorded_order trace) call
   stands call (reply, e) =
       let both = answered_stands trace call reply clean e in
       Contains-from_in call (recorded_order trace) (standing_is_member trace reply.at call both.1 both.0)

@@ -5,9 +5,9 @@ use Rattle.std.specs.List.{cons_option}
 use Rattle.std.proofs.lemmas.Bool.{cases_order, cases_lt}
 use Rattle.std.proofs.lemmas.Option.{same_Some, none-some}
 use Rattle.nr_trace.specs.Recording.{Recording}
-use Rattle.nr_trace.specs.Calls.{operation_of, IsCall, IsUpdate, IsRead, Answered, reply_in, reply_of, reply_to, Precedes}
+use Rattle.nr_trace.specs.Calls.{operation_of, IsCall, IsUpdate, IsRead, Response, reply_in, reply_of, reply_to, Precedes}
 use Rattle.nr_trace.specs.Orders.{below, before, reads_at, recorded_order, known_by, floor, IsLegalOrder}
-use Rattle.nr_trace.specs.Faults.{Holds, StandsBehind}
+use Rattle.nr_trace.specs.Faults.{Holds, StandsAfter}
 use Rattle.nr_trace.specs.Laws.{HasCleanLog}
 use Rattle.nr_trace.specs.declared.fault.Fault.TheVariants.{Early, WrongAnswer}
 use Rattle.nr_trace.proofs.LawsOfLists.{In, Contains-from_in, in_from_Contains, in_left, in_right, in_filtered, below_in}
@@ -47,31 +47,31 @@ max_reaches a n (x ∷ xs) (inl e) = let h = max_grows (max a x) xs in omega ari
 max_reaches a n (x ∷ xs) (inr i) = max_reaches (max a x) n xs i
 
 -- what is known by a reply before a call was made is no more than its floor
-pub known_below_floor : (trace : Recording) (index call : ℕ) (reply : Answered) → index < call → reply_of trace index ≡ Some reply → known_by trace reply ≤ floor trace call
+pub known_below_floor : (trace : Recording) (index call : ℕ) (reply : Response) → index < call → reply_of trace index ≡ Some reply → known_by trace reply ≤ floor trace call
 known_below_floor trace index call reply l e =
     let (event, at, is) = reply_in_event (slice_get trace.events index) reply e in
     max_reaches 0 (known_by trace reply) (map (known_by trace) (filter_map reply_in (take call trace.events)))
     (in_map (known_by trace) (filter_map reply_in (take call trace.events)) reply (in_filter_map reply_in (take call trace.events) event reply (in_taken trace.events index call event l at) is))
 
-pub known_of_update : (trace : Recording) (reply : Answered) → IsUpdate trace reply.call → known_by trace reply ≡ reply.at + 1
+pub known_of_update : (trace : Recording) (reply : Response) → IsUpdate trace reply.call → known_by trace reply ≡ reply.at + 1
 known_of_update trace reply u =
     let (action, e) = the_some (operation_of trace reply.call) u in
     rw e refl
 
-pub known_of_read : (trace : Recording) (reply : Answered) → IsRead trace reply.call → known_by trace reply ≡ reply.at
+pub known_of_read : (trace : Recording) (reply : Response) → IsRead trace reply.call → known_by trace reply ≡ reply.at
 known_of_read trace reply r =
     let e = no_operation trace reply.call r in
     rw e refl
 
 -- ---- precedence
 
-in_front_of : (trace : Recording) (m n first second : ℕ) → HasCleanLog trace → m < n → n ≤ length trace.log → StandsBehind trace first m → StandsBehind trace second n → In first (before second (recorded_order trace))
+in_front_of : (trace : Recording) (m n first second : ℕ) → HasCleanLog trace → m < n → n ≤ length trace.log → StandsAfter trace first m → StandsAfter trace second n → In first (before second (recorded_order trace))
 in_front_of trace m n first second clean l k h (inl (u, e)) =
     rw (before_update trace n second clean u e) (in_left first (blocks trace n) (reads_at trace n) (blocks_in trace m n first l h))
 in_front_of trace m n first second clean l k h (inr r) =
     rw (before_read trace n second clean k r) (in_left first (blocks trace n) (earlier_reads trace n second) (blocks_in trace m n first l h))
 
-read_in_front : (trace : Recording) (n first second : ℕ) (reply : Answered) → HasCleanLog trace → n ≤ length trace.log → first < second → IsRead trace first → reply_to trace first ≡ Some reply → reply.at ≡ n → StandsBehind trace second n
+read_in_front : (trace : Recording) (n first second : ℕ) (reply : Response) → HasCleanLog trace → n ≤ length trace.log → first < second → IsRead trace first → reply_to trace first ≡ Some reply → reply.at ≡ n → StandsAfter trace second n
     → In first (before second (recorded_order trace))
 read_in_front trace n first second reply clean k l r f g (inl (u, e)) =
     rw (before_update trace n second clean u e) (in_right first (blocks trace n) (reads_at trace n) (reads_at_in trace n first (r, reply, f, g)))
@@ -79,8 +79,8 @@ read_in_front trace n first second reply clean k l r f g (inr s) =
     rw (before_read trace n second clean k s)
     (in_right first (blocks trace n) (earlier_reads trace n second) (in_filtered (saw trace n) first (below second) (below_in first second l) (saw_from_read trace n first (r, reply, f, g))))
 
--- a reply known before the second call was made, to a first call that stands behind `reply.at` entries
-first_in_front : (trace : Recording) (first second n : ℕ) (reply : Answered) → HasCleanLog trace → n ≤ length trace.log → StandsBehind trace second n → first < second
+-- a reply known before the second call was made, to a first call that stands after `reply.at` entries
+first_in_front : (trace : Recording) (first second n : ℕ) (reply : Response) → HasCleanLog trace → n ≤ length trace.log → StandsAfter trace second n → first < second
     → reply_to trace first ≡ Some reply → reply.call ≡ first → known_by trace reply ≤ n → IsUpdate trace first ⊎ IsRead trace first → In first (before second (recorded_order trace))
 first_in_front trace first second n reply clean k h l f g known (inl u) =
     let is = known_of_update trace reply (subst (IsUpdate trace) (sym g) u) in
@@ -94,13 +94,13 @@ first_in_front trace first second n reply clean k h l f g known (inr r) =
       by_order m (inr (inl less)) = in_front_of trace reply.at n first second clean less k (answered_stands trace first reply clean f).0 h
       by_order m (inr (inr more)) = absurd (omega arith)
 
-floor_kept : (trace : Recording) → ((call : ℕ) → Holds trace (Early call) → ⊥) → (call n : ℕ) → StandsBehind trace call n → floor trace call ≤ n
+floor_kept : (trace : Recording) → ((call : ℕ) → Holds trace (Early call) → ⊥) → (call n : ℕ) → StandsAfter trace call n → floor trace call ≤ n
 floor_kept trace in_time call n h = by_order (cases_lt n (floor trace call)) where
   by_order : (n < floor trace call) ⊎ (floor trace call ≤ n) → floor trace call ≤ n
   by_order (inl l) = absurd (in_time call (n, h, l))
   by_order (inr l) = l
 
-pub keeps_precedence : (trace : Recording) → HasCleanLog trace → ((call : ℕ) → Holds trace (Early call) → ⊥) → (first second n : ℕ) → n ≤ length trace.log → StandsBehind trace second n → Precedes trace first second
+pub keeps_precedence : (trace : Recording) → HasCleanLog trace → ((call : ℕ) → Holds trace (Early call) → ⊥) → (first second n : ℕ) → n ≤ length trace.log → StandsAfter trace second n → Precedes trace first second
     → In first (before second (recorded_order trace))
 keeps_precedence trace clean in_time first second n k h precedes =
     let (reply, e, g) = reply_that_answers trace precedes.1 first precedes.3 in
@@ -122,5 +122,5 @@ legal trace clean in_time right =
       precedence = λ first second a b p. in_front first second (member_stands trace second clean (in_from_Contains second (recorded_order trace) b)) p;
       answers = but.answers;
     } where
-      in_front : (first second : ℕ) → (n : ℕ) × (n ≤ length trace.log) × StandsBehind trace second n → Precedes trace first second → Contains (before second (recorded_order trace)) first
+      in_front : (first second : ℕ) → (n : ℕ) × (n ≤ length trace.log) × StandsAfter trace second n → Precedes trace first second → Contains (before second (recorded_order trace)) first
       in_front first second (n, l, h) p = Contains-from_in first (before second (recorded_order trace)) (keeps_precedence trace clean in_time first second n l h p)

@@ -69,7 +69,7 @@ events trace = flat_map event trace.events
 abbrev pub dumps : Recording → List ℕ
 dumps trace = flat_map dump trace.dumps
 
--- the spelling behind the magic and the version
+-- the spelling after the magic and the version
 abbrev pub numbered : Recording → List ℕ
 numbered trace = counts_of (counts_in trace) ++ (logs trace ++ (events trace ++ dumps trace))
 

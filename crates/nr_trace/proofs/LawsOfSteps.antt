@@ -9,7 +9,7 @@ use Rattle.vs_types.specs.Step.{step, after_all}
 use Rattle.vs_types.specs.declared.depth.Depth.{Depth}
 use Rattle.vs_types.specs.declared.op.Action.{Action}
 use Rattle.nr_trace.specs.Recording.{Recording}
-use Rattle.nr_trace.specs.Calls.{operation_of, Answered, reply_in, reply_of}
+use Rattle.nr_trace.specs.Calls.{operation_of, Response, reply_in, reply_of}
 use Rattle.nr_trace.specs.Orders.{operations, space_after, known_by, floor}
 use Rattle.nr_trace.specs.declared.event.Event.{Event}
 use Rattle.nr_trace.proofs.LawsOfLists.{take-next}
@@ -21,11 +21,11 @@ known_in trace o = map (known_by trace) (filter_map reply_in (option_to_list o))
 floor_next : (trace : Recording) (index : ℕ) → floor trace (suc index) ≡ fold max (floor trace index) (known_in trace (slice_get trace.events index))
 floor_next trace index =
     ap (λ (es : List Event). fold max 0 (map (known_by trace) (filter_map reply_in es))) (take-next index trace.events)
-    ∙ ap (λ (rs : List Answered). fold max 0 (map (known_by trace) rs)) (filter_map-append reply_in (take index trace.events) (option_to_list (slice_get trace.events index)))
+    ∙ ap (λ (rs : List Response). fold max 0 (map (known_by trace) rs)) (filter_map-append reply_in (take index trace.events) (option_to_list (slice_get trace.events index)))
     ∙ ap (fold max 0) (map-append (known_by trace) (filter_map reply_in (take index trace.events)) (filter_map reply_in (option_to_list (slice_get trace.events index))))
     ∙ fold-append max 0 (map (known_by trace) (filter_map reply_in (take index trace.events))) (known_in trace (slice_get trace.events index))
 
-known_of_reply : (trace : Recording) (o : Option Event) (reply : Answered) (n : ℕ) → option_and_then reply_in o ≡ Some reply → fold max n (known_in trace o) ≡ max n (known_by trace reply)
+known_of_reply : (trace : Recording) (o : Option Event) (reply : Response) (n : ℕ) → option_and_then reply_in o ≡ Some reply → fold max n (known_in trace o) ≡ max n (known_by trace reply)
 known_of_reply trace None reply n e = absurd cc
 known_of_reply trace (Some event) reply n e = rw e refl
 
@@ -33,13 +33,13 @@ known_of_other : (trace : Recording) (o : Option Event) (n : ℕ) → option_and
 known_of_other trace None n e = refl
 known_of_other trace (Some event) n e = rw e refl
 
--- a reply raises the floor of what is made behind it to what is known by it
-pub floor_behind_reply : (trace : Recording) (index : ℕ) (reply : Answered) → reply_of trace index ≡ Some reply → floor trace (index + 1) ≡ max (floor trace index) (known_by trace reply)
-floor_behind_reply trace index reply e = ap (floor trace) (add-one index) ∙ floor_next trace index ∙ known_of_reply trace (slice_get trace.events index) reply (floor trace index) e
+-- a reply raises the floor of what is made after it to what is known by it
+pub floor_after_reply : (trace : Recording) (index : ℕ) (reply : Response) → reply_of trace index ≡ Some reply → floor trace (index + 1) ≡ max (floor trace index) (known_by trace reply)
+floor_after_reply trace index reply e = ap (floor trace) (add-one index) ∙ floor_next trace index ∙ known_of_reply trace (slice_get trace.events index) reply (floor trace index) e
 
 -- and an event that is no reply leaves it
-pub floor_behind_other : (trace : Recording) (index : ℕ) → reply_of trace index ≡ None → floor trace (index + 1) ≡ floor trace index
-floor_behind_other trace index e = ap (floor trace) (add-one index) ∙ floor_next trace index ∙ known_of_other trace (slice_get trace.events index) (floor trace index) e
+pub floor_after_other : (trace : Recording) (index : ℕ) → reply_of trace index ≡ None → floor trace (index + 1) ≡ floor trace index
+floor_after_other trace index e = ap (floor trace) (add-one index) ∙ floor_next trace index ∙ known_of_other trace (slice_get trace.events index) (floor trace index) e
 
 pub floor_at_start : (trace : Recording) → floor trace 0 ≡ 0
 floor_at_start trace = refl

@@ -1,4 +1,4 @@
--- Each unit's spelling has a fixed length, and what fits is told apart by its spelling, whatever stands behind it.
+-- Each unit's spelling has a fixed length, and what fits is told apart by its spelling, whatever stands after it.
 use Rattle.std.proofs.Common.{◌≡◌, ℕ, zero, suc, ◌*◌, ◌<◌, ◌^◌, ◌%◌, Bool, true, false, List, [], ◌∷◌, ◌++◌, length, refl, ap, ap₂, sym, ◌∙◌, arith}
 use Rattle.std.specs.Prelude.{flat_map}
 use Rattle.std.specs.List.{AllByRecursion}
@@ -28,7 +28,7 @@ use Rattle.nr_trace.specs.FirstFault.{Counts, IsCounts, Head, IsHead}
 use Rattle.nr_trace.specs.declared.event.Event.{Event}
 use Rattle.nr_trace.specs.declared.event.Event.TheVariants.{Call, Reply}
 
--- two values that fit are one if their spellings begin one list, and then what stands behind is one too
+-- two values that fit are one if their spellings begin one list, and then what stands after is one too
 abbrev pub ToldApart : {A : Type 0} → (A → Type 0) → (A → List ℕ) → Type 0
 ToldApart {A} Fits spelled = (a b : A) (us vs : List ℕ) → Fits a → Fits b → spelled a ++ us ≡ spelled b ++ vs → (a ≡ b) × (us ≡ vs)
 

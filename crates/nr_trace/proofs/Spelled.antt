@@ -6,7 +6,7 @@ use Rattle.vs_types.specs.Config.{Layout}
 use Rattle.vs_walk.specs.Dump.{Image}
 use Rattle.nr_trace.specs.Spelling.{magic, version, counts, log_word, event, dump}
 use Rattle.nr_trace.specs.FirstFault.{AtLog, AtEvents, AtDumps}
-use Rattle.nr_trace.specs.Progress.{HasRead, AreInRange, parts_spelling}
+use Rattle.nr_trace.specs.inside.Progress.{HasRead, AreInRange, parts_spelling}
 use Rattle.nr_trace.specs.declared.event.Event.{Event}
 use Rattle.nr_trace.specs.declared.fault.Format.{Format}
 use Rattle.nr_trace.specs.declared.reading.parts.Parts.{Parts}

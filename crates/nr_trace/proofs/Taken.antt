@@ -5,14 +5,14 @@ use Rattle.vs_types.specs.Config.{Layout}
 use Rattle.vs_walk.specs.Dump.{Image}
 use Rattle.nr_trace.specs.Spelling.{log_word}
 use Rattle.nr_trace.specs.FirstFault.{AtLog, AtEvents}
-use Rattle.nr_trace.specs.Reading.{SpellsEvent}
-use Rattle.nr_trace.specs.Progress.{HasRead}
+use Rattle.nr_trace.specs.inside.Reading.{SpellsEvent}
+use Rattle.nr_trace.specs.inside.Progress.{HasRead}
 use Rattle.nr_trace.specs.declared.event.Event.{Event}
 use Rattle.nr_trace.specs.declared.reading.parts.Reader.{Reader}
 use Rattle.nr_trace.proofs.Spelled.{spelling_of, more_place, more_event}
 use Rattle.nr_trace.proofs.Units.{goes_on, place_passed, event_passed}
 
--- nothing stands behind a front that is as long as the unit
+-- nothing stands after a front that is as long as the unit
 pub only_front : (unit front rest : List ℕ) → unit ≡ front ++ rest → length unit ≡ length front → unit ≡ front
 only_front unit front rest e whole =
     let none : rest ≡ [] = nil_from_length rest (omega (arith, ap length e, whole, length-append front rest)) in

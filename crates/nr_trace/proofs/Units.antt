@@ -1,11 +1,11 @@
--- Faults at a unit, and behind it.
+-- Faults at a unit, and after it.
 use Rattle.std.proofs.Common.{◌≡◌, ◌≢◌, ℕ, zero, suc, ◌+◌, ◌-◌, ◌^◌, ◌<◌, ◌≤◌, List, ◌++◌, length, Option, Some, None, refl, sym, ap, subst, ◌∙◌, arith, inl, inr}
 use Rattle.std.proofs.lemmas.List.{take_at, length-append}
 use Rattle.vs_types.specs.Config.{Layout}
 use Rattle.nr_trace.specs.Recording.{IsEvent}
 use Rattle.nr_trace.specs.Spelling.{log_word, event}
 use Rattle.nr_trace.specs.FirstFault.{AtUnit, AtLog, AtEvents}
-use Rattle.nr_trace.specs.Progress.{HasRead}
+use Rattle.nr_trace.specs.inside.Progress.{HasRead}
 use Rattle.nr_trace.specs.declared.event.Event.{Event}
 use Rattle.nr_trace.specs.declared.fault.Format.{Format}
 use Rattle.nr_trace.specs.declared.fault.Format.TheVariants.{BadEvent}
@@ -17,7 +17,7 @@ pub refused : {A : Type 0} (bytes : ℕ) (own : Option Format) (Fits : A → Typ
 refused bytes own Fits spelled Behind fault unit rest whole is none =
     inr (inl (omega (arith, length-append unit rest), is, λ value fits e. none value fits (sym (take_at unit rest bytes whole) ∙ e)))
 
--- the unit spells a value, and what comes behind has the fault
+-- the unit spells a value, and what comes after has the fault
 pub passed : {A : Type 0} (bytes : ℕ) (own : Option Format) (Fits : A → Type 0) (spelled : A → List ℕ) (Behind : A → List ℕ → Format → Type 0) (fault : Format) (unit rest : List ℕ)
     (value : A) → Fits value → unit ≡ spelled value → Behind value rest fault → AtUnit bytes own Fits spelled Behind (unit ++ rest) fault
 passed bytes own Fits spelled Behind fault unit rest value fits e behind = inr (inr (value, rest, fits, ap (λ (l : List ℕ). l ++ rest) e, behind))

@@ -9,7 +9,7 @@ use Rattle.vs_types.specs.declared.refusal.Fail.TheVariants as fails
 use Rattle.nr_trace.specs.Recording.{Recording}
 use Rattle.nr_trace.specs.Spelling.{Spells}
 use Rattle.nr_trace.specs.FirstFault.{AtFrames, AtDumps, AtEvents, AtLog, HasFormatFault}
-use Rattle.nr_trace.specs.Progress.{unit_bytes, said, Ahead, IsReady, HasRead, IsFault}
+use Rattle.nr_trace.specs.inside.Progress.{unit_bytes, said, Ahead, IsReady, HasRead, IsFault}
 use Rattle.vs_types.specs.Refusal.{IfRefused}
 use Rattle.nr_trace.specs.declared.fault.Format.{Format}
 use Rattle.nr_trace.specs.declared.fault.Format.TheVariants.{Truncated, Trailing}

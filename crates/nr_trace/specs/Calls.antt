@@ -9,17 +9,17 @@ use Rattle.nr_trace.specs.declared.event.Event.{Event}
 use Rattle.nr_trace.specs.declared.event.Event.TheVariants.{Call, Reply}
 
 -- who makes a call, where, and what it asks
-pub record Made : Type 0 where
+pub record Invocation : Type 0 where
   pub replica : ℕ
   pub thread : ℕ
   pub request : Query
 
-abbrev pub made_by : Event → Option Made
+abbrev pub made_by : Event → Option Invocation
 made_by (Call replica thread request) = Some (record { replica = replica; thread = thread; request = request })
 made_by (Reply call at answer) = None
 
 -- the call of this number
-abbrev pub call_of : Recording → ℕ → Option Made
+abbrev pub call_of : Recording → ℕ → Option Invocation
 call_of trace call = option_and_then made_by (slice_get trace.events call)
 
 abbrev pub operation_in : Query → Option Action
@@ -47,24 +47,24 @@ abbrev pub IsRead : Recording → ℕ → Type 0
 IsRead trace call = IsSome (address_of trace call)
 
 -- what a reply says of its call
-pub record Answered : Type 0 where
+pub record Response : Type 0 where
   pub call : ℕ
   pub at : ℕ
   pub answer : Answer
 
-abbrev pub reply_in : Event → Option Answered
+abbrev pub reply_in : Event → Option Response
 reply_in (Call replica thread request) = None
 reply_in (Reply call at answer) = Some (record { call = call; at = at; answer = answer })
 
 -- the reply that the event of this index is
-abbrev pub reply_of : Recording → ℕ → Option Answered
+abbrev pub reply_of : Recording → ℕ → Option Response
 reply_of trace index = option_and_then reply_in (slice_get trace.events index)
 
-abbrev names : ℕ → Answered → Option Answered
+abbrev names : ℕ → Response → Option Response
 names call reply = if reply.call == call then Some reply else None
 
 -- the first reply to a call
-abbrev pub reply_to : Recording → ℕ → Option Answered
+abbrev pub reply_to : Recording → ℕ → Option Response
 reply_to trace call = slice_get (filter_map (λ event. option_and_then (names call) (reply_in event)) trace.events) 0
 
 abbrev pub IsAnswered : Recording → ℕ → Type 0

@@ -10,50 +10,50 @@ use Rattle.vs_walk.specs.declared.walk.WalkFault.TheVariants as walks
 use Rattle.nr_trace.specs.Recording.{Recording}
 use Rattle.nr_trace.specs.Spelling.{Spells}
 use Rattle.nr_trace.specs.FirstFault.{HasFormatFault}
-use Rattle.nr_trace.specs.Calls.{Made, call_of, Answered, reply_of, reply_to, Answers, IsCall, IsUpdate, IsRead}
+use Rattle.nr_trace.specs.Calls.{Invocation, call_of, Response, reply_of, reply_to, Answers, IsCall, IsUpdate, IsRead}
 use Rattle.nr_trace.specs.Orders.{before, space_after, answer_in, recorded_order, floor, known_by}
 use Rattle.nr_trace.specs.declared.fault.Fault.{Fault}
 use Rattle.nr_trace.specs.declared.fault.Fault.TheVariants.{Format, ThreadOpen, NoSuchCall, AnsweredTwice, NotAnUpdate, PlacedTwice, NotPlaced, PastLog, Early, WrongAnswer, PrefixPastLog, PrefixShort, MissingFrame, SharedFrame, ReservedBit, StrayFrame, Differs}
 
 -- the event is a call of a thread that has an earlier call with no reply before the event
 pub record OpensTwice (trace : Recording) (index : ℕ) : Type 0 where
-  pub made : Made
+  pub made : Invocation
   pub is_made : call_of trace index ≡ Some made
   pub earlier : ℕ
-  pub earlier_made : Made
+  pub earlier_made : Invocation
   pub is_earlier : earlier < index
   pub is_earlier_made : call_of trace earlier ≡ Some earlier_made
   pub same_thread : earlier_made.thread ≡ made.thread
   pub not_answered : (reply : ℕ) → reply < index → Answers trace reply earlier → ⊥
 
 -- the event is a reply, and what it says has the property
-abbrev pub IsReplyWith : Recording → ℕ → (Answered → Type 0) → Type 0
-IsReplyWith trace index P = (reply : Answered) × (reply_of trace index ≡ Some reply) × P reply
+abbrev pub IsReplyWith : Recording → ℕ → (Response → Type 0) → Type 0
+IsReplyWith trace index P = (reply : Response) × (reply_of trace index ≡ Some reply) × P reply
 
 -- the log has at the place a call with the property
 abbrev pub HasPlaced : Recording → ℕ → (ℕ → Type 0) → Type 0
 HasPlaced trace place P = (call : ℕ) × (slice_get trace.log place ≡ Some call) × P call
 
--- the call stands in the recorded order behind this many entries: an update, answered or not, or an answered read
-abbrev pub StandsBehind : Recording → ℕ → ℕ → Type 0
-StandsBehind trace call entries =
+-- the call stands in the recorded order after this many entries: an update, answered or not, or an answered read
+abbrev pub StandsAfter : Recording → ℕ → ℕ → Type 0
+StandsAfter trace call entries =
     (IsUpdate trace call × (slice_get trace.log entries ≡ Some call))
-    ⊎ (IsRead trace call × (reply : Answered) × (reply_to trace call ≡ Some reply) × (reply.at ≡ entries))
+    ⊎ (IsRead trace call × (reply : Response) × (reply_to trace call ≡ Some reply) × (reply.at ≡ entries))
 
 -- an answered call whose answer the space does not give in the recorded order
 pub record IsWrong (trace : Recording) (call : ℕ) : Type 0 where
-  pub made : Made
+  pub made : Invocation
   pub is_made : call_of trace call ≡ Some made
-  pub reply : Answered
+  pub reply : Response
   pub is_reply : reply_to trace call ≡ Some reply
   pub differs : reply.answer ≢ answer_in trace.layout (space_after trace (before call (recorded_order trace))) made.request
 
 -- a reply to a call made at the replica, by which more entries are known than the dump has applied
 pub record RestsOnMore (trace : Recording) (replica : ℕ) (dump : Image) : Type 0 where
   pub index : ℕ
-  pub reply : Answered
+  pub reply : Response
   pub is_reply : reply_of trace index ≡ Some reply
-  pub made : Made
+  pub made : Invocation
   pub is_made : call_of trace reply.call ≡ Some made
   pub here : made.replica ≡ replica
   pub more : dump.applied < known_by trace reply
@@ -72,7 +72,7 @@ Holds trace (NotAnUpdate place) = HasPlaced trace place (λ call. IsUpdate trace
 Holds trace (PlacedTwice place) = HasPlaced trace place (λ call. (earlier : ℕ) × (earlier < place) × (slice_get trace.log earlier ≡ Some call))
 Holds trace (NotPlaced index) = IsReplyWith trace index (λ reply. IsUpdate trace reply.call × (slice_get trace.log reply.at ≢ Some reply.call))
 Holds trace (PastLog index) = IsReplyWith trace index (λ reply. IsRead trace reply.call × (length trace.log < reply.at))
-Holds trace (Early call) = (entries : ℕ) × StandsBehind trace call entries × (entries < floor trace call)
+Holds trace (Early call) = (entries : ℕ) × StandsAfter trace call entries × (entries < floor trace call)
 Holds trace (WrongAnswer call) = IsWrong trace call
 Holds trace (PrefixPastLog replica) = HasDump trace replica (λ dump. length trace.log < dump.applied)
 Holds trace (PrefixShort replica) = HasDump trace replica (RestsOnMore trace replica)

@@ -9,7 +9,7 @@ use Rattle.nr_trace.specs.declared.fault.Format.{Format}
 use Rattle.nr_trace.specs.declared.fault.Format.TheVariants.{Truncated, BadMagic, BadVersion, BadCount, BadEvent, BadFrame, Trailing}
 
 -- at a unit of this many bytes the rest has the fault: it is shorter; or its front spells nothing that fits; or its front
--- spells a value, and what comes behind has the fault
+-- spells a value, and what comes after has the fault
 abbrev pub AtUnit : {A : Type 0} → ℕ → Option Format → (A → Type 0) → (A → List ℕ) → (A → List ℕ → Format → Type 0) → List ℕ → Format → Type 0
 AtUnit {A} bytes own Fits spelled Behind rest fault =
     ((length rest < bytes) × (fault ≡ Truncated))
@@ -74,14 +74,14 @@ unfoldable pub AtLog : Layout → ℕ → ℕ → List ℕ → Format → Type 0
 AtLog layout zero events rest fault = AtEvents layout 0 events rest fault
 AtLog layout (suc places) events rest fault = AtUnit 4 None (λ call. call < 2 ^ 32) log_word (λ _. AtLog layout places events) rest fault
 
--- the counts, and what comes behind them
+-- the counts, and what comes after them
 abbrev pub AtCounts : List ℕ → Format → Type 0
 AtCounts rest fault =
     AtUnit 14 (Some BadCount) IsCounts (λ numbers. counts numbers.layout numbers.places numbers.events) (λ numbers.
     AtLog numbers.layout numbers.places numbers.events)
     rest fault
 
--- the version, and what comes behind it
+-- the version, and what comes after it
 abbrev pub AtVersion : List ℕ → Format → Type 0
 AtVersion rest fault = AtUnit {A = Unit {0}} 2 (Some BadVersion) (λ _. ⊤) (λ _. version) (λ _. AtCounts) rest fault
 

@@ -4,7 +4,7 @@ use Rattle.nr_trace.specs.Recording.{Recording}
 use Rattle.nr_trace.specs.Orders.{HasItsCalls, HasTheAnswers, recorded_order}
 use Rattle.nr_trace.specs.declared.fault.Fault.{Fault}
 use Rattle.nr_trace.specs.declared.fault.Fault.TheVariants.{ThreadOpen, NoSuchCall, AnsweredTwice, NotAnUpdate, PlacedTwice, NotPlaced, PastLog, WrongAnswer}
-use Rattle.nr_trace.specs.Faults.{Holds, StandsBehind}
+use Rattle.nr_trace.specs.Faults.{Holds, StandsAfter}
 
 -- no fault holds of the events by themselves, of the log, or of a reply's place
 pub record HasCleanLog (trace : Recording) : Type 0 where
@@ -16,12 +16,12 @@ pub record HasCleanLog (trace : Recording) : Type 0 where
   pub all_placed : (index : ℕ) → Holds trace (NotPlaced index) → ⊥
   pub none_past_log : (index : ℕ) → Holds trace (PastLog index) → ⊥
 
--- the call stands behind some entries of the log
+-- the call stands after some entries of the log
 abbrev pub Stands : Recording → ℕ → Type 0
-Stands trace call = (entries : ℕ) × (entries ≤ length trace.log) × StandsBehind trace call entries
+Stands trace call = (entries : ℕ) × (entries ≤ length trace.log) × StandsAfter trace call entries
 
 -- a legal order, but that a call answered before another was made may come after it
-pub record IsLegalButPrecedence (trace : Recording) (order : List ℕ) : Type 0 where
+pub record IsSerialOrder (trace : Recording) (order : List ℕ) : Type 0 where
   pub members : HasItsCalls trace order
   pub answers : HasTheAnswers trace order
 

@@ -2,14 +2,13 @@ pub mod Recording
 pub mod Codes
 pub mod Spelling
 pub mod FirstFault
-pub mod Reading
-pub mod Progress
 pub mod Parts
 pub mod Calls
 pub mod Orders
 pub mod Faults
 pub mod Laws
 pub mod Examples
+pub mod inside
 pub use Rattle.vs_types.specs.Config
 pub use Rattle.vs_types.specs.Depth
 pub use Rattle.vs_types.specs.Frame

@@ -12,7 +12,7 @@ use Rattle.vs_types.specs.declared.request.Query.TheVariants.{Update, Resolve}
 use Rattle.vs_walk.specs.Walk.{TranslatesAs}
 use Rattle.vs_walk.specs.Dump.{Image}
 use Rattle.nr_trace.specs.Recording.{Recording}
-use Rattle.nr_trace.specs.Calls.{Made, call_of, operation_of, address_of, IsCall, IsUpdate, IsRead, Answered, reply_in, reply_to, IsAnswered, Precedes}
+use Rattle.nr_trace.specs.Calls.{Invocation, call_of, operation_of, address_of, IsCall, IsUpdate, IsRead, Response, reply_in, reply_to, IsAnswered, Precedes}
 
 -- the members of an order that stand before a call
 abbrev pub before : ℕ → List ℕ → List ℕ
@@ -47,7 +47,7 @@ KeepsPrecedence trace order = (first second : ℕ) → Contains order first → 
 
 -- each answer is what the space gives after the updates that stand before
 abbrev pub HasTheAnswers : Recording → List ℕ → Type 0
-HasTheAnswers trace order = (call : ℕ) (made : Made) (reply : Answered) → call_of trace call ≡ Some made → reply_to trace call ≡ Some reply
+HasTheAnswers trace order = (call : ℕ) (made : Invocation) (reply : Response) → call_of trace call ≡ Some made → reply_to trace call ≡ Some reply
     → reply.answer ≡ answer_in trace.layout (space_after trace (before call order)) made.request
 
 -- a legal order: a linearization of the calls
@@ -61,9 +61,9 @@ pub record IsLegalOrder (trace : Recording) (order : List ℕ) : Type 0 where
 pub record FitsOrder (trace : Recording) (order : List ℕ) (replica : ℕ) (dump : Image) : Type 0 where
   pub enough : dump.applied ≤ length (updates trace order)
   pub translates : TranslatesAs trace.layout.depth dump.frames dump.root (space_after trace (take dump.applied (updates trace order)))
-  pub own_updates : (call : ℕ) (made : Made) → call_of trace call ≡ Some made → made.replica ≡ replica → IsUpdate trace call → IsAnswered trace call
+  pub own_updates : (call : ℕ) (made : Invocation) → call_of trace call ≡ Some made → made.replica ≡ replica → IsUpdate trace call → IsAnswered trace call
       → Contains (take dump.applied (updates trace order)) call
-  pub own_reads : (call earlier : ℕ) (made : Made) → call_of trace call ≡ Some made → made.replica ≡ replica → IsRead trace call → IsAnswered trace call
+  pub own_reads : (call earlier : ℕ) (made : Invocation) → call_of trace call ≡ Some made → made.replica ≡ replica → IsRead trace call → IsAnswered trace call
       → IsUpdate trace earlier → Contains (before call order) earlier → Contains (take dump.applied (updates trace order)) earlier
 
 -- the numbers below one
@@ -75,12 +75,12 @@ below (suc n) = below n ++ n ∷ []
 abbrev pub reads_at : Recording → ℕ → List ℕ
 reads_at trace n = filter (λ call. is_some (address_of trace call) && option_map_or (λ reply. reply.at == n) (reply_to trace call) false) (below (length trace.events))
 
--- the recorded order: updates by place, and each answered read behind the entries that it saw
+-- the recorded order: updates by place, and each answered read after the entries that it saw
 abbrev pub recorded_order : Recording → List ℕ
 recorded_order trace = flat_map (λ n. reads_at trace n ++ option_to_list (slice_get trace.log n)) (below (length trace.log + 1))
 
 -- how many entries are known by a reply: those up to the update's own, or those that the read saw
-abbrev pub known_by : Recording → Answered → ℕ
+abbrev pub known_by : Recording → Response → ℕ
 known_by trace reply = option_map_or (λ action. reply.at + 1) (operation_of trace reply.call) reply.at
 
 -- the floor of a call: the most entries that are known by a reply before it was made

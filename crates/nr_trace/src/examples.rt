@@ -13,7 +13,7 @@ pub fn map_then_resolve_order()
     ensures { recorded_order map_then_resolve ≡ 0 ∷ 2 ∷ [] }
 {}
 
-/// The read that did not see the update stands before it, and the one that saw it stands behind.
+/// The read that did not see the update stands before it, and the one that saw it stands after.
 pub fn read_before_and_after_order()
     ensures { recorded_order read_before_and_after ≡ 2 ∷ 0 ∷ 1 ∷ [] }
 {}

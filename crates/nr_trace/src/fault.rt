@@ -13,7 +13,7 @@ pub enum Format {
     BadEvent(u32),
     /// In the dump of this replica the number of the frame of this index does not rise, or is out of its range.
     BadFrame(u8, u32),
-    /// Bytes stand behind the trace.
+    /// Bytes stand after the trace.
     Trailing,
 }
 

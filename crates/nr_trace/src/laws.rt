@@ -6,10 +6,10 @@ ghost use Rattle.vs_walk.specs.Dump.{Image};
 ghost use Rattle.vs_types.specs.Space.{no_pages};
 ghost use Rattle.vs_types.specs.Step.{step};
 ghost use Rattle.vs_types.specs.declared.op.Action.{Action};
-ghost use Rattle.nr_trace.specs.Calls.{operation_of, reply_of, reply_to, Answered};
+ghost use Rattle.nr_trace.specs.Calls.{operation_of, reply_of, reply_to, Response};
 ghost use Rattle.nr_trace.specs.FirstFault.{HasFormatFault};
-ghost use Rattle.nr_trace.specs.Faults.{Earlier, Holds, IsFirst, IsFirstOf, StandsBehind};
-ghost use Rattle.nr_trace.specs.Laws.{HasCleanLog, HasRank, IsFaultless, IsLegalButPrecedence, Stands};
+ghost use Rattle.nr_trace.specs.Faults.{Earlier, Holds, IsFirst, IsFirstOf, StandsAfter};
+ghost use Rattle.nr_trace.specs.Laws.{HasCleanLog, HasRank, IsFaultless, IsSerialOrder, Stands};
 ghost use Rattle.nr_trace.specs.Orders.{before, floor, known_by, recorded_order, space_after, updates, FitsOrder, IsLegalOrder};
 ghost use Rattle.nr_trace.specs.Recording.{Recording};
 ghost use Rattle.nr_trace.specs.Spelling.{Spells};
@@ -40,8 +40,8 @@ pub fn no_fault_of_a_spelling()
 
 /// Where no fault holds of the events, the log and the replies' places, and no answer is wrong, the recorded order is
 /// legal but for precedence.
-pub fn recorded_order_is_legal_but_precedence()
-    ensures { (trace : Recording) → HasCleanLog trace → ((call : ℕ) → Holds trace (WrongAnswer call) → ⊥) → IsLegalButPrecedence trace (recorded_order trace) }
+pub fn recorded_order_is_serial()
+    ensures { (trace : Recording) → HasCleanLog trace → ((call : ℕ) → Holds trace (WrongAnswer call) → ⊥) → IsSerialOrder trace (recorded_order trace) }
 {}
 
 /// Where moreover no call stands too early, the recorded order is legal.
@@ -70,15 +70,15 @@ pub fn faultless_recordings_have_an_order()
     ensures fits { (trace : Recording) (replica : ℕ) (dump : Image) → IsFaultless trace → slice_get trace.dumps replica ≡ Some dump → FitsOrder trace (recorded_order trace) replica dump }
 {}
 
-/// The members of the recorded order are the calls that stand behind some entries, each behind one number of them. Before a
+/// The members of the recorded order are the calls that stand after some entries, each after one number of them. Before a
 /// member come the operations of so many places of the log, and the updates in all are the log.
 pub fn recorded_order_by_entries()
     ensures members { (trace : Recording) (call : ℕ) → HasCleanLog trace → Contains (recorded_order trace) call ↔ Stands trace call }
-    ensures once { (trace : Recording) (call m n : ℕ) → HasCleanLog trace → StandsBehind trace call m → StandsBehind trace call n → m ≡ n }
-    ensures answered { (trace : Recording) (call : ℕ) (reply : Answered) → HasCleanLog trace → reply_to trace call ≡ Some reply → StandsBehind trace call reply.at × (reply.at ≤ length trace.log) }
-    ensures first { (trace : Recording) (index : ℕ) (reply : Answered) → HasCleanLog trace → reply_of trace index ≡ Some reply → reply_to trace reply.call ≡ Some reply }
+    ensures once { (trace : Recording) (call m n : ℕ) → HasCleanLog trace → StandsAfter trace call m → StandsAfter trace call n → m ≡ n }
+    ensures answered { (trace : Recording) (call : ℕ) (reply : Response) → HasCleanLog trace → reply_to trace call ≡ Some reply → StandsAfter trace call reply.at × (reply.at ≤ length trace.log) }
+    ensures first { (trace : Recording) (index : ℕ) (reply : Response) → HasCleanLog trace → reply_of trace index ≡ Some reply → reply_to trace reply.call ≡ Some reply }
     ensures updates { (trace : Recording) → HasCleanLog trace → updates trace (recorded_order trace) ≡ trace.log }
-    ensures space { (trace : Recording) (call n : ℕ) → HasCleanLog trace → n ≤ length trace.log → StandsBehind trace call n → space_after trace (before call (recorded_order trace)) ≡ space_after trace (take n trace.log) }
+    ensures space { (trace : Recording) (call n : ℕ) → HasCleanLog trace → n ≤ length trace.log → StandsAfter trace call n → space_after trace (before call (recorded_order trace)) ≡ space_after trace (take n trace.log) }
 {}
 
 /// Of two wrong answers the one whose call stands before the other's is earlier.
@@ -89,7 +89,7 @@ pub fn earlier_wrong_answer()
 /// A floor is raised by what each reply makes known, and by nothing else.
 pub fn floors_rise_by_replies()
     ensures start { (trace : Recording) → floor trace 0 ≡ 0 }
-    ensures reply { (trace : Recording) (index : ℕ) (reply : Answered) → reply_of trace index ≡ Some reply → floor trace (index + 1) ≡ max (floor trace index) (known_by trace reply) }
+    ensures reply { (trace : Recording) (index : ℕ) (reply : Response) → reply_of trace index ≡ Some reply → floor trace (index + 1) ≡ max (floor trace index) (known_by trace reply) }
     ensures other { (trace : Recording) (index : ℕ) → reply_of trace index ≡ None → floor trace (index + 1) ≡ floor trace index }
 {}
 

@@ -4,7 +4,7 @@ use Rattle.std.specs.Option.{option_map}
 use Rattle.std.specs.Io.Take.{take_remaining}
 use Rattle.std.specs.declared.io.Take.{Take}
 
--- up to the limit, behind nothing
+-- up to the limit, after nothing
 front : (known : Option (List ℕ)) (n : ℕ) (old new : List ℕ) → old ≡ [] → IfSome (option_map (take n) known) (λ xs. new ≡ old ++ xs) → IfSome known (λ input. new ≡ take n input)
 front None n old new e h = tt
 front (Some xs) n old new e h = h ∙ ap (λ l. l ++ take n xs) e

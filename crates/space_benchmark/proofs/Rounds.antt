@@ -1,4 +1,4 @@
--- Rounds, one behind the other.
+-- Rounds, one after another.
 use Rattle.std.proofs.Common.{◌≡◌, ℕ, suc, ◌+◌, ap, subst, ◌∙◌, arith}
 use Rattle.vs_types.specs.declared.depth.Depth.{Depth}
 use Rattle.vs_space.specs.Table.{PageTable, IsTableOf}

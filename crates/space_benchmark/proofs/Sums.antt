@@ -5,7 +5,7 @@ use Rattle.vs_types.specs.Step.{step, look, after_all}
 use Rattle.vs_types.specs.declared.depth.Depth.{Depth}
 use Rattle.vs_types.specs.declared.op.Action.{Action}
 use Rattle.vs_types.specs.declared.answer.Answer.{Answer}
-use Rattle.vs_space.specs.Table.{PageTable, IsTableOf, IsStep}
+use Rattle.vs_space.specs.Table.{PageTable, IsTableOf, IsTableStep}
 use Rattle.space_benchmark.specs.Sum.{answer_number, sum_with}
 use Rattle.space_benchmark.specs.Work.{sum_of_steps, sum_of_looks, Applies}
 
@@ -23,13 +23,13 @@ sum_of_looks-append space sum [] ys = refl
 sum_of_looks-append space sum (x ∷ xs) ys = sum_of_looks-append space (sum_with sum (answer_number (look space x))) xs ys
 
 -- what a step of a page table of this depth and limit says
-step_at : (mid new : PageTable) (action : Action) (answer : Answer) (depth : Depth) (limit : ℕ) → mid.depth ≡ depth → mid.limit ≡ limit → IsStep mid action answer new
+step_at : (mid new : PageTable) (action : Action) (answer : Answer) (depth : Depth) (limit : ℕ) → mid.depth ≡ depth → mid.limit ≡ limit → IsTableStep mid action answer new
     → (space : Space) → IsTableOf mid space → (answer ≡ (step depth limit space action).answer) × IsTableOf new (step depth limit space action).space
 step_at mid new action answer depth limit is_depth is_limit stepped space is_table =
     subst (λ d. (answer ≡ (step d limit space action).answer) × IsTableOf new (step d limit space action).space) is_depth
     (subst (λ l. (answer ≡ (step mid.depth l space action).answer) × IsTableOf new (step mid.depth l space action).space) is_limit (stepped.steps space is_table))
 
-pub applies_more : (old mid new : PageTable) (actions : List Action) (action : Action) (old_sum sum : ℕ) (answer : Answer) → Applies old actions old_sum mid sum → IsStep mid action answer new
+pub applies_more : (old mid new : PageTable) (actions : List Action) (action : Action) (old_sum sum : ℕ) (answer : Answer) → Applies old actions old_sum mid sum → IsTableStep mid action answer new
     → Applies old (actions ++ action ∷ []) old_sum new (sum_with sum (answer_number answer))
 applies_more old mid new actions action old_sum sum answer so_far stepped =
     let is_depth : mid.depth ≡ old.depth = ap (λ (t : PageTable). t.depth) so_far.same in

@@ -12,7 +12,7 @@ bit b = if b then 1 else 0
 abbrev pub rights_number : Rights → ℕ
 rights_number rights = bit rights.write + 2 * bit rights.user + 4 * bit rights.exec
 
--- a size and rights, behind which answer it is
+-- a size and rights, after which answer it is
 abbrev pub page_number : Size → Rights → ℕ
 page_number size rights = 64 * level_of size + 8 * rights_number rights
 

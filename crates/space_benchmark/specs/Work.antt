@@ -8,7 +8,7 @@ use Rattle.vs_space.specs.Table.{PageTable, IsTableOf}
 use Rattle.space_benchmark.specs.declared.load.Load.{Load}
 use Rattle.space_benchmark.specs.Sum.{answer_number, sum_with}
 
--- a sum goes on with the answers of operations, one behind the other
+-- a sum goes on with the answers of operations, one after another
 abbrev pub sum_of_steps : Depth → ℕ → Space → ℕ → List Action → ℕ
 sum_of_steps depth limit space sum [] = sum
 sum_of_steps depth limit space sum (action ∷ actions) =
@@ -20,7 +20,7 @@ abbrev pub sum_of_looks : Space → ℕ → List ℕ → ℕ
 sum_of_looks space sum [] = sum
 sum_of_looks space sum (address ∷ addresses) = sum_of_looks space (sum_with sum (answer_number (look space address))) addresses
 
--- operations on a page table, one behind the other: the table after them is that of the space after them, and the sum goes on with the answers
+-- operations on a page table, one after another: the table after them is that of the space after them, and the sum goes on with the answers
 pub record Applies (old : PageTable) (actions : List Action) (old_sum : ℕ) (new : PageTable) (new_sum : ℕ) : Type 0 where
   pub same : new ≡ record old { memory = new.memory }
   pub sums : (space : Space) → IsTableOf old space → new_sum ≡ sum_of_steps old.depth old.limit space old_sum actions
@@ -31,7 +31,7 @@ pub record Progress : Type 0 where
   pub space : Space
   pub sum : ℕ
 
--- operations, one behind the other
+-- operations, one after another
 abbrev pub after_steps : Depth → ℕ → List Action → Progress → Progress
 after_steps depth limit actions progress = record { space = after_all depth limit progress.space actions; sum = sum_of_steps depth limit progress.space progress.sum actions }
 
@@ -54,7 +54,7 @@ pub record IsRound (old : PageTable) (load : Load) (old_sum : ℕ) (new : PageTa
   pub sums : (space : Space) → IsTableOf old space → new_sum ≡ (after_round old.depth old.limit load (record { space = space; sum = old_sum })).sum
   pub is_table : (space : Space) → IsTableOf old space → IsTableOf new (after_round old.depth old.limit load (record { space = space; sum = old_sum })).space
 
--- rounds, one behind the other
+-- rounds, one after another
 abbrev pub after_rounds : Depth → ℕ → Load → ℕ → Progress → Progress
 after_rounds depth limit load zero progress = progress
 after_rounds depth limit load (suc n) progress = after_round depth limit load (after_rounds depth limit load n progress)

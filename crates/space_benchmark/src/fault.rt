@@ -23,7 +23,7 @@ pub enum ProgFault {
 }
 
 impl ProgFault {
-    /// The exit status: 3 for want of memory, else 2.
+    /// The exit status: 3 where memory runs out, else 2.
     pub fn status(&self) -> u8 {
         match self {
             ProgFault::Memory => 3,

@@ -114,7 +114,7 @@ fn now(clock: &impl Clock) -> Result<Instant, ProgFault> {
     Instant::now(clock).map_err(|_| ProgFault::NoClock)
 }
 
-/// Does the operations one behind the other.
+/// Does the operations one after another.
 fn apply_all(space: &mut Space<VecArena>, ops: &[Op], sum: &mut Sum)
     ensures { Applies space.old ops.now sum.old.value space.new sum.new.value }
 {

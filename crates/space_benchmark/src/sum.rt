@@ -3,7 +3,7 @@ ghost use Rattle.space_benchmark.specs.Sum as sums;
 
 use vs_types::{Answer, Rights, Size};
 
-/// A sum over numbers one behind the other, in which their order counts: 31 times the sum before, and the number, of which
+/// A sum over numbers one after another, in which their order counts: 31 times the sum before, and the number, of which
 /// the lowest 64 bits are kept.
 #[derive(Clone, Copy, Debug)]
 pub struct Sum {

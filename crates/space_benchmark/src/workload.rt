@@ -5,11 +5,11 @@ use vs_types::{Page, Rights, Size};
 /// Which pages are mapped, and in which order.
 #[derive(Clone, Copy, Debug)]
 pub enum Workload {
-    /// 4 KiB pages, each behind the one before.
+    /// 4 KiB pages, each after the one before.
     SmallDense,
     /// 4 KiB pages all over the address space.
     SmallSparse,
-    /// 4 KiB, 2 MiB and 1 GiB pages in turn, each behind the one of its size before.
+    /// 4 KiB, 2 MiB and 1 GiB pages in turn, each after the one of its size before.
     MixedDense,
     /// 4 KiB, 2 MiB and 1 GiB pages in turn, each in a gibibyte of its own, all over the address space.
     MixedSparse,

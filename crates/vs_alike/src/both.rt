@@ -5,7 +5,7 @@ ghost use Rattle.vs_types.specs.Space.{no_pages, table_count};
 ghost use Rattle.vs_types.specs.Step.{step, look};
 ghost use Rattle.vs_space.specs.Walk.{walk, as_walk};
 ghost use Rattle.vs_space.specs.Table as tables;
-ghost use Rattle.vs_plain.specs.Plain.{Kept, IsStep};
+ghost use Rattle.vs_plain.specs.Plain.{BoundedSpace, IsPlainStep};
 ghost use Rattle.vs_alike.specs.Alike.{AreAlike};
 
 use std::alloc::Global;
@@ -54,7 +54,7 @@ impl<S: FrameStore + Drop> Both<S> {
     pub fn new(alloc: Global, store: S, depth: Depth) -> Result<Both<S>, NoRoot>
         requires { S.frames store ≡ finite.empty }
         ensures empty { IfOk result (λ both.
-            let empty : Kept = record { depth = depth; limit = S.size store; space = no_pages } in both.plain ≡ empty) }
+            let empty : BoundedSpace = record { depth = depth; limit = S.size store; space = no_pages } in both.plain ≡ empty) }
         ensures alike { IfOk result (λ both. AreAlike both.table both.plain) }
         ensures base { IfOk result (λ both. both.table.base ≡ S.base store) }
         ensures no_root { OnErr result (S.size store ≡ 0) }
@@ -114,8 +114,8 @@ impl<S: FrameStore> Both<S> {
     /// `Memory` where a growth was refused, which only a page that is added needs; both are then unchanged.
     pub fn apply(&mut self, op: Op) -> Result<Told<Answer>, Memory>
         ensures same { IfOk result (λ told. told.table ≡ told.plain) }
-        ensures table_steps { IfOk result (λ told. tables.IsStep self.old.table op told.table self.new.table) }
-        ensures plain_steps { IfOk result (λ told. IsStep self.old.plain op told.plain self.new.plain) }
+        ensures table_steps { IfOk result (λ told. tables.IsTableStep self.old.table op told.table self.new.table) }
+        ensures plain_steps { IfOk result (λ told. IsPlainStep self.old.plain op told.plain self.new.plain) }
         ensures err { OnErr result (self.new ≡ self.old) }
         ensures for_a_page { OnErr result ((step self.old.plain.depth self.old.plain.limit self.old.plain.space op).answer ≡ Answer.Done) }
     {

@@ -9,7 +9,7 @@ use std::test::Fail;
 use vs_arena::VecArena;
 use vs_types::{Answer, BadOp, Depth, Op};
 
-/// Calls one behind the other, from no pages on.
+/// Calls one after another, from no pages on.
 #[derive(Clone, Copy)]
 struct Case<'a> {
     name: &'a str,

@@ -10,7 +10,7 @@ use denote.Struct.Struct.{exits_of}
 use denote.Struct.Owning.{shape, fields, to}
 use denote.Param.Send.{IsSend, IsSync, Frees, Quiet, Common, AllSend, part_keyless, owning_send, struct_send, struct_sync, sendable}
 use Rattle.std.specs.declared.alloc.Allocator.{Ghosts}
-use Rattle.vs_arena.specs.RegionMemory.{row_of, row_lent, region_owns, region_lends}
+use Rattle.vs_arena.specs.inside.RegionMemory.{row_of, row_lent, region_owns, region_lends}
 use Rattle.vs_arena.specs.contracts.region.Region as Region
 use Rattle.vs_arena.specs.contracts.region.Lease as Lease
 

@@ -35,7 +35,7 @@ use Rattle.std.specs.Mem.{type_size}
 use Rattle.std.specs.declared.alloc.Allocator.{Ghosts}
 use Rattle.std.proofs.mem.Param.{El, R, el_x, elτ, lawful}
 use Rattle.std.proofs.RcSteps.{Good, word}
-use Rattle.vs_arena.specs.RegionMemory.{place, row_of, place_lent, row_lent, region_lends}
+use Rattle.vs_arena.specs.inside.RegionMemory.{place, row_of, place_lent, row_lent, region_lends}
 use Rattle.vs_arena.specs.declared.region.Region.{Region}
 use Rattle.vs_arena.specs.contracts.region.Region as C
 use Rattle.vs_arena.specs.contracts.region.Lease as L

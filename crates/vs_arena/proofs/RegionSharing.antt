@@ -12,7 +12,7 @@ use denote.Sharing.{ShrLaws, said}
 use denote.SharingLaws.{beside_shr_laws, nothing_shr_laws, said_shr_laws}
 use denote.Shares.{Shares-less}
 use denote.Struct.Lending.{Lends, Lends-both, Lends-nothing, Lends-said, Lends-false}
-use Rattle.vs_arena.specs.RegionMemory.{place, row_of, place_lent, row_lent, fit, region_owns, region_lends}
+use Rattle.vs_arena.specs.inside.RegionMemory.{place, row_of, place_lent, row_lent, fit, region_owns, region_lends}
 
 module _ (R : RattleType) (L : RowLaws R) where
   place_lent_laws : (b o : ℕ) (c : Option R.Denot) → ShrLaws (place_lent R b o c)

@@ -41,7 +41,7 @@ use denote.Triple.Walked.{Stays, walk_of}
 use Rattle.std.proofs.mem.Param.{El, R, el_x, elτ}
 use Rattle.std.proofs.alloc.Calls.{Al, token}
 use Rattle.std.proofs.RcSteps.{word}
-use Rattle.vs_arena.specs.RegionMemory.{row_of, region_owns, lease_owns}
+use Rattle.vs_arena.specs.inside.RegionMemory.{row_of, region_owns, lease_owns}
 use Rattle.vs_arena.specs.declared.region.Region.{Region}
 use Rattle.vs_arena.specs.contracts.region.Lease as L
 use Rattle.vs_arena.proofs.RegionMemory.{Rr, Word, sz, mark, word_had, word_made, mark_had}

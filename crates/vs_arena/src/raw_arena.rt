@@ -26,7 +26,7 @@ pub struct RawArena {
 impl Model for RawArena {
     ghost use Rattle.std.specs.Prelude.{◌≡◌, length};
     ghost use Rattle.vs_arena.specs.Arena.{Arena, arena_code, marked_frames};
-    ghost use Rattle.vs_arena.specs.RawArena.{values, IsRawArena};
+    ghost use Rattle.vs_arena.specs.inside.RawArena.{values, IsRawArena};
 
     ghost Value = { Arena };
 

@@ -4,8 +4,8 @@ ghost use Rattle.std.specs.Borrow.{sem};
 ghost use Rattle.std.specs.Vec.Ownership.{FitsInBlock};
 ghost use base.Fml.{ftrue};
 ghost use denote.RawPtr.{Ptr};
-ghost use Rattle.vs_arena.specs.Region.{IsFilled};
-ghost use Rattle.vs_arena.specs.RegionMemory.{region_owns, region_lends, lease_owns};
+ghost use Rattle.vs_arena.specs.inside.Region.{IsFilled};
+ghost use Rattle.vs_arena.specs.inside.RegionMemory.{region_owns, region_lends, lease_owns};
 
 use std::alloc::{AllocError, Allocator};
 use std::marker::{Model, PhantomData, Send, Sync};
@@ -84,7 +84,7 @@ pub(crate) fn deallocate<T, A: Allocator>(
 }
 
 impl<T> Region<T> {
-    ghost use Rattle.vs_arena.specs.RegionLends.{lends_place};
+    ghost use Rattle.vs_arena.specs.inside.RegionLends.{lends_place};
 
     /// Fills an empty place.
     pub(crate) fn write(&mut self, index: usize, value: T)

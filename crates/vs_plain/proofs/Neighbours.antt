@@ -55,7 +55,7 @@ module _ {depth : Depth} {space : Space} (is : IsSpace depth space) where
 -- ---- the least base that is overlapped, by the pages next to the page
 
 module _ {depth : Depth} {space : Space} (is : IsSpace depth space) (page : Page) where
-  -- where none covers the base, what is overlapped begins behind it
+  -- where none covers the base, what is overlapped begins after it
   begins_behind : None ≡ page_at space page.base → (r : Page) → Holds space r → overlaps page r ≡ true → page.base < r.base
   begins_behind none r h o =
       let meet = (overlaps_means page r).0 o in

@@ -6,11 +6,11 @@ use Rattle.vs_types.specs.declared.depth.Depth.{Depth}
 use Rattle.vs_types.specs.declared.op.Action.{Action}
 use Rattle.vs_types.specs.declared.answer.Answer.{Answer}
 
-pub record Kept : Type 0 where
+pub record BoundedSpace : Type 0 where
   pub depth : Depth
   pub limit : ℕ
   pub space : Space
 
 -- one step of what is kept, and its answer
-abbrev pub IsStep : Kept → Action → Answer → Kept → Type 0
-IsStep old action answer new = let after = step old.depth old.limit old.space action in (answer ≡ after.answer) × (new ≡ record old { space = after.space })
+abbrev pub IsPlainStep : BoundedSpace → Action → Answer → BoundedSpace → Type 0
+IsPlainStep old action answer new = let after = step old.depth old.limit old.space action in (answer ≡ after.answer) × (new ≡ record old { space = after.space })

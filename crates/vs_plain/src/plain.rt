@@ -2,7 +2,7 @@ ghost use Rattle.std.specs.Prelude.{◌≡◌, IfOk, IsOk, OnErr, IfSome, IsTrue
 ghost use Rattle.vs_types.specs.Page.{covers, IsPage};
 ghost use Rattle.vs_types.specs.Space.{no_pages, pages, page_at, least_overlapped, IsSpace, table_count};
 ghost use Rattle.vs_types.specs.Step.{step, look};
-ghost use Rattle.vs_plain.specs.Plain.{Kept, IsStep};
+ghost use Rattle.vs_plain.specs.Plain.{BoundedSpace, IsPlainStep};
 
 use crate::page_map::PageMap;
 use std::alloc::Global;
@@ -25,22 +25,22 @@ impl Model for PlainSpace {
     ghost use Rattle.std.specs.FinMap as finite;
     ghost use Rattle.std.specs.Ordering.{nat_cmp};
     ghost use Rattle.vs_types.specs.contracts.page.Page as page_contract;
-    ghost use Rattle.vs_plain.specs.Plain.{Kept};
-    ghost use Rattle.vs_plain.specs.inside.Invariant.{IsKept};
+    ghost use Rattle.vs_plain.specs.Plain.{BoundedSpace};
+    ghost use Rattle.vs_plain.specs.inside.Invariant.{IsCounted};
 
-    ghost Value = { Kept };
+    ghost Value = { BoundedSpace };
 
     ghost coded = { Prim.hlevel (codes, finite.code {R = nat_cmp} coded_ℕ page_contract.the_row.coded) };
 
     ghost view = { λ s. record { depth = s.depth; limit = s.limit; space = s.page_map } };
 
-    ghost invariant = { λ s. IsKept s.depth s.tables s.page_map };
+    ghost invariant = { λ s. IsCounted s.depth s.tables s.page_map };
 }
 
 impl PlainSpace {
     /// The space with no pages, under a limit of tables. It takes no memory.
     pub fn new(alloc: Global, tables: u16, depth: Depth) -> PlainSpace
-        ensures { let empty : Kept = record { depth = depth; limit = tables; space = no_pages } in result ≡ empty }
+        ensures { let empty : BoundedSpace = record { depth = depth; limit = tables; space = no_pages } in result ≡ empty }
     {
         PlainSpace {
             depth,
@@ -112,7 +112,7 @@ impl PlainSpace {
 
     fn map(&mut self, page: Page) -> Result<Answer, Memory>
         requires { IsPage self.old.depth page }
-        ensures ok { IfOk result (λ answer. IsStep self.old (Action.Map page) answer self.new) }
+        ensures ok { IfOk result (λ answer. IsPlainStep self.old (Action.Map page) answer self.new) }
         ensures err { OnErr result (self.new ≡ self.old) }
         ensures for_a_page { OnErr result ((step self.old.depth self.old.limit self.old.space (Action.Map page)).answer ≡ Answer.Done) }
     {
@@ -129,7 +129,7 @@ impl PlainSpace {
     }
 
     fn unmap(&mut self, base: u64) -> Answer
-        ensures { IsStep self.old (Action.Unmap base) result self.new }
+        ensures { IsPlainStep self.old (Action.Unmap base) result self.new }
     {
         let Some(page) = self.covering(base) else {
             return Answer::NotMapped;
@@ -143,7 +143,7 @@ impl PlainSpace {
     }
 
     fn protect(&mut self, base: u64, rights: Rights) -> Result<Answer, Memory>
-        ensures ok { IfOk result (λ answer. IsStep self.old (Action.Protect base rights) answer self.new) }
+        ensures ok { IfOk result (λ answer. IsPlainStep self.old (Action.Protect base rights) answer self.new) }
         ensures answers { IsOk result }
     {
         let Some(page) = self.covering(base) else {
@@ -167,7 +167,7 @@ impl PlainSpace {
     ///
     /// `Memory` where a growth was refused, which only a page that is added needs; the space is then unchanged.
     pub fn apply(&mut self, op: Op) -> Result<Answer, Memory>
-        ensures ok { IfOk result (λ answer. IsStep self.old op answer self.new) }
+        ensures ok { IfOk result (λ answer. IsPlainStep self.old op answer self.new) }
         ensures err { OnErr result (self.new ≡ self.old) }
         ensures for_a_page { OnErr result ((step self.old.depth self.old.limit self.old.space op).answer ≡ Answer.Done) }
     {

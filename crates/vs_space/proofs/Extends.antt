@@ -13,8 +13,8 @@ use Rattle.vs_walk.specs.Walk.{all_rights, walk}
 use Rattle.vs_space.specs.Held.{with_word}
 use Rattle.vs_walk.specs.Ways.{AreWhole}
 use Rattle.vs_space.specs.Path.{found_at, table_in, table_at, SamePath}
-use Rattle.vs_space.specs.Tree.{IsTree}
-use Rattle.vs_space.specs.Grow.{IsOpen, IsExtended}
+use Rattle.vs_space.specs.inside.Tree.{IsTree}
+use Rattle.vs_space.specs.inside.Grow.{IsOpen, IsExtended}
 use Rattle.vs_space.proofs.Numbered.{get-insert_same, len-insert_free}
 use Rattle.vs_space.proofs.Writes.{len_written}
 use Rattle.vs_space.proofs.Trees.{but_alike}

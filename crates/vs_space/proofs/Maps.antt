@@ -30,11 +30,11 @@ use Rattle.vs_walk.proofs.Translates.{not_reserved}
 use Rattle.vs_space.specs.Held.{with_word}
 use Rattle.vs_walk.specs.Ways.{AreWhole}
 use Rattle.vs_space.specs.Path.{found_at, table_at, table_in, SamePath}
-use Rattle.vs_space.specs.Tree.{IsTree, IsFilled, NothingUnder}
-use Rattle.vs_space.specs.Grow.{IsOpen, IsExtended, IsLeastBase}
-use Rattle.vs_space.specs.Descent.{IsDescent}
-use Rattle.vs_space.specs.Table.{IsStep}
-use Rattle.vs_space.specs.Invariant.{IsSpaceOf, IsPageTable}
+use Rattle.vs_space.specs.inside.Tree.{IsTree, IsFilled, NothingUnder}
+use Rattle.vs_space.specs.inside.Grow.{IsOpen, IsExtended, IsLeastBase}
+use Rattle.vs_space.specs.inside.Descent.{IsDescent}
+use Rattle.vs_space.specs.Table.{IsTableStep}
+use Rattle.vs_space.specs.inside.Invariant.{IsSpaceOf, IsPageTable}
 use Rattle.vs_space.proofs.Paths.{table_next, walk_ends, words_found}
 use Rattle.vs_space.proofs.Writes.{table_here, found_on_path, walk_off_path, len_written}
 use Rattle.vs_space.proofs.Trees.{tree_write, but_none, but_write, filled_by}
@@ -81,7 +81,7 @@ module _ (depth : Depth) (m : Memory) (root : ℕ) (table : IsPageTable depth m 
 
   -- ---- a leaf on the path: its page has the base of the new one
 
-  pub leaf_overlaps : (phys : ℕ) (own : Rights) → IsDescent depth m root page.base (level_of page.size) level path (entry.Leaf phys own) → (first limit bytes : ℕ) → bytes ≡ bytes_of (size_at level) → IsStep (page_table depth first limit root m) (Map page) (answers.Overlap (page.base - page.base % bytes)) (page_table depth first limit root m)
+  pub leaf_overlaps : (phys : ℕ) (own : Rights) → IsDescent depth m root page.base (level_of page.size) level path (entry.Leaf phys own) → (first limit bytes : ℕ) → bytes ≡ bytes_of (size_at level) → IsTableStep (page_table depth first limit root m) (Map page) (answers.Overlap (page.base - page.base % bytes)) (page_table depth first limit root m)
   leaf_overlaps phys own descent first limit bytes are = stays (page_table depth first limit root m) (Map page) (answers.Overlap (page.base - page.base % bytes)) (own_space depth first limit root m table) (λ space is translates.
       let leaf = page_here depth m root table page.base good.canonical (levels depth - level) (slice_index path level) space is translates phys own (met (entry.Leaf phys own) descent) in
       let back : levels depth - (levels depth - level) ≡ level = omega (arith, descent.below) in
@@ -121,7 +121,7 @@ module _ (depth : Depth) (m : Memory) (root : ℕ) (table : IsPageTable depth m 
         let up : suc (levels depth - level) ≡ levels depth - (level_of page.size - 1) = omega (arith, own_level, descent.below, not_lowest) in
         subst (λ k. table_at (levels depth) m root k page.base ≡ Some next) up (table_next (levels depth) root m (levels depth - level) page.base (slice_index path level) here.at ∙ ap table_in here.found)
 
-    pub table_overlaps : (number limit base : ℕ) → IsLeastBase depth m root page.base (levels depth - (level_of page.size - 1)) base → IsStep (page_table depth number limit root m) (Map page) (answers.Overlap base) (page_table depth number limit root m)
+    pub table_overlaps : (number limit base : ℕ) → IsLeastBase depth m root page.base (levels depth - (level_of page.size - 1)) base → IsTableStep (page_table depth number limit root m) (Map page) (answers.Overlap base) (page_table depth number limit root m)
     table_overlaps number limit base first = stays (page_table depth number limit root m) (Map page) (answers.Overlap base) (own_space depth number limit root m table) (λ space is translates.
         let up : levels depth - (level_of page.size - 1) ≡ suc (levels depth - level_of page.size) = omega (arith, own_level, descent.below, not_lowest) in
         let whole : (levels depth - level_of page.size) + level_of page.size ≡ levels depth = omega (arith, own_level, descent.below) in
@@ -182,7 +182,7 @@ module _ (depth : Depth) (m : Memory) (root : ℕ) (table : IsPageTable depth m 
           table.filled.filled (j - 1) page.base _ (subst (λ i. table_at (levels depth) m root i page.base ≡ Some (slice_index path (levels depth - j))) (reach ∙ sym up) (descent.reached (levels depth - j) (omega (arith, le, descent.below)) (omega arith))) (subst (λ i. NothingUnder depth m root i page.base) (sym up) empty)) in
           omega (arith, added, of.counted)
 
-    pub full_step : (first limit need : ℕ) → need ≡ finite.len m + (level - level_of page.size) → limit < need → IsStep (page_table depth first limit root m) (Map page) (answers.Full need) (page_table depth first limit root m)
+    pub full_step : (first limit need : ℕ) → need ≡ finite.len m + (level - level_of page.size) → limit < need → IsTableStep (page_table depth first limit root m) (Map page) (answers.Full need) (page_table depth first limit root m)
     full_step first limit need is_need above = stays (page_table depth first limit root m) (Map page) (answers.Full need) (own_space depth first limit root m table) (λ space is translates.
         let of = space_of depth m root space table is translates in
         let count = need_is space of in
@@ -279,7 +279,7 @@ module _ (depth : Depth) (m : Memory) (root : ℕ) (table : IsPageTable depth m 
         some_space = ((step depth limit table.some_space.0 (Map page)).space, space_is limit room table.some_space.0 table.some_space.1);
       })
 
-      pub map_step : (first limit : ℕ) → finite.len m + (level - level_of page.size) ≤ limit → IsStep (page_table depth first limit root m) (Map page) answers.Done (page_table depth first limit root (with_word m' number index w))
+      pub map_step : (first limit : ℕ) → finite.len m + (level - level_of page.size) ≤ limit → IsTableStep (page_table depth first limit root m) (Map page) answers.Done (page_table depth first limit root (with_word m' number index w))
       map_step first limit room = record {
         some_space = own_space depth first limit root m table;
         same = refl;

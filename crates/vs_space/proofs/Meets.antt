@@ -21,9 +21,9 @@ use Rattle.vs_walk.specs.Memory.{Memory}
 use Rattle.vs_space.specs.Held.{with_word}
 use Rattle.vs_walk.specs.Ways.{AreWhole}
 use Rattle.vs_space.specs.Path.{found_at, table_in}
-use Rattle.vs_space.specs.Descent.{IsDescent}
-use Rattle.vs_space.specs.Table.{IsStep}
-use Rattle.vs_space.specs.Invariant.{IsSpaceOf, IsPageTable}
+use Rattle.vs_space.specs.inside.Descent.{IsDescent}
+use Rattle.vs_space.specs.Table.{IsTableStep}
+use Rattle.vs_space.specs.inside.Invariant.{IsSpaceOf, IsPageTable}
 use Rattle.vs_space.proofs.Paths.{words_found}
 use Rattle.vs_space.proofs.Regions.{IsLeafPage}
 use Rattle.vs_space.proofs.Protects.{IsMet, page_table, own_space, space_of, absent_none, never_reserved, page_here, page_level, unmap_none, protect_none, unmap_inside, protect_inside, stays, answer_is, space_is, table_new}
@@ -63,11 +63,11 @@ module _ (depth : Depth) (m : Memory) (root : ℕ) (table : IsPageTable depth m 
       let none = absent_none depth m root table base canonical _ _ space translates (met_of depth m root base 1 level path entry.Absent (omega arith) descent) in
       rw none refl
 
-  pub unmap_absent : (first limit : ℕ) → IsDescent depth m root base 1 level path entry.Absent → IsStep (page_table depth first limit root m) (Unmap base) answers.NotMapped (page_table depth first limit root m)
+  pub unmap_absent : (first limit : ℕ) → IsDescent depth m root base 1 level path entry.Absent → IsTableStep (page_table depth first limit root m) (Unmap base) answers.NotMapped (page_table depth first limit root m)
   unmap_absent first limit descent = stays (page_table depth first limit root m) (Unmap base) answers.NotMapped (own_space depth first limit root m table) (λ space is translates.
       unmap_none depth m root table base canonical 0 root limit space (absent_none depth m root table base canonical _ _ space translates (met_of depth m root base 1 level path entry.Absent (omega arith) descent)))
 
-  pub protect_absent : (first limit : ℕ) (rights : Rights) → IsDescent depth m root base 1 level path entry.Absent → IsStep (page_table depth first limit root m) (Protect base rights) answers.NotMapped (page_table depth first limit root m)
+  pub protect_absent : (first limit : ℕ) (rights : Rights) → IsDescent depth m root base 1 level path entry.Absent → IsTableStep (page_table depth first limit root m) (Protect base rights) answers.NotMapped (page_table depth first limit root m)
   protect_absent first limit rights descent = stays (page_table depth first limit root m) (Protect base rights) answers.NotMapped (own_space depth first limit root m table) (λ space is translates.
       protect_none depth m root table base canonical 0 root limit space rights (absent_none depth m root table base canonical _ _ space translates (met_of depth m root base 1 level path entry.Absent (omega arith) descent)))
 
@@ -126,13 +126,13 @@ module _ (depth : Depth) (m : Memory) (root : ℕ) (table : IsPageTable depth m 
         let offset : base % bytes_of q.size ≡ base % bytes = ap (λ n. base % n) size in
         λ e. inside (omega (arith, leaf.base))
 
-    pub unmap_in : (first limit bytes : ℕ) → bytes ≡ bytes_of (size_at level) → base % bytes ≢ 0 → IsStep (page_table depth first limit root m) (Unmap base) (answers.Inside (base - base % bytes)) (page_table depth first limit root m)
+    pub unmap_in : (first limit bytes : ℕ) → bytes ≡ bytes_of (size_at level) → base % bytes ≢ 0 → IsTableStep (page_table depth first limit root m) (Unmap base) (answers.Inside (base - base % bytes)) (page_table depth first limit root m)
     unmap_in first limit bytes are inside = stays (page_table depth first limit root m) (Unmap base) (answers.Inside (base - base % bytes)) (own_space depth first limit root m table) (λ space is translates.
         let leaf = page_met space is translates in
         unmap_inside depth m root table base canonical 0 root limit space leaf.0 leaf.1.here (apart_met space leaf.0 leaf.1 bytes are inside)
         ∙ ap (λ b. let s : Stepped = record { space = space; answer = answers.Inside b } in s) (base_met space leaf.0 leaf.1 bytes are))
 
-    pub protect_in : (first limit bytes : ℕ) (rights : Rights) → bytes ≡ bytes_of (size_at level) → base % bytes ≢ 0 → IsStep (page_table depth first limit root m) (Protect base rights) (answers.Inside (base - base % bytes)) (page_table depth first limit root m)
+    pub protect_in : (first limit bytes : ℕ) (rights : Rights) → bytes ≡ bytes_of (size_at level) → base % bytes ≢ 0 → IsTableStep (page_table depth first limit root m) (Protect base rights) (answers.Inside (base - base % bytes)) (page_table depth first limit root m)
     protect_in first limit bytes rights are inside = stays (page_table depth first limit root m) (Protect base rights) (answers.Inside (base - base % bytes)) (own_space depth first limit root m table) (λ space is translates.
         let leaf = page_met space is translates in
         protect_inside depth m root table base canonical 0 root limit space rights leaf.0 leaf.1.here (apart_met space leaf.0 leaf.1 bytes are inside)
@@ -165,7 +165,7 @@ module _ (depth : Depth) (m : Memory) (root : ℕ) (table : IsPageTable depth m 
       protect_table = subst (λ i. IsPageTable depth (with_word m (slice_index path level) i w) root) index_same
           (table_new depth m root table whole base good _ _ phys own rights met w leads_here word_here low_here begins_here)
 
-      pub protect_step : (first limit : ℕ) → IsStep (page_table depth first limit root m) (Protect base rights) (answers.Changed own) (page_table depth first limit root (with_word m (slice_index path level) index w))
+      pub protect_step : (first limit : ℕ) → IsTableStep (page_table depth first limit root m) (Protect base rights) (answers.Changed own) (page_table depth first limit root (with_word m (slice_index path level) index w))
       protect_step first limit = record {
         some_space = own_space depth first limit root m table;
         same = refl;

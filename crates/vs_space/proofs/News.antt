@@ -16,9 +16,9 @@ use Rattle.vs_arena.specs.Store.{zeros}
 use Rattle.vs_walk.specs.Memory.{Memory}
 use Rattle.vs_walk.specs.Walk.{as_walk, TranslatesAs, all_rights}
 use Rattle.vs_space.specs.Path.{found_at, table_at, table_in}
-use Rattle.vs_space.specs.Tree.{IsTree, IsReached, AreWritten}
+use Rattle.vs_space.specs.inside.Tree.{IsTree, IsReached, AreWritten}
 use Rattle.vs_space.specs.Table.{IsTableOf}
-use Rattle.vs_space.specs.Invariant.{IsPageTable}
+use Rattle.vs_space.specs.inside.Invariant.{IsPageTable}
 use Rattle.vs_space.proofs.Numbered.{get-insert_same, get-insert_other, len-insert_free, whole-empty, whole-zeros}
 use Rattle.vs_space.proofs.Paths.{table_first, table_next, none_past, walk_found}
 use Rattle.vs_space.proofs.Writes.{used_some}

@@ -4,7 +4,7 @@ use Rattle.std.specs.Prelude.{option_and_then, option_map, slice_index}
 use Rattle.std.specs.FinMap as finite
 use Rattle.vs_types.specs.Depth.{index_at}
 use Rattle.vs_types.specs.Entry.{meaning}
-use Rattle.vs_types.specs.Page.{joined}
+use Rattle.vs_types.specs.Page.{intersection}
 use Rattle.vs_types.specs.declared.page.Rights.{Rights}
 use Rattle.vs_types.specs.declared.entry.Meaning.{Meaning}
 use Rattle.vs_types.specs.declared.entry.Meaning.TheVariants as entry
@@ -117,7 +117,7 @@ module _ (top : ℕ) (root : ℕ) where
         on go entry.Absent is = refl
         on go entry.Reserved is = refl
         on go (entry.Leaf phys own) is = refl
-        on go (entry.Table next own) is = go next (joined rights own) (table_next m k b n at ∙ ap (λ l. table_in (found_at l m n b)) level ∙ ap table_in is)
+        on go (entry.Table next own) is = go next (intersection rights own) (table_next m k b n at ∙ ap (λ l. table_in (found_at l m n b)) level ∙ ap table_in is)
 
         by : Goes m m' b left (suc k) → (o : Option Meaning) → found_at (suc left) m n b ≡ o → walk_from m' (suc left) n rights b ≡ walk_from m (suc left) n rights b
         by go None is = walk_lost m' left n rights b (same ∙ is) ∙ sym (walk_lost m left n rights b is)

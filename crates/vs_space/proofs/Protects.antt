@@ -27,9 +27,9 @@ use Rattle.vs_walk.proofs.Translates.{one_space, not_reserved}
 use Rattle.vs_space.specs.Held.{with_word}
 use Rattle.vs_walk.specs.Ways.{AreWhole}
 use Rattle.vs_space.specs.Path.{found_at, table_at, table_in, SamePath}
-use Rattle.vs_space.specs.Tree.{IsTree, IsFilled}
-use Rattle.vs_space.specs.Table.{PageTable, IsTableOf, IsStep}
-use Rattle.vs_space.specs.Invariant.{IsSpaceOf, IsPageTable}
+use Rattle.vs_space.specs.inside.Tree.{IsTree, IsFilled}
+use Rattle.vs_space.specs.Table.{PageTable, IsTableOf, IsTableStep}
+use Rattle.vs_space.specs.inside.Invariant.{IsSpaceOf, IsPageTable}
 use Rattle.vs_space.proofs.Paths.{walk_ends}
 use Rattle.vs_space.proofs.Writes.{table_here, found_on_path, walk_off_path, len_written}
 use Rattle.vs_space.proofs.Trees.{tree_write, but_none, but_write, filled_by}
@@ -115,7 +115,7 @@ pub own_space : (depth : Depth) (first limit root : ℕ) (m : Memory) → IsPage
 own_space depth first limit root m table = (table.some_space.0, record { is_space = table.some_space.1.is_space; translates = table.some_space.1.translates })
 
 -- a table that doesn't change makes a step whose space stays
-pub stays : (old : PageTable) (action : Action) (answer : Answer) → (space : Space) × IsTableOf old space → ((space : Space) → IsSpace old.depth space → TranslatesAs old.depth old.memory old.root space → step old.depth old.limit space action ≡ record { space = space; answer = answer }) → IsStep old action answer old
+pub stays : (old : PageTable) (action : Action) (answer : Answer) → (space : Space) × IsTableOf old space → ((space : Space) → IsSpace old.depth space → TranslatesAs old.depth old.memory old.root space → step old.depth old.limit space action ≡ record { space = space; answer = answer }) → IsTableStep old action answer old
 stays old action answer own says = record {
   some_space = own;
   same = refl;

@@ -18,8 +18,8 @@ use Rattle.vs_walk.specs.Walk.{walk}
 use Rattle.vs_walk.specs.declared.walk.Walk.TheVariants.{NotMapped, Mapped, Reserved}
 use Rattle.vs_space.specs.Held.{word_at, with_word}
 use Rattle.vs_space.specs.Path.{found_at, entry_in, IsFirstPresent, HasPresent, table_in, table_at, SamePath}
-use Rattle.vs_space.specs.Tree.{IsTree, NothingUnder, AreWritten}
-use Rattle.vs_space.specs.Prune.{IsCut, IsPruned}
+use Rattle.vs_space.specs.inside.Tree.{IsTree, NothingUnder, AreWritten}
+use Rattle.vs_space.specs.inside.Prune.{IsCut, IsPruned}
 use Rattle.vs_space.proofs.Numbered.{len-remove_used, whole-remove}
 use Rattle.vs_space.proofs.Paths.{table_next, same_table, found_same, walk_ends}
 use Rattle.vs_space.proofs.Writes.{len_written, written_in_use, same_or_not, words_in}

@@ -10,7 +10,7 @@ use Rattle.vs_walk.specs.Memory.{Memory}
 use Rattle.vs_space.specs.Held.{with_word}
 use Rattle.vs_walk.specs.Ways.{AreWhole}
 use Rattle.vs_space.specs.Path.{found_at, table_in, table_at, SamePath}
-use Rattle.vs_space.specs.Tree.{IsTree, IsReached, AreWritten}
+use Rattle.vs_space.specs.inside.Tree.{IsTree, IsReached, AreWritten}
 use Rattle.vs_space.specs.Written.{IsWritten}
 use Rattle.vs_space.proofs.Numbered.{get-insert_same, get-insert_other, get-remove_same, get-remove_other, whole-insert}
 use Rattle.vs_space.proofs.Paths.{table_next, none_past, same_table, found_same}

@@ -18,8 +18,8 @@ use Rattle.vs_walk.specs.Memory.{Memory}
 use Rattle.vs_walk.specs.Walk.{walk}
 use Rattle.vs_walk.specs.declared.walk.Walk.TheVariants.{NotMapped, Reserved}
 use Rattle.vs_space.specs.Path.{found_at, entry_in, IsFirstPresent, table_in, table_at, SamePath}
-use Rattle.vs_space.specs.Tree.{IsTree, IsFilled}
-use Rattle.vs_space.specs.Grow.{IsLeastBase}
+use Rattle.vs_space.specs.inside.Tree.{IsTree, IsFilled}
+use Rattle.vs_space.specs.inside.Grow.{IsLeastBase}
 use Rattle.vs_space.proofs.Paths.{table_next, same_table, walk_ends, words_found}
 use Rattle.vs_space.proofs.Meets.{never_table}
 use Rattle.vs_space.proofs.Regions.{same_stretch, stretch_same, in_block}

@@ -17,7 +17,7 @@ use Rattle.vs_walk.specs.Memory.{Memory}
 use Rattle.vs_walk.specs.Walk.{walk, TranslatesAs}
 use Rattle.vs_walk.specs.declared.walk.Walk.TheVariants.{NotMapped}
 use Rattle.vs_space.specs.Path.{SamePath}
-use Rattle.vs_space.specs.Tree.{NothingUnder}
+use Rattle.vs_space.specs.inside.Tree.{NothingUnder}
 use Rattle.vs_space.proofs.Regions.{same_stretch, stretch_same, block, in_block, walked_to_page, walked_to_nothing}
 
 -- ---- the tables that a page needs, by the levels at which a smaller page begins in its stretch

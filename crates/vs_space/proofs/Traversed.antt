@@ -7,7 +7,7 @@ use Rattle.std.proofs.lemmas.Nat.{div-mul-add}
 use Rattle.std.proofs.lemmas.List.Elements.{Contains-append_cases, Contains-append_right, filter_map-append}
 use Rattle.std.specs.FinMap as finite
 use Rattle.vs_types.specs.Depth.{levels, entry_bytes, table_bytes, index_at}
-use Rattle.vs_types.specs.Page.{joined}
+use Rattle.vs_types.specs.Page.{intersection}
 use Rattle.vs_types.specs.Entry.{meaning, has_reserved, is_leaf}
 use Rattle.std.specs.Int.{bit_at}
 use Rattle.vs_types.specs.Space.{Space}
@@ -18,7 +18,7 @@ use Rattle.vs_types.specs.declared.entry.Meaning.TheVariants as entry
 use Rattle.vs_types.proofs.Lists.{Contains-head, Contains-tail, Contains-cases, not_in_nil}
 use Rattle.vs_walk.specs.Memory.{Memory}
 use Rattle.vs_walk.specs.Walk.{all_rights, TranslatesAs}
-use Rattle.vs_walk.specs.Traversal.{Move, Reaches, Table, entry_moves, table_moves, moves, reached_by, reached, walk_fault}
+use Rattle.vs_walk.specs.Traversal.{Visit, OfFrame, ReachedTable, entry_visits, table_visits, traversal, reached_by, reached, walk_fault}
 use Rattle.vs_walk.proofs.WaysLists.{contained_at_some_word}
 use Rattle.vs_walk.proofs.WaysBits.{entry_some, no_table_below}
 use Rattle.vs_walk.proofs.WaysMoves.{at_word_met, table_met, missing_met, nothing_met, first_met, word_is_met, reached_is_met, met_is_reached}
@@ -30,8 +30,8 @@ use Rattle.vs_walk.proofs.WaysSpaces.{translates_shared}
 use Rattle.vs_space.specs.Held.{word_at}
 use Rattle.vs_walk.specs.Ways.{AreWhole}
 use Rattle.vs_space.specs.Path.{found_at, table_in, table_at, SamePath}
-use Rattle.vs_space.specs.Tree.{IsTree, IsReached}
-use Rattle.vs_space.specs.Invariant.{IsPageTable}
+use Rattle.vs_space.specs.inside.Tree.{IsTree, IsReached}
+use Rattle.vs_space.specs.inside.Invariant.{IsPageTable}
 use Rattle.vs_space.proofs.Paths.{words_found, table_first, table_next, none_past, table_before, same_table}
 use Rattle.vs_space.proofs.Writes.{same_longer}
 use Rattle.vs_space.proofs.Regions.{stretch_same}
@@ -58,10 +58,10 @@ not_twice n (x ∷ before) after once is = ⊎_elim
     (Contains-cases x before n is)
 
 -- what is met at each word reaches no frame twice, and a frame tells at which word it is reached
-words_once : (f : ℕ × ℕ → List Move) (IsAt : ℕ → ℕ → Type 0) (words : List ℕ) (from : ℕ)
+words_once : (f : ℕ × ℕ → List Visit) (IsAt : ℕ → ℕ → Type 0) (words : List ℕ) (from : ℕ)
     → ((i j n : ℕ) → IsAt i n → IsAt j n → i ≡ j)
     → ((k : ℕ) → k < length words → Once (reached (f (from + k, get_or words k 0))))
-    → ((k n : ℕ) → k < length words → Contains (f (from + k, get_or words k 0)) (Reaches n) → IsAt (from + k) n)
+    → ((k n : ℕ) → k < length words → Contains (f (from + k, get_or words k 0)) (OfFrame n) → IsAt (from + k) n)
     → Once (reached (flat_map f (enumerate_from from words)))
 words_once f IsAt [] from tells once is_at = tt
 words_once f IsAt (word ∷ words) from tells once is_at =
@@ -71,32 +71,32 @@ words_once f IsAt (word ∷ words) from tells once is_at =
     (words_once f IsAt words (from + 1) tells
     (λ k lt. subst (λ i. Once (reached (f (i, get_or words k 0)))) (omega arith) (once (suc k) (omega arith))) later)
     (λ n here there.
-    let at = contained_at_some_word f words (from + 1) (Reaches n) (reached_is_met _ n there) in
-    let first : IsAt from n = subst (λ i. IsAt i n) (omega arith) (is_at 0 n (omega arith) (subst (λ i. Contains (f (i, word)) (Reaches n)) (omega arith) (reached_is_met _ n here))) in
+    let at = contained_at_some_word f words (from + 1) (OfFrame n) (reached_is_met _ n there) in
+    let first : IsAt from n = subst (λ i. IsAt i n) (omega arith) (is_at 0 n (omega arith) (subst (λ i. Contains (f (i, word)) (OfFrame n)) (omega arith) (reached_is_met _ n here))) in
     let same = tells from (from + 1 + at.0) n first (later at.0 n at.1 at.2) in
     omega arith))
   where
-    later : (k n : ℕ) → k < length words → Contains (f (from + 1 + k, get_or words k 0)) (Reaches n) → IsAt (from + 1 + k) n
-    later k n lt met = subst (λ i. IsAt i n) (omega arith) (is_at (suc k) n (omega arith) (subst (λ i. Contains (f (i, get_or words k 0)) (Reaches n)) (omega arith) met))
+    later : (k n : ℕ) → k < length words → Contains (f (from + 1 + k, get_or words k 0)) (OfFrame n) → IsAt (from + 1 + k) n
+    later k n lt met = subst (λ i. IsAt i n) (omega arith) (is_at (suc k) n (omega arith) (subst (λ i. Contains (f (i, get_or words k 0)) (OfFrame n)) (omega arith) met))
 
 -- ---- one entry
 
 -- where the stretch of an entry begins
-abbrev entry_start : ℕ → Table → ℕ → ℕ
+abbrev entry_start : ℕ → ReachedTable → ℕ → ℕ
 entry_start level table index = table.start + index * entry_bytes (suc level)
 
 -- the table below an entry
-abbrev next_table : ℕ → Table → ℕ → ℕ → Rights → Table
-next_table level table index number own = record { number = number; start = entry_start level table index; rights = joined table.rights own }
+abbrev next_table : ℕ → ReachedTable → ℕ → ℕ → Rights → ReachedTable
+next_table level table index number own = record { number = number; start = entry_start level table index; rights = intersection table.rights own }
 
 -- frames are reached only where the entry leads to a table
-into_table : (depth : Depth) (level : ℕ) (table : Table) (index : ℕ) (below : Table → List Move) (means : Meaning) (n : ℕ) → Contains (entry_moves depth (suc level) table index below means) (Reaches n) → (number : ℕ) × (own : Rights) × (means ≡ entry.Table number own) × Contains (below (next_table level table index number own)) (Reaches n)
+into_table : (depth : Depth) (level : ℕ) (table : ReachedTable) (index : ℕ) (below : ReachedTable → List Visit) (means : Meaning) (n : ℕ) → Contains (entry_visits depth (suc level) table index below means) (OfFrame n) → (number : ℕ) × (own : Rights) × (means ≡ entry.Table number own) × Contains (below (next_table level table index number own)) (OfFrame n)
 into_table depth level table index below entry.Absent n met = absurd (not_in_nil _ met)
 into_table depth level table index below entry.Reserved n met = ⊎_elim (λ same. cc) (λ later. absurd (not_in_nil _ later)) (Contains-cases _ [] _ met)
 into_table depth level table index below (entry.Leaf phys own) n met = ⊎_elim (λ same. cc) (λ later. absurd (not_in_nil _ later)) (Contains-cases _ [] _ met)
 into_table depth level table index below (entry.Table number own) n met = (number, own, refl, met)
 
-entry_once : (depth : Depth) (level : ℕ) (table : Table) (index : ℕ) (below : Table → List Move) (means : Meaning) → ((number : ℕ) (own : Rights) → means ≡ entry.Table number own → Once (reached (below (next_table level table index number own)))) → Once (reached (entry_moves depth (suc level) table index below means))
+entry_once : (depth : Depth) (level : ℕ) (table : ReachedTable) (index : ℕ) (below : ReachedTable → List Visit) (means : Meaning) → ((number : ℕ) (own : Rights) → means ≡ entry.Table number own → Once (reached (below (next_table level table index number own)))) → Once (reached (entry_visits depth (suc level) table index below means))
 entry_once depth level table index below entry.Absent lower = tt
 entry_once depth level table index below entry.Reserved lower = tt
 entry_once depth level table index below (entry.Leaf phys own) lower = tt
@@ -127,7 +127,7 @@ path_into top (suc k) level times start rest deep is lt =
 
 module _ (depth : Depth) (top : ℕ) (root : ℕ) (m : Memory) (whole : AreWhole m) where
   -- the table is reached after k entries, on the path of the address at which it begins
-  record IsOnPath (k level : ℕ) (table : Table) : Type 0 where
+  record IsOnPath (k level : ℕ) (table : ReachedTable) : Type 0 where
     deep : k + level ≡ top
     descended : IsPlaced level table
     at : table_at top m root k table.start ≡ Some table.number
@@ -136,7 +136,7 @@ module _ (depth : Depth) (top : ℕ) (root : ℕ) (m : Memory) (whole : AreWhole
   root_on_path = record { deep = omega arith; descended = root_placed top root; at = table_first top root m 0 }
 
   -- an entry of a table on its path
-  module _ (k level : ℕ) (table : Table) (on : IsOnPath k (suc level) table) (words : List ℕ) (is : finite.get m table.number ≡ Some words) (index : ℕ) (within : index < 512) where
+  module _ (k level : ℕ) (table : ReachedTable) (on : IsOnPath k (suc level) table) (words : List ℕ) (is : finite.get m table.number ≡ Some words) (index : ℕ) (within : index < 512) where
     entry_path : SamePath top k table.start (entry_start level table index)
     entry_path = subst (λ r. SamePath top k table.start (table.start + r)) (omega arith) (path_into top k (suc level) on.descended.times table.start (index * entry_bytes (suc level) + 0) on.deep on.descended.at (offset_fits level index 0 within (entry_some (suc level))))
 
@@ -158,10 +158,10 @@ module _ (depth : Depth) (top : ℕ) (root : ℕ) (m : Memory) (whole : AreWhole
     }
 
     -- and what is met there is met in the table
-    next_is_met : (number : ℕ) (own : Rights) (move : Move) → meaning (suc level) (get_or words index 0) ≡ entry.Table number own → Contains (table_moves depth m level (next_table level table index number own)) move → Contains (table_moves depth m (suc level) table) move
+    next_is_met : (number : ℕ) (own : Rights) (move : Visit) → meaning (suc level) (get_or words index 0) ≡ entry.Table number own → Contains (table_visits depth m level (next_table level table index number own)) move → Contains (table_visits depth m (suc level) table) move
     next_is_met number own move says met =
         word_is_met depth m level table words index move is (omega (arith, whole table.number words is))
-        (subst (λ means. Contains (entry_moves depth (suc level) table index (λ next. table_moves depth m level next) means) move) (sym says) met)
+        (subst (λ means. Contains (entry_visits depth (suc level) table index (λ next. table_visits depth m level next) means) move) (sym says) met)
 
   -- ---- what is reached is on a path
 
@@ -182,12 +182,12 @@ module _ (depth : Depth) (top : ℕ) (root : ℕ) (m : Memory) (whole : AreWhole
     turns : index_at (top - k) address ≡ index
     at : table_at top m root steps address ≡ Some n
 
-  through : (k level : ℕ) (table : Table) (on : IsOnPath k (suc level) table) (words : List ℕ) → finite.get m table.number ≡ Some words
-      → ((next : Table) → IsOnPath (suc k) level next → (n : ℕ) → Contains (table_moves depth m level next) (Reaches n) → IsUnder (suc k) next.start n)
-      → (index n : ℕ) → index < length words → Contains (at_word_met depth m level table (index, get_or words index 0)) (Reaches n) → IsThrough k table.start index n
+  through : (k level : ℕ) (table : ReachedTable) (on : IsOnPath k (suc level) table) (words : List ℕ) → finite.get m table.number ≡ Some words
+      → ((next : ReachedTable) → IsOnPath (suc k) level next → (n : ℕ) → Contains (table_visits depth m level next) (OfFrame n) → IsUnder (suc k) next.start n)
+      → (index n : ℕ) → index < length words → Contains (at_word_met depth m level table (index, get_or words index 0)) (OfFrame n) → IsThrough k table.start index n
   through k level table on words is lower index n lt met =
       let within : index < 512 = omega (arith, whole table.number words is) in
-      let into = into_table depth level table index (λ next. table_moves depth m level next) (meaning (suc level) (get_or words index 0)) n met in
+      let into = into_table depth level table index (λ next. table_visits depth m level next) (meaning (suc level) (get_or words index 0)) n met in
       let under = lower (next_table level table index into.0 into.1) (next_on_path k level table on words is index within into.0 into.1 into.2) n into.3 in
       record {
         steps = under.steps;
@@ -198,7 +198,7 @@ module _ (depth : Depth) (top : ℕ) (root : ℕ) (m : Memory) (whole : AreWhole
         at = under.at;
       }
 
-  own_under : (k level : ℕ) (table : Table) (n : ℕ) → IsOnPath k level table → table.number ≡ n → IsUnder k table.start n
+  own_under : (k level : ℕ) (table : ReachedTable) (n : ℕ) → IsOnPath k level table → table.number ≡ n → IsUnder k table.start n
   own_under k level table n on same = record {
     steps = k;
     address = table.start;
@@ -210,23 +210,23 @@ module _ (depth : Depth) (top : ℕ) (root : ℕ) (m : Memory) (whole : AreWhole
   from_through : {k start index n : ℕ} → IsThrough k start index n → IsUnder k start n
   from_through {k} {start} {index} {n} t = record { steps = t.steps; address = t.address; below = omega (arith, t.below); path = t.path; at = t.at }
 
-  table_reaches : (k level : ℕ) (table : Table) → IsOnPath k level table → (n : ℕ) → Contains (table_moves depth m level table) (Reaches n) → IsUnder k table.start n
-  table_reaches k zero table on n met = absurd (not_in_nil _ (subst (λ ms. Contains ms (Reaches n)) (nothing_met depth m table) met))
+  table_reaches : (k level : ℕ) (table : ReachedTable) → IsOnPath k level table → (n : ℕ) → Contains (table_visits depth m level table) (OfFrame n) → IsUnder k table.start n
+  table_reaches k zero table on n met = absurd (not_in_nil _ (subst (λ ms. Contains ms (OfFrame n)) (nothing_met depth m table) met))
   table_reaches k (suc level) table on n met =
       elim (finite.get m table.number) as (λ o. finite.get m table.number ≡ o → IsUnder k table.start n) [
         | None ↦ λ is. ⊎_elim
             (λ same. own_under k (suc level) table n on (one_number table.number n same))
             (λ later. absurd (not_in_nil _ later))
-            (Contains-cases (Reaches table.number) [] (Reaches n) (subst (λ ms. Contains ms (Reaches n)) (missing_met depth m level table is) met))
+            (Contains-cases (OfFrame table.number) [] (OfFrame n) (subst (λ ms. Contains ms (OfFrame n)) (missing_met depth m level table is) met))
         | Some words ↦ λ is. ⊎_elim
             (λ same. own_under k (suc level) table n on (one_number table.number n same))
             (λ later.
-            let at = contained_at_some_word (at_word_met depth m level table) words 0 (Reaches n) later in
-            from_through (through k level table on words is (λ next. table_reaches (suc k) level next) at.0 n at.1 (subst (λ i. Contains (at_word_met depth m level table (i, get_or words at.0 0)) (Reaches n)) (omega arith) at.2)))
-            (Contains-cases (Reaches table.number) _ (Reaches n) (subst (λ ms. Contains ms (Reaches n)) (table_met depth m level table words is) met))
+            let at = contained_at_some_word (at_word_met depth m level table) words 0 (OfFrame n) later in
+            from_through (through k level table on words is (λ next. table_reaches (suc k) level next) at.0 n at.1 (subst (λ i. Contains (at_word_met depth m level table (i, get_or words at.0 0)) (OfFrame n)) (omega arith) at.2)))
+            (Contains-cases (OfFrame table.number) _ (OfFrame n) (subst (λ ms. Contains ms (OfFrame n)) (table_met depth m level table words is) met))
       ] refl
     where
-      one_number : (x y : ℕ) → Reaches x ≡ Reaches y → x ≡ y
+      one_number : (x y : ℕ) → OfFrame x ≡ OfFrame y → x ≡ y
       one_number x y e = cc
 
   -- ---- each frame once
@@ -239,28 +239,28 @@ module _ (depth : Depth) (top : ℕ) (root : ℕ) (m : Memory) (whole : AreWhole
         sym left.turns ∙ both.1 k left.below ∙ right.turns
 
     -- and none goes through the frame itself
-    not_own : (k level : ℕ) (table : Table) → IsOnPath k level table → (index : ℕ) → IsThrough k table.start index table.number → ⊥
+    not_own : (k level : ℕ) (table : ReachedTable) → IsOnPath k level table → (index : ℕ) → IsThrough k table.start index table.number → ⊥
     not_own k level table on index t =
         let both = tree.once k t.steps table.start t.address table.number on.at t.at in
         omega (arith, both.0, t.below)
 
-    table_once : (k level : ℕ) (table : Table) → IsOnPath k level table → Once (reached (table_moves depth m level table))
+    table_once : (k level : ℕ) (table : ReachedTable) → IsOnPath k level table → Once (reached (table_visits depth m level table))
     table_once k zero table on = subst (λ ms. Once (reached ms)) (sym (nothing_met depth m table)) tt
     table_once k (suc level) table on =
-        elim (finite.get m table.number) as (λ o. finite.get m table.number ≡ o → Once (reached (table_moves depth m (suc level) table))) [
+        elim (finite.get m table.number) as (λ o. finite.get m table.number ≡ o → Once (reached (table_visits depth m (suc level) table))) [
           | None ↦ λ is. subst (λ ms. Once (reached ms)) (sym (missing_met depth m level table is)) (λ again. not_in_nil _ again, tt)
           | Some words ↦ λ is.
-              let by_index : (index n : ℕ) → index < length words → Contains (at_word_met depth m level table (index, get_or words index 0)) (Reaches n) → IsThrough k table.start index n =
+              let by_index : (index n : ℕ) → index < length words → Contains (at_word_met depth m level table (index, get_or words index 0)) (OfFrame n) → IsThrough k table.start index n =
               through k level table on words is (λ next. table_reaches (suc k) level next) in
               subst (λ ms. Once (reached ms)) (sym (table_met depth m level table words is)) (
                 λ again.
-                    let at = contained_at_some_word (at_word_met depth m level table) words 0 (Reaches table.number) (reached_is_met _ table.number again) in
-                    not_own k (suc level) table on at.0 (by_index at.0 table.number at.1 (subst (λ i. Contains (at_word_met depth m level table (i, get_or words at.0 0)) (Reaches table.number)) (omega arith) at.2)),
+                    let at = contained_at_some_word (at_word_met depth m level table) words 0 (OfFrame table.number) (reached_is_met _ table.number again) in
+                    not_own k (suc level) table on at.0 (by_index at.0 table.number at.1 (subst (λ i. Contains (at_word_met depth m level table (i, get_or words at.0 0)) (OfFrame table.number)) (omega arith) at.2)),
                 words_once (at_word_met depth m level table) (IsThrough k table.start) words 0 (one_turn k table.start)
                     (λ index lt. subst (λ i. Once (reached (at_word_met depth m level table (i, get_or words index 0)))) (omega arith)
-                    (entry_once depth level table index (λ next. table_moves depth m level next) (meaning (suc level) (get_or words index 0))
+                    (entry_once depth level table index (λ next. table_visits depth m level next) (meaning (suc level) (get_or words index 0))
                     (λ number own says. table_once (suc k) level _ (next_on_path k level table on words is index (omega (arith, whole table.number words is)) number own says))))
-                    (λ index n lt met. subst (λ i. IsThrough k table.start i n) (omega arith) (by_index index n lt (subst (λ i. Contains (at_word_met depth m level table (i, get_or words index 0)) (Reaches n)) (omega arith) met))),
+                    (λ index n lt met. subst (λ i. IsThrough k table.start i n) (omega arith) (by_index index n lt (subst (λ i. Contains (at_word_met depth m level table (i, get_or words index 0)) (OfFrame n)) (omega arith) met))),
               )
         ] refl
 
@@ -272,13 +272,13 @@ module _ (depth : Depth) (top : ℕ) (root : ℕ) (m : Memory) (whole : AreWhole
     | Some p ↦ λ is. (p, is)
   ] refl
 
-  path_reached : (d k level : ℕ) (table : Table) → 0 < level → IsOnPath k level table → (a n : ℕ) → SamePath top k table.start a → table_at top m root (d + k) a ≡ Some n → Contains (table_moves depth m level table) (Reaches n)
+  path_reached : (d k level : ℕ) (table : ReachedTable) → 0 < level → IsOnPath k level table → (a n : ℕ) → SamePath top k table.start a → table_at top m root (d + k) a ≡ Some n → Contains (table_visits depth m level table) (OfFrame n)
   path_reached d k zero table some on a n same at = absurd (omega arith)
   path_reached zero k (suc level) table some on a n same at =
       let number : table.number ≡ n = one_some table.number n (sym on.at ∙ same_table top root m k table.start a same ∙ subst (λ j. table_at top m root j a ≡ Some n) (omega arith) at) in
       let first = first_met depth m level table in
-      subst (λ x. Contains (table_moves depth m (suc level) table) (Reaches x)) number
-      (subst (λ ms. Contains ms (Reaches table.number)) (sym first.1) (Contains-head (Reaches table.number) first.0))
+      subst (λ x. Contains (table_visits depth m (suc level) table) (OfFrame x)) number
+      (subst (λ ms. Contains ms (OfFrame table.number)) (sym first.1) (Contains-head (OfFrame table.number) first.0))
   path_reached (suc d) k (suc level) table some on a n same at =
       let further : table_at top m root (d + suc k) a ≡ Some n = subst (λ j. table_at top m root j a ≡ Some n) (omega arith) at in
       let next = some_there d (suc k) a n further in
@@ -290,7 +290,7 @@ module _ (depth : Depth) (top : ℕ) (root : ℕ) (m : Memory) (whole : AreWhole
       let index : ℕ = index_at (suc level) a in
       let within : index < 512 = mod-lt (a / entry_bytes (suc level)) (omega arith) in
       let turns : index_at (top - k) (entry_start level table index) ≡ index_at (top - k) a = entry_index k level table on words.0 words.1 index within ∙ ap (λ l. index_at l a) (sym level_is) in
-      next_is_met k level table on words.0 words.1 index within next.0 before.1 (Reaches n) words.2
+      next_is_met k level table on words.0 words.1 index within next.0 before.1 (OfFrame n) words.2
       (path_reached d (suc k) level (next_table level table index next.0 before.1) (above_zero level (get_or words.0 index 0) next.0 before.1 words.2) (next_on_path k level table on words.0 words.1 index within next.0 before.1 words.2) a n
       (same_longer top k (entry_start level table index) a (λ i less. sym (entry_path k level table on words.0 words.1 index within i less) ∙ same i less) turns)
       further)
@@ -299,16 +299,16 @@ module _ (depth : Depth) (top : ℕ) (root : ℕ) (m : Memory) (whole : AreWhole
 
 module _ (depth : Depth) (memory : Memory) (root : ℕ) (whole : AreWhole memory) where
   -- each frame that is reached is in use
-  pub in_use : IsTree (levels depth) memory root → (n : ℕ) → Contains (reached (moves depth memory root)) n → IsSome (finite.get memory n)
+  pub in_use : IsTree (levels depth) memory root → (n : ℕ) → Contains (reached (traversal depth memory root)) n → IsSome (finite.get memory n)
   in_use tree n is =
-      let under = table_reaches depth (levels depth) root memory whole 0 (levels depth) _ (root_on_path depth (levels depth) root memory whole) n (reached_is_met (moves depth memory root) n is) in
+      let under = table_reaches depth (levels depth) root memory whole 0 (levels depth) _ (root_on_path depth (levels depth) root memory whole) n (reached_is_met (traversal depth memory root) n is) in
       tree.in_use under.steps under.address n under.at
 
   -- and each frame in use is reached
-  pub each : IsReached (levels depth) memory root → (n : ℕ) → IsSome (finite.get memory n) → Contains (reached (moves depth memory root)) n
+  pub each : IsReached (levels depth) memory root → (n : ℕ) → IsSome (finite.get memory n) → Contains (reached (traversal depth memory root)) n
   each paths n used =
       let path = paths.path n used in
-      met_is_reached (moves depth memory root) n
+      met_is_reached (traversal depth memory root) n
       (path_reached depth (levels depth) root memory whole path.0 0 (levels depth) _ (some_levels depth) (root_on_path depth (levels depth) root memory whole) path.1 n (λ i less. absurd (omega arith))
       (subst (λ j. table_at (levels depth) memory root j path.1 ≡ Some n) (omega arith) path.2))
 
@@ -325,8 +325,8 @@ module _ (depth : Depth) (memory : Memory) (root : ℕ) (whole : AreWhole memory
 -- a page table's traversal meets no fault, and reaches just the frames in use
 pub traversed : (depth : Depth) (memory : Memory) (root : ℕ) → IsPageTable depth memory root
     → (walk_fault depth memory root ≡ None)
-    × ((number : ℕ) → Contains (reached (moves depth memory root)) number → IsTrue (finite.contains_key memory number))
-    × ((number : ℕ) → IsTrue (finite.contains_key memory number) → Contains (reached (moves depth memory root)) number)
+    × ((number : ℕ) → Contains (reached (traversal depth memory root)) number → IsTrue (finite.contains_key memory number))
+    × ((number : ℕ) → IsTrue (finite.contains_key memory number) → Contains (reached (traversal depth memory root)) number)
 traversed depth memory root table = (
   faultless depth memory root table.whole table.tree table.some_space.0 table.some_space.1.translates,
   in_use depth memory root table.whole table.tree,

@@ -14,8 +14,8 @@ use Rattle.vs_walk.specs.declared.walk.Walk.TheVariants.{NotMapped}
 use Rattle.vs_space.specs.Held.{with_word}
 use Rattle.vs_walk.specs.Ways.{AreWhole}
 use Rattle.vs_space.specs.Path.{found_at, table_in, table_at, SamePath}
-use Rattle.vs_space.specs.Tree.{IsTree, IsFilled, NothingUnder}
-use Rattle.vs_space.specs.Prune.{IsFilledBut}
+use Rattle.vs_space.specs.inside.Tree.{IsTree, IsFilled, NothingUnder}
+use Rattle.vs_space.specs.inside.Prune.{IsFilledBut}
 use Rattle.vs_space.proofs.Paths.{table_next, none_past, same_table, agree_table, agree_walk}
 use Rattle.vs_space.proofs.Writes.{off_path, above, table_off_path, table_above, walk_off_path, table_here, found_on_path, same_or_not, found_alike, written_in_use}
 

@@ -25,11 +25,11 @@ use Rattle.vs_walk.proofs.Translates.{not_reserved}
 use Rattle.vs_space.specs.Held.{with_word}
 use Rattle.vs_walk.specs.Ways.{AreWhole}
 use Rattle.vs_space.specs.Path.{found_at, table_at, table_in, SamePath}
-use Rattle.vs_space.specs.Tree.{IsTree, NothingUnder}
-use Rattle.vs_space.specs.Prune.{IsCut, IsPruned}
-use Rattle.vs_space.specs.Descent.{IsDescent}
-use Rattle.vs_space.specs.Table.{IsStep}
-use Rattle.vs_space.specs.Invariant.{IsSpaceOf, IsPageTable}
+use Rattle.vs_space.specs.inside.Tree.{IsTree, NothingUnder}
+use Rattle.vs_space.specs.inside.Prune.{IsCut, IsPruned}
+use Rattle.vs_space.specs.inside.Descent.{IsDescent}
+use Rattle.vs_space.specs.Table.{IsTableStep}
+use Rattle.vs_space.specs.inside.Invariant.{IsSpaceOf, IsPageTable}
 use Rattle.vs_space.proofs.Paths.{walk_ends}
 use Rattle.vs_space.proofs.Writes.{table_here, table_above, found_on_path, walk_off_path, len_written, same_or_not}
 use Rattle.vs_space.proofs.Trees.{tree_write, but_none, but_write}
@@ -208,7 +208,7 @@ module _ (depth : Depth) (m : Memory) (root : ℕ) (table : IsPageTable depth m 
       some_space = ((step depth 0 table.some_space.0 (Unmap base)).space, space_is m' up pruned_here aligned 0 table.some_space.0 table.some_space.1);
     }
 
-    pub unmap_step : (first limit : ℕ) → IsStep (page_table depth first limit root m) (Unmap base) (answers.Removed phys (size_at level) own) (page_table depth first limit root m')
+    pub unmap_step : (first limit : ℕ) → IsTableStep (page_table depth first limit root m) (Unmap base) (answers.Removed phys (size_at level) own) (page_table depth first limit root m')
     unmap_step first limit = record {
       some_space = own_space depth first limit root m table;
       same = refl;

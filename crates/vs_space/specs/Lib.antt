@@ -1,12 +1,8 @@
 pub mod Held
 pub mod Path
 pub mod Written
-pub mod Tree
-pub mod Prune
-pub mod Grow
 pub mod Table
-pub mod Invariant
-pub mod Descent
+pub mod inside
 pub use Rattle.vs_types.specs.Depth
 pub use Rattle.vs_types.specs.Page
 pub use Rattle.vs_types.specs.Operation

@@ -23,7 +23,7 @@ pub record IsTableOf (table : PageTable) (space : Space) : Type 0 where
   pub translates : TranslatesAs table.depth table.memory table.root space
 
 -- one operation: the answer, and the space of the table after it, are those of a step; a refusal leaves each word as it was
-pub record IsStep (old : PageTable) (action : Action) (answer : Answer) (new : PageTable) : Type 0 where
+pub record IsTableStep (old : PageTable) (action : Action) (answer : Answer) (new : PageTable) : Type 0 where
   pub some_space : (space : Space) × IsTableOf old space
   pub same : new ≡ record old { memory = new.memory }
   pub unchanged : IsFalse (changes answer) → new ≡ old

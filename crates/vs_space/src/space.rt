@@ -7,8 +7,8 @@ ghost use Rattle.vs_types.specs.Page.{IsPage};
 ghost use Rattle.vs_types.specs.Space as spaces;
 ghost use Rattle.vs_types.specs.Space.{no_pages, table_count};
 ghost use Rattle.vs_types.specs.Step.{look};
-ghost use Rattle.vs_walk.specs.Traversal.{moves, reached, walk_fault};
-ghost use Rattle.vs_space.specs.Table.{PageTable, IsTableOf, IsStep};
+ghost use Rattle.vs_walk.specs.Traversal.{traversal, reached, walk_fault};
+ghost use Rattle.vs_space.specs.Table.{PageTable, IsTableOf, IsTableStep};
 ghost use Rattle.vs_space.specs.Written.{IsWrittenTable};
 
 use crate::tables::Tables;
@@ -36,7 +36,7 @@ impl<S: FrameStore> Model for Space<S> {
     ghost use Rattle.std.specs.Ordering.{nat_cmp};
     ghost use Rattle.vs_space.specs.Held.{AreNumbered};
     ghost use Rattle.vs_space.specs.Table.{PageTable};
-    ghost use Rattle.vs_space.specs.Invariant.{IsPageTable};
+    ghost use Rattle.vs_space.specs.inside.Invariant.{IsPageTable};
 
     ghost Value = { PageTable };
 
@@ -99,8 +99,8 @@ impl<S: FrameStore> Space<S> {
         ensures reads { result ≡ self.now.root }
         ensures some_space { (space : spaces.Space) × IsTableOf self.now space }
         ensures faultless { walk_fault self.now.depth self.now.memory self.now.root ≡ None }
-        ensures in_use { (number : ℕ) → Contains (reached (moves self.now.depth self.now.memory self.now.root)) number → IsTrue (finite.contains_key self.now.memory number) }
-        ensures each { (number : ℕ) → IsTrue (finite.contains_key self.now.memory number) → Contains (reached (moves self.now.depth self.now.memory self.now.root)) number }
+        ensures in_use { (number : ℕ) → Contains (reached (traversal self.now.depth self.now.memory self.now.root)) number → IsTrue (finite.contains_key self.now.memory number) }
+        ensures each { (number : ℕ) → IsTrue (finite.contains_key self.now.memory number) → Contains (reached (traversal self.now.depth self.now.memory self.now.root)) number }
         ensures written { (number : ℕ) → IsTrue (finite.contains_key self.now.memory number) → IsWrittenTable self.now.depth self.now.memory self.now.root number }
         ensures from_base { (number : ℕ) → IsTrue (finite.contains_key self.now.memory number) → self.now.base ≤ number }
         ensures below_limit { (number : ℕ) → IsTrue (finite.contains_key self.now.memory number) → number < self.now.base + self.now.limit }
@@ -127,7 +127,7 @@ impl<S: FrameStore> Space<S> {
     /// It reads and writes at most one table a level, but for the first page below a table, and for whether a table is
     /// empty, which is one pass over its words.
     pub fn apply(&mut self, op: Op) -> Answer
-        ensures { IsStep self.old op result self.new }
+        ensures { IsTableStep self.old op result self.new }
     {
         match op.action() {
             Action::Map(page) => self.map(page),
@@ -138,7 +138,7 @@ impl<S: FrameStore> Space<S> {
 
     fn map(&mut self, page: Page) -> Answer
         requires { IsPage self.old.depth page }
-        ensures { IsStep self.old (Action.Map page) result self.new }
+        ensures { IsTableStep self.old (Action.Map page) result self.new }
     {
         let lowest = page.size.level();
         let descent = self
@@ -180,7 +180,7 @@ impl<S: FrameStore> Space<S> {
 
     fn unmap(&mut self, base: u64) -> Answer
         requires { IsBase self.old.depth base }
-        ensures { IsStep self.old (Action.Unmap base) result self.new }
+        ensures { IsTableStep self.old (Action.Unmap base) result self.new }
     {
         let descent = self.tables.descend(self.depth, self.root, base, 1);
         let level = descent.level as u8;
@@ -200,7 +200,7 @@ impl<S: FrameStore> Space<S> {
 
     fn protect(&mut self, base: u64, rights: Rights) -> Answer
         requires { IsBase self.old.depth base }
-        ensures { IsStep self.old (Action.Protect base rights) result self.new }
+        ensures { IsTableStep self.old (Action.Protect base rights) result self.new }
     {
         let descent = self.tables.descend(self.depth, self.root, base, 1);
         let level = descent.level as u8;

@@ -6,14 +6,14 @@ ghost use Rattle.vs_walk.specs.Walk.{walk};
 ghost use Rattle.vs_walk.specs.declared.walk.Walk.{Walk};
 ghost use Rattle.vs_types.specs.Entry.{meaning};
 ghost use Rattle.vs_types.specs.declared.entry.Meaning.{Meaning};
-ghost use Rattle.vs_space.specs.Prune.{IsCut, IsPruned};
+ghost use Rattle.vs_space.specs.inside.Prune.{IsCut, IsPruned};
 ghost use Rattle.vs_space.specs.Held.{numbered, word_at, with_word, AreNumbered};
 ghost use Rattle.vs_walk.specs.Ways.{AreWhole};
 ghost use Rattle.vs_space.specs.Path.{found_at, table_at, entry_in, IsFirstPresent, HasPresent};
-ghost use Rattle.vs_space.specs.Tree.{IsTree, IsFilled, IsReached, AreWritten};
+ghost use Rattle.vs_space.specs.inside.Tree.{IsTree, IsFilled, IsReached, AreWritten};
 ghost use Rattle.vs_space.specs.Written.{IsWritten};
-ghost use Rattle.vs_space.specs.Grow.{IsOpen, IsExtended, IsLeastBase};
-ghost use Rattle.vs_space.specs.Descent.{IsDescent};
+ghost use Rattle.vs_space.specs.inside.Grow.{IsOpen, IsExtended, IsLeastBase};
+ghost use Rattle.vs_space.specs.inside.Descent.{IsDescent};
 
 use crate::descent::{Descent, PATH_LENGTH};
 use crate::word::read_written;

@@ -1,9 +1,8 @@
 -- The fields of an operation are found again in the words of its entry.
-use Rattle.std.proofs.Common.{◌≡◌, ℕ, ◌+◌, ◌-◌, ◌*◌, ◌/◌, ◌%◌, ◌^◌, ◌<◌, ◌≤◌, Bool, true, false, List, [], ◌∷◌, get_or, cond, refl, ap, sym, ◌∙◌, arith}
-use Rattle.std.proofs.lemmas.Grind.{common_steps}
-use Rattle.vs_types.specs.Codes.{kind_code, size_code, rights_code}
+use Rattle.std.proofs.Common.{◌≡◌, ℕ, ◌+◌, ◌-◌, ◌*◌, ◌/◌, ◌%◌, ◌^◌, ◌<◌, ◌≤◌, Bool, true, false, List, get_or, refl, ap, arith}
+use Rattle.vs_types.specs.Codes.{size_code, rights_code}
 use Rattle.vs_types.specs.Operation.{IsAction}
-use Rattle.vs_types.specs.LogEntry.{IsLogEntry, ActionFields, action_fields, log_words, SpellsEntry, HasFields}
+use Rattle.vs_types.specs.LogEntry.{ActionFields, action_fields, SpellsEntry, HasFields}
 use Rattle.vs_types.specs.declared.depth.Depth.{Depth}
 use Rattle.vs_types.specs.declared.page.Rights.{Rights}
 use Rattle.vs_types.specs.declared.page.Size.{Size}

@@ -40,5 +40,5 @@ abbrev pub IsPage : Depth → Page → Type 0
 IsPage = IsPageBelow (2 ^ 51)
 
 -- what both allow
-abbrev pub joined : Rights → Rights → Rights
-joined a b = record { write = a.write && b.write; user = a.user && b.user; exec = a.exec && b.exec }
+abbrev pub intersection : Rights → Rights → Rights
+intersection a b = record { write = a.write && b.write; user = a.user && b.user; exec = a.exec && b.exec }

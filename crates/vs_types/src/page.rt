@@ -72,7 +72,7 @@ impl Size {
 }
 
 impl Rights {
-    ghost use Rattle.vs_types.specs.Page.{joined};
+    ghost use Rattle.vs_types.specs.Page.{intersection};
 
     /// Everything is allowed.
     pub const ALL: Rights = Rights {
@@ -89,8 +89,8 @@ impl Rights {
     };
 
     /// What both allow.
-    pub fn joined(self, other: Rights) -> Rights
-        ensures { result ≡ joined self other }
+    pub fn intersection(self, other: Rights) -> Rights
+        ensures { result ≡ intersection self other }
     {
         Rights {
             write: self.write && other.write,

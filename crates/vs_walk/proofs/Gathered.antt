@@ -17,7 +17,7 @@ use Rattle.vs_types.specs.declared.depth.Depth.{Depth}
 use Rattle.vs_walk.specs.Dump.{Image, IsDump}
 use Rattle.vs_walk.specs.Memory.{Memory}
 use Rattle.vs_walk.specs.Reached.{AreJust}
-use Rattle.vs_walk.specs.Traversal.{moves, reached, walk_fault}
+use Rattle.vs_walk.specs.Traversal.{traversal, reached, walk_fault}
 use Rattle.vs_walk.proofs.WaysLaws.{reached_held, reached_distinct}
 
 -- a rising list of what another list holds is no longer
@@ -61,17 +61,17 @@ reached_held_at memory number ns all is none = let there = All-contains (λ n. I
 -- ---- how many frames are reached
 
 -- without a fault no more frames are reached than the memory has
-pub reached_few : (depth : Depth) (memory : Memory) (root : ℕ) → walk_fault depth memory root ≡ None → length (reached (moves depth memory root)) ≤ finite.len memory
+pub reached_few : (depth : Depth) (memory : Memory) (root : ℕ) → walk_fault depth memory root ≡ None → length (reached (traversal depth memory root)) ≤ finite.len memory
 reached_few depth memory root none =
-    subst (λ n. length (reached (moves depth memory root)) ≤ n) (length-map (finite.entries memory) (λ e. e.0) ∙ sym (finite.len-entries memory))
-    (length-le_from_is_member nat_eq_equiv (reached (moves depth memory root)) (finite.keys memory) (reached_distinct depth memory root none) within) where
-      within : (q : ℕ) → is_member nat_eq (reached (moves depth memory root)) q ≡ true → is_member nat_eq (finite.keys memory) q ≡ true
+    subst (λ n. length (reached (traversal depth memory root)) ≤ n) (length-map (finite.entries memory) (λ e. e.0) ∙ sym (finite.len-entries memory))
+    (length-le_from_is_member nat_eq_equiv (reached (traversal depth memory root)) (finite.keys memory) (reached_distinct depth memory root none) within) where
+      within : (q : ℕ) → is_member nat_eq (reached (traversal depth memory root)) q ≡ true → is_member nat_eq (finite.keys memory) q ≡ true
       within q m =
           (is_member-Decides Decides-eqb (finite.keys memory) q).1
-          (held_number memory q (All-contains (λ n. IsTrue (finite.contains_key memory n)) (reached (moves depth memory root)) q (reached_held depth memory root none) ((is_member-Decides Decides-eqb (reached (moves depth memory root)) q).0 m)))
+          (held_number memory q (All-contains (λ n. IsTrue (finite.contains_key memory n)) (reached (traversal depth memory root)) q (reached_held depth memory root none) ((is_member-Decides Decides-eqb (reached (traversal depth memory root)) q).0 m)))
 
 -- of a dump
-pub dump_few : (dump : Image) (depth : Depth) (root : ℕ) → IsDump dump → walk_fault depth dump.frames root ≡ None → length (reached (moves depth dump.frames root)) ≤ 4096
+pub dump_few : (dump : Image) (depth : Depth) (root : ℕ) → IsDump dump → walk_fault depth dump.frames root ≡ None → length (reached (traversal depth dump.frames root)) ≤ 4096
 dump_few dump depth root is none =
     let few = reached_few depth dump.frames root none in
     let count = finite.len-entries dump.frames in
@@ -81,7 +81,7 @@ dump_few dump depth root is none =
 dump_number : (dump : Image) (q : ℕ) → IsDump dump → Contains (finite.keys dump.frames) q → q < 2 ^ 40
 dump_number dump q is held = All-contains (λ n. n < 2 ^ 40) (finite.keys dump.frames) q (All-map (λ n. n < 2 ^ 40) (λ e. e.0) (finite.entries dump.frames) is.in_range) held
 
-pub dump_in_range : (dump : Image) (depth : Depth) (root : ℕ) → IsDump dump → walk_fault depth dump.frames root ≡ None → All (λ number. number < 2 ^ 40) (reached (moves depth dump.frames root))
+pub dump_in_range : (dump : Image) (depth : Depth) (root : ℕ) → IsDump dump → walk_fault depth dump.frames root ≡ None → All (λ number. number < 2 ^ 40) (reached (traversal depth dump.frames root))
 dump_in_range dump depth root is none k d within =
-    let number = get_or (reached (moves depth dump.frames root)) k d in
+    let number = get_or (reached (traversal depth dump.frames root)) k d in
     dump_number dump number is (held_number dump.frames number (reached_held depth dump.frames root none k d within))

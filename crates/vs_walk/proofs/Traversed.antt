@@ -10,18 +10,18 @@ use Rattle.std.proofs.lemmas.Map.Views.{Contains-from_any, list_any-from_Contain
 use Rattle.vs_types.proofs.Lists.{Contains-head, Contains-tail, Contains-cases, not_in_nil}
 use Rattle.vs_walk.specs.Memory.{Memory}
 use Rattle.vs_walk.specs.Reached.{AreJust}
-use Rattle.vs_walk.specs.Traversal.{Move, Reaches, Finds, Meets, reached_by, found_by, reached, found, move_fault, first_fault_after}
-use Rattle.vs_walk.specs.Traversed.{GoesOn, Stops, TakesFound}
+use Rattle.vs_walk.specs.Traversal.{Visit, OfFrame, OfLeaf, OfReservedBit, reached_by, found_by, reached, found, visit_fault, first_fault_after}
+use Rattle.vs_walk.specs.inside.Traversed.{GoesOn, Stops, TakesFound}
 use Rattle.vs_walk.specs.declared.walk.WalkFault.{WalkFault}
 use Rattle.vs_walk.specs.declared.walk.WalkFault.TheVariants.{Missing, Shared, Reserved}
 use Rattle.vs_types.specs.declared.page.Page.{Page}
 
 -- ---- the frames that are marked
 
-pub reached_both : (ms ns : List Move) → reached (ms ++ ns) ≡ reached ms ++ reached ns
+pub reached_both : (ms ns : List Visit) → reached (ms ++ ns) ≡ reached ms ++ reached ns
 reached_both = filter_map-append reached_by
 
-pub found_both : (ms ns : List Move) → found (ms ++ ns) ≡ found ms ++ found ns
+pub found_both : (ms ns : List Visit) → found (ms ++ ns) ≡ found ms ++ found ns
 found_both = filter_map-append found_by
 
 just_both : (a b xs ys : List ℕ) → AreJust a b → AreJust xs ys → AreJust (a ++ xs) (b ++ ys)
@@ -37,32 +37,32 @@ just_then : (a b c : List ℕ) → AreJust a b → AreJust b c → AreJust a c
 just_then a b c left right number = (λ h. (right number).0 ((left number).0 h), λ h. (left number).1 ((right number).1 h))
 
 -- the frames that are marked after a part are those that are reached then
-pub marked_then : (memory : Memory) (before after : List ℕ) (ms earlier : List Move) → GoesOn memory before after ms → AreJust before (reached earlier) → AreJust after (reached (earlier ++ ms))
+pub marked_then : (memory : Memory) (before after : List ℕ) (ms earlier : List Visit) → GoesOn memory before after ms → AreJust before (reached earlier) → AreJust after (reached (earlier ++ ms))
 marked_then memory before after ms earlier on just =
     subst (AreJust after) (sym (reached_both earlier ms))
     (just_then after (before ++ reached ms) (reached earlier ++ reached ms) on.marked (just_both before (reached earlier) (reached ms) (reached ms) just (just_same (reached ms))))
 
 -- ---- parts one after another
 
-pub faults_after : (memory : Memory) (earlier ms ns : List Move) → first_fault_after memory earlier ms ≡ None → first_fault_after memory earlier (ms ++ ns) ≡ first_fault_after memory (earlier ++ ms) ns
+pub faults_after : (memory : Memory) (earlier ms ns : List Visit) → first_fault_after memory earlier ms ≡ None → first_fault_after memory earlier (ms ++ ns) ≡ first_fault_after memory (earlier ++ ms) ns
 faults_after memory earlier [] ns none = ap (λ es. first_fault_after memory es ns) (sym (append-nil earlier))
-faults_after memory earlier (move ∷ ms) ns none = by_first (move_fault memory earlier move) refl none (faults_after memory (earlier ++ move ∷ []) ms ns) where
-  by_first : (here : Option WalkFault) → move_fault memory earlier move ≡ here → first_fault_after memory earlier (move ∷ ms) ≡ None
+faults_after memory earlier (move ∷ ms) ns none = by_first (visit_fault memory earlier move) refl none (faults_after memory (earlier ++ move ∷ []) ms ns) where
+  by_first : (here : Option WalkFault) → visit_fault memory earlier move ≡ here → first_fault_after memory earlier (move ∷ ms) ≡ None
       → (first_fault_after memory (earlier ++ move ∷ []) ms ≡ None → first_fault_after memory (earlier ++ move ∷ []) (ms ++ ns) ≡ first_fault_after memory ((earlier ++ move ∷ []) ++ ms) ns)
       → first_fault_after memory earlier (move ∷ ms ++ ns) ≡ first_fault_after memory (earlier ++ move ∷ ms) ns
   by_first (Some fault) is none rest = let bad : Some fault ≡ None = rw is at none in cc
   by_first None is none rest = rw is (rest (rw is at none) ∙ ap (λ es. first_fault_after memory es ns) (append_assoc earlier (move ∷ []) ms))
 
-pub fault_stays : (memory : Memory) (earlier ms ns : List Move) (fault : WalkFault) → first_fault_after memory earlier ms ≡ Some fault → first_fault_after memory earlier (ms ++ ns) ≡ Some fault
+pub fault_stays : (memory : Memory) (earlier ms ns : List Visit) (fault : WalkFault) → first_fault_after memory earlier ms ≡ Some fault → first_fault_after memory earlier (ms ++ ns) ≡ Some fault
 fault_stays memory earlier [] ns fault some = cc
-fault_stays memory earlier (move ∷ ms) ns fault some = by_first (move_fault memory earlier move) refl some (fault_stays memory (earlier ++ move ∷ []) ms ns fault) where
-  by_first : (here : Option WalkFault) → move_fault memory earlier move ≡ here → first_fault_after memory earlier (move ∷ ms) ≡ Some fault
+fault_stays memory earlier (move ∷ ms) ns fault some = by_first (visit_fault memory earlier move) refl some (fault_stays memory (earlier ++ move ∷ []) ms ns fault) where
+  by_first : (here : Option WalkFault) → visit_fault memory earlier move ≡ here → first_fault_after memory earlier (move ∷ ms) ≡ Some fault
       → (first_fault_after memory (earlier ++ move ∷ []) ms ≡ Some fault → first_fault_after memory (earlier ++ move ∷ []) (ms ++ ns) ≡ Some fault)
       → first_fault_after memory earlier (move ∷ ms ++ ns) ≡ Some fault
   by_first (Some other) is some rest = rw is (rw is at some)
   by_first None is some rest = rw is (rest (rw is at some))
 
-pub goes_on : (memory : Memory) (a b c : List ℕ) (ms ns : List Move) → GoesOn memory a b ms → GoesOn memory b c ns → GoesOn memory a c (ms ++ ns)
+pub goes_on : (memory : Memory) (a b c : List ℕ) (ms ns : List Visit) → GoesOn memory a b ms → GoesOn memory b c ns → GoesOn memory a c (ms ++ ns)
 goes_on memory a b c ms ns left right = record {
   faultless = λ earlier just.
       faults_after memory earlier ms ns (left.faultless earlier just)
@@ -71,33 +71,33 @@ goes_on memory a b c ms ns left right = record {
       (just_then c (b ++ reached ns) ((a ++ reached ms) ++ reached ns) right.marked (just_both b (a ++ reached ms) (reached ns) (reached ns) left.marked (just_same (reached ns))));
 }
 
-pub stops_later : (memory : Memory) (a b : List ℕ) (ms ns : List Move) (fault : WalkFault) → GoesOn memory a b ms → Stops memory b ns fault → Stops memory a (ms ++ ns) fault
+pub stops_later : (memory : Memory) (a b : List ℕ) (ms ns : List Visit) (fault : WalkFault) → GoesOn memory a b ms → Stops memory b ns fault → Stops memory a (ms ++ ns) fault
 stops_later memory a b ms ns fault left right = record {
   first = λ earlier just. faults_after memory earlier ms ns (left.faultless earlier just) ∙ right.first (earlier ++ ms) (marked_then memory a b ms earlier left just);
 }
 
-pub stops_before : (memory : Memory) (a : List ℕ) (ms ns : List Move) (fault : WalkFault) → Stops memory a ms fault → Stops memory a (ms ++ ns) fault
+pub stops_before : (memory : Memory) (a : List ℕ) (ms ns : List Visit) (fault : WalkFault) → Stops memory a ms fault → Stops memory a (ms ++ ns) fault
 stops_before memory a ms ns fault stops = record { first = λ earlier just. fault_stays memory earlier ms ns fault (stops.first earlier just) }
 
-pub takes_none : {V : Type 0} (HasTaken : V → List Page → Type 0) (v : V) (ms : List Move) → found ms ≡ [] → TakesFound (HasTaken v) (HasTaken v) ms
+pub takes_none : {V : Type 0} (HasTaken : V → List Page → Type 0) (v : V) (ms : List Visit) → found ms ≡ [] → TakesFound (HasTaken v) (HasTaken v) ms
 takes_none HasTaken v ms none pages h = subst (HasTaken v) (sym (ap (λ ps. pages ++ ps) none ∙ append-nil pages)) h
 
-pub takes_both : {V : Type 0} (HasTaken : V → List Page → Type 0) (u v w : V) (ms ns : List Move) → TakesFound (HasTaken u) (HasTaken v) ms → TakesFound (HasTaken v) (HasTaken w) ns → TakesFound (HasTaken u) (HasTaken w) (ms ++ ns)
+pub takes_both : {V : Type 0} (HasTaken : V → List Page → Type 0) (u v w : V) (ms ns : List Visit) → TakesFound (HasTaken u) (HasTaken v) ms → TakesFound (HasTaken v) (HasTaken w) ns → TakesFound (HasTaken u) (HasTaken w) (ms ++ ns)
 takes_both HasTaken u v w ms ns left right pages h =
     subst (HasTaken w) (append_assoc pages (found ms) (found ns) ∙ ap (λ ps. pages ++ ps) (sym (found_both ms ns))) (right (pages ++ found ms) (left pages h))
 
--- ---- single moves
+-- ---- single visits
 
 pub none_on : (memory : Memory) (a : List ℕ) → GoesOn memory a a []
 none_on memory a = record { faultless = λ earlier just. refl; marked = subst (AreJust a) (sym (append-nil a)) (just_same a) }
 
-pub finds_on : (memory : Memory) (a : List ℕ) (page : Page) → GoesOn memory a a (Finds page ∷ [])
+pub finds_on : (memory : Memory) (a : List ℕ) (page : Page) → GoesOn memory a a (OfLeaf page ∷ [])
 finds_on memory a page = record { faultless = λ earlier just. refl; marked = subst (AreJust a) (sym (append-nil a)) (just_same a) }
 
-pub meets_stops : (memory : Memory) (a : List ℕ) (number index : ℕ) → Stops memory a (Meets number index ∷ []) (Reserved number index)
+pub meets_stops : (memory : Memory) (a : List ℕ) (number index : ℕ) → Stops memory a (OfReservedBit number index ∷ []) (Reserved number index)
 meets_stops memory a number index = record { first = λ earlier just. refl }
 
-pub missing_stops : (memory : Memory) (a : List ℕ) (number : ℕ) → finite.get memory number ≡ None → Stops memory a (Reaches number ∷ []) (Missing number)
+pub missing_stops : (memory : Memory) (a : List ℕ) (number : ℕ) → finite.get memory number ≡ None → Stops memory a (OfFrame number ∷ []) (Missing number)
 missing_stops memory a number none = record { first = λ earlier just. rw none refl }
 
 in_list : (a : List ℕ) (number : ℕ) → Contains a number → list_any (nat_eq number) a ≡ true
@@ -106,12 +106,12 @@ in_list a number h = list_any-from_Contains nat_eq_equiv number a h
 not_in_list : (a : List ℕ) (number : ℕ) → (Contains a number → ⊥) → list_any (nat_eq number) a ≡ false
 not_in_list a number new = ⊎_elim (λ held. absurd (new (Contains-from_any exact_unsigned_eq number a held))) (λ is. is) (cases_Bool (list_any (nat_eq number) a))
 
-pub shared_stops : (memory : Memory) (a : List ℕ) (number : ℕ) (words : List ℕ) → finite.get memory number ≡ Some words → Contains a number → Stops memory a (Reaches number ∷ []) (Shared number)
+pub shared_stops : (memory : Memory) (a : List ℕ) (number : ℕ) (words : List ℕ) → finite.get memory number ≡ Some words → Contains a number → Stops memory a (OfFrame number ∷ []) (Shared number)
 shared_stops memory a number words some held = record {
   first = λ earlier just. rw (some, in_list (reached earlier) number ((just number).0 held)) refl;
 }
 
-pub new_on : (memory : Memory) (a b : List ℕ) (new : Bool) (number : ℕ) (words : List ℕ) → finite.get memory number ≡ Some words → IsTrue (not new) ↔ Contains a number → new ≡ true → AreJust b (number ∷ a) → GoesOn memory a b (Reaches number ∷ [])
+pub new_on : (memory : Memory) (a b : List ℕ) (new : Bool) (number : ℕ) (words : List ℕ) → finite.get memory number ≡ Some words → IsTrue (not new) ↔ Contains a number → new ≡ true → AreJust b (number ∷ a) → GoesOn memory a b (OfFrame number ∷ [])
 new_on memory a b new number words some tells is added = record {
   faultless = λ earlier just. rw (some, not_in_list (reached earlier) number (λ h. not_held ((just number).1 h))) refl;
   marked = just_then b (number ∷ a) (a ++ number ∷ []) added (λ other. (

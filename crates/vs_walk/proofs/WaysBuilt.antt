@@ -17,7 +17,7 @@ use Rattle.vs_types.proofs.Lists.{Contains-head, Contains-tail}
 use Rattle.vs_types.proofs.Spaces.{same_key}
 use Rattle.vs_walk.specs.Memory.{Memory}
 use Rattle.vs_walk.specs.Walk.{TranslatesAs}
-use Rattle.vs_walk.specs.Traversal.{moves, found, walk_fault}
+use Rattle.vs_walk.specs.Traversal.{traversal, found, walk_fault}
 use Rattle.vs_walk.specs.Ways.{AreWhole}
 use Rattle.vs_walk.proofs.WaysSpaces.{ArePages, rises_first, rises_rest, found_are_pages, found_translates}
 
@@ -77,8 +77,8 @@ are_space depth ps are formed = record {
 }
 
 -- without a fault, a memory translates as the space of the found pages, if they all lie where pages may
-pub found_space : (depth : Depth) (memory : Memory) (root : ℕ) → AreWhole memory → walk_fault depth memory root ≡ None → All (IsPage depth) (found (moves depth memory root)) → (space : Space) × IsSpace depth space × (pages space ≡ found (moves depth memory root)) × TranslatesAs depth memory root space
+pub found_space : (depth : Depth) (memory : Memory) (root : ℕ) → AreWhole memory → walk_fault depth memory root ≡ None → All (IsPage depth) (found (traversal depth memory root)) → (space : Space) × IsSpace depth space × (pages space ≡ found (traversal depth memory root)) × TranslatesAs depth memory root space
 found_space depth memory root whole none formed =
     let are = found_are_pages depth memory root whole in
-    let same = pages_of (found (moves depth memory root)) are.rise in
-    (space_of (found (moves depth memory root)), are_space depth (found (moves depth memory root)) are formed, same, found_translates depth memory root (space_of (found (moves depth memory root))) whole none (sym same))
+    let same = pages_of (found (traversal depth memory root)) are.rise in
+    (space_of (found (traversal depth memory root)), are_space depth (found (traversal depth memory root)) are formed, same, found_translates depth memory root (space_of (found (traversal depth memory root))) whole none (sym same))

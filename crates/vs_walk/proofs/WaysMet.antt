@@ -8,7 +8,7 @@ use Rattle.std.proofs.lemmas.Bool.{cases_lt}
 use Rattle.std.proofs.lemmas.Nat.{div-mul-add, mod-mul-add, mul-add-lt}
 use Rattle.std.proofs.lemmas.List.Elements.{All-head}
 use Rattle.vs_types.specs.Depth.{levels, entry_bytes, table_bytes, index_at, IsCanonical}
-use Rattle.vs_types.specs.Page.{joined}
+use Rattle.vs_types.specs.Page.{intersection}
 use Rattle.vs_types.specs.Entry.{meaning, size_at}
 use Rattle.vs_types.specs.declared.depth.Depth.{Depth}
 use Rattle.vs_types.specs.declared.page.Rights.{Rights}
@@ -18,7 +18,7 @@ use Rattle.vs_types.proofs.Lists.{Contains-cases, not_in_nil}
 use Rattle.vs_types.proofs.Pages.{three_levels}
 use Rattle.vs_walk.specs.Memory.{Memory}
 use Rattle.vs_walk.specs.Walk.{all_rights, walk_entry, walk_from, walk}
-use Rattle.vs_walk.specs.Traversal.{Move, Reaches, Finds, Meets, Table, canonical_from, entry_moves, table_moves, moves}
+use Rattle.vs_walk.specs.Traversal.{Visit, OfFrame, OfLeaf, OfReservedBit, ReachedTable, canonical_from, entry_visits, table_visits, traversal}
 use Rattle.vs_walk.specs.Ways.{AreWhole}
 use Rattle.vs_walk.specs.declared.walk.Walk.{Walk}
 use Rattle.vs_walk.specs.declared.walk.Walk.TheVariants.{NotMapped, Reserved, Missing, Mapped}
@@ -41,20 +41,20 @@ mapped_well phys level rights = (λ is. cc, λ is. cc)
 
 -- the tables to which words of this level lead go well
 abbrev LowerWell : Depth → Memory → ℕ → ℕ → Type 0
-LowerWell depth memory level address = (word number : ℕ) (own : Rights) → meaning (suc level) word ≡ entry.Table number own → (next : Table) → All (IsFine memory) (table_moves depth memory level next) → GoesWell (walk_from memory level next.number next.rights address)
+LowerWell depth memory level address = (word number : ℕ) (own : Rights) → meaning (suc level) word ≡ entry.Table number own → (next : ReachedTable) → All (IsFine memory) (table_visits depth memory level next) → GoesWell (walk_from memory level next.number next.rights address)
 
-entry_well : (depth : Depth) (memory : Memory) (level : ℕ) (table : Table) (index word address : ℕ) (means : Meaning) → LowerWell depth memory level address → meaning (suc level) word ≡ means → All (IsFine memory) (entry_moves depth (suc level) table index (λ next. table_moves depth memory level next) means) → GoesWell (walk_entry (suc level) table.rights address (λ next own. walk_from memory level next own address) means)
+entry_well : (depth : Depth) (memory : Memory) (level : ℕ) (table : ReachedTable) (index word address : ℕ) (means : Meaning) → LowerWell depth memory level address → meaning (suc level) word ≡ means → All (IsFine memory) (entry_visits depth (suc level) table index (λ next. table_visits depth memory level next) means) → GoesWell (walk_entry (suc level) table.rights address (λ next own. walk_from memory level next own address) means)
 entry_well depth memory level table index word address entry.Absent lower is fine = not_mapped_well
-entry_well depth memory level table index word address entry.Reserved lower is fine = absurd (All-head (IsFine memory) (Meets table.number index) [] fine)
+entry_well depth memory level table index word address entry.Reserved lower is fine = absurd (All-head (IsFine memory) (OfReservedBit table.number index) [] fine)
 entry_well depth memory level table index word address (entry.Leaf phys own) lower is fine = mapped_well _ (suc level) _
 entry_well depth memory level table index word address (entry.Table number own) lower is fine =
-    lower word number own is (record { number = number; start = table.start + index * entry_bytes (suc level); rights = joined table.rights own }) fine
+    lower word number own is (record { number = number; start = table.start + index * entry_bytes (suc level); rights = intersection table.rights own }) fine
 
-words_well : (depth : Depth) (memory : Memory) (level : ℕ) (table : Table) (address : ℕ) → LowerWell depth memory level address → All (IsFine memory) (table_moves depth memory (suc level) table) → GoesWell (walk_from memory (suc level) table.number table.rights address)
+words_well : (depth : Depth) (memory : Memory) (level : ℕ) (table : ReachedTable) (address : ℕ) → LowerWell depth memory level address → All (IsFine memory) (table_visits depth memory (suc level) table) → GoesWell (walk_from memory (suc level) table.number table.rights address)
 words_well depth memory level table address lower fine =
     elim (finite.get memory table.number) as (λ o. finite.get memory table.number ≡ o → GoesWell (walk_from memory (suc level) table.number table.rights address)) [
       | None ↦ λ is.
-          let there = All-head (IsFine memory) (Reaches table.number) [] (subst (All (IsFine memory)) (missing_met depth memory level table is) fine) in
+          let there = All-head (IsFine memory) (OfFrame table.number) [] (subst (All (IsFine memory)) (missing_met depth memory level table is) fine) in
           absurd (nowhere is there)
       | Some words ↦ λ is.
           let index : ℕ = index_at (suc level) address in
@@ -69,7 +69,7 @@ words_well depth memory level table address lower fine =
     nowhere : finite.get memory table.number ≡ None → IsTrue (finite.contains_key memory table.number) → ⊥
     nowhere is there = let bad : false ≡ true = rw is at there in cc
 
-pub table_well : (depth : Depth) (memory : Memory) (level : ℕ) (table : Table) (address : ℕ) → All (IsFine memory) (table_moves depth memory (suc level) table) → GoesWell (walk_from memory (suc level) table.number table.rights address)
+pub table_well : (depth : Depth) (memory : Memory) (level : ℕ) (table : ReachedTable) (address : ℕ) → All (IsFine memory) (table_visits depth memory (suc level) table) → GoesWell (walk_from memory (suc level) table.number table.rights address)
 table_well depth memory zero table address fine = words_well depth memory zero table address (λ word number own is. absurd (no_table_below word number own is)) fine
 table_well depth memory (suc level) table address fine = words_well depth memory (suc level) table address (λ word number own is next. table_well depth memory level next address) fine
 
@@ -80,22 +80,22 @@ level_below (suc below) some = (below, refl)
 pub some_levels : (depth : Depth) → 0 < levels depth
 some_levels depth = omega (arith, three_levels depth)
 
-pub walk_well : (depth : Depth) (memory : Memory) (root address : ℕ) → All (IsFine memory) (moves depth memory root) → GoesWell (walk depth memory root address)
+pub walk_well : (depth : Depth) (memory : Memory) (root address : ℕ) → All (IsFine memory) (traversal depth memory root) → GoesWell (walk depth memory root address)
 walk_well depth memory root address fine =
     let low = level_below (levels depth) (some_levels depth) in
     subst (λ level. GoesWell (walk_from memory level root all_rights address)) (sym low.1)
     (table_well depth memory low.0 (record { number = root; start = 0; rights = all_rights }) address
-    (subst (λ level. All (IsFine memory) (table_moves depth memory level (record { number = root; start = 0; rights = all_rights }))) low.1 fine))
+    (subst (λ level. All (IsFine memory) (table_visits depth memory level (record { number = root; start = 0; rights = all_rights }))) low.1 fine))
 
 -- ---- something wrong
 
 -- how a walk ends at what is wrong with a move
-abbrev pub EndsAt : Memory → Move → Walk → Type 0
-EndsAt memory (Reaches number) end = (finite.get memory number ≡ None) × (end ≡ Missing)
-EndsAt memory (Finds page) end = ⊥
-EndsAt memory (Meets number index) end = end ≡ Reserved
+abbrev pub EndsAt : Memory → Visit → Walk → Type 0
+EndsAt memory (OfFrame number) end = (finite.get memory number ≡ None) × (end ≡ Missing)
+EndsAt memory (OfLeaf page) end = ⊥
+EndsAt memory (OfReservedBit number index) end = end ≡ Reserved
 
-ends_missing : (memory : Memory) (number : ℕ) (move : Move) (end : Walk) → Reaches number ≡ move → EndsAt memory move end → (finite.get memory number ≡ None) × (end ≡ Missing)
+ends_missing : (memory : Memory) (number : ℕ) (move : Visit) (end : Walk) → OfFrame number ≡ move → EndsAt memory move end → (finite.get memory number ≡ None) × (end ≡ Missing)
 ends_missing memory number move end same wrong = subst (λ m. EndsAt memory m end) (sym same) wrong
 
 -- some walk from a table ends so: that of each address at this offset into what the table covers
@@ -123,10 +123,10 @@ offset_fits level index rest within small =
     bound : (a b whole : ℕ) → a < b * 512 → whole ≡ 512 * b → a < whole
     bound a b whole lt is = omega arith
 
-abbrev LowerEnds : Depth → Memory → ℕ → Move → Walk → Type 0
-LowerEnds depth memory level move end = (next : Table) → Contains (table_moves depth memory level next) move → SomeEnds memory level next.number next.rights end
+abbrev LowerEnds : Depth → Memory → ℕ → Visit → Walk → Type 0
+LowerEnds depth memory level move end = (next : ReachedTable) → Contains (table_visits depth memory level next) move → SomeEnds memory level next.number next.rights end
 
-entry_ends : (depth : Depth) (memory : Memory) (level : ℕ) (table : Table) (words : List ℕ) (index : ℕ) (means : Meaning) (move : Move) (end : Walk) → EndsAt memory move end → LowerEnds depth memory level move end → finite.get memory table.number ≡ Some words → index < 512 → meaning (suc level) (get_or words index 0) ≡ means → Contains (entry_moves depth (suc level) table index (λ next. table_moves depth memory level next) means) move → SomeEnds memory (suc level) table.number table.rights end
+entry_ends : (depth : Depth) (memory : Memory) (level : ℕ) (table : ReachedTable) (words : List ℕ) (index : ℕ) (means : Meaning) (move : Visit) (end : Walk) → EndsAt memory move end → LowerEnds depth memory level move end → finite.get memory table.number ≡ Some words → index < 512 → meaning (suc level) (get_or words index 0) ≡ means → Contains (entry_visits depth (suc level) table index (λ next. table_visits depth memory level next) means) move → SomeEnds memory (suc level) table.number table.rights end
 entry_ends depth memory level table words index entry.Absent move end wrong lower is within says met = absurd (not_in_nil move met)
 entry_ends depth memory level table words index entry.Reserved move end wrong lower is within says met = ⊎_elim
     (λ same. record {
@@ -138,13 +138,13 @@ entry_ends depth memory level table words index entry.Reserved move end wrong lo
           ∙ sym (subst (λ m. EndsAt memory m end) (sym same) wrong);
     })
     (λ later. absurd (not_in_nil move later))
-    (Contains-cases (Meets table.number index) [] move met)
+    (Contains-cases (OfReservedBit table.number index) [] move met)
 entry_ends depth memory level table words index (entry.Leaf phys own) move end wrong lower is within says met = ⊎_elim
     (λ same. absurd (subst (λ m. EndsAt memory m end) (sym same) wrong))
     (λ later. absurd (not_in_nil move later))
     (Contains-cases _ [] move met)
 entry_ends depth memory level table words index (entry.Table number own) move end wrong lower is within says met =
-    let below = lower (record { number = number; start = table.start + index * entry_bytes (suc level); rights = joined table.rights own }) met in
+    let below = lower (record { number = number; start = table.start + index * entry_bytes (suc level); rights = intersection table.rights own }) met in
     let small : below.offset < entry_bytes (suc level) = subst (λ n. below.offset < n) (sym (entry_is_table level)) below.inside in
     record {
       offset = index * entry_bytes (suc level) + below.offset;
@@ -155,7 +155,7 @@ entry_ends depth memory level table words index (entry.Table number own) move en
           ∙ below.ends address (above * 512 + index) place.1;
     }
 
-pub table_ends : (depth : Depth) (memory : Memory) → AreWhole memory → (level : ℕ) (table : Table) (move : Move) (end : Walk) → EndsAt memory move end → Contains (table_moves depth memory level table) move → SomeEnds memory level table.number table.rights end
+pub table_ends : (depth : Depth) (memory : Memory) → AreWhole memory → (level : ℕ) (table : ReachedTable) (move : Visit) (end : Walk) → EndsAt memory move end → Contains (table_visits depth memory level table) move → SomeEnds memory level table.number table.rights end
 table_ends depth memory whole zero table move end wrong met = absurd (not_in_nil move (subst (λ ms. Contains ms move) (nothing_met depth memory table) met))
 table_ends depth memory whole (suc level) table move end wrong met =
     elim (finite.get memory table.number) as (λ o. finite.get memory table.number ≡ o → SomeEnds memory (suc level) table.number table.rights end) [
@@ -166,7 +166,7 @@ table_ends depth memory whole (suc level) table move end wrong met =
             ends = λ address above at. walk_missing memory level table.number table.rights address is ∙ sym (ends_missing memory table.number move end same wrong).1;
           })
           (λ later. absurd (not_in_nil move later))
-          (Contains-cases (Reaches table.number) [] move (subst (λ ms. Contains ms move) (missing_met depth memory level table is) met))
+          (Contains-cases (OfFrame table.number) [] move (subst (λ ms. Contains ms move) (missing_met depth memory level table is) met))
       | Some words ↦ λ is. ⊎_elim
           (λ same. absurd (there words is (ends_missing memory table.number move end same wrong).0))
           (λ later.
@@ -174,14 +174,14 @@ table_ends depth memory whole (suc level) table move end wrong met =
           entry_ends depth memory level table words at.0 (meaning (suc level) (get_or words at.0 0)) move end wrong (λ next. table_ends depth memory whole level next move end wrong) is
           (omega (arith, at.1, whole table.number words is)) refl
           (subst (λ i. Contains (at_word_met depth memory level table (i, get_or words at.0 0)) move) (omega arith) at.2))
-          (Contains-cases (Reaches table.number) (flat_map (at_word_met depth memory level table) (enumerate_from 0 words)) move (subst (λ ms. Contains ms move) (table_met depth memory level table words is) met))
+          (Contains-cases (OfFrame table.number) (flat_map (at_word_met depth memory level table) (enumerate_from 0 words)) move (subst (λ ms. Contains ms move) (table_met depth memory level table words is) met))
     ] refl
   where
     there : (words : List ℕ) → finite.get memory table.number ≡ Some words → finite.get memory table.number ≡ None → ⊥
     there words is none = cc
 
 -- what is wrong with a move on the way, the walk of some canonical address meets
-pub some_walk : (depth : Depth) (memory : Memory) (root : ℕ) (move : Move) (end : Walk) → AreWhole memory → EndsAt memory move end → Contains (moves depth memory root) move → (address : ℕ) × IsCanonical depth address × (walk depth memory root address ≡ end)
+pub some_walk : (depth : Depth) (memory : Memory) (root : ℕ) (move : Visit) (end : Walk) → AreWhole memory → EndsAt memory move end → Contains (traversal depth memory root) move → (address : ℕ) × IsCanonical depth address × (walk depth memory root address ≡ end)
 some_walk depth memory root move end whole wrong met =
     let some = table_ends depth memory whole (levels depth) (record { number = root; start = 0; rights = all_rights }) move end wrong met in
     let splits = address_splits depth some.offset in

@@ -16,7 +16,7 @@ use Rattle.vs_types.specs.declared.entry.Meaning.TheVariants as entry
 use Rattle.vs_types.proofs.Pages.{bytes_positive, covers_means}
 use Rattle.vs_walk.specs.Memory.{Memory}
 use Rattle.vs_walk.specs.Walk.{all_rights}
-use Rattle.vs_walk.specs.Traversal.{Move, Table, canonical_from, entry_moves, table_moves, moves, found_by, found}
+use Rattle.vs_walk.specs.Traversal.{Visit, ReachedTable, canonical_from, entry_visits, table_visits, traversal, found_by, found}
 use Rattle.vs_walk.specs.Ways.{AreWhole}
 use Rattle.vs_walk.proofs.WaysLists.{all_pairs_nil, all_pairs_one, all_pairs_append, all_at_words}
 use Rattle.vs_walk.proofs.WaysBits.{addresses_climb, bits_canonical, from_bits_aligned}
@@ -42,8 +42,8 @@ all_before : {depth : Depth} (low middle high : ℕ) (ps qs : List Page) → All
 all_before low middle high ps qs left right i d lt j e within = lies_before low middle high (left i d lt) (right j e within)
 
 -- what is found from some word of a table on
-module _ (depth : Depth) (memory : Memory) (whole : AreWhole memory) (level : ℕ) (table : Table) (placed : IsPlaced (suc level) table) where
-  abbrev met : ℕ × ℕ → List Move
+module _ (depth : Depth) (memory : Memory) (whole : AreWhole memory) (level : ℕ) (table : ReachedTable) (placed : IsPlaced (suc level) table) where
+  abbrev met : ℕ × ℕ → List Visit
   met = at_word_met depth memory level table
 
   abbrev start_of : ℕ → ℕ
@@ -76,17 +76,17 @@ module _ (depth : Depth) (memory : Memory) (whole : AreWhole memory) (level : �
       (one_in from (start_of (from + 1)) word (omega arith))
       (rest_in words (from + 1))))
 
-entry_rises : (depth : Depth) (memory : Memory) (level : ℕ) (table : Table) (index word : ℕ) (means : Meaning) → IsPlaced (suc level) table → ((next : Table) → IsPlaced level next → AllPairs Before (found (table_moves depth memory level next))) → AllPairs Before (found (entry_moves depth (suc level) table index (λ next. table_moves depth memory level next) means))
+entry_rises : (depth : Depth) (memory : Memory) (level : ℕ) (table : ReachedTable) (index word : ℕ) (means : Meaning) → IsPlaced (suc level) table → ((next : ReachedTable) → IsPlaced level next → AllPairs Before (found (table_visits depth memory level next))) → AllPairs Before (found (entry_visits depth (suc level) table index (λ next. table_visits depth memory level next) means))
 entry_rises depth memory level table index word entry.Absent placed lower = all_pairs_nil Before
 entry_rises depth memory level table index word entry.Reserved placed lower = all_pairs_nil Before
 entry_rises depth memory level table index word (entry.Leaf phys own) placed lower = all_pairs_one Before _
 entry_rises depth memory level table index word (entry.Table number own) placed lower = lower _ (place_below level table index number own placed)
 
 -- the pages that are found in a table rise
-pub table_rises : (depth : Depth) (memory : Memory) → AreWhole memory → (level : ℕ) (table : Table) → IsPlaced level table → AllPairs Before (found (table_moves depth memory level table))
+pub table_rises : (depth : Depth) (memory : Memory) → AreWhole memory → (level : ℕ) (table : ReachedTable) → IsPlaced level table → AllPairs Before (found (table_visits depth memory level table))
 table_rises depth memory whole zero table placed = subst (λ ms. AllPairs Before (found ms)) (sym (nothing_met depth memory table)) (all_pairs_nil Before)
 table_rises depth memory whole (suc level) table placed =
-    elim (finite.get memory table.number) as (λ o. finite.get memory table.number ≡ o → AllPairs Before (found (table_moves depth memory (suc level) table))) [
+    elim (finite.get memory table.number) as (λ o. finite.get memory table.number ≡ o → AllPairs Before (found (table_visits depth memory (suc level) table))) [
       | None ↦ λ is. subst (λ ms. AllPairs Before (found ms)) (sym (missing_met depth memory level table is)) (all_pairs_nil Before)
       | Some words ↦ λ is. subst (λ ms. AllPairs Before (found ms)) (sym (table_met depth memory level table words is))
           (words_rise depth memory whole level table placed words 0 (λ index word. entry_rises depth memory level table index word (meaning (suc level) word) placed (λ next. table_rises depth memory whole level next)))
@@ -97,13 +97,13 @@ table_rises depth memory whole (suc level) table placed =
 pub root_placed : (level root : ℕ) → IsPlaced level (record { number = root; start = 0; rights = all_rights })
 root_placed level root = record { times = 0; at = omega arith }
 
-pub pages_rise : (depth : Depth) (memory : Memory) (root : ℕ) → AreWhole memory → AllPairs Before (found (moves depth memory root))
+pub pages_rise : (depth : Depth) (memory : Memory) (root : ℕ) → AreWhole memory → AllPairs Before (found (traversal depth memory root))
 pages_rise depth memory root whole = table_rises depth memory whole (levels depth) _ (root_placed (levels depth) root)
 
-pub pages_lie : (depth : Depth) (memory : Memory) (root : ℕ) → AreWhole memory → All (LiesIn depth 0 (table_bytes (levels depth))) (found (moves depth memory root))
+pub pages_lie : (depth : Depth) (memory : Memory) (root : ℕ) → AreWhole memory → All (LiesIn depth 0 (table_bytes (levels depth))) (found (traversal depth memory root))
 pages_lie depth memory root whole =
-    subst (λ n. All (LiesIn depth 0 n) (found (moves depth memory root))) (omega arith)
-    (all_found (LiesIn depth 0 (0 + table_bytes (levels depth))) (moves depth memory root) (table_in depth memory whole (levels depth) _ (root_placed (levels depth) root)))
+    subst (λ n. All (LiesIn depth 0 n) (found (traversal depth memory root))) (omega arith)
+    (all_found (LiesIn depth 0 (0 + table_bytes (levels depth))) (traversal depth memory root) (table_in depth memory whole (levels depth) _ (root_placed (levels depth) root)))
 
 -- a page that lies in what the root covers is well formed
 pub lies_page : {depth : Depth} {page : Page} → LiesIn depth 0 (table_bytes (levels depth)) page → IsPageBelow (2 ^ 52) depth page
@@ -117,8 +117,8 @@ lies_page {depth} {page} lies = record {
     before : (a b c : ℕ) → 0 < b → a + b ≤ c → a < c
     before a b c some le = omega arith
 
-pub pages_formed : (depth : Depth) (memory : Memory) (root : ℕ) → AreWhole memory → All (IsPageBelow (2 ^ 52) depth) (found (moves depth memory root))
-pages_formed depth memory root whole = All-weaker _ (IsPageBelow (2 ^ 52) depth) (λ page lies. lies_page lies) (found (moves depth memory root)) (pages_lie depth memory root whole)
+pub pages_formed : (depth : Depth) (memory : Memory) (root : ℕ) → AreWhole memory → All (IsPageBelow (2 ^ 52) depth) (found (traversal depth memory root))
+pages_formed depth memory root whole = All-weaker _ (IsPageBelow (2 ^ 52) depth) (λ page lies. lies_page lies) (found (traversal depth memory root)) (pages_lie depth memory root whole)
 
 -- ---- rising pages
 

@@ -6,7 +6,7 @@ use Rattle.std.specs.List.{enumerate_from}
 use Rattle.std.proofs.lemmas.Bool.{cases_lt}
 use Rattle.std.proofs.lemmas.List.{append_assoc}
 use Rattle.vs_types.specs.Depth.{entry_bytes, index_at}
-use Rattle.vs_types.specs.Page.{joined}
+use Rattle.vs_types.specs.Page.{intersection}
 use Rattle.vs_types.specs.Entry.{meaning}
 use Rattle.vs_types.specs.declared.depth.Depth.{Depth}
 use Rattle.vs_types.specs.declared.entry.Meaning.{Meaning}
@@ -14,7 +14,7 @@ use Rattle.vs_types.specs.declared.entry.Meaning.TheVariants as entry
 use Rattle.vs_types.proofs.Lists.{Contains-head}
 use Rattle.vs_walk.specs.Memory.{Memory}
 use Rattle.vs_walk.specs.Walk.{walk_entry, walk_from}
-use Rattle.vs_walk.specs.Traversal.{Move, Reaches, Table, entry_moves, table_moves}
+use Rattle.vs_walk.specs.Traversal.{Visit, OfFrame, ReachedTable, entry_visits, table_visits}
 use Rattle.vs_walk.proofs.Walks.{walk_nowhere, walk_missing, walk_at}
 use Rattle.vs_walk.proofs.WaysMoves.{at_word_met, table_met, missing_met, nothing_met, first_met, means_absent, word_is_met}
 
@@ -50,45 +50,45 @@ module _ {X : Type 0} where
       )
 
 -- the other memory has the same at each frame that is reached from a table
-abbrev pub Agrees : Depth → Memory → Memory → ℕ → Table → Type 0
-Agrees depth memory other level table = (number : ℕ) → Contains (table_moves depth memory level table) (Reaches number) → finite.get other number ≡ finite.get memory number
+abbrev pub Agrees : Depth → Memory → Memory → ℕ → ReachedTable → Type 0
+Agrees depth memory other level table = (number : ℕ) → Contains (table_visits depth memory level table) (OfFrame number) → finite.get other number ≡ finite.get memory number
 
-agrees_here : (depth : Depth) (memory other : Memory) (level : ℕ) (table : Table) → Agrees depth memory other (suc level) table → finite.get other table.number ≡ finite.get memory table.number
+agrees_here : (depth : Depth) (memory other : Memory) (level : ℕ) (table : ReachedTable) → Agrees depth memory other (suc level) table → finite.get other table.number ≡ finite.get memory table.number
 agrees_here depth memory other level table agrees =
     let first = first_met depth memory level table in
-    agrees table.number (subst (λ ms. Contains ms (Reaches table.number)) (sym first.1) (Contains-head (Reaches table.number) first.0))
+    agrees table.number (subst (λ ms. Contains ms (OfFrame table.number)) (sym first.1) (Contains-head (OfFrame table.number) first.0))
 
-entry_same : (depth : Depth) (memory other : Memory) (level : ℕ) (table : Table) (index : ℕ) (means : Meaning) → ((next : Table) → Agrees depth memory other level next → table_moves depth other level next ≡ table_moves depth memory level next) → ((number : ℕ) → Contains (entry_moves depth (suc level) table index (λ next. table_moves depth memory level next) means) (Reaches number) → finite.get other number ≡ finite.get memory number) → entry_moves depth (suc level) table index (λ next. table_moves depth other level next) means ≡ entry_moves depth (suc level) table index (λ next. table_moves depth memory level next) means
+entry_same : (depth : Depth) (memory other : Memory) (level : ℕ) (table : ReachedTable) (index : ℕ) (means : Meaning) → ((next : ReachedTable) → Agrees depth memory other level next → table_visits depth other level next ≡ table_visits depth memory level next) → ((number : ℕ) → Contains (entry_visits depth (suc level) table index (λ next. table_visits depth memory level next) means) (OfFrame number) → finite.get other number ≡ finite.get memory number) → entry_visits depth (suc level) table index (λ next. table_visits depth other level next) means ≡ entry_visits depth (suc level) table index (λ next. table_visits depth memory level next) means
 entry_same depth memory other level table index entry.Absent lower agrees = refl
 entry_same depth memory other level table index entry.Reserved lower agrees = refl
 entry_same depth memory other level table index (entry.Leaf phys own) lower agrees = refl
 entry_same depth memory other level table index (entry.Table number own) lower agrees =
-    lower (record { number = number; start = table.start + index * entry_bytes (suc level); rights = joined table.rights own }) agrees
+    lower (record { number = number; start = table.start + index * entry_bytes (suc level); rights = intersection table.rights own }) agrees
 
 -- then the same is met
-pub same_moves : (depth : Depth) (memory other : Memory) (level : ℕ) (table : Table) → Agrees depth memory other level table → table_moves depth other level table ≡ table_moves depth memory level table
-same_moves depth memory other zero table agrees = nothing_met depth other table ∙ sym (nothing_met depth memory table)
-same_moves depth memory other (suc level) table agrees =
+pub same_visits : (depth : Depth) (memory other : Memory) (level : ℕ) (table : ReachedTable) → Agrees depth memory other level table → table_visits depth other level table ≡ table_visits depth memory level table
+same_visits depth memory other zero table agrees = nothing_met depth other table ∙ sym (nothing_met depth memory table)
+same_visits depth memory other (suc level) table agrees =
     let here = agrees_here depth memory other level table agrees in
-    elim (finite.get memory table.number) as (λ o. finite.get memory table.number ≡ o → table_moves depth other (suc level) table ≡ table_moves depth memory (suc level) table) [
+    elim (finite.get memory table.number) as (λ o. finite.get memory table.number ≡ o → table_visits depth other (suc level) table ≡ table_visits depth memory (suc level) table) [
       | None ↦ λ is. missing_met depth other level table (here ∙ is) ∙ sym (missing_met depth memory level table is)
       | Some words ↦ λ is. table_met depth other level table words (here ∙ is)
-          ∙ ap (λ ms. Reaches table.number ∷ ms) (flat_map_same (at_word_met depth other level table) (at_word_met depth memory level table) words 0 (λ k lt.
+          ∙ ap (λ ms. OfFrame table.number ∷ ms) (flat_map_same (at_word_met depth other level table) (at_word_met depth memory level table) words 0 (λ k lt.
           subst (λ i. at_word_met depth other level table (i, get_or words k 0) ≡ at_word_met depth memory level table (i, get_or words k 0)) (omega arith)
-          (entry_same depth memory other level table k (meaning (suc level) (get_or words k 0)) (λ next. same_moves depth memory other level next)
-          (λ number met. agrees number (word_is_met depth memory level table words k (Reaches number) is lt met)))))
+          (entry_same depth memory other level table k (meaning (suc level) (get_or words k 0)) (λ next. same_visits depth memory other level next)
+          (λ number met. agrees number (word_is_met depth memory level table words k (OfFrame number) is lt met)))))
           ∙ sym (table_met depth memory level table words is)
     ] refl
 
-walk_entry_same : (depth : Depth) (memory other : Memory) (level : ℕ) (table : Table) (index address : ℕ) (means : Meaning) → ((next : Table) → Agrees depth memory other level next → walk_from other level next.number next.rights address ≡ walk_from memory level next.number next.rights address) → ((number : ℕ) → Contains (entry_moves depth (suc level) table index (λ next. table_moves depth memory level next) means) (Reaches number) → finite.get other number ≡ finite.get memory number) → walk_entry (suc level) table.rights address (λ next own. walk_from other level next own address) means ≡ walk_entry (suc level) table.rights address (λ next own. walk_from memory level next own address) means
+walk_entry_same : (depth : Depth) (memory other : Memory) (level : ℕ) (table : ReachedTable) (index address : ℕ) (means : Meaning) → ((next : ReachedTable) → Agrees depth memory other level next → walk_from other level next.number next.rights address ≡ walk_from memory level next.number next.rights address) → ((number : ℕ) → Contains (entry_visits depth (suc level) table index (λ next. table_visits depth memory level next) means) (OfFrame number) → finite.get other number ≡ finite.get memory number) → walk_entry (suc level) table.rights address (λ next own. walk_from other level next own address) means ≡ walk_entry (suc level) table.rights address (λ next own. walk_from memory level next own address) means
 walk_entry_same depth memory other level table index address entry.Absent lower agrees = refl
 walk_entry_same depth memory other level table index address entry.Reserved lower agrees = refl
 walk_entry_same depth memory other level table index address (entry.Leaf phys own) lower agrees = refl
 walk_entry_same depth memory other level table index address (entry.Table number own) lower agrees =
-    lower (record { number = number; start = table.start + index * entry_bytes (suc level); rights = joined table.rights own }) agrees
+    lower (record { number = number; start = table.start + index * entry_bytes (suc level); rights = intersection table.rights own }) agrees
 
 -- and each walk ends the same
-pub same_walk : (depth : Depth) (memory other : Memory) (level : ℕ) (table : Table) (address : ℕ) → Agrees depth memory other level table → walk_from other level table.number table.rights address ≡ walk_from memory level table.number table.rights address
+pub same_walk : (depth : Depth) (memory other : Memory) (level : ℕ) (table : ReachedTable) (address : ℕ) → Agrees depth memory other level table → walk_from other level table.number table.rights address ≡ walk_from memory level table.number table.rights address
 same_walk depth memory other zero table address agrees = walk_nowhere other table.number table.rights address ∙ sym (walk_nowhere memory table.number table.rights address)
 same_walk depth memory other (suc level) table address agrees =
     let here = agrees_here depth memory other level table agrees in
@@ -100,7 +100,7 @@ same_walk depth memory other (suc level) table address agrees =
           ⊎_elim
           (λ lt. walk_at other level table.number table.rights address words means (here ∙ is) refl
           ∙ walk_entry_same depth memory other level table index address means (λ next. same_walk depth memory other level next address)
-          (λ number met. agrees number (word_is_met depth memory level table words index (Reaches number) is lt met))
+          (λ number met. agrees number (word_is_met depth memory level table words index (OfFrame number) is lt met))
           ∙ sym (walk_at memory level table.number table.rights address words means is refl))
           (λ past. walk_at other level table.number table.rights address words entry.Absent (here ∙ is) (means_absent (suc level) words index past)
           ∙ sym (walk_at memory level table.number table.rights address words entry.Absent is (means_absent (suc level) words index past)))
@@ -108,20 +108,20 @@ same_walk depth memory other (suc level) table address agrees =
     ] refl
 
 -- what is met in a table before and after one of its words is set
-pub record IsSetAt (depth : Depth) (memory other : Memory) (level : ℕ) (table : Table) (index old word : ℕ) : Type 0 where
-  pub before : List Move
-  pub after : List Move
-  pub was : table_moves depth memory (suc level) table ≡ Reaches table.number ∷ (before ++ (at_word_met depth memory level table (index, old) ++ after))
-  pub is : table_moves depth other (suc level) table ≡ Reaches table.number ∷ (before ++ (at_word_met depth other level table (index, word) ++ after))
+pub record IsSetAt (depth : Depth) (memory other : Memory) (level : ℕ) (table : ReachedTable) (index old word : ℕ) : Type 0 where
+  pub before : List Visit
+  pub after : List Visit
+  pub was : table_visits depth memory (suc level) table ≡ OfFrame table.number ∷ (before ++ (at_word_met depth memory level table (index, old) ++ after))
+  pub is : table_visits depth other (suc level) table ≡ OfFrame table.number ∷ (before ++ (at_word_met depth other level table (index, word) ++ after))
 
 -- one word of a table is set, and what the other words lead to stays
-pub word_set : (depth : Depth) (memory other : Memory) (level : ℕ) (table : Table) (words : List ℕ) (index word : ℕ) → finite.get memory table.number ≡ Some words → finite.get other table.number ≡ Some (set words index word) → index < length words → ((k : ℕ) → k < length words → k ≢ index → at_word_met depth memory level table (k, get_or words k 0) ≡ at_word_met depth other level table (k, get_or words k 0)) → IsSetAt depth memory other level table index (get_or words index 0) word
+pub word_set : (depth : Depth) (memory other : Memory) (level : ℕ) (table : ReachedTable) (words : List ℕ) (index word : ℕ) → finite.get memory table.number ≡ Some words → finite.get other table.number ≡ Some (set words index word) → index < length words → ((k : ℕ) → k < length words → k ≢ index → at_word_met depth memory level table (k, get_or words k 0) ≡ at_word_met depth other level table (k, get_or words k 0)) → IsSetAt depth memory other level table index (get_or words index 0) word
 word_set depth memory other level table words index word is now lt same =
     let parts = flat_map_set (at_word_met depth memory level table) (at_word_met depth other level table) words 0 index word lt
     (λ k within differs. subst (λ i. at_word_met depth memory level table (i, get_or words k 0) ≡ at_word_met depth other level table (i, get_or words k 0)) (omega arith) (same k within differs)) in
     record {
       before = parts.0;
       after = parts.1;
-      was = table_met depth memory level table words is ∙ ap (λ ms. Reaches table.number ∷ ms) (parts.2 ∙ ap (λ i. parts.0 ++ (at_word_met depth memory level table (i, get_or words index 0) ++ parts.1)) (omega arith));
-      is = table_met depth other level table (set words index word) now ∙ ap (λ ms. Reaches table.number ∷ ms) (parts.3 ∙ ap (λ i. parts.0 ++ (at_word_met depth other level table (i, word) ++ parts.1)) (omega arith));
+      was = table_met depth memory level table words is ∙ ap (λ ms. OfFrame table.number ∷ ms) (parts.2 ∙ ap (λ i. parts.0 ++ (at_word_met depth memory level table (i, get_or words index 0) ++ parts.1)) (omega arith));
+      is = table_met depth other level table (set words index word) now ∙ ap (λ ms. OfFrame table.number ∷ ms) (parts.3 ∙ ap (λ i. parts.0 ++ (at_word_met depth other level table (i, word) ++ parts.1)) (omega arith));
     }

@@ -19,7 +19,7 @@ use Rattle.vs_types.proofs.Pages.{covers_means, covers_base, same_page, same_ali
 use Rattle.vs_types.proofs.Spaces.{same_key, is_true, both_true, below_key, holds_listed}
 use Rattle.vs_walk.specs.Memory.{Memory}
 use Rattle.vs_walk.specs.Walk.{as_walk, TranslatesAs}
-use Rattle.vs_walk.specs.Traversal.{moves, found, walk_fault}
+use Rattle.vs_walk.specs.Traversal.{traversal, found, walk_fault}
 use Rattle.vs_walk.specs.Ways.{AreWhole, covering, as_found}
 use Rattle.vs_walk.specs.declared.walk.WalkFault.{WalkFault}
 use Rattle.vs_walk.specs.declared.walk.WalkFault.TheVariants as faults
@@ -109,16 +109,16 @@ pub same_pages : {depth : Depth} {ps qs : List Page} → ArePages depth ps → A
 same_pages {ps = ps} {qs = qs} left right alike =
     same_rising ps qs left.rise right.rise (in_other left right alike) (in_other right left (λ address canonical. sym (alike address canonical)))
 
-pub found_are_pages : (depth : Depth) (memory : Memory) (root : ℕ) → AreWhole memory → ArePages depth (found (moves depth memory root))
+pub found_are_pages : (depth : Depth) (memory : Memory) (root : ℕ) → AreWhole memory → ArePages depth (found (traversal depth memory root))
 found_are_pages depth memory root whole = record {
   canonical = λ p in_ps. (formed p in_ps).canonical;
   aligned = λ p in_ps. (formed p in_ps).aligned;
-  apart = rising_apart (found (moves depth memory root)) (pages_rise depth memory root whole);
-  rise = bases_rise (found (moves depth memory root)) (pages_rise depth memory root whole);
+  apart = rising_apart (found (traversal depth memory root)) (pages_rise depth memory root whole);
+  rise = bases_rise (found (traversal depth memory root)) (pages_rise depth memory root whole);
 }
   where
-    formed : (p : Page) → Contains (found (moves depth memory root)) p → IsPageBelow (2 ^ 52) depth p
-    formed p in_ps = All-contains (IsPageBelow (2 ^ 52) depth) (found (moves depth memory root)) p (pages_formed depth memory root whole) in_ps
+    formed : (p : Page) → Contains (found (traversal depth memory root)) p → IsPageBelow (2 ^ 52) depth p
+    formed p in_ps = All-contains (IsPageBelow (2 ^ 52) depth) (found (traversal depth memory root)) p (pages_formed depth memory root whole) in_ps
 
 -- ---- the pages of a space
 
@@ -168,7 +168,7 @@ as_looked : (space : Space) (address : ℕ) (at : Option Page) → page_at space
 as_looked space address None e = rw e refl
 as_looked space address (Some page) e = rw e refl
 
-pub found_translates : (depth : Depth) (memory : Memory) (root : ℕ) (space : Space) → AreWhole memory → walk_fault depth memory root ≡ None → found (moves depth memory root) ≡ pages space → TranslatesAs depth memory root space
+pub found_translates : (depth : Depth) (memory : Memory) (root : ℕ) (space : Space) → AreWhole memory → walk_fault depth memory root ≡ None → found (traversal depth memory root) ≡ pages space → TranslatesAs depth memory root space
 found_translates depth memory root space whole none same address canonical =
     faultless_walk depth memory root address whole canonical none
     ∙ ap (λ ps. as_found address (covering address ps)) same
@@ -178,7 +178,7 @@ found_well : (address : ℕ) (page : Option Page) → unfaulted (as_found addres
 found_well address None = refl
 found_well address (Some page) = refl
 
-pub translates_found : (depth : Depth) (memory : Memory) (root : ℕ) (space : Space) → AreWhole memory → IsSpace depth space → TranslatesAs depth memory root space → found (moves depth memory root) ≡ pages space
+pub translates_found : (depth : Depth) (memory : Memory) (root : ℕ) (space : Space) → AreWhole memory → IsSpace depth space → TranslatesAs depth memory root space → found (traversal depth memory root) ≡ pages space
 translates_found depth memory root space whole is translates =
     same_pages (found_are_pages depth memory root whole) (space_pages is) (λ address canonical.
     sym (walk_is_found depth memory root address whole canonical)

@@ -6,7 +6,7 @@ use Rattle.std.proofs.lemmas.Bool.{cases_order, false_from_ne_true}
 use Rattle.std.proofs.lemmas.Nat.{row_fits, div-add-mod'}
 use Rattle.std.proofs.lemmas.List.Elements.{All-weaker}
 use Rattle.vs_types.specs.Depth.{levels, entry_bytes, table_bytes, index_at, IsCanonical}
-use Rattle.vs_types.specs.Page.{bytes_of, covers, joined}
+use Rattle.vs_types.specs.Page.{bytes_of, covers, intersection}
 use Rattle.vs_types.specs.Entry.{meaning, size_at}
 use Rattle.vs_types.specs.declared.depth.Depth.{Depth}
 use Rattle.vs_types.specs.declared.page.Page.{Page}
@@ -16,7 +16,7 @@ use Rattle.vs_types.specs.declared.entry.Meaning.TheVariants as entry
 use Rattle.vs_types.proofs.Pages.{covers_means}
 use Rattle.vs_walk.specs.Memory.{Memory}
 use Rattle.vs_walk.specs.Walk.{all_rights, walk_entry, walk_from, walk}
-use Rattle.vs_walk.specs.Traversal.{Table, canonical_from, entry_moves, table_moves, moves, found_by, found}
+use Rattle.vs_walk.specs.Traversal.{ReachedTable, canonical_from, entry_visits, table_visits, traversal, found_by, found}
 use Rattle.vs_walk.specs.Ways.{AreWhole, covering, as_found}
 use Rattle.vs_walk.specs.declared.walk.Walk.{Walk}
 use Rattle.vs_walk.specs.declared.walk.Walk.TheVariants.{NotMapped, Reserved, Missing, Mapped}
@@ -52,7 +52,7 @@ lies_outside {depth} {page} low high bits lies outside =
     past base from to bytes is le at = omega arith
 
 -- nothing that is found at another entry covers the address
-pub other_entry : (depth : Depth) (memory : Memory) → AreWhole memory → (level : ℕ) (table : Table) (index rest k word : ℕ) → IsPlaced (suc level) table → rest < entry_bytes (suc level) → k ≢ index → covering (canonical_from depth (table.start + index * entry_bytes (suc level) + rest)) (found (at_word_met depth memory level table (k, word))) ≡ None
+pub other_entry : (depth : Depth) (memory : Memory) → AreWhole memory → (level : ℕ) (table : ReachedTable) (index rest k word : ℕ) → IsPlaced (suc level) table → rest < entry_bytes (suc level) → k ≢ index → covering (canonical_from depth (table.start + index * entry_bytes (suc level) + rest)) (found (at_word_met depth memory level table (k, word))) ≡ None
 other_entry depth memory whole level table index rest k word placed small other =
     find_none (λ page. covers page (canonical_from depth (table.start + index * entry_bytes (suc level) + rest))) (found (at_word_met depth memory level table (k, word)))
     (All-weaker (LiesIn depth (table.start + k * entry_bytes (suc level)) (table.start + k * entry_bytes (suc level) + entry_bytes (suc level))) _
@@ -88,16 +88,16 @@ unfaulted Missing = NotMapped
 unfaulted (Mapped phys size rights) = Mapped phys size rights
 
 -- the leaf's page covers the address, with the offset of the walk
-leaf_walk : (depth : Depth) (level : ℕ) (table : Table) (index rest word phys address : ℕ) (own : Rights) → IsPlaced (suc level) table → meaning (suc level) word ≡ entry.Leaf phys own → rest < entry_bytes (suc level) → address ≡ canonical_from depth (table.start + index * entry_bytes (suc level) + rest) → address % entry_bytes (suc level) ≡ rest → Mapped (phys + address % entry_bytes (suc level)) (size_at (suc level)) (joined table.rights own) ≡ as_found address (covering address (record { base = canonical_from depth (table.start + index * entry_bytes (suc level)); size = size_at (suc level); phys = phys; rights = joined table.rights own } ∷ []))
+leaf_walk : (depth : Depth) (level : ℕ) (table : ReachedTable) (index rest word phys address : ℕ) (own : Rights) → IsPlaced (suc level) table → meaning (suc level) word ≡ entry.Leaf phys own → rest < entry_bytes (suc level) → address ≡ canonical_from depth (table.start + index * entry_bytes (suc level) + rest) → address % entry_bytes (suc level) ≡ rest → Mapped (phys + address % entry_bytes (suc level)) (size_at (suc level)) (intersection table.rights own) ≡ as_found address (covering address (record { base = canonical_from depth (table.start + index * entry_bytes (suc level)); size = size_at (suc level); phys = phys; rights = intersection table.rights own } ∷ []))
 leaf_walk depth level table index rest word phys address own placed means small is over =
     let bits : ℕ = table.start + index * entry_bytes (suc level) in
     let base : ℕ = canonical_from depth bits in
-    let page : Page = record { base = base; size = size_at (suc level); phys = phys; rights = joined table.rights own } in
+    let page : Page = record { base = base; size = size_at (suc level); phys = phys; rights = intersection table.rights own } in
     let bytes = leaf_bytes level word phys own means in
     let inside : rest < bytes_of (size_at (suc level)) = subst (λ n. rest < n) (sym bytes) small in
     let at : address ≡ base + rest = is ∙ address_within depth (suc level) bits rest (leaf_aligned level table index word phys own placed means) inside in
     let covered : covers page address ≡ true = (covers_means page address).1 (from base rest address at, upto base rest address (bytes_of (size_at (suc level))) at inside) in
-    ap (λ n. Mapped (phys + n) (size_at (suc level)) (joined table.rights own)) (over ∙ offset base rest address at)
+    ap (λ n. Mapped (phys + n) (size_at (suc level)) (intersection table.rights own)) (over ∙ offset base rest address at)
     ∙ ap (λ b. as_found address (cond b (Some page) None)) (sym covered)
   where
     from : (base rest address : ℕ) → address ≡ base + rest → base ≤ address
@@ -111,20 +111,20 @@ leaf_walk depth level table index rest word phys address own placed means small 
 
 -- that the walk from each table of a level is what is found in it, at the addresses whose bits stand in the table
 abbrev pub WalkIsFound : Depth → Memory → ℕ → Type 0
-WalkIsFound depth memory level = (table : Table) (address offset above : ℕ) → IsPlaced level table → offset < table_bytes level → address ≡ above * table_bytes level + offset → address ≡ canonical_from depth (table.start + offset) → unfaulted (walk_from memory level table.number table.rights address) ≡ as_found address (covering address (found (table_moves depth memory level table)))
+WalkIsFound depth memory level = (table : ReachedTable) (address offset above : ℕ) → IsPlaced level table → offset < table_bytes level → address ≡ above * table_bytes level + offset → address ≡ canonical_from depth (table.start + offset) → unfaulted (walk_from memory level table.number table.rights address) ≡ as_found address (covering address (found (table_visits depth memory level table)))
 
-entry_walk : (depth : Depth) (memory : Memory) (level : ℕ) (table : Table) (index rest word address above : ℕ) (means : Meaning) → WalkIsFound depth memory level → IsPlaced (suc level) table → meaning (suc level) word ≡ means → rest < entry_bytes (suc level) → address ≡ canonical_from depth (table.start + index * entry_bytes (suc level) + rest) → address % entry_bytes (suc level) ≡ rest → address ≡ above * entry_bytes (suc level) + rest → unfaulted (walk_entry (suc level) table.rights address (λ next own. walk_from memory level next own address) means) ≡ as_found address (covering address (found (entry_moves depth (suc level) table index (λ next. table_moves depth memory level next) means)))
+entry_walk : (depth : Depth) (memory : Memory) (level : ℕ) (table : ReachedTable) (index rest word address above : ℕ) (means : Meaning) → WalkIsFound depth memory level → IsPlaced (suc level) table → meaning (suc level) word ≡ means → rest < entry_bytes (suc level) → address ≡ canonical_from depth (table.start + index * entry_bytes (suc level) + rest) → address % entry_bytes (suc level) ≡ rest → address ≡ above * entry_bytes (suc level) + rest → unfaulted (walk_entry (suc level) table.rights address (λ next own. walk_from memory level next own address) means) ≡ as_found address (covering address (found (entry_visits depth (suc level) table index (λ next. table_visits depth memory level next) means)))
 entry_walk depth memory level table index rest word address above entry.Absent lower placed is small at over split = refl
 entry_walk depth memory level table index rest word address above entry.Reserved lower placed is small at over split = refl
 entry_walk depth memory level table index rest word address above (entry.Leaf phys own) lower placed is small at over split = leaf_walk depth level table index rest word phys address own placed is small at over
 entry_walk depth memory level table index rest word address above (entry.Table number own) lower placed is small at over split =
-    lower (record { number = number; start = table.start + index * entry_bytes (suc level); rights = joined table.rights own }) address rest above
+    lower (record { number = number; start = table.start + index * entry_bytes (suc level); rights = intersection table.rights own }) address rest above
     (place_below level table index number own placed)
     (subst (λ n. rest < n) (entry_is_table level) small)
     (subst (λ n. address ≡ above * n + rest) (entry_is_table level) split)
     at
 
-words_walk : (depth : Depth) (memory : Memory) → AreWhole memory → (level : ℕ) (table : Table) (address index rest above : ℕ) (words : List ℕ) → WalkIsFound depth memory level → IsPlaced (suc level) table → finite.get memory table.number ≡ Some words → index_at (suc level) address ≡ index → rest < entry_bytes (suc level) → address ≡ canonical_from depth (table.start + index * entry_bytes (suc level) + rest) → address % entry_bytes (suc level) ≡ rest → address ≡ above * entry_bytes (suc level) + rest → unfaulted (walk_from memory (suc level) table.number table.rights address) ≡ as_found address (covering address (found (table_moves depth memory (suc level) table)))
+words_walk : (depth : Depth) (memory : Memory) → AreWhole memory → (level : ℕ) (table : ReachedTable) (address index rest above : ℕ) (words : List ℕ) → WalkIsFound depth memory level → IsPlaced (suc level) table → finite.get memory table.number ≡ Some words → index_at (suc level) address ≡ index → rest < entry_bytes (suc level) → address ≡ canonical_from depth (table.start + index * entry_bytes (suc level) + rest) → address % entry_bytes (suc level) ≡ rest → address ≡ above * entry_bytes (suc level) + rest → unfaulted (walk_from memory (suc level) table.number table.rights address) ≡ as_found address (covering address (found (table_visits depth memory (suc level) table)))
 words_walk depth memory whole level table address index rest above words lower placed is place small at over split =
     let word : ℕ = get_or words index 0 in
     let means : Meaning = meaning (suc level) word in
@@ -144,7 +144,7 @@ table_walk depth memory whole zero table address offset above placed lt split at
     ap unfaulted (walk_nowhere memory table.number table.rights address)
     ∙ ap (λ ms. as_found address (covering address (found ms))) (sym (nothing_met depth memory table))
 table_walk depth memory whole (suc level) table address offset above placed lt split at =
-    elim (finite.get memory table.number) as (λ o. finite.get memory table.number ≡ o → unfaulted (walk_from memory (suc level) table.number table.rights address) ≡ as_found address (covering address (found (table_moves depth memory (suc level) table)))) [
+    elim (finite.get memory table.number) as (λ o. finite.get memory table.number ≡ o → unfaulted (walk_from memory (suc level) table.number table.rights address) ≡ as_found address (covering address (found (table_visits depth memory (suc level) table)))) [
       | None ↦ λ is.
           ap unfaulted (walk_missing memory level table.number table.rights address is)
           ∙ ap (λ ms. as_found address (covering address (found ms))) (sym (missing_met depth memory level table is))
@@ -160,7 +160,7 @@ table_walk depth memory whole (suc level) table address offset above placed lt s
     regroup start offset a rest is = omega arith
 
 -- the walk of each canonical address
-pub walk_is_found : (depth : Depth) (memory : Memory) (root address : ℕ) → AreWhole memory → IsCanonical depth address → unfaulted (walk depth memory root address) ≡ as_found address (covering address (found (moves depth memory root)))
+pub walk_is_found : (depth : Depth) (memory : Memory) (root address : ℕ) → AreWhole memory → IsCanonical depth address → unfaulted (walk depth memory root address) ≡ as_found address (covering address (found (traversal depth memory root)))
 walk_is_found depth memory root address whole canonical =
     let has = bits_of depth address canonical in
     table_walk depth memory whole (levels depth) (record { number = root; start = 0; rights = all_rights }) address has.bits has.above (root_placed (levels depth) root) has.few has.split

@@ -7,12 +7,12 @@ use Rattle.vs_types.specs.Space.{Space}
 use Rattle.vs_types.specs.Step.{look}
 use Rattle.vs_types.specs.declared.depth.Depth.{Depth}
 use Rattle.vs_walk.specs.Memory.{Memory}
-use Rattle.vs_walk.specs.Traversal.{moves, reached}
+use Rattle.vs_walk.specs.Traversal.{traversal, reached}
 use Rattle.vs_walk.specs.Walk.{walk, as_walk}
 
 -- the memory has the frame, and the way through all tables does not reach it
 abbrev pub IsStray : Depth → Memory → ℕ → ℕ → Type 0
-IsStray depth memory root number = IsSome (finite.get memory number) × (Contains (reached (moves depth memory root)) number → ⊥)
+IsStray depth memory root number = IsSome (finite.get memory number) × (Contains (reached (traversal depth memory root)) number → ⊥)
 
 -- the canonical address is translated otherwise than it looks in the space
 abbrev pub TranslatesOtherwise : Depth → Memory → ℕ → Space → ℕ → Type 0

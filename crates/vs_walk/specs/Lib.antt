@@ -2,11 +2,11 @@ pub mod Memory
 pub mod Walk
 pub mod Traversal
 pub mod Reached
-pub mod Traversed
 pub mod Differences
 pub mod Dump
 pub mod Examples
 pub mod Ways
+pub mod inside
 pub use Rattle.vs_types.specs.Depth
 pub use Rattle.vs_types.specs.Page
 pub use Rattle.vs_types.specs.Space

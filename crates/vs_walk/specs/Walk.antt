@@ -3,7 +3,7 @@
 use Rattle.std.specs.Prelude.{◌≡◌, ℕ, zero, suc, ◌+◌, ◌%◌, List, Option, Some, None, slice_index}
 use Rattle.std.specs.FinMap as finite
 use Rattle.vs_types.specs.Depth.{levels, entry_bytes, index_at, IsCanonical}
-use Rattle.vs_types.specs.Page.{joined}
+use Rattle.vs_types.specs.Page.{intersection}
 use Rattle.vs_types.specs.Space.{Space}
 use Rattle.vs_types.specs.Step.{look}
 use Rattle.vs_types.specs.Entry.{meaning, size_at}
@@ -22,8 +22,8 @@ use Rattle.vs_walk.specs.declared.walk.Walk.TheVariants.{NotMapped, Reserved, Mi
 abbrev pub walk_entry : ℕ → Rights → ℕ → (ℕ → Rights → Walk) → Meaning → Walk
 walk_entry level rights address below entry.Absent = NotMapped
 walk_entry level rights address below entry.Reserved = Reserved
-walk_entry level rights address below (entry.Leaf phys own) = Mapped (phys + address % entry_bytes level) (size_at level) (joined rights own)
-walk_entry level rights address below (entry.Table number own) = below number (joined rights own)
+walk_entry level rights address below (entry.Leaf phys own) = Mapped (phys + address % entry_bytes level) (size_at level) (intersection rights own)
+walk_entry level rights address below (entry.Table number own) = below number (intersection rights own)
 
 abbrev pub walk_words : Option (List ℕ) → (List ℕ → Walk) → Walk
 walk_words None go = Missing

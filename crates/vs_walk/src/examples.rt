@@ -5,15 +5,15 @@ ghost use Rattle.vs_types.specs.declared.page.Size.TheVariants.{K4, M2};
 ghost use Rattle.vs_walk.specs.declared.walk.Walk.TheVariants.{NotMapped, Reserved, Missing, Mapped};
 ghost use Rattle.vs_walk.specs.declared.walk.WalkFault.TheVariants as faults;
 ghost use Rattle.vs_walk.specs.Walk.{all_rights, walk};
-ghost use Rattle.vs_walk.specs.Traversal.{moves, reached, found, walk_fault};
+ghost use Rattle.vs_walk.specs.Traversal.{traversal, reached, found, walk_fault};
 ghost use Rattle.vs_walk.specs.Examples.{page_tables, three_tables, one_table, two_empty_frames, one_empty_frame, write_and_exec};
 
 /// Tables of one page of 4 KiB: an address in it, one after it, and the way through the tables.
 pub fn map_then_resolve()
     ensures mapped { walk Four (page_tables 0x4007 0x1007) 1 0x400123 ≡ Mapped 0x1123 K4 all_rights }
     ensures not_mapped { walk Four (page_tables 0x4007 0x1007) 1 0x401000 ≡ NotMapped }
-    ensures reached { reached (moves Four (page_tables 0x4007 0x1007) 1) ≡ 1 ∷ 2 ∷ 3 ∷ 4 ∷ [] }
-    ensures found { found (moves Four (page_tables 0x4007 0x1007) 1) ≡ record { base = 0x400000; size = K4; phys = 0x1000; rights = all_rights } ∷ [] }
+    ensures reached { reached (traversal Four (page_tables 0x4007 0x1007) 1) ≡ 1 ∷ 2 ∷ 3 ∷ 4 ∷ [] }
+    ensures found { found (traversal Four (page_tables 0x4007 0x1007) 1) ≡ record { base = 0x400000; size = K4; phys = 0x1000; rights = all_rights } ∷ [] }
     ensures faultless { walk_fault Four (page_tables 0x4007 0x1007) 1 ≡ None }
 {}
 
@@ -38,6 +38,6 @@ pub fn faulty_dumps()
     ensures missing_frame { walk_fault Four (one_table 0x2007) 1 ≡ Some (faults.Missing 2) }
     ensures missing_walk { walk Four (one_table 0x2007) 1 0 ≡ Missing }
     ensures stray_frame { walk_fault Four two_empty_frames 1 ≡ None }
-    ensures stray_reached { reached (moves Four two_empty_frames 1) ≡ 1 ∷ [] }
+    ensures stray_reached { reached (traversal Four two_empty_frames 1) ≡ 1 ∷ [] }
     ensures missing_root { walk_fault Four one_empty_frame 5 ≡ Some (faults.Missing 5) }
 {}

@@ -1,7 +1,7 @@
 ghost use Rattle.std.specs.Prelude.{◌≡◌, ◌<◌, ◌≤◌, ◌^◌, ℕ, length, All, Contains, IsTrue, Some, None, IfOk, IfErr, OnOk};
 ghost use Rattle.std.specs.FinMap as finite;
 ghost use Rattle.vs_types.specs.Refusal.{IfRefused};
-ghost use Rattle.vs_walk.specs.Traversal.{moves, reached, walk_fault};
+ghost use Rattle.vs_walk.specs.Traversal.{traversal, reached, walk_fault};
 
 use crate::dump::Dump;
 use crate::frames::Frames;
@@ -35,12 +35,12 @@ impl Dump {
         depth: Depth,
         applied: u32,
     ) -> Result<Dump, Fail<WalkFault>>
-        requires few { walk_fault depth (F.memory frames.now) root ≡ None → length (reached (moves depth (F.memory frames.now) root)) ≤ 4096 }
-        requires in_range { walk_fault depth (F.memory frames.now) root ≡ None → All (λ number. number < 2 ^ 40) (reached (moves depth (F.memory frames.now) root)) }
+        requires few { walk_fault depth (F.memory frames.now) root ≡ None → length (reached (traversal depth (F.memory frames.now) root)) ≤ 4096 }
+        requires in_range { walk_fault depth (F.memory frames.now) root ≡ None → All (λ number. number < 2 ^ 40) (reached (traversal depth (F.memory frames.now) root)) }
         ensures applied { IfOk result (λ dump. dump.applied ≡ applied) }
         ensures root { IfOk result (λ dump. dump.root ≡ root) }
-        ensures held { IfOk result (λ dump. (number : ℕ) → Contains (reached (moves depth (F.memory frames.now) root)) number → finite.get dump.frames number ≡ finite.get (F.memory frames.now) number) }
-        ensures only { IfOk result (λ dump. (number : ℕ) → IsTrue (finite.contains_key dump.frames number) → Contains (reached (moves depth (F.memory frames.now) root)) number) }
+        ensures held { IfOk result (λ dump. (number : ℕ) → Contains (reached (traversal depth (F.memory frames.now) root)) number → finite.get dump.frames number ≡ finite.get (F.memory frames.now) number) }
+        ensures only { IfOk result (λ dump. (number : ℕ) → IsTrue (finite.contains_key dump.frames number) → Contains (reached (traversal depth (F.memory frames.now) root)) number) }
         ensures faultless { OnOk result (walk_fault depth (F.memory frames.now) root ≡ None) }
         ensures first { IfErr result (IfRefused (λ fault. walk_fault depth (F.memory frames.now) root ≡ Some fault)) }
     {

@@ -3,7 +3,7 @@ ghost use Rattle.std.specs.List.{AllPairs};
 ghost use Rattle.vs_types.specs.Depth.{IsCanonical};
 ghost use Rattle.vs_types.specs.Refusal.{IfRefused};
 ghost use Rattle.vs_walk.specs.Reached.{AreJust};
-ghost use Rattle.vs_walk.specs.Traversal.{moves, reached, found, walk_fault};
+ghost use Rattle.vs_walk.specs.Traversal.{traversal, reached, found, walk_fault};
 ghost use Rattle.vs_walk.specs.Walk.{walk};
 ghost use Rattle.vs_walk.specs.Ways.{AreWhole, covering, as_found};
 
@@ -25,8 +25,8 @@ pub fn leaves<F: Frames>(
     root: u64,
     depth: Depth,
 ) -> Result<Leaves, Fail<WalkFault>>
-    ensures pages { IfOk result (λ leaves. leaves.pages ≡ found (moves depth (F.memory frames.now) root)) }
-    ensures reached { IfOk result (λ leaves. AreJust leaves.reached (reached (moves depth (F.memory frames.now) root))) }
+    ensures pages { IfOk result (λ leaves. leaves.pages ≡ found (traversal depth (F.memory frames.now) root)) }
+    ensures reached { IfOk result (λ leaves. AreJust leaves.reached (reached (traversal depth (F.memory frames.now) root))) }
     ensures faultless { OnOk result (walk_fault depth (F.memory frames.now) root ≡ None) }
     ensures rising { IfOk result (λ leaves. AreWhole (F.memory frames.now) → AllPairs (λ p q. p.base < q.base) leaves.pages) }
     ensures walked { IfOk result (λ leaves. AreWhole (F.memory frames.now) → (address : ℕ) → IsCanonical depth address → walk depth (F.memory frames.now) root address ≡ as_found address (covering address leaves.pages)) }

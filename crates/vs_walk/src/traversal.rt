@@ -2,11 +2,11 @@ ghost use Rattle.std.specs.Prelude.{◌≡◌, ◌+◌, ◌-◌, ◌*◌, ◌<�
 ghost use Rattle.vs_types.specs.declared.page.Page.{Page};
 ghost use Rattle.vs_types.specs.Depth.{half_bytes, entry_bytes};
 ghost use Rattle.vs_types.specs.Entry.{size_at};
-ghost use Rattle.vs_types.specs.Page.{joined};
+ghost use Rattle.vs_types.specs.Page.{intersection};
 ghost use Rattle.vs_types.specs.Refusal.{IfRefused};
-ghost use Rattle.vs_walk.specs.Traversal.{canonical_from, moves, table_moves, reached, found, walk_fault};
+ghost use Rattle.vs_walk.specs.Traversal.{canonical_from, traversal, table_visits, reached, found, walk_fault};
 ghost use Rattle.vs_walk.specs.Reached.{AreJust};
-ghost use Rattle.vs_walk.specs.Traversed.{Fits, GoesOn, Stops, TakesFound, table_at};
+ghost use Rattle.vs_walk.specs.inside.Traversed.{Fits, GoesOn, Stops, TakesFound, table_at};
 
 use crate::frames::Frames;
 use crate::reached::{Marks, Reached};
@@ -27,14 +27,14 @@ pub trait PageVisitor {
 /// Where a table stands: its level, its frame, the translated bits at which it begins, and what the entries above it
 /// allow.
 #[derive(Clone, Copy)]
-struct Place {
+struct TablePosition {
     level: u8,
     number: u64,
     start: u64,
     rights: Rights,
 }
 
-impl Place {
+impl TablePosition {
     /// The translated bits at which its entry of this index begins.
     fn start_of(self, depth: Depth, index: usize) -> u64
         requires within { index < 512 }
@@ -45,19 +45,19 @@ impl Place {
     }
 
     /// The table to which its entry of this index leads.
-    fn below(self, depth: Depth, index: usize, number: u64, own: Rights) -> Place
+    fn below(self, depth: Depth, index: usize, number: u64, own: Rights) -> TablePosition
         requires within { index < 512 }
         requires fits { Fits depth self }
         requires lower { 1 < self.level }
         ensures level { result.level ≡ self.level - 1 }
-        ensures stands { table_at result ≡ record { number = number; start = self.start + index * entry_bytes self.level; rights = joined self.rights own } }
+        ensures stands { table_at result ≡ record { number = number; start = self.start + index * entry_bytes self.level; rights = intersection self.rights own } }
         ensures fits { Fits depth result }
     {
-        Place {
+        TablePosition {
             level: self.level - 1,
             number,
             start: self.start_of(depth, index),
-            rights: self.rights.joined(own),
+            rights: self.rights.intersection(own),
         }
     }
 
@@ -65,7 +65,7 @@ impl Place {
     fn page(self, depth: Depth, index: usize, phys: u64, own: Rights) -> Page
         requires within { index < 512 }
         requires fits { Fits depth self }
-        ensures { result ≡ record { base = canonical_from depth (self.start + index * entry_bytes self.level); size = size_at self.level; phys = phys; rights = joined self.rights own } }
+        ensures { result ≡ record { base = canonical_from depth (self.start + index * entry_bytes self.level); size = size_at self.level; phys = phys; rights = intersection self.rights own } }
     {
         let start = self.start_of(depth, index);
         let half = 1u64 << (11 + 9 * depth.levels());
@@ -77,7 +77,7 @@ impl Place {
             },
             size: Size::at_level(self.level),
             phys,
-            rights: self.rights.joined(own),
+            rights: self.rights.intersection(own),
         }
     }
 }
@@ -94,14 +94,14 @@ fn table_words(words: &[u64; FRAME_WORDS]) -> &[u64]
 fn go_through<F: Frames, V: PageVisitor>(
     frames: &F,
     depth: Depth,
-    place: Place,
+    place: TablePosition,
     marks: &mut Marks,
     visitor: &mut V,
 ) -> Result<(), Fail<WalkFault>>
     requires { Fits depth place }
-    ensures pages { IfOk result (λ _. TakesFound (V.HasTaken visitor.old) (V.HasTaken visitor.new) (table_moves depth (F.memory frames.now) place.level (table_at place))) }
-    ensures goes_on { IfOk result (λ _. GoesOn (F.memory frames.now) marks.old marks.new (table_moves depth (F.memory frames.now) place.level (table_at place))) }
-    ensures stops { IfErr result (IfRefused (Stops (F.memory frames.now) marks.old (table_moves depth (F.memory frames.now) place.level (table_at place)))) }
+    ensures pages { IfOk result (λ _. TakesFound (V.HasTaken visitor.old) (V.HasTaken visitor.new) (table_visits depth (F.memory frames.now) place.level (table_at place))) }
+    ensures goes_on { IfOk result (λ _. GoesOn (F.memory frames.now) marks.old marks.new (table_visits depth (F.memory frames.now) place.level (table_at place))) }
+    ensures stops { IfErr result (IfRefused (Stops (F.memory frames.now) marks.old (table_visits depth (F.memory frames.now) place.level (table_at place)))) }
 {
     let Some(frame) = frames.words(place.number) else {
         return Err(Fail::Refused(WalkFault::Missing(place.number)));
@@ -138,13 +138,13 @@ pub fn traverse<F: Frames, V: PageVisitor>(
     depth: Depth,
     visitor: &mut V,
 ) -> Result<Reached, Fail<WalkFault>>
-    ensures pages { IfOk result (λ _. (pages : List Page) → V.HasTaken visitor.old pages → V.HasTaken visitor.new (pages ++ found (moves depth (F.memory frames.now) root))) }
+    ensures pages { IfOk result (λ _. (pages : List Page) → V.HasTaken visitor.old pages → V.HasTaken visitor.new (pages ++ found (traversal depth (F.memory frames.now) root))) }
     ensures faultless { OnOk result (walk_fault depth (F.memory frames.now) root ≡ None) }
-    ensures reached { IfOk result (λ r. AreJust r (reached (moves depth (F.memory frames.now) root))) }
+    ensures reached { IfOk result (λ r. AreJust r (reached (traversal depth (F.memory frames.now) root))) }
     ensures first { IfErr result (IfRefused (λ fault. walk_fault depth (F.memory frames.now) root ≡ Some fault)) }
 {
     let mut marks = Marks::new(alloc);
-    let top = Place {
+    let top = TablePosition {
         level: depth.levels(),
         number: root,
         start: 0,

@@ -47,11 +47,15 @@ pub fn translate<F: Frames>(frames: &F, root: u64, depth: Depth, address: u64) -
             Meaning::Reserved => return Walk::Reserved,
             Meaning::Leaf(phys, own) => {
                 let offset = address % (1 << (3 + 9 * level));
-                return Walk::Mapped(phys + offset, Size::at_level(level), rights.joined(own));
+                return Walk::Mapped(
+                    phys + offset,
+                    Size::at_level(level),
+                    rights.intersection(own),
+                );
             }
             Meaning::Table(next, own) => {
                 number = next;
-                rights = rights.joined(own);
+                rights = rights.intersection(own);
             }
         }
         level -= 1;

@@ -11,7 +11,7 @@ ghost use Rattle.vs_types.specs.Space.{Space, IsSpace, pages};
 ghost use Rattle.vs_walk.specs.Dump.{Image, IsDump};
 ghost use Rattle.vs_walk.specs.Memory.{Memory};
 ghost use Rattle.vs_walk.specs.Walk.{walk, TranslatesAs};
-ghost use Rattle.vs_walk.specs.Traversal.{Meets, moves, found, reached, walk_fault};
+ghost use Rattle.vs_walk.specs.Traversal.{OfReservedBit, traversal, found, reached, walk_fault};
 ghost use Rattle.vs_walk.specs.Ways.{AreWhole, covering, as_found, HasReserved};
 ghost use Rattle.vs_walk.specs.declared.walk.Walk.TheVariants as ends;
 ghost use Rattle.vs_walk.specs.declared.walk.WalkFault.TheVariants as faults;
@@ -20,35 +20,35 @@ ghost use Rattle.vs_walk.specs.declared.walk.WalkFault.TheVariants as faults;
 /// each address where there is no fault on the way, and else where the walk meets none. Where it meets one, no found
 /// page covers the address.
 pub fn found_pages_are_the_walks()
-    ensures faultless { (depth : Depth) (memory : Memory) (root address : ℕ) → AreWhole memory → IsCanonical depth address → walk_fault depth memory root ≡ None → walk depth memory root address ≡ as_found address (covering address (found (moves depth memory root))) }
-    ensures each { (depth : Depth) (memory : Memory) (root address : ℕ) → AreWhole memory → IsCanonical depth address → walk depth memory root address ≢ ends.Reserved → walk depth memory root address ≢ ends.Missing → walk depth memory root address ≡ as_found address (covering address (found (moves depth memory root))) }
-    ensures none { (depth : Depth) (memory : Memory) (root address : ℕ) → AreWhole memory → IsCanonical depth address → (walk depth memory root address ≡ ends.Reserved) ⊎ (walk depth memory root address ≡ ends.Missing) → covering address (found (moves depth memory root)) ≡ None }
+    ensures faultless { (depth : Depth) (memory : Memory) (root address : ℕ) → AreWhole memory → IsCanonical depth address → walk_fault depth memory root ≡ None → walk depth memory root address ≡ as_found address (covering address (found (traversal depth memory root))) }
+    ensures each { (depth : Depth) (memory : Memory) (root address : ℕ) → AreWhole memory → IsCanonical depth address → walk depth memory root address ≢ ends.Reserved → walk depth memory root address ≢ ends.Missing → walk depth memory root address ≡ as_found address (covering address (found (traversal depth memory root))) }
+    ensures none { (depth : Depth) (memory : Memory) (root address : ℕ) → AreWhole memory → IsCanonical depth address → (walk depth memory root address ≡ ends.Reserved) ⊎ (walk depth memory root address ≡ ends.Missing) → covering address (found (traversal depth memory root)) ≡ None }
 {}
 
 /// The pages that are found are well formed. Their bases rise, each page ends at the base of the next or before, and
 /// no two of them cover one address.
 pub fn found_pages_rise()
-    ensures well_formed { (depth : Depth) (memory : Memory) (root : ℕ) → AreWhole memory → All (IsPageBelow (2 ^ 52) depth) (found (moves depth memory root)) }
-    ensures bases { (depth : Depth) (memory : Memory) (root : ℕ) → AreWhole memory → AllPairs (λ p q. p.base < q.base) (found (moves depth memory root)) }
-    ensures ends { (depth : Depth) (memory : Memory) (root : ℕ) → AreWhole memory → AllPairs (λ p q. end_of p ≤ q.base) (found (moves depth memory root)) }
-    ensures apart { (depth : Depth) (memory : Memory) (root : ℕ) (p q : Page) (address : ℕ) → AreWhole memory → Contains (found (moves depth memory root)) p → Contains (found (moves depth memory root)) q → IsTrue (covers p address) → IsTrue (covers q address) → p ≡ q }
+    ensures well_formed { (depth : Depth) (memory : Memory) (root : ℕ) → AreWhole memory → All (IsPageBelow (2 ^ 52) depth) (found (traversal depth memory root)) }
+    ensures bases { (depth : Depth) (memory : Memory) (root : ℕ) → AreWhole memory → AllPairs (λ p q. p.base < q.base) (found (traversal depth memory root)) }
+    ensures ends { (depth : Depth) (memory : Memory) (root : ℕ) → AreWhole memory → AllPairs (λ p q. end_of p ≤ q.base) (found (traversal depth memory root)) }
+    ensures apart { (depth : Depth) (memory : Memory) (root : ℕ) (p q : Page) (address : ℕ) → AreWhole memory → Contains (found (traversal depth memory root)) p → Contains (found (traversal depth memory root)) q → IsTrue (covers p address) → IsTrue (covers q address) → p ≡ q }
 {}
 
 /// The first frame that is reached is the root. Where there is no fault on the way, each frame that is reached is in
 /// the memory, and none is reached twice. Where that is so and no reserved bit is met, there is no fault.
 pub fn reached_once()
-    ensures root_first { (depth : Depth) (memory : Memory) (root : ℕ) → (others : List ℕ) × (reached (moves depth memory root) ≡ root ∷ others) }
-    ensures held { (depth : Depth) (memory : Memory) (root : ℕ) → walk_fault depth memory root ≡ None → All (λ number. IsTrue (finite.contains_key memory number)) (reached (moves depth memory root)) }
-    ensures once { (depth : Depth) (memory : Memory) (root : ℕ) → walk_fault depth memory root ≡ None → IsDistinct nat_eq (reached (moves depth memory root)) }
-    ensures faultless { (depth : Depth) (memory : Memory) (root : ℕ) → All (λ number. IsTrue (finite.contains_key memory number)) (reached (moves depth memory root)) → IsDistinct nat_eq (reached (moves depth memory root)) → ((number index : ℕ) → Contains (moves depth memory root) (Meets number index) → ⊥) → walk_fault depth memory root ≡ None }
+    ensures root_first { (depth : Depth) (memory : Memory) (root : ℕ) → (others : List ℕ) × (reached (traversal depth memory root) ≡ root ∷ others) }
+    ensures held { (depth : Depth) (memory : Memory) (root : ℕ) → walk_fault depth memory root ≡ None → All (λ number. IsTrue (finite.contains_key memory number)) (reached (traversal depth memory root)) }
+    ensures once { (depth : Depth) (memory : Memory) (root : ℕ) → walk_fault depth memory root ≡ None → IsDistinct nat_eq (reached (traversal depth memory root)) }
+    ensures faultless { (depth : Depth) (memory : Memory) (root : ℕ) → All (λ number. IsTrue (finite.contains_key memory number)) (reached (traversal depth memory root)) → IsDistinct nat_eq (reached (traversal depth memory root)) → ((number index : ℕ) → Contains (traversal depth memory root) (OfReservedBit number index) → ⊥) → walk_fault depth memory root ≡ None }
 {}
 
 /// What the first fault says: a missing frame is reached and not in the memory; a shared one is in the memory and is
 /// reached twice; and a word with a reserved bit stands in a frame that is reached.
 pub fn faults_are_met()
-    ensures missing { (depth : Depth) (memory : Memory) (root number : ℕ) → walk_fault depth memory root ≡ Some (faults.Missing number) → IsFalse (finite.contains_key memory number) × Contains (reached (moves depth memory root)) number }
-    ensures shared { (depth : Depth) (memory : Memory) (root number : ℕ) → walk_fault depth memory root ≡ Some (faults.Shared number) → IsTrue (finite.contains_key memory number) × ((before after : List ℕ) × (reached (moves depth memory root) ≡ before ++ number ∷ after) × Contains before number) }
-    ensures reserved { (depth : Depth) (memory : Memory) (root number index : ℕ) → walk_fault depth memory root ≡ Some (faults.Reserved number index) → HasReserved depth memory number index × Contains (reached (moves depth memory root)) number }
+    ensures missing { (depth : Depth) (memory : Memory) (root number : ℕ) → walk_fault depth memory root ≡ Some (faults.Missing number) → IsFalse (finite.contains_key memory number) × Contains (reached (traversal depth memory root)) number }
+    ensures shared { (depth : Depth) (memory : Memory) (root number : ℕ) → walk_fault depth memory root ≡ Some (faults.Shared number) → IsTrue (finite.contains_key memory number) × ((before after : List ℕ) × (reached (traversal depth memory root) ≡ before ++ number ∷ after) × Contains before number) }
+    ensures reserved { (depth : Depth) (memory : Memory) (root number index : ℕ) → walk_fault depth memory root ≡ Some (faults.Reserved number index) → HasReserved depth memory number index × Contains (reached (traversal depth memory root)) number }
 {}
 
 /// Where the first fault on the way is a frame that is missing or a reserved bit, the walk of some canonical address
@@ -64,10 +64,10 @@ pub fn faults_are_walked()
 /// that is reached twice can be on the way. Without a fault and with all found pages below physical 2^51 there is such
 /// a space.
 pub fn found_pages_are_the_space()
-    ensures translates { (depth : Depth) (memory : Memory) (root : ℕ) (space : Space) → AreWhole memory → walk_fault depth memory root ≡ None → found (moves depth memory root) ≡ pages space → TranslatesAs depth memory root space }
-    ensures found { (depth : Depth) (memory : Memory) (root : ℕ) (space : Space) → AreWhole memory → IsSpace depth space → TranslatesAs depth memory root space → found (moves depth memory root) ≡ pages space }
+    ensures translates { (depth : Depth) (memory : Memory) (root : ℕ) (space : Space) → AreWhole memory → walk_fault depth memory root ≡ None → found (traversal depth memory root) ≡ pages space → TranslatesAs depth memory root space }
+    ensures found { (depth : Depth) (memory : Memory) (root : ℕ) (space : Space) → AreWhole memory → IsSpace depth space → TranslatesAs depth memory root space → found (traversal depth memory root) ≡ pages space }
     ensures fault { (depth : Depth) (memory : Memory) (root : ℕ) (space : Space) → AreWhole memory → TranslatesAs depth memory root space → (walk_fault depth memory root ≡ None) ⊎ ((number : ℕ) × (walk_fault depth memory root ≡ Some (faults.Shared number))) }
-    ensures space { (depth : Depth) (memory : Memory) (root : ℕ) → AreWhole memory → walk_fault depth memory root ≡ None → All (IsPage depth) (found (moves depth memory root)) → (space : Space) × IsSpace depth space × (pages space ≡ found (moves depth memory root)) × TranslatesAs depth memory root space }
+    ensures space { (depth : Depth) (memory : Memory) (root : ℕ) → AreWhole memory → walk_fault depth memory root ≡ None → All (IsPage depth) (found (traversal depth memory root)) → (space : Space) × IsSpace depth space × (pages space ≡ found (traversal depth memory root)) × TranslatesAs depth memory root space }
 {}
 
 /// Each frame of a dump has 512 words.
@@ -78,7 +78,7 @@ pub fn dumps_are_whole()
 /// Without a fault on the way, no more frames are reached than the memory has: of a dump at most 4,096, with numbers
 /// below 2^40.
 pub fn few_are_reached()
-    ensures few { (depth : Depth) (memory : Memory) (root : ℕ) → walk_fault depth memory root ≡ None → length (reached (moves depth memory root)) ≤ finite.len memory }
-    ensures of_dump { (dump : Image) (depth : Depth) (root : ℕ) → IsDump dump → walk_fault depth dump.frames root ≡ None → length (reached (moves depth dump.frames root)) ≤ 4096 }
-    ensures in_range { (dump : Image) (depth : Depth) (root : ℕ) → IsDump dump → walk_fault depth dump.frames root ≡ None → All (λ number. number < 2 ^ 40) (reached (moves depth dump.frames root)) }
+    ensures few { (depth : Depth) (memory : Memory) (root : ℕ) → walk_fault depth memory root ≡ None → length (reached (traversal depth memory root)) ≤ finite.len memory }
+    ensures of_dump { (dump : Image) (depth : Depth) (root : ℕ) → IsDump dump → walk_fault depth dump.frames root ≡ None → length (reached (traversal depth dump.frames root)) ≤ 4096 }
+    ensures in_range { (dump : Image) (depth : Depth) (root : ℕ) → IsDump dump → walk_fault depth dump.frames root ≡ None → All (λ number. number < 2 ^ 40) (reached (traversal depth dump.frames root)) }
 {}

@@ -1,7 +1,7 @@
 //! The answer that the fields of a reply stand for.
 
 ghost use Rattle.nr_trace.specs.Spelling.{AnswerFields};
-ghost use Rattle.nr_trace.specs.Reading.{Finds, HasFields};
+ghost use Rattle.nr_trace.specs.inside.Reading.{Finds, HasFields};
 
 use crate::reading::codes::{rights_of_code, size_of_code};
 use vs_types::Answer;

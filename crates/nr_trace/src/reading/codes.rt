@@ -2,7 +2,7 @@
 
 ghost use Rattle.std.specs.Prelude.{◌≡◌};
 ghost use Rattle.nr_trace.specs.Codes.{size_code, rights_code};
-ghost use Rattle.nr_trace.specs.Reading.{Finds};
+ghost use Rattle.nr_trace.specs.inside.Reading.{Finds};
 
 use vs_types::{Rights, Size};
 

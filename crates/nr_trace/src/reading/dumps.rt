@@ -2,7 +2,7 @@
 
 ghost use Rattle.std.specs.Prelude.{◌≡◌, ◌<◌, ◌↔◌, IsTrue, length};
 ghost use Rattle.nr_trace.specs.FirstFault.{IsNext};
-ghost use Rattle.nr_trace.specs.Progress.{IsReady, Takes};
+ghost use Rattle.nr_trace.specs.inside.Progress.{IsReady, Takes};
 
 use crate::fault::Format;
 use crate::reading::fields::take_u64;

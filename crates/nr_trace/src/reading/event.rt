@@ -4,7 +4,7 @@ ghost use Rattle.std.specs.Prelude.{◌≡◌, ◌∷◌, length};
 ghost use Rattle.vs_types.specs.Config.{Layout};
 ghost use Rattle.nr_trace.specs.Recording.{IsEvent};
 ghost use Rattle.nr_trace.specs.Spelling.{event};
-ghost use Rattle.nr_trace.specs.Reading.{Finds, SpellsEvent};
+ghost use Rattle.nr_trace.specs.inside.Reading.{Finds, SpellsEvent};
 
 use crate::event::Event;
 use crate::reading::answer::answer_of;

@@ -1,4 +1,4 @@
-//! Numbers at the front of bytes, and the bytes behind them.
+//! Numbers at the front of bytes, and the bytes after them.
 
 ghost use Rattle.std.specs.Prelude.{◌≡◌, ◌≤◌, ◌++◌, length};
 ghost use Rattle.std.specs.Int.{w8, w16, w32, w64, to_be_bytes};

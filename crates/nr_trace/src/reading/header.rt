@@ -2,7 +2,7 @@
 
 ghost use Rattle.std.specs.Prelude.{◌≡◌, length};
 ghost use Rattle.vs_types.specs.Depth.{levels};
-ghost use Rattle.nr_trace.specs.Reading.{Finds, SpellsCounts, SpellsHead};
+ghost use Rattle.nr_trace.specs.inside.Reading.{Finds, SpellsCounts, SpellsHead};
 
 use crate::reading::fields::{take_u8, take_u16, take_u32, take_u64};
 use vs_types::{Config, Depth};

@@ -11,7 +11,7 @@ use std::alloc::Global;
 use vs_types::{Config, Fail};
 use vs_walk::Dump;
 
-/// What is read of a trace behind its header.
+/// What is read of a trace after its header.
 #[derive(Drop)]
 pub(crate) struct Parts {
     pub(crate) alloc: Global,
@@ -49,7 +49,7 @@ pub(crate) enum Reader {
 impl Reader {
     ghost use Rattle.nr_trace.specs.Spelling.{Spells};
     ghost use Rattle.nr_trace.specs.FirstFault.{HasFormatFault};
-    ghost use Rattle.nr_trace.specs.Progress.{unit_bytes, said, HasRead, IsReady, Takes};
+    ghost use Rattle.nr_trace.specs.inside.Progress.{unit_bytes, said, HasRead, IsReady, Takes};
 
     /// A reader at the beginning of a trace. It takes no memory.
     pub(crate) fn new(alloc: Global) -> Reader

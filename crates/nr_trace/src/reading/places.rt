@@ -2,7 +2,7 @@
 
 ghost use Rattle.std.specs.Prelude.{◌≡◌, ◌+◌, ◌≤◌, [], length};
 ghost use Rattle.nr_trace.specs.FirstFault.{AtLog, AtEvents};
-ghost use Rattle.nr_trace.specs.Progress.{AreInRange, HasRead, IsReady, Takes, parts_spelling};
+ghost use Rattle.nr_trace.specs.inside.Progress.{AreInRange, HasRead, IsReady, Takes, parts_spelling};
 
 use crate::fault::Format;
 use crate::reading::event::event_of;

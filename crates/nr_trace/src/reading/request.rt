@@ -1,6 +1,6 @@
 //! What the fields of a call ask for.
 
-ghost use Rattle.nr_trace.specs.Reading.{Finds, IsRequest, fields_of};
+ghost use Rattle.nr_trace.specs.inside.Reading.{Finds, IsRequest, fields_of};
 
 use crate::reading::codes::{rights_of_code, size_of_code};
 use vs_types::{Depth, Op, Request};

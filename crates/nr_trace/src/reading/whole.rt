@@ -33,7 +33,7 @@ fn read_units(alloc: Global, bytes: &[u8]) -> Result<Trace, Fail<Format>>
 }
 
 /// The trace that the bytes spell, or the first fault in byte order that keeps them from spelling one. It takes memory
-/// for the trace, at most about the length of the bytes, and refuses with want of memory where that is refused.
+/// for the trace, at most about the length of the bytes, and refuses with out of memory where that is refused.
 pub fn read(alloc: Global, bytes: &[u8]) -> Result<Trace, Fail<Format>>
     // What is read is spelled so.
     ensures spelled { IfOk result (λ trace. Spells bytes.now trace) }

@@ -8,7 +8,7 @@ abbrev pub IsLastUpTo : Space → ℕ → Option Page → Type 0
 IsLastUpTo space address None = (q : Page) → Holds space q → address < q.base
 IsLastUpTo space address (Some p) = Holds space p × (p.base ≤ address) × ((q : Page) → Holds space q → q.base ≤ address → q.base ≤ p.base)
 
--- of the pages that begin at the address or behind it, the first one
+-- of the pages that begin at the address or after it, the first one
 abbrev pub IsFirstFrom : Space → ℕ → Option Page → Type 0
 IsFirstFrom space address None = (q : Page) → Holds space q → q.base < address
 IsFirstFrom space address (Some p) = Holds space p × (address ≤ p.base) × ((q : Page) → Holds space q → address ≤ q.base → p.base ≤ q.base)

@@ -3,8 +3,8 @@ use Rattle.std.proofs.lemmas.Bool.{true≢false}
 use Rattle.std.proofs.lemmas.Bool.{iff_false}
 use Rattle.std.proofs.lemmas.List.{get_or_read}
 use Rattle.nr_trace.specs.declared.fault.Fault.TheVariants.{ThreadOpen, NoSuchCall, AnsweredTwice}
-use Rattle.nr_audit.specs.Search.{HasNone}
-use Rattle.nr_audit.specs.Passes.{IsCallFaultAt}
+use Rattle.nr_audit.specs.inside.Search.{HasNone}
+use Rattle.nr_audit.specs.inside.Passes.{IsCallFaultAt}
 use Rattle.nr_audit.proofs.EventFacts.{read_event, read_gone, read_some, thread_in_layout, told_call, if_some, open_call, no_open_call}
 use Rattle.nr_audit.proofs.Ranks.{more_of}
 use Rattle.nr_audit.proofs.Known.{IsKnown, known_at_start, known_after_call, none_at_call, first_open, first_no_call, first_twice, none_at_reply, known_after_reply, first_call_fault, no_call_fault, table_at_end}

@@ -1,6 +1,6 @@
 use Rattle.std.proofs.Common.{ℕ, ◌<◌}
-use Rattle.nr_audit.specs.Search.{HasNone}
-use Rattle.nr_audit.specs.Passes.{IsCallFaultAt}
+use Rattle.nr_audit.specs.inside.Search.{HasNone}
+use Rattle.nr_audit.specs.inside.Passes.{IsCallFaultAt}
 use Rattle.nr_audit.proofs.Known.{IsKnown}
 use Rattle.nr_audit.proofs.calls.check_calls.Given as goal
 

@@ -1,10 +1,10 @@
 use Rattle.std.proofs.Common.{length, take, sym, ap, subst, ◌∙◌, arith}
-use Rattle.vs_plain.specs.Plain.{Kept}
+use Rattle.vs_plain.specs.Plain.{BoundedSpace}
 use Rattle.nr_trace.specs.Orders.{space_after}
-use Rattle.nr_dump.specs.Faults.{HasNoFault, IsFirst}
-use Rattle.nr_audit.specs.Search.{IsFirstAmong}
-use Rattle.nr_audit.specs.Passes.{IsDumpFaultAt}
-use Rattle.nr_audit.specs.Steps.{space_of}
+use Rattle.nr_dump.specs.Faults.{HasNoFault, IsFirstOfDump}
+use Rattle.nr_audit.specs.inside.Search.{IsFirstAmong}
+use Rattle.nr_audit.specs.inside.Passes.{IsDumpFaultAt}
+use Rattle.nr_audit.specs.inside.Steps.{space_of}
 use Rattle.nr_audit.proofs.DumpFacts.{read_dump, first_past_log, first_short, none_of_replica, first_of_replica}
 use Rattle.nr_audit.proofs.dumps.check_dump.Goals as goal
 
@@ -30,7 +30,7 @@ returns-in-Ok-clause-clean c =
     let space = c.in_ok-go_to.ensures ∙ ap (λ n. space_of trace.layout (space_after trace (take n trace.log))) c.applied-applied.ensures in
     none_of_replica trace c.args.replica dump is (omega (arith, c.if-applied-log.false, c.applied-applied.ensures, ap length c.log.ensures.reads))
     c.args.needed.now c.requires.needed (omega (arith, c.if-applied-needed.false, c.applied-applied.ensures))
-    (subst (λ (s : Kept). HasNoFault s.depth dump s.space) space c.in-Ok.ensures.faultless)
+    (subst (λ (s : BoundedSpace). HasNoFault s.depth dump s.space) space c.in-Ok.ensures.faultless)
 
 -- src/dumps.rt:87:48
 pub returns-in-Err-Refused-clause-first : goal.returns-in-Err-Refused-clause-first
@@ -39,8 +39,8 @@ returns-in-Err-Refused-clause-first c =
     let dump = c.index-dumps-replica.result in
     let is = read_dump c.dumps.result.now c.args.trace.now.dumps c.args.replica c.index-dumps-replica.result c.dumps.ensures.reads c.requires.replica c.index-dumps-replica.is in
     let space = c.in_ok-go_to.ensures ∙ ap (λ n. space_of trace.layout (space_after trace (take n trace.log))) c.applied-applied.ensures in
-    let found = subst (λ fault. IsFirst c.go_to.new.space.depth dump c.go_to.new.space.space fault) (sym c.in-Err-Refused.fault-is) (rw c.in-Err-Refused.field-0-is at c.in-Err-Refused.ensures.first) in
+    let found = subst (λ fault. IsFirstOfDump c.go_to.new.space.depth dump c.go_to.new.space.space fault) (sym c.in-Err-Refused.fault-is) (rw c.in-Err-Refused.field-0-is at c.in-Err-Refused.ensures.first) in
     subst (λ fault. IsFirstAmong (IsDumpFaultAt c.args.replica) trace fault) (sym c.fault_at.ensures)
     (first_of_replica trace c.args.replica dump is (omega (arith, c.if-applied-log.false, c.applied-applied.ensures, ap length c.log.ensures.reads))
     c.args.needed.now c.requires.needed (omega (arith, c.if-applied-needed.false, c.applied-applied.ensures)) c.in-Err-Refused.fault
-    (subst (λ (s : Kept). IsFirst s.depth dump s.space c.in-Err-Refused.fault) space found))
+    (subst (λ (s : BoundedSpace). IsFirstOfDump s.depth dump s.space c.in-Err-Refused.fault) space found))

@@ -1,7 +1,7 @@
 use Rattle.std.proofs.Common.{◌≡◌, ℕ, ◌<◌, length, ap, subst, arith}
 use Rattle.std.proofs.lemmas.Result.{err_from_is_err_and}
-use Rattle.nr_audit.specs.Search.{HasNone, IsFirstAmong}
-use Rattle.nr_audit.specs.Passes.{IsDumpFault, IsDumpFaultAt}
+use Rattle.nr_audit.specs.inside.Search.{HasNone, IsFirstAmong}
+use Rattle.nr_audit.specs.inside.Passes.{IsDumpFault, IsDumpFaultAt}
 use Rattle.nr_audit.proofs.Ranks.{refused_as}
 use Rattle.nr_audit.proofs.DumpFacts.{first_dump_fault, no_dump_fault}
 use Rattle.nr_audit.proofs.dumps.check_dumps.Goals as goal

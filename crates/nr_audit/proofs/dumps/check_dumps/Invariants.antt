@@ -1,8 +1,8 @@
 use Rattle.std.proofs.Common.{◌≡◌, ℕ, ◌<◌, take}
 use Rattle.nr_trace.specs.Orders.{space_after}
-use Rattle.nr_audit.specs.Search.{HasNone}
-use Rattle.nr_audit.specs.Passes.{IsDumpFaultAt}
-use Rattle.nr_audit.specs.Steps.{space_of}
+use Rattle.nr_audit.specs.inside.Search.{HasNone}
+use Rattle.nr_audit.specs.inside.Passes.{IsDumpFaultAt}
+use Rattle.nr_audit.specs.inside.Steps.{space_of}
 use Rattle.nr_audit.proofs.dumps.check_dumps.Given as goal
 
 abbrev pub invariant-loop-replica : goal.invariant-loop-replica

@@ -1,12 +1,12 @@
 use Rattle.std.proofs.Common.{◌≡◌, ℕ, ◌<◌, length, max, None, sym, ap, subst, ◌∙◌, arith}
 use Rattle.std.proofs.lemmas.List.{get_or_read}
 use Rattle.nr_trace.specs.Orders.{floor}
-use Rattle.nr_trace.specs.Faults.{StandsBehind}
-use Rattle.nr_trace.specs.Reading.{Finds}
-use Rattle.nr_trace.specs.Calls.{Answered}
-use Rattle.nr_trace.proofs.LawsOfSteps.{floor_behind_reply, floor_behind_other}
-use Rattle.nr_audit.specs.Search.{HasNone}
-use Rattle.nr_audit.specs.Passes.{IsFloorFaultAt}
+use Rattle.nr_trace.specs.Faults.{StandsAfter}
+use Rattle.nr_trace.specs.inside.Reading.{Finds}
+use Rattle.nr_trace.specs.Calls.{Response}
+use Rattle.nr_trace.proofs.LawsOfSteps.{floor_after_reply, floor_after_other}
+use Rattle.nr_audit.specs.inside.Search.{HasNone}
+use Rattle.nr_audit.specs.inside.Passes.{IsFloorFaultAt}
 use Rattle.nr_audit.proofs.EventFacts.{read_event, reply_here, no_reply_at_call, no_call_at_reply}
 use Rattle.nr_audit.proofs.Ranks.{more_of}
 use Rattle.nr_audit.proofs.FloorFacts.{none_at_call, none_at_other, no_floor_fault, first_early}
@@ -18,7 +18,7 @@ pub returns-then-entries-floor-clause-first : goal.returns-then-entries-floor-cl
 returns-then-entries-floor-clause-first c =
     let within : c.loop-index.index < length c.args.positions.now.by_call.items = omega (arith, c.loop-index-test.true, c.requires.table.one_each, ap length c.events-events.ensures.reads) in
     let read = get_or_read c.args.positions.now.by_call.items c.loop-index.index c.index.result.now within c.index.ensures None in
-    let found = subst (λ o. Finds (StandsBehind c.args.trace.now c.loop-index.index) o) (sym read) (c.requires.table.each c.loop-index.index within) in
+    let found = subst (λ o. Finds (StandsAfter c.args.trace.now c.loop-index.index) o) (sym read) (c.requires.table.each c.loop-index.index within) in
     first_early c.args.trace.now c.loop-index.index c.index.result.now c.in-Some.entries c.loop-index.invariant.none found c.in-Some.is
     (subst (λ n. c.in-Some.entries < n) c.loop-index.invariant.floor c.if-entries-floor.true)
 
@@ -31,10 +31,10 @@ loop-index-preserved c =
     elim c.match-event.branch [
       | in-Call+in-Some+else-entries-floor w ↦
           let read = get_or_read c.args.positions.now.by_call.items index w.index.result.now within w.index.ensures None in
-          let found = subst (λ o. Finds (StandsBehind trace index) o) (sym read) (c.requires.table.each index within) in
+          let found = subst (λ o. Finds (StandsAfter trace index) o) (sym read) (c.requires.table.each index within) in
           let is = read_event trace c.events-events.result.now index _ _ c.events-events.ensures.reads c.loop-index-test.true c.index-events-index.is w.in-Call.is in
           record {
-            floor = w.floor-is ∙ c.loop-index.invariant.floor ∙ sym (floor_behind_other trace index (no_reply_at_call trace index _ _ _ is));
+            floor = w.floor-is ∙ c.loop-index.invariant.floor ∙ sym (floor_after_other trace index (no_reply_at_call trace index _ _ _ is));
             none = more_of IsFloorFaultAt trace index c.loop-index.invariant.none (none_at_call trace index w.index.result.now c.requires.clean found
                 (λ entries there.
                 let own = w.in-Some.is in
@@ -45,20 +45,20 @@ loop-index-preserved c =
           }
       | in-Call+in_default w ↦
           let read = get_or_read c.args.positions.now.by_call.items index w.index.result.now within w.index.ensures None in
-          let found = subst (λ o. Finds (StandsBehind trace index) o) (sym read) (c.requires.table.each index within) in
+          let found = subst (λ o. Finds (StandsAfter trace index) o) (sym read) (c.requires.table.each index within) in
           let is = read_event trace c.events-events.result.now index _ _ c.events-events.ensures.reads c.loop-index-test.true c.index-events-index.is w.in-Call.is in
           record {
-            floor = w.floor-is ∙ c.loop-index.invariant.floor ∙ sym (floor_behind_other trace index (no_reply_at_call trace index _ _ _ is));
+            floor = w.floor-is ∙ c.loop-index.invariant.floor ∙ sym (floor_after_other trace index (no_reply_at_call trace index _ _ _ is));
             none = more_of IsFloorFaultAt trace index c.loop-index.invariant.none (none_at_call trace index w.index.result.now c.requires.clean found
                 (λ entries there. absurd (w.in_default.not-Some entries there)));
           }
       | in-Reply w ↦
           let is = read_event trace c.events-events.result.now index _ _ c.events-events.ensures.reads c.loop-index-test.true c.index-events-index.is w.in-Reply.is in
-          let reply : Answered = record { call = w.in-Reply.call; at = w.in-Reply.at; answer = w.in-Reply.answer } in
+          let reply : Response = record { call = w.in-Reply.call; at = w.in-Reply.at; answer = w.in-Reply.answer } in
           let known = w.entries_known.ensures w.in-Reply.answer in
           record {
             floor = w.floor-is ∙ w.max-floor.ensures ∙ ap (λ n. max n w.entries_known.result) c.loop-index.invariant.floor ∙ ap (λ n. max (floor trace index) n) known
-                ∙ sym (floor_behind_reply trace index reply (reply_here trace index _ _ _ is));
+                ∙ sym (floor_after_reply trace index reply (reply_here trace index _ _ _ is));
             none = more_of IsFloorFaultAt trace index c.loop-index.invariant.none (none_at_other trace index (no_call_at_reply trace index _ _ _ is));
           }
     ]

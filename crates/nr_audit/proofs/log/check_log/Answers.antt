@@ -4,8 +4,8 @@ use Rattle.std.proofs.lemmas.Bool.{true≢false}
 use Rattle.std.proofs.lemmas.List.{get_or_read}
 use Rattle.std.proofs.lemmas.Option.{slice_get-get_or}
 use Rattle.nr_trace.specs.declared.fault.Fault.TheVariants.{NotAnUpdate, PlacedTwice}
-use Rattle.nr_audit.specs.Search.{HasNone}
-use Rattle.nr_audit.specs.Passes.{IsLogFaultAt}
+use Rattle.nr_audit.specs.inside.Search.{HasNone}
+use Rattle.nr_audit.specs.inside.Passes.{IsLogFaultAt}
 use Rattle.nr_audit.proofs.EventFacts.{read_gone, read_some}
 use Rattle.nr_audit.proofs.Ranks.{more_of}
 use Rattle.nr_audit.proofs.Logged.{IsLogged, logged_at_start, first_log_fault, no_log_fault, places_at_end, update_within, first_no_update, first_placed_twice, none_at_place, logged_after}

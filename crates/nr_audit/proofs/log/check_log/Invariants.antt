@@ -1,6 +1,6 @@
 use Rattle.std.proofs.Common.{ℕ, ◌<◌}
-use Rattle.nr_audit.specs.Search.{HasNone}
-use Rattle.nr_audit.specs.Passes.{IsLogFaultAt}
+use Rattle.nr_audit.specs.inside.Search.{HasNone}
+use Rattle.nr_audit.specs.inside.Passes.{IsLogFaultAt}
 use Rattle.nr_audit.proofs.Logged.{IsLogged}
 use Rattle.nr_audit.proofs.log.check_log.Given as goal
 

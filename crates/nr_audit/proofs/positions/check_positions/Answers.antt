@@ -1,11 +1,11 @@
 use Rattle.std.proofs.Common.{Vec, Global, ◌≡◌, ℕ, ◌+◌, ◌<◌, List, length, Some, Option, sym, ap, subst, ◌∙◌, arith}
 use Rattle.std.specs.Prelude.{slice_get, option_and_then}
 use Rattle.std.proofs.lemmas.Bool.{iff_false}
-use Rattle.nr_trace.specs.Calls.{operation_in, address_in, Answered}
+use Rattle.nr_trace.specs.Calls.{operation_in, address_in, Response}
 use Rattle.nr_trace.specs.declared.fault.Fault.TheVariants.{NotPlaced, PastLog}
 use Rattle.nr_trace.proofs.LawsOfCalls.{not_both}
-use Rattle.nr_audit.specs.Search.{HasNone}
-use Rattle.nr_audit.specs.Passes.{IsPositionFaultAt}
+use Rattle.nr_audit.specs.inside.Search.{HasNone}
+use Rattle.nr_audit.specs.inside.Passes.{IsPositionFaultAt}
 use Rattle.nr_audit.proofs.EventFacts.{read_event, reply_here, no_reply_at_call}
 use Rattle.nr_audit.proofs.Ranks.{more_of}
 use Rattle.nr_audit.proofs.AnswerFacts.{query_within}
@@ -65,7 +65,7 @@ loop-index-preserved c =
     let trace = c.args.trace.now in
     let index = c.loop-index.index in
     let is = read_event trace c.events-event-items.result.now index _ _ c.events-event-items.ensures.reads c.loop-index-test.true c.event-item.is c.in-Reply.is in
-    let reply : Answered = record { call = c.in-Reply.call; at = c.in-Reply.at; answer = c.in-Reply.answer } in
+    let reply : Response = record { call = c.in-Reply.call; at = c.in-Reply.at; answer = c.in-Reply.answer } in
     let there = reply_here trace index c.in-Reply.call c.in-Reply.at c.in-Reply.answer is in
     elim c.match-query_of.branch [
       | in-Some-Update+else-not-stands_at w ↦

@@ -1,6 +1,6 @@
 use Rattle.std.proofs.Common.{ℕ, ◌<◌}
-use Rattle.nr_audit.specs.Search.{HasNone}
-use Rattle.nr_audit.specs.Passes.{IsPositionFaultAt}
+use Rattle.nr_audit.specs.inside.Search.{HasNone}
+use Rattle.nr_audit.specs.inside.Passes.{IsPositionFaultAt}
 use Rattle.nr_audit.proofs.Positioned.{IsPositioned}
 use Rattle.nr_audit.proofs.positions.check_positions.Given as goal
 

@@ -1,10 +1,10 @@
 use Rattle.std.proofs.Common.{ℕ, ◌<◌, List, length, take, get_or, sym, ap, subst, ◌∙◌, arith}
 use Rattle.std.specs.Prelude.{option_map}
-use Rattle.vs_plain.specs.Plain.{Kept}
-use Rattle.nr_trace.specs.Calls.{Made, call_of}
+use Rattle.vs_plain.specs.Plain.{BoundedSpace}
+use Rattle.nr_trace.specs.Calls.{Invocation, call_of}
 use Rattle.nr_trace.specs.Orders.{space_after}
-use Rattle.nr_audit.specs.Steps.{Serves}
-use Rattle.nr_audit.proofs.AnswerFacts.{kept, space_moves, space_stays, left}
+use Rattle.nr_audit.specs.inside.Steps.{Serves}
+use Rattle.nr_audit.proofs.AnswerFacts.{kept, space_visits, space_stays, left}
 use Rattle.nr_audit.proofs.prefixes.apply_places.Goals as goal
 use Rattle.nr_audit.proofs.prefixes.apply_places.Goals.{in-Some+in_ok-serve, in_default}
 
@@ -16,12 +16,12 @@ loop-place-preserved c =
     let k = c.loop-place.place in
     let reads = c.log-log.ensures.reads in
     let within : k < length log = (let low = c.loop-place-test.true in let most = c.requires.within.1 in omega arith) in
-    let asks = c.query_of.ensures ∙ ap (λ (xs : List ℕ). option_map (λ (made : Made). made.request) (call_of trace (get_or xs k 0))) reads in
+    let asks = c.query_of.ensures ∙ ap (λ (xs : List ℕ). option_map (λ (made : Invocation). made.request) (call_of trace (get_or xs k 0))) reads in
     elim c.match-query_of.branch [
       | in-Some+in_ok-serve w ↦
-          let serves = subst (λ (s : Kept). Serves s w.in-Some.query w.in_ok-serve.field-0 w.serve.new.space) c.loop-place.invariant w.in_ok-serve.ensures in
+          let serves = subst (λ (s : BoundedSpace). Serves s w.in-Some.query w.in_ok-serve.field-0 w.serve.new.space) c.loop-place.invariant w.in_ok-serve.ensures in
           w.space-is ∙ left trace.layout (space_after trace (take k log)) w.in-Some.query _ w.serve.new.space serves
-          ∙ ap (λ s. kept trace.layout s) (space_moves trace log k 0 w.in-Some.query within (sym w.in-Some.is ∙ asks))
+          ∙ ap (λ s. kept trace.layout s) (space_visits trace log k 0 w.in-Some.query within (sym w.in-Some.is ∙ asks))
       | in_default w ↦
           w.space-is ∙ c.loop-place.invariant ∙ ap (λ s. kept trace.layout s) (space_stays trace log k 0 within (sym asks ∙ w.in_default.is))
     ]

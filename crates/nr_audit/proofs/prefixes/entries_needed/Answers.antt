@@ -1,8 +1,8 @@
 use Rattle.std.proofs.Common.{ℕ, ◌+◌, ◌<◌, List, max, get_or, set, sym, ap, subst, ◌∙◌, arith}
 use Rattle.std.specs.Prelude.{IfSome}
-use Rattle.nr_trace.specs.Calls.{Answered, call_of}
+use Rattle.nr_trace.specs.Calls.{Response, call_of}
 use Rattle.nr_trace.specs.Orders.{known_by}
-use Rattle.nr_audit.specs.Prefixes.{AreNeeds}
+use Rattle.nr_audit.specs.inside.Prefixes.{AreNeeds}
 use Rattle.nr_audit.proofs.EventFacts.{read_event, reply_here, no_reply_at_call}
 use Rattle.nr_audit.proofs.PrefixFacts.{needs_stay, needs_grow, no_reply_at, no_call_at, made_at, made_nowhere, greater_is}
 use Rattle.nr_audit.proofs.prefixes.entries_needed.Goals as goal
@@ -17,7 +17,7 @@ loop-index-preserved c =
     elim c.match-event.branch [
       | in-Reply+in-Some w ↦
           let is = read_event trace events index _ _ c.events-event-items.ensures.reads c.loop-index-test.true c.event-item.is w.in-Reply.is in
-          let reply : Answered = record { call = w.in-Reply.call; at = w.in-Reply.at; answer = w.in-Reply.answer } in
+          let reply : Response = record { call = w.in-Reply.call; at = w.in-Reply.at; answer = w.in-Reply.answer } in
           let made = made_at (call_of trace w.in-Reply.call) w.in-Some.replica (sym w.in-Some.is ∙ w.replica_of.ensures.made) in
           let within = subst (λ o. IfSome o (λ replica. replica < 4)) w.in-Some.is w.replica_of.ensures.in_range in
           subst (λ (needs : List ℕ). AreNeeds trace (index + 1) needs)
@@ -26,7 +26,7 @@ loop-index-preserved c =
           (needs_grow trace index c.loop-index.needed reply made.0 (reply_here trace index _ _ _ is) made.1 (omega (arith, made.2)) c.loop-index.invariant)
       | in-Reply+in_default-replica_of w ↦
           let is = read_event trace events index _ _ c.events-event-items.ensures.reads c.loop-index-test.true c.event-item.is w.in-Reply.is in
-          let reply : Answered = record { call = w.in-Reply.call; at = w.in-Reply.at; answer = w.in-Reply.answer } in
+          let reply : Response = record { call = w.in-Reply.call; at = w.in-Reply.at; answer = w.in-Reply.answer } in
           subst (λ (needs : List ℕ). AreNeeds trace (index + 1) needs) (sym w.needed-is)
           (needs_stay trace index c.loop-index.needed (λ replica other. no_call_at trace index replica reply other (reply_here trace index _ _ _ is)
           (made_nowhere (call_of trace w.in-Reply.call) (sym w.replica_of.ensures.made ∙ w.in_default-replica_of.is))) c.loop-index.invariant)

@@ -1,4 +1,4 @@
-use Rattle.nr_audit.specs.Prefixes.{AreNeeds}
+use Rattle.nr_audit.specs.inside.Prefixes.{AreNeeds}
 use Rattle.nr_audit.proofs.prefixes.entries_needed.Given as goal
 
 abbrev pub invariant-loop-index : goal.invariant-loop-index

@@ -1,5 +1,5 @@
 use Rattle.std.proofs.lemmas.Result.{err_from_is_err_and}
-use Rattle.nr_audit.specs.Passes.{IsCallFault, IsLogFault, IsPositionFault, IsFloorFault, IsAnswerFault, IsDumpFault}
+use Rattle.nr_audit.specs.inside.Passes.{IsCallFault, IsLogFault, IsPositionFault, IsFloorFault, IsAnswerFault, IsDumpFault}
 use Rattle.nr_audit.proofs.FirstOfPasses.{none_of_format, after_calls, after_log, after_positions, after_floors, after_answers, after_dumps, clean_after_positions, faultless_after_all, first_of_pass, refused_by_pass, call_faults, log_faults, position_faults, floor_faults, answer_faults, dump_faults}
 use Rattle.nr_audit.proofs.search.search.Goals as goal
 

@@ -1,9 +1,9 @@
 use Rattle.std.proofs.Common.{◌≡◌, ◌∙◌, None, Some, ap}
 use Rattle.vs_types.specs.Space.{pages}
-use Rattle.vs_walk.specs.Traversal.{moves, found, walk_fault}
+use Rattle.vs_walk.specs.Traversal.{traversal, found, walk_fault}
 use Rattle.vs_walk.proofs.WaysDumps.{dump_is_whole}
 use Rattle.nr_dump.specs.declared.comparison.Comparison.{Comparison}
-use Rattle.nr_dump.specs.Comparing.{IsCompared}
+use Rattle.nr_dump.specs.inside.Comparing.{IsCompared}
 use Rattle.nr_dump.proofs.Taking.{compared}
 use Rattle.nr_dump.proofs.Fitting.{AreReached, reached_are_held, none_are_stray, least_stray, moved, unmarked, fits_by_pages, fits_faultless, stray_first, difference_first}
 use Rattle.nr_dump.proofs.checking.check.Goals as goal
@@ -26,13 +26,13 @@ returns-in-None-clause-fits c =
     let are = moved (λ depth root. AreReached depth frames root c.in-Ok.reached) c.depth.ensures c.root.ensures c.in-Ok.ensures.reached in
     let same = compared (pages c.args.space.now.space) c.new-comparison.result.pages.items c.traverse.new.visitor.pages.items
     c.new-comparison.result.met c.traverse.new.visitor.met c.new-comparison.result.difference c.traverse.new.visitor.difference
-    (found (moves c.depth.result frames c.root.result)) None (unmarked c.in_ok-pages.ensures.apart)
+    (found (traversal c.depth.result frames c.root.result)) None (unmarked c.in_ok-pages.ensures.apart)
     (ap (λ (x : Comparison). x.pages.items) c.new-comparison.ensures ∙ c.in_ok-pages.ensures.lists)
     (ap (λ (x : Comparison). x.met) c.new-comparison.ensures) (ap (λ (x : Comparison). x.difference) c.new-comparison.ensures)
     c.in-Ok.ensures.pages c.in-None.ensures in
     fits_by_pages c.args.space.now.depth c.args.dump.now c.args.space.now.space (dump_is_whole c.args.dump.now c.in_default.ensures.is_dump)
     way (none_are_stray c.args.space.now.depth c.args.dump.now c.in-Ok.reached are c.in_default.ensures.none)
-    (moved (λ depth root. IsCompared (found (moves depth frames root)) (pages c.args.space.now.space) None) c.depth.ensures c.root.ensures same)
+    (moved (λ depth root. IsCompared (found (traversal depth frames root)) (pages c.args.space.now.space) None) c.depth.ensures c.root.ensures same)
 
 pub returns-in-None-clause-faultless : goal.returns-in-None-clause-faultless
 returns-in-None-clause-faultless c =
@@ -47,10 +47,10 @@ returns-clause-first c =
     let are = moved (λ depth root. AreReached depth frames root c.in-Ok.reached) c.depth.ensures c.root.ensures c.in-Ok.ensures.reached in
     let same = compared (pages c.args.space.now.space) c.new-comparison.result.pages.items c.traverse.new.visitor.pages.items
     c.new-comparison.result.met c.traverse.new.visitor.met c.new-comparison.result.difference c.traverse.new.visitor.difference
-    (found (moves c.depth.result frames c.root.result)) (Some c.in-Some-difference.address) (unmarked c.in_ok-pages.ensures.apart)
+    (found (traversal c.depth.result frames c.root.result)) (Some c.in-Some-difference.address) (unmarked c.in_ok-pages.ensures.apart)
     (ap (λ (x : Comparison). x.pages.items) c.new-comparison.ensures ∙ c.in_ok-pages.ensures.lists)
     (ap (λ (x : Comparison). x.met) c.new-comparison.ensures) (ap (λ (x : Comparison). x.difference) c.new-comparison.ensures)
     c.in-Ok.ensures.pages c.in-Some-difference.ensures in
     difference_first depth c.args.dump.now c.args.space.now.space c.in-Some-difference.address (dump_is_whole c.args.dump.now c.in_default.ensures.is_dump)
     c.in_ok-pages.ensures.apart way (none_are_stray depth c.args.dump.now c.in-Ok.reached are c.in_default.ensures.none)
-    (moved (λ depth root. IsCompared (found (moves depth frames root)) (pages c.args.space.now.space) (Some c.in-Some-difference.address)) c.depth.ensures c.root.ensures same)
+    (moved (λ depth root. IsCompared (found (traversal depth frames root)) (pages c.args.space.now.space) (Some c.in-Some-difference.address)) c.depth.ensures c.root.ensures same)

@@ -43,7 +43,7 @@ use denote.Builtin.{usize}
 use Rattle.std.specs.Prelude.{None}
 use Rattle.std.proofs.mem.Param.{El, R, elτ}
 use Rattle.std.proofs.RawLayout.{as_written}
-use Rattle.vs_arena.specs.RegionMemory.{row_of}
+use Rattle.vs_arena.specs.inside.RegionMemory.{row_of}
 use Rattle.vs_arena.proofs.RegionMemory.{Rr, Mark, sz, mark, mark_made, two_val, two_of, of_room}
 use base.Fml.{Incl-trans}
 use lib.ListN.{replicate, length-replicate}

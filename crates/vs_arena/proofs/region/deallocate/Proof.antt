@@ -39,7 +39,7 @@ use types.Run.{bin}
 use denote.Builtin.{usize}
 use Rattle.std.proofs.mem.Param.{El, R, elτ}
 use Rattle.std.proofs.RawLayout.{as_raw}
-use Rattle.vs_arena.specs.RegionMemory.{row_of, lease_owns}
+use Rattle.vs_arena.specs.inside.RegionMemory.{row_of, lease_owns}
 use Rattle.vs_arena.proofs.RegionMemory.{Rr, sz, mark, to_room}
 use base.Fml.{Incl-trans}
 use lib.Dec.{T}

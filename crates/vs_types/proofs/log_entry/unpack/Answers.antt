@@ -1,4 +1,4 @@
-use Rattle.std.proofs.Common.{arith, ◌<◌, ◌≤◌}
+use Rattle.std.proofs.Common.{arith}
 use Rattle.vs_types.proofs.LogWords.{finds_again}
 use Rattle.vs_types.proofs.log_entry.unpack.Goals as goal
 use Rattle.vs_types.proofs.log_entry.unpack.Goals.{then-codes-ge128-via-then-codes-ge128, then-codes-ge128-via-else-codes-ge128+then-call-from}

@@ -28,7 +28,7 @@ pub returns-clause-stray_frame : goal.returns-clause-stray_frame
 returns-clause-stray_frame c = tables.stray_frame
 
 pub returns-clause-stray_reached : goal.returns-clause-stray_reached
-returns-clause-stray_reached c = ap reached tables.stray_moves
+returns-clause-stray_reached c = ap reached tables.stray_visits
 
 pub returns-clause-missing_root : goal.returns-clause-missing_root
 returns-clause-missing_root c = tables.missing_root

@@ -1,7 +1,7 @@
 use Rattle.std.proofs.Common.{refl, ap}
 use Rattle.vs_walk.specs.Walk.{all_rights}
 use Rattle.vs_walk.specs.Traversal.{reached, found}
-use Rattle.vs_walk.proofs.SmallTables.{page_walk, page_walk_beside, page_moves, page_faultless}
+use Rattle.vs_walk.proofs.SmallTables.{page_walk, page_walk_beside, page_visits, page_faultless}
 use Rattle.vs_walk.proofs.examples.map_then_resolve.Goals as goal
 
 pub returns-clause-mapped : goal.returns-clause-mapped
@@ -11,10 +11,10 @@ pub returns-clause-not_mapped : goal.returns-clause-not_mapped
 returns-clause-not_mapped c = page_walk_beside
 
 pub returns-clause-reached : goal.returns-clause-reached
-returns-clause-reached c = ap reached page_moves
+returns-clause-reached c = ap reached page_visits
 
 pub returns-clause-found : goal.returns-clause-found
-returns-clause-found c = ap found page_moves
+returns-clause-found c = ap found page_visits
 
 pub returns-clause-faultless : goal.returns-clause-faultless
 returns-clause-faultless c = page_faultless

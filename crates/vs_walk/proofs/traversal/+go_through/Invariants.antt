@@ -1,4 +1,4 @@
-use Rattle.vs_walk.specs.Traversed.{GoesOn, TakesFound, table_at}
+use Rattle.vs_walk.specs.inside.Traversed.{GoesOn, TakesFound, table_at}
 use Rattle.vs_walk.proofs.TraversedWords.{met_up_to}
 use Rattle.vs_walk.proofs.traversal.+go_through.Given as goal
 

@@ -25,7 +25,7 @@ returns-in-Reserved g c =
 
 pub returns-in-Leaf : goal.returns-in-Leaf
 returns-in-Leaf g c =
-    rw (offset_is c.loop-level.level c.new.result c.in-Leaf.phys c.args.address c.in-Leaf.own (sym c.in-Leaf.ensures), c.at_level.ensures, c.joined.ensures)
+    rw (offset_is c.loop-level.level c.new.result c.in-Leaf.phys c.args.address c.in-Leaf.own (sym c.in-Leaf.ensures), c.at_level.ensures, c.intersection.ensures)
     (sym (c.loop-level.invariant.same
     ∙ entry_met _ _ _ _ _ _ _ _ _ c.loop-level-test.true (sym c.words.ensures ∙ ap option_copied c.in-Some.is) c.index_at.ensures.is c.new.ensures c.in-Leaf.ensures))
 
@@ -34,7 +34,7 @@ loop-level-preserved g c = record {
   few = omega (arith, c.loop-level.invariant.few);
   same = c.loop-level.invariant.same
       ∙ entry_met _ _ _ _ _ _ _ _ _ c.loop-level-test.true (sym c.words.ensures ∙ ap option_copied c.in-Some.is) c.index_at.ensures.is c.new.ensures c.in-Table.ensures
-      ∙ ap (λ rights. walk_from (g.F.Frames.memory c.args.frames.now) (c.loop-level.level - 1) c.in-Table.next rights c.args.address) (sym c.joined-rights.ensures);
+      ∙ ap (λ rights. walk_from (g.F.Frames.memory c.args.frames.now) (c.loop-level.level - 1) c.in-Table.next rights c.args.address) (sym c.intersection-rights.ensures);
 }
 
 pub returns : goal.returns

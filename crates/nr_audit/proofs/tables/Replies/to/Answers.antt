@@ -1,14 +1,14 @@
 use Rattle.std.proofs.Common.{length, Some, None, Option, sym, ap, ◌∙◌, arith}
 use Rattle.std.specs.Prelude.{option_map}
 use Rattle.std.proofs.lemmas.List.{get_or_read}
-use Rattle.nr_trace.specs.Calls.{Answered}
+use Rattle.nr_trace.specs.Calls.{Response}
 use Rattle.nr_audit.specs.declared.tables.Told.{Told}
 use Rattle.nr_audit.proofs.EventFacts.{read_event, reply_here, no_reply_at_call}
 use Rattle.nr_audit.proofs.ReplyFacts.{told_by, index_within}
 use Rattle.nr_audit.proofs.tables.Replies.to.Goals as goal
 
-telling : Option Answered → Option Told
-telling reply = option_map (λ (r : Answered). let told : Told = record { at = r.at; answer = r.answer } in told) reply
+telling : Option Response → Option Told
+telling reply = option_map (λ (r : Response). let told : Told = record { at = r.at; answer = r.answer } in told) reply
 
 -- src/tables.rt:30:21
 pub returns-in_err-index : goal.returns-in_err-index

@@ -1,5 +1,5 @@
 use Rattle.std.proofs.Common.{sym, subst}
-use Rattle.nr_dump.specs.Comparing.{AreTaken, IsCompared}
+use Rattle.nr_dump.specs.inside.Comparing.{AreTaken, IsCompared}
 use Rattle.nr_dump.proofs.Taking.{ends_at_next}
 use Rattle.nr_dump.proofs.comparison.Comparison.difference.Goals as goal
 

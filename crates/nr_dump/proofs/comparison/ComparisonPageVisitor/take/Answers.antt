@@ -1,5 +1,5 @@
 use Rattle.std.proofs.Common.{◌≢◌, sym, ◌∙◌, ap, subst, Some, [], ◌∷◌, ◌++◌}
-use Rattle.nr_dump.specs.Comparing.{HasCompared}
+use Rattle.nr_dump.specs.inside.Comparing.{HasCompared}
 use Rattle.nr_dump.proofs.Taking.{keeps_known, meets_page, meets_other, meets_beyond}
 use Rattle.nr_dump.proofs.comparison.ComparisonPageVisitor.take.Goals as goal
 

@@ -2,7 +2,7 @@ use Rattle.std.proofs.Common.{◌≡◌, ℕ, ◌++◌, [], length, true, sym, s
 use Rattle.std.specs.FinMap as finite
 use Rattle.nr_trace.specs.FirstFault.{AtFrames, IsNext}
 use Rattle.nr_trace.specs.Spelling.{frame_number}
-use Rattle.nr_trace.specs.Progress.{BehindDumps}
+use Rattle.nr_trace.specs.inside.Progress.{BehindDumps}
 use Rattle.nr_trace.specs.declared.fault.Format.TheVariants.{BadFrame}
 use Rattle.nr_trace.proofs.Fields.{same_u64}
 use Rattle.nr_trace.proofs.Frames.{number_taken, number_refused}

@@ -1,6 +1,6 @@
 use Rattle.std.proofs.Common.{[], ◌∷◌, ◌++◌, ◌-◌, Some, ap, subst, sym, ◌∙◌, arith}
 use Rattle.vs_walk.specs.Dump.{Image}
-use Rattle.nr_trace.specs.Progress.{HasRead, Ahead, said}
+use Rattle.nr_trace.specs.inside.Progress.{HasRead, Ahead, said}
 use Rattle.nr_trace.specs.declared.reading.parts.Reader.TheVariants.{Frame, Words}
 use Rattle.nr_trace.proofs.Frames.{words_taken, dump_taken}
 use Rattle.nr_trace.proofs.reading.dumps.take_words.Goals as goal

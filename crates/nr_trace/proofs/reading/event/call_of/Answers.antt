@@ -1,6 +1,6 @@
 use Rattle.std.proofs.Common.{◌∷◌, subst, sym, arith}
 use Rattle.nr_trace.specs.Spelling.{RequestFields}
-use Rattle.nr_trace.specs.Reading.{Finds, IsRequest, SpellsEvent}
+use Rattle.nr_trace.specs.inside.Reading.{Finds, IsRequest, SpellsEvent}
 use Rattle.vs_types.specs.declared.request.Query.{Query}
 use Rattle.nr_trace.proofs.Events.{CallNumbers, no_call}
 use Rattle.nr_trace.proofs.reading.event.call_of.Goals as goal

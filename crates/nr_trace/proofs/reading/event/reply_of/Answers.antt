@@ -1,6 +1,6 @@
 use Rattle.std.proofs.Common.{◌∷◌, subst, sym, arith}
 use Rattle.nr_trace.specs.Spelling.{AnswerFields}
-use Rattle.nr_trace.specs.Reading.{Finds, SpellsEvent}
+use Rattle.nr_trace.specs.inside.Reading.{Finds, SpellsEvent}
 use Rattle.nr_trace.proofs.Events.{ReplyNumbers, no_reply}
 use Rattle.nr_trace.proofs.reading.event.reply_of.Goals as goal
 

@@ -1,6 +1,6 @@
 use Rattle.std.proofs.Common.{◌≡◌, ℕ, length, ap, subst, ◌∙◌, arith}
 use Rattle.nr_trace.specs.FirstFault.{AtEvents}
-use Rattle.nr_trace.specs.Progress.{parts_spelling}
+use Rattle.nr_trace.specs.inside.Progress.{parts_spelling}
 use Rattle.nr_trace.proofs.Spelled.{no_place}
 use Rattle.nr_trace.proofs.Units.{goes_on}
 use Rattle.nr_trace.proofs.reading.places.at_log.Goals as goal

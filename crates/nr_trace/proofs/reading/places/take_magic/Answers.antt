@@ -2,7 +2,7 @@ use Rattle.std.proofs.Common.{◌≡◌, true, false, eqb, refl, ap, ◌∙◌}
 use Rattle.std.specs.Prelude.{Some, ⊤}
 use lib.Pointwise.{pointwise}
 use Rattle.nr_trace.specs.Spelling.{magic}
-use Rattle.nr_trace.specs.Progress.{Ahead}
+use Rattle.nr_trace.specs.inside.Progress.{Ahead}
 use Rattle.nr_trace.specs.declared.fault.Format.TheVariants.{BadMagic}
 use Rattle.nr_trace.specs.declared.reading.parts.Reader.TheVariants.{Version}
 use Rattle.nr_trace.proofs.Units.{refused}

@@ -2,7 +2,7 @@ use Rattle.std.proofs.Common.{◌≡◌, ◌-◌, ℕ, Bool, List, false, length
 use Rattle.std.specs.FinMap as finite
 use Rattle.std.proofs.lemmas.List.{length-replicate}
 use Rattle.vs_arena.specs.Arena.{Arena, marked_frames}
-use Rattle.vs_arena.specs.RawArena.{values}
+use Rattle.vs_arena.specs.inside.RawArena.{values}
 use Rattle.vs_arena.proofs.MarkedFrames.{marked_frames-none}
 use Rattle.vs_arena.proofs.LinkedFrames.{HasLinked, HasLinked-none, HasLinked-push, next_empty, all_linked}
 use Rattle.vs_arena.proofs.RawArenas.{IsRawArena-new}

@@ -2,7 +2,7 @@ use Rattle.std.proofs.Common.{◌≡◌, get_or, false, sym, ap, subst, ◌∙�
 use Rattle.std.proofs.lemmas.List.{get_or_read, get_or_past}
 use Rattle.vs_arena.specs.Store.{IsInUse, IsFree}
 use Rattle.vs_arena.specs.Arena.{Arena}
-use Rattle.vs_arena.specs.RawArena.{values}
+use Rattle.vs_arena.specs.inside.RawArena.{values}
 use Rattle.vs_arena.proofs.MarkedFrames.{IsInUse-from_mark, IsFree-from_mark}
 use Rattle.vs_arena.proofs.raw_arena.RawArenaFrameStore.at.Goals as goal
 use Rattle.vs_arena.proofs.raw_arena.RawArenaFrameStore.at.Goals.{else-index-len-via-then-index-len+else-index, else-index-len-via-else-index-len}

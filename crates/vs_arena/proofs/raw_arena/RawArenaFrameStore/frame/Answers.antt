@@ -1,7 +1,7 @@
 use Rattle.std.proofs.Common.{◌<◌, length, get_or, [], sym, ap, subst, ◌∙◌, arith}
 use Rattle.vs_arena.specs.Store.{IsInUse, words_of}
 use Rattle.vs_arena.specs.Arena.{Arena}
-use Rattle.vs_arena.specs.RawArena.{values}
+use Rattle.vs_arena.specs.inside.RawArena.{values}
 use Rattle.vs_arena.proofs.MarkedFrames.{IsMarked-from_use}
 use Rattle.vs_arena.proofs.RawArenas.{IsFilled-within, value_at}
 use Rattle.vs_arena.proofs.raw_arena.RawArenaFrameStore.frame.Goals as goal

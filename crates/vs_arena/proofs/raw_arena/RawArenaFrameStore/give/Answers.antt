@@ -2,7 +2,7 @@ use Rattle.std.proofs.Common.{◌<◌, false, length, length-set, set, [], sym, 
 use Rattle.std.specs.FinMap as finite
 use Rattle.vs_arena.specs.Store.{IsInUse}
 use Rattle.vs_arena.specs.Arena.{Arena, marked_frames}
-use Rattle.vs_arena.specs.RawArena.{values}
+use Rattle.vs_arena.specs.inside.RawArena.{values}
 use Rattle.vs_arena.proofs.MarkedFrames.{IsMarked, IsMarked-from_use, IsFrame-set, marked_frames-unmark_written}
 use Rattle.vs_arena.proofs.RawArenas.{IsFilled-within, value_at, values-set, IsRawArena-give}
 use Rattle.vs_arena.proofs.raw_arena.RawArenaFrameStore.give.Goals as goal

@@ -1,7 +1,7 @@
 use Rattle.std.proofs.Common.{sym, subst, arith}
 use Rattle.vs_arena.specs.Store.{IsInUse}
 use Rattle.vs_arena.specs.Arena.{Arena}
-use Rattle.vs_arena.specs.RawArena.{values}
+use Rattle.vs_arena.specs.inside.RawArena.{values}
 use Rattle.vs_arena.proofs.MarkedFrames.{IsMarked-from_use}
 use Rattle.vs_arena.proofs.raw_arena.RawArenaFrameStore.number.Goals as goal
 

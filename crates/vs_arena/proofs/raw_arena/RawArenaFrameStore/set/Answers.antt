@@ -2,7 +2,7 @@ use Rattle.std.proofs.Common.{◌≡◌, ◌<◌, length, get_or, set, [], sym, 
 use Rattle.std.specs.FinMap as finite
 use Rattle.vs_arena.specs.Store.{IsInUse, words_of}
 use Rattle.vs_arena.specs.Arena.{Arena, marked_frames}
-use Rattle.vs_arena.specs.RawArena.{values}
+use Rattle.vs_arena.specs.inside.RawArena.{values}
 use Rattle.vs_arena.proofs.MarkedFrames.{IsMarked, IsMarked-from_use, IsFrame-set, marked_frames-write}
 use Rattle.vs_arena.proofs.RawArenas.{IsFilled-within, value_at, values-set, IsRawArena-write}
 use Rattle.vs_arena.proofs.raw_arena.RawArenaFrameStore.set.Goals as goal

@@ -2,7 +2,7 @@ use Rattle.std.proofs.Common.{◌≡◌, ◌<◌, ◌-◌, ◌+◌, true, length
 use Rattle.std.specs.FinMap as finite
 use Rattle.vs_arena.specs.Store.{IsFree, zeros}
 use Rattle.vs_arena.specs.Arena.{Arena, marked_frames}
-use Rattle.vs_arena.specs.RawArena.{values}
+use Rattle.vs_arena.specs.inside.RawArena.{values}
 use Rattle.vs_arena.proofs.MarkedFrames.{IsFrame-zeros, marked_frames-mark}
 use Rattle.vs_arena.proofs.RawArenas.{IsFilled-within, value_at, values-set, IsUnmarked-next, next_within, IsRawArena-take}
 use Rattle.vs_arena.proofs.raw_arena.RawArenaFrameStore.take.Goals as goal

@@ -39,8 +39,8 @@ use Rattle.std.specs.Prelude.{None}
 use Rattle.std.proofs.mem.Param.{El, R, args, el_x}
 use Rattle.std.proofs.ptr.Rows.{times_below, one_below}
 use Rattle.std.proofs.VecSteps.Shapes.{after}
-use Rattle.vs_arena.specs.Region.{IsFilled}
-use Rattle.vs_arena.specs.RegionMemory.{place_lent, region_lends}
+use Rattle.vs_arena.specs.inside.Region.{IsFilled}
+use Rattle.vs_arena.specs.inside.RegionMemory.{place_lent, region_lends}
 use Rattle.vs_arena.specs.declared.region.Region.{Region}
 use Rattle.vs_arena.proofs.RegionMemory.{Rr, sz, Place, filled_within, place_seen, shown}
 use Rattle.vs_arena.proofs.RegionSteps.{pointer_in, pointer_out}

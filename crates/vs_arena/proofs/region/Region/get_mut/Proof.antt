@@ -42,9 +42,9 @@ use Rattle.std.proofs.mem.Param.{El, R, args, el_x}
 use Rattle.std.proofs.ptr.Rows.{times_below, one_below}
 use Rattle.std.proofs.RcSteps.{word}
 use Rattle.std.proofs.VecSteps.Shapes.{after}
-use Rattle.vs_arena.specs.Region.{IsFilled}
-use Rattle.vs_arena.specs.RegionMemory.{place, row_of}
-use Rattle.vs_arena.specs.RegionLends.{with_places}
+use Rattle.vs_arena.specs.inside.Region.{IsFilled}
+use Rattle.vs_arena.specs.inside.RegionMemory.{place, row_of}
+use Rattle.vs_arena.specs.inside.RegionLends.{with_places}
 use Rattle.vs_arena.specs.declared.region.Region.{Region}
 use Rattle.vs_arena.proofs.RegionMemory.{Rr, sz, Place, Besides, filled_within, place_out, place_in}
 use Rattle.vs_arena.proofs.RegionSteps.{region_opens, region_made}

@@ -37,8 +37,8 @@ use Rattle.std.proofs.mem.Param.{El, R, args, el_x, elτ, Good, lawful, one}
 use Rattle.std.proofs.ptr.Rows.{times_below, one_below}
 use Rattle.std.proofs.RawLayout.{as_written}
 use Rattle.std.proofs.VecSteps.Shapes.{after}
-use Rattle.vs_arena.specs.RegionMemory.{place, row_of}
-use Rattle.vs_arena.specs.RegionLends.{with_places}
+use Rattle.vs_arena.specs.inside.RegionMemory.{place, row_of}
+use Rattle.vs_arena.specs.inside.RegionLends.{with_places}
 use Rattle.vs_arena.specs.declared.region.Region.{Region}
 use Rattle.vs_arena.proofs.RegionMemory.{Rr, sz, Place, Besides, value_in, place_out, place_in}
 use Rattle.vs_arena.proofs.RegionSteps.{region_opens, region_closes, knowing}

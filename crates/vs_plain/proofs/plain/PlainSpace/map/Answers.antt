@@ -1,14 +1,14 @@
 use Rattle.std.proofs.Common.{◌≡◌, None, sym, subst, arith}
 use Rattle.vs_types.specs.Page.{IsPage}
 use Rattle.vs_types.specs.Space.{least_overlapped}
-use Rattle.vs_plain.specs.Plain.{Kept}
+use Rattle.vs_plain.specs.Plain.{BoundedSpace}
 use Rattle.vs_plain.proofs.Tables.{is_with}
 use Rattle.vs_plain.proofs.plain.PlainSpace.map.Goals as goal
 
 pub invariant_of-self-2 : goal.invariant_of-self-2
 invariant_of-self-2 c =
-    let free : None ≡ least_overlapped c.self.inside.page_map c.args.page = subst (λ (k : Kept). None ≡ least_overlapped k.space c.args.page) (sym c.self.view_is) c.in_default.ensures in
-    let good : IsPage c.self.inside.depth c.args.page = subst (λ (k : Kept). IsPage k.depth c.args.page) (sym c.self.view_is) c.requires in
+    let free : None ≡ least_overlapped c.self.inside.page_map c.args.page = subst (λ (k : BoundedSpace). None ≡ least_overlapped k.space c.args.page) (sym c.self.view_is) c.in_default.ensures in
+    let good : IsPage c.self.inside.depth c.args.page = subst (λ (k : BoundedSpace). IsPage k.depth c.args.page) (sym c.self.view_is) c.requires in
     rw c.in_ok-insert.ensures.ok record {
       is_space = is_with c.self.invariant.is_space c.args.page good (sym free);
       counted = omega (arith, c.self.invariant.counted, c.new_tables.ensures.more);

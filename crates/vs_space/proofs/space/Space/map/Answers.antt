@@ -12,11 +12,11 @@ use Rattle.vs_types.specs.declared.answer.Answer.TheVariants as answers
 use Rattle.vs_walk.specs.Memory.{Memory}
 use Rattle.vs_space.specs.Held.{Held, with_word}
 use Rattle.vs_walk.specs.Ways.{AreWhole}
-use Rattle.vs_space.specs.Descent.{IsDescent}
+use Rattle.vs_space.specs.inside.Descent.{IsDescent}
 use Rattle.vs_space.specs.Path.{table_at}
-use Rattle.vs_space.specs.Grow.{IsOpen, IsExtended, IsLeastBase}
-use Rattle.vs_space.specs.Table.{PageTable, IsStep}
-use Rattle.vs_space.specs.Invariant.{IsPageTable}
+use Rattle.vs_space.specs.inside.Grow.{IsOpen, IsExtended, IsLeastBase}
+use Rattle.vs_space.specs.Table.{PageTable, IsTableStep}
+use Rattle.vs_space.specs.inside.Invariant.{IsPageTable}
 use Rattle.vs_space.proofs.Protects.{page_table}
 use Rattle.vs_space.proofs.Maps.{reserved_never, leaf_overlaps, not_lowest, table_reached, table_overlaps, full_step, is_open, map_table, map_step}
 use Rattle.vs_space.proofs.space.Space.map.Goals as goal
@@ -30,7 +30,7 @@ descended {depth} {memory} {root} {address} {asked} {lowest} {level} {path} {met
 mapped : (depth : Depth) (memory : Memory) (root : ℕ) → IsPageTable depth memory root → (page : Page) → IsPage depth page → (level : ℕ) (path : List ℕ) → IsDescent depth memory root page.base (level_of page.size) level path entry.Absent
     → (lowest : ℕ) → lowest ≡ level_of page.size → (m : Memory) (number : ℕ) → IsExtended depth memory m root page.base level lowest number → AreWhole m → (word index : ℕ) → meaning (level_of page.size) word ≡ entry.Leaf page.phys page.rights → word ≡ leaf_word page.size page.phys page.rights → index ≡ index_at lowest page.base → index < 512
     → (first limit added : ℕ) → added ≡ level - lowest → finite.len memory + added ≤ limit
-    → IsPageTable depth (with_word m number index word) root × IsStep (page_table depth first limit root memory) (Map page) answers.Done (page_table depth first limit root (with_word m number index word))
+    → IsPageTable depth (with_word m number index word) root × IsTableStep (page_table depth first limit root memory) (Map page) answers.Done (page_table depth first limit root (with_word m number index word))
 mapped depth memory root table page good level path descent lowest lowest_is m number extended whole word index leads is_word at low first limit added added_is few =
     let grown = subst (λ l. IsExtended depth memory m root page.base level l number) lowest_is extended in
     let here = subst (λ l. index ≡ index_at l page.base) lowest_is at in
@@ -60,7 +60,7 @@ returns-in-Table g c =
     let good = subst (λ (t : PageTable). IsPage t.depth c.args.page) (sym c.self.view_is) c.requires in
     let descent = descended c.level-lowest.ensures (sym c.in-Table.ensures) c.descend-descent.ensures.descent in
     let first = subst (λ l. IsLeastBase inside.depth inside.tables.memory inside.root c.args.page.base (levels inside.depth - (l - 1)) c.least_base-base.result) c.level-lowest.ensures c.least_base-base.ensures in
-    subst (λ (t : PageTable). IsStep t (Map c.args.page) (answers.Overlap c.least_base-base.result) t) c.self.view_is
+    subst (λ (t : PageTable). IsTableStep t (Map c.args.page) (answers.Overlap c.least_base-base.result) t) c.self.view_is
     (table_overlaps inside.depth inside.tables.memory inside.root c.self.invariant.0 c.args.page good c.descend-descent.result.level c.descend-descent.result.path c.in-Table.table c.in-Table.field-1 descent inside.tables.base inside.tables.limit c.least_base-base.result first)
 
 pub returns-in-Leaf : goal.returns-in-Leaf
@@ -68,7 +68,7 @@ returns-in-Leaf g c =
     let inside = c.self.inside in
     let good = subst (λ (t : PageTable). IsPage t.depth c.args.page) (sym c.self.view_is) c.requires in
     let descent = descended c.level-lowest.ensures (sym c.in-Leaf.ensures) c.descend-descent.ensures.descent in
-    subst (λ (t : PageTable). IsStep t (Map c.args.page) (answers.Overlap (c.args.page.base - c.args.page.base % c.bytes-bytes.result)) t) c.self.view_is
+    subst (λ (t : PageTable). IsTableStep t (Map c.args.page) (answers.Overlap (c.args.page.base - c.args.page.base % c.bytes-bytes.result)) t) c.self.view_is
     (leaf_overlaps inside.depth inside.tables.memory inside.root c.self.invariant.0 c.args.page good c.descend-descent.result.level c.descend-descent.result.path c.in-Leaf.field-0 c.in-Leaf.field-1 descent inside.tables.base inside.tables.limit c.bytes-bytes.result (c.bytes-bytes.ensures ∙ ap bytes_of c.at_level.ensures))
 
 pub unreachable-requires : goal.unreachable-requires
@@ -85,7 +85,7 @@ returns-then-need-limit g c =
     let descent = descended c.level-lowest.ensures (sym c.in-Absent.ensures) c.descend-descent.ensures.descent in
     let lowest_is : c.descend-descent.result.level - c.level-lowest.result ≡ c.descend-descent.result.level - level_of c.args.page.size = ap (λ l. c.descend-descent.result.level - l) c.level-lowest.ensures in
     let need : c.used.result + c.from.result ≡ finite.len inside.tables.memory + (c.descend-descent.result.level - level_of c.args.page.size) = omega (arith, lowest_is, c.used.ensures.counts, c.from.ensures) in
-    subst (λ (t : PageTable). IsStep t (Map c.args.page) (answers.Full (c.used.result + c.from.result)) t) c.self.view_is
+    subst (λ (t : PageTable). IsTableStep t (Map c.args.page) (answers.Full (c.used.result + c.from.result)) t) c.self.view_is
     (full_step inside.depth inside.tables.memory inside.root c.self.invariant.0 c.args.page good c.descend-descent.result.level c.descend-descent.result.path descent inside.tables.base inside.tables.limit (c.used.result + c.from.result) need (omega (arith, c.if-need-limit.true, c.limit-limit.ensures.reads)))
 
 pub extend-number-requires-clause-open_at : goal.extend-number-requires-clause-open_at
@@ -114,8 +114,8 @@ returns g c =
     let good = subst (λ (t : PageTable). IsPage t.depth c.args.page) (sym c.self.view_is) c.requires in
     let descent = descended c.level-lowest.ensures (sym c.in-Absent.ensures) c.descend-descent.ensures.descent in
     let whole = c.write.ensures.written ∙ ap (λ (h : Held). let r : Held = record { base = h.base; limit = h.limit; memory = with_word c.extend-number.new.self.memory c.extend-number.result c.index_at.result c.word.result } in r) c.extend-number.ensures.same in
-    subst (λ (t : PageTable). IsStep t (Map c.args.page) answers.Done (page_table inside.depth c.write.new.self.base c.write.new.self.limit inside.root c.write.new.self.memory)) c.self.view_is
-    (subst (λ (h : Held). IsStep (page_table inside.depth inside.tables.base inside.tables.limit inside.root inside.tables.memory) (Map c.args.page) answers.Done (page_table inside.depth h.base h.limit inside.root h.memory)) (sym whole)
+    subst (λ (t : PageTable). IsTableStep t (Map c.args.page) answers.Done (page_table inside.depth c.write.new.self.base c.write.new.self.limit inside.root c.write.new.self.memory)) c.self.view_is
+    (subst (λ (h : Held). IsTableStep (page_table inside.depth inside.tables.base inside.tables.limit inside.root inside.tables.memory) (Map c.args.page) answers.Done (page_table inside.depth h.base h.limit inside.root h.memory)) (sym whole)
     (mapped inside.depth inside.tables.memory inside.root c.self.invariant.0 c.args.page good c.descend-descent.result.level c.descend-descent.result.path descent c.level-lowest.result c.level-lowest.ensures c.extend-number.new.self.memory c.extend-number.result c.extend-number.ensures.extended c.write.ensures.whole
     c.word.result c.index_at.result (ap (meaning (level_of c.args.page.size)) c.word.ensures ∙ c.leaf-leaf.ensures.read_back) (c.word.ensures ∙ c.leaf-leaf.ensures.written) c.index_at.ensures.is c.index_at.ensures.low inside.tables.base inside.tables.limit c.from.result c.from.ensures
     (omega (arith, c.used.ensures.counts, c.if-need-limit.false, c.limit-limit.ensures.reads))).1)

@@ -5,7 +5,7 @@ use Rattle.vs_types.specs.Space.{no_pages}
 use Rattle.vs_arena.specs.Store.{zeros}
 use Rattle.vs_space.specs.Held.{Held}
 use Rattle.vs_space.specs.Table.{IsTableOf}
-use Rattle.vs_space.specs.Invariant.{IsPageTable}
+use Rattle.vs_space.specs.inside.Invariant.{IsPageTable}
 use Rattle.vs_space.proofs.Protects.{page_table}
 use Rattle.vs_space.proofs.News.{new_table, new_is_empty}
 use Rattle.vs_space.proofs.space.Space.new.Goals as goal

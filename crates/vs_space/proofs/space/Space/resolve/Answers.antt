@@ -6,7 +6,7 @@ use Rattle.vs_types.specs.Step.{look}
 use Rattle.vs_types.specs.declared.entry.Meaning.{Meaning}
 use Rattle.vs_types.specs.declared.answer.Answer.TheVariants as answers
 use Rattle.vs_types.specs.declared.page.Size.{Size}
-use Rattle.vs_space.specs.Descent.{IsDescent}
+use Rattle.vs_space.specs.inside.Descent.{IsDescent}
 use Rattle.vs_space.specs.Table.{PageTable, IsTableOf}
 use Rattle.vs_space.proofs.Meets.{absent_end, resolve_absent, resolve_fits, resolve_leaf}
 use Rattle.vs_space.proofs.space.Space.resolve.Goals as goal

@@ -1,7 +1,7 @@
 use Rattle.std.proofs.Common.{◌≡◌, ◌<◌, ◌≤◌, ◌+◌, ◌^◌, ℕ, None, Contains, IsTrue, subst}
 use Rattle.std.specs.FinMap as finite
 use Rattle.vs_types.specs.Space as spaces
-use Rattle.vs_walk.specs.Traversal.{moves, reached, walk_fault}
+use Rattle.vs_walk.specs.Traversal.{traversal, reached, walk_fault}
 use Rattle.vs_space.specs.Table.{PageTable, IsTableOf}
 use Rattle.vs_space.specs.Written.{IsWrittenTable}
 use Rattle.vs_space.proofs.Traversed.{traversed, numbers_fit}
@@ -16,11 +16,11 @@ returns-clause-faultless g c = subst (λ (t : PageTable). walk_fault t.depth t.m
     (traversed _ _ _ c.self.invariant.0).0
 
 pub returns-clause-in_use : goal.returns-clause-in_use
-returns-clause-in_use g c = subst (λ (t : PageTable). (number : ℕ) → Contains (reached (moves t.depth t.memory t.root)) number → IsTrue (finite.contains_key t.memory number)) c.self.view_is
+returns-clause-in_use g c = subst (λ (t : PageTable). (number : ℕ) → Contains (reached (traversal t.depth t.memory t.root)) number → IsTrue (finite.contains_key t.memory number)) c.self.view_is
     (traversed _ _ _ c.self.invariant.0).1
 
 pub returns-clause-each : goal.returns-clause-each
-returns-clause-each g c = subst (λ (t : PageTable). (number : ℕ) → IsTrue (finite.contains_key t.memory number) → Contains (reached (moves t.depth t.memory t.root)) number) c.self.view_is
+returns-clause-each g c = subst (λ (t : PageTable). (number : ℕ) → IsTrue (finite.contains_key t.memory number) → Contains (reached (traversal t.depth t.memory t.root)) number) c.self.view_is
     (traversed _ _ _ c.self.invariant.0).2
 
 pub returns-clause-in_range : goal.returns-clause-in_range

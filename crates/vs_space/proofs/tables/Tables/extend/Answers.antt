@@ -4,7 +4,7 @@ use Rattle.std.specs.FinMap as finite
 use Rattle.vs_types.specs.Entry.{meaning}
 use Rattle.vs_space.specs.Held.{Held, with_word}
 use Rattle.vs_walk.specs.Ways.{AreWhole}
-use Rattle.vs_space.specs.Grow.{IsExtended}
+use Rattle.vs_space.specs.inside.Grow.{IsExtended}
 use Rattle.vs_space.proofs.Numbered.{same_but_memory}
 use Rattle.vs_space.proofs.Extends.{taken_used, extended_on}
 use Rattle.vs_space.proofs.tables.Tables.extend.Goals as goal

@@ -1,6 +1,6 @@
 use Rattle.std.proofs.Common.{◌≡◌, ◌≤◌}
 use Rattle.vs_space.specs.Held.{Held}
-use Rattle.vs_space.specs.Grow.{IsExtended}
+use Rattle.vs_space.specs.inside.Grow.{IsExtended}
 use Rattle.vs_space.proofs.tables.Tables.extend.Given as goal
 
 abbrev pub invariant-loop-level : goal.invariant-loop-level

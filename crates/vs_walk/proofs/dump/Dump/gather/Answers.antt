@@ -7,7 +7,7 @@ use Rattle.std.proofs.lemmas.List.{take_all}
 use Rattle.std.proofs.lemmas.List.Elements.{All-contains, Contains-get_or}
 use Rattle.vs_walk.specs.Dump.{Image}
 use Rattle.vs_walk.specs.Reached.{AreJust}
-use Rattle.vs_walk.specs.Traversal.{moves, reached}
+use Rattle.vs_walk.specs.Traversal.{traversal, reached}
 use Rattle.vs_walk.proofs.Gathered.{no_longer, below_next, held_next, held_number, reached_held_at}
 use Rattle.vs_walk.proofs.WaysLaws.{reached_held}
 use Rattle.vs_walk.proofs.dump.Dump.gather.Goals as goal
@@ -15,7 +15,7 @@ use Rattle.vs_walk.proofs.dump.Dump.gather.Goals as goal
 pub unreachable-requires : goal.unreachable-requires
 unreachable-requires g c =
     let memory = g.F.Frames.memory c.args.frames.now in
-    let ns = reached (moves c.args.depth memory c.args.root) in
+    let ns = reached (traversal c.args.depth memory c.args.root) in
     let ks = c.as_slice-numbers.result.now in
     let just : AreJust ks ns = subst (λ xs. AreJust xs ns) (sym c.as_slice-numbers.ensures.is) c.in_ok-reached.ensures.reached in
     let here : Contains ks (get_or ks c.loop-number.number-index 0) = Contains-get_or ks c.loop-number.number-index 0 c.loop-number-test.true in
@@ -31,7 +31,7 @@ push-requires-clause-above g c =
 pub push-requires-clause-in_range : goal.push-requires-clause-in_range
 push-requires-clause-in_range g c =
     let memory = g.F.Frames.memory c.args.frames.now in
-    let ns = reached (moves c.args.depth memory c.args.root) in
+    let ns = reached (traversal c.args.depth memory c.args.root) in
     let ks = c.as_slice-numbers.result.now in
     let just : AreJust ks ns = subst (λ xs. AreJust xs ns) (sym c.as_slice-numbers.ensures.is) c.in_ok-reached.ensures.reached in
     let here : Contains ks (get_or ks c.loop-number.number-index 0) = Contains-get_or ks c.loop-number.number-index 0 c.loop-number-test.true in
@@ -40,7 +40,7 @@ push-requires-clause-in_range g c =
 pub push-requires-clause-room : goal.push-requires-clause-room
 push-requires-clause-room g c =
     let memory = g.F.Frames.memory c.args.frames.now in
-    let ns = reached (moves c.args.depth memory c.args.root) in
+    let ns = reached (traversal c.args.depth memory c.args.root) in
     let ks = c.as_slice-numbers.result.now in
     let just : AreJust ks ns = subst (λ xs. AreJust xs ns) (sym c.as_slice-numbers.ensures.is) c.in_ok-reached.ensures.reached in
     let rising : AllPairs (λ a b. a < b) ks = subst (AllPairs (λ a b. a < b)) (sym c.as_slice-numbers.ensures.is) c.as_slice-numbers.ensures.rising in
@@ -67,14 +67,14 @@ loop-number-preserved g c =
 
 pub returns-clause-held : goal.returns-clause-held
 returns-clause-held g c number is =
-    let ns = reached (moves c.args.depth (g.F.Frames.memory c.args.frames.now) c.args.root) in
+    let ns = reached (traversal c.args.depth (g.F.Frames.memory c.args.frames.now) c.args.root) in
     let ks = c.as_slice-numbers.result.now in
     let just : AreJust ks ns = subst (λ xs. AreJust xs ns) (sym c.as_slice-numbers.ensures.is) c.in_ok-reached.ensures.reached in
     c.loop-number.invariant.held number (subst (λ xs. Contains xs number) (sym (take_all c.loop-number.number-index ks c.loop-number-test.false)) ((just number).1 is))
 
 pub returns-clause-only : goal.returns-clause-only
 returns-clause-only g c number held =
-    let ns = reached (moves c.args.depth (g.F.Frames.memory c.args.frames.now) c.args.root) in
+    let ns = reached (traversal c.args.depth (g.F.Frames.memory c.args.frames.now) c.args.root) in
     let ks = c.as_slice-numbers.result.now in
     let just : AreJust ks ns = subst (λ xs. AreJust xs ns) (sym c.as_slice-numbers.ensures.is) c.in_ok-reached.ensures.reached in
     (just number).0 (subst (λ xs. Contains xs number) (c.loop-number.invariant.numbers ∙ take_all c.loop-number.number-index ks c.loop-number-test.false) (held_number c.loop-number.dump.frames number held))

@@ -1,0 +1,124 @@
+-- How far a reader has come: what it has read, and what would be wrong with the bytes ahead.
+use Rattle.std.specs.Prelude.{◌≡◌, ℕ, ◌+◌, ◌-◌, ◌<◌, ◌≤◌, ◌^◌, ◌++◌, nat_lt, List, [], length, flat_map, All, Option, Some, None, Result, MatchResult, ⊤, if◌then◌else◌}
+use Rattle.std.specs.FinMap as finite
+use Rattle.vs_types.specs.Config.{IsLayout}
+use Rattle.vs_types.specs.declared.refusal.Fail.{Fail}
+use Rattle.vs_types.specs.declared.refusal.Fail.TheVariants.{Memory, Refused}
+use Rattle.vs_types.specs.Frame.{IsFrame}
+use Rattle.nr_trace.specs.Recording.{IsEvent, IsImage}
+use Rattle.nr_trace.specs.Spelling.{magic, version, counts, log_word, event, dump_head, frame_number, frame_words, dump}
+use Rattle.nr_trace.specs.FirstFault.{AtUnit, AtVersion, AtCounts, AtLog, AtEvents, AtDumps, AtFrames, IsNext, HasFormatFault}
+use Rattle.nr_trace.specs.declared.fault.Format.{Format}
+use Rattle.nr_trace.specs.declared.reading.parts.Parts.{Parts}
+use Rattle.nr_trace.specs.declared.reading.parts.Opened.{Opened}
+use Rattle.nr_trace.specs.declared.reading.parts.Reader.{Reader}
+use Rattle.nr_trace.specs.declared.reading.parts.Reader.TheVariants.{Magic, Version, Header, Log, Events, Dumps, Frame, Words}
+
+-- how many bytes the next unit has
+abbrev pub unit_bytes : Reader → Option ℕ
+unit_bytes (Magic alloc) = Some 4
+unit_bytes (Version alloc) = Some 2
+unit_bytes (Header alloc) = Some 14
+unit_bytes (Log parts places events) = Some 4
+unit_bytes (Events parts events) = Some 24
+unit_bytes (Dumps parts) = if nat_lt (length parts.dumps.items) parts.config.replicas then Some 16 else None
+unit_bytes (Frame parts opened last) = Some 8
+unit_bytes (Words parts opened number) = Some 4096
+
+-- the spelling of the parts, where there are so many places and events in all
+abbrev pub parts_spelling : ℕ → ℕ → Parts → List ℕ
+parts_spelling places events parts =
+    magic ++ version ++ counts parts.config places events
+    ++ flat_map log_word parts.log.items ++ flat_map event parts.events.items ++ flat_map dump parts.dumps.items
+
+abbrev pub whole_spelling : Parts → List ℕ
+whole_spelling parts = parts_spelling (length parts.log.items) (length parts.events.items) parts
+
+-- the spelling of a dump as far as it has come, where so many frames are left
+abbrev pub opened_spelling : Opened → List ℕ
+opened_spelling opened =
+    dump_head opened.dump.applied (finite.len opened.dump.frames + opened.left) opened.dump.root
+    ++ flat_map (λ frame. frame_number frame.0 ++ frame_words frame.1) (finite.entries opened.dump.frames)
+
+-- the bytes that were read
+abbrev pub said : Reader → List ℕ
+said (Magic alloc) = []
+said (Version alloc) = magic
+said (Header alloc) = magic ++ version
+said (Log parts places events) = parts_spelling (length parts.log.items + places) events parts
+said (Events parts events) = parts_spelling (length parts.log.items) (length parts.events.items + events) parts
+said (Dumps parts) = whole_spelling parts
+said (Frame parts opened last) = whole_spelling parts ++ opened_spelling opened
+said (Words parts opened number) = whole_spelling parts ++ opened_spelling opened ++ frame_number number
+
+-- the faults of the bytes after the dumps that there are
+abbrev pub BehindDumps : Parts → ℕ → List ℕ → Format → Type 0
+BehindDumps parts more = AtDumps (length parts.dumps.items + more) (parts.config.replicas - (length parts.dumps.items + more))
+
+-- the fault of the bytes ahead
+abbrev pub Ahead : Reader → List ℕ → Format → Type 0
+Ahead (Magic alloc) rest fault = HasFormatFault rest fault
+Ahead (Version alloc) rest fault = AtVersion rest fault
+Ahead (Header alloc) rest fault = AtCounts rest fault
+Ahead (Log parts places events) rest fault = AtLog parts.config places events rest fault
+Ahead (Events parts events) rest fault = AtEvents parts.config (length parts.events.items) events rest fault
+Ahead (Dumps parts) rest fault = BehindDumps parts 0 rest fault
+Ahead (Frame parts opened last) rest fault =
+    AtFrames (length parts.dumps.items) (finite.len opened.dump.frames) opened.left last (BehindDumps parts 1) rest fault
+Ahead (Words parts opened number) rest fault =
+    AtUnit 4096 None IsFrame frame_words (λ words.
+    AtFrames (length parts.dumps.items) (finite.len opened.dump.frames + 1) (opened.left - 1) (Some number) (BehindDumps parts 1))
+    rest fault
+
+-- parts in their ranges
+pub record AreInRange (parts : Parts) : Type 0 where
+  pub layout : IsLayout parts.config
+  pub few_places : length parts.log.items ≤ 65536
+  pub log : All (λ call. call < 2 ^ 32) parts.log.items
+  pub few_events : length parts.events.items ≤ 131072
+  pub events : All (IsEvent parts.config) parts.events.items
+  pub few_dumps : length parts.dumps.items ≤ parts.config.replicas
+  pub dumps : All IsImage parts.dumps.items
+
+-- a dump of which some frames are left, beside the parts
+pub record IsOpened (parts : Parts) (opened : Opened) : Type 0 where
+  pub in_range : AreInRange parts
+  pub more_dumps : length parts.dumps.items < parts.config.replicas
+  pub applied : opened.dump.applied < 2 ^ 32
+  pub root : opened.dump.root < 2 ^ 64
+  pub numbers : All (λ number. number < 2 ^ 40) (finite.keys opened.dump.frames)
+  pub words : All IsFrame (finite.values opened.dump.frames)
+  pub some_left : 1 ≤ opened.left
+  pub few_frames : finite.len opened.dump.frames + opened.left ≤ 4096
+
+-- all frames that there are have lower numbers
+abbrev pub AreBelow : Opened → ℕ → Type 0
+AreBelow opened number = All (λ held. held < number) (finite.keys opened.dump.frames)
+
+-- the reader goes on as its state says
+abbrev pub IsReady : Reader → Type 0
+IsReady (Magic alloc) = ⊤
+IsReady (Version alloc) = ⊤
+IsReady (Header alloc) = ⊤
+IsReady (Log parts places events) =
+    AreInRange parts × (1 ≤ places) × (length parts.log.items + places ≤ 65536) × (events ≤ 131072) × (parts.events.items ≡ []) × (parts.dumps.items ≡ [])
+IsReady (Events parts events) = AreInRange parts × (1 ≤ events) × (length parts.events.items + events ≤ 131072) × (parts.dumps.items ≡ [])
+IsReady (Dumps parts) = AreInRange parts
+IsReady (Frame parts opened last) = IsOpened parts opened × ((number : ℕ) → IsNext last number → AreBelow opened number)
+IsReady (Words parts opened number) = IsOpened parts opened × (number < 2 ^ 40) × AreBelow opened number
+
+-- the reader has read these bytes, and a fault of the bytes ahead is one by this relation
+pub record HasRead (bytes : List ℕ) (Behind : List ℕ → Format → Type 0) (reader : Reader) : Type 0 where
+  pub ready : IsReady reader
+  pub bytes_are : said reader ≡ bytes
+  pub faults : (rest : List ℕ) (fault : Format) → Ahead reader rest fault → Behind rest fault
+
+-- the fault is one by the relation, whatever comes
+abbrev pub IsFault : (List ℕ → Format → Type 0) → Fail Format → Type 0
+IsFault Behind Memory = ⊤
+IsFault Behind (Refused fault) = (rest : List ℕ) → Behind rest fault
+
+-- a reader took a unit, or refused it
+abbrev pub Takes : Reader → List ℕ → Result Reader (Fail Format) → Type 0
+Takes reader unit result =
+    MatchResult result (HasRead (said reader ++ unit) (λ rest fault. Ahead reader (unit ++ rest) fault)) (IsFault (λ rest fault. Ahead reader (unit ++ rest) fault))

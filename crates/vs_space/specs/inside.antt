@@ -1,0 +1,6 @@
+-- Loop invariants and the insides of models: no public clause cites them.
+pub mod Descent
+pub mod Grow
+pub mod Invariant
+pub mod Prune
+pub mod Tree

@@ -1,0 +1,48 @@
+-- New tables on the path of an address, and the first page that is found from an address on. No public clause cites it.
+use Rattle.std.specs.Prelude.{◌≡◌, ℕ, ◌+◌, ◌-◌, ◌%◌, ◌<◌, ◌≤◌, Some}
+use Rattle.std.specs.FinMap as finite
+use Rattle.vs_types.specs.Depth.{levels, entry_bytes, IsCanonical}
+use Rattle.vs_types.specs.declared.depth.Depth.{Depth}
+use Rattle.vs_types.specs.declared.page.Rights.{Rights}
+use Rattle.vs_types.specs.declared.entry.Meaning.TheVariants as entry
+use Rattle.vs_walk.specs.Memory.{Memory}
+use Rattle.vs_walk.specs.Walk.{walk}
+use Rattle.vs_walk.specs.declared.walk.Walk.TheVariants.{NotMapped}
+use Rattle.vs_space.specs.Path.{found_at, table_at, SamePath}
+use Rattle.vs_space.specs.inside.Tree.{IsTree, IsReached}
+use Rattle.vs_space.specs.inside.Prune.{IsFilledBut}
+
+-- the path of the address ends at an absent entry of this table of this level; other tables than those on it have something mapped
+pub record IsOpen (depth : Depth) (memory : Memory) (root base level number : ℕ) : Type 0 where
+  pub tree : IsTree (levels depth) memory root
+  pub filled : IsFilledBut depth memory root base
+  pub all_reached : IsReached (levels depth) memory root
+  pub below : level ≤ levels depth
+  pub reached : table_at (levels depth) memory root (levels depth - level) base ≡ Some number
+  pub absent : found_at level memory number base ≡ Some entry.Absent
+
+-- a table for each level from one down to another was linked, and addresses are walked as before
+pub record IsExtended (depth : Depth) (old new : Memory) (root base from level number : ℕ) : Type 0 where
+  pub open_at : IsOpen depth new root base level number
+  pub walks : (b : ℕ) → walk depth new root b ≡ walk depth old root b
+  pub more : finite.len new ≡ finite.len old + (from - level)
+
+-- a leaf on the path of an address at which a page begins
+pub record IsLeafAt (depth : Depth) (memory : Memory) (root base : ℕ) : Type 0 where
+  pub level : ℕ
+  pub number : ℕ
+  pub phys : ℕ
+  pub own : Rights
+  pub some : 1 ≤ level
+  pub below : level ≤ levels depth
+  pub reached : table_at (levels depth) memory root (levels depth - level) base ≡ Some number
+  pub found : found_at level memory number base ≡ Some (entry.Leaf phys own)
+  pub begins : base % entry_bytes level ≡ 0
+
+-- the base of a page on the path that the start takes for k entries, with nothing mapped from the start up to it
+pub record IsLeastBase (depth : Depth) (memory : Memory) (root start k base : ℕ) : Type 0 where
+  pub canonical : IsCanonical depth base
+  pub from_start : start ≤ base
+  pub same_path : SamePath (levels depth) k start base
+  pub before : (b : ℕ) → IsCanonical depth b → start ≤ b → b < base → walk depth memory root b ≡ NotMapped
+  pub leaf : IsLeafAt depth memory root base
