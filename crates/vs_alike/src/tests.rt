@@ -1,4 +1,5 @@
-ghost use Rattle.std.specs.Prelude.{◌≡◌, ◌≤◌};
+ghost use Rattle.std.specs.Prelude.{◌≡◌};
+ghost use Rattle.std.specs.FinMap as finite;
 ghost use Rattle.vs_types.specs.declared.depth.Depth.TheVariants.{Four};
 
 use crate::cases::{BOTH_HALVES, Call, FULL, GIGABYTE, OVERLAP, PROTECT, Row, UNMAP};
@@ -6,7 +7,7 @@ use crate::{Both, Told};
 use std::alloc::Global;
 use std::process::Abort;
 use std::test::Fail;
-use vs_arena::VecArena;
+use vs_arena::{FrameStore, RawArena, VecArena};
 use vs_types::{Answer, BadOp, Depth, Op};
 
 /// Calls one after another, from no pages on.
@@ -30,7 +31,11 @@ fn operation(call: Call) -> Result<Option<Op>, BadOp> {
 }
 
 /// What both answer to a call. A resolve must be of a canonical address.
-fn answers(rt: &impl Abort, both: &mut Both<VecArena>, call: Call) -> Result<Told<Answer>, Fail>
+fn answers<S: FrameStore>(
+    rt: &impl Abort,
+    both: &mut Both<S>,
+    call: Call,
+) -> Result<Told<Answer>, Fail>
     requires { both.old.plain.depth ≡ Four }
     ensures { both.new.plain.depth ≡ Four }
 {
@@ -43,13 +48,18 @@ fn answers(rt: &impl Abort, both: &mut Both<VecArena>, call: Call) -> Result<Tol
     }
 }
 
-/// Runs a case on both kinds of address space, and holds each answer and each count against what is expected.
-fn run(rt: &impl Abort, alloc: Global, case: &Case) -> Result<(), Fail> {
-    let limit = usize::from(case.limit);
+/// Runs a case on both kinds of address space, the page table over this store, and holds each answer and each count against
+/// what is expected.
+fn run<S: FrameStore + Drop>(
+    rt: &impl Abort,
+    alloc: Global,
+    store: S,
+    case: &Case,
+) -> Result<(), Fail>
+    requires { S.frames store ≡ finite.empty }
+{
     let name = case.name;
-    assert!(rt; limit <= 4096, "{name}");
-    let arena = VecArena::new(alloc, 1 << 39, limit)?;
-    let mut both = Both::new(alloc, arena, Depth::Four)?;
+    let mut both = Both::new(alloc, store, Depth::Four)?;
     assert_eq!(rt; both.plain().pages()?.len(), 0, "{name}");
     for (place, Row(call, answer, tables)) in case.rows.iter().enumerate() {
         let told = answers(rt, &mut both, *call)?;
@@ -82,8 +92,12 @@ fn worked_examples(rt: HostRuntime) -> Result<(), Fail> {
         case("unmap frees tables", 4096, UNMAP.as_slice()),
         case("protect changes rights", 4096, PROTECT.as_slice()),
     ];
+    let alloc = rt.alloc();
     for case in &cases {
-        run(&rt, rt.alloc(), case)?;
+        let limit = usize::from(case.limit);
+        assert!(rt; limit <= 4096, "{}", case.name);
+        run(&rt, alloc, VecArena::new(alloc, 1 << 39, limit)?, case)?;
+        run(&rt, alloc, RawArena::new(alloc, 1 << 39, limit)?, case)?;
     }
     Ok(())
 }
