@@ -1,3 +1,5 @@
+ghost use Rattle.std.specs.Prelude.{◌<◌};
+
 use super::*;
 use nr_trace::{Fault, Format};
 use std::alloc::{AllocError, Global};

@@ -1,9 +1,10 @@
 use crate::fault::ProgFault;
 use crate::load::Load;
-use crate::measure::{Measured, measure};
+use crate::measure::{BASE, FRAMES, Measured, measure};
 use crate::workload::Workload;
 use std::env;
 use std::time::Duration;
+use vs_arena::{RawArena, VecArena};
 
 /// Runs the program on its words, and gives the exit status.
 pub fn run(rt: &HostRuntime) -> u8 {
@@ -16,22 +17,35 @@ pub fn run(rt: &HostRuntime) -> u8 {
     }
 }
 
-/// How often each workload is run: the program's one word, a number up to 65,535, or once where there is none.
-fn rounds(rt: &HostRuntime) -> Result<u16, ProgFault> {
+/// Where the frames of the page table lie.
+#[derive(Clone, Copy)]
+enum Store {
+    /// In a vector.
+    Vec,
+    /// In one block of memory.
+    Raw,
+}
+
+/// How often each workload is run, the first word, a number up to 65,535, or once where there is none; and over which store: one
+/// block of memory where the second word is `raw`.
+fn words(rt: &HostRuntime) -> Result<(u16, Store), ProgFault> {
     let words: Vec<String> = env::args(rt)
         .map_err(|_| ProgFault::Memory)?
         .collect(rt.alloc())?;
-    match words.as_slice() {
-        [] | [_] => Ok(1),
-        [_, rounds] => rounds.parse::<u16>().map_err(|_| ProgFault::BadRounds),
-        _ => Err(ProgFault::BadRounds),
-    }
+    let (rounds, store) = match words.as_slice() {
+        [] | [_] => return Ok((1, Store::Vec)),
+        [_, rounds] => (rounds, Store::Vec),
+        [_, rounds, store] if store.as_str() == "raw" => (rounds, Store::Raw),
+        _ => return Err(ProgFault::BadRounds),
+    };
+    let rounds = rounds.parse::<u16>().map_err(|_| ProgFault::BadRounds)?;
+    Ok((rounds, store))
 }
 
 /// Runs each workload on a page table of its own, and prints its sum and its times.
 fn try_run(rt: &HostRuntime) -> Result<u8, ProgFault> {
     let alloc = rt.alloc();
-    let rounds = rounds(rt)?;
+    let (rounds, store) = words(rt)?;
     eprintln!(rt;
         "operations a second  {:>12} {:>12} {:>12} {:>12}",
         "map", "resolve", "protect", "unmap"
@@ -39,7 +53,10 @@ fn try_run(rt: &HostRuntime) -> Result<u8, ProgFault> {
     .map_err(|_| ProgFault::CannotWrite)?;
     for workload in Workload::ALL {
         let load = Load::new(alloc, workload)?;
-        let measured = measure(rt, alloc, &load, rounds)?;
+        let measured = match store {
+            Store::Vec => measure(rt, VecArena::new(alloc, BASE, FRAMES)?, &load, rounds)?,
+            Store::Raw => measure(rt, RawArena::new(alloc, BASE, FRAMES)?, &load, rounds)?,
+        };
         print(rt, workload, rounds, &measured)?;
     }
     Ok(0)

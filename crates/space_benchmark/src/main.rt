@@ -1,4 +1,4 @@
-//! The program: it times `Space` over a `VecArena` of 4,096 frames on four workloads, and prints a sum of all answers.
+//! The program: it times `Space` over a store of 4,096 frames on four workloads, and prints a sum of all answers.
 //!
 //! The sums go to standard output and say whether the work was right; operations a second go to standard error.
 #![tactic(auto)]

@@ -1,4 +1,5 @@
 ghost use Rattle.std.specs.Prelude.{◌≡◌, All, IfOk, OnOk};
+ghost use Rattle.std.specs.FinMap as finite;
 ghost use Rattle.vs_types.specs.Depth.{IsCanonical};
 ghost use Rattle.vs_types.specs.Space as spaces;
 ghost use Rattle.vs_types.specs.declared.depth.Depth.TheVariants.{Four};
@@ -8,9 +9,8 @@ ghost use Rattle.space_benchmark.specs.Work.{Applies, IsRound, sum_of_looks, aft
 use crate::fault::ProgFault;
 use crate::load::Load;
 use crate::sum::Sum;
-use std::alloc::Global;
 use std::time::{Clock, Duration, Instant};
-use vs_arena::{FrameStore, VecArena};
+use vs_arena::FrameStore;
 use vs_space::Space;
 use vs_types::{Depth, Op};
 
@@ -18,7 +18,7 @@ use vs_types::{Depth, Op};
 pub const FRAMES: usize = 4096;
 
 /// The number of its first frame: all pages lie below the tables.
-const BASE: u64 = 1 << 39;
+pub const BASE: u64 = 1 << 39;
 
 /// The time that each kind of call took.
 #[derive(Clone, Copy, Debug)]
@@ -54,10 +54,10 @@ impl Measured {
 
     /// One round: maps all pages, resolves an address in each, protects all and unmaps all. The sum takes in each answer, and
     /// the number of tables while the pages are there and when they are gone.
-    pub fn round(
+    pub fn round<S: FrameStore>(
         &mut self,
         clock: &impl Clock,
-        space: &mut Space<VecArena>,
+        space: &mut Space<S>,
         load: &Load,
     ) -> Result<(), ProgFault>
         requires { space.old.depth ≡ Four }
@@ -89,17 +89,18 @@ impl Measured {
     }
 }
 
-/// Rounds of a workload, on a page table of its own.
-pub fn measure(
+/// Rounds of a workload, on a page table of its own over this store.
+pub fn measure<S: FrameStore + Drop>(
     clock: &impl Clock,
-    alloc: Global,
+    store: S,
     load: &Load,
     rounds: u16,
 ) -> Result<Measured, ProgFault>
+    requires empty { S.frames store ≡ finite.empty }
+    requires size { S.size store ≡ FRAMES }
     ensures { IfOk result (λ measured. measured.sum.value ≡ (after_rounds Four FRAMES load.now rounds start).sum) }
 {
-    let arena = VecArena::new(alloc, BASE, FRAMES)?;
-    let Ok(mut space) = Space::new(arena, Depth::Four) else {
+    let Ok(mut space) = Space::new(store, Depth::Four) else {
         unreachable!();
     };
     let mut measured = Measured::new();
@@ -115,7 +116,7 @@ fn now(clock: &impl Clock) -> Result<Instant, ProgFault> {
 }
 
 /// Does the operations one after another.
-fn apply_all(space: &mut Space<VecArena>, ops: &[Op], sum: &mut Sum)
+fn apply_all<S: FrameStore>(space: &mut Space<S>, ops: &[Op], sum: &mut Sum)
     ensures { Applies space.old ops.now sum.old.value space.new sum.new.value }
 {
     for op in ops {
@@ -124,7 +125,7 @@ fn apply_all(space: &mut Space<VecArena>, ops: &[Op], sum: &mut Sum)
 }
 
 /// Resolves the addresses.
-fn resolve_all(space: &Space<VecArena>, addresses: &[u64], sum: &mut Sum)
+fn resolve_all<S: FrameStore>(space: &Space<S>, addresses: &[u64], sum: &mut Sum)
     requires { All (IsCanonical space.now.depth) addresses.now }
     ensures { (s : spaces.Space) → IsTableOf space.now s → sum.new.value ≡ sum_of_looks s sum.old.value addresses.now }
 {

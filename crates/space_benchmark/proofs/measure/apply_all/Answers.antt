@@ -6,7 +6,7 @@ use Rattle.space_benchmark.proofs.Sums.{applies_more}
 use Rattle.space_benchmark.proofs.measure.apply_all.Goals as goal
 
 pub loop-op-preserved : goal.loop-op-preserved
-loop-op-preserved c =
+loop-op-preserved g c =
     let old = c.args.space.now in
     let ops : List Action = c.args.ops.now in
     let done : List Action = take c.loop-op.op-index ops in

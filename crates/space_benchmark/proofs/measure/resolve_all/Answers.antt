@@ -6,7 +6,7 @@ use Rattle.space_benchmark.proofs.Sums.{sum_of_looks-append}
 use Rattle.space_benchmark.proofs.measure.resolve_all.Goals as goal
 
 pub loop-address-preserved : goal.loop-address-preserved
-loop-address-preserved c = λ space is_table.
+loop-address-preserved g c = λ space is_table.
     let address = get_or c.args.addresses.now c.loop-address.address-index 0 in
     let before = sum_of_looks space c.args.sum.now.value (take c.loop-address.address-index c.args.addresses.now) in
     c.add_answer.ensures
