@@ -5,7 +5,7 @@ use Rattle.std.proofs.Common.{nat_lt, nat_le, ◌||◌, ◌&&◌, ◌∙◌, add
 use Rattle.std.proofs.lemmas.Nat.{pow-add, mod-mul-add}
 use Rattle.vs_types.specs.Depth.{levels, half_bytes, IsCanonical}
 use Rattle.vs_types.specs.declared.depth.Depth.{Depth}
-use Rattle.vs_types.specs.declared.depth.Depth.TheVariants.{Four}
+use Rattle.vs_types.specs.declared.depth.Depth.TheVariants.{Four, Five}
 use Rattle.vs_types.specs.declared.page.Page.{Page}
 use Rattle.vs_types.specs.declared.page.Size.{Size}
 use Rattle.vs_types.specs.declared.page.Size.TheVariants.{K4, M2, G1}
@@ -47,6 +47,7 @@ same_page p q base size phys rights = λ i. record { base = base i; size = size 
 -- no depth has fewer levels than there are sizes
 pub three_levels : (depth : Depth) → 3 ≤ levels depth
 three_levels Four = omega arith
+three_levels Five = omega arith
 
 -- a power of two divides each greater one
 pub pow_multiple : (e k : ℕ) → k ≤ e → 2 ^ e % 2 ^ k ≡ 0
