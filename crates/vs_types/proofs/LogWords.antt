@@ -1,7 +1,6 @@
 -- The fields of an operation are found again in the words of its entry.
-use Rattle.std.proofs.Common.{◌≡◌, ℕ, ◌+◌, ◌-◌, ◌*◌, ◌/◌, ◌%◌, ◌^◌, ◌<◌, ◌≤◌, Bool, true, false, List, get_or, refl, ap, sym, ◌∙◌, ⊎_elim, arith}
+use Rattle.std.proofs.Common.{◌≡◌, ℕ, ◌+◌, ◌-◌, ◌*◌, ◌/◌, ◌%◌, ◌^◌, ◌<◌, ◌≤◌, Bool, true, false, List, get_or, refl, ap, sym, ◌∙◌, arith}
 use Rattle.vs_types.specs.Codes.{size_code, rights_code}
-use Rattle.vs_types.specs.Depth.{half_bytes, IsCanonical}
 use Rattle.vs_types.specs.Operation.{IsAction, IsSomeAction}
 use Rattle.vs_types.specs.Fields.{request_fields, HasFields}
 use Rattle.vs_types.specs.LogEntry.{SpellsEntry}
@@ -10,13 +9,12 @@ use Rattle.vs_types.specs.declared.request.Query.TheVariants.{Update, Resolve, A
 use Rattle.vs_types.specs.declared.request.Query.{Query}
 use Rattle.vs_types.specs.declared.limits.TheConstants.{CALLS}
 use Rattle.vs_types.specs.declared.depth.Depth.{Depth}
-use Rattle.vs_types.specs.declared.depth.Depth.TheVariants.{Four, Five}
 use Rattle.vs_types.specs.declared.page.Rights.{Rights}
 use Rattle.vs_types.specs.declared.page.Size.{Size}
 use Rattle.vs_types.specs.declared.page.Size.TheVariants.{K4, M2, G1}
 use Rattle.vs_types.specs.declared.op.Action.{Action}
 use Rattle.vs_types.specs.declared.op.Action.TheVariants.{Map, Unmap, Protect}
-use Rattle.vs_types.proofs.Pages.{canonical_means}
+use Rattle.vs_types.proofs.Pages.{canonical_fits}
 use Rattle.vs_types.specs.declared.log_entry.LogEntry.{LogEntry}
 
 pub size_code_low : (size : Size) → size_code size < 3
@@ -57,25 +55,19 @@ page_below K4 n e = omega arith
 page_below M2 n e = omega arith
 page_below G1 n e = omega arith
 
-canonical_low : (depth : Depth) (address : ℕ) → IsCanonical depth address → address < 2 ^ 64
-canonical_low depth address is = ⊎_elim (λ low. low_half depth address low) (λ high. high.1) ((canonical_means depth address).0 is) where
-  low_half : (d : Depth) (n : ℕ) → n < half_bytes d → n < 2 ^ 64
-  low_half Four n low = omega arith
-  low_half Five n low = omega arith
-
 in_range : (depth : Depth) (action : Action) → IsAction depth action → InRange (request_fields (Update action))
 in_range depth (Map page) is = record {
   kind = omega arith;
   size = size_code_low page.size;
   rights = rights_code_low page.rights;
   address = page_part page.size page.base is.aligned;
-  address_range = canonical_low depth page.base is.canonical;
+  address_range = canonical_fits depth page.base is.canonical;
   physical = page_part page.size page.phys is.phys_aligned;
   physical_range = page_below page.size page.phys is.phys_range;
 }
-in_range depth (Unmap base) is = record { kind = omega arith; size = omega arith; rights = omega arith; address = is.aligned; address_range = canonical_low depth base is.canonical; physical = refl; physical_range = omega arith }
+in_range depth (Unmap base) is = record { kind = omega arith; size = omega arith; rights = omega arith; address = is.aligned; address_range = canonical_fits depth base is.canonical; physical = refl; physical_range = omega arith }
 in_range depth (Protect base rights) is =
-    record { kind = omega arith; size = omega arith; rights = rights_code_low rights; address = is.aligned; address_range = canonical_low depth base is.canonical; physical = refl; physical_range = omega arith }
+    record { kind = omega arith; size = omega arith; rights = rights_code_low rights; address = is.aligned; address_range = canonical_fits depth base is.canonical; physical = refl; physical_range = omega arith }
 
 -- what two words have at the places of the fields
 abbrev pub fields_at : ℕ → ℕ → RequestFields

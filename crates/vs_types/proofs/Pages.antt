@@ -93,6 +93,13 @@ canonical_test half all a = (λ h. grind (arith, nat_tests), λ h. grind (arith,
 pub canonical_means : (depth : Depth) (a : ℕ) → IsCanonical depth a ↔ ((a < half_bytes depth) ⊎ ((2 ^ 64 - half_bytes depth ≤ a) × (a < 2 ^ 64)))
 canonical_means depth a = canonical_test (half_bytes depth) (2 ^ 64) a
 
+-- a canonical address has 64 bits
+pub canonical_fits : (depth : Depth) (a : ℕ) → IsCanonical depth a → a < 2 ^ 64
+canonical_fits depth a is = ⊎_elim (λ low. lt_of_lt_of_le low (half_fits depth)) (λ high. high.1) ((canonical_means depth a).0 is) where
+  half_fits : (d : Depth) → half_bytes d ≤ 2 ^ 64
+  half_fits Four = omega arith
+  half_fits Five = omega arith
+
 pub covered_canonical : (limit : ℕ) (depth : Depth) (page : Page) (a : ℕ) → IsPageBelow limit depth page → IsTrue (covers page a) → IsCanonical depth a
 covered_canonical limit depth page a is covered =
     let at = (covers_means page a).0 covered in
