@@ -58,7 +58,8 @@ added_just s t k updates q = (to, from) where
       (Contains-cases k s.keys q h)
 
 -- what a binary search finds in a rising list is in it, and what it does not find is not
-pub searched_iff : (ks : List ℕ) (k : ℕ) (r : Result ℕ ℕ) → IsBinarySearchResult (λ y. nat_cmp y k) ks r → IsStrictlySortedBy nat_cmp ks → IsTrue (is_ok r) ↔ Contains ks k
+pub searched_iff : (ks : List ℕ) (k : ℕ) (r : Result ℕ ℕ) → IsBinarySearchResult (λ y. nat_cmp y k) ks r → IsStrictlySortedBy nat_cmp ks
+    → IsTrue (is_ok r) ↔ Contains ks k
 searched_iff ks k (Ok i) at rising =
     let is = searched ks k (Ok i) at (λ i j. non_decreasing_from_sorted ks rising i j 0) in
     (λ h. (i, is.0, get_or_default ks i k 0 is.0 ∙ is.1), λ h. refl)

@@ -1,5 +1,5 @@
-use Rattle.vs_walk.proofs.WaysLaws.{missing_absent, shared_held, shared_reached, reserved_reached}
-use Rattle.vs_walk.proofs.ways.faults_are_met.Goals as goal
+use Rattle.vs_walk.proofs.LawsOfTraversals.{missing_absent, shared_held, shared_reached, reserved_reached}
+use Rattle.vs_walk.proofs.laws.faults_are_met.Goals as goal
 
 pub returns : goal.returns
 returns c = record {

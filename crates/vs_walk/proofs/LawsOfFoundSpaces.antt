@@ -18,7 +18,7 @@ use Rattle.vs_types.proofs.Spaces.{same_key}
 use Rattle.vs_walk.specs.Memory.{Memory, AreWhole}
 use Rattle.vs_walk.specs.Walk.{TranslatesAs}
 use Rattle.vs_walk.specs.Traversal.{traversal, found, walk_fault}
-use Rattle.vs_walk.proofs.WaysSpaces.{ArePages, rises_first, rises_rest, found_are_pages, found_translates}
+use Rattle.vs_walk.proofs.LawsOfSpaces.{ArePages, rises_first, rises_rest, found_are_pages, found_translates}
 
 -- the pages, each under its base
 abbrev under_bases : List Page → List (ℕ × Page)
@@ -55,7 +55,8 @@ pages_of ps rise = ap (map (λ e. e.1)) (finite.entries-from_sorted nat_cmp (und
 found_under : (base : ℕ) (ps : List Page) (page : Page) → entries.find nat_cmp base (under_bases ps) ≡ Some page → (page.base ≡ base) × Contains ps page
 found_under base [] page e = cc
 found_under base (p ∷ ps) page e =
-    elim (eq_by_cmp nat_cmp base p.base) as (λ b. eq_by_cmp nat_cmp base p.base ≡ b → cond b (Some p) (entries.find nat_cmp base (under_bases ps)) ≡ Some page → (page.base ≡ base) × Contains (p ∷ ps) page) [
+    elim (eq_by_cmp nat_cmp base p.base) as (λ b. eq_by_cmp nat_cmp base p.base ≡ b → cond b (Some p) (entries.find nat_cmp base (under_bases ps)) ≡ Some page
+    → (page.base ≡ base) × Contains (p ∷ ps) page) [
       | true ↦ λ t is.
           let same : p ≡ page = cc in
           let key : base ≡ p.base = eqb-true base p.base (sym (same_key base p.base) ∙ t) in
@@ -63,7 +64,8 @@ found_under base (p ∷ ps) page e =
       | false ↦ λ t is. let later = found_under base ps page is in (later.0, Contains-tail p ps page later.1)
     ] refl e
 
-held_under : (ps : List Page) (base : ℕ) (page : Page) → AllPairs (λ p q. p.base < q.base) ps → finite.get (space_of ps) base ≡ Some page → (page.base ≡ base) × Contains ps page
+held_under : (ps : List Page) (base : ℕ) (page : Page) → AllPairs (λ p q. p.base < q.base) ps → finite.get (space_of ps) base ≡ Some page
+    → (page.base ≡ base) × Contains ps page
 unfolding space_of
 held_under ps base page rise held = found_under base ps page (sym (finite.get-from_sorted nat_cmp (under_bases ps) base (bases_sorted ps rise)) ∙ held)
 
@@ -76,8 +78,15 @@ are_space depth ps are formed = record {
 }
 
 -- without a fault, a memory translates as the space of the found pages, if they all lie where pages may
-pub found_space : (depth : Depth) (memory : Memory) (root : ℕ) → AreWhole memory → walk_fault depth memory root ≡ None → All (IsPage depth) (found (traversal depth memory root)) → (space : Space) × IsSpace depth space × (pages space ≡ found (traversal depth memory root)) × TranslatesAs depth memory root space
+pub found_space : (depth : Depth) (memory : Memory) (root : ℕ) → AreWhole memory → walk_fault depth memory root ≡ None
+    → All (IsPage depth) (found (traversal depth memory root))
+    → (space : Space) × IsSpace depth space × (pages space ≡ found (traversal depth memory root)) × TranslatesAs depth memory root space
 found_space depth memory root whole none formed =
     let are = found_are_pages depth memory root whole in
-    let same = pages_of (found (traversal depth memory root)) are.rise in
-    (space_of (found (traversal depth memory root)), are_space depth (found (traversal depth memory root)) are formed, same, found_translates depth memory root (space_of (found (traversal depth memory root))) whole none (sym same))
+    let same = pages_of (found (traversal depth memory root)) are.rise in (
+      space_of (found (traversal depth memory root)),
+      are_space depth (found (traversal depth memory root)) are formed,
+      same,
+      found_translates depth memory root
+          (space_of (found (traversal depth memory root))) whole none (sym same),
+    )

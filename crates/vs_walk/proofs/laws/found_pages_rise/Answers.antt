@@ -1,6 +1,6 @@
 use Rattle.vs_walk.specs.Traversal.{traversal, found}
-use Rattle.vs_walk.proofs.WaysRise.{pages_formed, pages_rise, bases_rise, rising_apart}
-use Rattle.vs_walk.proofs.ways.found_pages_rise.Goals as goal
+use Rattle.vs_walk.proofs.LawsOfRising.{pages_formed, pages_rise, bases_rise, rising_apart}
+use Rattle.vs_walk.proofs.laws.found_pages_rise.Goals as goal
 
 pub returns : goal.returns
 returns c = record {

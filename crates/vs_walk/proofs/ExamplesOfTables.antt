@@ -1,4 +1,4 @@
--- The worked examples' tables: their frames, the walks through them and the ways.
+-- The worked examples' tables: their frames, the walks through them and the traversals.
 use Rattle.std.proofs.Common.{◌≡◌, ℕ, ◌+◌, ◌%◌, List, [], ◌∷◌, Some, None, refl, ap, ◌∙◌, arith}
 use Rattle.std.specs.FinMap as finite
 use Rattle.std.specs.Cmp.{nat_cmp_total}
@@ -15,7 +15,7 @@ use Rattle.vs_walk.specs.Examples.{one_word, no_words, page_tables, three_tables
 use Rattle.vs_walk.specs.declared.walk.Walk.TheVariants.{NotMapped, Reserved, Missing, Mapped}
 use Rattle.vs_walk.specs.declared.walk.WalkFault.TheVariants as faults
 use Rattle.vs_walk.proofs.Walks.{walk_missing}
-use Rattle.vs_walk.proofs.OneWord.{at_word, beside_word, visits_of_word, visits_of_nothing, visits_of_missing, fine, shared, missing}
+use Rattle.vs_walk.proofs.ExamplesOfOneWord.{at_word, beside_word, visits_of_word, visits_of_nothing, visits_of_missing, fine, shared, missing}
 
 -- ---- a page of 4 KiB
 
@@ -31,7 +31,9 @@ page_frame_3 d l = finite.get-from_entries nat_cmp_total ((1, one_word 0 0x2007)
 page_frame_4 : (d l : ℕ) → finite.get (page_tables d l) 4 ≡ Some (one_word 0 l)
 page_frame_4 d l = finite.get-from_entries nat_cmp_total ((1, one_word 0 0x2007) ∷ (2, one_word 0 0x3007) ∷ (3, one_word 2 d) ∷ (4, one_word 0 l) ∷ []) 4
 
-pub page_walk : (d l address phys : ℕ) (above own : Rights) → index_at 4 address ≡ 0 → index_at 3 address ≡ 0 → index_at 2 address ≡ 2 → index_at 1 address ≡ 0 → meaning 2 d ≡ entry.Table 4 above → meaning 1 l ≡ entry.Leaf phys own → walk Four (page_tables d l) 1 address ≡ Mapped (phys + address % 4096) K4 (intersection (intersection all_rights above) own)
+pub page_walk : (d l address phys : ℕ) (above own : Rights) → index_at 4 address ≡ 0 → index_at 3 address ≡ 0 → index_at 2 address ≡ 2 → index_at 1 address ≡ 0
+    → meaning 2 d ≡ entry.Table 4 above → meaning 1 l ≡ entry.Leaf phys own
+    → walk Four (page_tables d l) 1 address ≡ Mapped (phys + address % 4096) K4 (intersection (intersection all_rights above) own)
 page_walk d l address phys above own at_4 at_3 at_2 at_1 leads maps =
     at_word (page_tables d l) 3 1 all_rights address 0 0x2007 (entry.Table 2 all_rights) (page_frame_1 d l) (omega arith) at_4 refl
     ∙ at_word (page_tables d l) 2 2 all_rights address 0 0x3007 (entry.Table 3 all_rights) (page_frame_2 d l) (omega arith) at_3 refl
@@ -46,25 +48,33 @@ page_walk_beside =
     ∙ at_word m 1 3 all_rights 0x401000 2 0x4007 (entry.Table 4 all_rights) (page_frame_3 0x4007 0x1007) (omega arith) refl refl
     ∙ beside_word m 0 4 all_rights 0x401000 0 0x1007 (page_frame_4 0x4007 0x1007) (omega arith)
 
-abbrev pub page_way : List Visit
-page_way = OfFrame 1 ∷ OfFrame 2 ∷ OfFrame 3 ∷ OfFrame 4 ∷ OfLeaf (record { base = 0x400000; size = K4; phys = 0x1000; rights = all_rights }) ∷ []
+abbrev pub visits_of_page : List Visit
+visits_of_page = OfFrame 1 ∷ OfFrame 2 ∷ OfFrame 3 ∷ OfFrame 4 ∷ OfLeaf (record { base = 0x400000; size = K4; phys = 0x1000; rights = all_rights }) ∷ []
 
-pub page_visits : traversal Four (page_tables 0x4007 0x1007) 1 ≡ page_way
+pub page_visits : traversal Four (page_tables 0x4007 0x1007) 1 ≡ visits_of_page
 page_visits =
     let m = page_tables 0x4007 0x1007 in
-    visits_of_word Four m 3 0 0x2007 (record { number = 1; start = 0; rights = all_rights }) (entry.Table 2 all_rights) (page_frame_1 0x4007 0x1007) (omega arith) refl
-    ∙ ap (λ ms. OfFrame 1 ∷ ms) (visits_of_word Four m 2 0 0x3007 (record { number = 2; start = 0; rights = all_rights }) (entry.Table 3 all_rights) (page_frame_2 0x4007 0x1007) (omega arith) refl
-    ∙ ap (λ ms. OfFrame 2 ∷ ms) (visits_of_word Four m 1 2 0x4007 (record { number = 3; start = 0; rights = all_rights }) (entry.Table 4 all_rights) (page_frame_3 0x4007 0x1007) (omega arith) refl
-    ∙ ap (λ ms. OfFrame 3 ∷ ms) (visits_of_word Four m 0 0 0x1007 (record { number = 4; start = 0x400000; rights = all_rights }) (entry.Leaf 0x1000 all_rights) (page_frame_4 0x4007 0x1007) (omega arith) refl)))
+    visits_of_word Four m 3 0 0x2007 (record { number = 1; start = 0; rights = all_rights }) (entry.Table 2 all_rights) (page_frame_1 0x4007 0x1007)
+    (omega arith) refl
+    ∙ ap (λ ms. OfFrame 1 ∷ ms) (visits_of_word Four m 2 0 0x3007 (record { number = 2; start = 0; rights = all_rights }) (entry.Table 3 all_rights)
+    (page_frame_2 0x4007 0x1007) (omega arith) refl
+    ∙ ap (λ ms. OfFrame 2 ∷ ms) (visits_of_word Four m 1 2 0x4007 (record { number = 3; start = 0; rights = all_rights }) (entry.Table 4 all_rights)
+    (page_frame_3 0x4007 0x1007) (omega arith) refl
+    ∙ ap (λ ms. OfFrame 3 ∷ ms) (visits_of_word Four m 0 0 0x1007 (record { number = 4; start = 0x400000; rights = all_rights }) (entry.Leaf 0x1000 all_rights)
+    (page_frame_4 0x4007 0x1007) (omega arith) refl)))
 
 pub page_faultless : walk_fault Four (page_tables 0x4007 0x1007) 1 ≡ None
 page_faultless =
     let m = page_tables 0x4007 0x1007 in
     ap (first_fault_after m []) page_visits
-    ∙ fine m [] (OfFrame 2 ∷ OfFrame 3 ∷ OfFrame 4 ∷ OfLeaf (record { base = 0x400000; size = K4; phys = 0x1000; rights = all_rights }) ∷ []) 1 _ (page_frame_1 0x4007 0x1007) refl
-    ∙ fine m (OfFrame 1 ∷ []) (OfFrame 3 ∷ OfFrame 4 ∷ OfLeaf (record { base = 0x400000; size = K4; phys = 0x1000; rights = all_rights }) ∷ []) 2 _ (page_frame_2 0x4007 0x1007) refl
-    ∙ fine m (OfFrame 1 ∷ OfFrame 2 ∷ []) (OfFrame 4 ∷ OfLeaf (record { base = 0x400000; size = K4; phys = 0x1000; rights = all_rights }) ∷ []) 3 _ (page_frame_3 0x4007 0x1007) refl
-    ∙ fine m (OfFrame 1 ∷ OfFrame 2 ∷ OfFrame 3 ∷ []) (OfLeaf (record { base = 0x400000; size = K4; phys = 0x1000; rights = all_rights }) ∷ []) 4 _ (page_frame_4 0x4007 0x1007) refl
+    ∙ fine m [] (OfFrame 2 ∷ OfFrame 3 ∷ OfFrame 4 ∷ OfLeaf (record { base = 0x400000; size = K4; phys = 0x1000; rights = all_rights }) ∷ []) 1 _
+    (page_frame_1 0x4007 0x1007) refl
+    ∙ fine m (OfFrame 1 ∷ []) (OfFrame 3 ∷ OfFrame 4 ∷ OfLeaf (record { base = 0x400000; size = K4; phys = 0x1000; rights = all_rights }) ∷ []) 2 _
+    (page_frame_2 0x4007 0x1007) refl
+    ∙ fine m (OfFrame 1 ∷ OfFrame 2 ∷ []) (OfFrame 4 ∷ OfLeaf (record { base = 0x400000; size = K4; phys = 0x1000; rights = all_rights }) ∷ []) 3 _
+    (page_frame_3 0x4007 0x1007) refl
+    ∙ fine m (OfFrame 1 ∷ OfFrame 2 ∷ OfFrame 3 ∷ []) (OfLeaf (record { base = 0x400000; size = K4; phys = 0x1000; rights = all_rights }) ∷ []) 4 _
+    (page_frame_4 0x4007 0x1007) refl
 
 -- ---- three tables
 
@@ -94,9 +104,12 @@ other_page_walk =
 reserved_visits : traversal Four (three_tables 0x202087) 1 ≡ OfFrame 1 ∷ OfFrame 2 ∷ OfFrame 3 ∷ OfReservedBit 3 1 ∷ []
 reserved_visits =
     let m = three_tables 0x202087 in
-    visits_of_word Four m 3 0 0x2007 (record { number = 1; start = 0; rights = all_rights }) (entry.Table 2 all_rights) (three_frame_1 0x202087) (omega arith) refl
-    ∙ ap (λ ms. OfFrame 1 ∷ ms) (visits_of_word Four m 2 0 0x3007 (record { number = 2; start = 0; rights = all_rights }) (entry.Table 3 all_rights) (three_frame_2 0x202087) (omega arith) refl
-    ∙ ap (λ ms. OfFrame 2 ∷ ms) (visits_of_word Four m 1 1 0x202087 (record { number = 3; start = 0; rights = all_rights }) entry.Reserved (three_frame_3 0x202087) (omega arith) refl))
+    visits_of_word Four m 3 0 0x2007 (record { number = 1; start = 0; rights = all_rights }) (entry.Table 2 all_rights) (three_frame_1 0x202087)
+    (omega arith) refl
+    ∙ ap (λ ms. OfFrame 1 ∷ ms) (visits_of_word Four m 2 0 0x3007 (record { number = 2; start = 0; rights = all_rights }) (entry.Table 3 all_rights)
+    (three_frame_2 0x202087) (omega arith) refl
+    ∙ ap (λ ms. OfFrame 2 ∷ ms) (visits_of_word Four m 1 1 0x202087 (record { number = 3; start = 0; rights = all_rights }) entry.Reserved
+    (three_frame_3 0x202087) (omega arith) refl))
 
 pub reserved_bit : walk_fault Four (three_tables 0x202087) 1 ≡ Some (faults.Reserved 3 1)
 reserved_bit =
@@ -106,20 +119,27 @@ reserved_bit =
     ∙ fine m (OfFrame 1 ∷ []) (OfFrame 3 ∷ OfReservedBit 3 1 ∷ []) 2 _ (three_frame_2 0x202087) refl
     ∙ fine m (OfFrame 1 ∷ OfFrame 2 ∷ []) (OfReservedBit 3 1 ∷ []) 3 _ (three_frame_3 0x202087) refl
 
-other_page_visits : traversal Four (three_tables 0x201087) 1 ≡ OfFrame 1 ∷ OfFrame 2 ∷ OfFrame 3 ∷ OfLeaf (record { base = 0x200000; size = M2; phys = 0x200000; rights = all_rights }) ∷ []
+other_page_visits : traversal Four (three_tables 0x201087) 1 ≡ OfFrame 1 ∷ OfFrame 2 ∷ OfFrame 3 ∷ OfLeaf
+    (record { base = 0x200000; size = M2; phys = 0x200000; rights = all_rights }) ∷ []
 other_page_visits =
     let m = three_tables 0x201087 in
-    visits_of_word Four m 3 0 0x2007 (record { number = 1; start = 0; rights = all_rights }) (entry.Table 2 all_rights) (three_frame_1 0x201087) (omega arith) refl
-    ∙ ap (λ ms. OfFrame 1 ∷ ms) (visits_of_word Four m 2 0 0x3007 (record { number = 2; start = 0; rights = all_rights }) (entry.Table 3 all_rights) (three_frame_2 0x201087) (omega arith) refl
-    ∙ ap (λ ms. OfFrame 2 ∷ ms) (visits_of_word Four m 1 1 0x201087 (record { number = 3; start = 0; rights = all_rights }) (entry.Leaf 0x200000 all_rights) (three_frame_3 0x201087) (omega arith) refl))
+    visits_of_word Four m 3 0 0x2007 (record { number = 1; start = 0; rights = all_rights }) (entry.Table 2 all_rights) (three_frame_1 0x201087)
+    (omega arith) refl
+    ∙ ap (λ ms. OfFrame 1 ∷ ms) (visits_of_word Four m 2 0 0x3007 (record { number = 2; start = 0; rights = all_rights }) (entry.Table 3 all_rights)
+    (three_frame_2 0x201087) (omega arith) refl
+    ∙ ap (λ ms. OfFrame 2 ∷ ms) (visits_of_word Four m 1 1 0x201087 (record { number = 3; start = 0; rights = all_rights }) (entry.Leaf 0x200000 all_rights)
+    (three_frame_3 0x201087) (omega arith) refl))
 
 pub other_page : walk_fault Four (three_tables 0x201087) 1 ≡ None
 other_page =
     let m = three_tables 0x201087 in
     ap (first_fault_after m []) other_page_visits
-    ∙ fine m [] (OfFrame 2 ∷ OfFrame 3 ∷ OfLeaf (record { base = 0x200000; size = M2; phys = 0x200000; rights = all_rights }) ∷ []) 1 _ (three_frame_1 0x201087) refl
-    ∙ fine m (OfFrame 1 ∷ []) (OfFrame 3 ∷ OfLeaf (record { base = 0x200000; size = M2; phys = 0x200000; rights = all_rights }) ∷ []) 2 _ (three_frame_2 0x201087) refl
-    ∙ fine m (OfFrame 1 ∷ OfFrame 2 ∷ []) (OfLeaf (record { base = 0x200000; size = M2; phys = 0x200000; rights = all_rights }) ∷ []) 3 _ (three_frame_3 0x201087) refl
+    ∙ fine m [] (OfFrame 2 ∷ OfFrame 3 ∷ OfLeaf (record { base = 0x200000; size = M2; phys = 0x200000; rights = all_rights }) ∷ []) 1 _
+    (three_frame_1 0x201087) refl
+    ∙ fine m (OfFrame 1 ∷ []) (OfFrame 3 ∷ OfLeaf (record { base = 0x200000; size = M2; phys = 0x200000; rights = all_rights }) ∷ []) 2 _
+    (three_frame_2 0x201087) refl
+    ∙ fine m (OfFrame 1 ∷ OfFrame 2 ∷ []) (OfLeaf (record { base = 0x200000; size = M2; phys = 0x200000; rights = all_rights }) ∷ []) 3 _
+    (three_frame_3 0x201087) refl
 
 -- ---- one table
 
@@ -129,20 +149,26 @@ only_frame w = finite.get-from_entries nat_cmp_total ((1, one_word 0 w) ∷ []) 
 no_frame_2 : (w : ℕ) → finite.get (one_table w) 2 ≡ None
 no_frame_2 w = finite.get-from_entries nat_cmp_total ((1, one_word 0 w) ∷ []) 2
 
-shared_visits : traversal Four (one_table 0x1007) 1 ≡ OfFrame 1 ∷ OfFrame 1 ∷ OfFrame 1 ∷ OfFrame 1 ∷ OfLeaf (record { base = 0; size = K4; phys = 0x1000; rights = all_rights }) ∷ []
+shared_visits : traversal Four (one_table 0x1007) 1 ≡ OfFrame 1 ∷ OfFrame 1 ∷ OfFrame 1 ∷ OfFrame 1 ∷ OfLeaf
+    (record { base = 0; size = K4; phys = 0x1000; rights = all_rights }) ∷ []
 shared_visits =
     let m = one_table 0x1007 in
     visits_of_word Four m 3 0 0x1007 (record { number = 1; start = 0; rights = all_rights }) (entry.Table 1 all_rights) (only_frame 0x1007) (omega arith) refl
-    ∙ ap (λ ms. OfFrame 1 ∷ ms) (visits_of_word Four m 2 0 0x1007 (record { number = 1; start = 0; rights = all_rights }) (entry.Table 1 all_rights) (only_frame 0x1007) (omega arith) refl
-    ∙ ap (λ ms. OfFrame 1 ∷ ms) (visits_of_word Four m 1 0 0x1007 (record { number = 1; start = 0; rights = all_rights }) (entry.Table 1 all_rights) (only_frame 0x1007) (omega arith) refl
-    ∙ ap (λ ms. OfFrame 1 ∷ ms) (visits_of_word Four m 0 0 0x1007 (record { number = 1; start = 0; rights = all_rights }) (entry.Leaf 0x1000 all_rights) (only_frame 0x1007) (omega arith) refl)))
+    ∙ ap (λ ms. OfFrame 1 ∷ ms) (visits_of_word Four m 2 0 0x1007 (record { number = 1; start = 0; rights = all_rights }) (entry.Table 1 all_rights)
+    (only_frame 0x1007) (omega arith) refl
+    ∙ ap (λ ms. OfFrame 1 ∷ ms) (visits_of_word Four m 1 0 0x1007 (record { number = 1; start = 0; rights = all_rights }) (entry.Table 1 all_rights)
+    (only_frame 0x1007) (omega arith) refl
+    ∙ ap (λ ms. OfFrame 1 ∷ ms) (visits_of_word Four m 0 0 0x1007 (record { number = 1; start = 0; rights = all_rights }) (entry.Leaf 0x1000 all_rights)
+    (only_frame 0x1007) (omega arith) refl)))
 
 pub shared_frame : walk_fault Four (one_table 0x1007) 1 ≡ Some (faults.Shared 1)
 shared_frame =
     let m = one_table 0x1007 in
     ap (first_fault_after m []) shared_visits
-    ∙ fine m [] (OfFrame 1 ∷ OfFrame 1 ∷ OfFrame 1 ∷ OfLeaf (record { base = 0; size = K4; phys = 0x1000; rights = all_rights }) ∷ []) 1 _ (only_frame 0x1007) refl
-    ∙ shared m (OfFrame 1 ∷ []) (OfFrame 1 ∷ OfFrame 1 ∷ OfLeaf (record { base = 0; size = K4; phys = 0x1000; rights = all_rights }) ∷ []) 1 _ (only_frame 0x1007) refl
+    ∙ fine m [] (OfFrame 1 ∷ OfFrame 1 ∷ OfFrame 1 ∷ OfLeaf (record { base = 0; size = K4; phys = 0x1000; rights = all_rights }) ∷ []) 1 _
+    (only_frame 0x1007) refl
+    ∙ shared m (OfFrame 1 ∷ []) (OfFrame 1 ∷ OfFrame 1 ∷ OfLeaf (record { base = 0; size = K4; phys = 0x1000; rights = all_rights }) ∷ []) 1 _
+    (only_frame 0x1007) refl
 
 missing_visits : traversal Four (one_table 0x2007) 1 ≡ OfFrame 1 ∷ OfFrame 2 ∷ []
 missing_visits =
