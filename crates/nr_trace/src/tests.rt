@@ -23,7 +23,7 @@ fn empty_bytes(alloc: Global) -> Result<Vec<u8>, AllocError> {
     Ok(bytes)
 }
 
-fn map_then_resolve_bytes(alloc: Global) -> Result<Vec<u8>, AllocError> {
+pub(crate) fn map_then_resolve_bytes(alloc: Global) -> Result<Vec<u8>, AllocError> {
     let mut bytes = vec![in alloc;
         0x4e, 0x52, 0x56, 0x54, 0, 1, 4, 1, 0, 1, 0, 4, 0, 0, 0, 1, 0, 0, 0, 4, 0, 0, 0, 0, 0, 0,
         0, 0, 0, 0, 7, 0, 0, 0, 0, 0, 0, 0x40, 0, 0, 0, 0, 0, 0, 0, 0, 0x10, 0, 1, 0, 0, 0, 0, 0,
