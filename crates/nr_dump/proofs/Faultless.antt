@@ -11,7 +11,7 @@ use Rattle.vs_types.proofs.Pages.{same_page}
 use Rattle.vs_walk.specs.Traversal.{traversal, found, walk_fault}
 use Rattle.vs_walk.specs.Differences.{IsStray, IsLeast}
 use Rattle.vs_walk.specs.Dump.{Image}
-use Rattle.vs_walk.specs.Ways.{AreWhole}
+use Rattle.vs_walk.specs.Memory.{AreWhole}
 use Rattle.vs_walk.specs.declared.walk.WalkFault.{WalkFault}
 use Rattle.vs_walk.specs.declared.walk.WalkFault.TheVariants as walks
 use Rattle.nr_dump.specs.declared.fault.DumpFault.{DumpFault}

@@ -11,12 +11,12 @@ use Rattle.vs_types.specs.Space.{Space, IsSpace, pages, page_at}
 use Rattle.vs_types.specs.Step.{look}
 use Rattle.vs_types.specs.declared.depth.Depth.{Depth}
 use Rattle.vs_types.specs.declared.page.Page.{Page}
-use Rattle.vs_walk.specs.Memory.{Memory}
+use Rattle.vs_walk.specs.Memory.{Memory, AreWhole}
 use Rattle.vs_walk.specs.Walk.{as_walk, TranslatesAs}
 use Rattle.vs_walk.specs.Traversal.{traversal, reached, found, walk_fault}
 use Rattle.vs_walk.specs.Differences.{IsStray, TranslatesOtherwise, IsLeast}
 use Rattle.vs_walk.specs.Dump.{Image}
-use Rattle.vs_walk.specs.Ways.{AreWhole, as_found}
+use Rattle.vs_walk.specs.Laws.{as_found}
 use Rattle.vs_walk.proofs.WaysLaws.{faultless_walk, reached_distinct, reached_held, shared_reached}
 use Rattle.vs_walk.proofs.WaysSpaces.{ArePages, found_are_pages, space_pages, found_translates, translates_shared}
 use Rattle.nr_dump.specs.declared.fault.DumpFault.{DumpFault}

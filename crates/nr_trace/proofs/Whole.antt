@@ -15,6 +15,7 @@ use Rattle.nr_trace.specs.declared.fault.Format.{Format}
 use Rattle.nr_trace.specs.declared.fault.Format.TheVariants.{Truncated, Trailing}
 use Rattle.nr_trace.specs.declared.reading.parts.Reader.{Reader}
 use Rattle.nr_trace.specs.declared.reading.parts.Reader.TheVariants.{Magic, Version, Header, Log, Events, Dumps, Frame, Words}
+use Rattle.nr_trace.specs.declared.version.Version as versions
 
 -- the reader has read what stands before the rest, and a fault of the rest is one of all the bytes
 pub record IsOnItsWay (bytes : List ℕ) (reader : Reader) (rest : List ℕ) : Type 0 where
@@ -55,15 +56,15 @@ not_chosen : (b : Bool) (m : ℕ) → (if b then Some m else None) ≡ None → 
 not_chosen true m e = absurd cc
 not_chosen false m e = refl
 
-short_log : (layout : Layout) (places events : ℕ) (rest : List ℕ) → 1 ≤ places → length rest < 4 → AtLog layout places events rest Truncated
+short_log : (version : versions.Version) (layout : Layout) (places events : ℕ) (rest : List ℕ) → 1 ≤ places → length rest < 4 → AtLog version layout places events rest Truncated
 unfolding AtLog
-short_log layout zero events rest some short = absurd (omega arith)
-short_log layout (suc places) events rest some short = inl (short, refl)
+short_log version layout zero events rest some short = absurd (omega arith)
+short_log version layout (suc places) events rest some short = inl (short, refl)
 
-short_event : (layout : Layout) (index events : ℕ) (rest : List ℕ) → 1 ≤ events → length rest < 24 → AtEvents layout index events rest Truncated
+short_event : (version : versions.Version) (layout : Layout) (index events : ℕ) (rest : List ℕ) → 1 ≤ events → length rest < 24 → AtEvents version layout index events rest Truncated
 unfolding AtEvents
-short_event layout index zero rest some short = absurd (omega arith)
-short_event layout index (suc events) rest some short = inl (short, refl)
+short_event version layout index zero rest some short = absurd (omega arith)
+short_event version layout index (suc events) rest some short = inl (short, refl)
 
 short_head : (replica dumps : ℕ) (rest : List ℕ) → 1 ≤ dumps → length rest < 16 → AtDumps replica dumps rest Truncated
 unfolding AtDumps
@@ -78,9 +79,9 @@ short_frame replica index (suc frames) last Behind rest some short = inl (short,
 too_short : (reader : Reader) (len : ℕ) (rest : List ℕ) → IsReady reader → unit_bytes reader ≡ Some len → length rest < len → Ahead reader rest Truncated
 too_short (Magic alloc) len rest ready is short = inl (omega (arith, some_is 4 len is), refl)
 too_short (Version alloc) len rest ready is short = inl (omega (arith, some_is 2 len is), refl)
-too_short (Header alloc) len rest ready is short = inl (omega (arith, some_is 14 len is), refl)
-too_short (Log parts places events) len rest ready is short = short_log parts.config places events rest ready.1 (omega (arith, some_is 4 len is))
-too_short (Events parts events) len rest ready is short = short_event parts.config (length parts.events.items) events rest ready.1 (omega (arith, some_is 24 len is))
+too_short (Header alloc version) len rest ready is short = inl (omega (arith, some_is 14 len is), refl)
+too_short (Log parts places events) len rest ready is short = short_log parts.version parts.config places events rest ready.1 (omega (arith, some_is 4 len is))
+too_short (Events parts events) len rest ready is short = short_event parts.version parts.config (length parts.events.items) events rest ready.1 (omega (arith, some_is 24 len is))
 too_short (Dumps parts) len rest ready is short =
     let given = chosen (nat_lt (length parts.dumps.items) parts.config.replicas) 16 len is in
     let one_left : length parts.dumps.items < parts.config.replicas = ltb-true _ _ given.0 in
@@ -100,7 +101,7 @@ at_end replica dumps rest none more = subst (λ (n : ℕ). AtDumps replica n res
 too_long : (reader : Reader) (rest : List ℕ) → unit_bytes reader ≡ None → rest ≢ [] → Ahead reader rest Trailing
 too_long (Magic alloc) rest is more = absurd cc
 too_long (Version alloc) rest is more = absurd cc
-too_long (Header alloc) rest is more = absurd cc
+too_long (Header alloc version) rest is more = absurd cc
 too_long (Log parts places events) rest is more = absurd cc
 too_long (Events parts events) rest is more = absurd cc
 too_long (Dumps parts) rest is more =
@@ -121,7 +122,7 @@ spelled bytes reader rest trace way none spells = record {
 pub some_bytes : (reader : Reader) (len : ℕ) → unit_bytes reader ≡ Some len → 1 ≤ len
 some_bytes (Magic alloc) len is = omega (arith, some_is 4 len is)
 some_bytes (Version alloc) len is = omega (arith, some_is 2 len is)
-some_bytes (Header alloc) len is = omega (arith, some_is 14 len is)
+some_bytes (Header alloc version) len is = omega (arith, some_is 14 len is)
 some_bytes (Log parts places events) len is = omega (arith, some_is 4 len is)
 some_bytes (Events parts events) len is = omega (arith, some_is 24 len is)
 some_bytes (Dumps parts) len is = omega (arith, (chosen (nat_lt (length parts.dumps.items) parts.config.replicas) 16 len is).1)

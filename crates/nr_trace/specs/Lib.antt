@@ -1,3 +1,4 @@
+pub mod Versions
 pub mod Recording
 pub mod Codes
 pub mod Spelling

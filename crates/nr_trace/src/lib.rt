@@ -10,6 +10,7 @@ mod laws;
 mod ranges;
 mod reading;
 mod trace;
+mod version;
 mod writing;
 
 pub use event::Event;
@@ -22,6 +23,7 @@ pub use laws::{
 };
 pub use reading::read;
 pub use trace::Trace;
+pub use version::Version;
 pub use writing::write;
 
 #[cfg(test)]

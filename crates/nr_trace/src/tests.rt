@@ -185,6 +185,7 @@ fn parts_make_a_trace(rt: HostRuntime) -> Result<(), Fail> {
         request: Request::resolve(Depth::Four, 0)?,
     };
     let no_dump = Trace::new(
+        Version::V1,
         config,
         Vec::new(alloc),
         vec![in alloc; reply]?,
@@ -192,6 +193,7 @@ fn parts_make_a_trace(rt: HostRuntime) -> Result<(), Fail> {
     );
     assert_eq!(rt; no_dump.err(), Some(Format::BadCount));
     let other_thread = Trace::new(
+        Version::V1,
         config,
         Vec::new(alloc),
         vec![in alloc; reply, call]?,
@@ -199,6 +201,7 @@ fn parts_make_a_trace(rt: HostRuntime) -> Result<(), Fail> {
     );
     assert_eq!(rt; other_thread.err(), Some(Format::BadEvent(1)));
     let trace = Trace::new(
+        Version::V1,
         config,
         Vec::new(alloc),
         vec![in alloc; reply]?,

@@ -1,7 +1,10 @@
 -- Words spell one entry at most.
 use Rattle.std.proofs.Common.{◌≡◌, ℕ, zero, suc, ◌/◌, ◌%◌, Bool, true, false, List, refl, ap, sym, ◌∙◌}
 use Rattle.vs_types.specs.Codes.{size_code, rights_code}
-use Rattle.vs_types.specs.LogEntry.{ActionFields, action_fields, SpellsEntry}
+use Rattle.vs_types.specs.Fields.{request_fields}
+use Rattle.vs_types.specs.LogEntry.{SpellsEntry}
+use Rattle.vs_types.specs.declared.fields.RequestFields.{RequestFields}
+use Rattle.vs_types.specs.declared.request.Query.TheVariants.{Update}
 use Rattle.vs_types.specs.declared.depth.Depth.{Depth}
 use Rattle.vs_types.specs.declared.page.Rights.{Rights}
 use Rattle.vs_types.specs.declared.page.Size.{Size}
@@ -44,19 +47,19 @@ rights_back : (rights : Rights) → rights_of_code (rights_code rights) ≡ righ
 rights_back rights = bits_back rights.write rights.user rights.exec
 
 -- the operation that has the fields
-action_of : ℕ → ActionFields → Action
+action_of : ℕ → RequestFields → Action
 action_of zero fields = Map (record { base = fields.address; size = size_of_code fields.size; phys = fields.physical; rights = rights_of_code fields.rights })
 action_of (suc zero) fields = Unmap fields.address
 action_of (suc (suc kind)) fields = Protect fields.address (rights_of_code fields.rights)
 
-action_back : (action : Action) → action_of (action_fields action).kind (action_fields action) ≡ action
+action_back : (action : Action) → action_of (request_fields (Update action)).kind (request_fields (Update action)) ≡ action
 unfolding action_of
 action_back (Map page) = λ i. Map (record { base = page.base; size = size_back page.size i; phys = page.phys; rights = rights_back page.rights i })
 action_back (Unmap base) = refl
 action_back (Protect base rights) = λ i. Protect base (rights_back rights i)
 
-same_action : (a b : Action) → action_fields a ≡ action_fields b → a ≡ b
-same_action a b e = sym (action_back a) ∙ ap (λ (f : ActionFields). action_of f.kind f) e ∙ action_back b
+same_action : (a b : Action) → request_fields (Update a) ≡ request_fields (Update b) → a ≡ b
+same_action a b e = sym (action_back a) ∙ ap (λ (f : RequestFields). action_of f.kind f) e ∙ action_back b
 
 pub one_entry : (depth other : Depth) (words : List ℕ) (p q : LogEntry) → SpellsEntry depth words p → SpellsEntry other words q → p ≡ q
 one_entry depth other words p q ip iq =

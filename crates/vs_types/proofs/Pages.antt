@@ -5,7 +5,7 @@ use Rattle.std.proofs.Common.{nat_lt, nat_le, ◌||◌, ◌&&◌, ◌∙◌, add
 use Rattle.std.proofs.lemmas.Nat.{pow-add, mod-mul-add}
 use Rattle.vs_types.specs.Depth.{levels, half_bytes, IsCanonical}
 use Rattle.vs_types.specs.declared.depth.Depth.{Depth}
-use Rattle.vs_types.specs.declared.depth.Depth.TheVariants.{Four}
+use Rattle.vs_types.specs.declared.depth.Depth.TheVariants.{Four, Five}
 use Rattle.vs_types.specs.declared.page.Page.{Page}
 use Rattle.vs_types.specs.declared.page.Size.{Size}
 use Rattle.vs_types.specs.declared.page.Size.TheVariants.{K4, M2, G1}
@@ -47,6 +47,7 @@ same_page p q base size phys rights = λ i. record { base = base i; size = size 
 -- no depth has fewer levels than there are sizes
 pub three_levels : (depth : Depth) → 3 ≤ levels depth
 three_levels Four = omega arith
+three_levels Five = omega arith
 
 -- a power of two divides each greater one
 pub pow_multiple : (e k : ℕ) → k ≤ e → 2 ^ e % 2 ^ k ≡ 0
@@ -91,6 +92,13 @@ canonical_test half all a = (λ h. grind (arith, nat_tests), λ h. grind (arith,
 
 pub canonical_means : (depth : Depth) (a : ℕ) → IsCanonical depth a ↔ ((a < half_bytes depth) ⊎ ((2 ^ 64 - half_bytes depth ≤ a) × (a < 2 ^ 64)))
 canonical_means depth a = canonical_test (half_bytes depth) (2 ^ 64) a
+
+-- a canonical address has 64 bits
+pub canonical_fits : (depth : Depth) (a : ℕ) → IsCanonical depth a → a < 2 ^ 64
+canonical_fits depth a is = ⊎_elim (λ low. lt_of_lt_of_le low (half_fits depth)) (λ high. high.1) ((canonical_means depth a).0 is) where
+  half_fits : (d : Depth) → half_bytes d ≤ 2 ^ 64
+  half_fits Four = omega arith
+  half_fits Five = omega arith
 
 pub covered_canonical : (limit : ℕ) (depth : Depth) (page : Page) (a : ℕ) → IsPageBelow limit depth page → IsTrue (covers page a) → IsCanonical depth a
 covered_canonical limit depth page a is covered =

@@ -1,5 +1,6 @@
 -- What a configuration is, and what is wrong with numbers that are none.
 use Rattle.std.specs.Prelude.{ℕ, ◌≤◌, ◌||◌, nat_lt, Option, Some, None, if◌then◌else◌}
+use Rattle.vs_types.specs.declared.limits.TheConstants.{REPLICAS, THREADS, TABLES}
 use Rattle.vs_types.specs.declared.depth.Depth.{Depth}
 use Rattle.vs_types.specs.declared.config.BadConfig.{BadConfig}
 use Rattle.vs_types.specs.declared.config.BadConfig.TheVariants.{Replicas, Threads, Tables}
@@ -14,16 +15,16 @@ pub record Layout : Type 0 where
 -- 1 to 4 replicas, 1 to 64 threads, 1 to 4,096 tables for each replica
 pub record IsLayout (layout : Layout) : Type 0 where
   pub some_replica : 1 ≤ layout.replicas
-  pub few_replicas : layout.replicas ≤ 4
+  pub few_replicas : layout.replicas ≤ REPLICAS
   pub some_thread : 1 ≤ layout.threads
-  pub few_threads : layout.threads ≤ 64
+  pub few_threads : layout.threads ≤ THREADS
   pub some_table : 1 ≤ layout.tables
-  pub few_tables : layout.tables ≤ 4096
+  pub few_tables : layout.tables ≤ TABLES
 
 -- the first part that is out of its range
 abbrev pub config_fault : Layout → Option BadConfig
 config_fault layout =
-    if nat_lt layout.replicas 1 || nat_lt 4 layout.replicas then Some Replicas
-    else if nat_lt layout.threads 1 || nat_lt 64 layout.threads then Some Threads
-    else if nat_lt layout.tables 1 || nat_lt 4096 layout.tables then Some Tables
+    if nat_lt layout.replicas 1 || nat_lt REPLICAS layout.replicas then Some Replicas
+    else if nat_lt layout.threads 1 || nat_lt THREADS layout.threads then Some Threads
+    else if nat_lt layout.tables 1 || nat_lt TABLES layout.tables then Some Tables
     else None

@@ -2,11 +2,12 @@
 -- bits that index the table of each level).
 use Rattle.std.specs.Prelude.{ℕ, ◌+◌, ◌-◌, ◌*◌, ◌/◌, ◌%◌, ◌^◌, Bool, ◌||◌, ◌&&◌, nat_lt, nat_le, IsTrue}
 use Rattle.vs_types.specs.declared.depth.Depth.{Depth}
-use Rattle.vs_types.specs.declared.depth.Depth.TheVariants.{Four}
+use Rattle.vs_types.specs.declared.depth.Depth.TheVariants.{Four, Five}
 
 -- how many levels of tables a translation goes through; the root is the table of the highest
 abbrev pub levels : Depth → ℕ
 levels Four = 4
+levels Five = 5
 
 -- what one entry of a table of this level stands for, in bytes
 abbrev pub entry_bytes : ℕ → ℕ

@@ -1,7 +1,7 @@
 -- What the laws of `src/laws.rt` say of two spaces.
 use Rattle.std.specs.Prelude.{◌≡◌, ◌≢◌, ℕ, ◌+◌, ◌-◌, ◌<◌, ◌≤◌, Bool, true, false, IsTrue, IsFalse, ◌↔◌}
 use Rattle.vs_types.specs.declared.answer.Answer.{Answer}
-use Rattle.vs_types.specs.declared.answer.Answer.TheVariants.{Done, Overlap, Full, Removed, NotMapped, Inside, Changed, Mapped}
+use Rattle.vs_types.specs.declared.answer.Answer.TheVariants.{Done, Overlap, Full, Removed, NotMapped, Inside, Changed, Mapped, Allowed, Fault}
 use Rattle.vs_types.specs.declared.page.Page.{Page}
 use Rattle.vs_types.specs.declared.page.Rights.{Rights}
 use Rattle.vs_types.specs.Page.{covers, overlaps}
@@ -43,3 +43,5 @@ changes NotMapped = false
 changes (Inside base) = false
 changes (Changed rights) = true
 changes (Mapped phys size rights) = false
+changes (Allowed phys) = false
+changes (Fault code) = false

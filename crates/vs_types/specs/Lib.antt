@@ -2,10 +2,12 @@ pub mod Depth
 pub mod Faults
 pub mod Config
 pub mod Page
+pub mod Access
 pub mod Operation
 pub mod Query
 pub mod Codes
 pub mod Finds
+pub mod Fields
 pub mod LogEntry
 pub mod Space
 pub mod Step

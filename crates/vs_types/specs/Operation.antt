@@ -14,11 +14,15 @@ pub record IsBase (depth : Depth) (base : ℕ) : Type 0 where
   pub canonical : IsCanonical depth base
   pub aligned : base % 4096 ≡ 0
 
--- a well-formed operation
+-- an operation that is well formed at this depth
 abbrev pub IsAction : Depth → Action → Type 0
 IsAction depth (Map page) = IsPage depth page
 IsAction depth (Unmap base) = IsBase depth base
 IsAction depth (Protect base rights) = IsBase depth base
+
+-- an operation that is well formed at some depth
+abbrev pub IsSomeAction : Action → Type 0
+IsSomeAction action = (depth : Depth) × IsAction depth action
 
 -- the first thing that is wrong with a page that is to be mapped
 abbrev pub page_fault : Depth → Page → Option BadOp

@@ -1,5 +1,5 @@
--- What operations and resolves do: one sequential address space.
-use Rattle.std.specs.Prelude.{ℕ, ◌+◌, ◌-◌, nat_le, ◌==◌, List, [], ◌∷◌, take, Option, Some, None, if◌then◌else◌}
+-- What operations, resolves and accesses do: one sequential address space.
+use Rattle.std.specs.Prelude.{ℕ, ◌+◌, ◌-◌, nat_le, ◌==◌, List, [], ◌∷◌, take, true, false, Option, Some, None, if◌then◌else◌}
 use Rattle.std.specs.FinMap as finite
 use Rattle.vs_types.specs.Space.{Space, no_pages, page_at, least_overlapped, table_count}
 use Rattle.vs_types.specs.declared.depth.Depth.{Depth}
@@ -7,8 +7,11 @@ use Rattle.vs_types.specs.declared.page.Page.{Page}
 use Rattle.vs_types.specs.declared.page.Rights.{Rights}
 use Rattle.vs_types.specs.declared.op.Action.{Action}
 use Rattle.vs_types.specs.declared.op.Action.TheVariants.{Map, Unmap, Protect}
+use Rattle.vs_types.specs.Access.{allows, fault_code}
+use Rattle.vs_types.specs.declared.access.Mode.{Mode}
+use Rattle.vs_types.specs.declared.access.Access.{Access}
 use Rattle.vs_types.specs.declared.answer.Answer.{Answer}
-use Rattle.vs_types.specs.declared.answer.Answer.TheVariants.{Done, Overlap, Full, Removed, NotMapped, Inside, Changed, Mapped}
+use Rattle.vs_types.specs.declared.answer.Answer.TheVariants.{Done, Overlap, Full, Removed, NotMapped, Inside, Changed, Mapped, Allowed, Fault}
 
 -- the space after a step, and its answer
 pub record Stepped : Type 0 where
@@ -49,13 +52,23 @@ step depth limit space (Unmap base) = unmapped space base (page_at space base)
 step depth limit space (Protect base rights) = protected space base rights (page_at space base)
 
 -- how an address looks in the page that covers it
-abbrev looked : ℕ → Option Page → Answer
+abbrev pub looked : ℕ → Option Page → Answer
 looked address None = NotMapped
 looked address (Some page) = Mapped (page.phys + (address - page.base)) page.size page.rights
 
 -- how an address looks in a space: what a resolve answers
 abbrev pub look : Space → ℕ → Answer
 look space address = looked address (page_at space address)
+
+-- what an access of an address is answered in the page that covers it: where that is, or the error code of the page fault
+abbrev pub allowed : ℕ → Mode → Access → Option Page → Answer
+allowed address mode access None = Fault (fault_code false mode access)
+allowed address mode access (Some page) =
+    if allows page.rights mode access then Allowed (page.phys + (address - page.base)) else Fault (fault_code true mode access)
+
+-- what an access of an address is answered in a space
+abbrev pub allow : Space → ℕ → Mode → Access → Answer
+allow space address mode access = allowed address mode access (page_at space address)
 
 -- the space after operations, from this one on
 abbrev pub after_all : Depth → ℕ → Space → List Action → Space

@@ -1,6 +1,6 @@
 use crate::page::{Rights, Size};
 
-/// What an operation or a resolve is answered. All numbers are bytes, but for `Full`.
+/// What an operation, a resolve or an access is answered. All numbers are bytes, but for `Full` and `Fault`.
 #[derive(Clone, Copy, Debug, PartialEq, Eq)]
 pub enum Answer {
     /// The page was added.
@@ -19,4 +19,8 @@ pub enum Answer {
     Changed(Rights),
     /// The physical address to which the address is translated, with the size and rights of its page.
     Mapped(u64, Size, Rights),
+    /// An access is allowed: the physical address to which its address is translated.
+    Allowed(u64),
+    /// An access is refused: the error code of its page fault.
+    Fault(u64),
 }

@@ -1,6 +1,7 @@
 ghost use Rattle.std.specs.Prelude.{◌≡◌};
 
 use crate::depth::Depth;
+use crate::limits::{REPLICAS, TABLES, THREADS};
 use std::marker::Model;
 
 /// Why numbers make no configuration.
@@ -44,13 +45,13 @@ impl Config {
         ensures { let layout : Layout = record { depth = depth; replicas = replicas; threads = threads; tables = tables } in
             GivesUnless (config_fault layout) layout result }
     {
-        if replicas < 1 || replicas > 4 {
+        if replicas < 1 || replicas > REPLICAS {
             return Err(BadConfig::Replicas);
         }
-        if threads < 1 || threads > 64 {
+        if threads < 1 || threads > THREADS {
             return Err(BadConfig::Threads);
         }
-        if tables < 1 || tables > 4096 {
+        if tables < 1 || tables > TABLES {
             return Err(BadConfig::Tables);
         }
         Ok(Config {

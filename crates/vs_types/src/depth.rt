@@ -8,6 +8,8 @@ use crate::op::BadOp;
 pub enum Depth {
     /// 4-level paging: 48 bits of an address are translated.
     Four,
+    /// 5-level paging: 57 bits.
+    Five,
 }
 
 impl Depth {
@@ -21,6 +23,7 @@ impl Depth {
     {
         match self {
             Depth::Four => 4,
+            Depth::Five => 5,
         }
     }
 
@@ -29,7 +32,7 @@ impl Depth {
         ensures { result ≡ is_canonical self address }
     {
         let half = 1u64 << (11 + 9 * self.levels());
-        address < half || address >= u64::MAX - half + 1
+        address.wrapping_add(half) < 2 * half
     }
 
     pub(crate) fn test_base(self, base: u64) -> Result<(), BadOp>

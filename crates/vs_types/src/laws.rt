@@ -44,6 +44,13 @@ pub fn well_formed_is_without_fault()
     ensures config { (layout : Layout) → (config_fault layout ≡ None) ↔ IsLayout layout }
 {}
 
+/// What is well formed with four levels is so with five.
+pub fn four_levels_fit_in_five()
+    ensures canonical { (address : ℕ) → IsCanonical Depth.Four address → IsCanonical Depth.Five address }
+    ensures action { (action : Action) → IsAction Depth.Four action → IsAction Depth.Five action }
+    ensures query { (query : Query) → IsQuery Depth.Four query → IsQuery Depth.Five query }
+{}
+
 /// A step by a well-formed operation keeps a space a space.
 pub fn step_keeps_spaces()
     ensures { (depth : Depth) (limit : ℕ) (space : Space) (action : Action) → IsSpace depth space → IsAction depth action → IsSpace depth (step depth limit space action).space }

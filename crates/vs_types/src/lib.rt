@@ -3,13 +3,17 @@
 //! Numbers are bytes unless a name says otherwise. No call of this crate takes memory or waits.
 #![tactic(auto)]
 
+mod access;
 mod answer;
+mod codes;
 mod config;
 mod depth;
 mod entry;
 pub mod examples;
+mod fields;
 mod frame;
 pub mod laws;
+mod limits;
 mod log_entry;
 pub mod log_laws;
 mod op;
@@ -17,12 +21,15 @@ mod page;
 mod refusal;
 mod request;
 
+pub use access::{Access, Mode, fault_code};
 pub use answer::Answer;
 pub use config::{BadConfig, Config};
 pub use depth::{Depth, index_at};
 pub use entry::{Entry, Meaning};
+pub use fields::RequestFields;
 pub use frame::FRAME_WORDS;
-pub use log_entry::{CALLS, LogEntry, pack, unpack};
+pub use limits::{CALLS, LOG_PLACES, REPLICAS, TABLES, THREADS};
+pub use log_entry::{LogEntry, pack, unpack};
 pub use op::{Action, BadOp, Op};
 pub use page::{Page, Rights, Size};
 pub use refusal::{Fail, Memory};

@@ -1,4 +1,4 @@
-ghost use Rattle.std.specs.Prelude.{◌≡◌};
+ghost use Rattle.std.specs.Prelude.{◌≡◌, ◌↔◌, IsTrue};
 
 use crate::depth::Depth;
 use crate::page::{Page, Rights, Size};
@@ -28,7 +28,7 @@ pub enum Action {
     Protect(u64, Rights),
 }
 
-/// A well-formed operation. Contracts see its action.
+/// An operation that is well formed at some depth. Contracts see its action.
 #[derive(Clone, Copy, Debug, PartialEq, Eq)]
 pub struct Op {
     action: Action,
@@ -36,22 +36,20 @@ pub struct Op {
 
 impl Model for Op {
     ghost use Rattle.vs_types.specs.declared.op.Action.{Action};
-    ghost use Rattle.vs_types.specs.declared.depth.Depth.TheVariants.{Four};
-    ghost use Rattle.vs_types.specs.Operation.{IsAction};
+    ghost use Rattle.vs_types.specs.Operation.{IsSomeAction};
 
     ghost Value = { Action };
 
     ghost view = { λ o. o.action };
 
-    ghost invariant = { λ o. IsAction Four o.action };
+    ghost invariant = { λ o. IsSomeAction o.action };
 
     ghost inverse = { λ a. record { action = a } };
 }
 
 impl Op {
-    ghost use Rattle.vs_types.specs.declared.depth.Depth.TheVariants.{Four};
     ghost use Rattle.vs_types.specs.declared.page.Page.{Page};
-    ghost use Rattle.vs_types.specs.Operation.{IsAction, action_fault};
+    ghost use Rattle.vs_types.specs.Operation.{IsAction, IsSomeAction, action_fault};
     ghost use Rattle.vs_types.specs.Faults.{GivesUnless};
 
     /// Maps the page at `base` to the physical address `phys`.
@@ -104,8 +102,18 @@ impl Op {
     /// What it does.
     pub fn action(self) -> Action
         ensures reads { result ≡ self }
-        ensures well_formed { IsAction Four self }
+        ensures well_formed { IsSomeAction self }
     {
         self.action
+    }
+
+    /// Whether it is well formed at this depth, and not only at another.
+    pub fn fits(self, depth: Depth) -> bool
+        ensures { IsTrue result ↔ IsAction depth self }
+    {
+        match self.action {
+            Action::Map(page) => depth.is_canonical(page.base),
+            Action::Unmap(base) | Action::Protect(base, _) => depth.is_canonical(base),
+        }
     }
 }

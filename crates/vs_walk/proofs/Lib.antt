@@ -15,7 +15,6 @@ pub mod WaysMet
 pub mod WaysLaws
 pub mod WaysSpaces
 pub mod WaysDumps
-pub mod WaysSame
 pub mod WaysBuilt
 pub mod Marked
 pub mod Traversed

@@ -15,10 +15,9 @@ use Rattle.vs_types.specs.declared.depth.Depth.{Depth}
 use Rattle.vs_types.specs.declared.page.Page.{Page}
 use Rattle.vs_types.proofs.Lists.{Contains-head, Contains-tail}
 use Rattle.vs_types.proofs.Spaces.{same_key}
-use Rattle.vs_walk.specs.Memory.{Memory}
+use Rattle.vs_walk.specs.Memory.{Memory, AreWhole}
 use Rattle.vs_walk.specs.Walk.{TranslatesAs}
 use Rattle.vs_walk.specs.Traversal.{traversal, found, walk_fault}
-use Rattle.vs_walk.specs.Ways.{AreWhole}
 use Rattle.vs_walk.proofs.WaysSpaces.{ArePages, rises_first, rises_rest, found_are_pages, found_translates}
 
 -- the pages, each under its base

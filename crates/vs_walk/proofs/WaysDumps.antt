@@ -7,7 +7,7 @@ use Rattle.std.proofs.lemmas.List.Elements.{All-contains}
 use Rattle.vs_types.proofs.Lists.{Contains-head, Contains-tail}
 use Rattle.vs_types.specs.Frame.{IsFrame}
 use Rattle.vs_walk.specs.Dump.{Image, IsDump}
-use Rattle.vs_walk.specs.Ways.{AreWhole}
+use Rattle.vs_walk.specs.Memory.{AreWhole}
 
 -- what is found at a number is the words of a frame that is listed
 found_listed : (q : ℕ) (es : List (ℕ × List ℕ)) (words : List ℕ) → entries.find nat_cmp q es ≡ Some words → (number : ℕ) × Contains es (number, words)

@@ -14,9 +14,8 @@ use Rattle.vs_types.specs.declared.page.Page.{Page}
 use Rattle.vs_types.specs.declared.page.Rights.{Rights}
 use Rattle.vs_types.specs.declared.entry.Meaning.{Meaning}
 use Rattle.vs_types.specs.declared.entry.Meaning.TheVariants as entry
-use Rattle.vs_walk.specs.Memory.{Memory}
+use Rattle.vs_walk.specs.Memory.{Memory, AreWhole}
 use Rattle.vs_walk.specs.Traversal.{Visit, OfFrame, OfLeaf, OfReservedBit, ReachedTable, canonical_from, entry_visits, table_visits}
-use Rattle.vs_walk.specs.Ways.{AreWhole}
 use Rattle.vs_walk.proofs.WaysLists.{all_at_words}
 use Rattle.vs_walk.proofs.WaysBits.{entry_is_table, table_is_entries, entry_some, leaf_bytes, leaf_lies}
 use Rattle.vs_walk.proofs.WaysMoves.{at_word_met, table_met, missing_met, nothing_met, OfFound}

@@ -1,5 +1,5 @@
 -- What the way from the root on says: of walks, of the frames that are reached, and of its fault.
-use Rattle.std.proofs.Common.{◌≡◌, ◌≢◌, ℕ, zero, suc, ◌+◌, ◌*◌, ◌<◌, ◌≤◌, true, false, List, [], ◌∷◌, ◌++◌, Option, Some, None, length, get_or, nat_eq, flat_map, refl, sym, ap, subst, ◌∙◌, ◌⊎◌, ⊎_elim, arith, Contains, IsTrue, slice_index}
+use Rattle.std.proofs.Common.{◌≡◌, ◌≢◌, ℕ, zero, suc, ◌+◌, ◌*◌, ◌<◌, true, false, List, [], ◌∷◌, ◌++◌, Option, Some, None, length, get_or, nat_eq, flat_map, refl, sym, ap, subst, ◌∙◌, ◌⊎◌, ⊎_elim, arith, Contains, IsTrue, slice_index}
 use Rattle.std.specs.Prelude.{All}
 use Rattle.std.specs.FinMap as finite
 use Rattle.std.specs.List.{enumerate_from, IsDistinct}
@@ -14,10 +14,10 @@ use Rattle.vs_types.specs.declared.page.Page.{Page}
 use Rattle.vs_types.specs.declared.entry.Meaning.{Meaning}
 use Rattle.vs_types.specs.declared.entry.Meaning.TheVariants as entry
 use Rattle.vs_types.proofs.Lists.{Contains-head, Contains-cases, not_in_nil}
-use Rattle.vs_walk.specs.Memory.{Memory}
+use Rattle.vs_walk.specs.Memory.{Memory, AreWhole}
 use Rattle.vs_walk.specs.Walk.{all_rights, walk}
 use Rattle.vs_walk.specs.Traversal.{Visit, OfFrame, OfLeaf, OfReservedBit, ReachedTable, entry_visits, table_visits, traversal, reached_by, reached, found, walk_fault}
-use Rattle.vs_walk.specs.Ways.{AreWhole, covering, as_found, HasReserved}
+use Rattle.vs_walk.specs.Laws.{covering, as_found, LeadsTo, IsTableAt, IsRoot, IsBelow, IsReservedWord}
 use Rattle.vs_walk.specs.declared.walk.Walk.{Walk}
 use Rattle.vs_walk.specs.declared.walk.Walk.TheVariants.{NotMapped, Reserved, Missing, Mapped}
 use Rattle.vs_walk.specs.declared.walk.WalkFault.TheVariants as faults
@@ -122,12 +122,14 @@ reserved_met depth memory root number index some =
     subst (Contains (traversal depth memory root)) says (in_between (traversal depth memory root) at.before at.after at.move at.is)
 
 -- where a reserved bit is met
-pub record IsReservedIn (depth : Depth) (memory : Memory) (level : ℕ) (table : ReachedTable) (number index : ℕ) : Type 0 where
-  pub has : HasReserved depth memory number index
+pub record IsReservedIn (depth : Depth) (memory : Memory) (root level : ℕ) (table : ReachedTable) (number index : ℕ) : Type 0 where
+  pub has : IsReservedWord depth memory root number index
   pub reaches : Contains (table_visits depth memory level table) (OfFrame number)
 
-abbrev LowerReserved : Depth → Memory → ℕ → ℕ → ℕ → Type 0
-LowerReserved depth memory level number index = (next : ReachedTable) → Contains (table_visits depth memory level next) (OfReservedBit number index) → IsReservedIn depth memory level next number index
+abbrev LowerReserved : Depth → Memory → ℕ → ℕ → ℕ → ℕ → Type 0
+LowerReserved depth memory root level number index =
+    (next : ReachedTable) → IsTableAt depth memory root level next.number → Contains (table_visits depth memory level next) (OfReservedBit number index)
+    → IsReservedIn depth memory root level next number index
 
 frame_met : Visit → ℕ
 frame_met (OfFrame number) = number
@@ -147,9 +149,14 @@ same_index : (number index other at : ℕ) → OfReservedBit number index ≡ Of
 unfolding index_met
 same_index number index other at is = ap index_met is
 
-entry_reserved : (depth : Depth) (memory : Memory) (level : ℕ) (table : ReachedTable) (words : List ℕ) (k number index : ℕ) (means : Meaning) → suc level ≤ levels depth → LowerReserved depth memory level number index → finite.get memory table.number ≡ Some words → k < length words → meaning (suc level) (get_or words k 0) ≡ means → Contains (entry_visits depth (suc level) table k (λ next. table_visits depth memory level next) means) (OfReservedBit number index) → IsReservedIn depth memory (suc level) table number index
-entry_reserved depth memory level table words k number index entry.Absent few lower is lt says met = absurd (not_in_nil (OfReservedBit number index) met)
-entry_reserved depth memory level table words k number index entry.Reserved few lower is lt says met = ⊎_elim
+entry_reserved : (depth : Depth) (memory : Memory) (root level : ℕ) (table : ReachedTable) (words : List ℕ) (k number index : ℕ) (means : Meaning)
+    → IsTableAt depth memory root (suc level) table.number → LowerReserved depth memory root level number index
+    → finite.get memory table.number ≡ Some words → k < length words → meaning (suc level) (get_or words k 0) ≡ means
+    → Contains (entry_visits depth (suc level) table k (λ next. table_visits depth memory level next) means) (OfReservedBit number index)
+    → IsReservedIn depth memory root (suc level) table number index
+entry_reserved depth memory root level table words k number index entry.Absent here lower is lt says met =
+    absurd (not_in_nil (OfReservedBit number index) met)
+entry_reserved depth memory root level table words k number index entry.Reserved here lower is lt says met = ⊎_elim
     (λ same.
     let frame = same_frame table.number k number index same in
     let place = same_index table.number k number index same in
@@ -157,48 +164,58 @@ entry_reserved depth memory level table words k number index entry.Reserved few 
       has = record {
         level = suc level;
         words = words;
-        lowest = omega arith;
-        highest = few;
+        table = subst (IsTableAt depth memory root (suc level)) frame here;
         there = subst (λ n. finite.get memory n ≡ Some words) frame is;
         within = subst (λ i. i < length words) place lt;
         reserved = subst (λ i. meaning (suc level) (slice_index words i) ≡ entry.Reserved) place says;
       };
       reaches = let first = first_met depth memory level table in
-          subst (λ ms. Contains ms (OfFrame number)) (sym first.1) (subst (λ n. Contains (OfFrame n ∷ first.0) (OfFrame number)) (sym frame) (Contains-head (OfFrame number) first.0));
+          subst (λ ms. Contains ms (OfFrame number)) (sym first.1)
+          (subst (λ n. Contains (OfFrame n ∷ first.0) (OfFrame number)) (sym frame) (Contains-head (OfFrame number) first.0));
     })
     (λ later. absurd (not_in_nil (OfReservedBit number index) later))
     (Contains-cases (OfReservedBit table.number k) [] (OfReservedBit number index) met)
-entry_reserved depth memory level table words k number index (entry.Leaf phys own) few lower is lt says met = ⊎_elim
+entry_reserved depth memory root level table words k number index (entry.Leaf phys own) here lower is lt says met = ⊎_elim
     (λ same. cc)
     (λ later. absurd (not_in_nil (OfReservedBit number index) later))
     (Contains-cases _ [] (OfReservedBit number index) met)
-entry_reserved depth memory level table words k number index (entry.Table next own) few lower is lt says met =
-    let below = lower (record { number = next; start = table.start + k * entry_bytes (suc level); rights = intersection table.rights own }) met in
+entry_reserved depth memory root level table words k number index (entry.Table next own) here lower is lt says met =
+    let leads : LeadsTo memory (suc level) table.number next = record { words = words; index = k; own = own; there = is; within = lt; leads = says } in
+    let below = lower (record { number = next; start = table.start + k * entry_bytes (suc level); rights = intersection table.rights own })
+    (IsBelow level table.number next here leads) met in
     record {
       has = below.has;
       reaches = word_is_met depth memory level table words k (OfFrame number) is lt (rw says below.reaches);
     }
 
-table_reserved : (depth : Depth) (memory : Memory) (level : ℕ) (table : ReachedTable) (number index : ℕ) → level ≤ levels depth → Contains (table_visits depth memory level table) (OfReservedBit number index) → IsReservedIn depth memory level table number index
-table_reserved depth memory zero table number index few met = absurd (not_in_nil (OfReservedBit number index) (subst (λ ms. Contains ms (OfReservedBit number index)) (nothing_met depth memory table) met))
-table_reserved depth memory (suc level) table number index few met =
-    elim (finite.get memory table.number) as (λ o. finite.get memory table.number ≡ o → IsReservedIn depth memory (suc level) table number index) [
+table_reserved : (depth : Depth) (memory : Memory) (root level : ℕ) (table : ReachedTable) (number index : ℕ)
+    → IsTableAt depth memory root level table.number → Contains (table_visits depth memory level table) (OfReservedBit number index)
+    → IsReservedIn depth memory root level table number index
+table_reserved depth memory root zero table number index here met =
+    absurd (not_in_nil (OfReservedBit number index) (subst (λ ms. Contains ms (OfReservedBit number index)) (nothing_met depth memory table) met))
+table_reserved depth memory root (suc level) table number index here met =
+    elim (finite.get memory table.number) as (λ o. finite.get memory table.number ≡ o → IsReservedIn depth memory root (suc level) table number index) [
       | None ↦ λ is. ⊎_elim
           (λ same. cc)
           (λ later. absurd (not_in_nil (OfReservedBit number index) later))
-          (Contains-cases (OfFrame table.number) [] (OfReservedBit number index) (subst (λ ms. Contains ms (OfReservedBit number index)) (missing_met depth memory level table is) met))
+          (Contains-cases (OfFrame table.number) [] (OfReservedBit number index)
+          (subst (λ ms. Contains ms (OfReservedBit number index)) (missing_met depth memory level table is) met))
       | Some words ↦ λ is. ⊎_elim
           (λ same. cc)
           (λ later.
           let at = contained_at_some_word (at_word_met depth memory level table) words 0 (OfReservedBit number index) later in
-          entry_reserved depth memory level table words at.0 number index (meaning (suc level) (get_or words at.0 0)) few (λ next. table_reserved depth memory level next number index (omega arith)) is at.1 refl
+          entry_reserved depth memory root level table words at.0 number index (meaning (suc level) (get_or words at.0 0)) here
+          (λ next lies. table_reserved depth memory root level next number index lies) is at.1 refl
           (subst (λ i. Contains (at_word_met depth memory level table (i, get_or words at.0 0)) (OfReservedBit number index)) (omega arith) at.2))
-          (Contains-cases (OfFrame table.number) (flat_map (at_word_met depth memory level table) (enumerate_from 0 words)) (OfReservedBit number index) (subst (λ ms. Contains ms (OfReservedBit number index)) (table_met depth memory level table words is) met))
+          (Contains-cases (OfFrame table.number) (flat_map (at_word_met depth memory level table) (enumerate_from 0 words)) (OfReservedBit number index)
+          (subst (λ ms. Contains ms (OfReservedBit number index)) (table_met depth memory level table words is) met))
     ] refl
 
-pub reserved_reached : (depth : Depth) (memory : Memory) (root number index : ℕ) → walk_fault depth memory root ≡ Some (faults.Reserved number index) → HasReserved depth memory number index × Contains (reached (traversal depth memory root)) number
+pub reserved_reached : (depth : Depth) (memory : Memory) (root number index : ℕ) → walk_fault depth memory root ≡ Some (faults.Reserved number index)
+    → IsReservedWord depth memory root number index × Contains (reached (traversal depth memory root)) number
 reserved_reached depth memory root number index some =
-    let is = table_reserved depth memory (levels depth) (record { number = root; start = 0; rights = all_rights }) number index (omega arith) (reserved_met depth memory root number index some) in
+    let is = table_reserved depth memory root (levels depth) (record { number = root; start = 0; rights = all_rights }) number index IsRoot
+    (reserved_met depth memory root number index some) in
     (is.has, met_is_reached (traversal depth memory root) number is.reaches)
 
 -- ---- the walks that meet a fault

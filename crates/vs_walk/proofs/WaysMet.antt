@@ -16,10 +16,9 @@ use Rattle.vs_types.specs.declared.entry.Meaning.{Meaning}
 use Rattle.vs_types.specs.declared.entry.Meaning.TheVariants as entry
 use Rattle.vs_types.proofs.Lists.{Contains-cases, not_in_nil}
 use Rattle.vs_types.proofs.Pages.{three_levels}
-use Rattle.vs_walk.specs.Memory.{Memory}
+use Rattle.vs_walk.specs.Memory.{Memory, AreWhole}
 use Rattle.vs_walk.specs.Walk.{all_rights, walk_entry, walk_from, walk}
 use Rattle.vs_walk.specs.Traversal.{Visit, OfFrame, OfLeaf, OfReservedBit, ReachedTable, canonical_from, entry_visits, table_visits, traversal}
-use Rattle.vs_walk.specs.Ways.{AreWhole}
 use Rattle.vs_walk.specs.declared.walk.Walk.{Walk}
 use Rattle.vs_walk.specs.declared.walk.Walk.TheVariants.{NotMapped, Reserved, Missing, Mapped}
 use Rattle.vs_walk.proofs.Walks.{walk_missing, walk_at}

@@ -14,10 +14,9 @@ use Rattle.vs_types.specs.declared.page.Page.{Page}
 use Rattle.vs_types.specs.declared.entry.Meaning.{Meaning}
 use Rattle.vs_types.specs.declared.entry.Meaning.TheVariants as entry
 use Rattle.vs_types.proofs.Pages.{bytes_positive, covers_means}
-use Rattle.vs_walk.specs.Memory.{Memory}
+use Rattle.vs_walk.specs.Memory.{Memory, AreWhole}
 use Rattle.vs_walk.specs.Walk.{all_rights}
 use Rattle.vs_walk.specs.Traversal.{Visit, ReachedTable, canonical_from, entry_visits, table_visits, traversal, found_by, found}
-use Rattle.vs_walk.specs.Ways.{AreWhole}
 use Rattle.vs_walk.proofs.WaysLists.{all_pairs_nil, all_pairs_one, all_pairs_append, all_at_words}
 use Rattle.vs_walk.proofs.WaysBits.{addresses_climb, bits_canonical, from_bits_aligned}
 use Rattle.vs_walk.proofs.WaysMoves.{at_word_met, table_met, missing_met, nothing_met, OfFound, all_found}

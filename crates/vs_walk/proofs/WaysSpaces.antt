@@ -17,10 +17,10 @@ use Rattle.vs_types.specs.declared.page.Page.{Page}
 use Rattle.vs_types.proofs.Lists.{Contains-head, Contains-tail, Contains-cases, not_in_nil, find_found, find_nothing}
 use Rattle.vs_types.proofs.Pages.{covers_means, covers_base, same_page, same_aligned}
 use Rattle.vs_types.proofs.Spaces.{same_key, is_true, both_true, below_key, holds_listed}
-use Rattle.vs_walk.specs.Memory.{Memory}
+use Rattle.vs_walk.specs.Memory.{Memory, AreWhole}
 use Rattle.vs_walk.specs.Walk.{as_walk, TranslatesAs}
 use Rattle.vs_walk.specs.Traversal.{traversal, found, walk_fault}
-use Rattle.vs_walk.specs.Ways.{AreWhole, covering, as_found}
+use Rattle.vs_walk.specs.Laws.{covering, as_found}
 use Rattle.vs_walk.specs.declared.walk.WalkFault.{WalkFault}
 use Rattle.vs_walk.specs.declared.walk.WalkFault.TheVariants as faults
 use Rattle.vs_walk.proofs.Translates.{not_reserved, not_missing}

@@ -9,10 +9,10 @@ ghost use Rattle.vs_types.specs.Depth.{IsCanonical};
 ghost use Rattle.vs_types.specs.Page.{covers, end_of, IsPage, IsPageBelow};
 ghost use Rattle.vs_types.specs.Space.{Space, IsSpace, pages};
 ghost use Rattle.vs_walk.specs.Dump.{Image, IsDump};
-ghost use Rattle.vs_walk.specs.Memory.{Memory};
+ghost use Rattle.vs_walk.specs.Memory.{Memory, AreWhole};
 ghost use Rattle.vs_walk.specs.Walk.{walk, TranslatesAs};
 ghost use Rattle.vs_walk.specs.Traversal.{OfReservedBit, traversal, found, reached, walk_fault};
-ghost use Rattle.vs_walk.specs.Ways.{AreWhole, covering, as_found, HasReserved};
+ghost use Rattle.vs_walk.specs.Laws.{covering, as_found, IsReservedWord};
 ghost use Rattle.vs_walk.specs.declared.walk.Walk.TheVariants as ends;
 ghost use Rattle.vs_walk.specs.declared.walk.WalkFault.TheVariants as faults;
 
@@ -44,11 +44,12 @@ pub fn reached_once()
 {}
 
 /// What the first fault says: a missing frame is reached and not in the memory; a shared one is in the memory and is
-/// reached twice; and a word with a reserved bit stands in a frame that is reached.
+/// reached twice; and a word with a reserved bit stands in a frame that is reached, as an entry of the level at which the
+/// frame is reached.
 pub fn faults_are_met()
     ensures missing { (depth : Depth) (memory : Memory) (root number : ℕ) → walk_fault depth memory root ≡ Some (faults.Missing number) → IsFalse (finite.contains_key memory number) × Contains (reached (traversal depth memory root)) number }
     ensures shared { (depth : Depth) (memory : Memory) (root number : ℕ) → walk_fault depth memory root ≡ Some (faults.Shared number) → IsTrue (finite.contains_key memory number) × ((before after : List ℕ) × (reached (traversal depth memory root) ≡ before ++ number ∷ after) × Contains before number) }
-    ensures reserved { (depth : Depth) (memory : Memory) (root number index : ℕ) → walk_fault depth memory root ≡ Some (faults.Reserved number index) → HasReserved depth memory number index × Contains (reached (traversal depth memory root)) number }
+    ensures reserved { (depth : Depth) (memory : Memory) (root number index : ℕ) → walk_fault depth memory root ≡ Some (faults.Reserved number index) → IsReservedWord depth memory root number index × Contains (reached (traversal depth memory root)) number }
 {}
 
 /// Where the first fault on the way is a frame that is missing or a reserved bit, the walk of some canonical address
