@@ -6,17 +6,25 @@ use Rattle.std.specs.FinMap.Entries as kept
 use Rattle.std.specs.Ordering.{nat_cmp, eq_by_cmp, is_eq}
 use Rattle.std.specs.Cmp.{nat_cmp_total, eq_by_cmp_equiv, alike_right}
 use Rattle.vs_types.specs.Depth.{levels}
-use Rattle.vs_types.specs.Examples.{answers_from, answers, tables_after, look_after}
+use Rattle.vs_types.specs.Examples.{answers_from, answers, tables_after, look_after, allow_after}
 use Rattle.vs_types.specs.Page.{covers, overlaps}
 use Rattle.vs_types.specs.Space.{Space, no_pages, least, least_overlapped, page_at, tables_of_levels, table_count}
-use Rattle.vs_types.specs.Step.{Stepped, step, after_all, look}
+use Rattle.vs_types.specs.Step.{Stepped, step, after_all, looked, allowed}
+use Rattle.vs_types.specs.declared.access.Mode.{Mode}
+use Rattle.vs_types.specs.declared.access.Access.{Access}
 use Rattle.vs_types.specs.declared.depth.Depth.{Depth}
+use Rattle.vs_types.specs.declared.depth.Depth.TheVariants.{Four, Five}
 use Rattle.vs_types.specs.declared.page.Page.{Page}
 use Rattle.vs_types.specs.declared.page.Rights.{Rights}
 use Rattle.vs_types.specs.declared.op.Action.{Action}
 use Rattle.vs_types.specs.declared.op.Action.TheVariants.{Map, Unmap, Protect}
 use Rattle.vs_types.specs.declared.answer.Answer.{Answer}
 use Rattle.vs_types.specs.declared.answer.Answer.TheVariants.{Done, Overlap, Full, Removed, NotMapped, Inside, Changed, Mapped}
+
+-- what holds at each depth holds at any
+pub at_both : (P : Depth → Type 0) → P Four → P Five → (depth : Depth) → P depth
+at_both P four five Four = four
+at_both P four five Five = five
 
 no_length : {A : Type 0} (xs : List A) → length xs ≡ 0 → xs ≡ []
 no_length [] e = refl
@@ -141,14 +149,6 @@ entries_run depth limit space es (action ∷ actions) e =
     let h = rw e at (agrees depth limit space action) in
     entries_run depth limit (step depth limit space action).space _ actions h.entries
 
-abbrev pub looked_in : ℕ → Option Page → Answer
-looked_in address None = NotMapped
-looked_in address (Some page) = Mapped (page.phys + (address - page.base)) page.size page.rights
-
-look_is : (space : Space) (address : ℕ) (o : Option Page) → page_at space address ≡ o → look space address ≡ looked_in address o
-look_is space address None e = rw e
-look_is space address (Some page) e = rw e
-
 -- the answers of operations from the empty space on
 pub answers_compute : (depth : Depth) (limit : ℕ) (actions : List Action) → answers depth limit actions ≡ run_answers depth limit [] actions
 answers_compute depth limit actions = answers_run depth limit no_pages [] actions entries_empty
@@ -157,7 +157,17 @@ answers_compute depth limit actions = answers_run depth limit no_pages [] action
 pub tables_compute : (depth : Depth) (limit : ℕ) (actions : List Action) → tables_after depth limit actions ≡ count depth (run_entries depth limit [] actions)
 tables_compute depth limit actions = ap (count depth) (entries_run depth limit no_pages [] actions entries_empty)
 
+-- the page that covers an address after them
+page_computes : (depth : Depth) (limit : ℕ) (actions : List Action) (address : ℕ)
+    → page_at (after_all depth limit no_pages actions) address ≡ at (run_entries depth limit [] actions) address
+page_computes depth limit actions address = ap (λ es. at es address) (entries_run depth limit no_pages [] actions entries_empty)
+
 -- how an address looks after them
-pub look_computes : (depth : Depth) (limit : ℕ) (actions : List Action) (address : ℕ) → look_after depth limit actions address ≡ looked_in address (at (run_entries depth limit [] actions) address)
-look_computes depth limit actions address =
-    look_is (after_all depth limit no_pages actions) address _ (ap (λ es. at es address) (entries_run depth limit no_pages [] actions entries_empty))
+pub look_computes : (depth : Depth) (limit : ℕ) (actions : List Action) (address : ℕ)
+    → look_after depth limit actions address ≡ looked address (at (run_entries depth limit [] actions) address)
+look_computes depth limit actions address = ap (looked address) (page_computes depth limit actions address)
+
+-- what an access is answered after them
+pub allow_computes : (depth : Depth) (limit : ℕ) (actions : List Action) (address : ℕ) (mode : Mode) (access : Access)
+    → allow_after depth limit actions address mode access ≡ allowed address mode access (at (run_entries depth limit [] actions) address)
+allow_computes depth limit actions address mode access = ap (allowed address mode access) (page_computes depth limit actions address)

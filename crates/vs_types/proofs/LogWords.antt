@@ -123,8 +123,10 @@ spells_update {fields} query action first second = by_kind query (ap (λ (f : Re
   in_kind (Map page) = omega arith
   in_kind (Unmap base) = omega arith
   in_kind (Protect base rights) = omega arith
+
   apart : (n k : ℕ) → 3 ≤ n → k < 3 → n ≡ k → ⊥
   apart n k low high e = omega arith
+
   by_kind : (q : Query) → (request_fields q).kind ≡ (request_fields (Update action)).kind → (a : Action) × (q ≡ Update a)
   by_kind (Update a) e = (a, refl)
   by_kind (Resolve address) e = elim (apart _ _ (omega arith) (in_kind action) e) [ ]

@@ -2,7 +2,9 @@
 use Rattle.std.specs.Prelude.{ℕ, List, [], ◌∷◌, true, false}
 use Rattle.vs_types.specs.Entry.{all_rights}
 use Rattle.vs_types.specs.Space.{Space, no_pages, table_count}
-use Rattle.vs_types.specs.Step.{step, after_all, look}
+use Rattle.vs_types.specs.Step.{step, after_all, look, allow}
+use Rattle.vs_types.specs.declared.access.Mode.{Mode}
+use Rattle.vs_types.specs.declared.access.Access.{Access}
 use Rattle.vs_types.specs.declared.depth.Depth.{Depth}
 use Rattle.vs_types.specs.declared.page.Rights.{Rights}
 use Rattle.vs_types.specs.declared.page.Size.{Size}
@@ -30,6 +32,10 @@ tables_after depth limit actions = table_count depth (after_all depth limit no_p
 abbrev pub look_after : Depth → ℕ → List Action → ℕ → Answer
 look_after depth limit actions address = look (after_all depth limit no_pages actions) address
 
+-- what an access is answered after operations, from the empty space on
+abbrev pub allow_after : Depth → ℕ → List Action → ℕ → Mode → Access → Answer
+allow_after depth limit actions address mode access = allow (after_all depth limit no_pages actions) address mode access
+
 -- a map with all rights
 abbrev pub map_all : ℕ → Size → ℕ → Action
 map_all base size phys = Map (record { base = base; size = size; phys = phys; rights = all_rights })
@@ -46,7 +52,19 @@ user_and_exec = record { write = false; user = true; exec = true }
 abbrev pub no_rights : Rights
 no_rights = record { write = false; user = false; exec = false }
 
--- the last page of the low half, and the first of the high half
+-- fetches only
+abbrev pub exec_only : Rights
+exec_only = record { write = false; user = false; exec = true }
+
+-- a page that is written to, which then is one of instructions
+abbrev pub written_then_run : List Action
+written_then_run = Map (record { base = 0x400000; size = K4; phys = 0x1000; rights = write_only }) ∷ Protect 0x400000 exec_only ∷ []
+
+-- with five levels: a page that four levels do not reach, the last page of the low half, and the first of the high half
+abbrev pub beyond_four_levels : List Action
+beyond_four_levels = map_all 0x800000000000 K4 0x1000 ∷ map_all 0xFFFFFFFFFFF000 K4 0x2000 ∷ map_all 0xFF00000000000000 K4 0x3000 ∷ []
+
+-- with four levels: the last page of the low half, and the first of the high half
 abbrev pub both_halves : List Action
 both_halves = map_all 0x7FFFFFFFF000 K4 0x2000 ∷ map_all 0xFFFF800000000000 K4 0x3000 ∷ []
 

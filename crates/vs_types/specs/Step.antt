@@ -52,7 +52,7 @@ step depth limit space (Unmap base) = unmapped space base (page_at space base)
 step depth limit space (Protect base rights) = protected space base rights (page_at space base)
 
 -- how an address looks in the page that covers it
-abbrev looked : ℕ → Option Page → Answer
+abbrev pub looked : ℕ → Option Page → Answer
 looked address None = NotMapped
 looked address (Some page) = Mapped (page.phys + (address - page.base)) page.size page.rights
 
@@ -61,7 +61,7 @@ abbrev pub look : Space → ℕ → Answer
 look space address = looked address (page_at space address)
 
 -- what an access of an address is answered in the page that covers it: where that is, or the error code of the page fault
-abbrev allowed : ℕ → Mode → Access → Option Page → Answer
+abbrev pub allowed : ℕ → Mode → Access → Option Page → Answer
 allowed address mode access None = Fault (fault_code false mode access)
 allowed address mode access (Some page) =
     if allows page.rights mode access then Allowed (page.phys + (address - page.base)) else Fault (fault_code true mode access)

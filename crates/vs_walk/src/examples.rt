@@ -8,7 +8,7 @@ ghost use Rattle.vs_walk.specs.Walk.{all_rights, walk};
 ghost use Rattle.vs_walk.specs.Traversal.{traversal, reached, found, walk_fault};
 ghost use Rattle.vs_walk.specs.Examples.{page_tables, three_tables, one_table, two_empty_frames, one_empty_frame, write_and_exec};
 
-/// Tables of one page of 4 KiB: an address in it, one after it, and the way through the tables.
+/// Tables of one page of 4 KiB: an address in it, one after it, and the traversal.
 pub fn map_then_resolve()
     ensures mapped { walk Four (page_tables 0x4007 0x1007) 1 0x400123 ≡ Mapped 0x1123 K4 all_rights }
     ensures not_mapped { walk Four (page_tables 0x4007 0x1007) 1 0x401000 ≡ NotMapped }
