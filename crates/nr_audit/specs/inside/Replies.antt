@@ -1,16 +1,17 @@
--- What the replies of a trace tell of its calls. No public clause cites this file.
+-- What the calls of a trace are answered, by number. No public clause cites this file.
 use Rattle.std.specs.Prelude.{ℕ, ◌+◌, ◌<◌, ◌≡◌, List, [], length, slice_index_or, Option, option_map, option_and_then}
 use Rattle.nr_trace.specs.Recording.{Recording}
 use Rattle.nr_trace.specs.Calls.{Response, reply_to, address_of}
 use Rattle.nr_trace.specs.Orders.{reads_at}
-use Rattle.nr_audit.specs.declared.tables.Told.{Told}
+use Rattle.nr_audit.specs.declared.history.Reply.{Reply}
 
-abbrev telling : Response → Told
-telling reply = record { at = reply.at; answer = reply.answer }
+-- a reply without the number of its call
+abbrev pub without_call : Response → Reply
+without_call reply = record { at = reply.at; answer = reply.answer }
 
--- what the reply to a call tells
-abbrev pub told_to : Recording → ℕ → Option Told
-told_to trace call = option_map telling (reply_to trace call)
+-- the reply to a call
+abbrev pub replied_to : Recording → ℕ → Option Reply
+replied_to trace call = option_map without_call (reply_to trace call)
 
 -- how many entries an answered read saw
 abbrev pub entries_seen : Recording → ℕ → Option ℕ

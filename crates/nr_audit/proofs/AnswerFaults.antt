@@ -27,11 +27,12 @@ use Rattle.nr_trace.proofs.LawsOfFaults.{wrong_is_member}
 use Rattle.nr_audit.specs.inside.Search.{HasNone, IsFirstAmong}
 use Rattle.nr_audit.specs.inside.Passes.{IsAnswerFault}
 use Rattle.nr_audit.specs.inside.Steps.{Serves}
-use Rattle.nr_audit.specs.inside.Told.{told_to}
-use Rattle.nr_audit.specs.declared.tables.Told.{Told}
+use Rattle.nr_audit.specs.inside.Replies.{without_call, replied_to}
+use Rattle.nr_audit.specs.declared.history.Reply.{Reply}
 use Rattle.nr_audit.proofs.Ranks.{earlier_cases}
-use Rattle.nr_audit.proofs.EventFacts.{no_call_past}
-use Rattle.nr_audit.proofs.PositionFacts.{operation_by}
+use Rattle.nr_audit.proofs.CallsAndReplies.{no_call_past}
+use Rattle.nr_audit.proofs.PositionFaults.{operation_by}
+use Rattle.nr_audit.proofs.RepliesByTable.{response_of}
 
 -- ---- where a call stands among distinct ones
 
@@ -116,10 +117,6 @@ made_of : (o : Option Invocation) (query : Query) → Some query ≡ option_map 
 made_of None query e = absurd (cc)
 made_of (Some made) query e = (made, refl, cc)
 
-reply_told : (o : Option Response) (told : Told) → option_map (λ (r : Response). let t : Told = record { at = r.at; answer = r.answer } in t) o ≡ Some told → (reply : Response) × (o ≡ Some reply) × (reply.answer ≡ told.answer)
-reply_told None told e = absurd (cc)
-reply_told (Some reply) told e = (reply, refl, (let same : ◌≡◌ {A = Told} (record { at = reply.at; answer = reply.answer }) told = cc in ap (λ (t : Told). t.answer) same))
-
 module _ (trace : Recording) (order : List ℕ) (listed : order ≡ recorded_order trace) (clean : HasCleanLog trace) where
   distinct : IsDistinct nat_eq order
   distinct = subst (λ xs. IsDistinct nat_eq xs) (sym listed) (order_distinct trace clean)
@@ -129,31 +126,31 @@ module _ (trace : Recording) (order : List ℕ) (listed : order ≡ recorded_ord
   before_here k within = subst (λ xs. before (get_or order k 0) xs ≡ take k order) listed (before_at order k 0 distinct within)
 
   -- an answer that is told and is not the space's is wrong
-  pub wrong_here : (k : ℕ) (query : Query) (answer : Answer) (told : Option Told) → k < length order → Some query ≡ option_map (λ (made : Invocation). made.request) (call_of trace (get_or order k 0))
-      → answer ≡ answer_in trace.layout (space_after trace (take k order)) query → told ≡ told_to trace (get_or order k 0) → (IfSome told (λ reply. reply.answer ≡ answer) → ⊥) → IsWrong trace (get_or order k 0)
+  pub wrong_here : (k : ℕ) (query : Query) (answer : Answer) (told : Option Reply) → k < length order → Some query ≡ option_map (λ (made : Invocation). made.request) (call_of trace (get_or order k 0))
+      → answer ≡ answer_in trace.layout (space_after trace (take k order)) query → told ≡ replied_to trace (get_or order k 0) → (IfSome told (λ reply. reply.answer ≡ answer) → ⊥) → IsWrong trace (get_or order k 0)
   wrong_here k query answer None within asks gives is differs = absurd (differs tt)
   wrong_here k query answer (Some told) within asks gives is differs =
       let made = made_of (call_of trace (get_or order k 0)) query asks in
-      let reply = reply_told (reply_to trace (get_or order k 0)) told (sym is) in
+      let reply = response_of (reply_to trace (get_or order k 0)) told (sym is) in
       record {
         made = made.0;
         is_made = made.1;
         reply = reply.0;
         is_reply = reply.1;
-        differs = λ same. differs (sym reply.2 ∙ same
+        differs = λ same. differs (sym reply.3 ∙ same
             ∙ ap (λ xs. answer_in trace.layout (space_after trace xs) made.0.request) (before_here k within)
             ∙ ap (λ q. answer_in trace.layout (space_after trace (take k order)) q) made.2 ∙ sym gives);
       }
 
   -- one that is told, if any is, and is the space's is not
-  pub right_here : (k : ℕ) (query : Query) (answer : Answer) (told : Option Told) → k < length order → Some query ≡ option_map (λ (made : Invocation). made.request) (call_of trace (get_or order k 0))
-      → answer ≡ answer_in trace.layout (space_after trace (take k order)) query → told ≡ told_to trace (get_or order k 0) → IfSome told (λ reply. reply.answer ≡ answer) → IsWrong trace (get_or order k 0) → ⊥
+  pub right_here : (k : ℕ) (query : Query) (answer : Answer) (told : Option Reply) → k < length order → Some query ≡ option_map (λ (made : Invocation). made.request) (call_of trace (get_or order k 0))
+      → answer ≡ answer_in trace.layout (space_after trace (take k order)) query → told ≡ replied_to trace (get_or order k 0) → IfSome told (λ reply. reply.answer ≡ answer) → IsWrong trace (get_or order k 0) → ⊥
   right_here k query answer told within asks gives is agrees wrong =
       let made = made_of (call_of trace (get_or order k 0)) query asks in
       let one = made.1 in
       let two = wrong.is_made in
       let same : made.0 ≡ wrong.made = cc in
-      let here = is ∙ ap (λ o. option_map (λ (r : Response). let t : Told = record { at = r.at; answer = r.answer } in t) o) wrong.is_reply in
+      let here = is ∙ ap (λ o. option_map without_call o) wrong.is_reply in
       wrong.differs (subst (λ o. IfSome o (λ reply. reply.answer ≡ answer)) here agrees ∙ gives
       ∙ ap (λ q. answer_in trace.layout (space_after trace (take k order)) q) (sym made.2 ∙ ap (λ (m : Invocation). m.request) same)
       ∙ ap (λ xs. answer_in trace.layout (space_after trace xs) wrong.made.request) (sym (before_here k within)))

@@ -1,4 +1,4 @@
--- What is known of the log of a trace after its first places: the place of each call.
+-- The faults of the log, and what its first places tell: the place of each call.
 use Rattle.std.proofs.Common.{◌≡◌, ◌≢◌, ℕ, ◌+◌, ◌<◌, ◌≤◌, List, [], ◌∷◌, length, replicate, set, get_or, Some, None, Option, refl, sym, ap, subst, ◌∙◌, inl, inr, arith, get_or-set_other, get_or-set_same}
 use Rattle.std.specs.Prelude.{slice_get, is_some, option_and_then}
 use Rattle.std.proofs.lemmas.List.{length-set, length-replicate}
@@ -13,14 +13,14 @@ use Rattle.nr_audit.specs.inside.Search.{HasNone, IsFirstAmong}
 use Rattle.nr_audit.specs.inside.Passes.{IsLogFaultAt, IsLogFault}
 use Rattle.nr_audit.specs.inside.Tables.{IsPlaceBelow, ArePlaces}
 use Rattle.nr_audit.proofs.Ranks.{IsRanked, none_of_all, first_of_all, lower_number}
-use Rattle.nr_audit.proofs.Known.{nothing}
+use Rattle.nr_audit.proofs.CallFaults.{nothing}
 
-pub record IsLogged (trace : Recording) (end : ℕ) (table : List (Option ℕ)) : Type 0 where
+pub record ArePlacesBelow (trace : Recording) (end : ℕ) (table : List (Option ℕ)) : Type 0 where
   pub one_each : length table ≡ length trace.events
   pub each : (call : ℕ) → call < length table → IsPlaceBelow trace end call (get_or table call None)
 
-pub logged_at_start : (trace : Recording) (table : List (Option ℕ)) → table ≡ replicate (length trace.events) None → IsLogged trace 0 table
-logged_at_start trace table e = subst (λ (t : List (Option ℕ)). IsLogged trace 0 t) (sym e) (record {
+pub logged_at_start : (trace : Recording) (table : List (Option ℕ)) → table ≡ replicate (length trace.events) None → ArePlacesBelow trace 0 table
+logged_at_start trace table e = subst (λ (t : List (Option ℕ)). ArePlacesBelow trace 0 t) (sym e) (record {
   one_each = length-replicate {A = Option ℕ} (length trace.events) None;
   each = λ call lt. subst (λ o. IsPlaceBelow trace 0 call o) (sym (nothing (length trace.events) call)) (λ place lt. absurd (omega arith));
 })
@@ -71,7 +71,7 @@ no_log_fault trace none = none_of_all IsLogFaultAt trace (λ place. elim (cases_
   | inr past ↦ none_at trace place (nothing_placed trace place _ past) (nothing_placed trace place _ past)
 ])
 
-pub places_at_end : (trace : Recording) (table : List (Option ℕ)) → IsLogged trace (length trace.log) table → ArePlaces trace table
+pub places_at_end : (trace : Recording) (table : List (Option ℕ)) → ArePlacesBelow trace (length trace.log) table → ArePlaces trace table
 places_at_end trace table logged = record { one_each = logged.one_each; each = logged.each }
 
 no_update_is_first : (trace : Recording) (place : ℕ) (other : Fault) → IsLogFaultAt place other → Earlier trace other (NotAnUpdate place) → ⊥
@@ -91,7 +91,7 @@ update_within trace call update = elim (cases_lt call (length trace.events)) [
   | inr past ↦ absurd (false≢true (sym (ap is_some (ap (λ o. option_and_then (λ (made : Invocation). operation_in made.request) (option_and_then made_by o)) (slice_get_past trace.events call past))) ∙ update))
 ]
 
-module _ (trace : Recording) (end call : ℕ) (table : List (Option ℕ)) (logged : IsLogged trace end table) (has : slice_get trace.log end ≡ Some call) where
+module _ (trace : Recording) (end call : ℕ) (table : List (Option ℕ)) (logged : ArePlacesBelow trace end table) (has : slice_get trace.log end ≡ Some call) where
   it_is : (P : ℕ → Type 0) → HasPlaced trace end P → P call
   it_is P held = let told = held.1 in let same : held.0 ≡ call = cc in subst P same held.2
 
@@ -118,7 +118,7 @@ module _ (trace : Recording) (end call : ℕ) (table : List (Option ℕ)) (logge
       let earlier = it_is (λ c. (earlier : ℕ) × (earlier < end) × (slice_get trace.log earlier ≡ Some c)) held in
       unplaced trace end call (get_or table call None) none (logged.each call (omega (arith, update_within trace call update, logged.one_each))) earlier.0 earlier.1 earlier.2)
 
-  pub logged_after : IsUpdate trace call → get_or table call None ≡ None → IsLogged trace (end + 1) (set table call (Some end))
+  pub logged_after : IsUpdate trace call → get_or table call None ≡ None → ArePlacesBelow trace (end + 1) (set table call (Some end))
   logged_after update none =
       let within : call < length table = omega (arith, update_within trace call update, logged.one_each) in
       record {

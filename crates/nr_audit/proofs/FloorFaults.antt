@@ -28,8 +28,11 @@ stands_as_call trace call entries (inl h) = update_is_call trace call h.0
 stands_as_call trace call entries (inr h) = read_is_call trace call h.0
 
 -- what is no call stands nowhere
+pub no_call_stands : (trace : Recording) (call entries : ℕ) → call_of trace call ≡ None → StandsAfter trace call entries → ⊥
+no_call_stands trace call entries none stands = false≢true (sym (ap is_some none) ∙ stands_as_call trace call entries stands)
+
 pub none_at_other : (trace : Recording) (index : ℕ) → call_of trace index ≡ None → HasNone (IsFloorFaultAt index) trace
-none_at_other trace index none = none_at trace index (λ held. false≢true (sym (ap is_some none) ∙ stands_as_call trace index held.0 held.1))
+none_at_other trace index none = none_at trace index (λ held. no_call_stands trace index held.0 none held.1)
 
 -- a call that stands after at least as many entries as its floor, or nowhere
 pub none_at_call : (trace : Recording) (index : ℕ) (found : Option ℕ) → HasCleanLog trace → Finds (StandsAfter trace index) found

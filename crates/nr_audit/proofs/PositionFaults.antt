@@ -15,7 +15,7 @@ use Rattle.vs_types.specs.declared.answer.Answer.{Answer}
 use Rattle.nr_audit.specs.inside.Search.{HasNone, IsFirstAmong}
 use Rattle.nr_audit.specs.inside.Passes.{IsPositionFaultAt, IsPositionFault}
 use Rattle.nr_audit.proofs.Ranks.{IsRanked, none_of_all, first_of_all, lower_number}
-use Rattle.nr_audit.proofs.EventFacts.{reply_here, no_reply_past, no_reply_with}
+use Rattle.nr_audit.proofs.CallsAndReplies.{reply_here, no_reply_past, no_reply_with}
 
 asked : (o : Option Invocation) → option_and_then (λ (made : Invocation). operation_in made.request) o ≡ option_and_then operation_in (option_map (λ (made : Invocation). made.request) o)
 asked None = refl
@@ -24,6 +24,10 @@ asked (Some made) = refl
 asked_at : (o : Option Invocation) → option_and_then (λ (made : Invocation). address_in made.request) o ≡ option_and_then address_in (option_map (λ (made : Invocation). made.request) o)
 asked_at None = refl
 asked_at (Some made) = refl
+
+pub not_asked : (o : Option Invocation) → option_map (λ (made : Invocation). made.request) o ≡ None → o ≡ None
+not_asked None e = refl
+not_asked (Some made) e = absurd cc
 
 -- what a query tells of its call
 pub operation_by : (trace : Recording) (call : ℕ) (query : Option Query) → query ≡ option_map (λ (made : Invocation). made.request) (call_of trace call) → operation_of trace call ≡ option_and_then operation_in query

@@ -1,4 +1,5 @@
--- What is known of the calls of a trace after its first events: the reply to each, and the last call of each thread.
+-- The faults of calls and replies, and what the first events of a trace tell: the reply to each call, and the last call of
+-- each thread.
 use Rattle.std.proofs.Common.{◌≡◌, ◌≢◌, ℕ, ◌+◌, ◌<◌, ◌≤◌, ◌⊎◌, List, [], ◌∷◌, length, replicate, set, get_or, Some, None, Option, refl, sym, ap, subst, ◌∙◌, inl, inr, arith, get_or-set_other, get_or-set_same}
 use Rattle.std.specs.Prelude.{slice_get}
 use Rattle.std.proofs.lemmas.List.{get_or-replicate, get_or_past, length-set, length-replicate}
@@ -15,9 +16,9 @@ use Rattle.nr_audit.specs.inside.Search.{HasNone, IsFirstAmong}
 use Rattle.nr_audit.specs.inside.Passes.{IsCallFaultAt, IsCallFault}
 use Rattle.nr_audit.specs.inside.Tables.{IsReplyBelow, AreReplies}
 use Rattle.nr_audit.proofs.Ranks.{IsRanked, none_of_all, first_of_all, lower_number}
-use Rattle.nr_audit.proofs.EventFacts.{made_here, no_reply_at_call, reply_here, no_call_at_reply, no_call_past, no_reply_past, answers_by, no_reply_with, no_answer, answers_only}
+use Rattle.nr_audit.proofs.CallsAndReplies.{made_here, no_reply_at_call, reply_here, no_call_at_reply, no_call_past, no_reply_past, answers_by, reply_by, no_reply_with, no_answer, answers_only}
 
-pub record IsKnown (trace : Recording) (end : ℕ) (last table : List (Option ℕ)) : Type 0 where
+pub record HasFound (trace : Recording) (end : ℕ) (last table : List (Option ℕ)) : Type 0 where
   pub threads : length last ≡ trace.layout.threads
   pub one_each : length table ≡ length trace.events
   pub replies : (call : ℕ) → call < length table → IsReplyBelow trace end call (get_or table call None)
@@ -31,7 +32,7 @@ nothing n i = elim (cases_lt i n) [
   | inr past ↦ get_or_past (replicate n None) i None (subst (λ m. m ≤ i) (sym (length-replicate {A = Option ℕ} n None)) past)
 ]
 
-nothing_known : (trace : Recording) → IsKnown trace 0 (replicate trace.layout.threads None) (replicate (length trace.events) None)
+nothing_known : (trace : Recording) → HasFound trace 0 (replicate trace.layout.threads None) (replicate (length trace.events) None)
 nothing_known trace = record {
   threads = length-replicate {A = Option ℕ} trace.layout.threads None;
   one_each = length-replicate {A = Option ℕ} (length trace.events) None;
@@ -41,8 +42,8 @@ nothing_known trace = record {
 }
 
 -- before the first event nothing is known
-pub known_at_start : (trace : Recording) (last table : List (Option ℕ)) → last ≡ replicate trace.layout.threads None → table ≡ replicate (length trace.events) None → IsKnown trace 0 last table
-known_at_start trace last table e f = subst (λ l. IsKnown trace 0 l table) (sym e) (subst (λ t. IsKnown trace 0 (replicate trace.layout.threads None) t) (sym f) (nothing_known trace))
+pub known_at_start : (trace : Recording) (last table : List (Option ℕ)) → last ≡ replicate trace.layout.threads None → table ≡ replicate (length trace.events) None → HasFound trace 0 last table
+known_at_start trace last table e f = subst (λ l. HasFound trace 0 l table) (sym e) (subst (λ t. HasFound trace 0 (replicate trace.layout.threads None) t) (sym f) (nothing_known trace))
 
 -- an event that is no reply to the call leaves what is known of the reply to it
 reply_stays : (trace : Recording) (end call : ℕ) (o : Option ℕ) → (Answers trace end call → ⊥) → IsReplyBelow trace end call o → IsReplyBelow trace (end + 1) call o
@@ -118,16 +119,32 @@ no_call_fault trace none = none_of_all IsCallFaultAt trace (λ index. elim (case
 ])
 
 -- what is known after all events
-pub table_at_end : (trace : Recording) (last table : List (Option ℕ)) → IsKnown trace (length trace.events) last table → AreReplies trace table
-table_at_end trace last table known = record { one_each = known.one_each; each = known.replies }
+pub table_at_end : (trace : Recording) (last table : List (Option ℕ)) → HasNone IsCallFault trace → HasFound trace (length trace.events) last table → AreReplies trace table
+table_at_end trace last table clean known = record {
+  one_each = known.one_each;
+  each = known.replies;
+  no_other = λ call past index answers.
+      let named = reply_by trace index call answers in
+      clean (NoSuchCall index) (index, refl) (
+        named.0,
+        named.1,
+        λ such. let low = such.0 in let same = named.2 in let within = reply_within trace index named.0 named.1 in
+            omega (arith, known.one_each),
+      );
+} where
+  reply_within : (trace : Recording) (index : ℕ) (reply : Response) → reply_of trace index ≡ Some reply → index < length trace.events
+  reply_within trace index reply is = elim (cases_lt index (length trace.events)) [
+    | inl low ↦ low
+    | inr past ↦ absurd (let none = no_reply_past trace index past in cc)
+  ]
 
-module _ (trace : Recording) (end : ℕ) (last table : List (Option ℕ)) (known : IsKnown trace end last table) (within : end < length trace.events) where
+module _ (trace : Recording) (end : ℕ) (last table : List (Option ℕ)) (known : HasFound trace end last table) (within : end < length trace.events) where
   below_table : (call : ℕ) → call < end → call < length table
   below_table call lt = omega (arith, known.one_each)
 
   module _ (replica thread : ℕ) (request : Query) (is : slice_get trace.events end ≡ Some (Call replica thread request)) where
     -- what a call adds to what is known
-    pub known_after_call : thread < trace.layout.threads → IsIdle last table thread → IsKnown trace (end + 1) (set last thread (Some end)) table
+    pub known_after_call : thread < trace.layout.threads → IsIdle last table thread → HasFound trace (end + 1) (set last thread (Some end)) table
     known_after_call few idle = record {
       threads = length-set last thread (Some end) ∙ known.threads;
       one_each = known.one_each;
@@ -235,7 +252,7 @@ module _ (trace : Recording) (end : ℕ) (last table : List (Option ℕ)) (known
         let first = names_it (λ reply. (earlier : ℕ) × (earlier < end) × Answers trace earlier reply.call) held in
         unanswered trace end call (get_or table call None) none (known.replies call (below_table call low)) first.0 first.1 first.2)
 
-    pub known_after_reply : call < end → get_or table call None ≡ None → IsKnown trace (end + 1) last (set table call (Some end))
+    pub known_after_reply : call < end → get_or table call None ≡ None → HasFound trace (end + 1) last (set table call (Some end))
     known_after_reply low none = record {
       threads = known.threads;
       one_each = length-set table call (Some end) ∙ known.one_each;
