@@ -5,13 +5,13 @@ use Rattle.std.specs.Cmp.{nat_cmp_total}
 use Rattle.vs_types.specs.Depth.{index_at}
 use Rattle.vs_types.specs.Page.{intersection}
 use Rattle.vs_types.specs.Entry.{meaning}
-use Rattle.vs_types.specs.declared.depth.Depth.TheVariants.{Four}
+use Rattle.vs_types.specs.declared.depth.Depth.TheVariants.{Four, Five}
 use Rattle.vs_types.specs.declared.page.Rights.{Rights}
 use Rattle.vs_types.specs.declared.page.Size.TheVariants.{K4, M2}
 use Rattle.vs_types.specs.declared.entry.Meaning.TheVariants as entry
 use Rattle.vs_walk.specs.Walk.{all_rights, walk}
 use Rattle.vs_walk.specs.Traversal.{Visit, OfFrame, OfLeaf, OfReservedBit, traversal, first_fault_after, walk_fault}
-use Rattle.vs_walk.specs.Examples.{one_word, no_words, page_tables, three_tables, one_table, two_empty_frames, one_empty_frame}
+use Rattle.vs_walk.specs.Examples.{one_word, no_words, page_tables, high_tables, three_tables, one_table, two_empty_frames, one_empty_frame}
 use Rattle.vs_walk.specs.declared.walk.Walk.TheVariants.{NotMapped, Reserved, Missing, Mapped}
 use Rattle.vs_walk.specs.declared.walk.WalkFault.TheVariants as faults
 use Rattle.vs_walk.proofs.Walks.{walk_missing}
@@ -207,3 +207,91 @@ pub missing_root : walk_fault Four one_empty_frame 5 ≡ Some (faults.Missing 5)
 missing_root =
     ap (first_fault_after one_empty_frame []) (visits_of_missing Four one_empty_frame 3 (record { number = 5; start = 0; rights = all_rights }) no_root)
     ∙ missing one_empty_frame [] [] 5 no_root
+
+-- ---- five levels
+
+abbrev high_rows : List (ℕ × List ℕ)
+high_rows = (1, one_word 256 0x2007) ∷ (2, one_word 0 0x3007) ∷ (3, one_word 0 0x4007) ∷ (4, one_word 0 0x5007) ∷ (5, one_word 0 0x3007) ∷ []
+
+high_frame_1 : finite.get high_tables 1 ≡ Some (one_word 256 0x2007)
+high_frame_1 = finite.get-from_entries nat_cmp_total high_rows 1
+
+high_frame_2 : finite.get high_tables 2 ≡ Some (one_word 0 0x3007)
+high_frame_2 = finite.get-from_entries nat_cmp_total high_rows 2
+
+high_frame_3 : finite.get high_tables 3 ≡ Some (one_word 0 0x4007)
+high_frame_3 = finite.get-from_entries nat_cmp_total high_rows 3
+
+high_frame_4 : finite.get high_tables 4 ≡ Some (one_word 0 0x5007)
+high_frame_4 = finite.get-from_entries nat_cmp_total high_rows 4
+
+high_frame_5 : finite.get high_tables 5 ≡ Some (one_word 0 0x3007)
+high_frame_5 = finite.get-from_entries nat_cmp_total high_rows 5
+
+pub high_walk : walk Five high_tables 1 0xFF00000000000123 ≡ Mapped 0x3123 K4 all_rights
+high_walk =
+    at_word high_tables 4 1 all_rights 0xFF00000000000123 256 0x2007 (entry.Table 2 all_rights) high_frame_1 (omega arith) refl refl
+    ∙ at_word high_tables 3 2 all_rights 0xFF00000000000123 0 0x3007 (entry.Table 3 all_rights) high_frame_2 (omega arith) refl refl
+    ∙ at_word high_tables 2 3 all_rights 0xFF00000000000123 0 0x4007 (entry.Table 4 all_rights) high_frame_3 (omega arith) refl refl
+    ∙ at_word high_tables 1 4 all_rights 0xFF00000000000123 0 0x5007 (entry.Table 5 all_rights) high_frame_4 (omega arith) refl refl
+    ∙ at_word high_tables 0 5 all_rights 0xFF00000000000123 0 0x3007 (entry.Leaf 0x3000 all_rights) high_frame_5 (omega arith) refl refl
+
+pub high_walk_with_four : walk Four high_tables 1 0xFFFF800000000123 ≡ Mapped 0x5123 K4 all_rights
+high_walk_with_four =
+    at_word high_tables 3 1 all_rights 0xFFFF800000000123 256 0x2007 (entry.Table 2 all_rights) high_frame_1 (omega arith) refl refl
+    ∙ at_word high_tables 2 2 all_rights 0xFFFF800000000123 0 0x3007 (entry.Table 3 all_rights) high_frame_2 (omega arith) refl refl
+    ∙ at_word high_tables 1 3 all_rights 0xFFFF800000000123 0 0x4007 (entry.Table 4 all_rights) high_frame_3 (omega arith) refl refl
+    ∙ at_word high_tables 0 4 all_rights 0xFFFF800000000123 0 0x5007 (entry.Leaf 0x5000 all_rights) high_frame_4 (omega arith) refl refl
+
+pub high_walk_below : walk Five high_tables 1 0x123 ≡ NotMapped
+high_walk_below = beside_word high_tables 4 1 all_rights 0x123 256 0x2007 high_frame_1 (omega arith)
+
+pub high_visits : traversal Five high_tables 1
+    ≡ OfFrame 1 ∷ OfFrame 2 ∷ OfFrame 3 ∷ OfFrame 4 ∷ OfFrame 5 ∷ OfLeaf (record { base = 0xFF00000000000000; size = K4; phys = 0x3000; rights = all_rights }) ∷ []
+high_visits =
+    visits_of_word Five high_tables 4 256 0x2007
+    (record { number = 1; start = 0; rights = all_rights }) (entry.Table 2 all_rights) high_frame_1 (omega arith) refl
+    ∙ ap (λ ms. OfFrame 1 ∷ ms) (visits_of_word Five high_tables 3 0 0x3007
+    (record { number = 2; start = 0x100000000000000; rights = all_rights }) (entry.Table 3 all_rights) high_frame_2 (omega arith) refl
+    ∙ ap (λ ms. OfFrame 2 ∷ ms) (visits_of_word Five high_tables 2 0 0x4007
+    (record { number = 3; start = 0x100000000000000; rights = all_rights }) (entry.Table 4 all_rights) high_frame_3 (omega arith) refl
+    ∙ ap (λ ms. OfFrame 3 ∷ ms) (visits_of_word Five high_tables 1 0 0x5007
+    (record { number = 4; start = 0x100000000000000; rights = all_rights }) (entry.Table 5 all_rights) high_frame_4 (omega arith) refl
+    ∙ ap (λ ms. OfFrame 4 ∷ ms) (visits_of_word Five high_tables 0 0 0x3007
+    (record { number = 5; start = 0x100000000000000; rights = all_rights }) (entry.Leaf 0x3000 all_rights) high_frame_5 (omega arith) refl))))
+
+pub high_visits_with_four : traversal Four high_tables 1
+    ≡ OfFrame 1 ∷ OfFrame 2 ∷ OfFrame 3 ∷ OfFrame 4 ∷ OfLeaf (record { base = 0xFFFF800000000000; size = K4; phys = 0x5000; rights = all_rights }) ∷ []
+high_visits_with_four =
+    visits_of_word Four high_tables 3 256 0x2007
+    (record { number = 1; start = 0; rights = all_rights }) (entry.Table 2 all_rights) high_frame_1 (omega arith) refl
+    ∙ ap (λ ms. OfFrame 1 ∷ ms) (visits_of_word Four high_tables 2 0 0x3007
+    (record { number = 2; start = 0x800000000000; rights = all_rights }) (entry.Table 3 all_rights) high_frame_2 (omega arith) refl
+    ∙ ap (λ ms. OfFrame 2 ∷ ms) (visits_of_word Four high_tables 1 0 0x4007
+    (record { number = 3; start = 0x800000000000; rights = all_rights }) (entry.Table 4 all_rights) high_frame_3 (omega arith) refl
+    ∙ ap (λ ms. OfFrame 3 ∷ ms) (visits_of_word Four high_tables 0 0 0x5007
+    (record { number = 4; start = 0x800000000000; rights = all_rights }) (entry.Leaf 0x5000 all_rights) high_frame_4 (omega arith) refl)))
+
+pub high_faultless : walk_fault Five high_tables 1 ≡ None
+high_faultless =
+    let page : List Visit = OfLeaf (record { base = 0xFF00000000000000; size = K4; phys = 0x3000; rights = all_rights }) ∷ [] in
+    ap (first_fault_after high_tables []) high_visits
+    ∙ fine high_tables [] (OfFrame 2 ∷ OfFrame 3 ∷ OfFrame 4 ∷ OfFrame 5 ∷ page) 1 _ high_frame_1 refl
+    ∙ fine high_tables (OfFrame 1 ∷ []) (OfFrame 3 ∷ OfFrame 4 ∷ OfFrame 5 ∷ page) 2 _ high_frame_2 refl
+    ∙ fine high_tables (OfFrame 1 ∷ OfFrame 2 ∷ []) (OfFrame 4 ∷ OfFrame 5 ∷ page) 3 _ high_frame_3 refl
+    ∙ fine high_tables (OfFrame 1 ∷ OfFrame 2 ∷ OfFrame 3 ∷ []) (OfFrame 5 ∷ page) 4 _ high_frame_4 refl
+    ∙ fine high_tables (OfFrame 1 ∷ OfFrame 2 ∷ OfFrame 3 ∷ OfFrame 4 ∷ []) page 5 _ high_frame_5 refl
+
+pub root_bit : walk_fault Five (one_table 0x87) 1 ≡ Some (faults.Reserved 1 0)
+root_bit =
+    ap (first_fault_after (one_table 0x87) [])
+    (visits_of_word Five (one_table 0x87) 4 0 0x87 (record { number = 1; start = 0; rights = all_rights }) entry.Reserved (only_frame 0x87) (omega arith) refl)
+    ∙ fine (one_table 0x87) [] (OfReservedBit 1 0 ∷ []) 1 _ (only_frame 0x87) refl
+
+pub empty_root : walk_fault Five one_empty_frame 1 ≡ None
+empty_root =
+    ap (first_fault_after one_empty_frame []) (visits_of_nothing Five one_empty_frame 4 (record { number = 1; start = 0; rights = all_rights }) only_empty_frame)
+    ∙ fine one_empty_frame [] [] 1 _ only_empty_frame refl
+  where
+    only_empty_frame : finite.get one_empty_frame 1 ≡ Some no_words
+    only_empty_frame = finite.get-from_entries nat_cmp_total ((1, no_words) ∷ []) 1

@@ -63,6 +63,11 @@ all_is depth =
     up : (n : ℕ) → 0 < n → n ≡ suc (n - 1)
     up n some = omega arith
 
+pub halves_fit : (depth : Depth) → 2 * half_bytes depth ≤ 2 ^ 64
+halves_fit depth = let all = all_is depth in fits (half_bytes depth) (table_bytes (levels depth)) (2 ^ 64) all.0 (whole_is depth) all.1 where
+  fits : (half whole all k : ℕ) → whole ≡ 2 * half → all ≡ suc k * whole → 2 * half ≤ all
+  fits half whole all k is e = omega arith
+
 -- the translated bits of an address
 pub record HasBits (depth : Depth) (address : ℕ) : Type 0 where
   pub bits : ℕ
@@ -94,15 +99,12 @@ bits_of depth address canonical =
       above = all.0;
       few = high_few address (half_bytes depth) (table_bytes (levels depth)) (2 ^ 64) whole high.0 high.1;
       split = high_split address (half_bytes depth) (table_bytes (levels depth)) (2 ^ 64) all.0 whole all.1 high.0;
-      is = bits_high (half_bytes depth) (2 ^ 64) address (fits (half_bytes depth) (table_bytes (levels depth)) (2 ^ 64) all.0 whole all.1) high.0;
+      is = bits_high (half_bytes depth) (2 ^ 64) address (halves_fit depth) high.0;
     })
     ((canonical_means depth address).0 canonical)
   where
     low_few : (address half whole : ℕ) → whole ≡ 2 * half → address < half → address < whole
     low_few address half whole is lt = omega arith
-
-    fits : (half whole all k : ℕ) → whole ≡ 2 * half → all ≡ suc k * whole → 2 * half ≤ all
-    fits half whole all k is e = omega arith
 
     high_few : (address half whole all : ℕ) → whole ≡ 2 * half → all - half ≤ address → address < all → address - (all - 2 * half) < whole
     high_few address half whole all is le lt = omega arith

@@ -1,13 +1,14 @@
 -- Where the entries of a table stand.
 use Rattle.std.proofs.Common.{◌≡◌, ℕ, zero, suc, ◌+◌, ◌-◌, ◌*◌, ◌^◌, ◌<◌, ◌≤◌, ◌%◌, sym, ap, subst, ◌∙◌, arith, w64}
 use Rattle.std.proofs.Common.{Fits as Fits-word}
-use Rattle.vs_types.specs.declared.depth.Depth.TheVariants.{Four}
+use lib.Pow.{pow_mono}
 use Rattle.vs_types.specs.Depth.{levels, entry_bytes, table_bytes, half_bytes}
 use Rattle.vs_types.specs.declared.depth.Depth.{Depth}
 use Rattle.vs_types.specs.declared.page.Rights.{Rights}
 use Rattle.vs_walk.specs.inside.Traversed.{Fits}
 use Rattle.vs_walk.specs.declared.traversal.TablePosition.{TablePosition}
-use Rattle.vs_walk.proofs.TranslatedBits.{entry_is_table, entry_some}
+use Rattle.vs_walk.proofs.TranslatedBits.{halves_fit, entry_is_table, entry_some}
+use Rattle.vs_walk.proofs.Walks.{few_levels}
 use Rattle.vs_walk.proofs.LawsOfFoundPages.{entry_fits}
 
 -- an entry lies in what its table covers
@@ -22,6 +23,24 @@ entry_within depth place index fits within = at_level place.level fits.lowest fi
 pub entry_begins : (depth : Depth) (place : TablePosition) (index : ℕ) → Fits depth place → index < 512
     → place.start + index * entry_bytes place.level < 2 * half_bytes depth
 entry_begins depth place index fits within = let below = entry_within depth place index fits within in let some = entry_some place.level in omega arith
+
+-- and where it begins is computed so
+pub offset_is : (depth : Depth) (place : TablePosition) (index : ℕ) → Fits depth place → index < 512
+    → index * 2 ^ (3 + 9 * place.level) % 18446744073709551616 ≡ index * entry_bytes place.level
+offset_is depth place index fits within =
+    let begins = entry_begins depth place index fits within in
+    let few = halves_fit depth in
+    small (index * entry_bytes place.level) (omega arith)
+  where
+    small : (n : ℕ) → n < 2 ^ 64 → n % 18446744073709551616 ≡ n
+    small n lt = omega arith
+
+pub start_fits : (depth : Depth) (place : TablePosition) (index : ℕ) → Fits depth place → index < 512
+    → Fits-word w64 (place.start + index * 2 ^ (3 + 9 * place.level) % 18446744073709551616)
+start_fits depth place index fits within =
+    let begins = entry_begins depth place index fits within in
+    let few = halves_fit depth in
+    subst (λ n. Fits-word w64 (place.start + n)) (sym (offset_is depth place index fits within)) (omega arith)
 
 -- the table that an entry leads to fits
 pub fits_below : (depth : Depth) (place : TablePosition) (index start number : ℕ) (rights : Rights) → Fits depth place → index < 512 → 1 < place.level
@@ -42,5 +61,11 @@ fits_below depth place index start number rights fits within lower is = record {
 -- the address of an entry fits
 pub address_fits : (depth : Depth) (n start : ℕ) → n ≡ levels depth → start < 2 * half_bytes depth
     → Fits-word w64 (start + (18446744073709551615 - 1 * 2 ^ (11 + 9 * n) % 18446744073709551616 - 1 * 2 ^ (11 + 9 * n) % 18446744073709551616 + 1))
-address_fits Four n start is below = subst (λ m. Fits-word w64
-    (start + (18446744073709551615 - 1 * 2 ^ (11 + 9 * m) % 18446744073709551616 - 1 * 2 ^ (11 + 9 * m) % 18446744073709551616 + 1))) (sym is) (omega arith)
+address_fits depth n start is below =
+    let half : half_bytes depth ≡ 2 ^ (11 + 9 * n) = ap (λ e. 2 ^ e) (omega arith) in
+    subst (λ (h : ℕ). Fits-word w64 (start + (18446744073709551615 - 1 * h % 18446744073709551616 - 1 * h % 18446744073709551616 + 1))) half
+    (at_half (half_bytes depth) (pow_mono {j = 56} (omega (arith, few_levels depth))) below)
+  where
+    at_half : (half : ℕ) → half ≤ 2 ^ 56 → start < 2 * half
+        → Fits-word w64 (start + (18446744073709551615 - 1 * half % 18446744073709551616 - 1 * half % 18446744073709551616 + 1))
+    at_half half few lt = omega arith

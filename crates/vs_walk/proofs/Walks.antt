@@ -4,7 +4,7 @@ use Rattle.std.specs.FinMap as finite
 use Rattle.vs_types.specs.Depth.{levels, entry_bytes, index_at}
 use Rattle.vs_types.specs.Entry.{meaning}
 use Rattle.vs_types.specs.declared.depth.Depth.{Depth}
-use Rattle.vs_types.specs.declared.depth.Depth.TheVariants.{Four}
+use Rattle.vs_types.specs.declared.depth.Depth.TheVariants.{Four, Five}
 use Rattle.vs_types.specs.declared.page.Rights.{Rights}
 use Rattle.vs_types.specs.declared.entry.Meaning.{Meaning}
 use Rattle.vs_types.specs.declared.entry.Meaning.TheVariants as entry
@@ -14,6 +14,7 @@ use Rattle.vs_walk.specs.declared.walk.Walk.TheVariants.{Missing}
 
 pub few_levels : (depth : Depth) → levels depth ≤ 5
 few_levels Four = omega arith
+few_levels Five = omega arith
 
 pub walk_nowhere : (memory : Memory) (number : ℕ) (rights : Rights) (address : ℕ) → walk_from memory 0 number rights address ≡ Missing
 unfolding walk_from
