@@ -7,9 +7,10 @@ ghost use Rattle.nr_audit.specs.inside.Prefixes.{AreNeeds};
 ghost use Rattle.nr_audit.specs.inside.Search.{HasNone, IsFirstAmong};
 ghost use Rattle.nr_audit.specs.inside.Steps.{space_of};
 
+use crate::history::History;
 use crate::prefixes::{apply_places, entries_needed};
 use nr_dump::{DumpFault, check};
-use nr_trace::{Fault, Trace};
+use nr_trace::Fault;
 use std::alloc::Global;
 use vs_plain::PlainSpace;
 use vs_types::{Fail, Memory};
@@ -32,49 +33,49 @@ fn fault_at(replica: u8, fault: DumpFault) -> Fault
 /// the empty space.
 fn go_to(
     alloc: Global,
-    trace: &Trace,
+    history: &History,
     space: &mut PlainSpace,
     from: usize,
     to: usize,
 ) -> Result<(), Memory>
-    requires within { to ≤ length trace.now.log }
-    requires before { space.old ≡ space_of trace.now.layout (space_after trace.now (take from trace.now.log)) }
-    ensures { OnOk result (space.new ≡ space_of trace.now.layout (space_after trace.now (take to trace.now.log))) }
+    requires within { to ≤ length history.now.log }
+    requires before { space.old ≡ space_of history.now.layout (space_after history.now (take from history.now.log)) }
+    ensures { OnOk result (space.new ≡ space_of history.now.layout (space_after history.now (take to history.now.log))) }
 {
     if to < from {
-        let config = trace.config();
+        let config = history.config();
         *space = PlainSpace::new(alloc, config.tables(), config.depth());
-        return apply_places(trace, space, 0, to);
+        return apply_places(history, space, 0, to);
     }
-    apply_places(trace, space, from, to)
+    apply_places(history, space, from, to)
 }
 
 /// Looks for what is wrong with a replica's dump: with how many entries it has applied, and then with its tables, beside
 /// the space after these. The space is taken there from the one after the entries of another dump.
 fn check_dump(
     alloc: Global,
-    trace: &Trace,
+    history: &History,
     replica: usize,
     needed: &[u64; 4],
     space: &mut PlainSpace,
     from: usize,
 ) -> Result<usize, Fail<Fault>>
-    requires replica { replica < length trace.now.dumps }
-    requires needed { AreNeeds trace.now (length trace.now.events) needed.now }
-    requires before { space.old ≡ space_of trace.now.layout (space_after trace.now (take from trace.now.log)) }
-    ensures clean { OnOk result (HasNone (IsDumpFaultAt replica) trace.now) }
-    ensures first { IfErr result (IfRefused (IsFirstAmong (IsDumpFaultAt replica) trace.now)) }
-    ensures after { IfOk result (λ applied. space.new ≡ space_of trace.now.layout (space_after trace.now (take applied trace.now.log))) }
+    requires replica { replica < length history.now.dumps }
+    requires needed { AreNeeds history.now (length history.now.events) needed.now }
+    requires before { space.old ≡ space_of history.now.layout (space_after history.now (take from history.now.log)) }
+    ensures clean { OnOk result (HasNone (IsDumpFaultAt replica) history.now) }
+    ensures first { IfErr result (IfRefused (IsFirstAmong (IsDumpFaultAt replica) history.now)) }
+    ensures after { IfOk result (λ applied. space.new ≡ space_of history.now.layout (space_after history.now (take applied history.now.log))) }
 {
-    let dump = &trace.dumps()[replica];
+    let dump = &history.dumps()[replica];
     let applied = dump.applied() as usize;
-    if applied > trace.log().len() {
+    if applied > history.log().len() {
         return Err(Fail::Refused(Fault::PrefixPastLog(replica as u8)));
     }
     if (applied as u64) < needed[replica] {
         return Err(Fail::Refused(Fault::PrefixShort(replica as u8)));
     }
-    go_to(alloc, trace, space, from, applied)?;
+    go_to(alloc, history, space, from, applied)?;
     match check(alloc, dump, space) {
         Ok(()) => Ok(applied),
         Err(Fail::Memory) => Err(Fail::Memory),
@@ -84,16 +85,16 @@ fn check_dump(
 
 /// Looks for what is wrong with the dumps, one after another. Takes memory for a space, and for what a check of a dump
 /// takes.
-pub(crate) fn check_dumps(alloc: Global, trace: &Trace) -> Result<(), Fail<Fault>>
-    ensures clean { OnOk result (HasNone IsDumpFault trace.now) }
-    ensures first { IfErr result (IfRefused (IsFirstAmong IsDumpFault trace.now)) }
+pub(crate) fn check_dumps(alloc: Global, history: &History) -> Result<(), Fail<Fault>>
+    ensures clean { OnOk result (HasNone IsDumpFault history.now) }
+    ensures first { IfErr result (IfRefused (IsFirstAmong IsDumpFault history.now)) }
 {
-    let needed = entries_needed(trace);
-    let config = trace.config();
+    let needed = entries_needed(history);
+    let config = history.config();
     let mut space = PlainSpace::new(alloc, config.tables(), config.depth());
     let mut applied = 0;
-    for replica in 0..trace.dumps().len() {
-        applied = check_dump(alloc, trace, replica, &needed, &mut space, applied)?;
+    for replica in 0..history.dumps().len() {
+        applied = check_dump(alloc, history, replica, &needed, &mut space, applied)?;
     }
     Ok(())
 }

@@ -1,25 +1,24 @@
 -- What is wrong with a dump beside a space, as statements, which comes first, and what is so of a dump with nothing wrong.
-use Rattle.std.specs.Prelude.{◌≡◌, ℕ, ◌<◌, Some, nat_eq}
+use Rattle.std.specs.Prelude.{ℕ, ◌<◌, nat_eq}
 use Rattle.std.specs.List.{IsDistinct}
 use Rattle.vs_types.specs.Space.{Space}
 use Rattle.vs_types.specs.declared.depth.Depth.{Depth}
 use Rattle.vs_walk.specs.Walk.{TranslatesAs}
-use Rattle.vs_walk.specs.Traversal.{traversal, reached, walk_fault}
-use Rattle.vs_walk.specs.Differences.{IsStray, TranslatesOtherwise, IsLeast}
+use Rattle.vs_walk.specs.Traversal.{traversal, reached}
+use Rattle.vs_walk.specs.Differences.{IsStray, HasMissingFrame, HasSharedFrame, HasReservedBit, HasStrayFrame, HasDifference}
 use Rattle.vs_walk.specs.Dump.{Image}
-use Rattle.vs_walk.specs.declared.walk.WalkFault.TheVariants as walks
 use Rattle.nr_dump.specs.declared.fault.DumpFault.{DumpFault}
 use Rattle.nr_dump.specs.declared.fault.DumpFault.TheVariants.{MissingFrame, SharedFrame, ReservedBit, StrayFrame, Differs}
 
 -- what each fault says of a dump and of the space that it is to translate as
 abbrev pub HoldsOfDump : Depth → Image → Space → DumpFault → Type 0
-HoldsOfDump depth dump space (MissingFrame number) = walk_fault depth dump.frames dump.root ≡ Some (walks.Missing number)
-HoldsOfDump depth dump space (SharedFrame number) = walk_fault depth dump.frames dump.root ≡ Some (walks.Shared number)
-HoldsOfDump depth dump space (ReservedBit number index) = walk_fault depth dump.frames dump.root ≡ Some (walks.Reserved number index)
-HoldsOfDump depth dump space (StrayFrame number) = IsLeast (IsStray depth dump.frames dump.root) number
-HoldsOfDump depth dump space (Differs address) = IsLeast (TranslatesOtherwise depth dump.frames dump.root space) address
+HoldsOfDump depth dump space (MissingFrame number) = HasMissingFrame depth dump number
+HoldsOfDump depth dump space (SharedFrame number) = HasSharedFrame depth dump number
+HoldsOfDump depth dump space (ReservedBit number index) = HasReservedBit depth dump number index
+HoldsOfDump depth dump space (StrayFrame number) = HasStrayFrame depth dump number
+HoldsOfDump depth dump space (Differs address) = HasDifference depth dump space address
 
--- the first fault on the way through the tables comes first, then a stray frame, then a translation that differs
+-- the first fault of the traversal comes first, then a stray frame, then a translation that differs
 abbrev pub rank_in_dump : DumpFault → ℕ
 rank_in_dump (MissingFrame number) = 1
 rank_in_dump (SharedFrame number) = 1

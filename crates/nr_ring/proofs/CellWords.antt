@@ -3,15 +3,13 @@ use Rattle.std.proofs.Common.{◌≡◌, ◌≢◌, ℕ, zero, suc, ◌+◌, ◌
 use Rattle.std.specs.Prelude.{slice_get, slice_index}
 use Rattle.std.proofs.Math.ListN.{length-append, length-set}
 use Rattle.std.proofs.lemmas.List.{get_or-set_same, get_or-set_other}
-use Rattle.std.proofs.lemmas.Option.{slice_get_within}
 use Rattle.std.proofs.lemmas.Bool.Decides.{eqb_tells}
-use Rattle.vs_types.specs.LogEntry.{log_words}
 use Rattle.vs_types.specs.declared.depth.Depth.{Depth}
 use Rattle.vs_types.specs.declared.log_entry.LogEntry.{LogEntry}
-use Rattle.nr_ring.specs.History.{Log, tail, local_of, completed, MayAdvance, MayAppend, after}
+use Rattle.nr_ring.specs.History.{Log, tail, MayAdvance, MayAppend, after}
 use Rattle.nr_ring.specs.Words.{word_of, IsWordsOf, advanced_words, IsAppended}
 use Rattle.nr_ring.specs.declared.event.Event.TheVariants.{Append, Advance}
-use Rattle.nr_ring.proofs.Tails.{greatest_raised, le_or_lt}
+use Rattle.nr_ring.proofs.LocalTails.{greatest_raised, le_or_lt}
 
 -- a word that an advance leaves
 left_alone : (words : List ℕ) (replica to word : ℕ) → word ≢ 1 → word ≢ 2 + replica → slice_index (advanced_words replica to words) word ≡ slice_index words word

@@ -11,7 +11,7 @@ use Rattle.nr_ring.specs.View.{StartsWith}
 use Rattle.nr_ring.specs.Laws.{HasGoneOn, HasSameTails, FitsTheRing}
 use Rattle.nr_ring.specs.declared.event.Event.{Event}
 use Rattle.nr_ring.specs.declared.event.Event.TheVariants.{Append, Advance}
-use Rattle.nr_ring.proofs.Tails.{below_greatest, greatest_least, raised, still_below, le_or_lt, all_or_one}
+use Rattle.nr_ring.proofs.LocalTails.{below_greatest, greatest_least, raised, still_below, le_or_lt, all_or_one}
 
 gone_on : (p q : Log) → (rest : List LogEntry) × (q.entries ≡ p.entries ++ rest) → length q.locals ≡ length p.locals → ((replica : ℕ) → local_of p replica ≤ local_of q replica) → HasGoneOn p q
 gone_on p q more same higher = record {

@@ -1,5 +1,5 @@
 -- A pass that has made nothing and owns nothing is joined to another.
-use Rattle.std.proofs.Common.{◌≡◌, ◌≢◌, ℕ, zero, suc, ◌+◌, ◌<◌, ◌≤◌, Bool, true, false, List, [], ◌∷◌, ◌++◌, All, Contains, drop, length, get_or, set, nat_lt, if◌then◌else◌, ◌⊎◌, inl, inr, ⊎_elim, refl, ap, sym, subst, ◌∙◌, le_refl, arith}
+use Rattle.std.proofs.Common.{◌≡◌, ◌≢◌, ℕ, zero, suc, ◌+◌, ◌≤◌, Bool, true, false, List, [], ◌∷◌, ◌++◌, All, Contains, drop, length, set, nat_lt, if◌then◌else◌, ◌⊎◌, inl, inr, ⊎_elim, refl, ap, sym, subst, ◌∙◌, arith}
 use Rattle.std.specs.Prelude.{slice_index_or}
 use Rattle.std.proofs.Math.ListN.{length-append, length-set}
 use Rattle.std.proofs.lemmas.List.{get_or-append-add}
@@ -13,7 +13,6 @@ use Rattle.nr_ring.specs.Rule.{IsKept}
 use Rattle.nr_ring.specs.Calls.{joined, spent}
 use Rattle.nr_ring.specs.declared.event.Event.{Event}
 use Rattle.nr_ring.specs.declared.view.View.{View}
-use Rattle.nr_ring.proofs.Tails.{le_or_lt}
 
 -- who has seen more has seen as many advances
 else_later : (replica : ℕ) (seen more rest later : List Event) → seen ++ rest ≡ more ++ later → length seen ≤ length more → All (IsElse replica) rest → All (IsElse replica) later

@@ -1,4 +1,4 @@
-pub mod Tails
+pub mod LocalTails
 pub mod Histories
 pub mod Rounds
 pub mod Views
@@ -7,3 +7,4 @@ pub mod CellWords
 pub mod Splits
 pub mod Joins
 pub mod NewLog
+pub mod Passes

@@ -7,7 +7,7 @@ use lib.ListN.{get_elem?}
 use Rattle.vs_types.specs.declared.depth.Depth.{Depth}
 use Rattle.nr_ring.specs.History.{new_log, greatest}
 use Rattle.nr_ring.specs.Words.{IsWordsOf, new_words}
-use Rattle.nr_ring.specs.View.{made_by, IsTrueOf}
+use Rattle.nr_ring.specs.View.{IsTrueOf}
 use Rattle.nr_ring.specs.Rule.{IsKept}
 use Rattle.nr_ring.specs.declared.view.View.{View}
 
@@ -37,7 +37,7 @@ high replicas (suc (suc (suc (suc (suc zero))))) le = refl
 high replicas (suc (suc (suc (suc (suc (suc zero)))))) le = absurd (omega arith)
 high replicas (suc (suc (suc (suc (suc (suc (suc word))))))) le = zeros 32 word
 
-new_is : (replicas : ℕ) → IsWordsOf (new_log replicas) (new_words replicas)
+pub new_is : (replicas : ℕ) → IsWordsOf (new_log replicas) (new_words replicas)
 new_is replicas = record {
   long = refl;
   tail_is = refl;

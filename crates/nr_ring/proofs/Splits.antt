@@ -11,7 +11,6 @@ use Rattle.vs_types.specs.declared.depth.Depth.{Depth}
 use Rattle.nr_ring.specs.View.{HasSeenAdvances, made_from, made_by, IsTrueOf}
 use Rattle.nr_ring.specs.Rule.{IsKept}
 use Rattle.nr_ring.specs.Calls.{IsCut, keeping, copied}
-use Rattle.nr_ring.specs.declared.event.Event.{Event}
 use Rattle.nr_ring.specs.declared.view.View.{View}
 use Rattle.nr_ring.proofs.Views.{contains_item}
 

@@ -1,16 +1,16 @@
 -- The steps on the cell keep its rule.
-use Rattle.std.proofs.Common.{◌≡◌, ◌≢◌, ℕ, zero, suc, ◌+◌, ◌<◌, ◌≤◌, List, [], ◌∷◌, ◌++◌, All, Contains, length, get_or, set, ◌⊎◌, ⊎_elim, refl, ap, sym, subst, ◌∙◌, arith}
+use Rattle.std.proofs.Common.{◌≡◌, ◌≢◌, ℕ, zero, suc, ◌<◌, ◌≤◌, List, [], ◌∷◌, ◌++◌, All, Contains, length, set, ⊎_elim, refl, ap, sym, subst, ◌∙◌, arith}
 use Rattle.std.specs.Prelude.{slice_index_or}
 use Rattle.std.proofs.Math.ListN.{length-append, length-set}
 use Rattle.std.proofs.lemmas.List.Elements.{All-append}
 use mathlib.Core.Option.{some}
 use lib.ListN.{get_elem?}
 use Rattle.atomic_table.proofs.Lists.{at_set}
-use Rattle.crossbeam_utils.specs.Register.{TurnsAt, Turns}
+use Rattle.crossbeam_utils.specs.Register.{Turns}
 use Rattle.vs_types.specs.declared.depth.Depth.{Depth}
-use Rattle.nr_ring.specs.History.{Log, MayFollow, IsHistory, new_log, after, after_all, log_after}
+use Rattle.nr_ring.specs.History.{Log, MayFollow, IsHistory, new_log, after, log_after}
 use Rattle.nr_ring.specs.Words.{IsWordsOf}
-use Rattle.nr_ring.specs.View.{StartsWith, IsElse, HasSeenAdvances, made_by, IsTrueOf}
+use Rattle.nr_ring.specs.View.{IsElse, made_by, IsTrueOf}
 use Rattle.nr_ring.specs.Rule.{IsKept}
 use Rattle.nr_ring.specs.Calls.{Looks, MayMake, with_event}
 use Rattle.nr_ring.specs.declared.event.Event.{Event}
@@ -53,7 +53,7 @@ look_turns depth replicas pass v x views kept at =
             let e = owned_before views pass v w at refl q b replica qb hb in
             kept.one_owner p q c.0 e.0 replica c.1 e.1 c.2 e.2;
       },
-      record { is_history = kept.is_history; seen = old.seen; told = old.told; mine = refl; owns = refl; words_are = kept.words_are },
+      record { looked = record { is_history = kept.is_history; seen = old.seen; told = old.told; told_stays = refl; mine = refl; owns = refl }; words_are = kept.words_are },
     )
 
 only_pass : (n pass : ℕ) → pass < n → All (λ p. p < n) (pass ∷ [])

@@ -1,21 +1,26 @@
 -- What the calls on a log tell the pass that makes them.
+use Rattle.std.specs.List.{range_with_len}
 use Rattle.std.specs.Prelude.{◌≡◌, ℕ, List, [], ◌∷◌, ◌++◌, All, Contains, length, nat_lt, if◌then◌else◌, ⊤}
 use Rattle.vs_types.specs.declared.depth.Depth.{Depth}
-use Rattle.nr_ring.specs.History.{MayFollow, IsHistory, log_after}
+use Rattle.nr_ring.specs.History.{IsHistory, log_after}
 use Rattle.nr_ring.specs.Words.{IsWordsOf}
 use Rattle.nr_ring.specs.View.{StartsWith}
 use Rattle.nr_ring.specs.declared.event.Event.{Event}
 use Rattle.nr_ring.specs.declared.event.Event.TheVariants.{Append, Advance}
 use Rattle.nr_ring.specs.declared.view.View.{View}
 
--- after a look: the pass has seen a history that begins with all that it had seen and was told; it made no event, and the words
--- are those of the log after that history
-pub record Looks (depth : Depth) (replicas : ℕ) (words : List ℕ) (before after : View) : Type 0 where
+-- after a look: the pass has seen a history that begins with all that it had seen and was told; it made no event
+pub record HasLooked (depth : Depth) (replicas : ℕ) (before after : View) : Type 0 where
   pub is_history : IsHistory depth replicas after.seen
   pub seen : StartsWith after.seen before.seen
   pub told : All (StartsWith after.seen) before.told
+  pub told_stays : after.told ≡ before.told
   pub mine : after.mine ≡ before.mine
   pub owns : after.owns ≡ before.owns
+
+-- and the words that it found are those of the log after that history
+pub record Looks (depth : Depth) (replicas : ℕ) (words : List ℕ) (before after : View) : Type 0 where
+  pub looked : HasLooked depth replicas before after
   pub words_are : IsWordsOf (log_after replicas after.seen) words
 
 -- only the owner of a replica advances it
@@ -52,3 +57,7 @@ joined view other = record {
 -- the view of a pass that was joined away
 abbrev pub spent : View
 spent = record { seen = []; mine = []; owns = []; told = [] }
+
+-- the view of the first pass of a new log, which owns all replicas
+abbrev pub first_view : ℕ → View
+first_view replicas = record { seen = []; mine = []; owns = range_with_len 0 replicas; told = [] }

@@ -5,3 +5,6 @@ pub mod Rule
 pub mod Calls
 pub mod Examples
 pub mod Laws
+pub mod Pass
+-- models and loops
+pub mod inside

@@ -1,5 +1,5 @@
 -- What bytes that spell an event say of its fields.
-use Rattle.std.proofs.Common.{◌≡◌, ℕ, ◌^◌, ◌<◌, List, [], ◌∷◌, ◌++◌, get_or, drop, sym, ap, ◌∙◌, arith}
+use Rattle.std.proofs.Common.{◌≡◌, ℕ, ◌^◌, ◌<◌, List, [], ◌∷◌, ◌++◌, get_or, drop, sym, ap, subst, ◌∙◌, arith}
 use Rattle.std.specs.Int.{w8, w16, w32, w64, to_be_bytes}
 use Rattle.vs_types.specs.Config.{Layout, IsLayout}
 use Rattle.std.proofs.lemmas.Bool.Decides.{nat_tests}
@@ -16,11 +16,14 @@ use Rattle.vs_types.specs.declared.request.Query.TheVariants.{Update, Resolve}
 use Rattle.vs_types.specs.declared.answer.Answer.{Answer}
 use Rattle.vs_types.specs.declared.answer.Answer.TheVariants.{Done, Overlap, Full, Removed, NotMapped, Inside, Changed, Mapped}
 use Rattle.nr_trace.specs.Codes.{kind_code, size_code, rights_code, answer_code}
+use Rattle.nr_trace.specs.Versions.{KnowsQuery, KnowsAnswer}
 use Rattle.nr_trace.specs.Recording.{IsAnswer}
 use Rattle.nr_trace.specs.Spelling.{RequestFields, request_fields, AnswerFields, answer_fields}
 use Rattle.nr_trace.specs.inside.Reading.{IsRequest, HasFields, SpellsEvent}
 use Rattle.nr_trace.specs.declared.event.Event.{Event}
 use Rattle.nr_trace.specs.declared.event.Event.TheVariants.{Call, Reply}
+use Rattle.nr_trace.specs.declared.version.Version.{Version}
+use Rattle.nr_trace.proofs.LawsOfUnits.{request_apart, answer_apart}
 use Rattle.nr_trace.proofs.Fields.{same_u8, same_u16, same_u32, same_u64}
 
 size_fits : (size : Size) → size_code size < 2 ^ 8
@@ -67,9 +70,9 @@ pub record CallNumbers (bytes : List ℕ) (replica thread kind : ℕ) (fields : 
   pub physical_fits : fields.physical < 2 ^ 64
 
 -- a call that the bytes spell has those fields
-call_fields : (layout : Layout) (bytes : List ℕ) (replica thread kind unused : ℕ) (fields : RequestFields) (rest : List ℕ) → IsLayout layout
-    → CallNumbers bytes replica thread kind fields unused rest → (r t : ℕ) (request : Query) → SpellsEvent layout (0 ∷ bytes) (Call r t request) → IsRequest layout.depth kind fields request
-call_fields layout bytes replica thread kind unused fields rest well numbers r t request spells =
+call_fields : (version : Version) (layout : Layout) (bytes : List ℕ) (replica thread kind unused : ℕ) (fields : RequestFields) (rest : List ℕ) → IsLayout layout
+    → CallNumbers bytes replica thread kind fields unused rest → (r t : ℕ) (request : Query) → SpellsEvent version layout (0 ∷ bytes) (Call r t request) → IsRequest layout.depth kind fields request
+call_fields version layout bytes replica thread kind unused fields rest well numbers r t request spells =
     let fits : RequestFits request = request_fits layout.depth request spells.in_range.2 in
     let theirs = request_fields request in
     let e0 : call_bytes replica thread kind fields unused rest ≡ call_bytes r t (kind_code request) theirs 0 [] = sym numbers.parts ∙ ap (drop 1) spells.spelled in
@@ -87,11 +90,18 @@ call_fields layout bytes replica thread kind unused fields rest well numbers r t
       fields_are = λ i. record { size = e4.0 i; rights = e5.0 i; address = e7.0 i; physical = e8.0 i };
     }
 
--- no event has this tag, and these fields, of which there is no request
-pub no_call : (layout : Layout) (bytes : List ℕ) (replica thread kind unused : ℕ) (fields : RequestFields) (rest : List ℕ) → IsLayout layout
-    → CallNumbers bytes replica thread kind fields unused rest → ((request : Query) → IsRequest layout.depth kind fields request → ⊥) → (recorded : Event) → SpellsEvent layout (0 ∷ bytes) recorded → ⊥
-no_call layout bytes replica thread kind unused fields rest well numbers none (Call r t request) spells = none request (call_fields layout bytes replica thread kind unused fields rest well numbers r t request spells)
-no_call layout bytes replica thread kind unused fields rest well numbers none (Reply call at answer) spells = absurd (omega (arith, ap (λ (l : List ℕ). get_or l 0 0) spells.spelled))
+-- only one request has these fields, so that the version knows none where it does not know this one
+pub request_unknown : (version : Version) (depth : Depth) (kind : ℕ) (fields : RequestFields) (given : Query) → IsRequest depth kind fields given → (KnowsQuery version given → ⊥)
+    → (request : Query) → IsRequest depth kind fields request → KnowsQuery version request → ⊥
+request_unknown version depth kind fields given is unknown request also known =
+    unknown (subst (KnowsQuery version) (request_apart depth request given also.well_formed is.well_formed (sym also.kind_is ∙ is.kind_is) (sym also.fields_are ∙ is.fields_are)) known)
+
+-- no event has this tag, and these fields, of which the version knows no request
+pub no_call : (version : Version) (layout : Layout) (bytes : List ℕ) (replica thread kind unused : ℕ) (fields : RequestFields) (rest : List ℕ) → IsLayout layout
+    → CallNumbers bytes replica thread kind fields unused rest → ((request : Query) → IsRequest layout.depth kind fields request → KnowsQuery version request → ⊥) → (recorded : Event) → SpellsEvent version layout (0 ∷ bytes) recorded → ⊥
+no_call version layout bytes replica thread kind unused fields rest well numbers none (Call r t request) spells =
+    none request (call_fields version layout bytes replica thread kind unused fields rest well numbers r t request spells) spells.in_range.3
+no_call version layout bytes replica thread kind unused fields rest well numbers none (Reply call at answer) spells = absurd (omega (arith, ap (λ (l : List ℕ). get_or l 0 0) spells.spelled))
 
 answer_fits_code : (answer : Answer) → answer_code answer < 2 ^ 8
 answer_fits_code Done = omega arith
@@ -140,9 +150,9 @@ pub record ReplyNumbers (bytes : List ℕ) (code : ℕ) (fields : AnswerFields) 
   pub value_fits : fields.value < 2 ^ 64
 
 -- a reply that the bytes spell has those fields
-reply_has : (layout : Layout) (bytes : List ℕ) (code call at unused : ℕ) (fields : AnswerFields) (rest : List ℕ)
-    → ReplyNumbers bytes code fields call at unused rest → (c a : ℕ) (answer : Answer) → SpellsEvent layout (1 ∷ bytes) (Reply c a answer) → HasFields code fields answer
-reply_has layout bytes code call at unused fields rest numbers c a answer spells =
+reply_has : (version : Version) (layout : Layout) (bytes : List ℕ) (code call at unused : ℕ) (fields : AnswerFields) (rest : List ℕ)
+    → ReplyNumbers bytes code fields call at unused rest → (c a : ℕ) (answer : Answer) → SpellsEvent version layout (1 ∷ bytes) (Reply c a answer) → HasFields code fields answer
+reply_has version layout bytes code call at unused fields rest numbers c a answer spells =
     let fits : AnswerFits (answer_fields answer) = answer_fits answer spells.in_range.2 in
     let theirs = answer_fields answer in
     let e0 : reply_bytes code fields call at unused rest ≡ reply_bytes (answer_code answer) theirs c a 0 [] = sym numbers.parts ∙ ap (drop 1) spells.spelled in
@@ -159,8 +169,15 @@ reply_has layout bytes code call at unused fields rest numbers c a answer spells
       fields_are = λ i. record { size = e2.0 i; rights = e3.0 i; value = e7.0 i };
     }
 
--- no event has this tag, and these fields, of which there is no answer
-pub no_reply : (layout : Layout) (bytes : List ℕ) (code call at unused : ℕ) (fields : AnswerFields) (rest : List ℕ)
-    → ReplyNumbers bytes code fields call at unused rest → ((answer : Answer) → HasFields code fields answer → ⊥) → (recorded : Event) → SpellsEvent layout (1 ∷ bytes) recorded → ⊥
-no_reply layout bytes code call at unused fields rest numbers none (Call r t request) spells = absurd (omega (arith, ap (λ (l : List ℕ). get_or l 0 0) spells.spelled))
-no_reply layout bytes code call at unused fields rest numbers none (Reply c a answer) spells = none answer (reply_has layout bytes code call at unused fields rest numbers c a answer spells)
+-- only one answer has these fields, so that the version knows none where it does not know this one
+pub answer_unknown : (version : Version) (code : ℕ) (fields : AnswerFields) (given : Answer) → HasFields code fields given → (KnowsAnswer version given → ⊥)
+    → (answer : Answer) → HasFields code fields answer → KnowsAnswer version answer → ⊥
+answer_unknown version code fields given is unknown answer also known =
+    unknown (subst (KnowsAnswer version) (answer_apart answer given (sym also.code_is ∙ is.code_is) (sym also.fields_are ∙ is.fields_are)) known)
+
+-- no event has this tag, and these fields, of which the version knows no answer
+pub no_reply : (version : Version) (layout : Layout) (bytes : List ℕ) (code call at unused : ℕ) (fields : AnswerFields) (rest : List ℕ)
+    → ReplyNumbers bytes code fields call at unused rest → ((answer : Answer) → HasFields code fields answer → KnowsAnswer version answer → ⊥) → (recorded : Event) → SpellsEvent version layout (1 ∷ bytes) recorded → ⊥
+no_reply version layout bytes code call at unused fields rest numbers none (Call r t request) spells = absurd (omega (arith, ap (λ (l : List ℕ). get_or l 0 0) spells.spelled))
+no_reply version layout bytes code call at unused fields rest numbers none (Reply c a answer) spells =
+    none answer (reply_has version layout bytes code call at unused fields rest numbers c a answer spells) spells.in_range.3

@@ -5,6 +5,7 @@ use Rattle.std.proofs.lemmas.List.Elements.{All-from_recursion, All-cons, All-ap
 use Rattle.vs_types.specs.Config.{Layout, IsLayout}
 use Rattle.vs_types.specs.Frame.{IsFrame}
 use Rattle.nr_trace.specs.Recording.{IsRecording, IsEvent, IsImage}
+use Rattle.nr_trace.specs.declared.version.Version.TheVariants.{V1}
 use Rattle.nr_trace.specs.Examples.{map_then_resolve, frames_of_page, dump_of_page, frame_with}
 use Rattle.nr_trace.specs.Spelling.{spelling, Spells}
 use Rattle.nr_trace.proofs.ExamplesOfSpelling.{entries_of_page, len_of_page}
@@ -49,16 +50,17 @@ layout_fits = record { some_replica = lit≤ tt; few_replicas = lit≤ tt; some_
 pub in_range : IsRecording map_then_resolve
 in_range = record {
   layout = layout_fits;
+  depth = tt;
   few_places = lit≤ tt;
   log = All-from_recursion (λ call. call < 2 ^ 32) map_then_resolve.log (lit< tt, tt);
   few_events = lit≤ tt;
-  events = All-from_recursion (IsEvent layout) map_then_resolve.events (
-    (lit< tt, lit< tt, record { canonical = refl; aligned = refl; phys_aligned = refl; phys_range = lit≤ tt }),
+  events = All-from_recursion (IsEvent V1 layout) map_then_resolve.events (
+    (lit< tt, lit< tt, record { canonical = refl; aligned = refl; phys_aligned = refl; phys_range = lit≤ tt }, tt),
     (
-      (lit< tt, lit< tt, tt),
+      (lit< tt, lit< tt, tt, tt),
       (
-        (lit< tt, lit< tt, refl),
-        ((lit< tt, lit< tt, lit< tt), tt),
+        (lit< tt, lit< tt, refl, tt),
+        ((lit< tt, lit< tt, lit< tt, tt), tt),
       ),
     ),
   );

@@ -182,6 +182,7 @@ dump_taken parts held opened number words unit is_opened fits above are is none 
     record {
       ready = record {
         layout = is_opened.in_range.layout;
+        depth = is_opened.in_range.depth;
         few_places = is_opened.in_range.few_places;
         log = is_opened.in_range.log;
         few_events = is_opened.in_range.few_events;
@@ -189,8 +190,8 @@ dump_taken parts held opened number words unit is_opened fits above are is none 
         few_dumps = omega (arith, count, is_opened.more_dumps);
         dumps = subst (All IsImage) (sym one_more) (All-push IsImage parts.dumps.items image is_opened.in_range.dumps (grown_is_image parts opened number words is_opened fits above are));
       };
-      bytes_are = ap (spelling_of parts.config (length parts.log.items) (length parts.events.items) parts.log.items parts.events.items) one_more
-          ∙ more_dump parts.config (length parts.log.items) (length parts.events.items) parts.log.items parts.events.items parts.dumps.items image
+      bytes_are = ap (spelling_of parts.version parts.config (length parts.log.items) (length parts.events.items) parts.log.items parts.events.items) one_more
+          ∙ more_dump parts.version parts.config (length parts.log.items) (length parts.events.items) parts.log.items parts.events.items parts.dumps.items image
           ∙ ap (λ (n : ℕ). front ++ (dump_head image.applied n image.root ++ flat_map frame_bytes (finite.entries image.frames))) (let all : finite.len image.frames ≡ finite.len image.frames + (opened.left - 1) = omega (arith, none) in all)
           ∙ ap (λ (l : List ℕ). front ++ l) (grown_spelled opened number words unit is_opened.some_left above is)
           ∙ sym (append_assoc front (opened_spelling opened ++ frame_number number) unit)

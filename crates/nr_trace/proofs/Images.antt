@@ -1,11 +1,12 @@
--- Dumps and lengths in the ranges of a trace.
+-- Dumps and counts in the ranges of a trace.
 use Rattle.std.proofs.Common.{◌≡◌, ℕ, ◌^◌, ◌<◌, ◌≤◌, List, length, arith, inl, inr}
 use Rattle.std.specs.FinMap as finite
 use Rattle.std.proofs.lemmas.List.Elements.{All-map}
 use Rattle.vs_walk.specs.Dump.{Image, IsDump}
 use Rattle.vs_types.specs.Frame.{IsFrame}
+use Rattle.nr_trace.specs.Versions.{KnowsDepth}
 use Rattle.nr_trace.specs.Recording.{Recording, IsImage}
-use Rattle.nr_trace.specs.Parts.{HasBadLength}
+use Rattle.nr_trace.specs.Parts.{HasBadCount}
 
 -- a dump with a frame is one of a trace
 pub image_of : (dump : Image) → IsDump dump → 1 ≤ finite.len dump.frames → IsImage dump
@@ -18,5 +19,6 @@ image_of dump is some = record {
   words = All-map IsFrame (λ (e : ℕ × List ℕ). e.1) (finite.entries dump.frames) is.whole;
 }
 
-pub good_lengths : (parts : Recording) → length parts.log ≤ 65536 → length parts.events ≤ 131072 → length parts.dumps ≡ parts.layout.replicas → HasBadLength parts → ⊥
-good_lengths parts places events dumps bad = elim bad [ inl p ↦ absurd (omega arith) | inr q ↦ elim q [ inl e ↦ absurd (omega arith) | inr d ↦ d dumps ] ]
+pub good_counts : (parts : Recording) → KnowsDepth parts.version parts.layout.depth → length parts.log ≤ 65536 → length parts.events ≤ 131072 → length parts.dumps ≡ parts.layout.replicas → HasBadCount parts → ⊥
+good_counts parts known places events dumps bad =
+    elim bad [ inl u ↦ u known | inr r ↦ elim r [ inl p ↦ absurd (omega arith) | inr q ↦ elim q [ inl e ↦ absurd (omega arith) | inr d ↦ d dumps ] ] ]

@@ -14,13 +14,14 @@ use Rattle.vs_types.specs.Config.{Layout, IsLayout}
 use Rattle.vs_walk.specs.Dump.{Image}
 use Rattle.vs_types.specs.Frame.{IsFrame}
 use Rattle.nr_trace.specs.Recording.{Recording, IsRecording, IsImage, IsEvent}
-use Rattle.nr_trace.specs.Spelling.{magic, version, Spells, log_word, event, dump, frame_number, frame_words}
+use Rattle.nr_trace.specs.Spelling.{magic, version_word, Spells, log_word, event, dump, frame_number, frame_words}
 use Rattle.nr_trace.specs.FirstFault.{AtUnit, Counts, IsCounts, IsHead, IsNext, AtFrames, AtDumps, AtEvents, AtLog, HasFormatFault}
 use Rattle.nr_trace.specs.declared.fault.Format.{Format}
 use Rattle.nr_trace.specs.declared.fault.Format.TheVariants.{BadMagic, BadVersion, BadCount, BadEvent, BadFrame}
 use Rattle.nr_trace.specs.declared.event.Event.{Event}
-use Rattle.nr_trace.proofs.LawsOfSpelling.{Frame, FrameFits, frame, image_frames_fit, head_in, head_fits, frames_of, counts_in, counts_fit, logs, events, dumps, numbered, spelling_behind_version}
-use Rattle.nr_trace.proofs.LawsOfUnits.{ToldApart, counts_of, counts_apart, length-counts, head_of, heads_apart, length-head, frame_numbers_apart, words_apart, length-frame_words, log_words_apart, events_apart, length-event}
+use Rattle.nr_trace.specs.declared.version.Version.{Version}
+use Rattle.nr_trace.proofs.LawsOfSpelling.{Frame, FrameFits, frame, image_frames_fit, head_in, head_fits, frames_of, counts_in, counts_fit, logs, events, dumps, numbered, versioned, spelling_behind_magic}
+use Rattle.nr_trace.proofs.LawsOfUnits.{ToldApart, versions_apart, counts_of, counts_apart, length-counts, head_of, heads_apart, length-head, frame_numbers_apart, words_apart, length-frame_words, log_words_apart, events_apart, length-event}
 
 -- ---- one unit
 
@@ -95,19 +96,19 @@ dumps_one replica (suc dumps) rest f g x y =
     unit_one 16 (Some BadCount) IsHead head_of (λ head. AtFrames replica 0 head.frames None (AtDumps (replica + 1) dumps)) heads_apart (λ head h. length-head head)
     (λ head rest f g h. frames_one replica 0 head.frames None (AtDumps (replica + 1) dumps) (dumps_one (replica + 1) dumps) rest f g) rest f g x y
 
-events_one : (layout : Layout) (index events : ℕ) → IsLayout layout → OneBehind (AtEvents layout index events)
+events_one : (version : Version) (layout : Layout) (index events : ℕ) → IsLayout layout → OneBehind (AtEvents version layout index events)
 unfolding AtEvents
-events_one layout index zero l rest f g x y = dumps_one 0 layout.replicas rest f g x y
-events_one layout index (suc events) l rest f g x y =
-    unit_one 24 (Some (BadEvent index)) (IsEvent layout) event (λ _. AtEvents layout (index + 1) events) (events_apart layout l) (λ e h. length-event e)
-    (λ e rest f g h. events_one layout (index + 1) events l rest f g) rest f g x y
+events_one version layout index zero l rest f g x y = dumps_one 0 layout.replicas rest f g x y
+events_one version layout index (suc events) l rest f g x y =
+    unit_one 24 (Some (BadEvent index)) (IsEvent version layout) event (λ _. AtEvents version layout (index + 1) events) (events_apart version layout l) (λ e h. length-event e)
+    (λ e rest f g h. events_one version layout (index + 1) events l rest f g) rest f g x y
 
-log_one : (layout : Layout) (places events : ℕ) → IsLayout layout → OneBehind (AtLog layout places events)
+log_one : (version : Version) (layout : Layout) (places events : ℕ) → IsLayout layout → OneBehind (AtLog version layout places events)
 unfolding AtLog
-log_one layout zero events l rest f g x y = events_one layout 0 events l rest f g x y
-log_one layout (suc places) events l rest f g x y =
-    unit_one 4 None (λ call. call < 2 ^ 32) log_word (λ _. AtLog layout places events) log_words_apart (λ call h. refl)
-    (λ call rest f g h. log_one layout places events l rest f g) rest f g x y
+log_one version layout zero events l rest f g x y = events_one version layout 0 events l rest f g x y
+log_one version layout (suc places) events l rest f g x y =
+    unit_one 4 None (λ call. call < 2 ^ 32) log_word (λ _. AtLog version layout places events) log_words_apart (λ call h. refl)
+    (λ call rest f g h. log_one version layout places events l rest f g) rest f g x y
 
 abbrev fixed_apart : List ℕ → Type 0
 fixed_apart bytes = ToldApart {A = Unit {0}} (λ _. ⊤) (λ _. bytes)
@@ -115,24 +116,22 @@ fixed_apart bytes = ToldApart {A = Unit {0}} (λ _. ⊤) (λ _. bytes)
 pub magic_apart : fixed_apart magic
 magic_apart a b us vs h k e = (refl, append_cancel_left magic us vs e)
 
-pub version_apart : fixed_apart version
-version_apart a b us vs h k e = (refl, append_cancel_left version us vs e)
+abbrev BehindCounts : Version → Counts → List ℕ → Format → Type 0
+BehindCounts version numbers = AtLog version numbers.layout numbers.places numbers.events
 
-abbrev BehindCounts : Counts → List ℕ → Format → Type 0
-BehindCounts numbers = AtLog numbers.layout numbers.places numbers.events
-
-abbrev BehindVersion : List ℕ → Format → Type 0
-BehindVersion = AtUnit 14 (Some BadCount) IsCounts counts_of BehindCounts
+abbrev BehindVersion : Version → List ℕ → Format → Type 0
+BehindVersion version = AtUnit 14 (Some BadCount) (IsCounts version) counts_of (BehindCounts version)
 
 abbrev BehindMagic : List ℕ → Format → Type 0
-BehindMagic = AtUnit {A = Unit {0}} 2 (Some BadVersion) (λ _. ⊤) (λ _. version) (λ _. BehindVersion)
+BehindMagic = AtUnit 2 (Some BadVersion) (λ version. ⊤) version_word BehindVersion
 
-version_one : OneBehind BehindVersion
-version_one rest f g = unit_one 14 (Some BadCount) IsCounts counts_of BehindCounts counts_apart (λ numbers h. length-counts numbers)
-    (λ numbers rest f g h. log_one numbers.layout numbers.places numbers.events h.layout rest f g) rest f g
+version_one : (version : Version) → OneBehind (BehindVersion version)
+version_one version rest f g =
+    unit_one 14 (Some BadCount) (IsCounts version) counts_of (BehindCounts version) (counts_apart version) (λ numbers h. length-counts numbers)
+    (λ numbers rest f g h. log_one version numbers.layout numbers.places numbers.events h.layout rest f g) rest f g
 
 magic_one : OneBehind BehindMagic
-magic_one rest f g = unit_one {A = Unit {0}} 2 (Some BadVersion) (λ _. ⊤) (λ _. version) (λ _. BehindVersion) version_apart (λ _ _. refl) (λ _ rest f g h. version_one rest f g) rest f g
+magic_one rest f g = unit_one 2 (Some BadVersion) (λ version. ⊤) version_word BehindVersion versions_apart (λ _ _. refl) (λ version rest f g h. version_one version rest f g) rest f g
 
 pub one_fault : (bytes : List ℕ) (f g : Format) → HasFormatFault bytes f → HasFormatFault bytes g → f ≡ g
 one_fault bytes f g = unit_one {A = Unit {0}} 4 (Some BadMagic) (λ _. ⊤) (λ _. magic) (λ _. BehindMagic) magic_apart (λ _ _. refl) (λ _ rest f g h. magic_one rest f g) bytes f g
@@ -197,35 +196,37 @@ dumps_none replica (image ∷ images) fault fit rest is x =
     (subst (λ (n : ℕ). AtFrames replica 0 n None (AtDumps (replica + 1) (length images)) (frames_of image ++ flat_map dump images) fault) (finite.len-entries image.frames) y))
     rest (is ∙ append_assoc (head_of (head_in image)) (frames_of image) (flat_map dump images)) x
 
-events_none : (layout : Layout) (index : ℕ) (es : List Event) (images : List Image) (fault : Format) → IsLayout layout → AllByRecursion (IsEvent layout) es → AllByRecursion IsImage images → length images ≡ layout.replicas
-    → (rest : List ℕ) → rest ≡ flat_map event es ++ flat_map dump images → AtEvents layout index (length es) rest fault → ⊥
+events_none : (version : Version) (layout : Layout) (index : ℕ) (es : List Event) (images : List Image) (fault : Format) → IsLayout layout → AllByRecursion (IsEvent version layout) es → AllByRecursion IsImage images → length images ≡ layout.replicas
+    → (rest : List ℕ) → rest ≡ flat_map event es ++ flat_map dump images → AtEvents version layout index (length es) rest fault → ⊥
 unfolding AtEvents
-events_none layout index [] images fault l fit images_fit each rest is x =
+events_none version layout index [] images fault l fit images_fit each rest is x =
     dumps_none 0 images fault images_fit rest is (subst (λ (n : ℕ). AtDumps 0 n rest fault) (sym each) x)
-events_none layout index (e ∷ es) images fault l fit images_fit each rest is x =
-    unit_none 24 (Some (BadEvent index)) (IsEvent layout) event (λ _. AtEvents layout (index + 1) (length es)) (events_apart layout l) e (flat_map event es ++ flat_map dump images) fault (length-event e) fit.0
-    (events_none layout (index + 1) es images fault l fit.1 images_fit each (flat_map event es ++ flat_map dump images) refl)
+events_none version layout index (e ∷ es) images fault l fit images_fit each rest is x =
+    unit_none 24 (Some (BadEvent index)) (IsEvent version layout) event (λ _. AtEvents version layout (index + 1) (length es)) (events_apart version layout l) e (flat_map event es ++ flat_map dump images) fault (length-event e) fit.0
+    (events_none version layout (index + 1) es images fault l fit.1 images_fit each (flat_map event es ++ flat_map dump images) refl)
     rest (is ∙ append_assoc (event e) (flat_map event es) (flat_map dump images)) x
 
-log_none : (layout : Layout) (calls : List ℕ) (es : List Event) (images : List Image) (fault : Format) → IsLayout layout → AllByRecursion (λ call. call < 2 ^ 32) calls → AllByRecursion (IsEvent layout) es → AllByRecursion IsImage images → length images ≡ layout.replicas
-    → (rest : List ℕ) → rest ≡ flat_map log_word calls ++ (flat_map event es ++ flat_map dump images) → AtLog layout (length calls) (length es) rest fault → ⊥
+log_none : (version : Version) (layout : Layout) (calls : List ℕ) (es : List Event) (images : List Image) (fault : Format) → IsLayout layout → AllByRecursion (λ call. call < 2 ^ 32) calls → AllByRecursion (IsEvent version layout) es → AllByRecursion IsImage images → length images ≡ layout.replicas
+    → (rest : List ℕ) → rest ≡ flat_map log_word calls ++ (flat_map event es ++ flat_map dump images) → AtLog version layout (length calls) (length es) rest fault → ⊥
 unfolding AtLog
-log_none layout [] es images fault l fit events_fit images_fit each rest is x = events_none layout 0 es images fault l events_fit images_fit each rest is x
-log_none layout (call ∷ calls) es images fault l fit events_fit images_fit each rest is x =
-    unit_none 4 None (λ call. call < 2 ^ 32) log_word (λ _. AtLog layout (length calls) (length es)) log_words_apart call (flat_map log_word calls ++ (flat_map event es ++ flat_map dump images)) fault refl fit.0
-    (log_none layout calls es images fault l fit.1 events_fit images_fit each (flat_map log_word calls ++ (flat_map event es ++ flat_map dump images)) refl)
+log_none version layout [] es images fault l fit events_fit images_fit each rest is x = events_none version layout 0 es images fault l events_fit images_fit each rest is x
+log_none version layout (call ∷ calls) es images fault l fit events_fit images_fit each rest is x =
+    unit_none 4 None (λ call. call < 2 ^ 32) log_word (λ _. AtLog version layout (length calls) (length es)) log_words_apart call (flat_map log_word calls ++ (flat_map event es ++ flat_map dump images)) fault refl fit.0
+    (log_none version layout calls es images fault l fit.1 events_fit images_fit each (flat_map log_word calls ++ (flat_map event es ++ flat_map dump images)) refl)
     rest (is ∙ append_assoc (log_word call) (flat_map log_word calls) (flat_map event es ++ flat_map dump images)) x
 
-numbered_none : (trace : Recording) (fault : Format) → IsRecording trace → BehindVersion (numbered trace) fault → ⊥
+numbered_none : (trace : Recording) (fault : Format) → IsRecording trace → BehindVersion trace.version (numbered trace) fault → ⊥
 numbered_none trace fault h =
-    unit_none 14 (Some BadCount) IsCounts counts_of BehindCounts counts_apart (counts_in trace) (logs trace ++ (events trace ++ dumps trace)) fault refl (counts_fit trace h)
-    (log_none trace.layout trace.log trace.events trace.dumps fault h.layout (recursion_from_All _ _ h.log) (recursion_from_All (IsEvent trace.layout) trace.events h.events) (recursion_from_All _ _ h.dumps) h.one_dump_each
+    unit_none 14 (Some BadCount) (IsCounts trace.version) counts_of (BehindCounts trace.version) (counts_apart trace.version) (counts_in trace)
+    (logs trace ++ (events trace ++ dumps trace)) fault refl (counts_fit trace h)
+    (log_none trace.version trace.layout trace.log trace.events trace.dumps fault h.layout (recursion_from_All _ _ h.log)
+    (recursion_from_All (IsEvent trace.version trace.layout) trace.events h.events) (recursion_from_All _ _ h.dumps) h.one_dump_each
     (logs trace ++ (events trace ++ dumps trace)) refl)
     (numbered trace) refl
 
 pub no_fault : (bytes : List ℕ) (trace : Recording) (fault : Format) → Spells bytes trace → HasFormatFault bytes fault → ⊥
 no_fault bytes trace fault spells =
-    unit_none {A = Unit {0}} 4 (Some BadMagic) (λ _. ⊤) (λ _. magic) (λ _. BehindMagic) magic_apart tt (version ++ numbered trace) fault refl tt
-    (unit_none {A = Unit {0}} 2 (Some BadVersion) (λ _. ⊤) (λ _. version) (λ _. BehindVersion) version_apart tt (numbered trace) fault refl tt
-    (numbered_none trace fault spells.in_range) (version ++ numbered trace) refl)
-    bytes (spells.spelled ∙ ap (λ rest. (magic ++ version) ++ rest) (spelling_behind_version trace))
+    unit_none {A = Unit {0}} 4 (Some BadMagic) (λ _. ⊤) (λ _. magic) (λ _. BehindMagic) magic_apart tt (versioned trace) fault refl tt
+    (unit_none 2 (Some BadVersion) (λ version. ⊤) version_word BehindVersion versions_apart trace.version (numbered trace) fault refl tt
+    (numbered_none trace fault spells.in_range) (versioned trace) refl)
+    bytes (spells.spelled ∙ ap (λ rest. magic ++ rest) (spelling_behind_magic trace))

@@ -1,16 +1,18 @@
 -- Bytes spell at most one trace.
-use Rattle.std.proofs.Common.{◌≡◌, ℕ, ◌<◌, ◌^◌, List, [], ◌∷◌, ◌++◌, length, drop, map, ap, sym, ◌∙◌}
+use Rattle.std.proofs.Common.{◌≡◌, ℕ, ◌<◌, ◌^◌, List, [], ◌∷◌, ◌++◌, length, drop, map, ap, sym, subst, subst₂, ◌∙◌}
 use Rattle.std.specs.Prelude.{flat_map}
 use Rattle.std.specs.List.{AllByRecursion}
 use Rattle.std.specs.FinMap as finite
 use Rattle.std.proofs.lemmas.List.{append_assoc}
 use Rattle.std.proofs.lemmas.List.Elements.{recursion_from_All}
+use Rattle.vs_types.specs.Config.{Layout}
 use Rattle.vs_walk.specs.Dump.{Image}
 use Rattle.vs_types.specs.Frame.{IsFrame}
 use Rattle.nr_trace.specs.Recording.{Recording, IsRecording, IsImage, IsEvent}
-use Rattle.nr_trace.specs.Spelling.{spelling, Spells, log_word, event, dump, frame_number, frame_words}
+use Rattle.nr_trace.specs.Spelling.{spelling, Spells, version_word, log_word, event, dump, frame_number, frame_words}
 use Rattle.nr_trace.specs.FirstFault.{Counts, IsCounts, Head, IsHead}
-use Rattle.nr_trace.proofs.LawsOfUnits.{ToldApart, counts_of, counts_apart, head_of, heads_apart, frame_numbers_apart, words_apart, lists_apart, log_words_apart, events_apart}
+use Rattle.nr_trace.specs.declared.version.Version.{Version}
+use Rattle.nr_trace.proofs.LawsOfUnits.{ToldApart, versions_apart, counts_of, counts_apart, head_of, heads_apart, frame_numbers_apart, words_apart, lists_apart, log_words_apart, events_apart}
 
 abbrev pub Frame : Type 0
 Frame = ℕ × List ℕ
@@ -57,8 +59,8 @@ images_apart a b us vs h k e =
 abbrev pub counts_in : Recording → Counts
 counts_in trace = record { layout = trace.layout; places = length trace.log; events = length trace.events }
 
-pub counts_fit : (trace : Recording) → IsRecording trace → IsCounts (counts_in trace)
-counts_fit trace h = record { layout = h.layout; few_places = h.few_places; few_events = h.few_events }
+pub counts_fit : (trace : Recording) → IsRecording trace → IsCounts trace.version (counts_in trace)
+counts_fit trace h = record { layout = h.layout; depth = h.depth; few_places = h.few_places; few_events = h.few_events }
 
 abbrev pub logs : Recording → List ℕ
 logs trace = flat_map log_word trace.log
@@ -69,24 +71,34 @@ events trace = flat_map event trace.events
 abbrev pub dumps : Recording → List ℕ
 dumps trace = flat_map dump trace.dumps
 
--- the spelling after the magic and the version
+-- the spelling after the version
 abbrev pub numbered : Recording → List ℕ
 numbered trace = counts_of (counts_in trace) ++ (logs trace ++ (events trace ++ dumps trace))
 
 pub spelling_behind_version : (trace : Recording) → drop 6 (spelling trace) ≡ numbered trace
 spelling_behind_version trace = ap (λ rest. counts_of (counts_in trace) ++ rest) (append_assoc (logs trace) (events trace) (dumps trace))
 
+-- the spelling after the magic
+abbrev pub versioned : Recording → List ℕ
+versioned trace = version_word trace.version ++ numbered trace
+
+pub spelling_behind_magic : (trace : Recording) → drop 4 (spelling trace) ≡ versioned trace
+spelling_behind_magic trace = ap (λ rest. version_word trace.version ++ rest) (spelling_behind_version trace)
+
 recordings_apart : (s t : Recording) → IsRecording s → IsRecording t → spelling s ≡ spelling t → s ≡ t
 recordings_apart s t h k e =
-    let f : numbered s ≡ numbered t = sym (spelling_behind_version s) ∙ ap (drop 6) e ∙ spelling_behind_version t in
-    let counts = counts_apart (counts_in s) (counts_in t) _ _ (counts_fit s h) (counts_fit t k) f in
+    let f : versioned s ≡ versioned t = sym (spelling_behind_magic s) ∙ ap (drop 4) e ∙ spelling_behind_magic t in
+    let (version, g) = versions_apart s.version t.version (numbered s) (numbered t) tt tt f in
+    let also = subst (λ (v : Version). IsCounts v (counts_in t)) (sym version) (counts_fit t k) in
+    let counts = counts_apart s.version (counts_in s) (counts_in t) _ _ (counts_fit s h) also g in
     let layout = ap (λ (c : Counts). c.layout) counts.0 in
     let log = lists_apart (λ call. call < 2 ^ 32) log_word log_words_apart s.log t.log _ _ (recursion_from_All _ _ h.log) (recursion_from_All _ _ k.log) (ap (λ (c : Counts). c.places) counts.0) counts.1 in
-    let in_one : AllByRecursion (IsEvent s.layout) t.events = rw (← layout) at (recursion_from_All (IsEvent t.layout) t.events k.events) in
-    let calls = lists_apart (IsEvent s.layout) event (events_apart s.layout h.layout) s.events t.events _ _ (recursion_from_All _ _ h.events) in_one (ap (λ (c : Counts). c.events) counts.0) log.1 in
+    let in_one : AllByRecursion (IsEvent s.version s.layout) t.events =
+    subst₂ (λ (v : Version) (l : Layout). AllByRecursion (IsEvent v l) t.events) (sym version) (sym layout) (recursion_from_All (IsEvent t.version t.layout) t.events k.events) in
+    let calls = lists_apart (IsEvent s.version s.layout) event (events_apart s.version s.layout h.layout) s.events t.events _ _ (recursion_from_All _ _ h.events) in_one (ap (λ (c : Counts). c.events) counts.0) log.1 in
     let lengths = h.one_dump_each ∙ ap (λ (c : Counts). c.layout.replicas) counts.0 ∙ sym k.one_dump_each in
     let images = lists_apart IsImage dump images_apart s.dumps t.dumps [] [] (recursion_from_All _ _ h.dumps) (recursion_from_All _ _ k.dumps) lengths (ap (λ rest. rest ++ []) calls.1) in
-    λ i. record { layout = layout i; log = log.0 i; events = calls.0 i; dumps = images.0 i }
+    λ i. record { version = version i; layout = layout i; log = log.0 i; events = calls.0 i; dumps = images.0 i }
 
 pub one_trace : (bytes : List ℕ) (s t : Recording) → Spells bytes s → Spells bytes t → s ≡ t
 one_trace bytes s t h k = recordings_apart s t h.in_range k.in_range (sym h.spelled ∙ k.spelled)

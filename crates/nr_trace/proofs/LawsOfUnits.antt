@@ -1,6 +1,6 @@
 -- Each unit's spelling has a fixed length, and what fits is told apart by its spelling, whatever stands after it.
 use Rattle.std.proofs.Common.{◌≡◌, ℕ, zero, suc, ◌*◌, ◌<◌, ◌^◌, ◌%◌, Bool, true, false, List, [], ◌∷◌, ◌++◌, length, refl, ap, ap₂, sym, ◌∙◌, arith}
-use Rattle.std.specs.Prelude.{flat_map}
+use Rattle.std.specs.Prelude.{flat_map, ⊤}
 use Rattle.std.specs.List.{AllByRecursion}
 use Rattle.std.specs.Int.{w8, w16, w32, w64, to_be_bytes, from_be_bytes}
 use Rattle.std.proofs.lemmas.Nat.{from_be_bytes-to_be_bytes_2, from_be_bytes-to_be_bytes_4, from_be_bytes-to_be_bytes_8}
@@ -23,10 +23,12 @@ use Rattle.vs_types.specs.declared.answer.Answer.TheVariants.{Done, Overlap, Ful
 use Rattle.nr_trace.specs.Codes.{kind_code, size_code, rights_code, answer_code}
 use Rattle.vs_types.specs.Frame.{IsFrame}
 use Rattle.nr_trace.specs.Recording.{IsAnswer, IsEvent}
-use Rattle.nr_trace.specs.Spelling.{RequestFields, request_fields, AnswerFields, answer_fields, counts, log_word, event, dump_head, frame_number, frame_words}
+use Rattle.nr_trace.specs.Spelling.{RequestFields, request_fields, AnswerFields, answer_fields, version_word, counts, log_word, event, dump_head, frame_number, frame_words}
 use Rattle.nr_trace.specs.FirstFault.{Counts, IsCounts, Head, IsHead}
 use Rattle.nr_trace.specs.declared.event.Event.{Event}
 use Rattle.nr_trace.specs.declared.event.Event.TheVariants.{Call, Reply}
+use Rattle.nr_trace.specs.declared.version.Version.{Version}
+use Rattle.nr_trace.specs.declared.version.Version.TheVariants.{V1, V2}
 
 -- two values that fit are one if their spellings begin one list, and then what stands after is one too
 abbrev pub ToldApart : {A : Type 0} → (A → Type 0) → (A → List ℕ) → Type 0
@@ -252,14 +254,14 @@ replies_apart a b c d e f g h us vs x y is =
     let r7 = number_64 c.value d.value us vs x.fields_fit.value y.fields_fit.value r6.1 in
     record { code = r1.0; fields = λ i. record { size = r2.0 i; rights = r3.0 i; value = r7.0 i }; call = r4.0; at = r5.0; rest = r7.1 }
 
-pub call_fits : (layout : Layout) (replica thread : ℕ) (request : Query) → IsLayout layout → IsEvent layout (Call replica thread request) → CallFits replica thread (kind_code request) (request_fields request)
-call_fits layout replica thread request l h =
+pub call_fits : (version : Version) (layout : Layout) (replica thread : ℕ) (request : Query) → IsLayout layout → IsEvent version layout (Call replica thread request) → CallFits replica thread (kind_code request) (request_fields request)
+call_fits version layout replica thread request l h =
     let r : replica < layout.replicas = h.0 in
     let t : thread < layout.threads = h.1 in
     record { replica_fits = omega (arith, l.few_replicas); thread_fits = omega (arith, l.few_threads); fields_fit = request_fits layout.depth request h.2 }
 
-pub reply_fits : (layout : Layout) (call at : ℕ) (answer : Answer) → IsEvent layout (Reply call at answer) → ReplyFits (answer_code answer) (answer_fields answer) call at
-reply_fits layout call at answer h = record { fields_fit = answer_fits answer h.2; call_fits = h.0; at_fits = h.1 }
+pub reply_fits : (version : Version) (layout : Layout) (call at : ℕ) (answer : Answer) → IsEvent version layout (Reply call at answer) → ReplyFits (answer_code answer) (answer_fields answer) call at
+reply_fits version layout call at answer h = record { fields_fit = answer_fits answer h.2; call_fits = h.0; at_fits = h.1 }
 
 tags_differ : (us vs : List ℕ) → to_be_bytes w8 0 ++ us ≡ to_be_bytes w8 1 ++ vs → ⊥
 tags_differ us vs e =
@@ -271,21 +273,21 @@ pub length-event : (e : Event) → length (event e) ≡ 24
 length-event (Call replica thread request) = refl
 length-event (Reply call at answer) = refl
 
-pub events_apart : (layout : Layout) → IsLayout layout → ToldApart (IsEvent layout) event
-events_apart layout l (Call r t q) (Call s u p) us vs h k e =
+pub events_apart : (version : Version) (layout : Layout) → IsLayout layout → ToldApart (IsEvent version layout) event
+events_apart version layout l (Call r t q) (Call s u p) us vs h k e =
     let rest = number_8 0 0 (call_bytes r t (kind_code q) (request_fields q) ++ us) (call_bytes s u (kind_code p) (request_fields p) ++ vs) (omega arith) (omega arith) e in
-    let same = calls_apart r s t u (kind_code q) (kind_code p) (request_fields q) (request_fields p) us vs (call_fits layout r t q l h) (call_fits layout s u p l k) rest.1 in
+    let same = calls_apart r s t u (kind_code q) (kind_code p) (request_fields q) (request_fields p) us vs (call_fits version layout r t q l h) (call_fits version layout s u p l k) rest.1 in
     let request = request_apart layout.depth q p h.2 k.2 same.kind same.fields in
     (λ i. Call (same.replica i) (same.thread i) (request i), same.rest)
-events_apart layout l (Call r t q) (Reply d b y) us vs h k e = absurd (tags_differ _ _ e)
-events_apart layout l (Reply c a x) (Call s u p) us vs h k e = absurd (tags_differ _ _ (sym e))
-events_apart layout l (Reply c a x) (Reply d b y) us vs h k e =
+events_apart version layout l (Call r t q) (Reply d b y) us vs h k e = absurd (tags_differ _ _ e)
+events_apart version layout l (Reply c a x) (Call s u p) us vs h k e = absurd (tags_differ _ _ (sym e))
+events_apart version layout l (Reply c a x) (Reply d b y) us vs h k e =
     let rest = number_8 1 1 (reply_bytes (answer_code x) (answer_fields x) c a ++ us) (reply_bytes (answer_code y) (answer_fields y) d b ++ vs) (omega arith) (omega arith) e in
-    let same = replies_apart (answer_code x) (answer_code y) (answer_fields x) (answer_fields y) c d a b us vs (reply_fits layout c a x h) (reply_fits layout d b y k) rest.1 in
+    let same = replies_apart (answer_code x) (answer_code y) (answer_fields x) (answer_fields y) c d a b us vs (reply_fits version layout c a x h) (reply_fits version layout d b y k) rest.1 in
     let answer = answer_apart x y same.code same.fields in
     (λ i. Reply (same.call i) (same.at i) (answer i), same.rest)
 
--- ---- counts, places, heads and frames
+-- ---- versions, counts, places, heads and frames
 
 levels_apart : (d e : Depth) → levels d ≡ levels e → d ≡ e
 levels_apart Four Four h = refl
@@ -299,8 +301,8 @@ counts_of numbers = counts numbers.layout numbers.places numbers.events
 pub length-counts : (numbers : Counts) → length (counts_of numbers) ≡ 14
 length-counts numbers = refl
 
-pub counts_apart : ToldApart IsCounts counts_of
-counts_apart a b us vs h k e =
+pub counts_apart : (version : Version) → ToldApart (IsCounts version) counts_of
+counts_apart version a b us vs h k e =
     let r1 = number_8 (levels a.layout.depth) (levels b.layout.depth) _ _ (levels_few a.layout.depth) (levels_few b.layout.depth) e in
     let r2 = number_8 a.layout.replicas b.layout.replicas _ _ (omega (arith, h.layout.few_replicas)) (omega (arith, k.layout.few_replicas)) r1.1 in
     let r3 = number_16 a.layout.threads b.layout.threads _ _ (omega (arith, h.layout.few_threads)) (omega (arith, k.layout.few_threads)) r2.1 in
@@ -309,6 +311,12 @@ counts_apart a b us vs h k e =
     let r6 = number_32 a.events b.events us vs (omega (arith, h.few_events)) (omega (arith, k.few_events)) r5.1 in
     let depth = levels_apart a.layout.depth b.layout.depth r1.0 in
     (λ i. record { layout = record { depth = depth i; replicas = r2.0 i; threads = r3.0 i; tables = r4.0 i }; places = r5.0 i; events = r6.0 i }, r6.1)
+
+pub versions_apart : ToldApart (λ version. ⊤) version_word
+versions_apart V1 V1 us vs h k e = (refl, (number_16 1 1 us vs (omega arith) (omega arith) e).1)
+versions_apart V1 V2 us vs h k e = absurd (omega (arith, (number_16 1 2 us vs (omega arith) (omega arith) e).0))
+versions_apart V2 V1 us vs h k e = absurd (omega (arith, (number_16 2 1 us vs (omega arith) (omega arith) e).0))
+versions_apart V2 V2 us vs h k e = (refl, (number_16 2 2 us vs (omega arith) (omega arith) e).1)
 
 pub log_words_apart : ToldApart (λ call. call < 2 ^ 32) log_word
 log_words_apart = number_32

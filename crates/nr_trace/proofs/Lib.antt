@@ -27,3 +27,4 @@ pub mod OnlySpelled
 pub mod Images
 pub mod Written
 pub mod Framed
+pub mod Feeding

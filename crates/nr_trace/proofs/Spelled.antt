@@ -4,55 +4,56 @@ use Rattle.std.specs.List.{flat_map}
 use Rattle.std.proofs.lemmas.List.{append-nil, flat_map_more}
 use Rattle.vs_types.specs.Config.{Layout}
 use Rattle.vs_walk.specs.Dump.{Image}
-use Rattle.nr_trace.specs.Spelling.{magic, version, counts, log_word, event, dump}
+use Rattle.nr_trace.specs.Spelling.{magic, version_word, counts, log_word, event, dump}
 use Rattle.nr_trace.specs.FirstFault.{AtLog, AtEvents, AtDumps}
 use Rattle.nr_trace.specs.inside.Progress.{HasRead, AreInRange, parts_spelling}
 use Rattle.nr_trace.specs.declared.event.Event.{Event}
 use Rattle.nr_trace.specs.declared.fault.Format.{Format}
 use Rattle.nr_trace.specs.declared.reading.parts.Parts.{Parts}
 use Rattle.nr_trace.specs.declared.reading.parts.Reader.TheVariants.{Dumps}
+use Rattle.nr_trace.specs.declared.version.Version.{Version}
 
 behind_nothing : {X : Type 0} (f : X → List ℕ) (xs : List X) (l : List ℕ) → xs ≡ [] → l ++ flat_map f xs ≡ l
 behind_nothing f xs l e = ap (λ ys. l ++ flat_map f ys) e ∙ append-nil l
 
-abbrev pub spelling_of : Layout → ℕ → ℕ → List ℕ → List Event → List Image → List ℕ
-spelling_of layout places events log recorded dumps =
-    magic ++ version ++ counts layout places events ++ flat_map log_word log ++ flat_map event recorded ++ flat_map dump dumps
+abbrev pub spelling_of : Version → Layout → ℕ → ℕ → List ℕ → List Event → List Image → List ℕ
+spelling_of version layout places events log recorded dumps =
+    magic ++ version_word version ++ counts layout places events ++ flat_map log_word log ++ flat_map event recorded ++ flat_map dump dumps
 
-pub more_place : (layout : Layout) (places events : ℕ) (log : List ℕ) (call : ℕ) (recorded : List Event) (dumps : List Image) → recorded ≡ [] → dumps ≡ []
-    → spelling_of layout places events (log ++ call ∷ []) recorded dumps ≡ spelling_of layout places events log recorded dumps ++ log_word call
-more_place layout places events log call recorded dumps no_events no_dumps =
-    let front = magic ++ version ++ counts layout places events in
+pub more_place : (version : Version) (layout : Layout) (places events : ℕ) (log : List ℕ) (call : ℕ) (recorded : List Event) (dumps : List Image) → recorded ≡ [] → dumps ≡ []
+    → spelling_of version layout places events (log ++ call ∷ []) recorded dumps ≡ spelling_of version layout places events log recorded dumps ++ log_word call
+more_place version layout places events log call recorded dumps no_events no_dumps =
+    let front = magic ++ version_word version ++ counts layout places events in
     behind_nothing dump dumps (front ++ flat_map log_word (log ++ call ∷ []) ++ flat_map event recorded) no_dumps
     ∙ behind_nothing event recorded (front ++ flat_map log_word (log ++ call ∷ [])) no_events
     ∙ sym (flat_map_more log_word front log call)
     ∙ ap (λ (l : List ℕ). l ++ log_word call) (sym (behind_nothing dump dumps (front ++ flat_map log_word log ++ flat_map event recorded) no_dumps ∙ behind_nothing event recorded (front ++ flat_map log_word log) no_events))
 
-pub more_event : (layout : Layout) (places events : ℕ) (log : List ℕ) (recorded : List Event) (one : Event) (dumps : List Image) → dumps ≡ []
-    → spelling_of layout places events log (recorded ++ one ∷ []) dumps ≡ spelling_of layout places events log recorded dumps ++ event one
-more_event layout places events log recorded one dumps no_dumps =
-    let front = magic ++ version ++ counts layout places events ++ flat_map log_word log in
+pub more_event : (version : Version) (layout : Layout) (places events : ℕ) (log : List ℕ) (recorded : List Event) (one : Event) (dumps : List Image) → dumps ≡ []
+    → spelling_of version layout places events log (recorded ++ one ∷ []) dumps ≡ spelling_of version layout places events log recorded dumps ++ event one
+more_event version layout places events log recorded one dumps no_dumps =
+    let front = magic ++ version_word version ++ counts layout places events ++ flat_map log_word log in
     behind_nothing dump dumps (front ++ flat_map event (recorded ++ one ∷ [])) no_dumps
     ∙ sym (flat_map_more event front recorded one)
     ∙ ap (λ (l : List ℕ). l ++ event one) (sym (behind_nothing dump dumps (front ++ flat_map event recorded) no_dumps))
 
-pub more_dump : (layout : Layout) (places events : ℕ) (log : List ℕ) (recorded : List Event) (dumps : List Image) (one : Image)
-    → spelling_of layout places events log recorded (dumps ++ one ∷ []) ≡ spelling_of layout places events log recorded dumps ++ dump one
-more_dump layout places events log recorded dumps one =
-    sym (flat_map_more dump (magic ++ version ++ counts layout places events ++ flat_map log_word log ++ flat_map event recorded) dumps one)
+pub more_dump : (version : Version) (layout : Layout) (places events : ℕ) (log : List ℕ) (recorded : List Event) (dumps : List Image) (one : Image)
+    → spelling_of version layout places events log recorded (dumps ++ one ∷ []) ≡ spelling_of version layout places events log recorded dumps ++ dump one
+more_dump version layout places events log recorded dumps one =
+    sym (flat_map_more dump (magic ++ version_word version ++ counts layout places events ++ flat_map log_word log ++ flat_map event recorded) dumps one)
 
 -- no place is left
-pub no_place : (layout : Layout) (places events : ℕ) (rest : List ℕ) (fault : Format) → places ≡ 0 → AtEvents layout 0 events rest fault → AtLog layout places events rest fault
+pub no_place : (version : Version) (layout : Layout) (places events : ℕ) (rest : List ℕ) (fault : Format) → places ≡ 0 → AtEvents version layout 0 events rest fault → AtLog version layout places events rest fault
 unfolding AtLog
-no_place layout places events rest fault none h = subst (λ n. AtLog layout n events rest fault) (sym none) h
+no_place version layout places events rest fault none h = subst (λ n. AtLog version layout n events rest fault) (sym none) h
 
 -- no event is left
-no_event : (layout : Layout) (index events : ℕ) (rest : List ℕ) (fault : Format) → events ≡ 0 → AtDumps 0 layout.replicas rest fault → AtEvents layout index events rest fault
+no_event : (version : Version) (layout : Layout) (index events : ℕ) (rest : List ℕ) (fault : Format) → events ≡ 0 → AtDumps 0 layout.replicas rest fault → AtEvents version layout index events rest fault
 unfolding AtEvents
-no_event layout index events rest fault none h = subst (λ n. AtEvents layout index n rest fault) (sym none) h
+no_event version layout index events rest fault none h = subst (λ n. AtEvents version layout index n rest fault) (sym none) h
 
 pub events_end : (parts : Parts) (events : ℕ) → events ≡ 0 → AreInRange parts → parts.dumps.items ≡ []
-    → HasRead (parts_spelling (length parts.log.items) (length parts.events.items + events) parts) (AtEvents parts.config (length parts.events.items) events) (Dumps parts)
+    → HasRead (parts_spelling (length parts.log.items) (length parts.events.items + events) parts) (AtEvents parts.version parts.config (length parts.events.items) events) (Dumps parts)
 events_end parts events none in_range no_dumps = record {
   ready = in_range;
   bytes_are = ap (λ (n : ℕ). parts_spelling (length parts.log.items) n parts) (omega arith);
@@ -60,6 +61,6 @@ events_end parts events none in_range no_dumps = record {
       let here : length parts.dumps.items ≡ 0 = ap length no_dumps in
       let first : length parts.dumps.items + 0 ≡ 0 = omega arith in
       let all : parts.config.replicas - (length parts.dumps.items + 0) ≡ parts.config.replicas = omega arith in
-      no_event parts.config (length parts.events.items) events rest fault none
+      no_event parts.version parts.config (length parts.events.items) events rest fault none
       (subst (λ (n : ℕ). AtDumps 0 n rest fault) all (subst (λ (n : ℕ). AtDumps n (parts.config.replicas - (length parts.dumps.items + 0)) rest fault) first h));
 }

@@ -10,6 +10,7 @@ use Rattle.nr_trace.specs.declared.event.Event.{Event}
 use Rattle.nr_trace.specs.declared.fault.Format.{Format}
 use Rattle.nr_trace.specs.declared.fault.Format.TheVariants.{BadEvent}
 use Rattle.nr_trace.specs.declared.reading.parts.Reader.{Reader}
+use Rattle.nr_trace.specs.declared.version.Version.{Version}
 
 -- the unit spells nothing that fits
 pub refused : {A : Type 0} (bytes : ℕ) (own : Option Format) (Fits : A → Type 0) (spelled : A → List ℕ) (Behind : A → List ℕ → Format → Type 0) (fault : Format) (unit rest : List ℕ)
@@ -26,23 +27,23 @@ passed bytes own Fits spelled Behind fault unit rest value fits e behind = inr (
 pub goes_on : (reader : Reader) (bytes more : List ℕ) (Behind Before : List ℕ → Format → Type 0) → HasRead bytes Behind reader → bytes ≡ more → ((rest : List ℕ) (fault : Format) → Behind rest fault → Before rest fault) → HasRead more Before reader
 goes_on reader bytes more Behind Before has e into = record { ready = has.ready; bytes_are = has.bytes_are ∙ e; faults = λ rest fault h. into rest fault (has.faults rest fault h) }
 
-pub place_passed : (layout : Layout) (places events call : ℕ) (unit rest : List ℕ) (fault : Format) → 1 ≤ places → call < 2 ^ 32 → unit ≡ log_word call → AtLog layout (places - 1) events rest fault → AtLog layout places events (unit ++ rest) fault
+pub place_passed : (version : Version) (layout : Layout) (places events call : ℕ) (unit rest : List ℕ) (fault : Format) → 1 ≤ places → call < 2 ^ 32 → unit ≡ log_word call → AtLog version layout (places - 1) events rest fault → AtLog version layout places events (unit ++ rest) fault
 unfolding AtLog
-place_passed layout zero events call unit rest fault some fits e behind = absurd (omega arith)
-place_passed layout (suc places) events call unit rest fault some fits e behind =
+place_passed version layout zero events call unit rest fault some fits e behind = absurd (omega arith)
+place_passed version layout (suc places) events call unit rest fault some fits e behind =
     let down : suc places - 1 ≡ places = omega arith in
-    passed 4 None (λ call. call < 2 ^ 32) log_word (λ _. AtLog layout places events) fault unit rest call fits e (subst (λ n. AtLog layout n events rest fault) down behind)
+    passed 4 None (λ call. call < 2 ^ 32) log_word (λ _. AtLog version layout places events) fault unit rest call fits e (subst (λ n. AtLog version layout n events rest fault) down behind)
 
-pub event_passed : (layout : Layout) (index events : ℕ) (recorded : Event) (unit rest : List ℕ) (fault : Format) → 1 ≤ events → IsEvent layout recorded → unit ≡ event recorded
-    → AtEvents layout (index + 1) (events - 1) rest fault → AtEvents layout index events (unit ++ rest) fault
+pub event_passed : (version : Version) (layout : Layout) (index events : ℕ) (recorded : Event) (unit rest : List ℕ) (fault : Format) → 1 ≤ events → IsEvent version layout recorded → unit ≡ event recorded
+    → AtEvents version layout (index + 1) (events - 1) rest fault → AtEvents version layout index events (unit ++ rest) fault
 unfolding AtEvents
-event_passed layout index zero recorded unit rest fault some fits e behind = absurd (omega arith)
-event_passed layout index (suc events) recorded unit rest fault some fits e behind =
+event_passed version layout index zero recorded unit rest fault some fits e behind = absurd (omega arith)
+event_passed version layout index (suc events) recorded unit rest fault some fits e behind =
     let down : suc events - 1 ≡ events = omega arith in
-    passed 24 (Some (BadEvent index)) (IsEvent layout) event (λ _. AtEvents layout (index + 1) events) fault unit rest recorded fits e (subst (λ n. AtEvents layout (index + 1) n rest fault) down behind)
+    passed 24 (Some (BadEvent index)) (IsEvent version layout) event (λ _. AtEvents version layout (index + 1) events) fault unit rest recorded fits e (subst (λ n. AtEvents version layout (index + 1) n rest fault) down behind)
 
-pub event_refused : (layout : Layout) (index events : ℕ) (unit rest : List ℕ) → 1 ≤ events → length unit ≡ 24 → ((recorded : Event) → IsEvent layout recorded → unit ≢ event recorded) → AtEvents layout index events (unit ++ rest) (BadEvent index)
+pub event_refused : (version : Version) (layout : Layout) (index events : ℕ) (unit rest : List ℕ) → 1 ≤ events → length unit ≡ 24 → ((recorded : Event) → IsEvent version layout recorded → unit ≢ event recorded) → AtEvents version layout index events (unit ++ rest) (BadEvent index)
 unfolding AtEvents
-event_refused layout index zero unit rest some whole none = absurd (omega arith)
-event_refused layout index (suc events) unit rest some whole none =
-    refused 24 (Some (BadEvent index)) (IsEvent layout) event (λ _. AtEvents layout (index + 1) events) (BadEvent index) unit rest whole refl none
+event_refused version layout index zero unit rest some whole none = absurd (omega arith)
+event_refused version layout index (suc events) unit rest some whole none =
+    refused 24 (Some (BadEvent index)) (IsEvent version layout) event (λ _. AtEvents version layout (index + 1) events) (BadEvent index) unit rest whole refl none

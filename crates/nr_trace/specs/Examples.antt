@@ -13,6 +13,7 @@ use Rattle.vs_walk.specs.Memory.{Memory}
 use Rattle.vs_walk.specs.Walk.{all_rights}
 use Rattle.vs_walk.specs.Dump.{Image}
 use Rattle.nr_trace.specs.Recording.{Recording}
+use Rattle.nr_trace.specs.declared.version.Version.TheVariants.{V1}
 use Rattle.nr_trace.specs.declared.event.Event.TheVariants.{Call, Reply}
 
 -- a frame with this word at this index, and else zeros
@@ -42,6 +43,7 @@ dump_of_page = record { applied = 1; root = 1; frames = frames_of_page }
 -- one thread maps, and then resolves
 abbrev pub map_then_resolve : Recording
 map_then_resolve = record {
+  version = V1;
   layout = record { depth = Four; replicas = 1; threads = 1; tables = 4 };
   log = 0 ∷ [];
   events = Call 0 0 map_it ∷ Reply 0 0 Done ∷ Call 0 0 resolve_it ∷ Reply 2 1 looks_mapped ∷ [];
@@ -64,6 +66,7 @@ map_then_resolve_bytes =
 -- two reads, one of which saw the page and one did not, beside the call that maps it
 abbrev pub read_before_and_after : Recording
 read_before_and_after = record {
+  version = V1;
   layout = record { depth = Four; replicas = 1; threads = 3; tables = 4096 };
   log = 0 ∷ [];
   events = Call 0 0 map_it ∷ Call 0 1 resolve_it ∷ Call 0 2 resolve_it ∷ Reply 0 0 Done ∷ Reply 1 1 looks_mapped ∷ Reply 2 0 NotMapped ∷ [];
@@ -73,6 +76,7 @@ read_before_and_after = record {
 -- a read that does not see the page is made when another replica has shown it already
 abbrev pub stale_read : Recording
 stale_read = record {
+  version = V1;
   layout = record { depth = Four; replicas = 2; threads = 3; tables = 4096 };
   log = 0 ∷ [];
   events = Call 0 0 map_it ∷ Call 0 1 resolve_it ∷ Reply 1 1 looks_mapped ∷ Call 1 2 resolve_it ∷ Reply 3 0 NotMapped ∷ [];
@@ -82,6 +86,7 @@ stale_read = record {
 -- an update that was never answered is placed before one that was answered before it was made
 abbrev pub unanswered_too_early : Recording
 unanswered_too_early = record {
+  version = V1;
   layout = record { depth = Four; replicas = 1; threads = 2; tables = 4096 };
   log = 2 ∷ 0 ∷ [];
   events = Call 0 0 map_it ∷ Reply 0 1 Done ∷ Call 0 1 (Update (Unmap 0x500000)) ∷ [];
@@ -91,6 +96,7 @@ unanswered_too_early = record {
 -- an update that was never answered nor placed
 abbrev pub unanswered_left_out : Recording
 unanswered_left_out = record {
+  version = V1;
   layout = record { depth = Four; replicas = 1; threads = 3; tables = 4096 };
   log = 0 ∷ [];
   events = Call 0 0 map_it ∷ Call 0 1 resolve_it ∷ Call 0 2 (Update (Unmap 0x400000)) ∷ Reply 1 1 looks_mapped ∷ [];

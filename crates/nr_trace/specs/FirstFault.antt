@@ -3,8 +3,10 @@
 use Rattle.std.specs.Prelude.{◌≡◌, ◌≢◌, ℕ, zero, suc, ◌+◌, ◌<◌, ◌≤◌, ◌^◌, ◌⊎◌, ◌++◌, List, [], length, take, Option, Some, None, IfSome, ⊤}
 use Rattle.vs_types.specs.Config.{Layout, IsLayout}
 use Rattle.vs_types.specs.Frame.{IsFrame}
+use Rattle.nr_trace.specs.Versions.{KnowsDepth}
 use Rattle.nr_trace.specs.Recording.{IsEvent}
-use Rattle.nr_trace.specs.Spelling.{magic, version, counts, log_word, event, dump_head, frame_number, frame_words}
+use Rattle.nr_trace.specs.Spelling.{magic, version_word, counts, log_word, event, dump_head, frame_number, frame_words}
+use Rattle.nr_trace.specs.declared.version.Version.{Version}
 use Rattle.nr_trace.specs.declared.fault.Format.{Format}
 use Rattle.nr_trace.specs.declared.fault.Format.TheVariants.{Truncated, BadMagic, BadVersion, BadCount, BadEvent, BadFrame, Trailing}
 
@@ -22,8 +24,9 @@ pub record Counts : Type 0 where
   pub places : ℕ
   pub events : ℕ
 
-pub record IsCounts (numbers : Counts) : Type 0 where
+pub record IsCounts (version : Version) (numbers : Counts) : Type 0 where
   pub layout : IsLayout numbers.layout
+  pub depth : KnowsDepth version numbers.layout.depth
   pub few_places : numbers.places ≤ 65536
   pub few_events : numbers.events ≤ 131072
 
@@ -64,26 +67,26 @@ AtDumps replica (suc dumps) rest fault =
     rest fault
 
 -- this many events, counted from this index
-unfoldable pub AtEvents : Layout → ℕ → ℕ → List ℕ → Format → Type 0
-AtEvents layout index zero rest fault = AtDumps 0 layout.replicas rest fault
-AtEvents layout index (suc events) rest fault =
-    AtUnit 24 (Some (BadEvent index)) (IsEvent layout) event (λ _. AtEvents layout (index + 1) events) rest fault
+unfoldable pub AtEvents : Version → Layout → ℕ → ℕ → List ℕ → Format → Type 0
+AtEvents version layout index zero rest fault = AtDumps 0 layout.replicas rest fault
+AtEvents version layout index (suc events) rest fault =
+    AtUnit 24 (Some (BadEvent index)) (IsEvent version layout) event (λ _. AtEvents version layout (index + 1) events) rest fault
 
 -- this many places of the log, and then this many events
-unfoldable pub AtLog : Layout → ℕ → ℕ → List ℕ → Format → Type 0
-AtLog layout zero events rest fault = AtEvents layout 0 events rest fault
-AtLog layout (suc places) events rest fault = AtUnit 4 None (λ call. call < 2 ^ 32) log_word (λ _. AtLog layout places events) rest fault
+unfoldable pub AtLog : Version → Layout → ℕ → ℕ → List ℕ → Format → Type 0
+AtLog version layout zero events rest fault = AtEvents version layout 0 events rest fault
+AtLog version layout (suc places) events rest fault = AtUnit 4 None (λ call. call < 2 ^ 32) log_word (λ _. AtLog version layout places events) rest fault
 
 -- the counts, and what comes after them
-abbrev pub AtCounts : List ℕ → Format → Type 0
-AtCounts rest fault =
-    AtUnit 14 (Some BadCount) IsCounts (λ numbers. counts numbers.layout numbers.places numbers.events) (λ numbers.
-    AtLog numbers.layout numbers.places numbers.events)
+abbrev pub AtCounts : Version → List ℕ → Format → Type 0
+AtCounts version rest fault =
+    AtUnit 14 (Some BadCount) (IsCounts version) (λ numbers. counts numbers.layout numbers.places numbers.events) (λ numbers.
+    AtLog version numbers.layout numbers.places numbers.events)
     rest fault
 
 -- the version, and what comes after it
 abbrev pub AtVersion : List ℕ → Format → Type 0
-AtVersion rest fault = AtUnit {A = Unit {0}} 2 (Some BadVersion) (λ _. ⊤) (λ _. version) (λ _. AtCounts) rest fault
+AtVersion rest fault = AtUnit 2 (Some BadVersion) (λ version. ⊤) version_word AtCounts rest fault
 
 -- the first fault of the bytes
 abbrev pub HasFormatFault : List ℕ → Format → Type 0

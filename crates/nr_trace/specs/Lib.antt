@@ -1,7 +1,9 @@
+pub mod Versions
 pub mod Recording
 pub mod Codes
 pub mod Spelling
 pub mod FirstFault
+pub mod Feed
 pub mod Parts
 pub mod Calls
 pub mod Orders

@@ -3,27 +3,31 @@ use Rattle.std.specs.Prelude.{◌≡◌, ◌≢◌, ℕ, ◌<◌, ◌⊎◌, Lis
 use Rattle.std.specs.FinMap as finite
 use Rattle.vs_types.specs.Config.{Layout}
 use Rattle.nr_trace.specs.Recording.{Recording, IsEvent}
+use Rattle.nr_trace.specs.Versions.{KnowsDepth}
+use Rattle.nr_trace.specs.declared.version.Version.{Version}
 use Rattle.nr_trace.specs.declared.event.Event.{Event}
 use Rattle.nr_trace.specs.declared.fault.Format.{Format}
 use Rattle.nr_trace.specs.declared.fault.Format.TheVariants.{Truncated, BadMagic, BadVersion, BadCount, BadEvent, BadFrame, Trailing}
 
--- too many places or events, or not one dump for each replica
-abbrev pub HasBadLength : Recording → Type 0
-HasBadLength parts = (65536 < length parts.log) ⊎ ((131072 < length parts.events) ⊎ (length parts.dumps ≢ parts.layout.replicas))
+-- a depth that the version does not know, too many places or events, or not one dump for each replica
+abbrev pub HasBadCount : Recording → Type 0
+HasBadCount parts =
+    (KnowsDepth parts.version parts.layout.depth → ⊥)
+    ⊎ ((65536 < length parts.log) ⊎ ((131072 < length parts.events) ⊎ (length parts.dumps ≢ parts.layout.replicas)))
 
 -- the event of this index is out of its range, and none before is
-pub record IsFirstOut (layout : Layout) (events : List Event) (index : ℕ) : Type 0 where
-  pub before : All (IsEvent layout) (take index events)
+pub record IsFirstOut (version : Version) (layout : Layout) (events : List Event) (index : ℕ) : Type 0 where
+  pub before : All (IsEvent version layout) (take index events)
   pub recorded : Event
   pub stands : slice_get events index ≡ Some recorded
-  pub out : IsEvent layout recorded → ⊥
+  pub out : IsEvent version layout recorded → ⊥
 
--- the first thing that is wrong: a length, the first event out of its range, a dump without frames
+-- the first thing that is wrong: a count, the first event out of its range, a dump without frames
 abbrev pub IsPartsFault : Recording → Format → Type 0
 IsPartsFault parts BadCount =
-    HasBadLength parts ⊎ ((HasBadLength parts → ⊥) × All (IsEvent parts.layout) parts.events × Any (λ dump. finite.len dump.frames ≡ 0) parts.dumps)
+    HasBadCount parts ⊎ ((HasBadCount parts → ⊥) × All (IsEvent parts.version parts.layout) parts.events × Any (λ dump. finite.len dump.frames ≡ 0) parts.dumps)
 IsPartsFault parts (BadEvent index) =
-    (HasBadLength parts → ⊥) × IsFirstOut parts.layout parts.events index
+    (HasBadCount parts → ⊥) × IsFirstOut parts.version parts.layout parts.events index
 IsPartsFault parts Truncated = ⊥
 IsPartsFault parts BadMagic = ⊥
 IsPartsFault parts BadVersion = ⊥

@@ -7,11 +7,15 @@ use Rattle.vs_types.specs.Query.{IsQuery}
 use Rattle.vs_types.specs.declared.answer.Answer.{Answer}
 use Rattle.vs_types.specs.declared.answer.Answer.TheVariants.{Done, Overlap, Full, Removed, NotMapped, Inside, Changed, Mapped}
 use Rattle.vs_walk.specs.Dump.{Image}
+use Rattle.nr_trace.specs.Versions.{KnowsDepth, KnowsQuery, KnowsAnswer}
+use Rattle.nr_trace.specs.declared.version.Version.{Version}
 use Rattle.nr_trace.specs.declared.event.Event.{Event}
 use Rattle.nr_trace.specs.declared.event.Event.TheVariants.{Call, Reply}
 
--- the layout of the service, the call number at each place of the log, the events in order, and a dump of each replica
+-- the version of the format, the layout of the service, the call number at each place of the log, the events in order, and
+-- a dump of each replica
 pub record Recording : Type 0 where
+  pub version : Version
   pub layout : Layout
   pub log : List ℕ
   pub events : List Event
@@ -28,10 +32,11 @@ IsAnswer (Inside base) = base < 2 ^ 64
 IsAnswer (Changed rights) = Unit {0}
 IsAnswer (Mapped phys size rights) = phys < 2 ^ 64
 
--- a call is of a replica and a thread that there are, and well formed; a reply may name any call and any place
-abbrev pub IsEvent : Layout → Event → Type 0
-IsEvent layout (Call replica thread request) = (replica < layout.replicas) × (thread < layout.threads) × IsQuery layout.depth request
-IsEvent layout (Reply call at answer) = (call < 2 ^ 32) × (at < 2 ^ 32) × IsAnswer answer
+-- what the version knows: a well-formed call of a replica and a thread that there are; a reply to any call, at any place
+abbrev pub IsEvent : Version → Layout → Event → Type 0
+IsEvent version layout (Call replica thread request) =
+    (replica < layout.replicas) × (thread < layout.threads) × IsQuery layout.depth request × KnowsQuery version request
+IsEvent version layout (Reply call at answer) = (call < 2 ^ 32) × (at < 2 ^ 32) × IsAnswer answer × KnowsAnswer version answer
 
 -- 1 to 4,096 frames with numbers below 2 ^ 40; the root may have any number
 pub record IsImage (dump : Image) : Type 0 where
@@ -45,9 +50,10 @@ pub record IsImage (dump : Image) : Type 0 where
 -- at most 65,536 places and 131,072 events, and one dump for each replica
 pub record IsRecording (trace : Recording) : Type 0 where
   pub layout : IsLayout trace.layout
+  pub depth : KnowsDepth trace.version trace.layout.depth
   pub few_places : length trace.log ≤ 65536
   pub log : All (λ call. call < 2 ^ 32) trace.log
   pub few_events : length trace.events ≤ 131072
-  pub events : All (IsEvent trace.layout) trace.events
+  pub events : All (IsEvent trace.version trace.layout) trace.events
   pub one_dump_each : length trace.dumps ≡ trace.layout.replicas
   pub dumps : All IsImage trace.dumps

@@ -11,7 +11,9 @@ use Rattle.vs_types.specs.declared.answer.Answer.{Answer}
 use Rattle.vs_types.specs.declared.answer.Answer.TheVariants.{Done, Overlap, Full, Removed, NotMapped, Inside, Changed, Mapped}
 use Rattle.vs_walk.specs.Dump.{Image}
 use Rattle.nr_trace.specs.Codes.{kind_code, size_code, rights_code, answer_code}
+use Rattle.nr_trace.specs.Versions.{version_code}
 use Rattle.nr_trace.specs.Recording.{Recording, IsRecording}
+use Rattle.nr_trace.specs.declared.version.Version.{Version}
 use Rattle.nr_trace.specs.declared.event.Event.{Event}
 use Rattle.nr_trace.specs.declared.event.Event.TheVariants.{Call, Reply}
 
@@ -20,8 +22,8 @@ abbrev pub magic : List ℕ
 magic = codes "NRVT"
 
 -- 2 bytes
-abbrev pub version : List ℕ
-version = to_be_bytes w16 1
+abbrev pub version_word : Version → List ℕ
+version_word version = to_be_bytes w16 (version_code version)
 
 -- 14 bytes: levels, replicas, threads, tables, places, events
 abbrev pub counts : Layout → ℕ → ℕ → List ℕ
@@ -97,7 +99,7 @@ dump image =
 
 abbrev pub spelling : Recording → List ℕ
 spelling trace =
-    magic ++ version ++ counts trace.layout (length trace.log) (length trace.events)
+    magic ++ version_word trace.version ++ counts trace.layout (length trace.log) (length trace.events)
     ++ flat_map log_word trace.log ++ flat_map event trace.events ++ flat_map dump trace.dumps
 
 -- the bytes spell the trace: it keeps the ranges, and they are its spelling

@@ -10,6 +10,7 @@ mod laws;
 mod ranges;
 mod reading;
 mod trace;
+mod version;
 mod writing;
 
 pub use event::Event;
@@ -20,8 +21,9 @@ pub use laws::{
     one_first_fault, one_first_fault_of_bytes, one_format_fault, recorded_order_by_entries,
     recorded_order_is_legal, recorded_order_is_serial, spaces_go_on_by_places,
 };
-pub use reading::read;
+pub use reading::{Feed, read};
 pub use trace::Trace;
+pub use version::Version;
 pub use writing::write;
 
 #[cfg(test)]

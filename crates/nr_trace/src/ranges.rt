@@ -6,11 +6,12 @@ ghost use Rattle.nr_trace.specs.Recording.{IsEvent, IsImage};
 ghost use Rattle.nr_trace.specs.Parts.{IsFirstOut};
 
 use crate::event::Event;
+use crate::version::Version;
 use vs_types::Config;
 use vs_walk::Dump;
 
-fn is_in_range(config: Config, event: Event) -> bool
-    ensures { IsTrue result ↔ IsEvent config event }
+fn is_in_range(version: Version, config: Config, event: Event) -> bool
+    ensures { IsTrue result ↔ IsEvent version config event }
 {
     match event {
         Event::Call {
@@ -18,20 +19,25 @@ fn is_in_range(config: Config, event: Event) -> bool
             thread,
             request,
         } => {
-            let _query = request.query();
             let _depth = config.depth();
-            replica < config.replicas() && thread < config.threads()
+            replica < config.replicas()
+                && thread < config.threads()
+                && version.knows_query(request.query())
         }
-        Event::Reply { .. } => true,
+        Event::Reply { answer, .. } => version.knows_answer(answer),
     }
 }
 
-/// The index of the first event that is none of a service laid out so.
-pub(crate) fn first_out_of_range(config: Config, events: &[Event]) -> Option<usize>
-    ensures { MatchOption result (All (IsEvent config) events.now) (IsFirstOut config events.now) }
+/// The index of the first event that is none of a service laid out so, or that the version does not know.
+pub(crate) fn first_out_of_range(
+    version: Version,
+    config: Config,
+    events: &[Event],
+) -> Option<usize>
+    ensures { MatchOption result (All (IsEvent version config) events.now) (IsFirstOut version config events.now) }
 {
     for (index, event) in events.iter().enumerate() {
-        if !is_in_range(config, *event) {
+        if !is_in_range(version, config, *event) {
             return Some(index);
         }
     }

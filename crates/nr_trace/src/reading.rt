@@ -4,6 +4,7 @@ mod answer;
 mod codes;
 mod dumps;
 mod event;
+mod feed;
 mod fields;
 mod header;
 mod parts;
@@ -12,4 +13,8 @@ mod request;
 mod whole;
 mod words;
 
+pub use feed::Feed;
 pub use whole::read;
+
+#[cfg(test)]
+mod tests;

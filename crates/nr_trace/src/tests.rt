@@ -23,7 +23,7 @@ fn empty_bytes(alloc: Global) -> Result<Vec<u8>, AllocError> {
     Ok(bytes)
 }
 
-fn map_then_resolve_bytes(alloc: Global) -> Result<Vec<u8>, AllocError> {
+pub(crate) fn map_then_resolve_bytes(alloc: Global) -> Result<Vec<u8>, AllocError> {
     let mut bytes = vec![in alloc;
         0x4e, 0x52, 0x56, 0x54, 0, 1, 4, 1, 0, 1, 0, 4, 0, 0, 0, 1, 0, 0, 0, 4, 0, 0, 0, 0, 0, 0,
         0, 0, 0, 0, 7, 0, 0, 0, 0, 0, 0, 0x40, 0, 0, 0, 0, 0, 0, 0, 0, 0x10, 0, 1, 0, 0, 0, 0, 0,
@@ -185,6 +185,7 @@ fn parts_make_a_trace(rt: HostRuntime) -> Result<(), Fail> {
         request: Request::resolve(Depth::Four, 0)?,
     };
     let no_dump = Trace::new(
+        Version::V1,
         config,
         Vec::new(alloc),
         vec![in alloc; reply]?,
@@ -192,6 +193,7 @@ fn parts_make_a_trace(rt: HostRuntime) -> Result<(), Fail> {
     );
     assert_eq!(rt; no_dump.err(), Some(Format::BadCount));
     let other_thread = Trace::new(
+        Version::V1,
         config,
         Vec::new(alloc),
         vec![in alloc; reply, call]?,
@@ -199,6 +201,7 @@ fn parts_make_a_trace(rt: HostRuntime) -> Result<(), Fail> {
     );
     assert_eq!(rt; other_thread.err(), Some(Format::BadEvent(1)));
     let trace = Trace::new(
+        Version::V1,
         config,
         Vec::new(alloc),
         vec![in alloc; reply]?,

@@ -3,14 +3,16 @@ ghost use Rattle.std.specs.Prelude.{◌≡◌, MatchResult};
 use crate::event::Event;
 use crate::fault::Format;
 use crate::ranges::{all_have_frames, first_out_of_range};
+use crate::version::Version;
 use std::marker::Model;
 use vs_types::Config;
 use vs_walk::Dump;
 
-/// A recorded run, within the ranges of the format: its layout, the call at each place of the log, the events in order,
+/// A recorded run, within the ranges of its version of the format: its layout, the call at each place of the log, the events in order,
 /// and a dump of each replica. Contracts see its recording.
 #[derive(Debug, Drop)]
 pub struct Trace {
+    version: Version,
     config: Config,
     log: Vec<u32>,
     events: Vec<Event>,
@@ -23,19 +25,22 @@ impl Model for Trace {
     ghost use Rattle.vs_types.specs.Config.{Layout};
     ghost use Rattle.vs_types.specs.contracts.config.Config as config_contract;
     ghost use Rattle.vs_walk.specs.Dump.{Image, image_code};
+    ghost use Rattle.nr_trace.specs.declared.version.Version.{Version};
+    ghost use Rattle.nr_trace.specs.contracts.version.Version as version_contract;
     ghost use Rattle.nr_trace.specs.declared.event.Event.{Event};
     ghost use Rattle.nr_trace.specs.contracts.event.Event as event_contract;
     ghost use Rattle.nr_trace.specs.Recording.{Recording, IsRecording};
 
     ghost Value = { Recording };
 
-    ghost coded = { code_by (Layout × (List ℕ × (List Event × List Image)))
-        (coded× config_contract.the_row.coded (coded× (coded_list coded_ℕ) (coded× (coded_list event_contract.the_row.coded) (coded_list image_code))))
-        (λ t. (t.layout, (t.log, (t.events, t.dumps)))) (λ p. record { layout = p.0; log = p.1.0; events = p.1.1.0; dumps = p.1.1.1 }) (λ _. refl) };
+    ghost coded = { code_by (Version × (Layout × (List ℕ × (List Event × List Image))))
+        (coded× version_contract.the_row.coded (coded× config_contract.the_row.coded (coded× (coded_list coded_ℕ) (coded× (coded_list event_contract.the_row.coded) (coded_list image_code)))))
+        (λ t. (t.version, (t.layout, (t.log, (t.events, t.dumps)))))
+        (λ p. record { version = p.0; layout = p.1.0; log = p.1.1.0; events = p.1.1.1.0; dumps = p.1.1.1.1 }) (λ _. refl) };
 
-    ghost view = { λ t. record { layout = t.config; log = t.log.items; events = t.events.items; dumps = t.dumps.items } };
+    ghost view = { λ t. record { version = t.version; layout = t.config; log = t.log.items; events = t.events.items; dumps = t.dumps.items } };
 
-    ghost invariant = { λ t. IsRecording (record { layout = t.config; log = t.log.items; events = t.events.items; dumps = t.dumps.items }) };
+    ghost invariant = { λ t. IsRecording (record { version = t.version; layout = t.config; log = t.log.items; events = t.events.items; dumps = t.dumps.items }) };
 }
 
 impl Trace {
@@ -43,17 +48,22 @@ impl Trace {
     ghost use Rattle.nr_trace.specs.Recording.{Recording, IsRecording};
     ghost use Rattle.nr_trace.specs.Parts.{IsPartsFault};
 
-    /// A trace of these parts, or what is wrong with them: `BadCount` for a number of places, events or dumps, or a dump
-    /// without frames; `BadEvent` for the first event that is out of its range.
+    /// A trace of these parts, or what is wrong with them: `BadCount` for a depth that the version does not know, for a
+    /// number of places, events or dumps, or for a dump without frames; `BadEvent` for the first event that is out of its
+    /// range or that the version does not know.
     pub fn new(
+        version: Version,
         config: Config,
         log: Vec<u32>,
         events: Vec<Event>,
         dumps: Vec<Dump>,
     ) -> Result<Trace, Format>
-        ensures { let parts : Recording = record { layout = config; log = log.items; events = events.items; dumps = dumps.items } in
+        ensures { let parts : Recording = record { version = version; layout = config; log = log.items; events = events.items; dumps = dumps.items } in
             MatchResult result (λ trace. (trace ≡ parts) × IsRecording parts) (IsPartsFault parts) }
     {
+        if !version.knows_depth(config.depth()) {
+            return Err(Format::BadCount);
+        }
         if log.len() > 65_536 {
             return Err(Format::BadCount);
         }
@@ -63,26 +73,41 @@ impl Trace {
         if dumps.len() != config.replicas() as usize {
             return Err(Format::BadCount);
         }
-        if let Some(index) = first_out_of_range(config, &events) {
+        if let Some(index) = first_out_of_range(version, config, &events) {
             return Err(Format::BadEvent(index as u32));
         }
         if !all_have_frames(&dumps) {
             return Err(Format::BadCount);
         }
-        Ok(Trace::of(config, log, events, dumps))
+        Ok(Trace::of(version, config, log, events, dumps))
     }
 
     /// A trace of these parts.
-    pub(crate) fn of(config: Config, log: Vec<u32>, events: Vec<Event>, dumps: Vec<Dump>) -> Trace
-        requires { IsRecording (record { layout = config; log = log.items; events = events.items; dumps = dumps.items }) }
-        ensures { result ≡ record { layout = config; log = log.items; events = events.items; dumps = dumps.items } }
+    pub(crate) fn of(
+        version: Version,
+        config: Config,
+        log: Vec<u32>,
+        events: Vec<Event>,
+        dumps: Vec<Dump>,
+    ) -> Trace
+        requires { IsRecording (record { version = version; layout = config; log = log.items; events = events.items; dumps = dumps.items }) }
+        ensures { result ≡ record { version = version; layout = config; log = log.items; events = events.items; dumps = dumps.items } }
     {
         Trace {
+            version,
             config,
             log,
             events,
             dumps,
         }
+    }
+
+    /// The version of the format.
+    pub fn version(&self) -> Version
+        ensures reads { result ≡ self.now.version }
+        ensures in_range { IsRecording self.now }
+    {
+        self.version
     }
 
     /// How the service was laid out.

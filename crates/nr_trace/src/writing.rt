@@ -30,6 +30,7 @@ pub fn write(alloc: Global, trace: &Trace) -> Result<Vec<u8>, Memory>
     let events = trace.events();
     put_header(
         &mut out,
+        trace.version(),
         trace.config(),
         log.len() as u32,
         events.len() as u32,

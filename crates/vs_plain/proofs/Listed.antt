@@ -98,6 +98,17 @@ by_base_cut es fs base h t is = record { rising = t; under_base = under } where
         | false ↦ λ there. h.under_base q p (get_listed es q h.rising ∙ there)
       ] found
 
+-- a list that looks up as another with other rights for a page
+pub listed_again : (es fs : List (ℕ × Page)) (base : ℕ) (page new : Page) → IsByBase es → IsStrictlySortedBy nat_cmp (keys_of fs) → new.base ≡ page.base
+    → Some page ≡ lookup (is_at (nat_cmp base)) es
+    → ((q : ℕ) → lookup (is_at (nat_cmp q)) fs ≡ cond (is_at (nat_cmp base) q) (Some new) (lookup (is_at (nat_cmp q)) es))
+    → IsByBase fs × (listed_space fs ≡ finite.insert (listed_space es) base new)
+listed_again es fs base page new h t same there is =
+    let begins : new.base ≡ base = same ∙ h.under_base base page (get_listed es base h.rising ∙ sym there) in (
+      by_base_put es fs new h t (subst (λ b. (q : ℕ) → lookup (is_at (nat_cmp q)) fs ≡ cond (is_at (nat_cmp b) q) (Some new) (lookup (is_at (nat_cmp q)) es)) (sym begins) is),
+      put_listed es fs base new h.rising t is,
+    )
+
 -- ---- neighbours, by ranges of the map
 
 module _ (m : BTreeMap ℕ Page) (h : IsByBase m.entries) (address : ℕ) (r : List (ℕ × Page)) where

@@ -1,6 +1,6 @@
 -- How the table count changes with one page, by the pages next to it.
 use Rattle.std.proofs.Common.{◌≡◌, ◌≢◌, ℕ, zero, suc, ◌+◌, ◌-◌, ◌*◌, ◌/◌, ◌%◌, ◌^◌, ◌<◌, ◌≤◌, true, false, cond, ◌||◌, nat_eq, nat_lt, List, Option, Some, None, IsTrue, ⊎_elim, refl, sym, ap, ◌∙◌, subst, mod-lt, mod-eq_of_lt, arith}
-use lib.Pow.{pow_pos, pow_mono, shr_mono, split, mod-mod-pow}
+use lib.Pow.{pow_pos, pow_mono, shr_mono, shr-shr, split, mod-mod-pow}
 use Rattle.std.specs.FinMap as finite
 use Rattle.std.specs.Cmp.{both_ways}
 use Rattle.std.specs.Set.{is_member}
@@ -18,7 +18,7 @@ use Rattle.vs_types.proofs.TableCounts.{has_table, stretches, tables_with, table
 use Rattle.vs_plain.specs.inside.PageMap.{IsLastUpTo, IsFirstFrom}
 use Rattle.vs_plain.specs.inside.Tables.{begins_in_stretch}
 
-aligned_down : (n i k : ℕ) → k ≤ i → n % 2 ^ i ≡ 0 → n % 2 ^ k ≡ 0
+pub aligned_down : (n i k : ℕ) → k ≤ i → n % 2 ^ i ≡ 0 → n % 2 ^ k ≡ 0
 aligned_down n i k l e =
     let whole : (i - k) + k ≡ i = omega arith in
     sym (mod-mod-pow n (i - k) k) ∙ ap (λ m. n % 2 ^ m % 2 ^ k) whole ∙ ap (λ m. m % 2 ^ k) e ∙ mod-eq_of_lt (pow_pos k)
@@ -31,6 +31,14 @@ has_stretch k start n bytes e at l =
     let same : start / 2 ^ k * 2 ^ k ≡ n / 2 ^ k * 2 ^ k = ap (λ x. x * 2 ^ k) e in
     let rest : n % 2 ^ k < 2 ^ k = mod-lt n (pow_pos k) in
     (omega arith, omega arith)
+
+-- what shares a table shares all above it
+coarser : (low high address : ℕ) (q : Option Page) → low ≤ high → begins_in_stretch low address q ≡ true → begins_in_stretch high address q ≡ true
+coarser low high address None l b = cc
+coarser low high address (Some q) l b =
+    let bits : (12 + 9 * low) + 9 * (high - low) ≡ 12 + 9 * high = omega arith in
+    let up = λ (n : ℕ). shr-shr n (12 + 9 * low) (9 * (high - low)) ∙ ap (λ k. n / 2 ^ k) bits in
+    eq-eqb _ _ (sym (up q.base) ∙ ap (λ n. n / 2 ^ (9 * (high - low))) (eqb-true _ _ b) ∙ up address)
 
 -- ---- the stretch of the new page, by the pages next to it
 
@@ -69,7 +77,7 @@ module _ {depth : Depth} {space : Space} (is : IsSpace depth space) (page : Page
       subst (λ n. is_member nat_eq (stretches level space) n ≡ true) e
       (member_goes (λ (p : Page). p.base / table_bytes level) (λ p. nat_lt (bytes_of p.size) (table_bytes level)) (pages space) q ((holds_listed is q).1 h) (small q h e))
 
-  below_there : (below : Option Page) → IsLastUpTo space page.base below → begins_in_stretch level page.base below ≡ true → is_member nat_eq (stretches level space) (page.base / table_bytes level) ≡ true
+  pub below_there : (below : Option Page) → IsLastUpTo space page.base below → begins_in_stretch level page.base below ≡ true → is_member nat_eq (stretches level space) (page.base / table_bytes level) ≡ true
   below_there None last b = cc
   below_there (Some q) last b = held_there q last.0 b
 
@@ -123,6 +131,20 @@ module _ {depth : Depth} {space : Space} (is : IsSpace depth space) (page : Page
       → tables_of_level level (pages (finite.insert space page.base page)) ≡ cond (begins_in_stretch level page.base below || begins_in_stretch level page.base above) 0 1 + tables_of_level level (pages space)
   at_level level below above last first own =
       tables_with is page is_with absent level own ∙ ap (λ b. cond b 0 1 + tables_of_level level (pages space)) (shared is page apart level own below above last first)
+
+  -- where the page before is in its own table, it needs no other
+  pub no_new : (below : Option Page) → IsLastUpTo space page.base below → begins_in_stretch (level_of page.size) page.base below ≡ true
+      → (n : ℕ) → tables_of_levels n (pages space) ≡ tables_of_levels n (pages (finite.insert space page.base page))
+  no_new below last b zero = refl
+  no_new below last b (suc n) =
+      let rest = no_new below last b n in
+      ⊎_elim
+      (λ l. let here = tables_without is page is_with absent (suc n) l in omega arith)
+      (λ own.
+      let there = below_there is page apart (suc n) own below last (coarser (level_of page.size) (suc n) page.base below own b) in
+      let here = tables_with is page is_with absent (suc n) own ∙ ap (λ x. cond x 0 1 + tables_of_level (suc n) (pages space)) there in
+      omega arith)
+      (cases_lt (suc n) (level_of page.size))
 
   level_done : (level count there : ℕ) → 0 < level → tables_of_level level (pages (finite.insert space page.base page)) ≡ there + tables_of_level level (pages space)
       → count + tables_of_levels (level - 1) (pages space) ≡ tables_of_levels (level - 1) (pages (finite.insert space page.base page))

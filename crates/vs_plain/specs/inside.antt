@@ -2,4 +2,5 @@
 pub mod Invariant
 pub mod Listed
 pub mod PageMap
+pub mod Place
 pub mod Tables

@@ -4,6 +4,7 @@
 #![tactic(auto)]
 
 mod page_map;
+mod place;
 mod plain;
 
 pub use plain::PlainSpace;

@@ -1,4 +1,4 @@
-ghost use Rattle.std.specs.Prelude.{◌≡◌, ◌+◌, ◌<◌, ◌≤◌, ◌||◌, None, IfOk, OnOk, OnErr};
+ghost use Rattle.std.specs.Prelude.{◌≡◌, ◌+◌, ◌<◌, ◌≤◌, ◌||◌, None, IfOk, IfSome, IfNone, OnOk, OnErr};
 ghost use Rattle.std.specs.FinMap as finite;
 ghost use Rattle.vs_types.specs.Space.{no_pages, pages, least_overlapped, table_count, IsSpace};
 ghost use Rattle.vs_types.specs.Depth.{levels};
@@ -9,7 +9,7 @@ ghost use Rattle.vs_plain.specs.inside.PageMap.{IsLastUpTo, IsFirstFrom};
 use std::alloc::Global;
 use std::collections::BTreeMap;
 use std::marker::Model;
-use vs_types::{Depth, Memory, Page};
+use vs_types::{Depth, Memory, Page, Rights};
 
 /// Pages, each under its base. Contracts see the space that they make.
 #[derive(Debug, Drop)]
@@ -81,32 +81,49 @@ impl PageMap {
         Some(*page)
     }
 
-    /// Puts the page under its base, in the place of one that is there.
+    /// Puts the page under its base, where none begins.
     pub(crate) fn insert(&mut self, page: Page) -> Result<(), Memory>
         ensures ok { OnOk result (self.new ≡ finite.insert self.old page.base page) }
         ensures err { OnErr result (self.new ≡ self.old) }
-        ensures absent { OnErr result (finite.get self.old page.base ≡ None) }
     {
         self.by_base.insert(page.base, page)?;
         Ok(())
     }
 
-    /// Takes out the page that begins at `base`.
-    pub(crate) fn remove(&mut self, base: u64)
-        ensures { self.new ≡ finite.remove self.old base }
+    /// Takes out the page that begins at `base`, if one does.
+    pub(crate) fn remove(&mut self, base: u64) -> Option<Page>
+        ensures was { result ≡ finite.get self.old base }
+        ensures removed { self.new ≡ finite.remove self.old base }
+        ensures unchanged { IfNone result (self.new ≡ self.old) }
     {
-        let _page = self.by_base.remove(&base);
+        self.by_base.remove(&base)
     }
 
-    /// How many tables the page needs beside those of the pages here, none of which it overlaps.
-    pub(crate) fn new_tables(&self, depth: Depth, page: Page) -> usize
+    /// Gives the page that begins at `base`, if one does, these rights. The page as it was.
+    pub(crate) fn protect(&mut self, base: u64, rights: Rights) -> Option<Page>
+        ensures was { result ≡ finite.get self.old base }
+        ensures changed { IfSome result (λ page. self.new ≡ finite.insert self.old base (record page { rights = rights })) }
+        ensures unchanged { IfNone result (self.new ≡ self.old) }
+    {
+        let page = self.by_base.get_mut(&base)?;
+        let was = *page;
+        page.rights = rights;
+        Some(was)
+    }
+
+    /// How many tables the page needs beside those of the pages here, none of which it overlaps; `below` is the last of them
+    /// up to its base.
+    pub(crate) fn new_tables(&self, depth: Depth, page: Page, below: Option<Page>) -> usize
         requires is_space { IsSpace depth self.now }
         requires well_formed { IsPage depth page }
         requires free { least_overlapped self.now page ≡ None }
+        requires last { IsLastUpTo self.now page.base below }
         ensures more { result + table_count depth self.now ≡ table_count depth (finite.insert self.now page.base page) }
         ensures few { result ≤ levels depth }
     {
-        let below = self.last_up_to(page.base);
+        if begins_in_stretch(page.size.level(), page.base, below) {
+            return 0;
+        }
         let above = self.first_from(page.base);
         let mut count = 0;
         for level in page.size.level()..depth.levels() {

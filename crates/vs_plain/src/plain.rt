@@ -1,13 +1,17 @@
-ghost use Rattle.std.specs.Prelude.{◌≡◌, IfOk, IsOk, OnErr, IfSome, IsTrue};
-ghost use Rattle.vs_types.specs.Page.{covers, IsPage};
+ghost use Rattle.std.specs.Prelude.{◌≡◌, None, IfOk, OnErr};
+ghost use Rattle.std.specs.FinMap as finite;
+ghost use Rattle.vs_types.specs.Page.{IsPage};
 ghost use Rattle.vs_types.specs.Space.{no_pages, pages, page_at, least_overlapped, IsSpace, table_count};
-ghost use Rattle.vs_types.specs.Step.{step, look};
+ghost use Rattle.vs_types.specs.Operation.{IsAction};
+ghost use Rattle.vs_types.specs.Step.{step, look, allow};
 ghost use Rattle.vs_plain.specs.Plain.{BoundedSpace, IsPlainStep};
+ghost use Rattle.vs_plain.specs.inside.Place.{IsPlaceOf, no_page};
 
 use crate::page_map::PageMap;
+use crate::place::{Place, reaches};
 use std::alloc::Global;
 use std::marker::Model;
-use vs_types::{Action, Answer, Depth, Memory, Op, Page, Rights};
+use vs_types::{Access, Action, Answer, Depth, Memory, Mode, Op, Page, Rights, Size};
 
 /// An address space as its pages in an ordered map. Each call takes time logarithmic in their number, `pages` linear.
 ///
@@ -72,17 +76,17 @@ impl PlainSpace {
         self.page_map.list()
     }
 
-    fn covering(&self, address: u64) -> Option<Page>
-        ensures at { result ≡ page_at self.now.space address }
-        ensures covers { IfSome result (λ page. IsTrue (covers page address)) }
-        ensures well_formed { IfSome result (IsPage self.now.depth) }
+    fn place_of(&self, address: u64) -> Place
+        ensures is { IsPlaceOf self.now.depth self.now.space address result }
         ensures apart { IsSpace self.now.depth self.now.space }
     {
-        let page = self.page_map.last_up_to(address)?;
-        if address - page.base < page.size.bytes() {
-            Some(page)
+        let Some(page) = self.page_map.last_up_to(address) else {
+            return Place::Free(None);
+        };
+        if reaches(page, address) {
+            Place::Covered(page)
         } else {
-            None
+            Place::Free(Some(page))
         }
     }
 
@@ -90,20 +94,33 @@ impl PlainSpace {
     pub fn resolve(&self, address: u64) -> Answer
         ensures { result ≡ look self.now.space address }
     {
-        match self.covering(address) {
-            None => Answer::NotMapped,
-            Some(page) => Answer::Mapped(page.phys + (address - page.base), page.size, page.rights),
+        match self.place_of(address) {
+            Place::Free(_) => Answer::NotMapped,
+            Place::Covered(page) => {
+                Answer::Mapped(page.phys + (address - page.base), page.size, page.rights)
+            }
         }
     }
 
-    fn overlapped(&self, page: Page) -> Option<u64>
+    /// What an access of an address is answered: `Allowed` or `Fault`. Takes no memory.
+    pub fn access(&self, address: u64, mode: Mode, access: Access) -> Answer
+        ensures { result ≡ allow self.now.space address mode access }
+    {
+        self.resolve(address).accessed(mode, access)
+    }
+
+    /// The least base of a page that overlaps this one, whose base none covers.
+    fn overlapped_above(&self, page: Page) -> Option<u64>
+        requires well_formed { IsPage self.now.depth page }
+        requires free { page_at self.now.space page.base ≡ None }
         ensures { result ≡ least_overlapped self.now.space page }
     {
-        if let Some(below) = self.covering(page.base) {
-            return Some(below.base);
+        let pages = &self.page_map;
+        if let Size::K4 = page.size {
+            return None;
         }
-        let above = self.page_map.first_from(page.base)?;
-        if above.base - page.base < page.size.bytes() {
+        let above = pages.first_from(page.base)?;
+        if reaches(page, above.base) {
             Some(above.base)
         } else {
             None
@@ -116,10 +133,14 @@ impl PlainSpace {
         ensures err { OnErr result (self.new ≡ self.old) }
         ensures for_a_page { OnErr result ((step self.old.depth self.old.limit self.old.space (Action.Map page)).answer ≡ Answer.Done) }
     {
-        if let Some(base) = self.overlapped(page) {
+        let below = match self.place_of(page.base) {
+            Place::Covered(other) => return Ok(Answer::Overlap(other.base)),
+            Place::Free(below) => below,
+        };
+        if let Some(base) = self.overlapped_above(page) {
             return Ok(Answer::Overlap(base));
         }
-        let need = self.tables + self.page_map.new_tables(self.depth, page);
+        let need = self.tables + self.page_map.new_tables(self.depth, page, below);
         if need > usize::from(self.limit) {
             return Ok(Answer::Full(need as u64));
         }
@@ -128,45 +149,44 @@ impl PlainSpace {
         Ok(Answer::Done)
     }
 
+    /// What a call is answered that names a base at which no page begins.
+    fn no_page(&self, base: u64) -> Answer
+        requires { finite.get self.now.space base ≡ None }
+        ensures { result ≡ no_page (page_at self.now.space base) }
+    {
+        match self.place_of(base) {
+            Place::Free(_) => Answer::NotMapped,
+            Place::Covered(page) => Answer::Inside(page.base),
+        }
+    }
+
     fn unmap(&mut self, base: u64) -> Answer
         ensures { IsPlainStep self.old (Action.Unmap base) result self.new }
     {
-        let Some(page) = self.covering(base) else {
-            return Answer::NotMapped;
+        let Some(page) = self.page_map.remove(base) else {
+            return self.no_page(base);
         };
-        if page.base != base {
-            return Answer::Inside(page.base);
-        }
-        self.page_map.remove(base);
-        self.tables -= self.page_map.new_tables(self.depth, page);
+        let below = self.page_map.last_up_to(base);
+        self.tables -= self.page_map.new_tables(self.depth, page, below);
         Answer::Removed(page.phys, page.size, page.rights)
     }
 
-    fn protect(&mut self, base: u64, rights: Rights) -> Result<Answer, Memory>
-        ensures ok { IfOk result (λ answer. IsPlainStep self.old (Action.Protect base rights) answer self.new) }
-        ensures answers { IsOk result }
+    fn protect(&mut self, base: u64, rights: Rights) -> Answer
+        ensures { IsPlainStep self.old (Action.Protect base rights) result self.new }
     {
-        let Some(page) = self.covering(base) else {
-            return Ok(Answer::NotMapped);
-        };
-        if page.base != base {
-            return Ok(Answer::Inside(page.base));
+        match self.page_map.protect(base, rights) {
+            None => self.no_page(base),
+            Some(page) => Answer::Changed(page.rights),
         }
-        self.page_map.insert(Page {
-            base: page.base,
-            size: page.size,
-            phys: page.phys,
-            rights,
-        })?;
-        Ok(Answer::Changed(page.rights))
     }
 
-    /// Does an operation. Takes memory where it maps a page.
+    /// Does an operation that is well formed at the space's depth. Takes memory where it maps a page.
     ///
     /// # Errors
     ///
     /// `Memory` where a growth was refused, which only a page that is added needs; the space is then unchanged.
     pub fn apply(&mut self, op: Op) -> Result<Answer, Memory>
+        requires { IsAction self.old.depth op }
         ensures ok { IfOk result (λ answer. IsPlainStep self.old op answer self.new) }
         ensures err { OnErr result (self.new ≡ self.old) }
         ensures for_a_page { OnErr result ((step self.old.depth self.old.limit self.old.space op).answer ≡ Answer.Done) }
@@ -174,7 +194,7 @@ impl PlainSpace {
         match op.action() {
             Action::Map(page) => self.map(page),
             Action::Unmap(base) => Ok(self.unmap(base)),
-            Action::Protect(base, rights) => self.protect(base, rights),
+            Action::Protect(base, rights) => Ok(self.protect(base, rights)),
         }
     }
 }

@@ -16,8 +16,8 @@ use Rattle.vs_space.specs.Held.{word_at}
 use Rattle.vs_space.specs.Path.{found_at, table_at, table_in}
 use Rattle.vs_space.specs.inside.Tree.{IsTree, IsReached, AreWritten}
 use Rattle.vs_space.specs.inside.Descent.{IsDescent}
-use Rattle.vs_space.proofs.Paths.{table_first, table_next}
-use Rattle.vs_space.proofs.Written.{written_level}
+use Rattle.vs_space.proofs.Paths.{table_first, table_below}
+use Rattle.vs_space.proofs.Written.{written_at}
 
 pub entry_read : (level : ℕ) (m : Memory) (n a index word : ℕ) (e : Meaning) → word_at m n index ≡ Some word → index ≡ index_at level a → e ≡ meaning level word → found_at level m n a ≡ Some e
 unfolding found_at
@@ -29,7 +29,7 @@ pub record IsOnPath (depth : Depth) (memory : Memory) (root address lowest level
   pub below : level ≤ levels depth
   pub long : length path ≡ 6
   pub last : number ≡ slice_index path level
-  pub reached : (j : ℕ) → level ≤ j → j ≤ levels depth → table_at (levels depth) memory root (levels depth - j) address ≡ Some (slice_index path j)
+  pub reached : (j : ℕ) → level ≤ j → j ≤ levels depth → table_at (levels depth) memory root j address ≡ Some (slice_index path j)
 
 pub at_root : (depth : Depth) (m : Memory) (root a lowest level : ℕ) (path : List ℕ) → level ≡ levels depth → lowest ≤ levels depth → length path ≡ 6 → ((j : ℕ) → j < 6 → slice_index path j ≡ root) → IsOnPath depth m root a lowest level root path
 at_root depth m root a lowest level path top low long same = record {
@@ -38,12 +38,13 @@ at_root depth m root a lowest level path top low long same = record {
   long = long;
   last = sym (same level (omega (arith, few_levels depth)));
   reached = λ j from to.
-      let first : levels depth - j ≡ 0 = omega arith in
-      subst (λ k. table_at (levels depth) m root k a ≡ Some (slice_index path j)) (sym first) (table_first (levels depth) root m a ∙ ap Some (sym (same j (omega (arith, few_levels depth)))));
+      let highest : j ≡ levels depth = omega arith in
+      subst (λ l. table_at (levels depth) m root l a ≡ Some (slice_index path j)) (sym highest)
+      (table_first (levels depth) root m a ∙ ap Some (sym (same j (omega (arith, few_levels depth)))));
 }
 
 pub used_here : (depth : Depth) (m : Memory) (root a lowest level number : ℕ) (path : List ℕ) → IsTree (levels depth) m root → IsOnPath depth m root a lowest level number path → IsSome (finite.get m number)
-used_here depth m root a lowest level number path tree on = tree.in_use (levels depth - level) a number (on.reached level (omega arith) on.below ∙ ap Some (sym on.last))
+used_here depth m root a lowest level number path tree on = tree.in_use level a number (on.reached level (omega arith) on.below ∙ ap Some (sym on.last))
 
 -- what is no table leads to none
 pub no_table : (e : Meaning) → ((n : ℕ) (own : Rights) → e ≢ entry.Table n own) → table_in (Some e) ≡ None
@@ -54,7 +55,7 @@ no_table (entry.Table n own) other = absurd (other n own refl)
 
 -- and its words are as written
 pub written_on_path : (depth : Depth) (m : Memory) (root a lowest level number : ℕ) (path : List ℕ) → IsTree (levels depth) m root → IsReached (levels depth) m root → IsOnPath depth m root a lowest level number path → AreWritten level m number
-written_on_path depth m root a lowest level number path tree all on = written_level (levels depth) root m tree all level a number on.below (on.reached level (omega arith) on.below ∙ ap Some (sym on.last))
+written_on_path depth m root a lowest level number path tree all on = written_at (levels depth) root m tree all level a number (on.reached level (omega arith) on.below ∙ ap Some (sym on.last))
 
 pub stops : (depth : Depth) (m : Memory) (root a lowest level number : ℕ) (path : List ℕ) (e : Meaning) → IsOnPath depth m root a lowest level number path → found_at level m number a ≡ Some e → (lowest < level → table_in (Some e) ≡ None) → IsDescent depth m root a lowest level path e
 stops depth m root a lowest level number path e on found ends = record {
@@ -72,22 +73,19 @@ goes_down depth m root a lowest level number next own path some on found other =
   long = length-set path (level - 1) next ∙ on.long;
   last = sym here;
   reached = λ j from to. ⊎_elim
-      (λ (same : j ≡ level - 1). subst (λ i. table_at (levels depth) m root (levels depth - i) a ≡ Some (slice_index (slice_set path (level - 1) next) i)) (sym same) (reaches ∙ ap Some (sym here)))
-      (λ (apart : j ≢ level - 1). on.reached j (omega (arith, on.above)) to ∙ ap Some (sym (get_or-set_other path (level - 1) j next 0 apart)))
+      (λ (same : j ≡ level - 1).
+      subst (λ i. table_at (levels depth) m root i a ≡ Some (slice_index (slice_set path (level - 1) next) i)) (sym same) (reaches ∙ ap Some (sym here)))
+      (λ (apart : j ≢ level - 1).
+      on.reached j (omega (arith, on.above)) to ∙ ap Some (sym (get_or-set_other path (level - 1) j next 0 apart)))
       (cases_eq j (level - 1));
 } where
   here : slice_index (slice_set path (level - 1) next) (level - 1) ≡ next
   here = get_or-set_same path (level - 1) next 0 (omega (arith, on.long, on.below, few_levels depth, on.above))
 
-  steps : levels depth - (level - 1) ≡ suc (levels depth - level)
-  steps = omega (arith, on.below, on.above)
-
-  back : levels depth - (levels depth - level) ≡ level
-  back = omega (arith, on.below)
-
-  reaches : table_at (levels depth) m root (levels depth - (level - 1)) a ≡ Some next
-  reaches = ap (λ k. table_at (levels depth) m root k a) steps ∙ table_next (levels depth) root m (levels depth - level) a number (on.reached level (omega arith) on.below ∙ ap Some (sym on.last))
-      ∙ ap (λ l. table_in (found_at l m number a)) back ∙ ap table_in found
+  reaches : table_at (levels depth) m root (level - 1) a ≡ Some next
+  reaches =
+      table_below (levels depth) root m level (level - 1) a number (omega (arith, on.above)) (on.reached level (omega arith) on.below ∙ ap Some (sym on.last))
+      ∙ ap table_in found
 
 pub all_root : (root j : ℕ) → j < 6 → slice_index (root ∷ root ∷ root ∷ root ∷ root ∷ root ∷ []) j ≡ root
 all_root root zero lt = refl
@@ -101,8 +99,7 @@ all_root root (suc (suc (suc (suc (suc (suc j)))))) lt = absurd (omega arith)
 -- the highest table on the path is the root
 pub path_root : (depth : Depth) (m : Memory) (root a lowest level : ℕ) (path : List ℕ) (e : Meaning) → IsDescent depth m root a lowest level path e → slice_index path (levels depth) ≡ root
 path_root depth m root a lowest level path e descent =
-    let first : levels depth - levels depth ≡ 0 = omega arith in
-    same _ _ (sym (descent.reached (levels depth) descent.below (omega arith)) ∙ ap (λ k. table_at (levels depth) m root k a) first ∙ table_first (levels depth) root m a)
+    same _ _ (sym (descent.reached (levels depth) descent.below (omega arith)) ∙ table_first (levels depth) root m a)
   where
     same : (x y : ℕ) → Some x ≡ Some y → x ≡ y
     same x y e = cc

@@ -1,5 +1,5 @@
 -- Tables are linked on the path of an address, one by one.
-use Rattle.std.proofs.Common.{◌≡◌, ℕ, suc, ◌+◌, ◌-◌, ◌<◌, ◌≤◌, Some, None, ⊎_elim, refl, sym, ap, subst, ◌∙◌, arith}
+use Rattle.std.proofs.Common.{◌≡◌, ◌≢◌, ℕ, suc, ◌+◌, ◌-◌, ◌<◌, ◌≤◌, Some, None, ⊎_elim, refl, sym, ap, subst, ◌∙◌, arith}
 use Rattle.std.specs.Prelude.{IsSome}
 use Rattle.std.specs.FinMap as finite
 use Rattle.vs_types.specs.Depth.{levels, index_at}
@@ -25,83 +25,76 @@ use Rattle.vs_space.proofs.Written.{written_table}
 pub extended_start : (depth : Depth) (m : Memory) (root base from number : ℕ) → IsOpen depth m root base from number → IsExtended depth m m root base from from number
 extended_start depth m root base from number here = record { open_at = here; walks = λ b. refl; more = omega arith }
 
-module _ (depth : Depth) (m : Memory) (root base level number : ℕ) (here : IsOpen depth m root base level number) (deep : 1 < level) (f : ℕ) (free : finite.get m f ≡ None) (whole : AreWhole (finite.insert m f zeros)) (w index : ℕ) (leads : meaning level w ≡ entry.Table f all_rights) (is_word : w ≡ table_word f) (is_index : index ≡ index_at level base) (low : index < 512) where
+module _ (depth : Depth) (m : Memory) (root base level number : ℕ) (here : IsOpen depth m root base level number) (deep : 1 < level) (f : ℕ) (free : finite.get m f ≡ None)
+    (whole : AreWhole (finite.insert m f zeros)) (w : ℕ) (leads : meaning level w ≡ entry.Table f all_rights) (is_word : w ≡ table_word f) where
   abbrev taken : Memory
   taken = finite.insert m f zeros
 
-  back : levels depth - (levels depth - level) ≡ level
-  back = omega (arith, here.below)
+  abbrev new : Memory
+  new = with_word (finite.insert m f zeros) number (index_at level base) w
 
-  steps : suc (levels depth - level) ≡ levels depth - (level - 1)
-  steps = omega (arith, here.below)
-
-  index_same : index_at (levels depth - (levels depth - level)) base ≡ index
-  index_same = ap (λ l. index_at l base) back ∙ sym is_index
-
-  low_here : index_at (levels depth - (levels depth - level)) base < 512
-  low_here = subst (λ i. i < 512) (sym index_same) low
-
-  leads_here : meaning (levels depth - (levels depth - level)) w ≡ entry.Table f all_rights
-  leads_here = ap (λ l. meaning l w) back ∙ leads
-
-  tree_taken : IsTree (levels depth) (finite.insert m f zeros) root
+  tree_taken : IsTree (levels depth) taken root
   tree_taken = tree_take (levels depth) root m here.tree f free
 
-  at_taken : table_at (levels depth) (finite.insert m f zeros) root (levels depth - level) base ≡ Some number
-  at_taken = table_take (levels depth) root m here.tree f free (levels depth - level) base ∙ here.reached
+  at_taken : table_at (levels depth) taken root level base ≡ Some number
+  at_taken = table_take (levels depth) root m here.tree f free level base ∙ here.reached
 
-  absent_taken : found_at (levels depth - (levels depth - level)) (finite.insert m f zeros) number base ≡ Some entry.Absent
-  absent_taken = found_take (levels depth) root m here.tree f free (levels depth - level) base number here.reached ∙ subst (λ l. found_at l m number base ≡ Some entry.Absent) (sym back) here.absent
+  absent_taken : found_at level taken number base ≡ Some entry.Absent
+  absent_taken = found_take (levels depth) root m here.tree f free level base number here.reached ∙ here.absent
 
-  clear : finite.get (finite.insert m f zeros) f ≡ Some zeros
+  clear : finite.get taken f ≡ Some zeros
   clear = get-insert_same m f zeros
 
-  whole_path : suc (levels depth - level) + suc (level - 2) ≡ levels depth
-  whole_path = omega (arith, here.below)
+  unreached : (j b : ℕ) → table_at (levels depth) taken root j b ≢ Some f
+  unreached = new_unreached (levels depth) root m here.tree f free
 
-  abbrev after : ℕ → Memory
-  after i = with_word (finite.insert m f zeros) number i w
+  one : level ≡ suc (level - 1)
+  one = omega arith
 
-  abbrev new : Memory
-  new = with_word (finite.insert m f zeros) number (index_at (levels depth - (levels depth - level)) base) w
+  some : 1 ≤ level - 1
+  some = omega arith
 
-  tree_new : IsTree (levels depth) (with_word (finite.insert m f zeros) number (index_at (levels depth - (levels depth - level)) base) w) root
-  tree_new = tree_link (levels depth) root (finite.insert m f zeros) tree_taken whole (levels depth - level) base number at_taken w f low_here leads_here clear (new_unreached (levels depth) root m here.tree f free) absent_taken (level - 2) whole_path
+  tree_new : IsTree (levels depth) new root
+  tree_new = tree_link (levels depth) root taken tree_taken whole level base number at_taken w f leads clear unreached absent_taken (level - 1) one some
 
-  walks_new : (b : ℕ) → walk depth (with_word (finite.insert m f zeros) number (index_at (levels depth - (levels depth - level)) base) w) root b ≡ walk depth m root b
+  walks_new : (b : ℕ) → walk depth new root b ≡ walk depth m root b
   walks_new b =
-      walk_link (levels depth) root (finite.insert m f zeros) tree_taken whole (levels depth - level) base number at_taken w f low_here leads_here clear (new_unreached (levels depth) root m here.tree f free) absent_taken (level - 2) whole_path b
+      walk_link (levels depth) root taken tree_taken whole level base number at_taken w f leads clear unreached absent_taken (level - 1) one some b
       ∙ walk_take (levels depth) root m here.tree f free b
 
-  was_there : (j b q : ℕ) → table_at (levels depth) (with_word (finite.insert m f zeros) number (index_at (levels depth - (levels depth - level)) base) w) root (suc j) b ≡ Some q → (SamePath (levels depth) (suc j) base b → ⊥) → table_at (levels depth) m root (suc j) b ≡ Some q
+  was_there : (j b q : ℕ) → table_at (levels depth) new root j b ≡ Some q → (SamePath (levels depth) (suc j) base b → ⊥) → table_at (levels depth) m root j b ≡ Some q
   was_there j b q r off = ⊎_elim
-      (λ old. sym (table_take (levels depth) root m here.tree f free (suc j) b) ∙ old)
-      (λ fresh. absurd (off (subst (λ i. SamePath (levels depth) i base b) (sym fresh.0) fresh.1)))
-      (old_or_new (levels depth) root (finite.insert m f zeros) tree_taken whole (levels depth - level) base number at_taken w f low_here leads_here clear (new_unreached (levels depth) root m here.tree f free) absent_taken (level - 2) whole_path (suc j) b q r)
+      (λ old. sym (table_take (levels depth) root m here.tree f free j b) ∙ old)
+      (λ fresh. absurd (off (λ i from to. fresh.1 i (omega (arith, fresh.0, from)) to)))
+      (old_or_new (levels depth) root taken tree_taken whole level base number at_taken w f leads clear unreached absent_taken (level - 1) one some j b q r)
 
-  linked_new : table_at (levels depth) (with_word (finite.insert m f zeros) number (index_at (levels depth - (levels depth - level)) base) w) root (suc (levels depth - level)) base ≡ Some f
-  linked_new = linked (levels depth) root (finite.insert m f zeros) tree_taken whole (levels depth - level) base number at_taken w f low_here leads_here clear (new_unreached (levels depth) root m here.tree f free) absent_taken (level - 2) whole_path base (λ i lt. refl)
+  linked_new : table_at (levels depth) new root (level - 1) base ≡ Some f
+  linked_new =
+      linked (levels depth) root taken tree_taken whole level base number at_taken w f leads clear unreached absent_taken (level - 1) one some base (λ i from to. refl)
 
-  open_new : IsOpen depth (with_word (finite.insert m f zeros) number (index_at (levels depth - (levels depth - level)) base) w) root base (level - 1) f
+  open_new : IsOpen depth new root base (level - 1) f
   open_new = record {
     tree = tree_new;
-    filled = but_alike depth m (with_word (finite.insert m f zeros) number (index_at (levels depth - (levels depth - level)) base) w) root base was_there (λ b canonical. walks_new b) here.filled;
-    all_reached = reached_link (levels depth) root m here.tree f free whole (levels depth - level) base number at_taken w (ap table_in absent_taken) linked_new (written_table (levels depth - (levels depth - level)) w f leads_here is_word) here.all_reached;
+    filled = but_alike depth m new root base was_there (λ b canonical. walks_new b) here.filled;
+    all_reached = reached_link (levels depth) root m here.tree f free whole level base number at_taken w (level - 1) (ap table_in absent_taken) linked_new
+        (written_table level w f leads is_word) here.all_reached;
     below = omega (arith, here.below);
-    reached = subst (λ k. table_at (levels depth) (with_word (finite.insert m f zeros) number (index_at (levels depth - (levels depth - level)) base) w) root k base ≡ Some f) steps linked_new;
-    absent = found_in_zeros (level - 1) (with_word (finite.insert m f zeros) number (index_at (levels depth - (levels depth - level)) base) w) f base
-        (still_clear (levels depth) root (finite.insert m f zeros) tree_taken whole (levels depth - level) base number at_taken w f low_here leads_here clear (new_unreached (levels depth) root m here.tree f free) absent_taken (level - 2) whole_path);
+    reached = linked_new;
+    absent = found_in_zeros (level - 1) new f base
+        (still_clear (levels depth) root taken tree_taken whole level base number at_taken w f leads clear unreached absent_taken (level - 1) one some);
   }
 
-  one_more : finite.len (with_word (finite.insert m f zeros) number (index_at (levels depth - (levels depth - level)) base) w) ≡ finite.len m + 1
-  one_more = len_written (finite.insert m f zeros) number (index_at (levels depth - (levels depth - level)) base) w (tree_taken.in_use (levels depth - level) base number at_taken) ∙ len-insert_free m f zeros free
+  one_more : finite.len new ≡ finite.len m + 1
+  one_more = len_written taken number (index_at level base) w (tree_taken.in_use level base number at_taken) ∙ len-insert_free m f zeros free
 
-  pub extended_on : (old : Memory) (from : ℕ) → level ≤ from → IsExtended depth old m root base from level number → IsExtended depth old (with_word (finite.insert m f zeros) number index w) root base from (level - 1) f
-  extended_on old from le extended = subst (λ i. IsExtended depth old (with_word (finite.insert m f zeros) number i w) root base from (level - 1) f) index_same (record {
-    open_at = open_new;
-    walks = λ b. walks_new b ∙ extended.walks b;
-    more = omega (arith, one_more, extended.more, le, deep);
-  })
+  pub extended_on : (index : ℕ) → index ≡ index_at level base → (old : Memory) (from : ℕ) → level ≤ from → IsExtended depth old m root base from level number
+      → IsExtended depth old (with_word (finite.insert m f zeros) number index w) root base from (level - 1) f
+  extended_on index is_index old from le extended =
+      subst (λ i. IsExtended depth old (with_word (finite.insert m f zeros) number i w) root base from (level - 1) f) (sym is_index) (record {
+        open_at = open_new;
+        walks = λ b. walks_new b ∙ extended.walks b;
+        more = omega (arith, one_more, extended.more, le, deep);
+      })
 
 pub taken_used : (depth : Depth) (m : Memory) (root base level number f : ℕ) → IsOpen depth m root base level number → IsSome (finite.get (finite.insert m f zeros) number)
-taken_used depth m root base level number f here = IsInUse-insert m f zeros number (here.tree.in_use (levels depth - level) base number here.reached)
+taken_used depth m root base level number f here = IsInUse-insert m f zeros number (here.tree.in_use level base number here.reached)

@@ -17,7 +17,7 @@ use Rattle.vs_walk.specs.Ways.{AreWhole}
 use Rattle.vs_space.specs.Path.{found_at, table_in, table_at, SamePath}
 use Rattle.vs_space.specs.inside.Tree.{IsTree}
 use Rattle.vs_space.proofs.Numbered.{get-insert_other, get-remove_other}
-use Rattle.vs_space.proofs.Paths.{table_next, none_past, same_table, walk_ends, found_same}
+use Rattle.vs_space.proofs.Paths.{reached_within, table_below, none_past, same_table, walk_absent, found_same}
 use Rattle.vs_space.proofs.Writes.{off_path, above, table_off_path, table_above, walk_off_path, table_here, found_on_path, same_or_not, found_alike, written_in_use, used_some, get_written_other}
 use Rattle.vs_space.proofs.Trees.{one_some, one_meaning, unreached_table, unreached_walk, unreached_tree, none_here, fewer, tree_write}
 
@@ -37,43 +37,42 @@ found_in_zeros level m f b got =
 
 -- ---- a frame that no path reaches, all zero, is linked at an absent entry
 
-module _ (top : ℕ) (root : ℕ) (m : Memory) (tree : IsTree top m root) (whole : AreWhole m) (k a n : ℕ) (at : table_at top m root k a ≡ Some n) (w f : ℕ) (low : index_at (top - k) a < 512)
-    (leads : meaning (top - k) w ≡ entry.Table f all_rights) (clear : finite.get m f ≡ Some zeros) (unreached : (j b : ℕ) → table_at top m root j b ≢ Some f) (absent : found_at (top - k) m n a ≡ Some entry.Absent) (left : ℕ) (deep : suc k + suc left ≡ top) where
+module _ (top : ℕ) (root : ℕ) (m : Memory) (tree : IsTree top m root) (whole : AreWhole m) (level a n : ℕ) (at : table_at top m root level a ≡ Some n) (w f : ℕ)
+    (leads : meaning level w ≡ entry.Table f all_rights) (clear : finite.get m f ≡ Some zeros) (unreached : (j b : ℕ) → table_at top m root j b ≢ Some f)
+    (absent : found_at level m n a ≡ Some entry.Absent) (below : ℕ) (one : level ≡ suc below) (some : 1 ≤ below) where
   abbrev new : Memory
-  new = with_word m n (index_at (top - k) a) w
+  new = with_word m n (index_at level a) w
 
   apart_frames : f ≢ n
-  apart_frames e = unreached k a (at ∙ ap Some (sym e))
+  apart_frames e = unreached level a (at ∙ ap Some (sym e))
 
   pub still_clear : finite.get new f ≡ Some zeros
-  still_clear = get_written_other m n (index_at (top - k) a) w f apart_frames ∙ clear
+  still_clear = get_written_other m n (index_at level a) w f apart_frames ∙ clear
 
-  pub linked : (b : ℕ) → SamePath top (suc k) a b → table_at top new root (suc k) b ≡ Some f
+  pub linked : (b : ℕ) → SamePath top level a b → table_at top new root below b ≡ Some f
   linked b same =
-      table_next top root new k b n (table_here top root m tree whole k a n at w b same)
-      ∙ ap table_in (found_on_path top root m tree whole k a n at w b low same ∙ ap Some leads)
+      table_below top root new level below b n one (table_here top root m tree whole level a n at w b same)
+      ∙ ap table_in (found_on_path top root m tree whole level a n at w b same ∙ ap Some leads)
 
-  pub ends_below : (b : ℕ) → SamePath top (suc k) a b → table_at top new root (suc (suc k)) b ≡ None
-  ends_below b same = table_next top root new (suc k) b f (linked b same) ∙ ap table_in (found_in_zeros (top - suc k) new f b still_clear)
+  pub ends_below : (b j : ℕ) → j < below → SamePath top level a b → table_at top new root j b ≡ None
+  ends_below b j lt same =
+      none_past top root new (below - 1) j b (omega (arith, reached_within top root m level a n at)) (omega arith)
+      (table_below top root new below (below - 1) b f (omega arith) (linked b same) ∙ ap table_in (found_in_zeros below new f b still_clear))
 
   -- each table was there, or is the new one
-  pub old_or_new : (j b q : ℕ) → table_at top new root j b ≡ Some q → (table_at top m root j b ≡ Some q) ⊎ ((j ≡ suc k) × SamePath top (suc k) a b × (q ≡ f))
+  pub old_or_new : (j b q : ℕ) → table_at top new root j b ≡ Some q → (table_at top m root j b ≡ Some q) ⊎ ((j ≡ below) × SamePath top level a b × (q ≡ f))
   old_or_new j b q r = ⊎_elim
       (λ same. ⊎_elim
-      (λ (past : k < j). ⊎_elim
-      (λ (here : j ≡ suc k). inr (here, same, one_some q f (sym r ∙ ap (λ i. table_at top new root i b) here ∙ linked b same)))
-      (λ (other : j ≢ suc k).
-      let gone = none_past top root new (suc (suc k)) (j - suc (suc k)) b (ends_below b same) in
-      let path : (j - suc (suc k)) + suc (suc k) ≡ j = omega arith in
-      let nowhere : table_at top new root j b ≡ None = subst (λ i. table_at top new root i b ≡ None) path gone in
-      absurd (cc))
-      (cases_eq j (suc k)))
-      (λ (le : j ≤ k). inl (sym (table_above top root m tree whole k a n at w b j le) ∙ r))
-      (cases_lt k j))
-      (λ apart. inl (sym (table_off_path top root m tree whole k a n at w b j apart) ∙ r))
-      (same_or_not top (suc k) a b)
+      (λ (past : j < level). ⊎_elim
+      (λ (here : j ≡ below). inr (here, same, one_some q f (sym r ∙ ap (λ i. table_at top new root i b) here ∙ linked b same)))
+      (λ (other : j ≢ below). let nowhere = ends_below b j (omega (arith, other)) same in absurd (cc))
+      (cases_eq j below))
+      (λ (le : level ≤ j). inl (sym (table_above top root m tree whole level a n at w b j le) ∙ r))
+      (cases_lt j level))
+      (λ apart. inl (sym (table_off_path top root m tree whole level a n at w b j apart) ∙ r))
+      (same_or_not top level a b)
 
-  once_new : (j l b c q : ℕ) → table_at top new root j b ≡ Some q → table_at top new root l c ≡ Some q → (j ≡ l) × SamePath top j b c
+  once_new : (j l b c q : ℕ) → table_at top new root j b ≡ Some q → table_at top new root l c ≡ Some q → (j ≡ l) × SamePath top (suc j) b c
   once_new j l b c q r s = ⊎_elim
       (λ r_old. ⊎_elim
       (λ s_old. tree.once j l b c q r_old s_old)
@@ -81,57 +80,51 @@ module _ (top : ℕ) (root : ℕ) (m : Memory) (tree : IsTree top m root) (whole
       (old_or_new l c q s))
       (λ r_new. ⊎_elim
       (λ s_old. absurd (unreached l c (s_old ∙ ap Some r_new.2)))
-      (λ s_new. (r_new.0 ∙ sym s_new.0, λ i lt. sym (r_new.1 i (omega (arith, r_new.0))) ∙ s_new.1 i (omega (arith, r_new.0))))
+      (λ s_new. (r_new.0 ∙ sym s_new.0, λ i from to. sym (r_new.1 i (omega (arith, r_new.0)) to) ∙ s_new.1 i (omega (arith, r_new.0)) to))
       (old_or_new l c q s))
       (old_or_new j b q r)
 
-  allows_old : (j b q next : ℕ) (own : Rights) → table_at top new root j b ≡ Some q → found_at (top - j) new q b ≡ Some (entry.Table next own) → table_at top m root j b ≡ Some q → own ≡ all_rights
+  allows_old : (j b q next : ℕ) (own : Rights) → table_at top new root j b ≡ Some q → found_at j new q b ≡ Some (entry.Table next own)
+      → table_at top m root j b ≡ Some q → own ≡ all_rights
   allows_old j b q next own r g old = ⊎_elim
       (λ same. ⊎_elim
-      (λ (here : j ≡ k).
-      let there = table_here top root m tree whole k a n at w b same in
+      (λ (here : j ≡ level).
+      let there = table_here top root m tree whole level a n at w b same in
       let q_is : q ≡ n = one_some q n (sym r ∙ ap (λ i. table_at top new root i b) here ∙ there) in
-      let found : found_at (top - k) new n b ≡ Some (entry.Table next own) = subst (λ i. found_at (top - i) new n b ≡ Some (entry.Table next own)) here (subst (λ x. found_at (top - j) new x b ≡ Some (entry.Table next own)) q_is g) in
-      let one : entry.Table next own ≡ entry.Table f all_rights = one_meaning _ _ (sym found ∙ found_on_path top root m tree whole k a n at w b low same ∙ ap Some leads) in
+      let found : found_at level new n b ≡ Some (entry.Table next own) = subst (λ i. found_at i new n b ≡ Some (entry.Table next own)) here (subst (λ x. found_at j new x b ≡ Some (entry.Table next own)) q_is g) in
+      let same_entry : entry.Table next own ≡ entry.Table f all_rights = one_meaning _ _ (sym found ∙ found_on_path top root m tree whole level a n at w b same ∙ ap Some leads) in
       cc)
-      (λ (other : j ≢ k). tree.allows j b q next own old (sym (above top root m tree whole k a n at w b j q other old) ∙ g))
-      (cases_eq j k))
-      (λ apart. tree.allows j b q next own old (sym (off_path top root m tree whole k a n at w b apart j q old) ∙ g))
-      (same_or_not top (suc k) a b)
+      (λ (other : j ≢ level). tree.allows j b q next own old (sym (above top root m tree whole level a n at w b j q other old) ∙ g))
+      (cases_eq j level))
+      (λ apart. tree.allows j b q next own old (sym (off_path top root m tree whole level a n at w b apart j q old) ∙ g))
+      (same_or_not top level a b)
 
   pub tree_link : IsTree top new root
   tree_link = record {
     in_use = λ j b q r. ⊎_elim
-        (λ old. written_in_use m n (index_at (top - k) a) w q (tree.in_use j b q old))
+        (λ old. written_in_use m n (index_at level a) w q (tree.in_use j b q old))
         (λ fresh. subst (λ x. IsSome (finite.get new x)) (sym fresh.2) (used_some new f zeros still_clear))
         (old_or_new j b q r);
     once = once_new;
     allows = λ j b q next own r g. ⊎_elim
         (λ old. allows_old j b q next own r g old)
         (λ fresh.
-        let found : found_at (top - j) new f b ≡ Some (entry.Table next own) = subst (λ x. found_at (top - j) new x b ≡ Some (entry.Table next own)) fresh.2 g in
-        let wrong : entry.Table next own ≡ entry.Absent = one_meaning _ _ (sym found ∙ found_in_zeros (top - j) new f b still_clear) in
+        let found : found_at j new f b ≡ Some (entry.Table next own) = subst (λ x. found_at j new x b ≡ Some (entry.Table next own)) fresh.2 g in
+        let wrong : entry.Table next own ≡ entry.Absent = one_meaning _ _ (sym found ∙ found_in_zeros j new f b still_clear) in
         cc)
         (old_or_new j b q r);
   }
-
-  level_here : top - k ≡ suc (suc left)
-  level_here = omega arith
-
-  level_below : top - suc k ≡ suc left
-  level_below = omega arith
-
-  found_as : (b : ℕ) → SamePath top (suc k) a b → found_at (top - k) m n b ≡ Some entry.Absent
-  found_as b same = sym (found_same top root (top - k) m n a b (same k (omega arith))) ∙ absent
 
   -- each address is walked as before
   pub walk_link : (b : ℕ) → walk_from new top root all_rights b ≡ walk_from m top root all_rights b
   walk_link b = ⊎_elim
       (λ same.
-      walk_ends top root new tree_link.allows b (suc k) left f entry.Absent deep (linked b same) (found_in_zeros (suc left) new f b still_clear)
-      ∙ sym (walk_ends top root m tree.allows b k (suc left) n entry.Absent (omega arith) (sym (same_table top root m k a b (λ i lt. same i (omega arith))) ∙ at) (subst (λ l. found_at l m n b ≡ Some entry.Absent) level_here (found_as b same))))
-      (λ apart. walk_off_path top root m tree whole k a n at w b apart)
-      (same_or_not top (suc k) a b)
+      walk_absent top root new tree_link.allows b below f some (linked b same) (found_in_zeros below new f b still_clear)
+      ∙ sym (walk_absent top root m tree.allows b level n (omega arith)
+      (sym (same_table top root m level a b (λ i from to. same i (omega arith) to)) ∙ at)
+      (sym (found_same level m n a b (same level (omega arith) (reached_within top root m level a n at))) ∙ absent)))
+      (λ apart. walk_off_path top root m tree whole level a n at w b apart)
+      (same_or_not top level a b)
 
 -- ---- a frame that isn't in use is taken and cleared
 
@@ -160,54 +153,51 @@ module _ (top : ℕ) (root : ℕ) (m : Memory) (tree : IsTree top m root) (f : �
   pub new_unreached : (j b : ℕ) → table_at top with_frame root j b ≢ Some f
   new_unreached j b r = not_reached j b f (sym (table_take j b) ∙ r) refl
 
-  pub found_take : (j b q : ℕ) → table_at top m root j b ≡ Some q → found_at (top - j) with_frame q b ≡ found_at (top - j) m q b
-  found_take j b q r = found_alike (top - j) m with_frame q b (taken_alike j b q r)
+  pub found_take : (j b q : ℕ) → table_at top m root j b ≡ Some q → found_at j with_frame q b ≡ found_at j m q b
+  found_take j b q r = found_alike j m with_frame q b (taken_alike j b q r)
 
 -- ---- the entry that leads to a table is cleared, and the frame given back
 
-module _ (top : ℕ) (root : ℕ) (m : Memory) (tree : IsTree top m root) (whole : AreWhole m) (k a n f : ℕ) (at : table_at top m root k a ≡ Some n) (down : table_at top m root (suc k) a ≡ Some f) (low : index_at (top - k) a < 512) where
+module _ (top : ℕ) (root : ℕ) (m : Memory) (tree : IsTree top m root) (whole : AreWhole m) (level a n below f : ℕ) (at : table_at top m root level a ≡ Some n)
+    (one : level ≡ suc below) (down : table_at top m root below a ≡ Some f) where
   abbrev cut : Memory
-  cut = with_word m n (index_at (top - k) a) 0
+  cut = with_word m n (index_at level a) 0
 
   abbrev given : Memory
   given = finite.remove cut f
 
-  ends : table_in (Some (meaning (top - k) 0)) ≡ None
-  ends = ap (λ e. table_in (Some e)) (zero_absent (top - k))
+  ends : table_in (Some (meaning level 0)) ≡ None
+  ends = ap (λ e. table_in (Some e)) (zero_absent level)
 
   cut_unreached : (j b q : ℕ) → table_at top cut root j b ≡ Some q → q ≢ f
   cut_unreached j b q r e =
-      let was = fewer top root m tree whole k a n at 0 low ends j b q r in
-      let both = tree.once j (suc k) b a f (was ∙ ap Some e) down in
-      let here : SamePath top (suc k) a b = λ i lt. sym (both.1 i (omega (arith, both.0))) in
-      let none : table_at top cut root j b ≡ None = ap (λ i. table_at top cut root i b) both.0 ∙ none_here top root m tree whole k a n at 0 low ends b here in
+      let was = fewer top root m tree whole level a n at 0 ends j b q r in
+      let both = tree.once j below b a f (was ∙ ap Some e) down in
+      let here : SamePath top level a b = λ i from to. sym (both.1 i (omega (arith, both.0)) to) in
+      let none = none_here top root m tree whole level a n at 0 ends b j (omega (arith, both.0)) here in
       cc
 
   pub cut_alike : (j b q : ℕ) → table_at top cut root j b ≡ Some q → finite.get given q ≡ finite.get cut q
   cut_alike j b q r = get-remove_other cut f q (cut_unreached j b q r)
 
   pub tree_unlink : IsTree top given root
-  tree_unlink = unreached_tree top root cut given cut_alike (tree_write top root m tree whole k a n at 0 low ends)
+  tree_unlink = unreached_tree top root cut given cut_alike (tree_write top root m tree whole level a n at 0 ends)
 
   pub table_unlink : (j b q : ℕ) → table_at top given root j b ≡ Some q → table_at top m root j b ≡ Some q
-  table_unlink j b q r = fewer top root m tree whole k a n at 0 low ends j b q (sym (unreached_table top root cut given cut_alike j b) ∙ r)
+  table_unlink j b q r = fewer top root m tree whole level a n at 0 ends j b q (sym (unreached_table top root cut given cut_alike j b) ∙ r)
 
-  pub table_kept : (j b : ℕ) → j ≤ k → table_at top given root j b ≡ table_at top m root j b
-  table_kept j b le = unreached_table top root cut given cut_alike j b ∙ table_above top root m tree whole k a n at 0 b j le
+  pub table_kept : (j b : ℕ) → level ≤ j → table_at top given root j b ≡ table_at top m root j b
+  table_kept j b le = unreached_table top root cut given cut_alike j b ∙ table_above top root m tree whole level a n at 0 b j le
 
-  pub none_after : (b : ℕ) → SamePath top (suc k) a b → table_at top given root (suc k) b ≡ None
-  none_after b same = unreached_table top root cut given cut_alike (suc k) b ∙ none_here top root m tree whole k a n at 0 low ends b same
+  pub walk_unlink_off : (b : ℕ) → (SamePath top level a b → ⊥) → walk_from given top root all_rights b ≡ walk_from m top root all_rights b
+  walk_unlink_off b apart = unreached_walk top root cut given cut_alike b ∙ walk_off_path top root m tree whole level a n at 0 b apart
 
-  pub walk_unlink_off : (b : ℕ) → (SamePath top (suc k) a b → ⊥) → walk_from given top root all_rights b ≡ walk_from m top root all_rights b
-  walk_unlink_off b apart = unreached_walk top root cut given cut_alike b ∙ walk_off_path top root m tree whole k a n at 0 b apart
-
-  pub found_unlinked : (b : ℕ) → SamePath top (suc k) a b → found_at (top - k) given n b ≡ Some entry.Absent
+  pub found_unlinked : (b : ℕ) → SamePath top level a b → found_at level given n b ≡ Some entry.Absent
   found_unlinked b same =
-      found_alike (top - k) cut given n b (cut_alike k b n (table_here top root m tree whole k a n at 0 b same))
-      ∙ found_on_path top root m tree whole k a n at 0 b low same ∙ ap Some (zero_absent (top - k))
+      found_alike level cut given n b (cut_alike level b n (table_here top root m tree whole level a n at 0 b same))
+      ∙ found_on_path top root m tree whole level a n at 0 b same ∙ ap Some (zero_absent level)
 
-  pub walk_unlink_on : (b left : ℕ) → k + suc left ≡ top → SamePath top (suc k) a b → walk_from given top root all_rights b ≡ NotMapped
-  walk_unlink_on b left deep same =
-      let level : top - k ≡ suc left = omega arith in
-      walk_ends top root given tree_unlink.allows b k left n entry.Absent deep (unreached_table top root cut given cut_alike k b ∙ table_here top root m tree whole k a n at 0 b same)
-      (subst (λ l. found_at l given n b ≡ Some entry.Absent) level (found_unlinked b same))
+  pub walk_unlink_on : (b : ℕ) → SamePath top level a b → walk_from given top root all_rights b ≡ NotMapped
+  walk_unlink_on b same =
+      walk_absent top root given tree_unlink.allows b level n (omega arith)
+      (unreached_table top root cut given cut_alike level b ∙ table_here top root m tree whole level a n at 0 b same) (found_unlinked b same)

@@ -35,15 +35,14 @@ use Rattle.vs_space.specs.inside.Grow.{IsOpen, IsExtended, IsLeastBase}
 use Rattle.vs_space.specs.inside.Descent.{IsDescent}
 use Rattle.vs_space.specs.Table.{IsTableStep}
 use Rattle.vs_space.specs.inside.Invariant.{IsSpaceOf, IsPageTable}
-use Rattle.vs_space.proofs.Paths.{table_next, walk_ends, words_found}
+use Rattle.vs_space.proofs.Paths.{table_below, walk_leaf, words_found}
 use Rattle.vs_space.proofs.Writes.{table_here, found_on_path, walk_off_path, len_written}
 use Rattle.vs_space.proofs.Trees.{tree_write, but_none, but_write, filled_by}
 use Rattle.vs_space.proofs.Reached.{reached_write, whole_written}
 use Rattle.vs_space.proofs.Regions.{leaf_page, nothing_at, translates_changed, covers_path, path_covers}
-use Rattle.vs_space.proofs.Protects.{IsMet, page_table, own_space, space_of, never_reserved, page_here, page_level, stays}
+use Rattle.vs_space.proofs.Protects.{IsMet, page_table, own_space, space_of, never_reserved, page_here, stays}
 use Rattle.vs_space.proofs.Meets.{met_of, never_table}
 use Rattle.vs_space.proofs.Prunes.{absent_under}
-use Rattle.vs_space.specs.Written.{IsWritten}
 use Rattle.vs_space.proofs.Written.{written_leaf, leaf_at_level}
 use Rattle.vs_space.proofs.Overlaps.{overlapped_none, overlapped_least}
 use Rattle.vs_space.proofs.TableCounts.{count_added}
@@ -73,20 +72,18 @@ module _ (depth : Depth) (m : Memory) (root : ℕ) (table : IsPageTable depth m 
   pub no_walk_reserved : (b : ℕ) → IsCanonical depth b → walk depth m root b ≢ Reserved
   no_walk_reserved b is_b reserved = faultless b is_b reserved
 
-  met : (e : Meaning) → IsDescent depth m root page.base (level_of page.size) level path e → IsMet depth m root page.base (levels depth - level) (slice_index path level) e
+  met : (e : Meaning) → IsDescent depth m root page.base (level_of page.size) level path e → IsMet depth m root page.base level (slice_index path level) e
   met e descent = met_of depth m root page.base (level_of page.size) level path e (level_some page.size) descent
 
   pub reserved_never : IsDescent depth m root page.base (level_of page.size) level path entry.Reserved → ⊥
-  reserved_never descent = never_reserved depth m root table page.base good.canonical (levels depth - level) (slice_index path level) (met entry.Reserved descent)
+  reserved_never descent = never_reserved depth m root table page.base good.canonical level (slice_index path level) (met entry.Reserved descent)
 
   -- ---- a leaf on the path: its page has the base of the new one
 
   pub leaf_overlaps : (phys : ℕ) (own : Rights) → IsDescent depth m root page.base (level_of page.size) level path (entry.Leaf phys own) → (first limit bytes : ℕ) → bytes ≡ bytes_of (size_at level) → IsTableStep (page_table depth first limit root m) (Map page) (answers.Overlap (page.base - page.base % bytes)) (page_table depth first limit root m)
   leaf_overlaps phys own descent first limit bytes are = stays (page_table depth first limit root m) (Map page) (answers.Overlap (page.base - page.base % bytes)) (own_space depth first limit root m table) (λ space is translates.
-      let leaf = page_here depth m root table page.base good.canonical (levels depth - level) (slice_index path level) space is translates phys own (met (entry.Leaf phys own) descent) in
-      let back : levels depth - (levels depth - level) ≡ level = omega (arith, descent.below) in
-      let same : level_of leaf.0.size ≡ level = sym (page_level depth m root table page.base good.canonical (levels depth - level) (slice_index path level) space phys own leaf.0 leaf.1) ∙ back in
-      let size : bytes_of leaf.0.size ≡ bytes = ap bytes_of (leaf.1.size ∙ ap size_at same) ∙ sym are in
+      let leaf = page_here depth m root table page.base good.canonical level (slice_index path level) space is translates phys own (met (entry.Leaf phys own) descent) in
+      let size : bytes_of leaf.0.size ≡ bytes = ap bytes_of leaf.1.size ∙ sym are in
       let offset : page.base % bytes_of leaf.0.size ≡ page.base % bytes = ap (λ n. page.base % n) size in
       let base_is : leaf.0.base ≡ page.base - page.base % bytes = omega (arith, leaf.1.base) in
       map_overlaps depth limit space page (page.base - page.base % bytes) (overlapped_below is page leaf.0 leaf.1.here ∙ ap Some base_is))
@@ -115,22 +112,18 @@ module _ (depth : Depth) (m : Memory) (root : ℕ) (table : IsPageTable depth m 
     pub base_aligned : page.base % table_bytes (level_of page.size - 1) ≡ 0
     base_aligned = let e : 12 + 9 * (level_of page.size - 1) ≡ 3 + 9 * level_of page.size = omega (arith, not_lowest) in subst (λ n. page.base % 2 ^ n ≡ 0) (sym e) good.aligned
 
-    pub table_reached : table_at (levels depth) m root (levels depth - (level_of page.size - 1)) page.base ≡ Some next
+    pub table_reached : table_at (levels depth) m root (level_of page.size - 1) page.base ≡ Some next
     table_reached =
-        let here = met (entry.Table next rights) descent in
-        let up : suc (levels depth - level) ≡ levels depth - (level_of page.size - 1) = omega (arith, own_level, descent.below, not_lowest) in
-        subst (λ k. table_at (levels depth) m root k page.base ≡ Some next) up (table_next (levels depth) root m (levels depth - level) page.base (slice_index path level) here.at ∙ ap table_in here.found)
+        table_below (levels depth) root m level (level_of page.size - 1) page.base (slice_index path level) (omega (arith, own_level, not_lowest))
+        (descent.reached level (omega arith) descent.below) ∙ ap table_in descent.is
 
-    pub table_overlaps : (number limit base : ℕ) → IsLeastBase depth m root page.base (levels depth - (level_of page.size - 1)) base → IsTableStep (page_table depth number limit root m) (Map page) (answers.Overlap base) (page_table depth number limit root m)
+    pub table_overlaps : (number limit base : ℕ) → IsLeastBase depth m root page.base (level_of page.size - 1) base
+        → IsTableStep (page_table depth number limit root m) (Map page) (answers.Overlap base) (page_table depth number limit root m)
     table_overlaps number limit base first = stays (page_table depth number limit root m) (Map page) (answers.Overlap base) (own_space depth number limit root m table) (λ space is translates.
-        let up : levels depth - (level_of page.size - 1) ≡ suc (levels depth - level_of page.size) = omega (arith, own_level, descent.below, not_lowest) in
-        let whole : (levels depth - level_of page.size) + level_of page.size ≡ levels depth = omega (arith, own_level, descent.below) in
-        let inside = (path_covers depth page good (levels depth - level_of page.size) whole base first.canonical (subst (λ k. SamePath (levels depth) k page.base base) up first.same_path)).0 in
-        let back : levels depth - (levels depth - first.leaf.level) ≡ first.leaf.level = omega (arith, first.leaf.below) in
-        let low : first.leaf.level ≡ suc (first.leaf.level - 1) = omega (arith, first.leaf.some) in
-        let leaf = leaf_page depth m root space is translates table.tree base (levels depth - first.leaf.level) (first.leaf.level - 1) first.leaf.number first.leaf.phys first.leaf.own first.canonical (omega (arith, first.leaf.some, first.leaf.below)) first.leaf.reached
-        (subst (λ l. found_at l m first.leaf.number base ≡ Some (entry.Leaf first.leaf.phys first.leaf.own)) low first.leaf.found) in
-        let same : level_of leaf.0.size ≡ first.leaf.level = omega (arith, leaf.1.level, first.leaf.below) in
+        let inside = (path_covers depth page good base first.canonical (λ i from to. first.same_path i (omega (arith, from, not_lowest)) to)).0 in
+        let leaf = leaf_page depth m root space is translates table.tree base first.leaf.level first.leaf.number first.leaf.phys first.leaf.own first.canonical first.leaf.some
+        first.leaf.reached first.leaf.found in
+        let same : level_of leaf.0.size ≡ first.leaf.level = leaf.1.level_is in
         let aligned : base % bytes_of leaf.0.size ≡ 0 = ap (λ l. base % entry_bytes l) same ∙ first.leaf.begins in
         let begins : leaf.0.base ≡ base = omega (arith, leaf.1.base, aligned) in
         let here : page_at space leaf.0.base ≡ Some leaf.0 = ap (page_at space) begins ∙ leaf.1.here in
@@ -146,17 +139,14 @@ module _ (depth : Depth) (m : Memory) (root : ℕ) (table : IsPageTable depth m 
   -- ---- an absent entry: nothing is overlapped
 
   module _ (descent : IsDescent depth m root page.base (level_of page.size) level path entry.Absent) where
-    here : IsMet depth m root page.base (levels depth - level) (slice_index path level) entry.Absent
+    here : IsMet depth m root page.base level (slice_index path level) entry.Absent
     here = met entry.Absent descent
 
-    nothing : NothingUnder depth m root (suc (levels depth - level)) page.base
-    nothing = absent_under depth m root page.base (levels depth - level) (slice_index path level) table.tree here.deep here.at here.found
+    nothing : NothingUnder depth m root level page.base
+    nothing = absent_under depth m root page.base level (slice_index path level) table.tree here.some here.at here.found
 
-    whole_path : (levels depth - level_of page.size) + level_of page.size ≡ levels depth
-    whole_path = omega (arith, descent.above, descent.below)
-
-    in_page : (a : ℕ) → IsTrue (covers page a) → SamePath (levels depth) (suc (levels depth - level)) page.base a
-    in_page a covered = λ i lt. covers_path depth page good (levels depth - level_of page.size) whole_path a covered i (omega (arith, lt, descent.above, descent.below))
+    in_page : (a : ℕ) → IsTrue (covers page a) → SamePath (levels depth) level page.base a
+    in_page a covered = λ i from to. covers_path depth page good a covered i (omega (arith, from, descent.above)) to
 
     module _ (space : Space) (of : IsSpaceOf depth m root space) where
       none_there : (a : ℕ) → IsTrue (covers page a) → page_at space a ≡ None
@@ -168,7 +158,10 @@ module _ (depth : Depth) (m : Memory) (root : ℕ) (table : IsPageTable depth m 
       none_overlapped = overlapped_none of.is_space page none_there
 
       absent_base : (q : Page) → Holds space q → q.base ≢ page.base
-      absent_base q held same = let there = (page_at_means of.is_space q.base q).1 (held, covers_base q) in let none = none_there q.base (subst (λ a. IsTrue (covers page a)) (sym same) (covers_base page)) in cc
+      absent_base q held same =
+          let there = (page_at_means of.is_space q.base q).1 (held, covers_base q) in
+          let none = none_there q.base (subst (λ a. IsTrue (covers page a)) (sym same) (covers_base page)) in
+          cc
 
       is_with : IsSpace depth (finite.insert space page.base page)
       is_with = insert_space of.is_space page good (λ q a h differs c d. alone of.is_space page none_overlapped q a h c d)
@@ -176,13 +169,14 @@ module _ (depth : Depth) (m : Memory) (root : ℕ) (table : IsPageTable depth m 
       need_is : table_count depth (finite.insert space page.base page) ≡ finite.len m + (level - level_of page.size)
       need_is =
           let added = count_added depth m root space page level of.is_space of.translates good is_with absent_base (none_there page.base (covers_base page)) descent.above descent.below nothing
-          (λ j some le empty.
-          let up : suc (j - 1) ≡ j = omega (arith, some) in
-          let reach : levels depth - (levels depth - j) ≡ j = omega (arith, le) in
-          table.filled.filled (j - 1) page.base _ (subst (λ i. table_at (levels depth) m root i page.base ≡ Some (slice_index path (levels depth - j))) (reach ∙ sym up) (descent.reached (levels depth - j) (omega (arith, le, descent.below)) (omega arith))) (subst (λ i. NothingUnder depth m root i page.base) (sym up) empty)) in
+          (λ j over le empty.
+          let up : suc (j - 1) ≡ j = omega (arith, over) in
+          table.filled.filled (j - 1) page.base _ (omega (arith, over, le)) (descent.reached (j - 1) (omega (arith, over)) (omega (arith, le)))
+          (subst (λ i. NothingUnder depth m root i page.base) (sym up) empty)) in
           omega (arith, added, of.counted)
 
-    pub full_step : (first limit need : ℕ) → need ≡ finite.len m + (level - level_of page.size) → limit < need → IsTableStep (page_table depth first limit root m) (Map page) (answers.Full need) (page_table depth first limit root m)
+    pub full_step : (first limit need : ℕ) → need ≡ finite.len m + (level - level_of page.size) → limit < need
+        → IsTableStep (page_table depth first limit root m) (Map page) (answers.Full need) (page_table depth first limit root m)
     full_step first limit need is_need above = stays (page_table depth first limit root m) (Map page) (answers.Full need) (own_space depth first limit root m table) (λ space is translates.
         let of = space_of depth m root space table is translates in
         let count = need_is space of in
@@ -193,50 +187,34 @@ module _ (depth : Depth) (m : Memory) (root : ℕ) (table : IsPageTable depth m 
     is_open = record { tree = table.tree; filled = but_none page.base table.filled; all_reached = table.reached; below = descent.below; reached = here.at; absent = descent.is }
 
     -- the leaf is written in the last table
-    module _ (m' : Memory) (number : ℕ) (extended : IsExtended depth m m' root page.base level (level_of page.size) number) (whole : AreWhole m') (w index : ℕ) (leads : meaning (level_of page.size) w ≡ entry.Leaf page.phys page.rights) (is_word : w ≡ leaf_word page.size page.phys page.rights) (is_index : index ≡ index_at (level_of page.size) page.base) (low : index < 512) where
-      back : levels depth - (levels depth - level_of page.size) ≡ level_of page.size
-      back = omega (arith, descent.above, descent.below)
-
-      index_same : index_at (levels depth - (levels depth - level_of page.size)) page.base ≡ index
-      index_same = ap (λ l. index_at l page.base) back ∙ sym is_index
-
-      low_here : index_at (levels depth - (levels depth - level_of page.size)) page.base < 512
-      low_here = subst (λ i. i < 512) (sym index_same) low
-
-      leads_here : meaning (levels depth - (levels depth - level_of page.size)) w ≡ entry.Leaf page.phys page.rights
-      leads_here = ap (λ l. meaning l w) back ∙ leads
-
-      written_here : IsWritten (levels depth - (levels depth - level_of page.size)) w
-      written_here = subst (λ l. IsWritten l w) (sym back) (written_leaf (level_of page.size) w page.phys page.rights leads (leaf_at_level page.size w page.phys page.rights is_word))
-
-      ends : table_in (Some (meaning (levels depth - (levels depth - level_of page.size)) w)) ≡ None
-      ends = ap (λ e. table_in (Some e)) leads_here
-
-      ended : table_in (found_at (levels depth - (levels depth - level_of page.size)) m' number page.base) ≡ None
-      ended = ap table_in (subst (λ l. found_at l m' number page.base ≡ Some entry.Absent) (sym back) extended.open_at.absent)
+    module _ (m' : Memory) (number : ℕ) (extended : IsExtended depth m m' root page.base level (level_of page.size) number) (whole : AreWhole m') (w : ℕ)
+        (leads : meaning (level_of page.size) w ≡ entry.Leaf page.phys page.rights) (is_word : w ≡ leaf_word page.size page.phys page.rights) where
+      ends : table_in (Some (meaning (level_of page.size) w)) ≡ None
+      ends = ap (λ e. table_in (Some e)) leads
 
       abbrev new : Memory
-      new = with_word m' number (index_at (levels depth - (levels depth - level_of page.size)) page.base) w
+      new = with_word m' number (index_at (level_of page.size) page.base) w
 
-      tree_new : IsTree (levels depth) (with_word m' number (index_at (levels depth - (levels depth - level_of page.size)) page.base) w) root
-      tree_new = tree_write (levels depth) root m' extended.open_at.tree whole (levels depth - level_of page.size) page.base number extended.open_at.reached w low_here ends
+      at : table_at (levels depth) m' root (level_of page.size) page.base ≡ Some number
+      at = extended.open_at.reached
 
-      walk_on : (b : ℕ) → SamePath (levels depth) (suc (levels depth - level_of page.size)) page.base b → walk depth (with_word m' number (index_at (levels depth - (levels depth - level_of page.size)) page.base) w) root b ≡ Mapped (page.phys + b % bytes_of page.size) (size_at (level_of page.size)) page.rights
+      tree_new : IsTree (levels depth) new root
+      tree_new = tree_write (levels depth) root m' extended.open_at.tree whole (level_of page.size) page.base number at w ends
+
+      walk_on : (b : ℕ) → SamePath (levels depth) (level_of page.size) page.base b
+          → walk depth new root b ≡ Mapped (page.phys + b % bytes_of page.size) (size_at (level_of page.size)) page.rights
       walk_on b same =
-          let up : levels depth - (levels depth - level_of page.size) ≡ suc (level_of page.size - 1) = omega (arith, descent.above, descent.below, level_some page.size) in
-          let plain : level_of page.size ≡ suc (level_of page.size - 1) = omega (arith, level_some page.size) in
-          let found = found_on_path (levels depth) root m' extended.open_at.tree whole (levels depth - level_of page.size) page.base number extended.open_at.reached w b low_here same ∙ ap Some leads_here in
-          subst (λ l. walk depth (with_word m' number (index_at (levels depth - (levels depth - level_of page.size)) page.base) w) root b ≡ Mapped (page.phys + b % entry_bytes l) (size_at l) page.rights) (sym plain)
-          (walk_ends (levels depth) root (with_word m' number (index_at (levels depth - (levels depth - level_of page.size)) page.base) w) tree_new.allows b (levels depth - level_of page.size) (level_of page.size - 1) number (entry.Leaf page.phys page.rights) (omega (arith, descent.above, descent.below, level_some page.size))
-          (table_here (levels depth) root m' extended.open_at.tree whole (levels depth - level_of page.size) page.base number extended.open_at.reached w b same)
-          (subst (λ l. found_at l (with_word m' number (index_at (levels depth - (levels depth - level_of page.size)) page.base) w) number b ≡ Some (entry.Leaf page.phys page.rights)) up found))
+          walk_leaf (levels depth) root new tree_new.allows b (level_of page.size) number page.phys page.rights (level_some page.size)
+          (table_here (levels depth) root m' extended.open_at.tree whole (level_of page.size) page.base number at w b same)
+          (found_on_path (levels depth) root m' extended.open_at.tree whole (level_of page.size) page.base number at w b same ∙ ap Some leads)
 
-      walk_off : (b : ℕ) → (SamePath (levels depth) (suc (levels depth - level_of page.size)) page.base b → ⊥) → walk depth (with_word m' number (index_at (levels depth - (levels depth - level_of page.size)) page.base) w) root b ≡ walk depth m root b
-      walk_off b apart = walk_off_path (levels depth) root m' extended.open_at.tree whole (levels depth - level_of page.size) page.base number extended.open_at.reached w b apart ∙ extended.walks b
+      walk_off : (b : ℕ) → (SamePath (levels depth) (level_of page.size) page.base b → ⊥) → walk depth new root b ≡ walk depth m root b
+      walk_off b apart = walk_off_path (levels depth) root m' extended.open_at.tree whole (level_of page.size) page.base number at w b apart ∙ extended.walks b
 
-      filled_new : IsFilled depth (with_word m' number (index_at (levels depth - (levels depth - level_of page.size)) page.base) w) root
-      filled_new = filled_by depth (with_word m' number (index_at (levels depth - (levels depth - level_of page.size)) page.base) w) root page.base
-          (but_write depth root m' extended.open_at.tree whole (levels depth - level_of page.size) page.base number extended.open_at.reached w low_here ends extended.open_at.filled) good.canonical (λ none. let walked = walk_on page.base (λ i lt. refl) in cc)
+      filled_new : IsFilled depth new root
+      filled_new = filled_by depth new root page.base
+          (but_write depth root m' extended.open_at.tree whole (level_of page.size) page.base number at w ends extended.open_at.filled) good.canonical
+          (λ none. let walked = walk_on page.base (λ i from to. refl) in cc)
 
       size_same : (size : Size) → size_at (level_of size) ≡ size
       size_same K4 = refl
@@ -253,39 +231,45 @@ module _ (depth : Depth) (m : Memory) (root : ℕ) (table : IsPageTable depth m 
         looks : LooksChanged page (as_in page) space (step depth limit space (Map page)).space
         looks = done_looks limit of.is_space page good answer_is
 
-        inside_is : (b : ℕ) → IsCanonical depth b → SamePath (levels depth) (suc (levels depth - level_of page.size)) page.base b → walk depth (with_word m' number (index_at (levels depth - (levels depth - level_of page.size)) page.base) w) root b ≡ as_walk (as_in page b)
+        inside_is : (b : ℕ) → IsCanonical depth b → SamePath (levels depth) (level_of page.size) page.base b → walk depth new root b ≡ as_walk (as_in page b)
         inside_is b is_b same =
-            let at = (path_covers depth page good (levels depth - level_of page.size) whole_path b is_b same).1 in
+            let at = (path_covers depth page good b is_b same).1 in
             let offset : page.phys + b % bytes_of page.size ≡ page.phys + (b - page.base) = omega (arith, at) in
             walk_on b same ∙ ap (λ p. Mapped p (size_at (level_of page.size)) page.rights) offset ∙ ap (λ z. Mapped (page.phys + (b - page.base)) z page.rights) (size_same page.size)
 
-        pub space_is : IsSpaceOf depth (with_word m' number (index_at (levels depth - (levels depth - level_of page.size)) page.base) w) root (step depth limit space (Map page)).space
+        pub space_is : IsSpaceOf depth new root (step depth limit space (Map page)).space
         space_is = record {
           is_space = step_space limit of.is_space (Map page) good;
-          translates = translates_changed depth m (with_word m' number (index_at (levels depth - (levels depth - level_of page.size)) page.base) w) root space (step depth limit space (Map page)).space page (as_in page) (levels depth - level_of page.size) looks of.translates good whole_path inside_is (λ b is_b apart. walk_off b apart);
+          translates = translates_changed depth m new root space (step depth limit space (Map page)).space page (as_in page) looks of.translates good inside_is
+              (λ b is_b apart. walk_off b apart);
           counted =
-              let written = len_written m' number (index_at (levels depth - (levels depth - level_of page.size)) page.base) w (extended.open_at.tree.in_use (levels depth - level_of page.size) page.base number extended.open_at.reached) in
-              let count : table_count depth (step depth limit space (Map page)).space ≡ table_count depth (finite.insert space page.base page) = ap (λ (s : Stepped). table_count depth s.space) done in
+              let written = len_written m' number (index_at (level_of page.size) page.base) w (extended.open_at.tree.in_use (level_of page.size) page.base number at) in
+              let count : table_count depth (step depth limit space (Map page)).space ≡ table_count depth (finite.insert space page.base page) =
+              ap (λ (s : Stepped). table_count depth s.space) done in
               omega (arith, written, extended.more, need_is space of, count);
         }
 
-      pub map_table : (limit : ℕ) → finite.len m + (level - level_of page.size) ≤ limit → IsPageTable depth (with_word m' number index w) root
-      map_table limit room = subst (λ i. IsPageTable depth (with_word m' number i w) root) index_same (record {
-        tree = tree_new;
-        filled = filled_new;
-        reached = reached_write (levels depth) root m' extended.open_at.tree whole (levels depth - level_of page.size) page.base number extended.open_at.reached w ended written_here extended.open_at.all_reached;
-        whole = whole_written m' number (index_at (levels depth - (levels depth - level_of page.size)) page.base) w (extended.open_at.tree.in_use (levels depth - level_of page.size) page.base number extended.open_at.reached) whole;
-        root_fits = table.root_fits;
-        some_space = ((step depth limit table.some_space.0 (Map page)).space, space_is limit room table.some_space.0 table.some_space.1);
-      })
+      -- as the code has it: the entry at this index
+      module _ (index : ℕ) (is_index : index ≡ index_at (level_of page.size) page.base) where
+        pub map_table : (limit : ℕ) → finite.len m + (level - level_of page.size) ≤ limit → IsPageTable depth (with_word m' number index w) root
+        map_table limit room = subst (λ i. IsPageTable depth (with_word m' number i w) root) (sym is_index) (record {
+          tree = tree_new;
+          filled = filled_new;
+          reached = reached_write (levels depth) root m' extended.open_at.tree whole (level_of page.size) page.base number at w (ap table_in extended.open_at.absent)
+              (written_leaf (level_of page.size) w page.phys page.rights leads (leaf_at_level page.size w page.phys page.rights is_word)) extended.open_at.all_reached;
+          whole = whole_written m' number (index_at (level_of page.size) page.base) w (extended.open_at.tree.in_use (level_of page.size) page.base number at) whole;
+          root_fits = table.root_fits;
+          some_space = ((step depth limit table.some_space.0 (Map page)).space, space_is limit room table.some_space.0 table.some_space.1);
+        })
 
-      pub map_step : (first limit : ℕ) → finite.len m + (level - level_of page.size) ≤ limit → IsTableStep (page_table depth first limit root m) (Map page) answers.Done (page_table depth first limit root (with_word m' number index w))
-      map_step first limit room = record {
-        some_space = own_space depth first limit root m table;
-        same = refl;
-        unchanged = λ refused. absurd (cc);
-        steps = λ space is.
-            let of = space_of depth m root space table is.is_space is.translates in
-            let after = subst (λ i. IsSpaceOf depth (with_word m' number i w) root (step depth limit space (Map page)).space) index_same (space_is limit room space of) in
-            (sym (answer_is limit room space of), record { is_space = after.is_space; translates = after.translates });
-      }
+        pub map_step : (first limit : ℕ) → finite.len m + (level - level_of page.size) ≤ limit
+            → IsTableStep (page_table depth first limit root m) (Map page) answers.Done (page_table depth first limit root (with_word m' number index w))
+        map_step first limit room = record {
+          some_space = own_space depth first limit root m table;
+          same = refl;
+          unchanged = λ refused. absurd (cc);
+          steps = λ space is.
+              let of = space_of depth m root space table is.is_space is.translates in
+              let after = subst (λ i. IsSpaceOf depth (with_word m' number i w) root (step depth limit space (Map page)).space) (sym is_index) (space_is limit room space of) in
+              (sym (answer_is limit room space of), record { is_space = after.is_space; translates = after.translates });
+        }

@@ -26,25 +26,21 @@ use Rattle.vs_space.specs.Table.{IsTableStep}
 use Rattle.vs_space.specs.inside.Invariant.{IsSpaceOf, IsPageTable}
 use Rattle.vs_space.proofs.Paths.{words_found}
 use Rattle.vs_space.proofs.Regions.{IsLeafPage}
-use Rattle.vs_space.proofs.Protects.{IsMet, page_table, own_space, space_of, absent_none, never_reserved, page_here, page_level, unmap_none, protect_none, unmap_inside, protect_inside, stays, answer_is, space_is, table_new}
+use Rattle.vs_space.proofs.Protects.{IsMet, page_table, own_space, space_of, absent_none, never_reserved, page_here, unmap_none, protect_none, unmap_inside, protect_inside, stays, answer_is, space_is, table_new}
 
-pub met_of : (depth : Depth) (m : Memory) (root a lowest level : ℕ) (path : List ℕ) (e : Meaning) → 1 ≤ lowest → IsDescent depth m root a lowest level path e → IsMet depth m root a (levels depth - level) (slice_index path level) e
-met_of depth m root a lowest level path e some descent =
-    let back : levels depth - (levels depth - level) ≡ level = omega (arith, descent.below) in
-    record {
-      deep = omega (arith, descent.above, descent.below);
-      at = descent.reached level (omega arith) descent.below;
-      found = subst (λ l. found_at l m (slice_index path level) a ≡ Some e) (sym back) descent.is;
-    }
+pub met_of : (depth : Depth) (m : Memory) (root a lowest level : ℕ) (path : List ℕ) (e : Meaning) → 1 ≤ lowest → IsDescent depth m root a lowest level path e
+    → IsMet depth m root a level (slice_index path level) e
+met_of depth m root a lowest level path e some descent = record {
+  some = omega (arith, descent.above);
+  at = descent.reached level (omega arith) descent.below;
+  found = descent.is;
+}
 
 -- an entry of the lowest level leads to no table
 pub never_table : (word n : ℕ) (own : Rights) → meaning 1 word ≡ entry.Table n own → ⊥
 never_table word n own is = grind arith
 
 module _ (depth : Depth) (m : Memory) (root : ℕ) (table : IsPageTable depth m root) (base : ℕ) (canonical : IsCanonical depth base) (level : ℕ) (path : List ℕ) where
-  back : level ≤ levels depth → levels depth - (levels depth - level) ≡ level
-  back few = omega arith
-
   -- what is no leaf at the end of the path is absent
   pub absent_end : (e : Meaning) → IsDescent depth m root base 1 level path e → ((phys : ℕ) (own : Rights) → e ≢ entry.Leaf phys own) → e ≡ entry.Absent
   absent_end entry.Absent descent other = refl
@@ -72,32 +68,27 @@ module _ (depth : Depth) (m : Memory) (root : ℕ) (table : IsPageTable depth m 
       protect_none depth m root table base canonical 0 root limit space rights (absent_none depth m root table base canonical _ _ space translates (met_of depth m root base 1 level path entry.Absent (omega arith) descent)))
 
   module _ (phys : ℕ) (own : Rights) (descent : IsDescent depth m root base 1 level path (entry.Leaf phys own)) where
-    pub met : IsMet depth m root base (levels depth - level) (slice_index path level) (entry.Leaf phys own)
+    pub met : IsMet depth m root base level (slice_index path level) (entry.Leaf phys own)
     met = met_of depth m root base 1 level path (entry.Leaf phys own) (omega arith) descent
 
-    pub page_met : (space : Space) → IsSpace depth space → TranslatesAs depth m root space → (q : Page) × IsLeafPage depth space base (levels depth - level) phys own q
+    pub page_met : (space : Space) → IsSpace depth space → TranslatesAs depth m root space → (q : Page) × IsLeafPage depth space base level phys own q
     page_met space is translates = page_here depth m root table base canonical _ _ space is translates phys own met
-
-    pub level_met : (space : Space) (q : Page) → IsLeafPage depth space base (levels depth - level) phys own q → level_of q.size ≡ level
-    level_met space q leaf = sym (page_level depth m root table base canonical (levels depth - level) (slice_index path level) space phys own q leaf) ∙ back descent.below
 
     -- what may be written in the place of the leaf
     pub leaf_again : (level_of (size_at level) ≡ level) × (phys % bytes_of (size_at level) ≡ 0) × (phys < 2 ^ 52)
     leaf_again =
         let of = table.some_space.1 in
         let leaf = page_met table.some_space.0 of.is_space of.translates in
-        let same = level_met table.some_space.0 leaf.0 leaf.1 in
-        let size : leaf.0.size ≡ size_at level = leaf.1.size ∙ ap size_at same in
+        let size : leaf.0.size ≡ size_at level = leaf.1.size in
         let aligned : phys % bytes_of (size_at level) ≡ 0 = subst (λ z. phys % bytes_of z ≡ 0) size (subst (λ p. p % bytes_of leaf.0.size ≡ 0) leaf.1.phys_is leaf.1.good.phys_aligned) in
-        (ap level_of (sym size) ∙ same, aligned, omega (arith, leaf.1.good.phys_range, leaf.1.phys_is))
+        (ap level_of (sym size) ∙ leaf.1.level_is, aligned, omega (arith, leaf.1.good.phys_range, leaf.1.phys_is))
 
     -- an address of the page
     pub resolve_fits : (bytes : ℕ) → bytes ≡ bytes_of (size_at level) → phys + base % bytes < 2 ^ 64
     resolve_fits bytes are =
         let of = table.some_space.1 in
         let leaf = page_met table.some_space.0 of.is_space of.translates in
-        let same = level_met table.some_space.0 leaf.0 leaf.1 in
-        let size : bytes_of leaf.0.size ≡ bytes = ap bytes_of (leaf.1.size ∙ ap size_at same) ∙ sym are in
+        let size : bytes_of leaf.0.size ≡ bytes = ap bytes_of (leaf.1.size) ∙ sym are in
         let positive : 0 < bytes = subst (λ n. 0 < n) size (bytes_positive leaf.0.size) in
         let range : phys + bytes ≤ 2 ^ 51 = omega (arith, leaf.1.good.phys_range, leaf.1.phys_is, size) in
         omega arith
@@ -105,24 +96,21 @@ module _ (depth : Depth) (m : Memory) (root : ℕ) (table : IsPageTable depth m 
     pub resolve_leaf : (bytes : ℕ) → bytes ≡ bytes_of (size_at level) → (space : Space) → IsSpace depth space → TranslatesAs depth m root space → answers.Mapped (phys + base % bytes) (size_at level) own ≡ look space base
     resolve_leaf bytes are space is translates =
         let leaf = page_met space is translates in
-        let same = level_met space leaf.0 leaf.1 in
-        let size : leaf.0.size ≡ size_at level = leaf.1.size ∙ ap size_at same in
+        let size : leaf.0.size ≡ size_at level = leaf.1.size in
         let offset : base % bytes_of leaf.0.size ≡ base % bytes = ap (λ n. base % n) (ap bytes_of size ∙ sym are) in
         let phys_is : leaf.0.phys + (base - leaf.0.base) ≡ phys + base % bytes = omega (arith, leaf.1.base, leaf.1.phys_is) in
         let looks : look space base ≡ answers.Mapped (leaf.0.phys + (base - leaf.0.base)) leaf.0.size leaf.0.rights = rw leaf.1.here refl in
         sym (looks ∙ cc (phys_is, size, leaf.1.rights))
 
-    base_met : (space : Space) (q : Page) → IsLeafPage depth space base (levels depth - level) phys own q → (bytes : ℕ) → bytes ≡ bytes_of (size_at level) → q.base ≡ base - base % bytes
+    base_met : (space : Space) (q : Page) → IsLeafPage depth space base level phys own q → (bytes : ℕ) → bytes ≡ bytes_of (size_at level) → q.base ≡ base - base % bytes
     base_met space q leaf bytes are =
-        let same = level_met space q leaf in
-        let size : bytes_of q.size ≡ bytes = ap bytes_of (leaf.size ∙ ap size_at same) ∙ sym are in
+        let size : bytes_of q.size ≡ bytes = ap bytes_of (leaf.size) ∙ sym are in
         let offset : base % bytes_of q.size ≡ base % bytes = ap (λ n. base % n) size in
         omega (arith, leaf.base)
 
-    apart_met : (space : Space) (q : Page) → IsLeafPage depth space base (levels depth - level) phys own q → (bytes : ℕ) → bytes ≡ bytes_of (size_at level) → base % bytes ≢ 0 → q.base ≢ base
+    apart_met : (space : Space) (q : Page) → IsLeafPage depth space base level phys own q → (bytes : ℕ) → bytes ≡ bytes_of (size_at level) → base % bytes ≢ 0 → q.base ≢ base
     apart_met space q leaf bytes are inside =
-        let same = level_met space q leaf in
-        let size : bytes_of q.size ≡ bytes = ap bytes_of (leaf.size ∙ ap size_at same) ∙ sym are in
+        let size : bytes_of q.size ≡ bytes = ap bytes_of (leaf.size) ∙ sym are in
         let offset : base % bytes_of q.size ≡ base % bytes = ap (λ n. base % n) size in
         λ e. inside (omega (arith, leaf.base))
 
@@ -139,31 +127,19 @@ module _ (depth : Depth) (m : Memory) (root : ℕ) (table : IsPageTable depth m 
         ∙ ap (λ b. let s : Stepped = record { space = space; answer = answers.Inside b } in s) (base_met space leaf.0 leaf.1 bytes are))
 
     -- the table after the leaf has other rights
-    module _ (whole : AreWhole m) (aligned : base % 4096 ≡ 0) (rights : Rights) (w index bytes : ℕ) (leads : meaning (level_of (size_at level)) w ≡ entry.Leaf phys rights) (is_word : w ≡ leaf_word (size_at level) phys rights) (at : index ≡ index_at level base) (low : index < 512) (are : bytes ≡ bytes_of (size_at level)) (begins : base % bytes ≡ 0) where
-      own_level : levels depth - (levels depth - level) ≡ level
-      own_level = back descent.below
+    module _ (whole : AreWhole m) (aligned : base % 4096 ≡ 0) (rights : Rights) (w index bytes : ℕ) (leads : meaning (level_of (size_at level)) w ≡ entry.Leaf phys rights) (is_word : w ≡ leaf_word (size_at level) phys rights) (at : index ≡ index_at level base) (are : bytes ≡ bytes_of (size_at level)) (begins : base % bytes ≡ 0) where
+      leads_here : meaning level w ≡ entry.Leaf phys rights
+      leads_here = ap (λ l. meaning l w) (sym leaf_again.0) ∙ leads
 
-      index_same : index_at (levels depth - (levels depth - level)) base ≡ index
-      index_same = ap (λ l. index_at l base) own_level ∙ sym at
-
-      leads_here : meaning (levels depth - (levels depth - level)) w ≡ entry.Leaf phys rights
-      leads_here = ap (λ l. meaning l w) (own_level ∙ sym leaf_again.0) ∙ leads
-
-      word_here : w ≡ leaf_word (size_at (levels depth - (levels depth - level))) phys rights
-      word_here = is_word ∙ ap (λ l. leaf_word (size_at l) phys rights) (sym own_level)
-
-      low_here : index_at (levels depth - (levels depth - level)) base < 512
-      low_here = subst (λ i. i < 512) (sym index_same) low
-
-      begins_here : base % entry_bytes (levels depth - (levels depth - level)) ≡ 0
-      begins_here = ap (λ l. base % entry_bytes l) (own_level ∙ sym leaf_again.0) ∙ ap (λ n. base % n) (sym are) ∙ begins
+      begins_here : base % entry_bytes level ≡ 0
+      begins_here = ap (λ l. base % entry_bytes l) (sym leaf_again.0) ∙ ap (λ n. base % n) (sym are) ∙ begins
 
       good : IsBase depth base
       good = record { canonical = canonical; aligned = aligned }
 
       pub protect_table : IsPageTable depth (with_word m (slice_index path level) index w) root
-      protect_table = subst (λ i. IsPageTable depth (with_word m (slice_index path level) i w) root) index_same
-          (table_new depth m root table whole base good _ _ phys own rights met w leads_here word_here low_here begins_here)
+      protect_table = subst (λ i. IsPageTable depth (with_word m (slice_index path level) i w) root) (sym at)
+          (table_new depth m root table whole base good _ _ phys own rights met w leads_here is_word begins_here)
 
       pub protect_step : (first limit : ℕ) → IsTableStep (page_table depth first limit root m) (Protect base rights) (answers.Changed own) (page_table depth first limit root (with_word m (slice_index path level) index w))
       protect_step first limit = record {
@@ -172,7 +148,7 @@ module _ (depth : Depth) (m : Memory) (root : ℕ) (table : IsPageTable depth m 
         unchanged = λ refused. absurd (cc);
         steps = λ space is.
             let of = space_of depth m root space table is.is_space is.translates in
-            let after = subst (λ i. IsSpaceOf depth (with_word m (slice_index path level) i w) root (step depth limit space (Protect base rights)).space) index_same
-            (space_is depth m root table whole base good _ _ phys own rights met w leads_here word_here low_here begins_here limit space of) in
-            (sym (answer_is depth m root table whole base good _ _ phys own rights met w leads_here word_here low_here begins_here limit space of), record { is_space = after.is_space; translates = after.translates });
+            let after = subst (λ i. IsSpaceOf depth (with_word m (slice_index path level) i w) root (step depth limit space (Protect base rights)).space) (sym at)
+            (space_is depth m root table whole base good _ _ phys own rights met w leads_here is_word begins_here limit space of) in
+            (sym (answer_is depth m root table whole base good _ _ phys own rights met w leads_here is_word begins_here limit space of), record { is_space = after.is_space; translates = after.translates });
       }

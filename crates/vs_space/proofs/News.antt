@@ -1,5 +1,5 @@
 -- A page table with a root and nothing else.
-use Rattle.std.proofs.Common.{◌≡◌, ◌≢◌, ℕ, zero, suc, ◌+◌, ◌-◌, List, Some, None, ⊎_elim, refl, sym, ap, subst, ◌∙◌, arith, ◌^◌, ◌<◌}
+use Rattle.std.proofs.Common.{◌≡◌, ◌≢◌, ℕ, zero, suc, ◌+◌, ◌-◌, ◌≤◌, List, Some, None, ⊎_elim, refl, sym, ap, subst, ◌∙◌, arith, ◌^◌, ◌<◌}
 use Rattle.std.specs.Prelude.{IsSome}
 use Rattle.vs_walk.specs.Walk.{walk_from}
 use Rattle.vs_walk.specs.declared.walk.Walk.TheVariants.{NotMapped}
@@ -20,8 +20,9 @@ use Rattle.vs_space.specs.inside.Tree.{IsTree, IsReached, AreWritten}
 use Rattle.vs_space.specs.Table.{IsTableOf}
 use Rattle.vs_space.specs.inside.Invariant.{IsPageTable}
 use Rattle.vs_space.proofs.Numbered.{get-insert_same, get-insert_other, len-insert_free, whole-empty, whole-zeros}
-use Rattle.vs_space.proofs.Paths.{table_first, table_next, none_past, walk_found}
+use Rattle.vs_space.proofs.Paths.{reached_within, table_first, table_below, none_past, walk_absent}
 use Rattle.vs_space.proofs.Writes.{used_some}
+use Rattle.vs_space.proofs.Trees.{one_some}
 use Rattle.vs_space.proofs.Links.{found_in_zeros}
 use Rattle.vs_space.proofs.Written.{written_clear}
 use Rattle.vs_types.proofs.TableCounts.{tables_of_nothing}
@@ -33,52 +34,54 @@ module _ (depth : Depth) (root : ℕ) where
   clear : finite.get alone root ≡ Some zeros
   clear = get-insert_same finite.empty root zeros
 
-  none_below : (a : ℕ) → table_at (levels depth) alone root 1 a ≡ None
-  none_below a = table_next (levels depth) root alone 0 a root (table_first (levels depth) root alone a) ∙ ap table_in (found_in_zeros (levels depth - 0) alone root a clear)
+  some_levels : (d : Depth) → 1 ≤ levels d
+  some_levels Four = omega arith
 
-  only_root : (k a n : ℕ) → table_at (levels depth) alone root k a ≡ Some n → (k ≡ 0) × (n ≡ root)
-  only_root zero a n r = (refl, same n root (sym r ∙ table_first (levels depth) root alone a)) where
-    same : (x y : ℕ) → Some x ≡ Some y → x ≡ y
-    same x y e = cc
-  only_root (suc k) a n r =
-      let none = none_past (levels depth) root alone 1 k a (none_below a) in
-      let path : k + 1 ≡ suc k = omega arith in
-      let nowhere : table_at (levels depth) alone root (suc k) a ≡ None = subst (λ i. table_at (levels depth) alone root i a ≡ None) path none in
-      cc
+  none_below : (level a : ℕ) → level < levels depth → table_at (levels depth) alone root level a ≡ None
+  none_below level a low =
+      none_past (levels depth) root alone (levels depth - 1) level a (omega arith) (omega arith)
+      (table_below (levels depth) root alone (levels depth) (levels depth - 1) a root (omega (arith, some_levels depth)) (table_first (levels depth) root alone a)
+      ∙ ap table_in (found_in_zeros (levels depth) alone root a clear))
+
+  only_root : (level a n : ℕ) → table_at (levels depth) alone root level a ≡ Some n → (level ≡ levels depth) × (n ≡ root)
+  only_root level a n r = ⊎_elim
+      (λ (same : level ≡ levels depth). (same, one_some n root (sym r ∙ ap (λ l. table_at (levels depth) alone root l a) same ∙ table_first (levels depth) root alone a)))
+      (λ (other : level ≢ levels depth).
+      let nowhere = none_below level a (omega (arith, other, reached_within (levels depth) root alone level a n r)) in
+      absurd (cc))
+      (cases_eq level (levels depth))
 
   tree_alone : IsTree (levels depth) alone root
   tree_alone = record {
-    in_use = λ k a n r. subst (λ q. IsSome (finite.get alone q)) (sym (only_root k a n r).1) (used_some alone root zeros clear);
-    once = λ j k a b n r s. ((only_root j a n r).0 ∙ sym (only_root k b n s).0, λ i lt. absurd (omega (arith, (only_root j a n r).0)));
-    allows = λ k a n next own r found.
-        let there : found_at (levels depth - k) alone root a ≡ Some (entry.Table next own) = subst (λ q. found_at (levels depth - k) alone q a ≡ Some (entry.Table next own)) (only_root k a n r).1 found in
-        let wrong : Some (entry.Table next own) ≡ Some entry.Absent = sym there ∙ found_in_zeros (levels depth - k) alone root a clear in
+    in_use = λ level a n r. subst (λ q. IsSome (finite.get alone q)) (sym (only_root level a n r).1) (used_some alone root zeros clear);
+    once = λ j k a b n r s. ((only_root j a n r).0 ∙ sym (only_root k b n s).0, λ i from to. absurd (omega (arith, (only_root j a n r).0)));
+    allows = λ level a n next own r found.
+        let there : found_at level alone root a ≡ Some (entry.Table next own) = subst (λ q. found_at level alone q a ≡ Some (entry.Table next own)) (only_root level a n r).1 found in
+        let wrong : Some (entry.Table next own) ≡ Some entry.Absent = sym there ∙ found_in_zeros level alone root a clear in
         cc;
   }
 
   reached_alone : IsReached (levels depth) alone root
   reached_alone = record {
     path = λ n used. ⊎_elim
-        (λ (same : n ≡ root). (0, 0, table_first (levels depth) root alone 0 ∙ ap Some (sym same), subst (AreWritten (levels depth - 0) alone) (sym same) (written_clear (levels depth - 0) alone root clear)))
+        (λ (same : n ≡ root).
+        (levels depth, 0, table_first (levels depth) root alone 0 ∙ ap Some (sym same), subst (AreWritten (levels depth) alone) (sym same) (written_clear (levels depth) alone root clear)))
         (λ (other : n ≢ root).
         let none : IsSome {T = List ℕ} None = subst IsSome (get-insert_other finite.empty root zeros n other ∙ finite.get-empty nat_cmp n) used in
         absurd (cc))
         (cases_eq n root);
   }
 
-  positive : (d : Depth) → levels d ≡ suc (levels d - 1)
-  positive Four = refl
-
   translates_alone : TranslatesAs depth alone root no_pages
   translates_alone = λ a canonical.
-      subst (λ l. walk_from alone l root all_rights a ≡ NotMapped) (sym (positive depth))
-      (walk_found alone (levels depth - 1) root all_rights a entry.Absent (found_in_zeros (suc (levels depth - 1)) alone root a clear))
+      walk_absent (levels depth) root alone tree_alone.allows a (levels depth) root (some_levels depth) (table_first (levels depth) root alone a)
+      (found_in_zeros (levels depth) alone root a clear)
       ∙ ap as_walk (sym (look_of_nothing a))
 
   pub new_table : root < 2 ^ 40 → IsPageTable depth (finite.insert finite.empty root zeros) root
   new_table fits = record {
     tree = tree_alone;
-    filled = record { filled = λ k a n r nothing. let zero_steps = (only_root (suc k) a n r).0 in absurd (omega arith) };
+    filled = record { filled = λ level a n low r nothing. absurd (omega (arith, low, (only_root level a n r).0)) };
     reached = reached_alone;
     whole = whole-zeros finite.empty root (whole-empty finite.empty refl);
     root_fits = fits;

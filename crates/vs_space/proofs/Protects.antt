@@ -1,5 +1,5 @@
 -- What a page table is after the rights of a page have changed.
-use Rattle.std.proofs.Common.{◌≡◌, ◌≢◌, ℕ, suc, ◌+◌, ◌-◌, ◌%◌, ◌<◌, Some, None, refl, sym, ap, subst, ◌∙◌, arith}
+use Rattle.std.proofs.Common.{◌≡◌, ◌≢◌, ℕ, suc, ◌+◌, ◌-◌, ◌%◌, ◌<◌, ◌≤◌, Some, None, refl, sym, ap, subst, ◌∙◌, arith}
 use Rattle.vs_types.specs.Depth.{levels, entry_bytes, index_at, IsCanonical}
 use Rattle.vs_types.specs.Entry.{meaning, size_at, leaf_word}
 use Rattle.vs_types.specs.Operation.{IsBase}
@@ -30,7 +30,7 @@ use Rattle.vs_space.specs.Path.{found_at, table_at, table_in, SamePath}
 use Rattle.vs_space.specs.inside.Tree.{IsTree, IsFilled}
 use Rattle.vs_space.specs.Table.{PageTable, IsTableOf, IsTableStep}
 use Rattle.vs_space.specs.inside.Invariant.{IsSpaceOf, IsPageTable}
-use Rattle.vs_space.proofs.Paths.{walk_ends}
+use Rattle.vs_space.proofs.Paths.{walk_absent, walk_reserved, walk_leaf}
 use Rattle.vs_space.proofs.Writes.{table_here, found_on_path, walk_off_path, len_written}
 use Rattle.vs_space.proofs.Trees.{tree_write, but_none, but_write, filled_by}
 use Rattle.vs_space.proofs.Reached.{reached_write, whole_written}
@@ -44,44 +44,32 @@ space_of depth m root space table is translates =
     let same : table.some_space.0 ≡ space = one_space depth m root table.some_space.0 space own.is_space is own.translates translates in
     record { is_space = is; translates = translates; counted = own.counted ∙ ap (table_count depth) same }
 
--- ---- what is met on the path of an address after k tables
+-- ---- what is met in the table of a level on the path of an address
 
-pub record IsMet (depth : Depth) (m : Memory) (root a k n : ℕ) (e : Meaning) : Type 0 where
-  pub deep : k < levels depth
-  pub at : table_at (levels depth) m root k a ≡ Some n
-  pub found : found_at (levels depth - k) m n a ≡ Some e
+pub record IsMet (depth : Depth) (m : Memory) (root a level n : ℕ) (e : Meaning) : Type 0 where
+  pub some : 1 ≤ level
+  pub at : table_at (levels depth) m root level a ≡ Some n
+  pub found : found_at level m n a ≡ Some e
 
-module _ (depth : Depth) (m : Memory) (root : ℕ) (table : IsPageTable depth m root) (base : ℕ) (canonical : IsCanonical depth base) (k n : ℕ) where
-  walk_met : (e : Meaning) → IsMet depth m root base k n e → (left : ℕ) × (k + suc left ≡ levels depth) × (found_at (suc left) m n base ≡ Some e)
-  walk_met e met =
-      let level : levels depth - k ≡ suc (levels depth - k - 1) = omega (arith, met.deep) in
-      (levels depth - k - 1, omega (arith, met.deep), subst (λ l. found_at l m n base ≡ Some e) level met.found)
-
+module _ (depth : Depth) (m : Memory) (root : ℕ) (table : IsPageTable depth m root) (base : ℕ) (canonical : IsCanonical depth base) (level n : ℕ) where
   -- an absent entry: nothing is mapped there
-  pub absent_walk : IsMet depth m root base k n entry.Absent → walk depth m root base ≡ NotMapped
-  absent_walk met = let low = walk_met entry.Absent met in walk_ends (levels depth) root m table.tree.allows base k low.0 n entry.Absent low.1 met.at low.2
+  pub absent_walk : IsMet depth m root base level n entry.Absent → walk depth m root base ≡ NotMapped
+  absent_walk met = walk_absent (levels depth) root m table.tree.allows base level n met.some met.at met.found
 
-  pub absent_none : (space : Space) → TranslatesAs depth m root space → IsMet depth m root base k n entry.Absent → page_at space base ≡ None
+  pub absent_none : (space : Space) → TranslatesAs depth m root space → IsMet depth m root base level n entry.Absent → page_at space base ≡ None
   absent_none space translates met = nothing_at depth m root space base translates canonical (absent_walk met)
 
   -- no entry has a reserved bit set
-  pub never_reserved : IsMet depth m root base k n entry.Reserved → ⊥
+  pub never_reserved : IsMet depth m root base level n entry.Reserved → ⊥
   never_reserved met =
-      let low = walk_met entry.Reserved met in
-      not_reserved depth m root table.some_space.0 base table.some_space.1.translates canonical (walk_ends (levels depth) root m table.tree.allows base k low.0 n entry.Reserved low.1 met.at low.2)
+      not_reserved depth m root table.some_space.0 base table.some_space.1.translates canonical
+      (walk_reserved (levels depth) root m table.tree.allows base level n met.some met.at met.found)
 
   -- a leaf: its page
-  pub page_here : (space : Space) → IsSpace depth space → TranslatesAs depth m root space → (phys : ℕ) (own : Rights) → IsMet depth m root base k n (entry.Leaf phys own) → (q : Page) × IsLeafPage depth space base k phys own q
+  pub page_here : (space : Space) → IsSpace depth space → TranslatesAs depth m root space → (phys : ℕ) (own : Rights)
+      → IsMet depth m root base level n (entry.Leaf phys own) → (q : Page) × IsLeafPage depth space base level phys own q
   page_here space is translates phys own met =
-      let low = walk_met (entry.Leaf phys own) met in
-      leaf_page depth m root space is translates table.tree base k low.0 n phys own canonical low.1 met.at low.2
-
-  level_is : (size : Size) → k + level_of size ≡ levels depth → levels depth - k ≡ level_of size
-  level_is size e = omega arith
-
-  -- the page's entry is at its level
-  pub page_level : (space : Space) (phys : ℕ) (own : Rights) (q : Page) → IsLeafPage depth space base k phys own q → levels depth - k ≡ level_of q.size
-  page_level space phys own q leaf = level_is q.size leaf.level
+      leaf_page depth m root space is translates table.tree base level n phys own canonical met.some met.at met.found
 
   -- ---- the answers that change nothing
 
@@ -127,73 +115,79 @@ stays old action answer own says = record {
 
 -- ---- the rights of a leaf change
 
-module _ (depth : Depth) (m : Memory) (root : ℕ) (table : IsPageTable depth m root) (whole : AreWhole m) (base : ℕ) (good : IsBase depth base) (k n phys : ℕ) (own rights : Rights) (met : IsMet depth m root base k n (entry.Leaf phys own)) (w : ℕ) (leads : meaning (levels depth - k) w ≡ entry.Leaf phys rights) (is_word : w ≡ leaf_word (size_at (levels depth - k)) phys rights) (low : index_at (levels depth - k) base < 512) (aligned : base % entry_bytes (levels depth - k) ≡ 0) where
+module _ (depth : Depth) (m : Memory) (root : ℕ) (table : IsPageTable depth m root) (whole : AreWhole m) (base : ℕ) (good : IsBase depth base)
+    (level n phys : ℕ) (own rights : Rights) (met : IsMet depth m root base level n (entry.Leaf phys own)) (w : ℕ)
+    (leads : meaning level w ≡ entry.Leaf phys rights) (is_word : w ≡ leaf_word (size_at level) phys rights) (aligned : base % entry_bytes level ≡ 0) where
   abbrev new : Memory
-  new = with_word m n (index_at (levels depth - k) base) w
+  new = with_word m n (index_at level base) w
 
-  ends : table_in (Some (meaning (levels depth - k) w)) ≡ None
+  ends : table_in (Some (meaning level w)) ≡ None
   ends = ap (λ e. table_in (Some e)) leads
 
   tree_new : IsTree (levels depth) new root
-  tree_new = tree_write (levels depth) root m table.tree whole k base n met.at w low ends
+  tree_new = tree_write (levels depth) root m table.tree whole level base n met.at w ends
 
   -- how an address of the page is walked
-  walk_new : (b : ℕ) → SamePath (levels depth) (suc k) base b → walk depth new root b ≡ Mapped (phys + b % entry_bytes (levels depth - k)) (size_at (levels depth - k)) rights
+  walk_new : (b : ℕ) → SamePath (levels depth) level base b → walk depth new root b ≡ Mapped (phys + b % entry_bytes level) (size_at level) rights
   walk_new b same =
-      let level : levels depth - k ≡ suc (levels depth - k - 1) = omega (arith, met.deep) in
-      let found = found_on_path (levels depth) root m table.tree whole k base n met.at w b low same ∙ ap Some leads in
-      subst (λ l. walk depth new root b ≡ Mapped (phys + b % entry_bytes l) (size_at l) rights) (sym level)
-      (walk_ends (levels depth) root new tree_new.allows b k (levels depth - k - 1) n (entry.Leaf phys rights) (omega (arith, met.deep)) (table_here (levels depth) root m table.tree whole k base n met.at w b same) (subst (λ l. found_at l new n b ≡ Some (entry.Leaf phys rights)) level found))
+      walk_leaf (levels depth) root new tree_new.allows b level n phys rights met.some (table_here (levels depth) root m table.tree whole level base n met.at w b same)
+      (found_on_path (levels depth) root m table.tree whole level base n met.at w b same ∙ ap Some leads)
 
-  walk_off : (b : ℕ) → (SamePath (levels depth) (suc k) base b → ⊥) → walk depth new root b ≡ walk depth m root b
-  walk_off b apart = walk_off_path (levels depth) root m table.tree whole k base n met.at w b apart
+  walk_off : (b : ℕ) → (SamePath (levels depth) level base b → ⊥) → walk depth new root b ≡ walk depth m root b
+  walk_off b apart = walk_off_path (levels depth) root m table.tree whole level base n met.at w b apart
 
   filled_new : IsFilled depth new root
-  filled_new = filled_by depth new root base (but_write depth root m table.tree whole k base n met.at w low ends (but_none base table.filled)) good.canonical (λ none. let walked = walk_new base (λ i lt. refl) in cc)
+  filled_new = filled_by depth new root base (but_write depth root m table.tree whole level base n met.at w ends (but_none base table.filled)) good.canonical
+      (λ none. let walked = walk_new base (λ i from to. refl) in cc)
 
   module _ (limit : ℕ) (space : Space) (of : IsSpaceOf depth m root space) where
-    leaf : (q : Page) × IsLeafPage depth space base k phys own q
-    leaf = page_here depth m root table base good.canonical k n space of.is_space of.translates phys own met
-
-    q : Page
-    q = leaf.0
-
-    level : levels depth - k ≡ level_of leaf.0.size
-    level = page_level depth m root table base good.canonical k n space phys own leaf.0 leaf.1
+    leaf : (q : Page) × IsLeafPage depth space base level phys own q
+    leaf = page_here depth m root table base good.canonical level n space of.is_space of.translates phys own met
 
     begins : leaf.0.base ≡ base
     begins =
-        let zero_here : base % bytes_of leaf.0.size ≡ 0 = subst (λ l. base % entry_bytes l ≡ 0) level aligned in
+        let zero_here : base % bytes_of leaf.0.size ≡ 0 = subst (λ l. base % entry_bytes l ≡ 0) (sym leaf.1.level_is) aligned in
         omega (arith, leaf.1.base)
 
     pub answer_is : (step depth limit space (Protect base rights)).answer ≡ answers.Changed own
-    answer_is = protect_changes depth m root table base good.canonical k n limit space rights leaf.0 leaf.1.here begins ∙ ap answers.Changed leaf.1.rights
+    answer_is = protect_changes depth m root table base good.canonical level n limit space rights leaf.0 leaf.1.here begins ∙ ap answers.Changed leaf.1.rights
 
     looks : LooksChanged leaf.0 (as_in (record leaf.0 { rights = rights })) space (step depth limit space (Protect base rights)).space
     looks = subst (λ a. LooksChanged leaf.0 (as_in (record leaf.0 { rights = rights })) space (step depth limit space (Protect a rights)).space) begins
-        (changed_looks limit of.is_space leaf.0 rights own leaf.1.held (subst (λ a. (step depth limit space (Protect a rights)).answer ≡ answers.Changed own) (sym begins) answer_is))
+        (changed_looks limit of.is_space leaf.0 rights own leaf.1.held
+        (subst (λ a. (step depth limit space (Protect a rights)).answer ≡ answers.Changed own) (sym begins) answer_is))
 
-    inside_is : (b : ℕ) → IsCanonical depth b → SamePath (levels depth) (suc k) leaf.0.base b → walk depth new root b ≡ as_walk (as_in (record leaf.0 { rights = rights }) b)
+    -- addresses of the page take the path of the base
+    on_path : (b : ℕ) → SamePath (levels depth) (level_of leaf.0.size) leaf.0.base b → SamePath (levels depth) level base b
+    on_path b same = subst (λ l. SamePath (levels depth) l base b) leaf.1.level_is (subst (λ a. SamePath (levels depth) (level_of leaf.0.size) a b) begins same)
+
+    of_page : (b : ℕ) → SamePath (levels depth) level base b → SamePath (levels depth) (level_of leaf.0.size) leaf.0.base b
+    of_page b same =
+        subst (λ a. SamePath (levels depth) (level_of leaf.0.size) a b) (sym begins) (subst (λ l. SamePath (levels depth) l base b) (sym leaf.1.level_is) same)
+
+    inside_is : (b : ℕ) → IsCanonical depth b → SamePath (levels depth) (level_of leaf.0.size) leaf.0.base b
+        → walk depth new root b ≡ as_walk (as_in (record leaf.0 { rights = rights }) b)
     inside_is b canonical same =
-        let at = (path_covers depth leaf.0 leaf.1.good k leaf.1.level b canonical same).1 in
-        let offset : phys + b % entry_bytes (levels depth - k) ≡ leaf.0.phys + (b - leaf.0.base) = subst (λ l. phys + b % entry_bytes l ≡ leaf.0.phys + (b - leaf.0.base)) (sym level) (omega (arith, at, leaf.1.phys_is)) in
-        let size : size_at (levels depth - k) ≡ leaf.0.size = ap size_at level ∙ sym leaf.1.size in
-        walk_new b (subst (λ a. SamePath (levels depth) (suc k) a b) begins same) ∙ ap (λ p. Mapped p (size_at (levels depth - k)) rights) offset ∙ ap (λ z. Mapped (leaf.0.phys + (b - leaf.0.base)) z rights) size
+        let at = (path_covers depth leaf.0 leaf.1.good b canonical same).1 in
+        let offset : phys + b % entry_bytes level ≡ leaf.0.phys + (b - leaf.0.base) =
+        subst (λ l. phys + b % entry_bytes l ≡ leaf.0.phys + (b - leaf.0.base)) leaf.1.level_is (omega (arith, at, leaf.1.phys_is)) in
+        walk_new b (on_path b same) ∙ ap (λ p. Mapped p (size_at level) rights) offset
+        ∙ ap (λ z. Mapped (leaf.0.phys + (b - leaf.0.base)) z rights) (sym leaf.1.size)
 
     pub space_is : IsSpaceOf depth new root (step depth limit space (Protect base rights)).space
     space_is = record {
       is_space = step_space limit of.is_space (Protect base rights) good;
-      translates = translates_changed depth m new root space (step depth limit space (Protect base rights)).space leaf.0 (as_in (record leaf.0 { rights = rights })) k looks of.translates leaf.1.good leaf.1.level inside_is
-          (λ b canonical apart. walk_off b (λ same. apart (subst (λ a. SamePath (levels depth) (suc k) a b) (sym begins) same)));
-      counted = len_written m n (index_at (levels depth - k) base) w (table.tree.in_use k base n met.at) ∙ of.counted ∙ sym (protect_tables limit of.is_space base rights);
+      translates = translates_changed depth m new root space (step depth limit space (Protect base rights)).space leaf.0 (as_in (record leaf.0 { rights = rights }))
+          looks of.translates leaf.1.good inside_is (λ b canonical apart. walk_off b (λ same. apart (of_page b same)));
+      counted = len_written m n (index_at level base) w (table.tree.in_use level base n met.at) ∙ of.counted ∙ sym (protect_tables limit of.is_space base rights);
     }
 
   pub table_new : IsPageTable depth new root
   table_new = record {
     tree = tree_new;
     filled = filled_new;
-    reached = reached_write (levels depth) root m table.tree whole k base n met.at w (ap table_in met.found) (written_leaf (levels depth - k) w phys rights leads is_word) table.reached;
-    whole = whole_written m n (index_at (levels depth - k) base) w (table.tree.in_use k base n met.at) whole;
+    reached = reached_write (levels depth) root m table.tree whole level base n met.at w (ap table_in met.found) (written_leaf level w phys rights leads is_word) table.reached;
+    whole = whole_written m n (index_at level base) w (table.tree.in_use level base n met.at) whole;
     root_fits = table.root_fits;
     some_space = ((step depth 0 table.some_space.0 (Protect base rights)).space, space_is 0 table.some_space.0 table.some_space.1);
   }

@@ -21,12 +21,12 @@ use Rattle.vs_space.specs.Path.{found_at, entry_in, IsFirstPresent, HasPresent, 
 use Rattle.vs_space.specs.inside.Tree.{IsTree, NothingUnder, AreWritten}
 use Rattle.vs_space.specs.inside.Prune.{IsCut, IsPruned}
 use Rattle.vs_space.proofs.Numbered.{len-remove_used, whole-remove}
-use Rattle.vs_space.proofs.Paths.{table_next, same_table, found_same, walk_ends}
+use Rattle.vs_space.proofs.Paths.{reached_within, table_below, none_past, same_table, found_same, walk_absent, walk_reserved, walk_leaf}
 use Rattle.vs_space.proofs.Writes.{len_written, written_in_use, same_or_not, words_in}
 use Rattle.vs_space.proofs.Trees.{but_alike, filled_up}
 use Rattle.vs_space.proofs.Links.{tree_unlink, table_unlink, table_kept, walk_unlink_off, walk_unlink_on, found_unlinked}
 use Rattle.vs_space.proofs.Reached.{reached_unlink, whole_written}
-use Rattle.vs_space.proofs.Written.{written_level}
+use Rattle.vs_space.proofs.Written.{written_at}
 use Rattle.vs_space.proofs.Regions.{stretch_same}
 
 -- ---- entries by index
@@ -68,34 +68,34 @@ canonical_stretch depth a b e is le same =
     let whole : e + d ≡ 12 + 9 * levels depth - 1 = omega arith in
     half_same depth a b is (ap (λ n. a / 2 ^ n) (sym whole) ∙ sym (shr-shr a e d) ∙ ap (λ x. x / 2 ^ d) same ∙ shr-shr b e d ∙ ap (λ n. b / 2 ^ n) whole)
 
--- the address with this index that takes the path of a canonical address
-pub address_with : (depth : Depth) (base level index : ℕ) → IsCanonical depth base → 1 ≤ level → level < levels depth → index < 512 → (b : ℕ) × IsCanonical depth b × SamePath (levels depth) (levels depth - level) base b × (index_at level b ≡ index)
-address_with depth base level index canonical some below low =
+-- the address with this index, in the table of a level on the path of a canonical address
+pub address_with : (depth : Depth) (base level index : ℕ) → IsCanonical depth base → level < levels depth → index < 512
+    → (b : ℕ) × IsCanonical depth b × SamePath (levels depth) (suc level) base b × (index_at level b ≡ index)
+address_with depth base level index canonical below low =
     let e = 3 + 9 * level in
     let x = base / 2 ^ (e + 9) in
     let b = (x * 512 + index) * 2 ^ e in
     let quotient : b / 2 ^ e ≡ x * 512 + index = shl-shr (x * 512 + index) e in
     let high : b / 2 ^ (e + 9) ≡ x = sym (shr-shr b e 9) ∙ ap (λ y. y / 512) quotient ∙ div-mul-add x 512 index low in
-    let k = levels depth - level - 1 in
-    let steps : levels depth - level ≡ suc k = omega arith in
-    let exponent : 12 + 9 * (levels depth - suc k) ≡ e + 9 = omega arith in (
+    let exponent : 12 + 9 * level ≡ e + 9 = omega arith in (
       b,
       canonical_stretch depth base b (e + 9) canonical (omega arith) (sym high),
-      subst (λ j. SamePath (levels depth) j base b) (sym steps) (stretch_same (levels depth) k base b (omega arith) (subst (λ n. base / 2 ^ n ≡ b / 2 ^ n) (sym exponent) (sym high))),
+      stretch_same (levels depth) level base b (subst (λ n. base / 2 ^ n ≡ b / 2 ^ n) (sym exponent) (sym high)),
       ap (λ y. y % 512) quotient ∙ mod-mul-add x 512 index low,
     )
 
 -- ---- where the path of an address ends
 
-pub absent_under : (depth : Depth) (m : Memory) (root base k n : ℕ) → IsTree (levels depth) m root → k < levels depth → table_at (levels depth) m root k base ≡ Some n → found_at (levels depth - k) m n base ≡ Some entry.Absent → NothingUnder depth m root (suc k) base
-absent_under depth m root base k n tree deep at absent = λ b canonical same.
-    let level : levels depth - k ≡ suc (levels depth - k - 1) = omega arith in
-    let there = sym (same_table (levels depth) root m k base b (λ i lt. same i (omega arith))) ∙ at in
-    let found = sym (found_same (levels depth) root (levels depth - k) m n base b (same k (omega arith))) ∙ absent in
-    walk_ends (levels depth) root m tree.allows b k (levels depth - k - 1) n entry.Absent (omega arith) there (subst (λ l. found_at l m n b ≡ Some entry.Absent) level found)
+pub absent_under : (depth : Depth) (m : Memory) (root base level n : ℕ) → IsTree (levels depth) m root → 1 ≤ level
+    → table_at (levels depth) m root level base ≡ Some n → found_at level m n base ≡ Some entry.Absent → NothingUnder depth m root level base
+absent_under depth m root base level n tree some at absent = λ b canonical same.
+    let le = reached_within (levels depth) root m level base n at in
+    walk_absent (levels depth) root m tree.allows b level n some
+    (sym (same_table (levels depth) root m level base b (λ i from to. same i (omega arith) to)) ∙ at)
+    (sym (found_same level m n base b (same level (omega arith) le)) ∙ absent)
 
-pub under_longer : (depth : Depth) (m : Memory) (root base j k : ℕ) → j ≤ k → NothingUnder depth m root j base → NothingUnder depth m root k base
-under_longer depth m root base j k le nothing = λ b canonical same. nothing b canonical (λ i lt. same i (omega arith))
+pub under_longer : (depth : Depth) (m : Memory) (root base j level : ℕ) → level ≤ j → NothingUnder depth m root j base → NothingUnder depth m root level base
+under_longer depth m root base j level le nothing = λ b canonical same. nothing b canonical (λ i from to. same i (omega arith) to)
 
 -- the tables on the path of the address, while they are given back
 pub record IsPruning (depth : Depth) (old m : Memory) (root base from level : ℕ) (path : List ℕ) : Type 0 where
@@ -108,64 +108,58 @@ pub pruning_start : (depth : Depth) (m : Memory) (root base from : ℕ) (path : 
 pruning_start depth m root base from path cut = record { cut = cut; walks = λ b canonical. refl; above = omega arith; fewer = omega arith }
 
 module _ (depth : Depth) (m : Memory) (root base level : ℕ) (path : List ℕ) (canonical : IsCanonical depth base) (cut : IsCut depth m root base level path) where
-  abbrev k : ℕ
-  k = levels depth - level
-
-  abbrev n : ℕ
-  n = slice_index path level
-
-  back : levels depth - (levels depth - level) ≡ level
-  back = omega (arith, cut.below)
-
-  at : table_at (levels depth) m root (levels depth - level) base ≡ Some (slice_index path level)
+  at : table_at (levels depth) m root level base ≡ Some (slice_index path level)
   at = cut.reached level (omega arith) cut.below
 
-  absent : found_at (levels depth - (levels depth - level)) m (slice_index path level) base ≡ Some entry.Absent
-  absent = subst (λ l. found_at l m (slice_index path level) base ≡ Some entry.Absent) (sym back) cut.absent
+  pub nothing_past : NothingUnder depth m root level base
+  nothing_past = absent_under depth m root base level (slice_index path level) cut.tree cut.some at cut.absent
 
-  pub nothing_past : NothingUnder depth m root (suc (levels depth - level)) base
-  nothing_past = absent_under depth m root base (levels depth - level) (slice_index path level) cut.tree (omega (arith, cut.some, cut.below)) at absent
-
-  pub none_past_here : table_at (levels depth) m root (suc (levels depth - level)) base ≡ None
-  none_past_here = table_next (levels depth) root m (levels depth - level) base (slice_index path level) at ∙ ap table_in absent
+  pub none_past_here : (j : ℕ) → j < level → table_at (levels depth) m root j base ≡ None
+  none_past_here j lt =
+      none_past (levels depth) root m (level - 1) j base (omega (arith, cut.below)) (omega arith)
+      (table_below (levels depth) root m level (level - 1) base (slice_index path level) (omega (arith, cut.some)) at ∙ ap table_in cut.absent)
 
   -- a present entry has something mapped under its table
-  pub something_here : ((b : ℕ) → IsCanonical depth b → walk depth m root b ≢ Reserved) → level < levels depth → HasPresent level m (slice_index path level) → NothingUnder depth m root (levels depth - level) base → ⊥
+  pub something_here : ((b : ℕ) → IsCanonical depth b → walk depth m root b ≢ Reserved) → level < levels depth → HasPresent level m (slice_index path level)
+      → NothingUnder depth m root (suc level) base → ⊥
   something_here faultless below first nothing = by e.0 refl where
-    b : (b : ℕ) × IsCanonical depth b × SamePath (levels depth) (levels depth - level) base b × (index_at level b ≡ first.index)
-    b = address_with depth base level first.index canonical cut.some below first.within
+    b : (b : ℕ) × IsCanonical depth b × SamePath (levels depth) (suc level) base b × (index_at level b ≡ first.index)
+    b = address_with depth base level first.index canonical below first.within
 
-    there : table_at (levels depth) m root (levels depth - level) b.0 ≡ Some (slice_index path level)
-    there = sym (same_table (levels depth) root m (levels depth - level) base b.0 b.2) ∙ at
+    there : table_at (levels depth) m root level b.0 ≡ Some (slice_index path level)
+    there = sym (same_table (levels depth) root m level base b.0 b.2) ∙ at
 
     e : (e : Meaning) × (entry_in level m (slice_index path level) first.index ≡ Some e)
-    e = entry_some level m (slice_index path level) first.index (cut.tree.in_use (levels depth - level) base (slice_index path level) at)
+    e = entry_some level m (slice_index path level) first.index (cut.tree.in_use level base (slice_index path level) at)
 
-    found : (x : Meaning) → e.0 ≡ x → found_at (levels depth - (levels depth - level)) m (slice_index path level) b.0 ≡ Some x
-    found x is = subst (λ l. found_at l m (slice_index path level) b.0 ≡ Some x) (sym back) (found_entry level m (slice_index path level) b.0 ∙ ap (entry_in level m (slice_index path level)) b.3 ∙ e.1 ∙ ap Some is)
-
-    low : levels depth - (levels depth - level) ≡ suc (level - 1)
-    low = omega (arith, cut.some, cut.below)
-
-    whole : (levels depth - level) + suc (level - 1) ≡ levels depth
-    whole = omega (arith, cut.some, cut.below)
+    found : (x : Meaning) → e.0 ≡ x → found_at level m (slice_index path level) b.0 ≡ Some x
+    found x is = found_entry level m (slice_index path level) b.0 ∙ ap (entry_in level m (slice_index path level)) b.3 ∙ e.1 ∙ ap Some is
 
     quiet : walk depth m root b.0 ≡ NotMapped
     quiet = nothing b.0 b.1 b.2
 
     by : (x : Meaning) → e.0 ≡ x → ⊥
     by entry.Absent is = first.present (e.1 ∙ ap Some is)
-    by entry.Reserved is = faultless b.0 b.1 (walk_ends (levels depth) root m cut.tree.allows b.0 (levels depth - level) (level - 1) (slice_index path level) entry.Reserved whole there (subst (λ l. found_at l m (slice_index path level) b.0 ≡ Some entry.Reserved) low (found entry.Reserved is)))
-    by (entry.Leaf phys own) is = let walked = walk_ends (levels depth) root m cut.tree.allows b.0 (levels depth - level) (level - 1) (slice_index path level) (entry.Leaf phys own) whole there (subst (λ l. found_at l m (slice_index path level) b.0 ≡ Some (entry.Leaf phys own)) low (found (entry.Leaf phys own) is)) in mapped_apart _ _ _ (sym quiet ∙ walked)
+    by entry.Reserved is = faultless b.0 b.1
+        (walk_reserved (levels depth) root m cut.tree.allows b.0 level (slice_index path level) cut.some there (found entry.Reserved is))
+    by (entry.Leaf phys own) is =
+        let walked = walk_leaf (levels depth) root m cut.tree.allows b.0 level (slice_index path level) phys own cut.some there (found (entry.Leaf phys own) is) in
+        mapped_apart _ _ _ (sym quiet ∙ walked)
     by (entry.Table next own) is =
-        cut.filled.filled (levels depth - level) b.0 next (table_next (levels depth) root m (levels depth - level) b.0 (slice_index path level) there ∙ ap table_in (found (entry.Table next own) is))
-        (λ same. let wrong : Some entry.Absent ≡ Some (entry.Table next own) = sym absent ∙ found_same (levels depth) root (levels depth - (levels depth - level)) m (slice_index path level) base b.0 (same (levels depth - level) (omega arith)) ∙ found (entry.Table next own) is in cc)
-        (λ c is_c same. nothing c is_c (λ i lt. b.2 i lt ∙ same i (omega arith)))
+        let up : level ≡ suc (level - 1) = omega (arith, cut.some) in
+        cut.filled.filled (level - 1) b.0 next (omega (arith, cut.below, cut.some))
+        (table_below (levels depth) root m level (level - 1) b.0 (slice_index path level) up there ∙ ap table_in (found (entry.Table next own) is))
+        (λ same.
+        let wrong : Some entry.Absent ≡ Some (entry.Table next own) = sym cut.absent
+        ∙ found_same level m (slice_index path level) base b.0 (same level (omega arith) cut.below) ∙ found (entry.Table next own) is in
+        cc)
+        (λ c is_c same. nothing c is_c (λ i from to. b.2 i from to ∙ same i (omega arith) to))
 
-  pub pruned_by : (old : Memory) (from : ℕ) → IsPruning depth old m root base from level path → (0 < levels depth - level → NothingUnder depth m root (levels depth - level) base → ⊥) → IsPruned depth old m root base from level
+  pub pruned_by : (old : Memory) (from : ℕ) → IsPruning depth old m root base from level path → (level < levels depth → NothingUnder depth m root (suc level) base → ⊥)
+      → IsPruned depth old m root base from level
   pruned_by old from pruning something = record {
     tree = cut.tree;
-    filled = filled_up depth m root base (levels depth - level) cut.filled none_past_here something;
+    filled = filled_up depth m root base level cut.filled none_past_here something;
     all_reached = cut.all_reached;
     whole = cut.whole;
     walks = pruning.walks;
@@ -173,98 +167,88 @@ module _ (depth : Depth) (m : Memory) (root base level : ℕ) (path : List ℕ) 
     below = cut.below;
     fewer = pruning.fewer;
     nothing = nothing_past;
-    something = λ j some le nothing. something (omega arith) (under_longer depth m root base j (levels depth - level) le nothing);
+    something = λ j over le nothing. something (omega arith) (under_longer depth m root base j (suc level) (omega arith) nothing);
   }
 
   -- ---- a table whose entries are all absent is given back
 
-  module _ (below : level < levels depth) (empty : (i : ℕ) → i < 512 → entry_in level m (slice_index path level) i ≡ Some entry.Absent) (index : ℕ) (is_index : index ≡ index_at (level + 1) base) (low : index < 512) where
-    abbrev given : Memory
-    given = finite.remove (with_word m (slice_index path (level + 1)) index 0) (slice_index path level)
+  module _ (below : level < levels depth) (empty : (i : ℕ) → i < 512 → entry_in level m (slice_index path level) i ≡ Some entry.Absent) where
+    one : level + 1 ≡ suc level
+    one = omega arith
 
-    abbrev parent : ℕ
-    parent = levels depth - (level + 1)
-
-    steps : suc (levels depth - (level + 1)) ≡ levels depth - level
-    steps = omega arith
-
-    level_up : levels depth - (levels depth - (level + 1)) ≡ level + 1
-    level_up = omega arith
-
-    index_same : index_at (levels depth - (levels depth - (level + 1))) base ≡ index
-    index_same = ap (λ l. index_at l base) level_up ∙ sym is_index
-
-    low_here : index_at (levels depth - (levels depth - (level + 1))) base < 512
-    low_here = subst (λ i. i < 512) (sym index_same) low
-
-    at_parent : table_at (levels depth) m root (levels depth - (level + 1)) base ≡ Some (slice_index path (level + 1))
+    at_parent : table_at (levels depth) m root (level + 1) base ≡ Some (slice_index path (level + 1))
     at_parent = cut.reached (level + 1) (omega arith) (omega arith)
-
-    down : table_at (levels depth) m root (suc (levels depth - (level + 1))) base ≡ Some (slice_index path level)
-    down = ap (λ j. table_at (levels depth) m root j base) steps ∙ at
-
-    reaches_here : (b : ℕ) → SamePath (levels depth) (levels depth - level) base b → table_at (levels depth) m root (levels depth - level) b ≡ Some (slice_index path level)
-    reaches_here b same = sym (same_table (levels depth) root m (levels depth - level) base b same) ∙ at
 
     absent_here : (b : ℕ) → found_at level m (slice_index path level) b ≡ Some entry.Absent
     absent_here b = found_entry level m (slice_index path level) b ∙ empty (index_at level b) (index_low b) where
       index_low : (b : ℕ) → index_at level b < 512
       index_low b = omega arith
 
-    nothing_here : NothingUnder depth m root (levels depth - level) base
+    reaches_here : (b : ℕ) → SamePath (levels depth) (level + 1) base b → table_at (levels depth) m root level b ≡ Some (slice_index path level)
+    reaches_here b same = sym (same_table (levels depth) root m level base b (λ i from to. same i (omega arith) to)) ∙ at
+
+    nothing_here : NothingUnder depth m root (level + 1) base
     nothing_here = λ b is_b same.
-        let up : level ≡ suc (level - 1) = omega (arith, cut.some) in
-        walk_ends (levels depth) root m cut.tree.allows b (levels depth - level) (level - 1) (slice_index path level) entry.Absent (omega (arith, cut.some, cut.below)) (reaches_here b same) (subst (λ l. found_at l m (slice_index path level) b ≡ Some entry.Absent) up (absent_here b))
+        walk_absent (levels depth) root m cut.tree.allows b level (slice_index path level) cut.some (reaches_here b same) (absent_here b)
 
-    none_below : (b : ℕ) → SamePath (levels depth) (suc (levels depth - (level + 1))) base b → table_at (levels depth) m root (suc (suc (levels depth - (level + 1)))) b ≡ None
-    none_below b same =
-        ap (λ j. table_at (levels depth) m root (suc j) b) steps
-        ∙ table_next (levels depth) root m (levels depth - level) b (slice_index path level) (reaches_here b (subst (λ j. SamePath (levels depth) j base b) steps same))
-        ∙ ap (λ l. table_in (found_at l m (slice_index path level) b)) back ∙ ap table_in (absent_here b)
+    none_below : (b j : ℕ) → SamePath (levels depth) (level + 1) base b → j < level → table_at (levels depth) m root j b ≡ None
+    none_below b j same lt =
+        none_past (levels depth) root m (level - 1) j b (omega (arith, cut.below)) (omega arith)
+        (table_below (levels depth) root m level (level - 1) b (slice_index path level) (omega (arith, cut.some)) (reaches_here b same) ∙ ap table_in (absent_here b))
 
-    abbrev cleared : ℕ → Memory
-    cleared i = finite.remove (with_word m (slice_index path (level + 1)) i 0) (slice_index path level)
+    abbrev cleared : Memory
+    cleared = finite.remove (with_word m (slice_index path (level + 1)) (index_at (level + 1) base) 0) (slice_index path level)
 
-    walks_same : (b : ℕ) → IsCanonical depth b → walk depth (cleared (index_at (levels depth - (levels depth - (level + 1))) base)) root b ≡ walk depth m root b
+    walks_same : (b : ℕ) → IsCanonical depth b → walk depth cleared root b ≡ walk depth m root b
     walks_same b is_b = ⊎_elim
         (λ same.
-        walk_unlink_on (levels depth) root m cut.tree cut.whole (levels depth - (level + 1)) base (slice_index path (level + 1)) (slice_index path level) at_parent down low_here b level (omega arith) same
-        ∙ sym (nothing_here b is_b (subst (λ j. SamePath (levels depth) j base b) steps same)))
-        (λ apart. walk_unlink_off (levels depth) root m cut.tree cut.whole (levels depth - (level + 1)) base (slice_index path (level + 1)) (slice_index path level) at_parent down low_here b apart)
-        (same_or_not (levels depth) (suc (levels depth - (level + 1))) base b)
+        walk_unlink_on (levels depth) root m cut.tree cut.whole (level + 1) base (slice_index path (level + 1)) level (slice_index path level) at_parent one at b same
+        ∙ sym (nothing_here b is_b same))
+        (λ apart. walk_unlink_off (levels depth) root m cut.tree cut.whole (level + 1) base (slice_index path (level + 1)) level (slice_index path level) at_parent one at b apart)
+        (same_or_not (levels depth) (level + 1) base b)
 
-    cut_after : IsCut depth (cleared (index_at (levels depth - (levels depth - (level + 1))) base)) root base (level + 1) path
+    cut_after : IsCut depth cleared root base (level + 1) path
     cut_after = record {
-      tree = tree_unlink (levels depth) root m cut.tree cut.whole (levels depth - (level + 1)) base (slice_index path (level + 1)) (slice_index path level) at_parent down low_here;
-      filled = but_alike depth m (cleared (index_at (levels depth - (levels depth - (level + 1))) base)) root base
-          (λ j b q r off. table_unlink (levels depth) root m cut.tree cut.whole (levels depth - (level + 1)) base (slice_index path (level + 1)) (slice_index path level) at_parent down low_here (suc j) b q r)
+      tree = tree_unlink (levels depth) root m cut.tree cut.whole (level + 1) base (slice_index path (level + 1)) level (slice_index path level) at_parent one at;
+      filled = but_alike depth m cleared root base
+          (λ j b q r off.
+          table_unlink (levels depth) root m cut.tree cut.whole (level + 1) base (slice_index path (level + 1)) level (slice_index path level) at_parent one at j b q r)
           walks_same cut.filled;
-      all_reached = reached_unlink (levels depth) root m cut.tree cut.whole (levels depth - (level + 1)) base (slice_index path (level + 1)) (slice_index path level) at_parent down low_here none_below cut.all_reached;
-      whole = whole-remove _ (slice_index path level) (whole_written m (slice_index path (level + 1)) (index_at (levels depth - (levels depth - (level + 1))) base) 0 (cut.tree.in_use (levels depth - (level + 1)) base (slice_index path (level + 1)) at_parent) cut.whole);
+      all_reached = reached_unlink (levels depth) root m cut.tree cut.whole (level + 1) base (slice_index path (level + 1)) level (slice_index path level) at_parent one at
+          none_below cut.all_reached;
+      whole = whole-remove _ (slice_index path level)
+          (whole_written m (slice_index path (level + 1)) (index_at (level + 1) base) 0 (cut.tree.in_use (level + 1) base (slice_index path (level + 1)) at_parent) cut.whole);
       some = omega arith;
       below = omega arith;
-      reached = λ j from to. table_kept (levels depth) root m cut.tree cut.whole (levels depth - (level + 1)) base (slice_index path (level + 1)) (slice_index path level) at_parent down low_here (levels depth - j) base (omega arith) ∙ cut.reached j (omega arith) to;
-      absent = subst (λ l. found_at l (cleared (index_at (levels depth - (levels depth - (level + 1))) base)) (slice_index path (level + 1)) base ≡ Some entry.Absent) level_up
-          (found_unlinked (levels depth) root m cut.tree cut.whole (levels depth - (level + 1)) base (slice_index path (level + 1)) (slice_index path level) at_parent down low_here base (λ i lt. refl));
+      reached = λ j from to.
+          table_kept (levels depth) root m cut.tree cut.whole (level + 1) base (slice_index path (level + 1)) level (slice_index path level) at_parent one at j base from
+          ∙ cut.reached j (omega arith) to;
+      absent = found_unlinked (levels depth) root m cut.tree cut.whole (level + 1) base (slice_index path (level + 1)) level (slice_index path level) at_parent one at base (λ i from to. refl);
     }
 
-    one_fewer : finite.len (cleared (index_at (levels depth - (levels depth - (level + 1))) base)) + 1 ≡ finite.len m
+    one_fewer : finite.len cleared + 1 ≡ finite.len m
     one_fewer =
-        let used = cut.tree.in_use (levels depth - level) base (slice_index path level) at in
-        let still = words_in _ _ (written_in_use m (slice_index path (level + 1)) (index_at (levels depth - (levels depth - (level + 1))) base) 0 (slice_index path level) used) in
-        len-remove_used _ (slice_index path level) _ still ∙ len_written m (slice_index path (level + 1)) (index_at (levels depth - (levels depth - (level + 1))) base) 0 (cut.tree.in_use (levels depth - (level + 1)) base (slice_index path (level + 1)) at_parent)
+        let used = cut.tree.in_use level base (slice_index path level) at in
+        let still = words_in _ _ (written_in_use m (slice_index path (level + 1)) (index_at (level + 1) base) 0 (slice_index path level) used) in
+        len-remove_used _ (slice_index path level) _ still
+        ∙ len_written m (slice_index path (level + 1)) (index_at (level + 1) base) 0 (cut.tree.in_use (level + 1) base (slice_index path (level + 1)) at_parent)
 
-    pub pruning_on : (old : Memory) (from : ℕ) → IsPruning depth old m root base from level path → IsPruning depth old (cleared index) root base from (level + 1) path
-    pruning_on old from pruning = subst (λ i. IsPruning depth old (cleared i) root base from (level + 1) path) index_same (record {
-      cut = cut_after;
-      walks = λ b is_b. walks_same b is_b ∙ pruning.walks b is_b;
-      above = omega (arith, pruning.above);
-      fewer = omega (arith, one_fewer, pruning.fewer, pruning.above);
-    })
+    pub pruning_on : (index : ℕ) → index ≡ index_at (level + 1) base → (old : Memory) (from : ℕ) → IsPruning depth old m root base from level path
+        → IsPruning depth old (finite.remove (with_word m (slice_index path (level + 1)) index 0) (slice_index path level)) root base from (level + 1) path
+    pruning_on index is_index old from pruning =
+        subst (λ i. IsPruning depth old (finite.remove (with_word m (slice_index path (level + 1)) i 0) (slice_index path level)) root base from (level + 1) path) (sym is_index) (record {
+          cut = cut_after;
+          walks = λ b is_b. walks_same b is_b ∙ pruning.walks b is_b;
+          above = omega (arith, pruning.above);
+          fewer = omega (arith, one_fewer, pruning.fewer, pruning.above);
+        })
 
 -- the words of the table are as written
 pub emptied_written : (depth : Depth) (m : Memory) (root base level : ℕ) (path : List ℕ) → IsCut depth m root base level path → AreWritten level m (slice_index path level)
-emptied_written depth m root base level path cut = written_level (levels depth) root m cut.tree cut.all_reached level base (slice_index path level) cut.below (cut.reached level (omega arith) cut.below)
+emptied_written depth m root base level path cut =
+    written_at (levels depth) root m cut.tree cut.all_reached level base (slice_index path level) (cut.reached level (omega arith) cut.below)
 
-pub emptied_used : (depth : Depth) (m : Memory) (root base level : ℕ) (path : List ℕ) (n index : ℕ) → IsCut depth m root base level path → IsSome (finite.get (with_word m n index 0) (slice_index path level))
-emptied_used depth m root base level path n index cut = written_in_use m n index 0 (slice_index path level) (cut.tree.in_use (levels depth - level) base (slice_index path level) (cut.reached level (omega arith) cut.below))
+pub emptied_used : (depth : Depth) (m : Memory) (root base level : ℕ) (path : List ℕ) (n index : ℕ) → IsCut depth m root base level path
+    → IsSome (finite.get (with_word m n index 0) (slice_index path level))
+emptied_used depth m root base level path n index cut =
+    written_in_use m n index 0 (slice_index path level) (cut.tree.in_use level base (slice_index path level) (cut.reached level (omega arith) cut.below))

@@ -3,7 +3,7 @@ use Rattle.std.proofs.Common.{◌≡◌, ◌≢◌, ℕ, zero, suc, ◌+◌, ◌
 use lib.Pow.{pow_pos, split, shr-shr}
 use Rattle.std.proofs.lemmas.Nat.{div-mul-add}
 use Rattle.std.specs.Prelude.{slice_index}
-use Rattle.vs_types.specs.Depth.{levels, entry_bytes, index_at, IsCanonical}
+use Rattle.vs_types.specs.Depth.{levels, entry_bytes, table_bytes, index_at, IsCanonical}
 use Rattle.vs_types.specs.Entry.{size_at}
 use Rattle.vs_types.specs.Page.{level_of, bytes_of, covers, IsPage}
 use Rattle.vs_types.specs.Space.{Space, Holds, IsSpace, page_at}
@@ -14,6 +14,7 @@ use Rattle.vs_types.specs.declared.depth.Depth.TheVariants.{Four}
 use Rattle.vs_types.specs.declared.page.Page.{Page}
 use Rattle.vs_types.specs.declared.page.Rights.{Rights}
 use Rattle.vs_types.specs.declared.page.Size.{Size}
+use Rattle.vs_types.specs.declared.page.Size.TheVariants.{K4, M2, G1}
 use Rattle.vs_types.specs.declared.entry.Meaning.TheVariants as entry
 use Rattle.vs_types.specs.declared.answer.Answer.{Answer}
 use Rattle.vs_types.specs.declared.answer.Answer.TheVariants as answers
@@ -25,7 +26,7 @@ use Rattle.vs_walk.specs.declared.walk.Walk.TheVariants.{NotMapped, Mapped}
 use Rattle.vs_walk.proofs.Walks.{leaf_level}
 use Rattle.vs_space.specs.Path.{found_at, table_at, SamePath}
 use Rattle.vs_space.specs.inside.Tree.{IsTree}
-use Rattle.vs_space.proofs.Paths.{words_found, walk_ends}
+use Rattle.vs_space.proofs.Paths.{words_found, walk_leaf}
 
 -- ---- stretches
 
@@ -39,25 +40,32 @@ top_same Four a b is_a is_b same = ⊎_elim
 parts_same : (x y : ℕ) → x / 512 ≡ y / 512 → x % 512 ≡ y % 512 → x ≡ y
 parts_same x y p q = omega arith
 
--- addresses that take the same path lie in one stretch
-pub same_stretch : (depth : Depth) (k a b : ℕ) → IsCanonical depth a → IsCanonical depth b → suc k ≤ levels depth → SamePath (levels depth) (suc k) a b → a / 2 ^ (12 + 9 * (levels depth - suc k)) ≡ b / 2 ^ (12 + 9 * (levels depth - suc k))
-same_stretch depth zero a b is_a is_b few same = let one : levels depth - 1 ≡ levels depth - suc zero = omega arith in let first : levels depth - 0 ≡ levels depth = omega arith in top_same depth a b is_a is_b (subst (λ l. index_at l a ≡ index_at l b) first (same 0 (omega arith)))
-same_stretch depth (suc k) a b is_a is_b few same =
-    let above = same_stretch depth k a b is_a is_b (omega arith) (λ i lt. same i (omega arith)) in
-    let e = 12 + 9 * (levels depth - suc (suc k)) in
-    let up : 12 + 9 * (levels depth - suc k) ≡ e + 9 = omega arith in
-    let own : 3 + 9 * (levels depth - suc k) ≡ e = omega arith in
-    let high : a / 2 ^ e / 512 ≡ b / 2 ^ e / 512 = shr-shr a e 9 ∙ ap (λ n. a / 2 ^ n) (sym up) ∙ above ∙ ap (λ n. b / 2 ^ n) up ∙ sym (shr-shr b e 9) in
-    let low : a / 2 ^ e % 512 ≡ b / 2 ^ e % 512 = subst (λ n. a / 2 ^ n % 512 ≡ b / 2 ^ n % 512) own (same (suc k) (omega arith)) in
-    parts_same (a / 2 ^ e) (b / 2 ^ e) high low
+-- addresses that take the same path to a table lie in its stretch
+pub same_stretch : (depth : Depth) (level a b : ℕ) → IsCanonical depth a → IsCanonical depth b → level < levels depth → SamePath (levels depth) (suc level) a b
+    → a / table_bytes level ≡ b / table_bytes level
+same_stretch depth level a b is_a is_b low same = by (levels depth - 1 - level) level (omega arith) same where
+  by : (d level : ℕ) → d + level ≡ levels depth - 1 → SamePath (levels depth) (suc level) a b → a / table_bytes level ≡ b / table_bytes level
+  by zero level e same =
+      let highest : level ≡ levels depth - 1 = omega arith in
+      subst (λ l. a / table_bytes l ≡ b / table_bytes l) (sym highest) (top_same depth a b is_a is_b (same (levels depth) (omega arith) (omega arith)))
+  by (suc d) level e same =
+      let up : 12 + 9 * suc level ≡ 12 + 9 * level + 9 = omega arith in
+      let own : 3 + 9 * suc level ≡ 12 + 9 * level = omega arith in
+      let above = by d (suc level) (omega arith) (λ i from to. same i (omega arith) to) in
+      let high : a / table_bytes level / 512 ≡ b / table_bytes level / 512 =
+      shr-shr a (12 + 9 * level) 9 ∙ ap (λ n. a / 2 ^ n) (sym up) ∙ above ∙ ap (λ n. b / 2 ^ n) up ∙ sym (shr-shr b (12 + 9 * level) 9) in
+      let here : a / table_bytes level % 512 ≡ b / table_bytes level % 512 =
+      subst (λ n. a / 2 ^ n % 512 ≡ b / 2 ^ n % 512) own (same (suc level) (omega arith) (omega arith)) in
+      parts_same (a / table_bytes level) (b / table_bytes level) high here
 
--- addresses of one stretch take the same path
-pub stretch_same : (top k a b : ℕ) → suc k ≤ top → a / 2 ^ (12 + 9 * (top - suc k)) ≡ b / 2 ^ (12 + 9 * (top - suc k)) → SamePath top (suc k) a b
-stretch_same top k a b few same = λ i lt.
-    let e = 12 + 9 * (top - suc k) in
-    let d = 9 * (k - i) in
-    let level : 3 + 9 * (top - i) ≡ e + d = omega arith in
-    ap (λ n. a / 2 ^ n % 512) level ∙ ap (λ x. x % 512) (sym (shr-shr a e d) ∙ ap (λ x. x / 2 ^ d) same ∙ shr-shr b e d) ∙ ap (λ n. b / 2 ^ n % 512) (sym level)
+-- addresses of one stretch take the same path to its table
+pub stretch_same : (top level a b : ℕ) → a / table_bytes level ≡ b / table_bytes level → SamePath top (suc level) a b
+stretch_same top level a b same = λ i from to.
+    let d = 9 * (i - suc level) in
+    let bits : 3 + 9 * i ≡ 12 + 9 * level + d = omega arith in
+    ap (λ n. a / 2 ^ n % 512) bits
+    ∙ ap (λ x. x % 512) (sym (shr-shr a (12 + 9 * level) d) ∙ ap (λ x. x / 2 ^ d) same ∙ shr-shr b (12 + 9 * level) d)
+    ∙ ap (λ n. b / 2 ^ n % 512) (sym bits)
 
 -- an aligned stretch has the addresses with its quotient
 pub block : (e base b : ℕ) → base % 2 ^ e ≡ 0 → base / 2 ^ e ≡ b / 2 ^ e → (base ≤ b) × (b < base + 2 ^ e) × (base + b % 2 ^ e ≡ b)
@@ -74,22 +82,35 @@ in_block e base b at low high =
     let parts : b ≡ base / 2 ^ e * 2 ^ e + (b - base) = omega arith in
     sym (ap (λ x. x / 2 ^ e) parts ∙ div-mul-add (base / 2 ^ e) (2 ^ e) (b - base) (omega arith))
 
--- a page has the canonical addresses that take its path
-module _ (depth : Depth) (q : Page) (good : IsPage depth q) (k : ℕ) (level : k + level_of q.size ≡ levels depth) where
-  few : suc k ≤ levels depth
-  few = omega (arith, level_some q.size)
+-- pages are smaller than what a root covers
+pub below_root : (depth : Depth) (size : Size) → level_of size < levels depth
+below_root Four K4 = omega arith
+below_root Four M2 = omega arith
+below_root Four G1 = omega arith
 
-  exponent : 12 + 9 * (levels depth - suc k) ≡ 3 + 9 * level_of q.size
+-- a page has the canonical addresses that take its path
+module _ (depth : Depth) (q : Page) (good : IsPage depth q) where
+  below : ℕ
+  below = level_of q.size - 1
+
+  own : level_of q.size ≡ suc (level_of q.size - 1)
+  own = omega (arith, level_some q.size)
+
+  exponent : 12 + 9 * (level_of q.size - 1) ≡ 3 + 9 * level_of q.size
   exponent = omega (arith, level_some q.size)
 
-  pub covers_path : (b : ℕ) → IsTrue (covers q b) → SamePath (levels depth) (suc k) q.base b
+  pub covers_path : (b : ℕ) → IsTrue (covers q b) → SamePath (levels depth) (level_of q.size) q.base b
   covers_path b covered =
       let at = (covers_means q b).0 covered in
-      stretch_same (levels depth) k q.base b few (subst (λ n. q.base / 2 ^ n ≡ b / 2 ^ n) (sym exponent) (in_block (3 + 9 * level_of q.size) q.base b good.aligned at.0 at.1))
+      subst (λ l. SamePath (levels depth) l q.base b) (sym own)
+      (stretch_same (levels depth) (level_of q.size - 1) q.base b
+      (subst (λ n. q.base / 2 ^ n ≡ b / 2 ^ n) (sym exponent) (in_block (3 + 9 * level_of q.size) q.base b good.aligned at.0 at.1)))
 
-  pub path_covers : (b : ℕ) → IsCanonical depth b → SamePath (levels depth) (suc k) q.base b → IsTrue (covers q b) × (q.base + b % bytes_of q.size ≡ b)
+  pub path_covers : (b : ℕ) → IsCanonical depth b → SamePath (levels depth) (level_of q.size) q.base b → IsTrue (covers q b) × (q.base + b % bytes_of q.size ≡ b)
   path_covers b canonical same =
-      let quotient = subst (λ n. q.base / 2 ^ n ≡ b / 2 ^ n) exponent (same_stretch depth k q.base b good.canonical canonical few same) in
+      let quotient = subst (λ n. q.base / 2 ^ n ≡ b / 2 ^ n) exponent
+      (same_stretch depth (level_of q.size - 1) q.base b good.canonical canonical (omega (arith, below_root depth q.size))
+      (subst (λ l. SamePath (levels depth) l q.base b) own same)) in
       let at = block (3 + 9 * level_of q.size) q.base b good.aligned quotient in
       ((covers_means q b).1 (at.0, at.1), at.2)
 
@@ -129,45 +150,60 @@ page_walked depth m root space a phys size rights translates canonical is =
           (q, e, cc, cc, cc)
     ] refl
 
--- the page whose leaf is met on the path of an address
-pub record IsLeafPage (depth : Depth) (space : Space) (a k phys : ℕ) (own : Rights) (q : Page) : Type 0 where
+-- the page whose leaf is met in the table of a level on the path of an address
+pub record IsLeafPage (depth : Depth) (space : Space) (a level phys : ℕ) (own : Rights) (q : Page) : Type 0 where
   pub here : page_at space a ≡ Some q
   pub held : Holds space q
   pub covered : IsTrue (covers q a)
   pub good : IsPage depth q
-  pub level : k + level_of q.size ≡ levels depth
-  pub size : q.size ≡ size_at (level_of q.size)
+  pub level_is : level_of q.size ≡ level
+  pub size : q.size ≡ size_at level
   pub base : q.base + a % bytes_of q.size ≡ a
   pub phys_is : q.phys ≡ phys
   pub rights : q.rights ≡ own
 
-pub leaf_page : (depth : Depth) (m : Memory) (root : ℕ) (space : Space) → IsSpace depth space → TranslatesAs depth m root space → IsTree (levels depth) m root → (a k left n phys : ℕ) (own : Rights) → IsCanonical depth a → k + suc left ≡ levels depth → table_at (levels depth) m root k a ≡ Some n → found_at (suc left) m n a ≡ Some (entry.Leaf phys own) → (q : Page) × IsLeafPage depth space a k phys own q
-leaf_page depth m root space is translates tree a k left n phys own canonical deep at found =
-    let words = words_found (suc left) m n a (entry.Leaf phys own) found in
-    let few = (leaf_level (suc left) (slice_index words.0 (index_at (suc left) a)) phys own words.2).0 in
-    let walked : walk depth m root a ≡ Mapped (phys + a % entry_bytes (suc left)) (size_at (suc left)) own = walk_ends (levels depth) root m tree.allows a k left n (entry.Leaf phys own) deep at found in
-    let page = page_walked depth m root space a (phys + a % entry_bytes (suc left)) (size_at (suc left)) own translates canonical walked in
+pub leaf_page : (depth : Depth) (m : Memory) (root : ℕ) (space : Space) → IsSpace depth space → TranslatesAs depth m root space → IsTree (levels depth) m root
+    → (a level n phys : ℕ) (own : Rights) → IsCanonical depth a → 1 ≤ level → table_at (levels depth) m root level a ≡ Some n
+    → found_at level m n a ≡ Some (entry.Leaf phys own) → (q : Page) × IsLeafPage depth space a level phys own q
+leaf_page depth m root space is translates tree a level n phys own canonical some at found =
+    let words = words_found level m n a (entry.Leaf phys own) found in
+    let few = (leaf_level level (slice_index words.0 (index_at level a)) phys own words.2).0 in
+    let walked : walk depth m root a ≡ Mapped (phys + a % entry_bytes level) (size_at level) own = walk_leaf (levels depth) root m tree.allows a level n phys own some at found in
+    let page = page_walked depth m root space a (phys + a % entry_bytes level) (size_at level) own translates canonical walked in
     let q = page.0 in
     let there = (page_at_means is a q).0 page.1 in
     let good = is.well_formed q there.0 in
-    let level : level_of q.size ≡ suc left = ap level_of page.3 ∙ level_back (suc left) (omega arith) few in
-    let on : k + level_of q.size ≡ levels depth = omega arith in
-    let bytes : entry_bytes (suc left) ≡ bytes_of q.size = ap entry_bytes (sym level) in
+    let same : level_of q.size ≡ level = ap level_of page.3 ∙ level_back level (omega arith) few in
+    let bytes : entry_bytes level ≡ bytes_of q.size = ap entry_bytes (sym same) in
     let spans = (covers_means q a).0 there.1 in
     let in_page = block (3 + 9 * level_of q.size) q.base a good.aligned (in_block (3 + 9 * level_of q.size) q.base a good.aligned spans.0 spans.1) in
-    let offset : a % entry_bytes (suc left) ≡ a % bytes_of q.size = ap (λ n. a % n) bytes in
-    (q, record { here = page.1; held = there.0; covered = there.1; good = good; level = on; size = page.3 ∙ ap size_at (sym level); base = in_page.2; phys_is = omega (arith, page.2, in_page.2, offset); rights = page.4 })
+    let offset : a % entry_bytes level ≡ a % bytes_of q.size = ap (λ n. a % n) bytes in
+    (
+      q,
+      record {
+        here = page.1;
+        held = there.0;
+        covered = there.1;
+        good = good;
+        level_is = same;
+        size = page.3;
+        base = in_page.2;
+        phys_is = omega (arith, page.2, in_page.2, offset);
+        rights = page.4;
+      },
+    )
 
 -- ---- a space with another look at the addresses of a page
 
-pub translates_changed : (depth : Depth) (m m' : Memory) (root : ℕ) (before after : Space) (q : Page) (inside : ℕ → Answer) (k : ℕ) → LooksChanged q inside before after → TranslatesAs depth m root before → IsPage depth q → k + level_of q.size ≡ levels depth
-    → ((b : ℕ) → IsCanonical depth b → SamePath (levels depth) (suc k) q.base b → walk depth m' root b ≡ as_walk (inside b))
-    → ((b : ℕ) → IsCanonical depth b → (SamePath (levels depth) (suc k) q.base b → ⊥) → walk depth m' root b ≡ walk depth m root b)
+pub translates_changed : (depth : Depth) (m m' : Memory) (root : ℕ) (before after : Space) (q : Page) (inside : ℕ → Answer) → LooksChanged q inside before after
+    → TranslatesAs depth m root before → IsPage depth q
+    → ((b : ℕ) → IsCanonical depth b → SamePath (levels depth) (level_of q.size) q.base b → walk depth m' root b ≡ as_walk (inside b))
+    → ((b : ℕ) → IsCanonical depth b → (SamePath (levels depth) (level_of q.size) q.base b → ⊥) → walk depth m' root b ≡ walk depth m root b)
     → TranslatesAs depth m' root after
-translates_changed depth m m' root before after q inside k looks translates good level there elsewhere = λ b canonical.
+translates_changed depth m m' root before after q inside looks translates good there elsewhere = λ b canonical.
     elim (covers q b) as (λ c. covers q b ≡ c → walk depth m' root b ≡ as_walk (look after b)) [
-      | true ↦ λ covered. there b canonical (covers_path depth q good k level b covered) ∙ ap as_walk (sym (looks.there b covered))
+      | true ↦ λ covered. there b canonical (covers_path depth q good b covered) ∙ ap as_walk (sym (looks.there b covered))
       | false ↦ λ uncovered.
-          elsewhere b canonical (λ same. let covered = (path_covers depth q good k level b canonical same).0 in cc)
+          elsewhere b canonical (λ same. let covered = (path_covers depth q good b canonical same).0 in cc)
           ∙ translates b canonical ∙ ap as_walk (sym (looks.elsewhere b uncovered))
     ] refl

@@ -20,28 +20,28 @@ use Rattle.vs_walk.specs.declared.walk.Walk.TheVariants.{NotMapped, Reserved}
 use Rattle.vs_space.specs.Path.{found_at, entry_in, IsFirstPresent, table_in, table_at, SamePath}
 use Rattle.vs_space.specs.inside.Tree.{IsTree, IsFilled}
 use Rattle.vs_space.specs.inside.Grow.{IsLeastBase}
-use Rattle.vs_space.proofs.Paths.{table_next, same_table, walk_ends, words_found}
+use Rattle.vs_space.proofs.Paths.{table_below, same_table, walk_absent, walk_reserved, words_found}
 use Rattle.vs_space.proofs.Meets.{never_table}
-use Rattle.vs_space.proofs.Regions.{same_stretch, stretch_same, in_block}
+use Rattle.vs_space.proofs.Regions.{stretch_same, in_block}
 use Rattle.vs_space.proofs.Prunes.{found_entry, canonical_stretch}
 
 -- a table on the path down: it begins at the base, and nothing is mapped from the start up to there
 pub record IsSearching (depth : Depth) (m : Memory) (root start from level number base : ℕ) : Type 0 where
   pub canonical : IsCanonical depth base
   pub from_start : start ≤ base
-  pub same_path : SamePath (levels depth) (levels depth - from) start base
+  pub same_path : SamePath (levels depth) (suc from) start base
   pub before : (b : ℕ) → IsCanonical depth b → start ≤ b → b < base → walk depth m root b ≡ NotMapped
   pub some : 1 ≤ level
   pub within : level ≤ from
   pub below : level < levels depth
   pub aligned : base % table_bytes level ≡ 0
-  pub reached : table_at (levels depth) m root (levels depth - level) base ≡ Some number
+  pub reached : table_at (levels depth) m root level base ≡ Some number
 
-pub searching_start : (depth : Depth) (m : Memory) (root start from number : ℕ) → IsCanonical depth start → 1 ≤ from → from < levels depth → start % table_bytes from ≡ 0 → table_at (levels depth) m root (levels depth - from) start ≡ Some number → IsSearching depth m root start from from number start
+pub searching_start : (depth : Depth) (m : Memory) (root start from number : ℕ) → IsCanonical depth start → 1 ≤ from → from < levels depth → start % table_bytes from ≡ 0 → table_at (levels depth) m root from start ≡ Some number → IsSearching depth m root start from from number start
 searching_start depth m root start from number canonical some below aligned reached = record {
   canonical = canonical;
   from_start = omega arith;
-  same_path = λ i lt. refl;
+  same_path = λ i over under. refl;
   before = λ b is_b lo hi. absurd (omega arith);
   some = some;
   within = omega arith;
@@ -77,46 +77,23 @@ part e base b at low high =
         (omega arith, omega arith)
 
 module _ (depth : Depth) (m : Memory) (root start from level number base : ℕ) (tree : IsTree (levels depth) m root) (search : IsSearching depth m root start from level number base) where
-  back : levels depth - (levels depth - level) ≡ level
-  back = omega (arith, search.below)
-
-  k : ℕ
-  k = levels depth - level - 1
-
-  steps : levels depth - level ≡ suc (levels depth - level - 1)
-  steps = omega (arith, search.below)
-
-  exponent : 12 + 9 * (levels depth - suc (levels depth - level - 1)) ≡ 12 + 9 * level
-  exponent = omega (arith, search.below)
-
   wide : 12 + 9 * level ≡ 3 + 9 * level + 9
   wide = omega arith
 
   pub used : IsSome (finite.get m number)
-  used = tree.in_use (levels depth - level) base number search.reached
-
-  -- addresses of the table's stretch take its path
-  in_stretch : (b : ℕ) → base / 2 ^ (12 + 9 * level) ≡ b / 2 ^ (12 + 9 * level) → SamePath (levels depth) (levels depth - level) base b
-  in_stretch b same = subst (λ j. SamePath (levels depth) j base b) (sym steps) (stretch_same (levels depth) (levels depth - level - 1) base b (omega (arith, search.below)) (subst (λ n. base / 2 ^ n ≡ b / 2 ^ n) (sym exponent) same))
-
-  of_stretch : (b : ℕ) → IsCanonical depth b → SamePath (levels depth) (levels depth - level) base b → base / 2 ^ (12 + 9 * level) ≡ b / 2 ^ (12 + 9 * level)
-  of_stretch b is_b same = subst (λ n. base / 2 ^ n ≡ b / 2 ^ n) exponent (same_stretch depth (levels depth - level - 1) base b search.canonical is_b (omega (arith, search.below)) (subst (λ j. SamePath (levels depth) j base b) steps same))
+  used = tree.in_use level base number search.reached
 
   -- an address of the stretch whose entry is absent
-  quiet : (b : ℕ) → SamePath (levels depth) (levels depth - level) base b → entry_in level m number (index_at level b) ≡ Some entry.Absent → walk depth m root b ≡ NotMapped
+  quiet : (b : ℕ) → SamePath (levels depth) (suc level) base b → entry_in level m number (index_at level b) ≡ Some entry.Absent → walk depth m root b ≡ NotMapped
   quiet b same absent =
-      let there = sym (same_table (levels depth) root m (levels depth - level) base b same) ∙ search.reached in
-      let up : level ≡ suc (level - 1) = omega (arith, search.some) in
-      walk_ends (levels depth) root m tree.allows b (levels depth - level) (level - 1) number entry.Absent (omega (arith, search.some, search.below)) there (subst (λ l. found_at l m number b ≡ Some entry.Absent) up (found_entry level m number b ∙ absent))
+      walk_absent (levels depth) root m tree.allows b level number search.some
+      (sym (same_table (levels depth) root m level base b same) ∙ search.reached) (found_entry level m number b ∙ absent)
 
   -- the table has an entry that is present
   pub not_empty : IsFilled depth m root → ((i : ℕ) → i < 512 → entry_in level m number i ≡ Some entry.Absent) → ⊥
-  not_empty filled empty =
-      filled.filled (levels depth - level - 1) base number (subst (λ j. table_at (levels depth) m root j base ≡ Some number) steps search.reached)
-      (λ b is_b same. quiet b (subst (λ j. SamePath (levels depth) j base b) (sym steps) same) (empty (index_at level b) (index_low b)))
-    where
-      index_low : (b : ℕ) → index_at level b < 512
-      index_low b = omega arith
+  not_empty filled empty = filled.filled level base number search.below search.reached (λ b is_b same. quiet b same (empty (index_at level b) (index_low b))) where
+    index_low : (b : ℕ) → index_at level b < 512
+    index_low b = omega arith
 
   module _ (index : ℕ) (first : IsFirstPresent level m number index) (next : ℕ) (next_is : next ≡ base + index * 2 ^ (3 + 9 * level)) where
     aligned_wide : base % 2 ^ (3 + 9 * level + 9) ≡ 0
@@ -144,14 +121,14 @@ module _ (depth : Depth) (m : Memory) (root start from level number base : ℕ) 
         ∙ sym (sym (shr-shr next (3 + 9 * level) 9) ∙ ap (λ y. y / 512) quotient_next ∙ div-mul-add (base / 2 ^ (3 + 9 * level + 9)) 512 index first.within)
         ∙ ap (λ n. next / 2 ^ n) (sym wide)
 
-    pub next_path : SamePath (levels depth) (levels depth - level) base next
-    next_path = in_stretch next quotient_same
+    pub next_path : SamePath (levels depth) (suc level) base next
+    next_path = stretch_same (levels depth) level base next quotient_same
 
     pub next_canonical : IsCanonical depth next
     next_canonical = canonical_stretch depth base next (12 + 9 * level) search.canonical (omega (arith, search.below)) quotient_same
 
-    pub next_reached : table_at (levels depth) m root (levels depth - level) next ≡ Some number
-    next_reached = sym (same_table (levels depth) root m (levels depth - level) base next next_path) ∙ search.reached
+    pub next_reached : table_at (levels depth) m root level next ≡ Some number
+    next_reached = sym (same_table (levels depth) root m level base next next_path) ∙ search.reached
 
     pub next_aligned : next % 2 ^ (3 + 9 * level) ≡ 0
     next_aligned = ap (λ x. x % 2 ^ (3 + 9 * level)) (sum_is ∙ sym (plus_zero _)) ∙ mod-mul-add (base / 2 ^ (3 + 9 * level + 9) * 512 + index) (2 ^ (3 + 9 * level)) 0 (pow_pos (3 + 9 * level)) where
@@ -171,7 +148,7 @@ module _ (depth : Depth) (m : Memory) (root start from level number base : ℕ) 
         let places = part (3 + 9 * level) base b aligned_wide later inside in
         let earlier : index_at level b < index = less (2 ^ (3 + 9 * level)) base b (index_at level b) index (pow_pos (3 + 9 * level)) places.0 (omega (arith, next_is, high)) in
         let wide_same : base / 2 ^ (12 + 9 * level) ≡ b / 2 ^ (12 + 9 * level) = subst (λ n. base / 2 ^ n ≡ b / 2 ^ n) (sym wide) (in_block (3 + 9 * level + 9) base b aligned_wide later inside) in
-        quiet b (in_stretch b wide_same) (first.before (index_at level b) earlier))
+        quiet b (stretch_same (levels depth) level base b wide_same) (first.before (index_at level b) earlier))
         (cases_lt b base)
       where
         room : (u v : ℕ) → v ≡ u * 512 → index < 512 → index * u ≤ v
@@ -184,23 +161,20 @@ module _ (depth : Depth) (m : Memory) (root start from level number base : ℕ) 
     search_on found own is deep = record {
       canonical = next_canonical;
       from_start = omega (arith, search.from_start, from_base);
-      same_path = λ i lt. search.same_path i lt ∙ next_path i (omega (arith, lt, search.within));
+      same_path = λ i over under. search.same_path i over under ∙ next_path i (omega (arith, over, search.within)) under;
       before = next_before;
       some = omega arith;
       within = omega (arith, search.within);
       below = omega (arith, search.below);
       aligned = let e : 12 + 9 * (level - 1) ≡ 3 + 9 * level = omega arith in subst (λ n. next % 2 ^ n ≡ 0) (sym e) next_aligned;
-      reached =
-          let up : suc (levels depth - level) ≡ levels depth - (level - 1) = omega (arith, search.below) in
-          subst (λ j. table_at (levels depth) m root j next ≡ Some found) up
-          (table_next (levels depth) root m (levels depth - level) next number next_reached ∙ ap (λ l. table_in (found_at l m number next)) back ∙ ap table_in is);
+      reached = table_below (levels depth) root m level (level - 1) next number (omega (arith, search.some)) next_reached ∙ ap table_in is;
     }
 
-    pub search_ends : (phys : ℕ) (own : Rights) → found_at level m number next ≡ Some (entry.Leaf phys own) → IsLeastBase depth m root start (levels depth - from) next
+    pub search_ends : (phys : ℕ) (own : Rights) → found_at level m number next ≡ Some (entry.Leaf phys own) → IsLeastBase depth m root start from next
     search_ends phys own is = record {
       canonical = next_canonical;
       from_start = omega (arith, search.from_start, from_base);
-      same_path = λ i lt. search.same_path i lt ∙ next_path i (omega (arith, lt, search.within));
+      same_path = λ i over under. search.same_path i over under ∙ next_path i (omega (arith, over, search.within)) under;
       before = next_before;
       leaf = record {
         level = level;
@@ -216,11 +190,10 @@ module _ (depth : Depth) (m : Memory) (root start from level number base : ℕ) 
     }
 
     -- the entry is present: it leads to a table, or is a leaf
-    pub present_ends : ((b : ℕ) → IsCanonical depth b → walk depth m root b ≢ Reserved) → (e : Meaning) → found_at level m number next ≡ Some e → ((n : ℕ) (own : Rights) → e ≢ entry.Table n own) → IsLeastBase depth m root start (levels depth - from) next
+    pub present_ends : ((b : ℕ) → IsCanonical depth b → walk depth m root b ≢ Reserved) → (e : Meaning) → found_at level m number next ≡ Some e → ((n : ℕ) (own : Rights) → e ≢ entry.Table n own) → IsLeastBase depth m root start from next
     present_ends faultless entry.Absent is other = absurd (first.present (subst (λ i. entry_in level m number i ≡ Some entry.Absent) next_index (sym (found_entry level m number next) ∙ is)))
     present_ends faultless entry.Reserved is other =
-        let up : level ≡ suc (level - 1) = omega (arith, search.some) in
-        absurd (faultless next next_canonical (walk_ends (levels depth) root m tree.allows next (levels depth - level) (level - 1) number entry.Reserved (omega (arith, search.some, search.below)) next_reached (subst (λ l. found_at l m number next ≡ Some entry.Reserved) up is)))
+        absurd (faultless next next_canonical (walk_reserved (levels depth) root m tree.allows next level number search.some next_reached is))
     present_ends faultless (entry.Leaf phys own) is other = search_ends phys own is
     present_ends faultless (entry.Table n own) is other = absurd (other n own refl)
 

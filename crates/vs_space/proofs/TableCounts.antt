@@ -52,31 +52,15 @@ module _ {depth : Depth} {space : Space} (is : IsSpace depth space) (page : Page
 -- ---- whether a smaller page begins in the stretch of an address, by the walks
 
 module _ (depth : Depth) (m : Memory) (root : ℕ) (space : Space) (is : IsSpace depth space) (translates : TranslatesAs depth m root space) (base : ℕ) (canonical : IsCanonical depth base) (level : ℕ) (below : level < levels depth) where
-  k : ℕ
-  k = levels depth - level - 1
-
-  steps : levels depth - level ≡ suc (levels depth - level - 1)
-  steps = omega arith
-
-  exponent : 12 + 9 * (levels depth - suc (levels depth - level - 1)) ≡ 12 + 9 * level
-  exponent = omega arith
-
-  -- addresses of the stretch take one path
-  in_stretch : (b : ℕ) → base / table_bytes level ≡ b / table_bytes level → SamePath (levels depth) (levels depth - level) base b
-  in_stretch b same = subst (λ j. SamePath (levels depth) j base b) (sym steps) (stretch_same (levels depth) (levels depth - level - 1) base b (omega arith) (subst (λ n. base / 2 ^ n ≡ b / 2 ^ n) (sym exponent) same))
-
-  of_stretch : (b : ℕ) → IsCanonical depth b → SamePath (levels depth) (levels depth - level) base b → base / table_bytes level ≡ b / table_bytes level
-  of_stretch b is_b same = subst (λ n. base / 2 ^ n ≡ b / 2 ^ n) exponent (same_stretch depth (levels depth - level - 1) base b canonical is_b (omega arith) (subst (λ j. SamePath (levels depth) j base b) steps same))
-
   -- where nothing is mapped, no page begins
-  pub none_begins : NothingUnder depth m root (levels depth - level) base → is_member nat_eq (stretches level space) (base / table_bytes level) ≡ false
+  pub none_begins : NothingUnder depth m root (suc level) base → is_member nat_eq (stretches level space) (base / table_bytes level) ≡ false
   none_begins nothing =
       elim (is_member nat_eq (stretches level space) (base / table_bytes level)) as (λ t. is_member nat_eq (stretches level space) (base / table_bytes level) ≡ t → t ≡ false) [
         | true ↦ λ t.
             let found = member_comes (λ (p : Page). p.base / table_bytes level) (λ p. nat_lt (bytes_of p.size) (table_bytes level)) (pages space) (base / table_bytes level) t in
             let held = (holds_listed is found.0).0 found.1 in
             let good = is.well_formed found.0 held in
-            absurd (walked_to_page depth m root space found.0.base found.0 translates good.canonical ((page_at_means is found.0.base found.0).1 (held, covers_base found.0)) (nothing found.0.base good.canonical (in_stretch found.0.base (sym found.3))))
+            absurd (walked_to_page depth m root space found.0.base found.0 translates good.canonical ((page_at_means is found.0.base found.0).1 (held, covers_base found.0)) (nothing found.0.base good.canonical (stretch_same (levels depth) level base found.0.base (sym found.3))))
         | false ↦ λ t. refl
       ] refl
 
@@ -111,25 +95,27 @@ module _ (depth : Depth) (m : Memory) (root : ℕ) (space : Space) (is : IsSpace
       own = let spans = (covers_means q b).0 held.1 in in_block (3 + 9 * level_of q.size) q.base b good.aligned spans.0 spans.1
 
   -- where something is mapped, and no page has the base, a smaller page begins
-  pub some_begins : (NothingUnder depth m root (levels depth - level) base → ⊥) → page_at space base ≡ None → is_member nat_eq (stretches level space) (base / table_bytes level) ≡ true
+  pub some_begins : (NothingUnder depth m root (suc level) base → ⊥) → page_at space base ≡ None → is_member nat_eq (stretches level space) (base / table_bytes level) ≡ true
   some_begins something none =
       elim (is_member nat_eq (stretches level space) (base / table_bytes level)) as (λ t. is_member nat_eq (stretches level space) (base / table_bytes level) ≡ t → t ≡ true) [
         | true ↦ λ t. refl
         | false ↦ λ t. absurd (something (λ b is_b same.
             elim (page_at space b) as (λ o. page_at space b ≡ o → walk depth m root b ≡ NotMapped) [
               | None ↦ λ e. walked_to_nothing depth m root space b translates is_b e
-              | Some q ↦ λ e. let yes = begins_there none b q e (of_stretch b is_b same) in absurd (cc)
+              | Some q ↦ λ e. let yes = begins_there none b q e (same_stretch depth level base b canonical is_b below same) in absurd (cc)
             ] refl))
       ] refl
 
 -- what a page adds to the table count, where the path of its base ends at the table of this level
-pub count_added : (depth : Depth) (m : Memory) (root : ℕ) (space : Space) (page : Page) (level : ℕ) → IsSpace depth space → TranslatesAs depth m root space → IsPage depth page → IsSpace depth (finite.insert space page.base page) → ((q : Page) → Holds space q → q.base ≢ page.base) → page_at space page.base ≡ None
-    → level_of page.size ≤ level → level ≤ levels depth → NothingUnder depth m root (suc (levels depth - level)) page.base → ((j : ℕ) → 0 < j → j ≤ levels depth - level → NothingUnder depth m root j page.base → ⊥)
+pub count_added : (depth : Depth) (m : Memory) (root : ℕ) (space : Space) (page : Page) (level : ℕ) → IsSpace depth space → TranslatesAs depth m root space
+    → IsPage depth page → IsSpace depth (finite.insert space page.base page) → ((q : Page) → Holds space q → q.base ≢ page.base) → page_at space page.base ≡ None
+    → level_of page.size ≤ level → level ≤ levels depth → NothingUnder depth m root level page.base
+    → ((j : ℕ) → level < j → j ≤ levels depth → NothingUnder depth m root j page.base → ⊥)
     → table_count depth (finite.insert space page.base page) ≡ (level - level_of page.size) + table_count depth space
 count_added depth m root space page level is translates good is_new absent none own below nothing something =
     let added = levels_added is page is_new absent level own
-    (λ l from to. none_begins depth m root space is translates page.base good.canonical l (omega arith) (λ b is_b same. nothing b is_b (λ i lt. same i (omega arith))))
+    (λ l from to. none_begins depth m root space is translates page.base good.canonical l (omega arith) (λ b is_b same. nothing b is_b (λ i over under. same i (omega arith) under)))
     (levels depth - 1)
-    (λ l from to. some_begins depth m root space is translates page.base good.canonical l (omega (arith, level_some page.size)) (something (levels depth - l) (omega (arith, level_some page.size)) (omega arith)) none)
+    (λ l from to. some_begins depth m root space is translates page.base good.canonical l (omega (arith, level_some page.size)) (something (suc l) (omega arith) (omega (arith, level_some page.size))) none)
     (omega (arith, level_some page.size)) in
     omega arith

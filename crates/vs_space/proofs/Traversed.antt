@@ -1,9 +1,10 @@
 -- The path through all tables of a tree: it reaches each frame in use once, and no other, and it meets no fault where the
 -- memory translates as a space.
-use Rattle.std.proofs.Common.{◌≡◌, ℕ, zero, suc, ◌+◌, ◌-◌, ◌*◌, ◌/◌, ◌%◌, ◌^◌, ◌==◌, ◌<◌, ◌≤◌, List, [], ◌∷◌, ◌++◌, Option, Some, None, Bool, true, false, not, if◌then◌else◌, length, get_or, flat_map, Contains, IsTrue, ⊎_elim, refl, sym, ap, subst, ◌∙◌, arith, mod-lt}
+use Rattle.std.proofs.Common.{◌≡◌, ◌≢◌, ℕ, zero, suc, ◌+◌, ◌-◌, ◌*◌, ◌/◌, ◌%◌, ◌^◌, ◌==◌, ◌<◌, ◌≤◌, List, [], ◌∷◌, ◌++◌, Option, Some, None, Bool, true, false, not, if◌then◌else◌, length, get_or, flat_map, Contains, IsTrue, ⊎_elim, refl, sym, ap, subst, ◌∙◌, arith, mod-lt}
 use Rattle.std.specs.Prelude.{⊤, IsSome, option_map, slice_index}
 use Rattle.std.specs.List.{enumerate_from}
 use Rattle.std.proofs.lemmas.Nat.{div-mul-add}
+use Rattle.std.proofs.lemmas.Bool.{cases_eq}
 use Rattle.std.proofs.lemmas.List.Elements.{Contains-append_cases, Contains-append_right, filter_map-append}
 use Rattle.std.specs.FinMap as finite
 use Rattle.vs_types.specs.Depth.{levels, entry_bytes, table_bytes, index_at}
@@ -32,7 +33,7 @@ use Rattle.vs_walk.specs.Ways.{AreWhole}
 use Rattle.vs_space.specs.Path.{found_at, table_in, table_at, SamePath}
 use Rattle.vs_space.specs.inside.Tree.{IsTree, IsReached}
 use Rattle.vs_space.specs.inside.Invariant.{IsPageTable}
-use Rattle.vs_space.proofs.Paths.{words_found, table_first, table_next, none_past, table_before, same_table}
+use Rattle.vs_space.proofs.Paths.{words_found, reached_within, table_first, table_next, none_past, table_before, same_table}
 use Rattle.vs_space.proofs.Writes.{same_longer}
 use Rattle.vs_space.proofs.Regions.{stretch_same}
 use Rattle.vs_space.proofs.Trees.{one_some}
@@ -114,115 +115,111 @@ above_zero zero word number own says = absurd (no_table_below word number own sa
 above_zero (suc level) word number own says = omega arith
 
 -- where a table begins, and what lies in it, take the same path to it
-path_into : (top k level times start rest : ℕ) → k + level ≡ top → start ≡ times * table_bytes level → rest < table_bytes level → SamePath top k start (start + rest)
-path_into top zero level times start rest deep is lt = λ i less. absurd (omega arith)
-path_into top (suc k) level times start rest deep is lt =
+path_into : (top level times start rest : ℕ) → start ≡ times * table_bytes level → rest < table_bytes level → SamePath top (suc level) start (start + rest)
+path_into top level times start rest is lt =
     let bytes : ℕ = table_bytes level in
     let own : start / bytes ≡ times = ap (λ n. n / bytes) (is ∙ omega arith) ∙ div-mul-add times bytes 0 (omega arith) in
     let other : (start + rest) / bytes ≡ times = ap (λ n. (n + rest) / bytes) is ∙ div-mul-add times bytes rest lt in
-    let here : level ≡ top - suc k = omega arith in
-    stretch_same top k start (start + rest) (omega arith) (subst (λ l. start / 2 ^ (12 + 9 * l) ≡ (start + rest) / 2 ^ (12 + 9 * l)) here (own ∙ sym other))
+    stretch_same top level start (start + rest) (own ∙ sym other)
 
 -- ---- tables on their paths
 
 module _ (depth : Depth) (top : ℕ) (root : ℕ) (m : Memory) (whole : AreWhole m) where
-  -- the table is reached after k entries, on the path of the address at which it begins
-  record IsOnPath (k level : ℕ) (table : ReachedTable) : Type 0 where
-    deep : k + level ≡ top
+  -- the table is reached on the path of the address at which it begins
+  record IsOnPath (level : ℕ) (table : ReachedTable) : Type 0 where
     descended : IsPlaced level table
-    at : table_at top m root k table.start ≡ Some table.number
+    at : table_at top m root level table.start ≡ Some table.number
 
-  root_on_path : IsOnPath 0 top (record { number = root; start = 0; rights = all_rights })
-  root_on_path = record { deep = omega arith; descended = root_placed top root; at = table_first top root m 0 }
+  root_on_path : IsOnPath top (record { number = root; start = 0; rights = all_rights })
+  root_on_path = record { descended = root_placed top root; at = table_first top root m 0 }
 
   -- an entry of a table on its path
-  module _ (k level : ℕ) (table : ReachedTable) (on : IsOnPath k (suc level) table) (words : List ℕ) (is : finite.get m table.number ≡ Some words) (index : ℕ) (within : index < 512) where
-    entry_path : SamePath top k table.start (entry_start level table index)
-    entry_path = subst (λ r. SamePath top k table.start (table.start + r)) (omega arith) (path_into top k (suc level) on.descended.times table.start (index * entry_bytes (suc level) + 0) on.deep on.descended.at (offset_fits level index 0 within (entry_some (suc level))))
+  module _ (level : ℕ) (table : ReachedTable) (on : IsOnPath (suc level) table) (words : List ℕ) (is : finite.get m table.number ≡ Some words) (index : ℕ) (within : index < 512) where
+    entry_path : SamePath top (suc (suc level)) table.start (entry_start level table index)
+    entry_path = subst (λ r. SamePath top (suc (suc level)) table.start (table.start + r)) (omega arith)
+        (path_into top (suc level) on.descended.times table.start (index * entry_bytes (suc level) + 0) on.descended.at (offset_fits level index 0 within (entry_some (suc level))))
 
-    own_level : top - k ≡ suc level
-    own_level = omega (arith, on.deep)
-
-    entry_index : index_at (top - k) (entry_start level table index) ≡ index
+    entry_index : index_at (suc level) (entry_start level table index) ≡ index
     entry_index =
-        ap (λ l. index_at l (entry_start level table index)) own_level
-        ∙ (at_entry level on.descended.times index 0 (entry_start level table index) within (entry_some (suc level)) (ap (λ n. n + index * entry_bytes (suc level)) on.descended.at ∙ omega arith)).0
+        (at_entry level on.descended.times index 0 (entry_start level table index) within (entry_some (suc level))
+        (ap (λ n. n + index * entry_bytes (suc level)) on.descended.at ∙ omega arith)).0
 
     -- the table to which it leads is on its path
-    next_on_path : (number : ℕ) (own : Rights) → meaning (suc level) (get_or words index 0) ≡ entry.Table number own → IsOnPath (suc k) level (next_table level table index number own)
+    next_on_path : (number : ℕ) (own : Rights) → meaning (suc level) (get_or words index 0) ≡ entry.Table number own → IsOnPath level (next_table level table index number own)
     next_on_path number own says = record {
-      deep = omega (arith, on.deep);
       descended = place_below level table index number own on.descended;
-      at = table_next top root m k _ table.number (sym (same_table top root m k _ _ entry_path) ∙ on.at)
-          ∙ ap table_in (found_in (top - k) m table.number _ index words (entry.Table number own) is entry_index (subst (λ l. meaning l (get_or words index 0) ≡ entry.Table number own) (sym own_level) says));
+      at = table_next top root m level _ table.number (sym (same_table top root m (suc level) _ _ entry_path) ∙ on.at)
+          ∙ ap table_in (found_in (suc level) m table.number _ index words (entry.Table number own) is entry_index says);
     }
 
     -- and what is met there is met in the table
-    next_is_met : (number : ℕ) (own : Rights) (move : Visit) → meaning (suc level) (get_or words index 0) ≡ entry.Table number own → Contains (table_visits depth m level (next_table level table index number own)) move → Contains (table_visits depth m (suc level) table) move
+    next_is_met : (number : ℕ) (own : Rights) (move : Visit) → meaning (suc level) (get_or words index 0) ≡ entry.Table number own
+        → Contains (table_visits depth m level (next_table level table index number own)) move → Contains (table_visits depth m (suc level) table) move
     next_is_met number own move says met =
         word_is_met depth m level table words index move is (omega (arith, whole table.number words is))
         (subst (λ means. Contains (entry_visits depth (suc level) table index (λ next. table_visits depth m level next) means) move) (sym says) met)
 
   -- ---- what is reached is on a path
 
-  -- a path to the frame takes the first k entries as this one does
-  record IsUnder (k start n : ℕ) : Type 0 where
-    steps : ℕ
+  -- a path to the frame, at this level or below, takes the entries that lead to the table of this level
+  record IsUnder (level start n : ℕ) : Type 0 where
+    lower : ℕ
     address : ℕ
-    below : k ≤ steps
-    path : SamePath top k start address
-    at : table_at top m root steps address ≡ Some n
+    below : lower ≤ level
+    path : SamePath top (suc level) start address
+    at : table_at top m root lower address ≡ Some n
 
   -- and then the entry at this index
-  record IsThrough (k start index n : ℕ) : Type 0 where
-    steps : ℕ
+  record IsThrough (level start index n : ℕ) : Type 0 where
+    lower : ℕ
     address : ℕ
-    below : k < steps
-    path : SamePath top k start address
-    turns : index_at (top - k) address ≡ index
-    at : table_at top m root steps address ≡ Some n
+    below : lower < level
+    path : SamePath top (suc level) start address
+    turns : index_at level address ≡ index
+    at : table_at top m root lower address ≡ Some n
 
-  through : (k level : ℕ) (table : ReachedTable) (on : IsOnPath k (suc level) table) (words : List ℕ) → finite.get m table.number ≡ Some words
-      → ((next : ReachedTable) → IsOnPath (suc k) level next → (n : ℕ) → Contains (table_visits depth m level next) (OfFrame n) → IsUnder (suc k) next.start n)
-      → (index n : ℕ) → index < length words → Contains (at_word_met depth m level table (index, get_or words index 0)) (OfFrame n) → IsThrough k table.start index n
-  through k level table on words is lower index n lt met =
+  through : (level : ℕ) (table : ReachedTable) (on : IsOnPath (suc level) table) (words : List ℕ) → finite.get m table.number ≡ Some words
+      → ((next : ReachedTable) → IsOnPath level next → (n : ℕ) → Contains (table_visits depth m level next) (OfFrame n) → IsUnder level next.start n)
+      → (index n : ℕ) → index < length words → Contains (at_word_met depth m level table (index, get_or words index 0)) (OfFrame n) → IsThrough (suc level) table.start index n
+  through level table on words is lower index n lt met =
       let within : index < 512 = omega (arith, whole table.number words is) in
       let into = into_table depth level table index (λ next. table_visits depth m level next) (meaning (suc level) (get_or words index 0)) n met in
-      let under = lower (next_table level table index into.0 into.1) (next_on_path k level table on words is index within into.0 into.1 into.2) n into.3 in
+      let under = lower (next_table level table index into.0 into.1) (next_on_path level table on words is index within into.0 into.1 into.2) n into.3 in
       record {
-        steps = under.steps;
+        lower = under.lower;
         address = under.address;
         below = omega (arith, under.below);
-        path = λ i less. entry_path k level table on words is index within i less ∙ under.path i (omega arith);
-        turns = sym (under.path k (omega arith)) ∙ entry_index k level table on words is index within;
+        path = λ i over to. entry_path level table on words is index within i over to ∙ under.path i (omega arith) to;
+        turns = sym (under.path (suc level) (omega arith) (reached_within top root m (suc level) table.start table.number on.at)) ∙ entry_index level table on words is index within;
         at = under.at;
       }
 
-  own_under : (k level : ℕ) (table : ReachedTable) (n : ℕ) → IsOnPath k level table → table.number ≡ n → IsUnder k table.start n
-  own_under k level table n on same = record {
-    steps = k;
+  own_under : (level : ℕ) (table : ReachedTable) (n : ℕ) → IsOnPath level table → table.number ≡ n → IsUnder level table.start n
+  own_under level table n on same = record {
+    lower = level;
     address = table.start;
     below = omega arith;
-    path = λ i less. refl;
+    path = λ i over to. refl;
     at = on.at ∙ ap Some same;
   }
 
-  from_through : {k start index n : ℕ} → IsThrough k start index n → IsUnder k start n
-  from_through {k} {start} {index} {n} t = record { steps = t.steps; address = t.address; below = omega (arith, t.below); path = t.path; at = t.at }
+  from_through : {level start index n : ℕ} → IsThrough level start index n → IsUnder level start n
+  from_through {level} {start} {index} {n} t = record { lower = t.lower; address = t.address; below = omega (arith, t.below); path = t.path; at = t.at }
 
-  table_reaches : (k level : ℕ) (table : ReachedTable) → IsOnPath k level table → (n : ℕ) → Contains (table_visits depth m level table) (OfFrame n) → IsUnder k table.start n
-  table_reaches k zero table on n met = absurd (not_in_nil _ (subst (λ ms. Contains ms (OfFrame n)) (nothing_met depth m table) met))
-  table_reaches k (suc level) table on n met =
-      elim (finite.get m table.number) as (λ o. finite.get m table.number ≡ o → IsUnder k table.start n) [
+  table_reaches : (level : ℕ) (table : ReachedTable) → IsOnPath level table → (n : ℕ) → Contains (table_visits depth m level table) (OfFrame n) → IsUnder level table.start n
+  table_reaches zero table on n met = absurd (not_in_nil _ (subst (λ ms. Contains ms (OfFrame n)) (nothing_met depth m table) met))
+  table_reaches (suc level) table on n met =
+      elim (finite.get m table.number) as (λ o. finite.get m table.number ≡ o → IsUnder (suc level) table.start n) [
         | None ↦ λ is. ⊎_elim
-            (λ same. own_under k (suc level) table n on (one_number table.number n same))
+            (λ same. own_under (suc level) table n on (one_number table.number n same))
             (λ later. absurd (not_in_nil _ later))
             (Contains-cases (OfFrame table.number) [] (OfFrame n) (subst (λ ms. Contains ms (OfFrame n)) (missing_met depth m level table is) met))
         | Some words ↦ λ is. ⊎_elim
-            (λ same. own_under k (suc level) table n on (one_number table.number n same))
+            (λ same. own_under (suc level) table n on (one_number table.number n same))
             (λ later.
             let at = contained_at_some_word (at_word_met depth m level table) words 0 (OfFrame n) later in
-            from_through (through k level table on words is (λ next. table_reaches (suc k) level next) at.0 n at.1 (subst (λ i. Contains (at_word_met depth m level table (i, get_or words at.0 0)) (OfFrame n)) (omega arith) at.2)))
+            from_through (through level table on words is (λ next. table_reaches level next) at.0 n at.1
+            (subst (λ i. Contains (at_word_met depth m level table (i, get_or words at.0 0)) (OfFrame n)) (omega arith) at.2)))
             (Contains-cases (OfFrame table.number) _ (OfFrame n) (subst (λ ms. Contains ms (OfFrame n)) (table_met depth m level table words is) met))
       ] refl
     where
@@ -233,67 +230,74 @@ module _ (depth : Depth) (top : ℕ) (root : ℕ) (m : Memory) (whole : AreWhole
 
   module _ (tree : IsTree top m root) where
     -- paths to one frame take the same entry
-    one_turn : (k start i j n : ℕ) → IsThrough k start i n → IsThrough k start j n → i ≡ j
-    one_turn k start i j n left right =
-        let both = tree.once left.steps right.steps left.address right.address n left.at right.at in
-        sym left.turns ∙ both.1 k left.below ∙ right.turns
+    one_turn : (level start i j n : ℕ) → level ≤ top → IsThrough level start i n → IsThrough level start j n → i ≡ j
+    one_turn level start i j n le left right =
+        let both = tree.once left.lower right.lower left.address right.address n left.at right.at in
+        sym left.turns ∙ both.1 level left.below le ∙ right.turns
 
     -- and none goes through the frame itself
-    not_own : (k level : ℕ) (table : ReachedTable) → IsOnPath k level table → (index : ℕ) → IsThrough k table.start index table.number → ⊥
-    not_own k level table on index t =
-        let both = tree.once k t.steps table.start t.address table.number on.at t.at in
+    not_own : (level : ℕ) (table : ReachedTable) → IsOnPath level table → (index : ℕ) → IsThrough level table.start index table.number → ⊥
+    not_own level table on index t =
+        let both = tree.once level t.lower table.start t.address table.number on.at t.at in
         omega (arith, both.0, t.below)
 
-    table_once : (k level : ℕ) (table : ReachedTable) → IsOnPath k level table → Once (reached (table_visits depth m level table))
-    table_once k zero table on = subst (λ ms. Once (reached ms)) (sym (nothing_met depth m table)) tt
-    table_once k (suc level) table on =
+    table_once : (level : ℕ) (table : ReachedTable) → IsOnPath level table → Once (reached (table_visits depth m level table))
+    table_once zero table on = subst (λ ms. Once (reached ms)) (sym (nothing_met depth m table)) tt
+    table_once (suc level) table on =
         elim (finite.get m table.number) as (λ o. finite.get m table.number ≡ o → Once (reached (table_visits depth m (suc level) table))) [
           | None ↦ λ is. subst (λ ms. Once (reached ms)) (sym (missing_met depth m level table is)) (λ again. not_in_nil _ again, tt)
           | Some words ↦ λ is.
-              let by_index : (index n : ℕ) → index < length words → Contains (at_word_met depth m level table (index, get_or words index 0)) (OfFrame n) → IsThrough k table.start index n =
-              through k level table on words is (λ next. table_reaches (suc k) level next) in
+              let by_index : (index n : ℕ) → index < length words → Contains (at_word_met depth m level table (index, get_or words index 0)) (OfFrame n)
+              → IsThrough (suc level) table.start index n =
+              through level table on words is (λ next. table_reaches level next) in
               subst (λ ms. Once (reached ms)) (sym (table_met depth m level table words is)) (
                 λ again.
                     let at = contained_at_some_word (at_word_met depth m level table) words 0 (OfFrame table.number) (reached_is_met _ table.number again) in
-                    not_own k (suc level) table on at.0 (by_index at.0 table.number at.1 (subst (λ i. Contains (at_word_met depth m level table (i, get_or words at.0 0)) (OfFrame table.number)) (omega arith) at.2)),
-                words_once (at_word_met depth m level table) (IsThrough k table.start) words 0 (one_turn k table.start)
+                    not_own (suc level) table on at.0
+                    (by_index at.0 table.number at.1 (subst (λ i. Contains (at_word_met depth m level table (i, get_or words at.0 0)) (OfFrame table.number)) (omega arith) at.2)),
+                words_once (at_word_met depth m level table) (IsThrough (suc level) table.start) words 0
+                    (λ i j n. one_turn (suc level) table.start i j n (reached_within top root m (suc level) table.start table.number on.at))
                     (λ index lt. subst (λ i. Once (reached (at_word_met depth m level table (i, get_or words index 0)))) (omega arith)
                     (entry_once depth level table index (λ next. table_visits depth m level next) (meaning (suc level) (get_or words index 0))
-                    (λ number own says. table_once (suc k) level _ (next_on_path k level table on words is index (omega (arith, whole table.number words is)) number own says))))
-                    (λ index n lt met. subst (λ i. IsThrough k table.start i n) (omega arith) (by_index index n lt (subst (λ i. Contains (at_word_met depth m level table (i, get_or words index 0)) (OfFrame n)) (omega arith) met))),
+                    (λ number own says. table_once level _ (next_on_path level table on words is index (omega (arith, whole table.number words is)) number own says))))
+                    (λ index n lt met. subst (λ i. IsThrough (suc level) table.start i n) (omega arith)
+                    (by_index index n lt (subst (λ i. Contains (at_word_met depth m level table (i, get_or words index 0)) (OfFrame n)) (omega arith) met))),
               )
         ] refl
 
   -- ---- each table on a path is reached
 
-  some_there : (d k a n : ℕ) → table_at top m root (d + k) a ≡ Some n → (p : ℕ) × (table_at top m root k a ≡ Some p)
-  some_there d k a n at = elim (table_at top m root k a) as (λ o. table_at top m root k a ≡ o → (p : ℕ) × (table_at top m root k a ≡ Some p)) [
-    | None ↦ λ none. let nothing = none_past top root m k d a none in cc
+  some_there : (level j a n : ℕ) → level ≤ j → j ≤ top → table_at top m root level a ≡ Some n → (p : ℕ) × (table_at top m root j a ≡ Some p)
+  some_there level j a n le high at = elim (table_at top m root j a) as (λ o. table_at top m root j a ≡ o → (p : ℕ) × (table_at top m root j a ≡ Some p)) [
+    | None ↦ λ none. let nothing = none_past top root m j level a high le none in cc
     | Some p ↦ λ is. (p, is)
   ] refl
 
-  path_reached : (d k level : ℕ) (table : ReachedTable) → 0 < level → IsOnPath k level table → (a n : ℕ) → SamePath top k table.start a → table_at top m root (d + k) a ≡ Some n → Contains (table_visits depth m level table) (OfFrame n)
-  path_reached d k zero table some on a n same at = absurd (omega arith)
-  path_reached zero k (suc level) table some on a n same at =
-      let number : table.number ≡ n = one_some table.number n (sym on.at ∙ same_table top root m k table.start a same ∙ subst (λ j. table_at top m root j a ≡ Some n) (omega arith) at) in
+  path_reached : (d level lower : ℕ) (table : ReachedTable) → d + lower ≡ level → 0 < level → IsOnPath level table → (a n : ℕ) → SamePath top (suc level) table.start a
+      → table_at top m root lower a ≡ Some n → Contains (table_visits depth m level table) (OfFrame n)
+  path_reached d zero lower table deep some on a n same at = absurd (omega arith)
+  path_reached zero (suc level) lower table deep some on a n same at =
+      let number : table.number ≡ n =
+      one_some table.number n (sym on.at ∙ same_table top root m (suc level) table.start a same ∙ subst (λ j. table_at top m root j a ≡ Some n) (omega arith) at) in
       let first = first_met depth m level table in
       subst (λ x. Contains (table_visits depth m (suc level) table) (OfFrame x)) number
       (subst (λ ms. Contains ms (OfFrame table.number)) (sym first.1) (Contains-head (OfFrame table.number) first.0))
-  path_reached (suc d) k (suc level) table some on a n same at =
-      let further : table_at top m root (d + suc k) a ≡ Some n = subst (λ j. table_at top m root j a ≡ Some n) (omega arith) at in
-      let next = some_there d (suc k) a n further in
-      let before = table_before top root m k a next.0 next.1 in
-      let parent : before.0 ≡ table.number = one_some before.0 table.number (sym before.2 ∙ sym (same_table top root m k table.start a same) ∙ on.at) in
-      let level_is : top - k ≡ suc level = omega (arith, on.deep) in
-      let leads : found_at (suc level) m table.number a ≡ Some (entry.Table next.0 before.1) = subst (λ l. found_at l m table.number a ≡ Some (entry.Table next.0 before.1)) level_is (subst (λ p. found_at (top - k) m p a ≡ Some (entry.Table next.0 before.1)) parent before.3) in
+  path_reached (suc d) (suc level) lower table deep some on a n same at =
+      let high : suc level ≤ top = reached_within top root m (suc level) table.start table.number on.at in
+      let next = some_there lower level a n (omega arith) (omega (arith, high)) at in
+      let before = table_before top root m level a next.0 (omega (arith, high)) next.1 in
+      let parent : before.0 ≡ table.number = one_some before.0 table.number (sym before.2 ∙ sym (same_table top root m (suc level) table.start a same) ∙ on.at) in
+      let leads : found_at (suc level) m table.number a ≡ Some (entry.Table next.0 before.1) =
+      subst (λ p. found_at (suc level) m p a ≡ Some (entry.Table next.0 before.1)) parent before.3 in
       let words = words_found (suc level) m table.number a (entry.Table next.0 before.1) leads in
       let index : ℕ = index_at (suc level) a in
       let within : index < 512 = mod-lt (a / entry_bytes (suc level)) (omega arith) in
-      let turns : index_at (top - k) (entry_start level table index) ≡ index_at (top - k) a = entry_index k level table on words.0 words.1 index within ∙ ap (λ l. index_at l a) (sym level_is) in
-      next_is_met k level table on words.0 words.1 index within next.0 before.1 (OfFrame n) words.2
-      (path_reached d (suc k) level (next_table level table index next.0 before.1) (above_zero level (get_or words.0 index 0) next.0 before.1 words.2) (next_on_path k level table on words.0 words.1 index within next.0 before.1 words.2) a n
-      (same_longer top k (entry_start level table index) a (λ i less. sym (entry_path k level table on words.0 words.1 index within i less) ∙ same i less) turns)
-      further)
+      next_is_met level table on words.0 words.1 index within next.0 before.1 (OfFrame n) words.2
+      (path_reached d level lower (next_table level table index next.0 before.1) (omega arith) (above_zero level (get_or words.0 index 0) next.0 before.1 words.2)
+      (next_on_path level table on words.0 words.1 index within next.0 before.1 words.2) a n
+      (same_longer top (suc level) (entry_start level table index) a
+      (λ i over to. sym (entry_path level table on words.0 words.1 index within i over to) ∙ same i over to) (entry_index level table on words.0 words.1 index within))
+      at)
 
 -- ---- from the root on
 
@@ -301,16 +305,17 @@ module _ (depth : Depth) (memory : Memory) (root : ℕ) (whole : AreWhole memory
   -- each frame that is reached is in use
   pub in_use : IsTree (levels depth) memory root → (n : ℕ) → Contains (reached (traversal depth memory root)) n → IsSome (finite.get memory n)
   in_use tree n is =
-      let under = table_reaches depth (levels depth) root memory whole 0 (levels depth) _ (root_on_path depth (levels depth) root memory whole) n (reached_is_met (traversal depth memory root) n is) in
-      tree.in_use under.steps under.address n under.at
+      let under = table_reaches depth (levels depth) root memory whole (levels depth) _ (root_on_path depth (levels depth) root memory whole) n (reached_is_met (traversal depth memory root) n is) in
+      tree.in_use under.lower under.address n under.at
 
   -- and each frame in use is reached
   pub each : IsReached (levels depth) memory root → (n : ℕ) → IsSome (finite.get memory n) → Contains (reached (traversal depth memory root)) n
   each paths n used =
       let path = paths.path n used in
       met_is_reached (traversal depth memory root) n
-      (path_reached depth (levels depth) root memory whole path.0 0 (levels depth) _ (some_levels depth) (root_on_path depth (levels depth) root memory whole) path.1 n (λ i less. absurd (omega arith))
-      (subst (λ j. table_at (levels depth) memory root j path.1 ≡ Some n) (omega arith) path.2))
+      (path_reached depth (levels depth) root memory whole (levels depth - path.0) (levels depth) path.0 _
+      (omega (arith, reached_within (levels depth) root memory path.0 path.1 n path.2)) (some_levels depth) (root_on_path depth (levels depth) root memory whole) path.1 n
+      (λ i over to. absurd (omega arith)) path.2)
 
   -- and there is no fault
   pub faultless : IsTree (levels depth) memory root → (space : Space) → TranslatesAs depth memory root space → walk_fault depth memory root ≡ None
@@ -319,7 +324,7 @@ module _ (depth : Depth) (memory : Memory) (root : ℕ) (whole : AreWhole memory
       (λ shared.
       let twice = shared_reached depth memory root shared.0 shared.1 in
       absurd (not_twice shared.0 twice.0 twice.1
-      (subst Once twice.2 (table_once depth (levels depth) root memory whole tree 0 (levels depth) _ (root_on_path depth (levels depth) root memory whole))) twice.3))
+      (subst Once twice.2 (table_once depth (levels depth) root memory whole tree (levels depth) _ (root_on_path depth (levels depth) root memory whole))) twice.3))
       (translates_shared depth memory root space whole translates)
 
 -- a page table's traversal meets no fault, and reaches just the frames in use
@@ -349,9 +354,14 @@ table_fits level word n own is =
 
 -- a frame in use is the root, or an entry leads to it
 pub numbers_fit : (depth : Depth) (memory : Memory) (root : ℕ) → IsPageTable depth memory root → (n : ℕ) → IsSome (finite.get memory n) → n < 2 ^ 40
-numbers_fit depth memory root table n used = let path = table.reached.path n used in by_steps path.0 path.1 path.2 where
-  by_steps : (k a : ℕ) → table_at (levels depth) memory root k a ≡ Some n → n < 2 ^ 40
-  by_steps zero a at = subst (λ number. number < 2 ^ 40) (one_some root n (sym (table_first (levels depth) root memory a) ∙ at)) table.root_fits
-  by_steps (suc k) a at =
-      let before = table_before (levels depth) root memory k a n at in
-      table_fits (levels depth - k) _ n before.1 (words_found (levels depth - k) memory before.0 a (entry.Table n before.1) before.3).2
+numbers_fit depth memory root table n used =
+    let path = table.reached.path n used in
+    ⊎_elim
+    (λ (same : path.0 ≡ levels depth).
+    let first : root ≡ n = one_some root n (sym (table_first (levels depth) root memory path.1)
+    ∙ subst (λ l. table_at (levels depth) memory root l path.1 ≡ Some n) same path.2) in
+    subst (λ number. number < 2 ^ 40) first table.root_fits)
+    (λ (other : path.0 ≢ levels depth).
+    let before = table_before (levels depth) root memory path.0 path.1 n (omega (arith, other, reached_within (levels depth) root memory path.0 path.1 n path.2)) path.2 in
+    table_fits (suc path.0) _ n before.1 (words_found (suc path.0) memory before.0 path.1 (entry.Table n before.1) before.3).2)
+    (cases_eq path.0 (levels depth))

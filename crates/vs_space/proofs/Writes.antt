@@ -1,7 +1,7 @@
 -- What a write of one entry does to paths and walks.
-use Rattle.std.proofs.Common.{◌≡◌, ◌≢◌, ℕ, zero, suc, ◌-◌, ◌<◌, ◌≤◌, List, [], Option, Some, None, inl, inr, ◌⊎◌, ⊎_elim, refl, sym, ap, subst, ◌∙◌, arith}
+use Rattle.std.proofs.Common.{◌≡◌, ◌≢◌, ℕ, zero, suc, ◌+◌, ◌-◌, ◌<◌, ◌≤◌, List, [], Option, Some, None, inl, inr, ◌⊎◌, ⊎_elim, refl, sym, ap, subst, ◌∙◌, arith}
 use Rattle.std.specs.Prelude.{option_map, unwrap_or, IsSome, slice_index, slice_set}
-use Rattle.std.proofs.lemmas.Bool.{cases_eq}
+use Rattle.std.proofs.lemmas.Bool.{cases_eq, cases_lt}
 use Rattle.std.proofs.lemmas.List.{get_or-set_same, get_or-set_other}
 use Rattle.std.specs.FinMap as finite
 use Rattle.vs_types.specs.Depth.{index_at}
@@ -13,7 +13,7 @@ use Rattle.vs_walk.specs.Ways.{AreWhole}
 use Rattle.vs_space.specs.Path.{found_at, table_at, SamePath}
 use Rattle.vs_space.specs.inside.Tree.{IsTree}
 use Rattle.vs_space.proofs.Numbered.{get-insert_same, get-insert_other, len-insert_used}
-use Rattle.vs_space.proofs.Paths.{same_table, agree_table, agree_walk}
+use Rattle.vs_space.proofs.Paths.{reached_within, same_table, agree_table, agree_walk}
 
 -- the frame's own words
 pub words_in : (m : Memory) (n : ℕ) → IsSome (finite.get m n) → finite.get m n ≡ Some (unwrap_or (finite.get m n) [])
@@ -67,50 +67,60 @@ found_elsewhere level m n i w q b used apart = ⊎_elim
     (λ (other : q ≢ n). found_alike level m (with_word m n i w) q b (get_written_other m n i w q other))
     (cases_eq q n)
 
--- whether two addresses take the same path
-pub same_or_not : (top k a b : ℕ) → SamePath top k a b ⊎ (SamePath top k a b → ⊥)
-same_or_not top zero a b = inl (λ i lt. absurd (omega arith))
-same_or_not top (suc k) a b = ⊎_elim
-    (λ before. ⊎_elim
-    (λ here. inl (λ i lt. ⊎_elim (λ (last : i ≡ k). subst (λ j. index_at (top - j) a ≡ index_at (top - j) b) (sym last) here) (λ other. before i (omega arith)) (cases_eq i k)))
-    (λ apart. inr (λ same. apart (same k (omega arith))))
-    (cases_eq (index_at (top - k) a) (index_at (top - k) b)))
-    (λ apart. inr (λ same. apart (λ i lt. same i (omega arith))))
-    (same_or_not top k a b)
+-- ---- whether two addresses take the same path
 
-pub same_longer : (top k a b : ℕ) → SamePath top k a b → index_at (top - k) a ≡ index_at (top - k) b → SamePath top (suc k) a b
-same_longer top k a b before here = λ i lt. ⊎_elim (λ (last : i ≡ k). subst (λ j. index_at (top - j) a ≡ index_at (top - j) b) (sym last) here) (λ other. before i (omega arith)) (cases_eq i k)
+pub same_longer : (top level a b : ℕ) → SamePath top (suc level) a b → index_at level a ≡ index_at level b → SamePath top level a b
+same_longer top level a b before here = λ i from to. ⊎_elim
+    (λ (last : i ≡ level). subst (λ j. index_at j a ≡ index_at j b) (sym last) here)
+    (λ (other : i ≢ level). before i (omega (arith, from, other)) to)
+    (cases_eq i level)
 
--- ---- the entry for an address a in the table that is reached after k entries is written
+pub same_or_not : (top level a b : ℕ) → SamePath top level a b ⊎ (SamePath top level a b → ⊥)
+same_or_not top level a b = by (top + 1 - level) level (omega arith) where
+  by : (d level : ℕ) → top + 1 ≤ d + level → SamePath top level a b ⊎ (SamePath top level a b → ⊥)
+  by zero level high = inl (λ i from to. absurd (omega arith))
+  by (suc d) level high = ⊎_elim
+      (λ before. ⊎_elim
+      (λ here. inl (same_longer top level a b before here))
+      (λ apart. ⊎_elim
+      (λ (above : top < level). inl (λ i from to. absurd (omega arith)))
+      (λ (le : level ≤ top). inr (λ same. apart (same level (omega arith) le)))
+      (cases_lt top level))
+      (cases_eq (index_at level a) (index_at level b)))
+      (λ apart. inr (λ same. apart (λ i from to. same i (omega arith) to)))
+      (by d (suc level) (omega arith))
 
-module _ (top : ℕ) (root : ℕ) (m : Memory) (tree : IsTree top m root) (whole : AreWhole m) (k a n : ℕ) (at : table_at top m root k a ≡ Some n) (w : ℕ) where
+-- ---- the entry for an address a is written in the table of a level on its path
+
+module _ (top : ℕ) (root : ℕ) (m : Memory) (tree : IsTree top m root) (whole : AreWhole m) (level a n : ℕ) (at : table_at top m root level a ≡ Some n) (w : ℕ) where
   abbrev pub after_write : Memory
-  after_write = with_word m n (index_at (top - k) a) w
+  after_write = with_word m n (index_at level a) w
 
   used : IsSome (finite.get m n)
-  used = tree.in_use k a n at
+  used = tree.in_use level a n at
 
   -- off the path of a, all is found as before
-  pub off_path : (b : ℕ) → (SamePath top (suc k) a b → ⊥) → (j q : ℕ) → table_at top m root j b ≡ Some q → found_at (top - j) after_write q b ≡ found_at (top - j) m q b
-  off_path b apart j q reached = found_elsewhere (top - j) m n (index_at (top - k) a) w q b used (λ same here.
-      let both = tree.once j k b a n (subst (λ x. table_at top m root j b ≡ Some x) same reached) at in
-      apart (same_longer top k a b (λ i lt. sym (both.1 i (omega (arith, both.0)))) (subst (λ x. index_at (top - k) a ≡ index_at (top - x) b) both.0 (sym here))))
+  pub off_path : (b : ℕ) → (SamePath top level a b → ⊥) → (j q : ℕ) → table_at top m root j b ≡ Some q → found_at j after_write q b ≡ found_at j m q b
+  off_path b apart j q reached = found_elsewhere j m n (index_at level a) w q b used (λ same here.
+      let both = tree.once level j a b n at (subst (λ x. table_at top m root j b ≡ Some x) same reached) in
+      apart (same_longer top level a b both.1 (subst (λ x. index_at level a ≡ index_at x b) (sym both.0) (sym here))))
 
-  -- above the table, all is found as before
-  pub above : (b j q : ℕ) → j ≢ k → table_at top m root j b ≡ Some q → found_at (top - j) after_write q b ≡ found_at (top - j) m q b
-  above b j q other reached = found_elsewhere (top - j) m n (index_at (top - k) a) w q b used (λ same here. absurd (other (tree.once j k b a n (subst (λ x. table_at top m root j b ≡ Some x) same reached) at).0))
+  -- in tables of other levels, all is found as before
+  pub above : (b j q : ℕ) → j ≢ level → table_at top m root j b ≡ Some q → found_at j after_write q b ≡ found_at j m q b
+  above b j q other reached = found_elsewhere j m n (index_at level a) w q b used (λ same here.
+      absurd (other (tree.once j level b a n (subst (λ x. table_at top m root j b ≡ Some x) same reached) at).0))
 
-  pub table_off_path : (b j : ℕ) → (SamePath top (suc k) a b → ⊥) → table_at top after_write root j b ≡ table_at top m root j b
-  table_off_path b j apart = agree_table top root m after_write b j (λ i q lt reached. off_path b apart i q reached)
+  pub table_off_path : (b j : ℕ) → (SamePath top level a b → ⊥) → table_at top after_write root j b ≡ table_at top m root j b
+  table_off_path b j apart = agree_table top root m after_write b j (λ i q over reached. off_path b apart i q reached)
 
-  pub table_above : (b j : ℕ) → j ≤ k → table_at top after_write root j b ≡ table_at top m root j b
-  table_above b j le = agree_table top root m after_write b j (λ i q lt reached. above b i q (λ e. omega arith) reached)
+  pub table_above : (b j : ℕ) → level ≤ j → table_at top after_write root j b ≡ table_at top m root j b
+  table_above b j le = agree_table top root m after_write b j (λ i q over reached. above b i q (λ e. omega arith) reached)
 
-  pub walk_off_path : (b : ℕ) → (SamePath top (suc k) a b → ⊥) → walk_from after_write top root all_rights b ≡ walk_from m top root all_rights b
-  walk_off_path b apart = agree_walk top root m after_write b (λ i q lt reached. off_path b apart i q reached)
+  pub walk_off_path : (b : ℕ) → (SamePath top level a b → ⊥) → walk_from after_write top root all_rights b ≡ walk_from m top root all_rights b
+  walk_off_path b apart = agree_walk top root m after_write b (λ i q over reached. off_path b apart i q reached)
 
-  pub table_here : (b : ℕ) → SamePath top (suc k) a b → table_at top after_write root k b ≡ Some n
-  table_here b same = table_above b k (omega arith) ∙ sym (same_table top root m k a b (λ i lt. same i (omega arith))) ∙ at
+  pub table_here : (b : ℕ) → SamePath top level a b → table_at top after_write root level b ≡ Some n
+  table_here b same = table_above b level (omega arith) ∙ sym (same_table top root m level a b (λ i from to. same i (omega arith) to)) ∙ at
 
-  pub found_on_path : (b : ℕ) → index_at (top - k) a < 512 → SamePath top (suc k) a b → found_at (top - k) after_write n b ≡ Some (meaning (top - k) w)
-  found_on_path b low same = found_here (top - k) m n (index_at (top - k) a) w b whole used low (sym (same k (omega arith)))
+  pub found_on_path : (b : ℕ) → SamePath top level a b → found_at level after_write n b ≡ Some (meaning level w)
+  found_on_path b same = found_here level m n (index_at level a) w b whole used (omega arith) (sym (same level (omega arith) (reached_within top root m level a n at)))

@@ -1,5 +1,5 @@
 -- Words stay written as entries of their tables' levels.
-use Rattle.std.proofs.Common.{◌≡◌, ◌≢◌, ℕ, ◌-◌, ◌<◌, ◌≤◌, List, [], Option, Some, ⊎_elim, refl, sym, ap, subst, ◌∙◌, arith}
+use Rattle.std.proofs.Common.{◌≡◌, ◌≢◌, ℕ, ◌<◌, ◌≤◌, List, [], Option, Some, ⊎_elim, refl, sym, ap, subst, ◌∙◌, arith}
 use Rattle.std.specs.Prelude.{IsSome, option_map, unwrap_or, slice_index, slice_set}
 use Rattle.std.proofs.lemmas.Bool.{cases_eq}
 use Rattle.std.proofs.lemmas.List.{get_or-set_same, get_or-set_other}
@@ -80,33 +80,25 @@ written_set level m n i w whole used low is are = λ j word got. ⊎_elim
     ∙ sym (word_of (with_word m n i w) n j _ (get_written m n i w)) ∙ got))
     (cases_eq j i)
 
--- ---- the entry for an address a in the table that is reached after k entries is written
+-- ---- the entry for an address a is written in the table of a level on its path
 
-pub written_on : (top root : ℕ) (m : Memory) → IsTree top m root → AreWhole m → (k a n : ℕ) → table_at top m root k a ≡ Some n → (w : ℕ) → IsWritten (top - k) w
-    → (j b q : ℕ) → table_at top m root j b ≡ Some q → AreWritten (top - j) m q → AreWritten (top - j) (with_word m n (index_at (top - k) a) w) q
-written_on top root m tree whole k a n at w is j b q reached are = ⊎_elim
+pub written_on : (top root : ℕ) (m : Memory) → IsTree top m root → AreWhole m → (level a n : ℕ) → table_at top m root level a ≡ Some n → (w : ℕ) → IsWritten level w
+    → (j b q : ℕ) → table_at top m root j b ≡ Some q → AreWritten j m q → AreWritten j (with_word m n (index_at level a) w) q
+written_on top root m tree whole level a n at w is j b q reached are = ⊎_elim
     (λ (same : q ≡ n).
-    let level : j ≡ k = (tree.once j k b a n (reached ∙ ap Some same) at).0 in
-    let here : AreWritten (top - k) m n = subst (λ x. AreWritten (top - k) m x) same (subst (λ l. AreWritten (top - l) m q) level are) in
-    let after = written_set (top - k) m n (index_at (top - k) a) w whole (tree.in_use k a n at) (omega arith) is here in
-    subst (λ l. AreWritten (top - l) (with_word m n (index_at (top - k) a) w) q) (sym level)
-    (subst (λ x. AreWritten (top - k) (with_word m n (index_at (top - k) a) w) x) (sym same) after))
-    (λ (other : q ≢ n). written_alike (top - j) m _ q (get_written_other m n (index_at (top - k) a) w q other) are)
+    let one : j ≡ level = (tree.once j level b a n (reached ∙ ap Some same) at).0 in
+    let here : AreWritten level m n = subst (λ x. AreWritten level m x) same (subst (λ l. AreWritten l m q) one are) in
+    let after = written_set level m n (index_at level a) w whole (tree.in_use level a n at) (omega arith) is here in
+    subst (λ l. AreWritten l (with_word m n (index_at level a) w) q) (sym one)
+    (subst (λ x. AreWritten level (with_word m n (index_at level a) w) x) (sym same) after))
+    (λ (other : q ≢ n). written_alike j m _ q (get_written_other m n (index_at level a) w q other) are)
     (cases_eq q n)
 
--- ---- a table that is reached
-
 -- the words of a table that is reached are as written at its level
-pub written_at : (top root : ℕ) (m : Memory) → IsTree top m root → IsReached top m root → (k a n : ℕ) → table_at top m root k a ≡ Some n → AreWritten (top - k) m n
-written_at top root m tree is k a n at =
-    let own = is.path n (tree.in_use k a n at) in
-    subst (λ l. AreWritten (top - l) m n) (tree.once own.0 k own.1 a n own.2 at).0 own.3
-
--- and at the level of a table on the path of an address
-pub written_level : (top root : ℕ) (m : Memory) → IsTree top m root → IsReached top m root → (level a n : ℕ) → level ≤ top → table_at top m root (top - level) a ≡ Some n → AreWritten level m n
-written_level top root m tree is level a n le at =
-    let back : top - (top - level) ≡ level = omega arith in
-    subst (λ l. AreWritten l m n) back (written_at top root m tree is (top - level) a n at)
+pub written_at : (top root : ℕ) (m : Memory) → IsTree top m root → IsReached top m root → (level a n : ℕ) → table_at top m root level a ≡ Some n → AreWritten level m n
+written_at top root m tree is level a n at =
+    let own = is.path n (tree.in_use level a n at) in
+    subst (λ l. AreWritten l m n) (tree.once own.0 level own.1 a n own.2 at).0 own.3
 
 -- an entry is absent where its word is 0, and nowhere else
 pub entry_zero : (level : ℕ) (m : Memory) (n i : ℕ) (words : List ℕ) → finite.get m n ≡ Some words → slice_index words i ≡ 0 → entry_in level m n i ≡ Some entry.Absent

@@ -1,5 +1,5 @@
 -- The tables on the path of an address, from the root down, in a memory.
-use Rattle.std.specs.Prelude.{◌≡◌, ℕ, zero, suc, ◌-◌, ◌<◌, Option, Some, None, option_map, option_and_then}
+use Rattle.std.specs.Prelude.{◌≡◌, ℕ, zero, suc, ◌<◌, ◌≤◌, nat_eq, Option, Some, None, option_map, option_and_then, if◌then◌else◌}
 use Rattle.vs_types.specs.Depth.{index_at}
 use Rattle.vs_types.specs.Entry.{meaning}
 use Rattle.vs_types.specs.declared.entry.Meaning.{Meaning}
@@ -19,15 +19,16 @@ table_in (Some entry.Reserved) = None
 table_in (Some (entry.Table number own)) = Some number
 table_in (Some (entry.Leaf phys own)) = None
 
--- the table that is reached on the path of an address after this many entries, where the root has the level top
+-- the table of this level on the path of an address, from the table of the highest level down
 unfoldable pub table_at : ℕ → Memory → ℕ → ℕ → ℕ → Option ℕ
-table_at top memory root zero address = Some root
-table_at top memory root (suc k) address =
-    option_and_then (λ number. table_in (found_at (top - k) memory number address)) (table_at top memory root k address)
+table_at zero memory root level address = if nat_eq level zero then Some root else None
+table_at (suc top) memory root level address =
+    if nat_eq level (suc top) then Some root
+    else option_and_then (λ next. table_at top memory next level address) (table_in (found_at (suc top) memory root address))
 
--- two addresses that take the same entry at each of the first k tables
+-- two addresses that take the same entries, from the highest level down to this one
 abbrev pub SamePath : ℕ → ℕ → ℕ → ℕ → Type 0
-SamePath top k a b = (i : ℕ) → i < k → index_at (top - i) a ≡ index_at (top - i) b
+SamePath top level a b = (i : ℕ) → level ≤ i → i ≤ top → index_at i a ≡ index_at i b
 
 -- what the entry at an index says, in the table of this level in this frame
 unfoldable pub entry_in : ℕ → Memory → ℕ → ℕ → Option Meaning

@@ -1,5 +1,5 @@
 -- The words of a page table: each is the one that is written for what it says.
-use Rattle.std.specs.Prelude.{◌≡◌, ℕ, ◌-◌, Some}
+use Rattle.std.specs.Prelude.{◌≡◌, ℕ, Some}
 use Rattle.vs_types.specs.Depth.{levels}
 use Rattle.vs_types.specs.Entry.{meaning, size_at, table_word, leaf_word}
 use Rattle.vs_types.specs.declared.depth.Depth.{Depth}
@@ -22,7 +22,7 @@ pub record IsWritten (level word : ℕ) : Type 0 where
 
 -- a frame is a table that is reached, and each of its words is written as an entry of its level
 pub record IsWrittenTable (depth : Depth) (memory : Memory) (root number : ℕ) : Type 0 where
-  pub steps : ℕ
+  pub level : ℕ
   pub address : ℕ
-  pub reached : table_at (levels depth) memory root steps address ≡ Some number
-  pub written : (index word : ℕ) → word_at memory number index ≡ Some word → IsWritten (levels depth - steps) word
+  pub reached : table_at (levels depth) memory root level address ≡ Some number
+  pub written : (index word : ℕ) → word_at memory number index ≡ Some word → IsWritten level word

@@ -287,8 +287,8 @@ impl<S: FrameStore> Tables<S> {
         requires some_level { 1 ≤ from }
         requires below { from < levels depth }
         requires aligned { address % table_bytes from ≡ 0 }
-        requires reached { table_at (levels depth) self.now.memory root (levels depth - from) address ≡ Some table }
-        ensures { IsLeastBase depth self.now.memory root address (levels depth - from) result }
+        requires reached { table_at (levels depth) self.now.memory root from address ≡ Some table }
+        ensures { IsLeastBase depth self.now.memory root address from result }
     {
         let mut level = from;
         let mut number = table;

@@ -6,6 +6,7 @@ pub mod Differences
 pub mod Dump
 pub mod Examples
 pub mod Ways
+pub mod Laws
 pub mod inside
 pub use Rattle.vs_types.specs.Depth
 pub use Rattle.vs_types.specs.Page

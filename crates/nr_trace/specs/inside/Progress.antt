@@ -5,8 +5,9 @@ use Rattle.vs_types.specs.Config.{IsLayout}
 use Rattle.vs_types.specs.declared.refusal.Fail.{Fail}
 use Rattle.vs_types.specs.declared.refusal.Fail.TheVariants.{Memory, Refused}
 use Rattle.vs_types.specs.Frame.{IsFrame}
+use Rattle.nr_trace.specs.Versions.{KnowsDepth}
 use Rattle.nr_trace.specs.Recording.{IsEvent, IsImage}
-use Rattle.nr_trace.specs.Spelling.{magic, version, counts, log_word, event, dump_head, frame_number, frame_words, dump}
+use Rattle.nr_trace.specs.Spelling.{magic, version_word, counts, log_word, event, dump_head, frame_number, frame_words, dump}
 use Rattle.nr_trace.specs.FirstFault.{AtUnit, AtVersion, AtCounts, AtLog, AtEvents, AtDumps, AtFrames, IsNext, HasFormatFault}
 use Rattle.nr_trace.specs.declared.fault.Format.{Format}
 use Rattle.nr_trace.specs.declared.reading.parts.Parts.{Parts}
@@ -18,7 +19,7 @@ use Rattle.nr_trace.specs.declared.reading.parts.Reader.TheVariants.{Magic, Vers
 abbrev pub unit_bytes : Reader → Option ℕ
 unit_bytes (Magic alloc) = Some 4
 unit_bytes (Version alloc) = Some 2
-unit_bytes (Header alloc) = Some 14
+unit_bytes (Header alloc version) = Some 14
 unit_bytes (Log parts places events) = Some 4
 unit_bytes (Events parts events) = Some 24
 unit_bytes (Dumps parts) = if nat_lt (length parts.dumps.items) parts.config.replicas then Some 16 else None
@@ -28,7 +29,7 @@ unit_bytes (Words parts opened number) = Some 4096
 -- the spelling of the parts, where there are so many places and events in all
 abbrev pub parts_spelling : ℕ → ℕ → Parts → List ℕ
 parts_spelling places events parts =
-    magic ++ version ++ counts parts.config places events
+    magic ++ version_word parts.version ++ counts parts.config places events
     ++ flat_map log_word parts.log.items ++ flat_map event parts.events.items ++ flat_map dump parts.dumps.items
 
 abbrev pub whole_spelling : Parts → List ℕ
@@ -44,7 +45,7 @@ opened_spelling opened =
 abbrev pub said : Reader → List ℕ
 said (Magic alloc) = []
 said (Version alloc) = magic
-said (Header alloc) = magic ++ version
+said (Header alloc version) = magic ++ version_word version
 said (Log parts places events) = parts_spelling (length parts.log.items + places) events parts
 said (Events parts events) = parts_spelling (length parts.log.items) (length parts.events.items + events) parts
 said (Dumps parts) = whole_spelling parts
@@ -59,9 +60,9 @@ BehindDumps parts more = AtDumps (length parts.dumps.items + more) (parts.config
 abbrev pub Ahead : Reader → List ℕ → Format → Type 0
 Ahead (Magic alloc) rest fault = HasFormatFault rest fault
 Ahead (Version alloc) rest fault = AtVersion rest fault
-Ahead (Header alloc) rest fault = AtCounts rest fault
-Ahead (Log parts places events) rest fault = AtLog parts.config places events rest fault
-Ahead (Events parts events) rest fault = AtEvents parts.config (length parts.events.items) events rest fault
+Ahead (Header alloc version) rest fault = AtCounts version rest fault
+Ahead (Log parts places events) rest fault = AtLog parts.version parts.config places events rest fault
+Ahead (Events parts events) rest fault = AtEvents parts.version parts.config (length parts.events.items) events rest fault
 Ahead (Dumps parts) rest fault = BehindDumps parts 0 rest fault
 Ahead (Frame parts opened last) rest fault =
     AtFrames (length parts.dumps.items) (finite.len opened.dump.frames) opened.left last (BehindDumps parts 1) rest fault
@@ -73,10 +74,11 @@ Ahead (Words parts opened number) rest fault =
 -- parts in their ranges
 pub record AreInRange (parts : Parts) : Type 0 where
   pub layout : IsLayout parts.config
+  pub depth : KnowsDepth parts.version parts.config.depth
   pub few_places : length parts.log.items ≤ 65536
   pub log : All (λ call. call < 2 ^ 32) parts.log.items
   pub few_events : length parts.events.items ≤ 131072
-  pub events : All (IsEvent parts.config) parts.events.items
+  pub events : All (IsEvent parts.version parts.config) parts.events.items
   pub few_dumps : length parts.dumps.items ≤ parts.config.replicas
   pub dumps : All IsImage parts.dumps.items
 
@@ -99,7 +101,7 @@ AreBelow opened number = All (λ held. held < number) (finite.keys opened.dump.f
 abbrev pub IsReady : Reader → Type 0
 IsReady (Magic alloc) = ⊤
 IsReady (Version alloc) = ⊤
-IsReady (Header alloc) = ⊤
+IsReady (Header alloc version) = ⊤
 IsReady (Log parts places events) =
     AreInRange parts × (1 ≤ places) × (length parts.log.items + places ≤ 65536) × (events ≤ 131072) × (parts.events.items ≡ []) × (parts.dumps.items ≡ [])
 IsReady (Events parts events) = AreInRange parts × (1 ≤ events) × (length parts.events.items + events ≤ 131072) × (parts.dumps.items ≡ [])

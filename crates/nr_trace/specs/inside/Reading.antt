@@ -7,6 +7,7 @@ use Rattle.vs_types.specs.declared.answer.Answer.{Answer}
 use Rattle.nr_trace.specs.Codes.{kind_code, answer_code}
 use Rattle.nr_trace.specs.Spelling.{RequestFields, request_fields, AnswerFields, answer_fields, counts, event, dump_head}
 use Rattle.vs_types.specs.Config.{Layout}
+use Rattle.nr_trace.specs.declared.version.Version.{Version}
 use Rattle.nr_trace.specs.declared.event.Event.{Event}
 use Rattle.nr_trace.specs.Recording.{IsAnswer, IsEvent}
 use Rattle.nr_trace.specs.FirstFault.{Counts, IsCounts, IsHead}
@@ -37,8 +38,8 @@ pub record HasFields (code : ℕ) (fields : AnswerFields) (answer : Answer) : Ty
 abbrev pub numbers_of : Header → Counts
 numbers_of header = record { layout = header.config; places = header.places; events = header.events }
 
-pub record SpellsCounts (bytes : List ℕ) (header : Header) : Type 0 where
-  pub in_range : IsCounts (numbers_of header)
+pub record SpellsCounts (version : Version) (bytes : List ℕ) (header : Header) : Type 0 where
+  pub in_range : IsCounts version (numbers_of header)
   pub spelled : bytes ≡ counts header.config header.places header.events
 
 -- what the head of a dump says, in range and spelled by the bytes
@@ -47,6 +48,6 @@ pub record SpellsHead (bytes : List ℕ) (head : DumpHead) : Type 0 where
   pub spelled : bytes ≡ dump_head head.applied head.frames head.root
 
 -- an event in range that the bytes spell
-pub record SpellsEvent (layout : Layout) (bytes : List ℕ) (recorded : Event) : Type 0 where
-  pub in_range : IsEvent layout recorded
+pub record SpellsEvent (version : Version) (layout : Layout) (bytes : List ℕ) (recorded : Event) : Type 0 where
+  pub in_range : IsEvent version layout recorded
   pub spelled : bytes ≡ event recorded

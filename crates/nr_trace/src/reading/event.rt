@@ -10,11 +10,12 @@ use crate::event::Event;
 use crate::reading::answer::answer_of;
 use crate::reading::fields::{take_u8, take_u16, take_u32, take_u64};
 use crate::reading::request::{Asked, request_of};
+use crate::version::Version;
 use vs_types::Config;
 
-fn call_of(config: Config, bytes: &[u8]) -> Option<Event>
+fn call_of(version: Version, config: Config, bytes: &[u8]) -> Option<Event>
     requires { length bytes.now ≡ 23 }
-    ensures { Finds (SpellsEvent config (0 ∷ bytes.now)) result }
+    ensures { Finds (SpellsEvent version config (0 ∷ bytes.now)) result }
 {
     let (replica, rest) = take_u8(bytes);
     let (thread, rest) = take_u16(rest);
@@ -34,6 +35,9 @@ fn call_of(config: Config, bytes: &[u8]) -> Option<Event>
         physical,
     };
     let request = request_of(config.depth(), kind, asked)?;
+    if !version.knows_query(request.query()) {
+        return None;
+    }
     Some(Event::Call {
         replica,
         thread,
@@ -41,9 +45,9 @@ fn call_of(config: Config, bytes: &[u8]) -> Option<Event>
     })
 }
 
-fn reply_of(config: Config, bytes: &[u8]) -> Option<Event>
+fn reply_of(version: Version, config: Config, bytes: &[u8]) -> Option<Event>
     requires { length bytes.now ≡ 23 }
-    ensures { Finds (SpellsEvent config (1 ∷ bytes.now)) result }
+    ensures { Finds (SpellsEvent version config (1 ∷ bytes.now)) result }
 {
     let (code, rest) = take_u8(bytes);
     let (size, rest) = take_u8(rest);
@@ -56,18 +60,21 @@ fn reply_of(config: Config, bytes: &[u8]) -> Option<Event>
         return None;
     }
     let answer = answer_of(code, size, rights, value)?;
+    if !version.knows_answer(answer) {
+        return None;
+    }
     Some(Event::Reply { call, at, answer })
 }
 
-/// The event that the 24 bytes spell, if it is one of a service laid out so.
-pub(crate) fn event_of(config: Config, unit: &[u8]) -> Option<Event>
+/// The event that the 24 bytes spell, if it is one of a service laid out so, and the version knows it.
+pub(crate) fn event_of(version: Version, config: Config, unit: &[u8]) -> Option<Event>
     requires { length unit.now ≡ 24 }
-    ensures { Finds (SpellsEvent config unit.now) result }
+    ensures { Finds (SpellsEvent version config unit.now) result }
 {
     let (tag, rest) = take_u8(unit);
     match tag {
-        0 => call_of(config, rest),
-        1 => reply_of(config, rest),
+        0 => call_of(version, config, rest),
+        1 => reply_of(version, config, rest),
         _ => None,
     }
 }

@@ -5,6 +5,7 @@ ghost use Rattle.vs_types.specs.Depth.{levels};
 ghost use Rattle.nr_trace.specs.inside.Reading.{Finds, SpellsCounts, SpellsHead};
 
 use crate::reading::fields::{take_u8, take_u16, take_u32, take_u64};
+use crate::version::Version;
 use vs_types::{Config, Depth};
 
 /// How a service is laid out, and how many places and events a trace of it has.
@@ -32,10 +33,10 @@ fn depth_of(count: u8) -> Option<Depth>
     }
 }
 
-/// What the 14 bytes spell, if all of it is in range.
-pub(crate) fn header_of(unit: &[u8]) -> Option<Header>
+/// What the 14 bytes spell, if all of it is in range, and the version knows the depth.
+pub(crate) fn header_of(version: Version, unit: &[u8]) -> Option<Header>
     requires { length unit.now ≡ 14 }
-    ensures { Finds (SpellsCounts unit.now) result }
+    ensures { Finds (SpellsCounts version unit.now) result }
 {
     let (levels, rest) = take_u8(unit);
     let (replicas, rest) = take_u8(rest);
@@ -50,6 +51,9 @@ pub(crate) fn header_of(unit: &[u8]) -> Option<Header>
         return None;
     }
     let depth = depth_of(levels)?;
+    if !version.knows_depth(depth) {
+        return None;
+    }
     match Config::new(depth, replicas, threads, tables) {
         Ok(config) => Some(Header {
             config,

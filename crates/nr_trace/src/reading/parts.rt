@@ -7,6 +7,7 @@ use crate::fault::Format;
 use crate::reading::dumps::{take_dump_head, take_frame_number, take_words};
 use crate::reading::places::{take_event, take_header, take_magic, take_place, take_version};
 use crate::trace::Trace;
+use crate::version::Version;
 use std::alloc::Global;
 use vs_types::{Config, Fail};
 use vs_walk::Dump;
@@ -15,6 +16,7 @@ use vs_walk::Dump;
 #[derive(Drop)]
 pub(crate) struct Parts {
     pub(crate) alloc: Global,
+    pub(crate) version: Version,
     pub(crate) config: Config,
     pub(crate) log: Vec<u32>,
     pub(crate) events: Vec<Event>,
@@ -33,7 +35,7 @@ pub(crate) struct Opened {
 pub(crate) enum Reader {
     Magic(Global),
     Version(Global),
-    Header(Global),
+    Header(Global, Version),
     /// So many places are left, and then so many events.
     Log(Parts, u32, u32),
     /// So many events are left.
@@ -65,7 +67,7 @@ impl Reader {
         match self {
             Reader::Magic(_) => Some(4),
             Reader::Version(_) => Some(2),
-            Reader::Header(_) => Some(14),
+            Reader::Header(_, _) => Some(14),
             Reader::Log(_, _, _) => Some(4),
             Reader::Events(_, _) => Some(24),
             Reader::Dumps(parts) => {
@@ -90,7 +92,7 @@ impl Reader {
         match self {
             Reader::Magic(alloc) => take_magic(alloc, unit),
             Reader::Version(alloc) => take_version(alloc, unit),
-            Reader::Header(alloc) => take_header(alloc, unit),
+            Reader::Header(alloc, version) => take_header(alloc, version, unit),
             Reader::Log(parts, places, events) => take_place(parts, places, events, unit),
             Reader::Events(parts, events) => take_event(parts, events, unit),
             Reader::Dumps(parts) => take_dump_head(parts, unit),
@@ -106,7 +108,15 @@ impl Reader {
         ensures { Spells (said self) result }
     {
         match self {
-            Reader::Dumps(parts) => Trace::of(parts.config, parts.log, parts.events, parts.dumps),
+            Reader::Dumps(parts) => {
+                Trace::of(
+                    parts.version,
+                    parts.config,
+                    parts.log,
+                    parts.events,
+                    parts.dumps,
+                )
+            }
             _ => unreachable!(),
         }
     }

@@ -9,6 +9,7 @@ use crate::reading::event::event_of;
 use crate::reading::fields::{take_u16, take_u32};
 use crate::reading::header::header_of;
 use crate::reading::parts::{Parts, Reader};
+use crate::version::Version;
 use std::alloc::Global;
 use vs_types::Fail;
 
@@ -17,7 +18,7 @@ fn at_events(parts: Parts, events: u32) -> Reader
     requires few_events { length parts.events.items + events ≤ 131072 }
     requires no_dumps { parts.dumps.items ≡ [] }
     ensures { HasRead (parts_spelling (length parts.log.items) (length parts.events.items + events) parts)
-        (AtEvents parts.config (length parts.events.items) events) result }
+        (AtEvents parts.version parts.config (length parts.events.items) events) result }
 {
     if events == 0 {
         Reader::Dumps(parts)
@@ -32,7 +33,7 @@ fn at_log(parts: Parts, places: u32, events: u32) -> Reader
     requires few_events { events ≤ 131072 }
     requires no_events { parts.events.items ≡ [] }
     requires no_dumps { parts.dumps.items ≡ [] }
-    ensures { HasRead (parts_spelling (length parts.log.items + places) events parts) (AtLog parts.config places events) result }
+    ensures { HasRead (parts_spelling (length parts.log.items + places) events parts) (AtLog parts.version parts.config places events) result }
 {
     if places == 0 {
         at_events(parts, events)
@@ -56,22 +57,27 @@ pub(crate) fn take_version(alloc: Global, unit: &[u8]) -> Result<Reader, Fail<Fo
     requires { length unit.now ≡ 2 }
     ensures { Takes (Reader.Version alloc) unit.now result }
 {
-    let (version, _) = take_u16(unit);
-    if version == 1 {
-        Ok(Reader::Header(alloc))
-    } else {
-        Err(Fail::Refused(Format::BadVersion))
+    let (code, _) = take_u16(unit);
+    match code {
+        1 => Ok(Reader::Header(alloc, Version::V1)),
+        2 => Ok(Reader::Header(alloc, Version::V2)),
+        _ => Err(Fail::Refused(Format::BadVersion)),
     }
 }
 
-pub(crate) fn take_header(alloc: Global, unit: &[u8]) -> Result<Reader, Fail<Format>>
+pub(crate) fn take_header(
+    alloc: Global,
+    version: Version,
+    unit: &[u8],
+) -> Result<Reader, Fail<Format>>
     requires { length unit.now ≡ 14 }
-    ensures { Takes (Reader.Header alloc) unit.now result }
+    ensures { Takes (Reader.Header alloc version) unit.now result }
 {
-    match header_of(unit) {
+    match header_of(version, unit) {
         Some(header) => {
             let parts = Parts {
                 alloc,
+                version,
                 config: header.config,
                 log: Vec::new(alloc),
                 events: Vec::new(alloc),
@@ -103,7 +109,7 @@ pub(crate) fn take_event(mut parts: Parts, events: u32, unit: &[u8]) -> Result<R
     requires whole { length unit.now ≡ 24 }
     ensures { Takes (Reader.Events parts events) unit.now result }
 {
-    match event_of(parts.config, unit) {
+    match event_of(parts.version, parts.config, unit) {
         Some(event) => {
             parts.events.push(event)?;
             Ok(at_events(parts, events - 1))

@@ -1,8 +1,9 @@
 //! The units before the log.
 
 ghost use Rattle.std.specs.Prelude.{◌≡◌, ◌++◌, OnOk};
-ghost use Rattle.nr_trace.specs.Spelling.{magic, version, counts};
+ghost use Rattle.nr_trace.specs.Spelling.{magic, version_word, counts};
 
+use crate::version::Version;
 use crate::writing::numbers::{put_u8, put_u16, put_u32};
 use vs_types::{Config, Memory};
 
@@ -21,14 +22,15 @@ fn put_counts(out: &mut Vec<u8>, config: Config, places: u32, events: u32) -> Re
 /// The magic, the version and the counts.
 pub(crate) fn put_header(
     out: &mut Vec<u8>,
+    version: Version,
     config: Config,
     places: u32,
     events: u32,
 ) -> Result<(), Memory>
-    ensures { OnOk result (out.new.items ≡ out.old.items ++ (magic ++ version ++ counts config places events)) }
+    ensures { OnOk result (out.new.items ≡ out.old.items ++ (magic ++ version_word version ++ counts config places events)) }
 {
     out.extend_from_slice(b"NRVT")?;
-    put_u16(out, 1)?;
+    put_u16(out, version.code())?;
     put_counts(out, config, places, events)?;
     Ok(())
 }

@@ -1,6 +1,7 @@
 use crate::event::Event;
 use crate::fault::Format;
 use crate::trace::Trace;
+use crate::version::Version;
 use crate::writing::write;
 use std::alloc::Global;
 use std::test::*;
@@ -68,6 +69,7 @@ fn map_then_resolve_events(alloc: Global) -> Result<Vec<Event>, Fail> {
 fn empty_trace(rt: HostRuntime) -> Result<(), Fail> {
     let none = Vec::new(rt.alloc());
     let trace = Trace::new(
+        Version::V1,
         config(1)?,
         none,
         Vec::new(rt.alloc()),
@@ -86,7 +88,7 @@ fn map_then_resolve(rt: HostRuntime) -> Result<(), Fail> {
     let mut log = Vec::new(rt.alloc());
     log.push(0)?;
     let events = map_then_resolve_events(rt.alloc())?;
-    let trace = Trace::new(config(4)?, log, events, dumps(rt.alloc(), 1)?)?;
+    let trace = Trace::new(Version::V1, config(4)?, log, events, dumps(rt.alloc(), 1)?)?;
     let bytes = write(rt.alloc(), &trace)?;
     assert_eq!(rt; bytes.len(), 136 + 4104);
     assert!(rt; bytes.as_slice().starts_with(MAPPED.as_slice()));
@@ -97,17 +99,23 @@ fn map_then_resolve(rt: HostRuntime) -> Result<(), Fail> {
 fn parts_out_of_range(rt: HostRuntime) -> Result<(), Fail> {
     let config = config(4)?;
     let alloc = rt.alloc();
-    let no_dump = Trace::new(config, Vec::new(alloc), Vec::new(alloc), Vec::new(alloc));
+    let no_dump = Trace::new(
+        Version::V1,
+        config,
+        Vec::new(alloc),
+        Vec::new(alloc),
+        Vec::new(alloc),
+    );
     assert!(rt; matches!(no_dump, Err(Format::BadCount)));
     let mut events = map_then_resolve_events(alloc)?;
     events.push(call(1, Request::resolve(Depth::Four, 0)?))?;
     let mut bare = Vec::new(alloc);
     bare.push(Dump::new(alloc, 0, 1))?;
-    let no_replica = Trace::new(config, Vec::new(alloc), events, bare);
+    let no_replica = Trace::new(Version::V1, config, Vec::new(alloc), events, bare);
     assert!(rt; matches!(no_replica, Err(Format::BadEvent(4))));
     let mut bare = Vec::new(alloc);
     bare.push(Dump::new(alloc, 0, 1))?;
-    let no_frame = Trace::new(config, Vec::new(alloc), Vec::new(alloc), bare);
+    let no_frame = Trace::new(Version::V1, config, Vec::new(alloc), Vec::new(alloc), bare);
     assert!(rt; matches!(no_frame, Err(Format::BadCount)));
     Ok(())
 }

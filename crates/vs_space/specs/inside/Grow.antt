@@ -1,5 +1,5 @@
 -- New tables on the path of an address, and the first page that is found from an address on. No public clause cites it.
-use Rattle.std.specs.Prelude.{◌≡◌, ℕ, ◌+◌, ◌-◌, ◌%◌, ◌<◌, ◌≤◌, Some}
+use Rattle.std.specs.Prelude.{◌≡◌, ℕ, suc, ◌+◌, ◌-◌, ◌%◌, ◌<◌, ◌≤◌, Some}
 use Rattle.std.specs.FinMap as finite
 use Rattle.vs_types.specs.Depth.{levels, entry_bytes, IsCanonical}
 use Rattle.vs_types.specs.declared.depth.Depth.{Depth}
@@ -18,7 +18,7 @@ pub record IsOpen (depth : Depth) (memory : Memory) (root base level number : �
   pub filled : IsFilledBut depth memory root base
   pub all_reached : IsReached (levels depth) memory root
   pub below : level ≤ levels depth
-  pub reached : table_at (levels depth) memory root (levels depth - level) base ≡ Some number
+  pub reached : table_at (levels depth) memory root level base ≡ Some number
   pub absent : found_at level memory number base ≡ Some entry.Absent
 
 -- a table for each level from one down to another was linked, and addresses are walked as before
@@ -35,14 +35,14 @@ pub record IsLeafAt (depth : Depth) (memory : Memory) (root base : ℕ) : Type 0
   pub own : Rights
   pub some : 1 ≤ level
   pub below : level ≤ levels depth
-  pub reached : table_at (levels depth) memory root (levels depth - level) base ≡ Some number
+  pub reached : table_at (levels depth) memory root level base ≡ Some number
   pub found : found_at level memory number base ≡ Some (entry.Leaf phys own)
   pub begins : base % entry_bytes level ≡ 0
 
--- the base of a page on the path that the start takes for k entries, with nothing mapped from the start up to it
-pub record IsLeastBase (depth : Depth) (memory : Memory) (root start k base : ℕ) : Type 0 where
+-- the base of a page below the table of a level on the path of the start, with nothing mapped from the start up to it
+pub record IsLeastBase (depth : Depth) (memory : Memory) (root start from base : ℕ) : Type 0 where
   pub canonical : IsCanonical depth base
   pub from_start : start ≤ base
-  pub same_path : SamePath (levels depth) k start base
+  pub same_path : SamePath (levels depth) (suc from) start base
   pub before : (b : ℕ) → IsCanonical depth b → start ≤ b → b < base → walk depth memory root b ≡ NotMapped
   pub leaf : IsLeafAt depth memory root base

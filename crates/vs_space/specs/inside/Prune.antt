@@ -12,7 +12,8 @@ use Rattle.vs_space.specs.inside.Tree.{IsTree, IsFilled, IsReached, NothingUnder
 
 -- each table below the root has an address that is mapped, but for those on the path of this address
 pub record IsFilledBut (depth : Depth) (memory : Memory) (root base : ℕ) : Type 0 where
-  pub filled : (k a n : ℕ) → table_at (levels depth) memory root (suc k) a ≡ Some n → (SamePath (levels depth) (suc k) base a → ⊥) → NothingUnder depth memory root (suc k) a → ⊥
+  pub filled : (level a n : ℕ) → level < levels depth → table_at (levels depth) memory root level a ≡ Some n
+      → (SamePath (levels depth) (suc level) base a → ⊥) → NothingUnder depth memory root (suc level) a → ⊥
 
 -- the path of the address ends at an absent entry of the table of this level; other tables than those on it have something mapped
 pub record IsCut (depth : Depth) (memory : Memory) (root base level : ℕ) (path : List ℕ) : Type 0 where
@@ -22,7 +23,7 @@ pub record IsCut (depth : Depth) (memory : Memory) (root base level : ℕ) (path
   pub whole : AreWhole memory
   pub some : 1 ≤ level
   pub below : level ≤ levels depth
-  pub reached : (j : ℕ) → level ≤ j → j ≤ levels depth → table_at (levels depth) memory root (levels depth - j) base ≡ Some (slice_index path j)
+  pub reached : (j : ℕ) → level ≤ j → j ≤ levels depth → table_at (levels depth) memory root j base ≡ Some (slice_index path j)
   pub absent : found_at level memory (slice_index path level) base ≡ Some entry.Absent
 
 -- a table for each level from one up to another was given back, and addresses are walked as before
@@ -35,5 +36,5 @@ pub record IsPruned (depth : Depth) (old new : Memory) (root base from level : �
   pub above : from ≤ level
   pub below : level ≤ levels depth
   pub fewer : finite.len new + (level - from) ≡ finite.len old
-  pub nothing : NothingUnder depth new root (suc (levels depth - level)) base
-  pub something : (j : ℕ) → 0 < j → j ≤ levels depth - level → NothingUnder depth new root j base → ⊥
+  pub nothing : NothingUnder depth new root level base
+  pub something : (j : ℕ) → level < j → j ≤ levels depth → NothingUnder depth new root j base → ⊥

@@ -1,5 +1,5 @@
 -- What holds of the tables of a memory: they are a tree. No public clause cites it.
-use Rattle.std.specs.Prelude.{◌≡◌, ℕ, suc, ◌-◌, Some, IsSome}
+use Rattle.std.specs.Prelude.{◌≡◌, ℕ, suc, ◌<◌, Some, IsSome}
 use Rattle.std.specs.FinMap as finite
 use Rattle.vs_types.specs.Depth.{levels, IsCanonical}
 use Rattle.vs_types.specs.Entry.{all_rights}
@@ -15,17 +15,19 @@ use Rattle.vs_space.specs.Written.{IsWritten}
 
 -- the tables that are reached are in use, no two paths lead to one, and entries that lead to tables allow everything
 pub record IsTree (top : ℕ) (memory : Memory) (root : ℕ) : Type 0 where
-  pub in_use : (k a n : ℕ) → table_at top memory root k a ≡ Some n → IsSome (finite.get memory n)
-  pub once : (j k a b n : ℕ) → table_at top memory root j a ≡ Some n → table_at top memory root k b ≡ Some n → (j ≡ k) × SamePath top j a b
-  pub allows : (k a n next : ℕ) (own : Rights) → table_at top memory root k a ≡ Some n → found_at (top - k) memory n a ≡ Some (entry.Table next own) → own ≡ all_rights
+  pub in_use : (level a n : ℕ) → table_at top memory root level a ≡ Some n → IsSome (finite.get memory n)
+  pub once : (j k a b n : ℕ) → table_at top memory root j a ≡ Some n → table_at top memory root k b ≡ Some n → (j ≡ k) × SamePath top (suc j) a b
+  pub allows : (level a n next : ℕ) (own : Rights) → table_at top memory root level a ≡ Some n
+      → found_at level memory n a ≡ Some (entry.Table next own) → own ≡ all_rights
 
--- no address that takes the path of this one through the first k tables is mapped
+-- no address that takes the entries of this one, from the root down to this level, is mapped
 abbrev pub NothingUnder : Depth → Memory → ℕ → ℕ → ℕ → Type 0
-NothingUnder depth memory root k a = (b : ℕ) → IsCanonical depth b → SamePath (levels depth) k a b → walk depth memory root b ≡ NotMapped
+NothingUnder depth memory root level a = (b : ℕ) → IsCanonical depth b → SamePath (levels depth) level a b → walk depth memory root b ≡ NotMapped
 
 -- each table below the root has an address that is mapped
 pub record IsFilled (depth : Depth) (memory : Memory) (root : ℕ) : Type 0 where
-  pub filled : (k a n : ℕ) → table_at (levels depth) memory root (suc k) a ≡ Some n → NothingUnder depth memory root (suc k) a → ⊥
+  pub filled : (level a n : ℕ) → level < levels depth → table_at (levels depth) memory root level a ≡ Some n
+      → NothingUnder depth memory root (suc level) a → ⊥
 
 -- each word of a frame is written as an entry of this level
 abbrev pub AreWritten : ℕ → Memory → ℕ → Type 0
@@ -33,4 +35,4 @@ AreWritten level memory number = (index word : ℕ) → word_at memory number in
 
 -- each frame in use is a table that is reached, with its words as written
 pub record IsReached (top : ℕ) (memory : Memory) (root : ℕ) : Type 0 where
-  pub path : (n : ℕ) → IsSome (finite.get memory n) → (k : ℕ) × (a : ℕ) × (table_at top memory root k a ≡ Some n) × AreWritten (top - k) memory n
+  pub path : (n : ℕ) → IsSome (finite.get memory n) → (level : ℕ) × (a : ℕ) × (table_at top memory root level a ≡ Some n) × AreWritten level memory n

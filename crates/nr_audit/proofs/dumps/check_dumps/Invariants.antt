@@ -7,6 +7,6 @@ use Rattle.nr_audit.proofs.dumps.check_dumps.Given as goal
 
 abbrev pub invariant-loop-replica : goal.invariant-loop-replica
 invariant-loop-replica l = record {
-  space : l.space ≡ space_of l.trace.layout (space_after l.trace (take l.applied l.trace.log));
-  none : (lower : ℕ) → lower < l.replica → HasNone (IsDumpFaultAt lower) l.trace;
+  space : l.space ≡ space_of l.history.layout (space_after l.history (take l.applied l.history.log));
+  none : (lower : ℕ) → lower < l.replica → HasNone (IsDumpFaultAt lower) l.history;
 }

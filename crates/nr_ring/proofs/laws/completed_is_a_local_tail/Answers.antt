@@ -1,4 +1,4 @@
-use Rattle.nr_ring.proofs.Tails.{below_greatest, greatest_reached}
+use Rattle.nr_ring.proofs.LocalTails.{below_greatest, greatest_reached}
 use Rattle.nr_ring.proofs.laws.completed_is_a_local_tail.Goals as goal
 
 pub returns-clause-reached : goal.returns-clause-reached

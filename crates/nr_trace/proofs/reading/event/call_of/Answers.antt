@@ -19,6 +19,6 @@ returns-in_err-request c =
       address_fits = omega arith;
       physical_fits = omega arith;
     } in
-    subst (Finds (SpellsEvent c.args.config (0 ∷ c.args.bytes.now))) (sym c.from_residual.ensures)
-    (no_call c.args.config _ _ _ _ _ fields _ c.replicas.ensures.in_range numbers
-    (subst (λ depth. (request : Query) → IsRequest depth c.take_u8-kind.result.0 fields request → ⊥) c.depth.ensures c.in_err-request.ensures))
+    subst (Finds (SpellsEvent c.args.version c.args.config (0 ∷ c.args.bytes.now))) (sym c.from_residual.ensures)
+    (no_call c.args.version c.args.config _ _ _ _ _ fields _ c.replicas.ensures.in_range numbers
+    (λ request is known. subst (λ depth. (request : Query) → IsRequest depth c.take_u8-kind.result.0 fields request → ⊥) c.depth.ensures c.in_err-request.ensures request is))

@@ -17,5 +17,5 @@ returns-in_err-answer c =
       unused_fits = omega arith;
       value_fits = omega arith;
     } in
-    subst (Finds (SpellsEvent c.args.config (1 ∷ c.args.bytes.now))) (sym c.from_residual.ensures)
-    (no_reply c.args.config _ _ _ _ _ fields _ numbers c.in_err-answer.ensures)
+    subst (Finds (SpellsEvent c.args.version c.args.config (1 ∷ c.args.bytes.now))) (sym c.from_residual.ensures)
+    (no_reply c.args.version c.args.config _ _ _ _ _ fields _ numbers (λ answer is known. c.in_err-answer.ensures answer is))

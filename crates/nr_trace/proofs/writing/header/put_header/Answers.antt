@@ -1,9 +1,12 @@
-use Rattle.nr_trace.specs.Spelling.{magic, version, counts}
+use Rattle.std.proofs.Common.{ℕ, ◌++◌, ap, ◌∙◌}
+use Rattle.std.specs.Int.{w16, to_be_bytes}
+use Rattle.nr_trace.specs.Spelling.{magic, version_word, counts}
 use Rattle.nr_trace.proofs.Written.{then}
 use Rattle.nr_trace.proofs.writing.header.put_header.Goals as goal
 
 pub returns : goal.returns
 returns c =
-    then c.args.out.now.items _ c.put_u16.new.out.items (counts c.args.config c.args.places c.args.events) _
-    (then c.args.out.now.items magic c.extend_from_slice.new.self.items version c.put_u16.new.out.items c.in_ok-extend_from_slice.ensures.items c.in_ok-put_u16.ensures)
+    then c.args.out.now.items (magic ++ version_word c.args.version) c.put_u16.new.out.items (counts c.args.config c.args.places c.args.events) _
+    (then c.args.out.now.items magic c.extend_from_slice.new.self.items (version_word c.args.version) c.put_u16.new.out.items c.in_ok-extend_from_slice.ensures.items
+    (c.in_ok-put_u16.ensures ∙ ap (λ (n : ℕ). c.extend_from_slice.new.self.items ++ to_be_bytes w16 n) c.code.ensures))
     c.in_ok-put_counts.ensures

@@ -1,4 +1,5 @@
-use Rattle.std.proofs.Common.{◌≡◌, None, sym, subst, arith}
+use Rattle.std.proofs.Common.{◌≡◌, None, refl, sym, subst, arith}
+use Rattle.vs_types.proofs.Overlaps.{overlapped_below}
 use Rattle.vs_types.specs.Page.{IsPage}
 use Rattle.vs_types.specs.Space.{least_overlapped}
 use Rattle.vs_plain.specs.Plain.{BoundedSpace}
@@ -14,3 +15,6 @@ invariant_of-self-2 c =
       counted = omega (arith, c.self.invariant.counted, c.new_tables.ensures.more);
       few = omega (arith, c.from.ensures);
     }
+
+pub returns-in-Covered-clause-ok : goal.returns-in-Covered-clause-ok
+returns-in-Covered-clause-ok c = rw (overlapped_below c.place_of.ensures.apart c.args.page c.in-Covered.other c.in-Covered.ensures.is.0) (refl, refl)

@@ -1,31 +1,40 @@
-use Rattle.std.proofs.Common.{◌≡◌, Some, None, sym, subst, ◌∙◌}
+use Rattle.std.proofs.Common.{◌≡◌, Some, refl, sym, ap, ◌∙◌, subst}
+use Rattle.std.specs.FinMap as finite
 use Rattle.vs_types.specs.Space.{Holds, page_at}
-use Rattle.vs_types.proofs.Spaces.{page_at_means}
+use Rattle.vs_types.specs.declared.op.Action.TheVariants.{Protect}
+use Rattle.vs_types.specs.declared.answer.Answer.TheVariants.{Changed}
 use Rattle.vs_types.proofs.Steps.{protect_space}
 use Rattle.vs_types.proofs.Tables.{rights_tables}
 use Rattle.vs_plain.specs.Plain.{BoundedSpace}
-use Rattle.std.specs.FinMap as finite
-use Rattle.vs_types.specs.declared.page.Page.{Page}
+use Rattle.vs_plain.specs.inside.Place.{no_page}
+use Rattle.vs_plain.proofs.Neighbours.{protect_of_none, protect_of_page, plain_step}
 use Rattle.vs_plain.proofs.plain.PlainSpace.protect.Goals as goal
 
-some_not_none : (p : Page) → Some p ≡ None → ⊥
-some_not_none p e = cc
-
-pub invariant_of-self-2 : goal.invariant_of-self-2
-invariant_of-self-2 c =
+pub invariant_of-self-in-Some : goal.invariant_of-self-in-Some
+invariant_of-self-in-Some c =
     let p = c.in-Some.page in
-    let at : Some p ≡ page_at c.self.inside.page_map c.args.base = subst (λ (k : BoundedSpace). Some p ≡ page_at k.space c.args.base) (sym c.self.view_is) c.in-Some.ensures.at in
-    let held : Holds c.self.inside.page_map p = ((page_at_means c.self.invariant.is_space c.args.base p).0 (sym at)).0 in
-    rw c.in_ok-insert.ensures.ok record {
+    let begins : p.base ≡ c.args.base = c.self.invariant.is_space.under_base c.args.base p (sym c.in-Some.ensures.was) in
+    let held : Holds c.self.inside.page_map p = subst (λ b. finite.get c.self.inside.page_map b ≡ Some p) (sym begins) (sym c.in-Some.ensures.was) in
+    let left : c.protect.new.self ≡ finite.insert c.self.inside.page_map p.base (record p { rights = c.args.rights }) =
+    c.in-Some.ensures.changed ∙ ap (λ b. finite.insert c.self.inside.page_map b (record p { rights = c.args.rights })) (sym begins) in
+    rw left record {
       is_space = protect_space c.self.invariant.is_space p c.args.rights held;
       counted = c.self.invariant.counted ∙ sym (rights_tables c.self.invariant.is_space p c.args.rights held);
       few = c.self.invariant.few;
     }
 
-pub returns-in_err-insert-clause-answers : goal.returns-in_err-insert-clause-answers
-returns-in_err-insert-clause-answers c =
-    let p = c.in-Some.page in
-    let at : Some p ≡ page_at c.self.inside.page_map c.args.base = subst (λ (k : BoundedSpace). Some p ≡ page_at k.space c.args.base) (sym c.self.view_is) c.in-Some.ensures.at in
-    let held : Holds c.self.inside.page_map p = ((page_at_means c.self.invariant.is_space c.args.base p).0 (sym at)).0 in
-    let absent : finite.get c.self.inside.page_map p.base ≡ None = c.in_err-insert.ensures.absent in
-    absurd (some_not_none p (sym held ∙ absent))
+pub returns-in-None : goal.returns-in-None
+returns-in-None c =
+    let old : BoundedSpace = record { depth = c.self.inside.depth; limit = c.self.inside.limit; space = c.self.inside.page_map } in
+    rw (← c.self.view_is) (plain_step old (Protect c.args.base c.args.rights) c.no_page.result c.protect.new.self _
+    (protect_of_none c.self.invariant.is_space c.self.inside.limit c.args.base c.args.rights (sym c.in-None.ensures.was))
+    (c.no_page.ensures ∙ ap (λ s. no_page (page_at s c.args.base)) c.in-None.ensures.unchanged)
+    c.in-None.ensures.unchanged)
+
+pub returns-in-Some : goal.returns-in-Some
+returns-in-Some c =
+    let old : BoundedSpace = record { depth = c.self.inside.depth; limit = c.self.inside.limit; space = c.self.inside.page_map } in
+    rw (← c.self.view_is) (plain_step old (Protect c.args.base c.args.rights) (Changed c.in-Some.page.rights) c.protect.new.self _
+    (protect_of_page c.self.invariant.is_space c.self.inside.limit c.args.base c.args.rights c.in-Some.page c.in-Some.ensures.was)
+    refl
+    c.in-Some.ensures.changed)

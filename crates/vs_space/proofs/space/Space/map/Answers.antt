@@ -28,16 +28,16 @@ descended {depth} {memory} {root} {address} {asked} {lowest} {level} {path} {met
 
 -- the page is mapped, where the level of its tables and how many are added have names of their own
 mapped : (depth : Depth) (memory : Memory) (root : ℕ) → IsPageTable depth memory root → (page : Page) → IsPage depth page → (level : ℕ) (path : List ℕ) → IsDescent depth memory root page.base (level_of page.size) level path entry.Absent
-    → (lowest : ℕ) → lowest ≡ level_of page.size → (m : Memory) (number : ℕ) → IsExtended depth memory m root page.base level lowest number → AreWhole m → (word index : ℕ) → meaning (level_of page.size) word ≡ entry.Leaf page.phys page.rights → word ≡ leaf_word page.size page.phys page.rights → index ≡ index_at lowest page.base → index < 512
+    → (lowest : ℕ) → lowest ≡ level_of page.size → (m : Memory) (number : ℕ) → IsExtended depth memory m root page.base level lowest number → AreWhole m → (word index : ℕ) → meaning (level_of page.size) word ≡ entry.Leaf page.phys page.rights → word ≡ leaf_word page.size page.phys page.rights → index ≡ index_at lowest page.base
     → (first limit added : ℕ) → added ≡ level - lowest → finite.len memory + added ≤ limit
     → IsPageTable depth (with_word m number index word) root × IsTableStep (page_table depth first limit root memory) (Map page) answers.Done (page_table depth first limit root (with_word m number index word))
-mapped depth memory root table page good level path descent lowest lowest_is m number extended whole word index leads is_word at low first limit added added_is few =
+mapped depth memory root table page good level path descent lowest lowest_is m number extended whole word index leads is_word at first limit added added_is few =
     let grown = subst (λ l. IsExtended depth memory m root page.base level l number) lowest_is extended in
     let here = subst (λ l. index ≡ index_at l page.base) lowest_is at in
     let below : level - lowest ≡ level - level_of page.size = ap (λ l. level - l) lowest_is in
     let room : finite.len memory + (level - level_of page.size) ≤ limit = omega (arith, below, added_is, few) in (
-      map_table depth memory root table page good level path descent m number grown whole word index leads is_word here low limit room,
-      map_step depth memory root table page good level path descent m number grown whole word index leads is_word here low first limit room,
+      map_table depth memory root table page good level path descent m number grown whole word leads is_word index here limit room,
+      map_step depth memory root table page good level path descent m number grown whole word leads is_word index here first limit room,
     )
 
 pub least_base-base-requires-clause-some_level : goal.least_base-base-requires-clause-some_level
@@ -52,14 +52,14 @@ least_base-base-requires-clause-reached g c =
     let inside = c.self.inside in
     let good = subst (λ (t : PageTable). IsPage t.depth c.args.page) (sym c.self.view_is) c.requires in
     let descent = descended c.level-lowest.ensures (sym c.in-Table.ensures) c.descend-descent.ensures.descent in
-    subst (λ l. table_at (levels inside.depth) inside.tables.memory inside.root (levels inside.depth - (l - 1)) c.args.page.base ≡ Some c.in-Table.table) (sym c.level-lowest.ensures) (table_reached inside.depth inside.tables.memory inside.root c.self.invariant.0 c.args.page good c.descend-descent.result.level c.descend-descent.result.path c.in-Table.table c.in-Table.field-1 descent)
+    subst (λ l. table_at (levels inside.depth) inside.tables.memory inside.root (l - 1) c.args.page.base ≡ Some c.in-Table.table) (sym c.level-lowest.ensures) (table_reached inside.depth inside.tables.memory inside.root c.self.invariant.0 c.args.page good c.descend-descent.result.level c.descend-descent.result.path c.in-Table.table c.in-Table.field-1 descent)
 
 pub returns-in-Table : goal.returns-in-Table
 returns-in-Table g c =
     let inside = c.self.inside in
     let good = subst (λ (t : PageTable). IsPage t.depth c.args.page) (sym c.self.view_is) c.requires in
     let descent = descended c.level-lowest.ensures (sym c.in-Table.ensures) c.descend-descent.ensures.descent in
-    let first = subst (λ l. IsLeastBase inside.depth inside.tables.memory inside.root c.args.page.base (levels inside.depth - (l - 1)) c.least_base-base.result) c.level-lowest.ensures c.least_base-base.ensures in
+    let first = subst (λ l. IsLeastBase inside.depth inside.tables.memory inside.root c.args.page.base (l - 1) c.least_base-base.result) c.level-lowest.ensures c.least_base-base.ensures in
     subst (λ (t : PageTable). IsTableStep t (Map c.args.page) (answers.Overlap c.least_base-base.result) t) c.self.view_is
     (table_overlaps inside.depth inside.tables.memory inside.root c.self.invariant.0 c.args.page good c.descend-descent.result.level c.descend-descent.result.path c.in-Table.table c.in-Table.field-1 descent inside.tables.base inside.tables.limit c.least_base-base.result first)
 
@@ -103,7 +103,7 @@ invariant_of-self g c =
     let descent = descended c.level-lowest.ensures (sym c.in-Absent.ensures) c.descend-descent.ensures.descent in (
       subst (λ (h : Held). IsPageTable inside.depth h.memory inside.root) (sym c.write.ensures.written)
           (mapped inside.depth inside.tables.memory inside.root c.self.invariant.0 c.args.page good c.descend-descent.result.level c.descend-descent.result.path descent c.level-lowest.result c.level-lowest.ensures c.extend-number.new.self.memory c.extend-number.result c.extend-number.ensures.extended c.write.ensures.whole
-          c.word.result c.index_at.result (ap (meaning (level_of c.args.page.size)) c.word.ensures ∙ c.leaf-leaf.ensures.read_back) (c.word.ensures ∙ c.leaf-leaf.ensures.written) c.index_at.ensures.is c.index_at.ensures.low inside.tables.base inside.tables.limit c.from.result c.from.ensures
+          c.word.result c.index_at.result (ap (meaning (level_of c.args.page.size)) c.word.ensures ∙ c.leaf-leaf.ensures.read_back) (c.word.ensures ∙ c.leaf-leaf.ensures.written) c.index_at.ensures.is inside.tables.base inside.tables.limit c.from.result c.from.ensures
           (omega (arith, c.used.ensures.counts, c.if-need-limit.false, c.limit-limit.ensures.reads))).0,
       c.write.ensures.numbers,
     )
@@ -117,5 +117,5 @@ returns g c =
     subst (λ (t : PageTable). IsTableStep t (Map c.args.page) answers.Done (page_table inside.depth c.write.new.self.base c.write.new.self.limit inside.root c.write.new.self.memory)) c.self.view_is
     (subst (λ (h : Held). IsTableStep (page_table inside.depth inside.tables.base inside.tables.limit inside.root inside.tables.memory) (Map c.args.page) answers.Done (page_table inside.depth h.base h.limit inside.root h.memory)) (sym whole)
     (mapped inside.depth inside.tables.memory inside.root c.self.invariant.0 c.args.page good c.descend-descent.result.level c.descend-descent.result.path descent c.level-lowest.result c.level-lowest.ensures c.extend-number.new.self.memory c.extend-number.result c.extend-number.ensures.extended c.write.ensures.whole
-    c.word.result c.index_at.result (ap (meaning (level_of c.args.page.size)) c.word.ensures ∙ c.leaf-leaf.ensures.read_back) (c.word.ensures ∙ c.leaf-leaf.ensures.written) c.index_at.ensures.is c.index_at.ensures.low inside.tables.base inside.tables.limit c.from.result c.from.ensures
+    c.word.result c.index_at.result (ap (meaning (level_of c.args.page.size)) c.word.ensures ∙ c.leaf-leaf.ensures.read_back) (c.word.ensures ∙ c.leaf-leaf.ensures.written) c.index_at.ensures.is inside.tables.base inside.tables.limit c.from.result c.from.ensures
     (omega (arith, c.used.ensures.counts, c.if-need-limit.false, c.limit-limit.ensures.reads))).1)

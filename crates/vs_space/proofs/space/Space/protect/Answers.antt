@@ -65,7 +65,7 @@ invariant_of-self g c =
     let written = c.write.ensures.written ∙ ap (λ n. held inside.tables.base inside.tables.limit (with_word inside.tables.memory n c.index_at.result c.word.result)) c.descend-descent.ensures.last in
     let leads = subst (λ (z : Size). meaning (level_of z) c.leaf-leaf.result ≡ entry.Leaf c.in-Leaf.phys c.args.rights) c.at_level-size.ensures c.leaf-leaf.ensures.read_back in (
       subst (λ (h : Held). IsPageTable inside.depth h.memory inside.root) (sym written)
-          (protect_table inside.depth inside.tables.memory inside.root c.self.invariant.0 c.args.base canonical c.descend-descent.result.level c.descend-descent.result.path c.in-Leaf.phys c.in-Leaf.old descent c.write.ensures.whole c.requires.aligned c.args.rights c.word.result c.index_at.result c.bytes.result (rw c.word.ensures leads) (c.word.ensures ∙ c.leaf-leaf.ensures.written ∙ ap (λ z. leaf_word z c.in-Leaf.phys c.args.rights) c.at_level-size.ensures) c.index_at.ensures.is c.index_at.ensures.low (c.bytes.ensures ∙ ap bytes_of c.at_level-size.ensures) c.if-offset-ne0.false),
+          (protect_table inside.depth inside.tables.memory inside.root c.self.invariant.0 c.args.base canonical c.descend-descent.result.level c.descend-descent.result.path c.in-Leaf.phys c.in-Leaf.old descent c.write.ensures.whole c.requires.aligned c.args.rights c.word.result c.index_at.result c.bytes.result (rw c.word.ensures leads) (c.word.ensures ∙ c.leaf-leaf.ensures.written ∙ ap (λ z. leaf_word z c.in-Leaf.phys c.args.rights) c.at_level-size.ensures) c.index_at.ensures.is (c.bytes.ensures ∙ ap bytes_of c.at_level-size.ensures) c.if-offset-ne0.false),
       c.write.ensures.numbers,
     )
 
@@ -78,4 +78,4 @@ returns g c =
     let leads = subst (λ (z : Size). meaning (level_of z) c.leaf-leaf.result ≡ entry.Leaf c.in-Leaf.phys c.args.rights) c.at_level-size.ensures c.leaf-leaf.ensures.read_back in
     subst (λ (t : PageTable). IsTableStep t (Protect c.args.base c.args.rights) (answers.Changed c.in-Leaf.old) (page_table inside.depth c.write.new.self.base c.write.new.self.limit inside.root c.write.new.self.memory)) c.self.view_is
     (subst (λ (h : Held). IsTableStep (page_table inside.depth inside.tables.base inside.tables.limit inside.root inside.tables.memory) (Protect c.args.base c.args.rights) (answers.Changed c.in-Leaf.old) (page_table inside.depth h.base h.limit inside.root h.memory)) (sym written)
-    (protect_step inside.depth inside.tables.memory inside.root c.self.invariant.0 c.args.base canonical c.descend-descent.result.level c.descend-descent.result.path c.in-Leaf.phys c.in-Leaf.old descent c.write.ensures.whole c.requires.aligned c.args.rights c.word.result c.index_at.result c.bytes.result (rw c.word.ensures leads) (c.word.ensures ∙ c.leaf-leaf.ensures.written ∙ ap (λ z. leaf_word z c.in-Leaf.phys c.args.rights) c.at_level-size.ensures) c.index_at.ensures.is c.index_at.ensures.low (c.bytes.ensures ∙ ap bytes_of c.at_level-size.ensures) c.if-offset-ne0.false inside.tables.base inside.tables.limit))
+    (protect_step inside.depth inside.tables.memory inside.root c.self.invariant.0 c.args.base canonical c.descend-descent.result.level c.descend-descent.result.path c.in-Leaf.phys c.in-Leaf.old descent c.write.ensures.whole c.requires.aligned c.args.rights c.word.result c.index_at.result c.bytes.result (rw c.word.ensures leads) (c.word.ensures ∙ c.leaf-leaf.ensures.written ∙ ap (λ z. leaf_word z c.in-Leaf.phys c.args.rights) c.at_level-size.ensures) c.index_at.ensures.is (c.bytes.ensures ∙ ap bytes_of c.at_level-size.ensures) c.if-offset-ne0.false inside.tables.base inside.tables.limit))

@@ -37,4 +37,4 @@ returns-clause-below_limit g c = subst (λ (t : PageTable). (number : ℕ) → I
 
 pub returns-clause-written : goal.returns-clause-written
 returns-clause-written g c = subst (λ (t : PageTable). (number : ℕ) → IsTrue (finite.contains_key t.memory number) → IsWrittenTable t.depth t.memory t.root number) c.self.view_is
-    (λ number used. let table = c.self.invariant.0.reached.path number used in record { steps = table.0; address = table.1; reached = table.2; written = table.3 })
+    (λ number used. let table = c.self.invariant.0.reached.path number used in record { level = table.0; address = table.1; reached = table.2; written = table.3 })

@@ -2,7 +2,7 @@ use Rattle.std.proofs.Common.{◌≡◌, ◌+◌, ◌*◌, ◌%◌, ◌^◌, Som
 use Rattle.vs_space.specs.Path.{found_at}
 use Rattle.vs_types.specs.declared.entry.Meaning.TheVariants as entry
 use Rattle.vs_types.specs.Depth.{levels}
-use Rattle.vs_space.proofs.Written.{written_level}
+use Rattle.vs_space.proofs.Written.{written_at}
 use Rattle.vs_space.proofs.Searches.{not_empty, offset_of, canonical_fits, next_canonical, present_ends, search_on, deep_table}
 use Rattle.vs_space.proofs.tables.Tables.least_base.Goals as goal
 
@@ -35,4 +35,5 @@ loop-index-preserved g c =
 
 pub entry-requires-clause-written : goal.entry-requires-clause-written
 entry-requires-clause-written g c =
-    written_level (levels c.args.depth) c.args.root c.args.self.now.memory c.requires.tree c.requires.all_reached c.loop-index.level c.loop-index.base c.loop-index.number (omega (arith, c.loop-index.invariant.below)) c.loop-index.invariant.reached
+    written_at (levels c.args.depth) c.args.root c.args.self.now.memory c.requires.tree c.requires.all_reached c.loop-index.level c.loop-index.base c.loop-index.number
+    c.loop-index.invariant.reached

@@ -31,7 +31,7 @@ loop-level-preserved g c =
     let after = c.give.ensures.removed ∙ ap (λ (h : Held). let given : Held = record { base = h.base; limit = h.limit; memory = finite.remove h.memory (slice_index c.args.path.now c.loop-level.level) } in given) c.write.ensures.written in
     record {
       pruning = subst (λ (h : Held). IsPruning c.args.depth c.args.self.now.memory h.memory root c.args.address c.args.from (c.loop-level.level + 1) c.args.path.now) (sym after)
-          (pruning_on c.args.depth c.loop-level.self.memory root c.args.address c.loop-level.level c.args.path.now c.requires.canonical going.cut (omega (arith, c.loop-level-test.true, c.levels.ensures)) (c.is_empty.ensures.empty c.if-not-is_empty.false) c.index_at-in-loop-level.result c.index_at-in-loop-level.ensures.is c.index_at-in-loop-level.ensures.low c.args.self.now.memory c.args.from going);
+          (pruning_on c.args.depth c.loop-level.self.memory root c.args.address c.loop-level.level c.args.path.now c.requires.canonical going.cut (omega (arith, c.loop-level-test.true, c.levels.ensures)) (c.is_empty.ensures.empty c.if-not-is_empty.false) c.index_at-in-loop-level.result c.index_at-in-loop-level.ensures.is c.args.self.now.memory c.args.from going);
       same = same_but_memory c.args.self.now c.loop-level.self c.give.new.self _ after c.loop-level.invariant.same;
       numbers = c.give.ensures.numbers;
     }

@@ -1,0 +1,29 @@
+use Rattle.std.proofs.Common.{rules, ℕ, List, map, refl, ap, ◌∙◌, sym, subst, arith, [], ◌∷◌, ◌++◌}
+use Rattle.std.specs.List.{range_with_len}
+use Rattle.std.proofs.lemmas.List.FromFn.{map-range_with_len_more}
+use Rattle.nr_ring.specs.Pass.{Known, new_pass}
+use Rattle.nr_ring.specs.Calls.{first_view}
+use Rattle.nr_ring.specs.Rule.{IsKept}
+use Rattle.nr_ring.specs.Words.{new_words}
+use Rattle.nr_ring.proofs.NewLog.{new_kept}
+use Rattle.nr_ring.proofs.ring_log.RingLog.new.Goals as goal
+
+pub ruled-requires : goal.ruled-requires
+ruled-requires g c =
+    let replicas = g.J.LogName.replicas in
+    let P : ℕ → Type 0 = λ n. IsKept g.J.LogName.depth replicas (new_words n) (first_view replicas ∷ []) in
+    (search rules, (search rules, subst P (sym (c.from.ensures ∙ c.requires.replicas.0)) (new_kept g.J.LogName.depth replicas (first_view replicas) refl refl refl)))
+
+pub loop-replica-preserved : goal.loop-replica-preserved
+loop-replica-preserved g c =
+    let before = c.loop-replica.invariant in
+    let split = c.split_off-pass.ensures in
+    let log = c.in_ok-cell.cell.table.shared.table_id in
+    let owners : ℕ → Known = λ r. new_pass log (r ∷ []) in (
+      split.first.0.0 ∙ before.0,
+      split.first.1,
+      c.in_ok-push.ensures.items
+          ∙ ap (λ (passes : List Known). passes ++ c.split_off-pass.result ∷ []) before.2
+          ∙ ap (λ (pass : Known). map owners (range_with_len 0 c.loop-replica.replica) ++ pass ∷ []) split.pass
+          ∙ sym (map-range_with_len_more owners 0 c.loop-replica.replica c.loop-replica.replica (omega arith)),
+    )

@@ -1,0 +1,42 @@
+-- What a pass holds beside its view.
+use Rattle.std.specs.List.{range_with_len}
+use Rattle.std.specs.Prelude.{◌≡◌, ℕ, ◌+◌, ◌-◌, ◌<◌, ◌≤◌, List, [], ◌∷◌, All, Option, None, Some, length, slice_index}
+use Rattle.vs_types.specs.declared.depth.Depth.{Depth}
+use Rattle.nr_ring.specs.History.{IsHistory, log_after}
+use Rattle.nr_ring.specs.Words.{IsWordsOf}
+use Rattle.nr_ring.specs.declared.view.View.{View}
+use Rattle.nr_ring.specs.declared.tails.Tails.{Tails}
+
+-- the replica that a pass owns, as a list
+abbrev pub owned : Option ℕ → List ℕ
+owned None = []
+owned (Some replica) = replica ∷ []
+
+-- the replica, if there is one, is one of so many
+abbrev pub IsBelow : ℕ → Option ℕ → Type 0
+IsBelow replicas replica = (r : ℕ) → replica ≡ Some r → r < replicas
+
+-- the words are those of the log after all that the pass has seen, among which are the events that it made
+pub record Remembers (depth : Depth) (replicas : ℕ) (words : List ℕ) (replica : Option ℕ) (view : View) : Type 0 where
+  pub few : replicas ≤ 4
+  pub is_history : IsHistory depth replicas view.seen
+  pub words_are : IsWordsOf (log_after replicas view.seen) words
+  pub owns : view.owns ≡ owned replica
+  pub owned_below : IsBelow replicas replica
+  pub mine : All (λ number. number < length view.seen) view.mine
+
+abbrev pub tails_of_words : List ℕ → Tails
+tails_of_words words = record { tail = slice_index words 0; completed = slice_index words 1; local = slice_index words 2 ∷ slice_index words 3 ∷ slice_index words 4 ∷ slice_index words 5 ∷ [] }
+
+-- the view of a pass that has seen and made nothing
+abbrev pub new_view : List ℕ → View
+new_view owns = record { seen = []; mine = []; owns = owns; told = [] }
+
+-- the replicas that the first pass still owns before it gives one away, and after that; none where it gives none
+abbrev pub left_from : ℕ → Option ℕ → List ℕ
+left_from replicas None = []
+left_from replicas (Some replica) = range_with_len replica (replicas - replica)
+
+abbrev pub rest_of : ℕ → Option ℕ → List ℕ
+rest_of replicas None = []
+rest_of replicas (Some replica) = range_with_len (replica + 1) (replicas - (replica + 1))

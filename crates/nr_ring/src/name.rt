@@ -1,0 +1,21 @@
+//! What a log and its passes have in common.
+use std::marker::Brand;
+
+/// Names a log: its depth and the number of its replicas. A function over a log is generic in its name, and a caller picks
+/// the two for `Brand`.
+pub trait LogName {
+    ghost use Rattle.std.specs.Prelude.{ℕ};
+    ghost use Rattle.vs_types.specs.declared.depth.Depth.{Depth};
+
+    ghost depth: { Depth };
+
+    ghost replicas: { ℕ };
+}
+
+impl LogName for Brand {
+    ghost use Rattle.vs_types.specs.declared.depth.Depth.TheVariants.{Four};
+
+    ghost depth = { Four };
+
+    ghost replicas = { 1 };
+}

@@ -1,0 +1,27 @@
+//! A thread's pass to a log.
+use crate::name::LogName;
+use crate::view::View;
+use crossbeam_utils::atomic::seq_cell::Pass;
+use std::marker::{Model, PhantomData};
+
+/// What one thread knows of a log: the words of the cell that it saw last, and the replica that it owns, if any. Contracts
+/// see which log it is and what the pass knows of it.
+#[derive(Drop)]
+pub struct LogPass<J: LogName> {
+    pub(crate) pass: Pass<[u64; 39], View>,
+    pub(crate) words: [u64; 39],
+    pub(crate) replica: Option<u8>,
+    pub(crate) of: PhantomData<J>,
+}
+
+impl<J: LogName> Model for LogPass<J> {
+    ghost use Rattle.crossbeam_utils.specs.Seq.{cell_view};
+    ghost use Rattle.nr_ring.specs.Pass.{Known};
+    ghost use Rattle.nr_ring.specs.inside.Held.{Remembers};
+
+    ghost Value = { Known };
+
+    ghost view = { λ p. record { log = p.pass.table_id; view = cell_view p.pass } };
+
+    ghost invariant = { λ p. Remembers J.depth J.replicas p.words p.replica (cell_view p.pass) };
+}

@@ -1,0 +1,113 @@
+//! The log: one cell of 39 words that its threads share.
+ghost use Rattle.std.specs.Prelude.{◌≡◌, ◌≤◌, ◌-◌, ℕ, IfOk, [], ◌∷◌};
+ghost use Rattle.std.specs.List.{range_with_len};
+ghost use Rattle.crossbeam_utils.specs.Seq.{cell_view, IsSamePass};
+ghost use Rattle.nr_ring.specs.Calls.{HasLooked};
+ghost use Rattle.nr_ring.specs.History.{log_after};
+ghost use Rattle.nr_ring.specs.Pass.{new_pass, new_passes, tails_of};
+ghost use Rattle.nr_ring.specs.Words.{new_words};
+ghost use Rattle.nr_ring.specs.inside.Held.{IsBelow, left_from, new_view, owned, rest_of};
+
+use crate::name::LogName;
+use crate::pass::LogPass;
+use crate::rule::{FirstOwned, LogRule, Looking};
+use crate::tails::{Tails, tails_in};
+use crate::view::View;
+use crossbeam_utils::atomic::seq_cell::{Pass, RuledSeqCell};
+use std::alloc::Global;
+use std::marker::{Model, PhantomData};
+use std::sync::Wait;
+use vs_types::{Depth, Memory};
+
+type Cell<J> = RuledSeqCell<[u64; 39], View, LogRule<J>, 39>;
+
+/// The shared log: a ring of 16 entries and the tails, in one cell. Contracts see which log it is.
+#[derive(Drop)]
+pub struct RingLog<J: LogName> {
+    cell: RuledSeqCell<[u64; 39], View, LogRule<J>, 39>,
+    depth: Depth,
+    of: PhantomData<J>,
+}
+
+impl<J: LogName> Model for RingLog<J> {
+    ghost use Rattle.std.specs.Prelude.{◌≡◌};
+    ghost use Rattle.atomic_table.specs.Seated.{TableId};
+
+    ghost Value = { TableId };
+
+    ghost view = { λ l. l.cell.table.shared.table_id };
+
+    ghost invariant = { λ l. l.depth ≡ J.depth };
+}
+
+impl<J: LogName> RingLog<J> {
+    /// A log without entries, of 1 to 4 replicas, and its passes: pass r owns replica r, and `others` further passes own none,
+    /// of which there may be 64. It takes all memory that the log ever needs.
+    pub fn new(
+        alloc: Global,
+        depth: Depth,
+        replicas: u8,
+        others: u8,
+    ) -> Result<(RingLog<J>, Vec<LogPass<J>>), Memory>
+        requires depth { depth ≡ J.depth }
+        requires replicas { (replicas ≡ J.replicas) × (1 ≤ replicas) × (replicas ≤ 4) }
+        requires others { others ≤ 64 }
+        ensures { IfOk result (λ made. made.1.items ≡ new_passes made.0 replicas others) }
+    {
+        let mut words = [0; 39];
+        words[6] = u64::from(replicas);
+        let (cell, mut first) = Cell::<J>::ruled(alloc, words)?;
+        let log = RingLog {
+            cell,
+            depth,
+            of: PhantomData,
+        };
+        let mut passes = Vec::new(alloc);
+        passes.reserve(usize::from(replicas) + usize::from(others))?;
+        for replica in 0..replicas {
+            let pass = log.split_off(&mut first, words, Some(replica));
+            passes.push(pass)?;
+        }
+        for _ in 0..others {
+            let pass = log.split_off(&mut first, words, None);
+            passes.push(pass)?;
+        }
+        Ok((log, passes))
+    }
+
+    /// Splits a pass off the first one, which gives it the first replica that it owns.
+    fn split_off(
+        &self,
+        first: &mut Pass<[u64; 39], View>,
+        words: [u64; 39],
+        replica: Option<u8>,
+    ) -> LogPass<J>
+        requires first { (first.old.table_id ≡ self.now) × (cell_view first.old ≡ new_view (left_from J.replicas replica)) }
+        requires words { words ≡ new_words J.replicas }
+        requires few { (J.replicas ≤ 4) × IsBelow J.replicas replica }
+        ensures first { IsSamePass first.old first.new × (cell_view first.new ≡ new_view (rest_of J.replicas replica)) }
+        ensures pass { result ≡ new_pass self.now (owned replica) }
+    {
+        let pass = self.cell.split_pass::<FirstOwned>(first);
+        LogPass {
+            pass,
+            words,
+            replica,
+            of: PhantomData,
+        }
+    }
+
+    /// Loads the cell: the tails of the log after all that the pass has then seen.
+    ///
+    /// Waits for the cell.
+    pub fn look<R: Wait>(&self, rt: &R, pass: &mut LogPass<J>) -> Tails
+        requires { pass.old.log ≡ self.now }
+        ensures log { pass.new.log ≡ pass.old.log }
+        ensures looked { HasLooked J.depth J.replicas pass.old.view pass.new.view }
+        ensures tails { result ≡ tails_of (log_after J.replicas pass.new.view.seen) }
+    {
+        let words = self.cell.load_as::<Looking<J>, R>(rt, &mut pass.pass);
+        pass.words = words;
+        tails_in(&words)
+    }
+}

@@ -1,0 +1,30 @@
+ghost use Rattle.std.specs.Prelude.{◌≡◌, ◌<◌, ◌^◌, ℕ, slice_index};
+ghost use Rattle.nr_ring.specs.inside.Held.{tails_of_words};
+
+/// The tails of a log: how many entries it has, and how many of them have been taken. All are at most 65,536.
+#[derive(Clone, Copy, Debug, PartialEq, Eq)]
+pub struct Tails {
+    /// The place at which the next entry will stand.
+    pub tail: u32,
+    /// The greatest local tail.
+    pub completed: u32,
+    /// The local tail of each replica; 0 for those that are absent.
+    pub local: [u32; 4],
+}
+
+/// The tails that the words of a log's cell have.
+pub(crate) fn tails_in(words: &[u64; 39]) -> Tails
+    requires { (word : ℕ) → word < 6 → slice_index words.now word < 2 ^ 32 }
+    ensures { result ≡ tails_of_words words.now }
+{
+    Tails {
+        tail: words[0] as u32,
+        completed: words[1] as u32,
+        local: [
+            words[2] as u32,
+            words[3] as u32,
+            words[4] as u32,
+            words[5] as u32,
+        ],
+    }
+}
