@@ -1,8 +1,8 @@
 -- The answers of a trace, against the space after the calls that stand before in the recorded order.
 use Rattle.std.proofs.Common.{◌≡◌, ℕ, zero, suc, ◌+◌, ◌<◌, ◌≤◌, false, List, [], ◌∷◌, ◌++◌, length, take, get_or, Some, None, Option, refl, sym, ap, subst, ◌∙◌, inl, inr, arith}
-use Rattle.std.specs.Prelude.{option_map, Contains, IfSome, ◌==◌, nat_eq}
+use Rattle.std.specs.Prelude.{is_some, option_map, Contains, IfSome, ◌==◌, nat_eq}
 use Rattle.std.specs.List.{IsDistinct, AllByRecursion, position_or_len, cons_option}
-use Rattle.std.proofs.lemmas.Bool.{cases_lt, false≢true, eq-eqb, eqb-true, ne_eqb}
+use Rattle.std.proofs.lemmas.Bool.{cases_lt, cond-true, cond-false, false≢true, eq-eqb, eqb-true, ne_eqb}
 use Rattle.std.proofs.lemmas.List.{length-take, length-take-le, take_more}
 use Rattle.std.proofs.lemmas.List.Sums.{position_or_len_is, passes_at_first}
 use Rattle.std.proofs.lemmas.List.Elements.{filter_map-append, at_from_Contains}
@@ -17,12 +17,12 @@ use Rattle.vs_types.specs.declared.answer.Answer.{Answer}
 use Rattle.vs_plain.specs.Plain.{BoundedSpace}
 use Rattle.nr_trace.specs.Recording.{Recording}
 use Rattle.nr_trace.specs.Calls.{Invocation, call_of, operation_of, Response, reply_to}
-use Rattle.nr_trace.specs.Orders.{before, operations, space_after, answer_in, recorded_order}
+use Rattle.nr_trace.specs.Orders.{before, updates, operations, space_after, answer_in, recorded_order}
 use Rattle.nr_trace.specs.Faults.{Holds, Earlier, IsWrong}
 use Rattle.nr_trace.specs.Laws.{HasCleanLog}
 use Rattle.nr_trace.specs.declared.fault.Fault.{Fault}
 use Rattle.nr_trace.specs.declared.fault.Fault.TheVariants.{WrongAnswer}
-use Rattle.nr_trace.proofs.LawsOfOrder.{order_distinct}
+use Rattle.nr_trace.proofs.LawsOfOrder.{order_distinct, updates_of_order}
 use Rattle.nr_trace.proofs.LawsOfFaults.{wrong_is_member}
 use Rattle.nr_audit.specs.inside.Search.{HasNone, IsFirstAmong}
 use Rattle.nr_audit.specs.inside.Passes.{IsAnswerFault}
@@ -110,6 +110,25 @@ space_visits trace order k d (Update action) within asks =
     sym (more trace order k d within ∙ ap (λ o. after_all trace.layout.depth trace.layout.tables (space_after trace (take k order)) (cons_option o [])) (operation_by trace (get_or order k d) (Some (Update action)) asks))
 space_visits trace order k d (Resolve address) within asks =
     sym (more trace order k d within ∙ ap (λ o. after_all trace.layout.depth trace.layout.tables (space_after trace (take k order)) (cons_option o [])) (operation_by trace (get_or order k d) (Some (Resolve address)) asks))
+
+operations_of_updates : (trace : Recording) (xs : List ℕ) → operations trace (updates trace xs) ≡ operations trace xs
+operations_of_updates trace [] = refl
+operations_of_updates trace (x ∷ xs) = by_case (operation_of trace x) refl (operations_of_updates trace xs) where
+  by_case : (o : Option Action) → operation_of trace x ≡ o → operations trace (updates trace xs) ≡ operations trace xs
+      → operations trace (updates trace (x ∷ xs)) ≡ operations trace (x ∷ xs)
+  by_case None none rest =
+      ap (λ ys. operations trace ys) (cond-false (is_some (operation_of trace x)) (x ∷ updates trace xs) (updates trace xs) (ap is_some none))
+      ∙ rest ∙ sym (ap (λ o. cons_option o (operations trace xs)) none)
+  by_case (Some action) some rest =
+      ap (λ ys. operations trace ys) (cond-true (is_some (operation_of trace x)) (x ∷ updates trace xs) (updates trace xs) (ap is_some some))
+      ∙ ap (λ ys. cons_option (operation_of trace x) ys) rest
+
+-- the recorded order leaves the space that the log does
+pub space_of_order : (trace : Recording) (order : List ℕ) → HasCleanLog trace → order ≡ recorded_order trace → space_after trace order ≡ space_after trace trace.log
+space_of_order trace order clean listed =
+    ap (λ xs. space_after trace xs) listed
+    ∙ ap (λ xs. after_all trace.layout.depth trace.layout.tables no_pages xs)
+    (sym (operations_of_updates trace (recorded_order trace)) ∙ ap (λ xs. operations trace xs) (updates_of_order trace clean))
 
 -- ---- answers
 

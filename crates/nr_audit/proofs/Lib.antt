@@ -12,4 +12,5 @@ pub mod AnswerEquality
 pub mod FirstOfPasses
 pub mod NeededEntries
 pub mod DumpFaults
+pub mod ComparedDumps
 pub mod PartsOfVerdicts

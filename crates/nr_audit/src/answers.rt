@@ -1,10 +1,10 @@
 ghost use Rattle.std.specs.Prelude.{◌≡◌, ◌↔◌, IfOk, OnOk, IfErr, IfSome, IsTrue};
 ghost use Rattle.nr_trace.specs.Laws.{HasCleanLog};
-ghost use Rattle.nr_trace.specs.Orders.{recorded_order};
+ghost use Rattle.nr_trace.specs.Orders.{recorded_order, space_after};
 ghost use Rattle.vs_types.specs.Refusal.{IfRefused};
 ghost use Rattle.nr_audit.specs.inside.Search.{HasNone, IsFirstAmong};
 ghost use Rattle.nr_audit.specs.inside.Passes.{IsAnswerFault};
-ghost use Rattle.nr_audit.specs.inside.Steps.{Serves};
+ghost use Rattle.nr_audit.specs.inside.Steps.{Serves, space_of};
 
 use crate::history::{History, Reply};
 use nr_trace::Fault;
@@ -38,15 +38,16 @@ fn agrees(reply: Option<Reply>, answer: Answer) -> bool
     }
 }
 
-/// Serves the calls of a trace in the recorded order on one space, and looks for an answer that is not the space's.
-/// Takes memory for the space.
+/// Serves the calls of a trace in the recorded order on one space, and looks for an answer that is not the space's. Gives
+/// the space after all of them, and takes memory for it.
 pub(crate) fn check_answers(
     alloc: Global,
     history: &History,
     order: &[u32],
-) -> Result<(), Fail<Fault>>
+) -> Result<PlainSpace, Fail<Fault>>
     requires clean { HasCleanLog history.now }
     requires listed { order.now ≡ recorded_order history.now }
+    ensures space { IfOk result (λ space. space ≡ space_of history.now.layout (space_after history.now history.now.log)) }
     ensures right { OnOk result (HasNone IsAnswerFault history.now) }
     ensures first { IfErr result (IfRefused (IsFirstAmong IsAnswerFault history.now)) }
 {
@@ -61,5 +62,5 @@ pub(crate) fn check_answers(
             return Err(Fail::Refused(Fault::WrongAnswer(*call)));
         }
     }
-    Ok(())
+    Ok(space)
 }

@@ -25,7 +25,7 @@ pub(crate) fn search(alloc: Global, trace: &Trace) -> Result<Vec<u32>, Fail<Faul
     check_positions(&history)?;
     check_floors(&history, &places)?;
     let order = list_order(alloc, &history)?;
-    check_answers(alloc, &history, &order)?;
-    check_dumps(alloc, &history)?;
+    let space = check_answers(alloc, &history, &order)?;
+    check_dumps(alloc, &history, space)?;
     Ok(order)
 }

@@ -1,10 +1,11 @@
 use Rattle.std.proofs.Common.{◌≡◌, ℕ, ◌<◌, length, take, get_or, sym, ap, subst, ◌∙◌, arith}
+use Rattle.std.proofs.Math.Seq.{take-length}
 use Rattle.std.proofs.lemmas.Bool.{iff_false}
 use Rattle.vs_plain.specs.Plain.{BoundedSpace}
 use Rattle.nr_trace.specs.Orders.{space_after}
 use Rattle.nr_trace.specs.Faults.{IsWrong}
 use Rattle.nr_audit.specs.inside.Steps.{Serves}
-use Rattle.nr_audit.proofs.AnswerFaults.{kept, space_visits, space_stays, none_wrong, first_wrong, wrong_here, right_here, no_call_is_right, answered, left, right_more}
+use Rattle.nr_audit.proofs.AnswerFaults.{kept, space_visits, space_stays, none_wrong, first_wrong, wrong_here, right_here, no_call_is_right, answered, left, space_of_order, right_more}
 use Rattle.nr_audit.proofs.answers.check_answers.Goals as goal
 
 -- src/answers.rt:60:5
@@ -46,6 +47,16 @@ loop-call-preserved c =
       right = right_more trace order k c.loop-call.invariant.right
           (right_here trace order c.requires.listed c.requires.clean k c.in-Some.query c.in_ok-answer.answer c.reply.result c.loop-call-test.true asks gives c.reply.ensures (c.agrees.ensures.0 c.if-not-agrees.false));
     }
+
+-- src/answers.rt:46:1
+pub returns-clause-space : goal.returns-clause-space
+returns-clause-space c =
+    let trace = c.args.history.now in
+    let order = c.args.order.now in
+    let at_end : c.loop-call.call-index ≡ length order = omega arith in
+    c.loop-call.invariant.space
+    ∙ ap (λ s. kept trace.layout s) (ap (λ n. space_after trace (take n order)) at_end ∙ ap (λ xs. space_after trace xs) (take-length order)
+    ∙ space_of_order trace order c.requires.clean c.requires.listed)
 
 -- src/answers.rt:46:1
 pub returns-clause-right : goal.returns-clause-right

@@ -57,14 +57,18 @@ check_answers-requires-clause-clean c =
     clean_after_positions t (after_positions t calls c.in_ok-places.ensures.clean c.in_ok-check_positions.ensures.clean)
 
 -- src/search.rt:28:5
-pub returns-in_err-check_answers-clause-first : goal.returns-in_err-check_answers-clause-first
-returns-in_err-check_answers-clause-first c =
-    let p = err_from_is_err_and c.from_residual-in_err-check_answers.result c.from_residual-in_err-check_answers.ensures.1 in
+pub returns-in_err-space-clause-first : goal.returns-in_err-space-clause-first
+returns-in_err-space-clause-first c =
+    let p = err_from_is_err_and c.from_residual-in_err-space.result c.from_residual-in_err-space.ensures.1 in
     let same = c.in_ok-history.ensures.history in
     let t = c.in_ok-history.history in
     let calls = subst (λ t. HasNone IsCallFault t) (sym same) c.in_ok-history.ensures.clean in
     rw (p.1, p.2) (refused_of t c.args.trace.now _ same (refused_by_pass 6 IsAnswerFault t _ answer_faults
-    (after_floors t calls c.in_ok-places.ensures.clean c.in_ok-check_positions.ensures.clean c.in_ok-check_floors.ensures.clean) c.in_err-check_answers.ensures.first))
+    (after_floors t calls c.in_ok-places.ensures.clean c.in_ok-check_positions.ensures.clean c.in_ok-check_floors.ensures.clean) c.in_err-space.ensures.first))
+
+-- src/search.rt:29:5
+pub check_dumps-requires : goal.check_dumps-requires
+check_dumps-requires c = c.in_ok-space.ensures.space
 
 -- src/search.rt:29:5
 pub returns-in_err-check_dumps-clause-first : goal.returns-in_err-check_dumps-clause-first
@@ -74,7 +78,7 @@ returns-in_err-check_dumps-clause-first c =
     let t = c.in_ok-history.history in
     let calls = subst (λ t. HasNone IsCallFault t) (sym same) c.in_ok-history.ensures.clean in
     rw (p.1, p.2) (refused_of t c.args.trace.now _ same (refused_by_pass 7 IsDumpFault t _ dump_faults
-    (after_answers t calls c.in_ok-places.ensures.clean c.in_ok-check_positions.ensures.clean c.in_ok-check_floors.ensures.clean c.in_ok-check_answers.ensures.right)
+    (after_answers t calls c.in_ok-places.ensures.clean c.in_ok-check_positions.ensures.clean c.in_ok-check_floors.ensures.clean c.in_ok-space.ensures.right)
     c.in_err-check_dumps.ensures.first))
 
 -- src/search.rt:19:1
@@ -84,6 +88,6 @@ returns-clause-none c =
     let t = c.in_ok-history.history in
     let calls = subst (λ t. HasNone IsCallFault t) (sym same) c.in_ok-history.ensures.clean in (
       subst (λ t. IsFaultless t) same (faultless_after_all t (after_dumps t calls c.in_ok-places.ensures.clean c.in_ok-check_positions.ensures.clean
-          c.in_ok-check_floors.ensures.clean c.in_ok-check_answers.ensures.right c.in_ok-check_dumps.ensures.clean)),
+          c.in_ok-check_floors.ensures.clean c.in_ok-space.ensures.right c.in_ok-check_dumps.ensures.clean)),
       c.in_ok-order.ensures ∙ ap (λ t. recorded_order t) same,
     )
