@@ -1,5 +1,4 @@
 use Rattle.std.proofs.Common.{refl}
-use Rattle.vs_types.specs.declared.access.Access.TheVariants.{Read}
 use Rattle.vs_types.proofs.Accesses.{both_allow, codes_apart}
 use Rattle.vs_types.proofs.laws.rights_allow_accesses.Goals as goal
 
