@@ -247,7 +247,8 @@ pub high_walk_below : walk Five high_tables 1 0x123 ≡ NotMapped
 high_walk_below = beside_word high_tables 4 1 all_rights 0x123 256 0x2007 high_frame_1 (omega arith)
 
 pub high_visits : traversal Five high_tables 1
-    ≡ OfFrame 1 ∷ OfFrame 2 ∷ OfFrame 3 ∷ OfFrame 4 ∷ OfFrame 5 ∷ OfLeaf (record { base = 0xFF00000000000000; size = K4; phys = 0x3000; rights = all_rights }) ∷ []
+    ≡ OfFrame 1 ∷ OfFrame 2 ∷ OfFrame 3 ∷ OfFrame 4 ∷ OfFrame 5 ∷ OfLeaf
+    (record { base = 0xFF00000000000000; size = K4; phys = 0x3000; rights = all_rights }) ∷ []
 high_visits =
     visits_of_word Five high_tables 4 256 0x2007
     (record { number = 1; start = 0; rights = all_rights }) (entry.Table 2 all_rights) high_frame_1 (omega arith) refl
@@ -290,7 +291,8 @@ root_bit =
 
 pub empty_root : walk_fault Five one_empty_frame 1 ≡ None
 empty_root =
-    ap (first_fault_after one_empty_frame []) (visits_of_nothing Five one_empty_frame 4 (record { number = 1; start = 0; rights = all_rights }) only_empty_frame)
+    ap (first_fault_after one_empty_frame []) (visits_of_nothing Five one_empty_frame 4
+    (record { number = 1; start = 0; rights = all_rights }) only_empty_frame)
     ∙ fine one_empty_frame [] [] 1 _ only_empty_frame refl
   where
     only_empty_frame : finite.get one_empty_frame 1 ≡ Some no_words
