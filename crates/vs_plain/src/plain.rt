@@ -1,5 +1,6 @@
-ghost use Rattle.std.specs.Prelude.{◌≡◌, None, IfOk, OnErr};
+ghost use Rattle.std.specs.Prelude.{◌≡◌, map, None, IfOk, OnErr};
 ghost use Rattle.std.specs.FinMap as finite;
+ghost use Rattle.std.specs.List.Sorted.{IsStrictlyIncreasing};
 ghost use Rattle.vs_types.specs.Page.{IsPage};
 ghost use Rattle.vs_types.specs.Space.{no_pages, pages, page_at, least_overlapped, IsSpace, table_count};
 ghost use Rattle.vs_types.specs.Operation.{IsAction};
@@ -71,6 +72,7 @@ impl PlainSpace {
     /// The pages, by rising base. Takes memory.
     pub fn pages(&self) -> Result<Vec<Page>, Memory>
         ensures lists { IfOk result (λ v. v.items ≡ pages self.now.space) }
+        ensures rising { IfOk result (λ v. IsStrictlyIncreasing (map (λ page. page.base) v.items)) }
         ensures apart { IsSpace self.now.depth self.now.space }
     {
         self.page_map.list()
