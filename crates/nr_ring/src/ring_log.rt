@@ -1,21 +1,23 @@
 //! The log: one cell of 39 words that its threads share.
-ghost use Rattle.std.specs.Prelude.{◌≡◌, ◌≤◌, ◌-◌, ℕ, IfOk, [], ◌∷◌};
+ghost use Rattle.std.specs.Prelude.{◌≡◌, ◌≤◌, ◌-◌, ◌<◌, ℕ, Contains, IfOk, MatchBool, OnErr, OnOk, [], ◌∷◌};
 ghost use Rattle.std.specs.List.{range_with_len};
 ghost use Rattle.crossbeam_utils.specs.Seq.{cell_view, IsSamePass};
-ghost use Rattle.nr_ring.specs.Calls.{HasLooked};
-ghost use Rattle.nr_ring.specs.History.{log_after};
+ghost use Rattle.nr_ring.specs.Calls.{HasLooked, HasMoved, HasTaken, MayMake, MayTake, joined, with_event};
+ghost use Rattle.nr_ring.specs.History.{IsHistory, MayAdvance, MayFollow, after, log_after};
+ghost use Rattle.nr_ring.specs.declared.event.Event.TheVariants.{Advance};
 ghost use Rattle.nr_ring.specs.Pass.{new_pass, new_passes, tails_of};
-ghost use Rattle.nr_ring.specs.Words.{new_words};
+ghost use Rattle.nr_ring.specs.View.{StartsWith};
+ghost use Rattle.nr_ring.specs.Words.{IsWordsOf, new_words};
 ghost use Rattle.nr_ring.specs.inside.Held.{IsBelow, left_from, new_view, owned, rest_of};
 
 use crate::name::LogName;
 use crate::pass::LogPass;
-use crate::rule::{FirstOwned, LogRule, Looking};
-use crate::tails::{Tails, tails_in};
+use crate::rule::{Copies, Exchanging, FirstOwned, Happening, LogRule, Looking};
+use crate::tails::{Moved, Tails, tails_in};
 use crate::view::View;
 use crossbeam_utils::atomic::seq_cell::{Pass, RuledSeqCell};
 use std::alloc::Global;
-use std::marker::{Model, PhantomData};
+use std::marker::{Brand, Model, PhantomData};
 use std::sync::Wait;
 use vs_types::{Depth, Memory};
 
@@ -109,5 +111,102 @@ impl<J: LogName> RingLog<J> {
         let words = self.cell.load_as::<Looking<J>, R>(rt, &mut pass.pass);
         pass.words = words;
         tails_in(&words)
+    }
+
+    /// Raises the local tail of the replica that the pass owns to a place, and the completed tail to it where that is lower.
+    /// Where the local tail is there already, nothing is exchanged. `Moved` where another pass's event has come since this pass
+    /// last saw the cell.
+    ///
+    /// Waits for the cell.
+    pub fn advance<R: Wait>(&self, rt: &R, pass: &mut LogPass<J>, to: u32) -> Result<(), Moved>
+        requires log { pass.old.log ≡ self.now }
+        requires to { MayTake J.replicas pass.old.view to }
+        ensures log { pass.new.log ≡ pass.old.log }
+        ensures taken { OnOk result (HasTaken J.replicas pass.old.view to pass.new.view) }
+        ensures moved { OnErr result (HasLooked J.depth J.replicas pass.old.view pass.new.view × HasMoved pass.old.view pass.new.view) }
+        ensures history { IsHistory J.depth J.replicas pass.new.view.seen }
+    {
+        let Some(replica) = pass.replica else {
+            unreachable!()
+        };
+        let local = 2 + usize::from(replica);
+        let place = u64::from(to);
+        let words = pass.words;
+        if words[local] == place {
+            return Ok(());
+        }
+        if self.try_advance::<Brand, R>(rt, pass, replica, to) {
+            Ok(())
+        } else {
+            Err(Moved)
+        }
+    }
+
+    fn try_advance<E: Happening, R: Wait>(
+        &self,
+        rt: &R,
+        pass: &mut LogPass<J>,
+        replica: u8,
+        to: u32,
+    ) -> bool
+        requires log { pass.old.log ≡ self.now }
+        requires event { E.event ≡ Advance replica to }
+        requires may { (replica < 4) × MayAdvance (log_after J.replicas pass.old.view.seen) replica to × Contains pass.old.view.owns replica }
+        ensures log { pass.new.log ≡ pass.old.log }
+        ensures view { MatchBool result (pass.new.view ≡ with_event pass.old.view E.event) (HasLooked J.depth J.replicas pass.old.view pass.new.view × HasMoved pass.old.view pass.new.view) }
+        ensures history { IsHistory J.depth J.replicas pass.new.view.seen }
+    {
+        let local = 2 + usize::from(replica);
+        let place = u64::from(to);
+        let mut next = pass.words;
+        next[1] = next[1].max(place);
+        next[local] = place;
+        self.exchange::<E, R>(rt, pass, next)
+    }
+
+    /// Exchanges the words that the pass saw last for those after an event, where the cell still has them; else it looks.
+    fn exchange<E: Happening, R: Wait>(
+        &self,
+        rt: &R,
+        pass: &mut LogPass<J>,
+        next: [u64; 39],
+    ) -> bool
+        requires log { pass.old.log ≡ self.now }
+        requires event { MayFollow J.depth (log_after J.replicas pass.old.view.seen) E.event × MayMake pass.old.view E.event }
+        requires next { IsWordsOf (after (log_after J.replicas pass.old.view.seen) E.event) next }
+        ensures log { pass.new.log ≡ pass.old.log }
+        ensures view { MatchBool result (pass.new.view ≡ with_event pass.old.view E.event) (HasLooked J.depth J.replicas pass.old.view pass.new.view × HasMoved pass.old.view pass.new.view) }
+        ensures history { IsHistory J.depth J.replicas pass.new.view.seen }
+    {
+        let words = pass.words;
+        let found = self
+            .cell
+            .compare_exchange_as::<Exchanging<J, E>, R>(rt, &mut pass.pass, words, next);
+        match found {
+            Ok(_) => {
+                pass.words = next;
+                true
+            }
+            Err(found) => {
+                pass.words = found;
+                false
+            }
+        }
+    }
+
+    /// Tells one pass what another has seen: what `told` has then seen begins with all that either had seen.
+    ///
+    /// Waits for the cell.
+    pub fn meet<R: Wait>(&self, rt: &R, pass: &mut LogPass<J>, told: &mut LogPass<J>)
+        requires log { (pass.old.log ≡ self.now) × (told.old.log ≡ self.now) }
+        ensures pass { pass.new ≡ pass.old }
+        ensures log { told.new.log ≡ told.old.log }
+        ensures met { StartsWith told.new.view.seen pass.old.view.seen × StartsWith told.new.view.seen told.old.view.seen }
+        ensures looked { HasLooked J.depth J.replicas (joined told.old.view pass.old.view) told.new.view }
+    {
+        let copy = self.cell.split_pass::<Copies>(&mut pass.pass);
+        self.cell.join_pass::<Copies>(&mut told.pass, copy);
+        let words = self.cell.load_as::<Looking<J>, R>(rt, &mut told.pass);
+        told.words = words;
     }
 }

@@ -12,6 +12,10 @@ pub struct Tails {
     pub local: [u32; 4],
 }
 
+/// Another pass's event has come since this pass last saw the cell.
+#[derive(Clone, Copy, Debug, PartialEq, Eq)]
+pub struct Moved;
+
 /// The tails that the words of a log's cell have.
 pub(crate) fn tails_in(words: &[u64; 39]) -> Tails
     requires { (word : ℕ) → word < 6 → slice_index words.now word < 2 ^ 32 }
