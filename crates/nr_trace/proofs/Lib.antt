@@ -1,4 +1,3 @@
-pub mod Fields
 pub mod Events
 pub mod Words
 pub mod Counts

@@ -95,15 +95,16 @@ some_bytes (Words parts opened number) len is = omega (arith, some_is 4096 len i
 pub ready_to_end : (reader : Reader) → IsReady reader → unit_bytes reader ≡ None → (trace : Recording) × Spells (said reader) trace
 ready_to_end (Magic alloc) ready is = absurd cc
 ready_to_end (Version alloc) ready is = absurd cc
-ready_to_end (Header alloc) ready is = absurd cc
+ready_to_end (Header alloc version) ready is = absurd cc
 ready_to_end (Log parts places events) ready is = absurd cc
 ready_to_end (Events parts events) ready is = absurd cc
 ready_to_end (Dumps parts) ready is =
     let all : parts.config.replicas ≤ length parts.dumps.items = ltb-false _ _ (not_chosen (nat_lt (length parts.dumps.items) parts.config.replicas) 16 is) in
-    (record { layout = parts.config; log = parts.log.items; events = parts.events.items; dumps = parts.dumps.items },
+    (record { version = parts.version; layout = parts.config; log = parts.log.items; events = parts.events.items; dumps = parts.dumps.items },
     record {
       in_range = record {
         layout = ready.layout;
+        depth = ready.depth;
         few_places = ready.few_places;
         log = ready.log;
         few_events = ready.few_events;

@@ -6,6 +6,7 @@
 mod event;
 pub mod examples;
 mod fault;
+mod fields;
 mod laws;
 mod ranges;
 mod reading;

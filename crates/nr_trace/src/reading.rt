@@ -1,7 +1,5 @@
 //! Reading of traces.
 
-mod answer;
-mod codes;
 mod dumps;
 mod event;
 mod feed;
@@ -9,7 +7,6 @@ mod fields;
 mod header;
 mod parts;
 mod places;
-mod request;
 mod whole;
 mod words;
 
