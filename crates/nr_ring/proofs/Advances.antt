@@ -9,7 +9,7 @@ use Rattle.nr_ring.specs.declared.view.View.{View}
 use Rattle.nr_ring.specs.inside.Held.{Remembers}
 use Rattle.nr_ring.proofs.Histories.{as_many_locals}
 
-same_replica : (owns : List ℕ) (p q : ℕ) → owns ≡ p ∷ [] → owns ≡ q ∷ [] → p ≡ q
+pub same_replica : (owns : List ℕ) (p q : ℕ) → owns ≡ p ∷ [] → owns ≡ q ∷ [] → p ≡ q
 same_replica owns p q a b = ap (λ (l : List ℕ). slice_index l 0) (sym a ∙ b)
 
 pub low_replica : (depth : Depth) (replicas : ℕ) (words : List ℕ) (r : ℕ) (v : View) → Remembers depth replicas words (Some r) v → r < 4

@@ -12,3 +12,6 @@ pub mod NewLog
 pub mod Passes
 pub mod Advances
 pub mod Meets
+pub mod Batches
+pub mod Fetches
+pub mod Appends

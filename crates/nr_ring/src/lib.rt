@@ -4,6 +4,7 @@
 //! tail is the greatest local tail.
 #![tactic(auto)]
 
+mod batch;
 mod cell_words;
 mod event;
 pub mod examples;
@@ -31,5 +32,5 @@ pub use steps::{
     events_keep_the_rule, joins_keep_the_rule, looks_keep_the_rule, new_logs_keep_the_rule,
     own_words_mean_all_seen, splits_keep_the_rule,
 };
-pub use tails::{Moved, Tails};
+pub use tails::{AppendFault, Moved, Tails};
 pub use view::View;
