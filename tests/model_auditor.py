@@ -2,8 +2,7 @@
 """A second auditor, in plain Python: written from docs/FORMATS.md and docs/DEFINITIONS.md alone, to compare with.
 
 Nothing here is proved, and nothing rests on it. It shares no line and no idea of a loop with the program: where the two
-disagree on a trace, one of them is wrong. It also reads version 2 of the format, which the program doesn't yet. The largest
-trace takes it some seconds.
+disagree on a trace, one of them is wrong. The largest trace takes it some seconds.
 
     model_auditor.py audit <TRACE                  what `nrvs audit` prints, with its status
     model_auditor.py resolve --address A [--replica N] <TRACE      what `nrvs resolve` prints, with its status

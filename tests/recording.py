@@ -2,10 +2,11 @@
 written from the pages."""
 import struct
 
-MAP, UNMAP, PROTECT, RESOLVE = range(4)
-DONE, OVERLAP, FULL, REMOVED, NOT_MAPPED, INSIDE, CHANGED, MAPPED = range(8)
+MAP, UNMAP, PROTECT, RESOLVE, ACCESS = range(5)
+DONE, OVERLAP, FULL, REMOVED, NOT_MAPPED, INSIDE, CHANGED, MAPPED, ALLOWED, FAULT = range(10)
 BYTES = (1 << 12, 1 << 21, 1 << 30)     # of a page, by the code of its size
-ALL = 7                                  # all rights
+WRITE, USER, EXEC, ALL = 1, 2, 4, 7     # rights
+READS, WRITES, FETCHES = range(3)       # of an access
 
 
 def call(replica, thread, kind, address, size=0, rights=0, physical=0):
@@ -18,16 +19,16 @@ def reply(number, at, answer, size=0, rights=0, value=0):
 
 def entry(size, physical, rights):
     """The word of a page."""
-    no_execute = 0 if rights & 4 else 1 << 63
+    no_execute = 0 if rights & EXEC else 1 << 63
     return physical | 1 | (rights & 1) << 1 | (rights & 2) << 1 | (0x80 if size else 0) | no_execute
 
 
-def frames(pages, root=1):
+def frames(pages, root=1, levels=4):
     """The frames of a page table of these pages, {base: (size, physical, rights)}: {number: {index: word}}."""
     tables, places = {root: {}}, {}
     for base, (size, physical, rights) in pages.items():
         number = root
-        for level in range(4, size + 1, -1):
+        for level in range(levels, size + 1, -1):
             place = (level, base >> (3 + 9 * level))
             if place not in places:
                 places[place] = root + len(tables)
@@ -48,8 +49,8 @@ def dump(applied, tables, root=1):
     return b"".join(parts)
 
 
-def trace(replicas, threads, tables, log, events, dumps):
-    counts = struct.pack(">HBBHHII", 1, 4, replicas, threads, tables, len(log), len(events))
+def trace(replicas, threads, tables, log, events, dumps, version=1, levels=4):
+    counts = struct.pack(">HBBHHII", version, levels, replicas, threads, tables, len(log), len(events))
     return b"".join([b"NRVT", counts, struct.pack(f">{len(log)}I", *log), *events, *dumps])
 
 
@@ -66,8 +67,8 @@ def order_of(log, reads):
 class Space:
     """A set of pages, with a limit of tables. Each call looks at all pages."""
 
-    def __init__(self, limit, pages=()):
-        self.limit, self.pages = limit, dict(pages)
+    def __init__(self, limit, pages=(), levels=4):
+        self.limit, self.pages, self.levels = limit, dict(pages), levels
 
     def at(self, address):
         for base, (size, *_) in self.pages.items():
@@ -78,7 +79,7 @@ class Space:
     def need(self, base, size):
         """The tables of the space with one page more."""
         pages = [*((b, s) for b, (s, *_) in self.pages.items()), (base, size)]
-        return 1 + sum(len({b >> (12 + 9 * level) for b, s in pages if s < level}) for level in (1, 2, 3))
+        return 1 + sum(len({b >> (12 + 9 * level) for b, s in pages if s < level}) for level in range(1, self.levels))
 
     def map(self, base, size, rights, physical):
         end = base + BYTES[size]
@@ -109,6 +110,18 @@ class Space:
             return NOT_MAPPED, 0, 0, 0
         size, physical, rights = self.pages[base]
         return MAPPED, size, rights, physical + address - base
+
+    def access(self, address, access, mode):
+        """Whether it is allowed, and where it leads; else the page-fault error code (SDM volume 3A, chapter "Paging")."""
+        base = self.at(address)
+        size, physical, rights = self.pages.get(base, (0, 0, 0))
+        needs = (WRITE if access == WRITES else 0) | (USER if mode else 0) | (EXEC if access == FETCHES else 0)
+        if base is not None and needs & rights == needs:
+            return ALLOWED, 0, 0, physical + address - base
+        return FAULT, 0, 0, (base is not None) + 2 * (access == WRITES) + 4 * mode + 16 * (access == FETCHES)
+
+    def read(self, kind, address, access, mode):
+        return self.access(address, access, mode) if kind == ACCESS else self.resolve(address)
 
     def apply(self, kind, address, size, rights, physical):
         if kind == MAP:

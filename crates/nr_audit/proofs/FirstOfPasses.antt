@@ -118,6 +118,10 @@ pub refused_by_pass : (pass : ℕ) (Among : Fault → Type 0) (trace : Recording
 refused_by_pass pass Among trace Memory are none first = tt
 refused_by_pass pass Among trace (Refused fault) are none first = first_of_pass pass Among trace fault are none first
 
+-- what is refused of a history is refused of its trace
+pub refused_of : (history trace : Recording) (fail : Fail Fault) → history ≡ trace → IfRefused (IsFirst history) fail → IfRefused (IsFirst trace) fail
+refused_of history trace fail same first = subst (λ t. IfRefused (IsFirst t) fail) same first
+
 call_from : (fault : Fault) → pass_of fault ≡ 2 → IsCallFault fault
 call_from (Format fault) e = absurd (omega arith)
 call_from (ThreadOpen index) e = (index, refl)

@@ -1,8 +1,9 @@
 -- Loop invariants and the insides of models: no public clause cites them.
 pub mod Dumps
+pub mod Indexes
 pub mod Passes
 pub mod Prefixes
+pub mod Replies
 pub mod Search
 pub mod Steps
 pub mod Tables
-pub mod Told

@@ -1,15 +1,13 @@
 ghost use Rattle.std.specs.Prelude.{◌≡◌, ◌↔◌, IfOk, OnOk, IfErr, IfSome, IsTrue};
 ghost use Rattle.nr_trace.specs.Laws.{HasCleanLog};
-ghost use Rattle.nr_trace.specs.Orders.{recorded_order};
+ghost use Rattle.nr_trace.specs.Orders.{recorded_order, space_after};
 ghost use Rattle.vs_types.specs.Refusal.{IfRefused};
 ghost use Rattle.nr_audit.specs.inside.Search.{HasNone, IsFirstAmong};
 ghost use Rattle.nr_audit.specs.inside.Passes.{IsAnswerFault};
-ghost use Rattle.nr_audit.specs.inside.Steps.{Serves};
-ghost use Rattle.nr_audit.specs.inside.Tables.{AreReplies};
+ghost use Rattle.nr_audit.specs.inside.Steps.{Serves, space_of};
 
-use crate::events::query_of;
-use crate::tables::{Replies, Told};
-use nr_trace::{Fault, Trace};
+use crate::history::{History, Reply};
+use nr_trace::Fault;
 use std::alloc::Global;
 use vs_plain::PlainSpace;
 use vs_types::{Answer, Fail, Memory, Query};
@@ -24,46 +22,45 @@ pub(crate) fn serve(space: &mut PlainSpace, query: Query) -> Result<Answer, Memo
     }
 }
 
-fn is_same(told: Answer, given: Answer) -> bool
-    ensures { IsTrue result ↔ (told ≡ given) }
+fn is_same(recorded: Answer, given: Answer) -> bool
+    ensures { IsTrue result ↔ (recorded ≡ given) }
 {
-    told == given
+    recorded == given
 }
 
-/// Whether a reply, if there is one, tells this answer.
-fn agrees(told: Option<Told>, answer: Answer) -> bool
-    ensures { IsTrue result ↔ IfSome told (λ reply. reply.answer ≡ answer) }
+/// Whether a reply, if there is one, has this answer.
+fn agrees(reply: Option<Reply>, answer: Answer) -> bool
+    ensures { IsTrue result ↔ IfSome reply (λ reply. reply.answer ≡ answer) }
 {
-    match told {
+    match reply {
         Some(reply) => is_same(reply.answer, answer),
         None => true,
     }
 }
 
-/// Serves the calls of a trace in the recorded order on one space, and looks for an answer that is not the space's.
-/// Takes memory for the space.
+/// Serves the calls of a trace in the recorded order on one space, and looks for an answer that is not the space's. Gives
+/// the space after all of them, and takes memory for it.
 pub(crate) fn check_answers(
     alloc: Global,
-    trace: &Trace,
-    replies: &Replies,
+    history: &History,
     order: &[u32],
-) -> Result<(), Fail<Fault>>
-    requires clean { HasCleanLog trace.now }
-    requires table { AreReplies trace.now replies.now.by_call.items }
-    requires listed { order.now ≡ recorded_order trace.now }
-    ensures right { OnOk result (HasNone IsAnswerFault trace.now) }
-    ensures first { IfErr result (IfRefused (IsFirstAmong IsAnswerFault trace.now)) }
+) -> Result<PlainSpace, Fail<Fault>>
+    requires clean { HasCleanLog history.now }
+    requires listed { order.now ≡ recorded_order history.now }
+    ensures space { IfOk result (λ space. space ≡ space_of history.now.layout (space_after history.now history.now.log)) }
+    ensures right { OnOk result (HasNone IsAnswerFault history.now) }
+    ensures first { IfErr result (IfRefused (IsFirstAmong IsAnswerFault history.now)) }
 {
-    let config = trace.config();
+    let config = history.config();
     let mut space = PlainSpace::new(alloc, config.tables(), config.depth());
     for call in order {
-        let Some(query) = query_of(trace, *call) else {
+        let Some(query) = history.request(*call) else {
             continue;
         };
         let answer = serve(&mut space, query)?;
-        if !agrees(replies.to(trace, *call), answer) {
+        if !agrees(history.reply(*call), answer) {
             return Err(Fail::Refused(Fault::WrongAnswer(*call)));
         }
     }
-    Ok(())
+    Ok(space)
 }

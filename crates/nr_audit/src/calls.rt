@@ -1,30 +1,36 @@
-ghost use Rattle.std.specs.Prelude.{◌≡◌, ◌<◌, ◌↔◌, OnOk, IfOk, IfErr, IfSome, IsSomeAnd, IsTrue, length, slice_index_or};
+ghost use Rattle.std.specs.Prelude.{◌≡◌, ◌<◌, ◌↔◌, OnOk, IfOk, IfErr, IfSome, IsSomeAnd, IsTrue, is_some, length, slice_index_or};
 ghost use Rattle.vs_types.specs.Refusal.{IfRefused};
+ghost use Rattle.nr_trace.specs.Calls.{made_by};
 ghost use Rattle.nr_audit.specs.inside.Search.{HasNone, IsFirstAmong};
 ghost use Rattle.nr_audit.specs.inside.Passes.{IsCallFault};
-ghost use Rattle.nr_audit.specs.inside.Tables.{AreReplies};
 
-use crate::events::is_call;
-use crate::tables::{Replies, empty_table};
+use crate::history::History;
+use crate::tables::{MaybeIndex, empty_table};
 use nr_trace::{Event, Fault, Trace};
 use std::alloc::Global;
 use vs_types::Fail;
 
+fn is_call(event: Event) -> bool
+    ensures { result ≡ is_some (made_by event) }
+{
+    matches!(event, Event::Call { .. })
+}
+
 /// Whether the last call of a thread has no reply.
-fn is_open(last: Option<u32>, replies: &[Option<u32>]) -> bool
+fn is_open(last: MaybeIndex, replies: &[MaybeIndex]) -> bool
     requires { IfSome last (λ call. call < length replies.now) }
     ensures { IsTrue result ↔ IsSomeAnd last (λ call. slice_index_or replies.now call None ≡ None) }
 {
-    match last {
-        Some(call) => replies[call as usize].is_none(),
+    match last.get() {
+        Some(call) => replies[call as usize].get().is_none(),
         None => false,
     }
 }
 
 /// Looks for a call of a thread whose earlier call has no reply yet, a reply to what is no earlier call, and a second
-/// reply to a call. Gives the reply to each call, and takes memory for these.
-pub(crate) fn check_calls(alloc: Global, trace: &Trace) -> Result<Replies, Fail<Fault>>
-    ensures table { IfOk result (λ replies. AreReplies trace.now replies.by_call.items) }
+/// reply to a call. Gives the history, and takes memory for it: four bytes for each event, and for each thread.
+pub(crate) fn check_calls<'a>(alloc: Global, trace: &'a Trace) -> Result<History<'a>, Fail<Fault>>
+    ensures history { IfOk result (λ history. history ≡ trace.now) }
     ensures clean { OnOk result (HasNone IsCallFault trace.now) }
     ensures first { IfErr result (IfRefused (IsFirstAmong IsCallFault trace.now)) }
 {
@@ -37,18 +43,18 @@ pub(crate) fn check_calls(alloc: Global, trace: &Trace) -> Result<Replies, Fail<
                 if is_open(last[thread as usize], &replies) {
                     return Err(Fail::Refused(Fault::ThreadOpen(index as u32)));
                 }
-                last[thread as usize] = Some(index as u32);
+                last[thread as usize] = MaybeIndex::of(index as u32);
             }
             Event::Reply { call, .. } => {
                 if call as usize >= index || !is_call(events[call as usize]) {
                     return Err(Fail::Refused(Fault::NoSuchCall(index as u32)));
                 }
-                if replies[call as usize].is_some() {
+                if replies[call as usize].get().is_some() {
                     return Err(Fail::Refused(Fault::AnsweredTwice(index as u32)));
                 }
-                replies[call as usize] = Some(index as u32);
+                replies[call as usize] = MaybeIndex::of(index as u32);
             }
         }
     }
-    Ok(Replies { by_call: replies })
+    Ok(History::of(trace, replies))
 }

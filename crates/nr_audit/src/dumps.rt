@@ -1,15 +1,17 @@
-ghost use Rattle.std.specs.Prelude.{◌≡◌, ◌≤◌, ◌<◌, OnOk, IfOk, IfErr, length, take};
+ghost use Rattle.std.specs.Prelude.{◌≡◌, ◌+◌, ◌<◌, ◌≤◌, OnOk, IfOk, IfErr, length, take};
 ghost use Rattle.vs_types.specs.Refusal.{IfRefused};
 ghost use Rattle.nr_trace.specs.Orders.{space_after};
-ghost use Rattle.nr_audit.specs.inside.Dumps.{at_replica};
+ghost use Rattle.nr_audit.specs.inside.Dumps.{at_replica, IsFoundBeside, AreFound, AreCompared, HasShorterBelow};
 ghost use Rattle.nr_audit.specs.inside.Passes.{IsDumpFault, IsDumpFaultAt};
 ghost use Rattle.nr_audit.specs.inside.Prefixes.{AreNeeds};
 ghost use Rattle.nr_audit.specs.inside.Search.{HasNone, IsFirstAmong};
 ghost use Rattle.nr_audit.specs.inside.Steps.{space_of};
 
-use crate::prefixes::{apply_places, entries_needed};
+use crate::answers::serve;
+use crate::history::History;
+use crate::prefixes::entries_needed;
 use nr_dump::{DumpFault, check};
-use nr_trace::{Fault, Trace};
+use nr_trace::Fault;
 use std::alloc::Global;
 use vs_plain::PlainSpace;
 use vs_types::{Fail, Memory};
@@ -28,72 +30,145 @@ fn fault_at(replica: u8, fault: DumpFault) -> Fault
     }
 }
 
-/// Takes the space after some places of the log to that after others: on from there, or, where these are fewer, anew from
-/// the empty space.
-fn go_to(
-    alloc: Global,
-    trace: &Trace,
-    space: &mut PlainSpace,
-    from: usize,
-    to: usize,
-) -> Result<(), Memory>
-    requires within { to ≤ length trace.now.log }
-    requires before { space.old ≡ space_of trace.now.layout (space_after trace.now (take from trace.now.log)) }
-    ensures { OnOk result (space.new ≡ space_of trace.now.layout (space_after trace.now (take to trace.now.log))) }
+/// What is wrong with the tables of a dump beside a space, or `None`. Takes the memory of the check.
+fn table_fault(alloc: Global, dump: &Dump, space: &PlainSpace) -> Result<Option<DumpFault>, Memory>
+    ensures { IfOk result (IsFoundBeside dump.now space.now) }
 {
-    if to < from {
-        let config = trace.config();
-        *space = PlainSpace::new(alloc, config.tables(), config.depth());
-        return apply_places(trace, space, 0, to);
+    match check(alloc, dump, space) {
+        Ok(()) => Ok(None),
+        Err(Fail::Memory) => Err(Memory),
+        Err(Fail::Refused(fault)) => Ok(Some(fault)),
     }
-    apply_places(trace, space, from, to)
 }
 
-/// Looks for what is wrong with a replica's dump: with how many entries it has applied, and then with its tables, beside
-/// the space after these. The space is taken there from the one after the entries of another dump.
-fn check_dump(
+/// Compares the dumps that have applied just so many entries with the space after these. What is wrong with a dump is kept
+/// under its replica.
+fn compare_dumps(
     alloc: Global,
-    trace: &Trace,
+    history: &History,
+    applied: usize,
+    space: &PlainSpace,
+    faults: &mut [Option<DumpFault>; 4],
+) -> Result<(), Memory>
+    requires { space.now ≡ space_of history.now.layout (space_after history.now (take applied history.now.log)) }
+    ensures { OnOk result (AreCompared history.now applied (length history.now.dumps) faults.old faults.new) }
+{
+    for replica in 0..history.dumps().len() {
+        let dump = &history.dumps()[replica];
+        if dump.applied() as usize == applied {
+            let found = table_fault(alloc, dump, space)?;
+            faults[replica] = found;
+        }
+    }
+    Ok(())
+}
+
+/// Compares the dumps that have applied the whole log with the space after it.
+fn compare_whole(
+    alloc: Global,
+    history: &History,
+    space: PlainSpace,
+) -> Result<[Option<DumpFault>; 4], Memory>
+    requires { space ≡ space_of history.now.layout (space_after history.now history.now.log) }
+    ensures { IfOk result (AreFound history.now 0) }
+{
+    let mut faults = [None; 4];
+    compare_dumps(alloc, history, history.log().len(), &space, &mut faults)?;
+    Ok(faults)
+}
+
+/// How many places of the log it takes to come to the entries of each dump that has not applied the whole log.
+fn places_to_visit(history: &History) -> usize
+    ensures all { HasShorterBelow history.now (length history.now.dumps) result }
+    ensures within { result ≤ length history.now.log }
+{
+    let log = history.log();
+    let mut end = 0;
+    for replica in 0..history.dumps().len() {
+        let applied = history.dumps()[replica].applied() as usize;
+        if applied < log.len() {
+            end = end.max(applied + 1);
+        }
+    }
+    end
+}
+
+/// Applies the update of a place to the space before it.
+fn apply_place(history: &History, space: &mut PlainSpace, place: usize) -> Result<(), Memory>
+    requires within { place < length history.now.log }
+    requires before { space.old ≡ space_of history.now.layout (space_after history.now (take place history.now.log)) }
+    ensures { OnOk result (space.new ≡ space_of history.now.layout (space_after history.now (take (place + 1) history.now.log))) }
+{
+    let log = history.log();
+    if let Some(query) = history.request(log[place]) {
+        serve(space, query)?;
+    }
+    Ok(())
+}
+
+/// Compares the dumps that have not applied the whole log, by rising number of entries: the updates are applied once more,
+/// up to the last that one of these dumps has applied.
+fn compare_shorter(
+    alloc: Global,
+    history: &History,
+    faults: &mut [Option<DumpFault>; 4],
+) -> Result<(), Memory>
+    requires { AreFound history.now 0 faults.old }
+    ensures { OnOk result (AreFound history.now (length history.now.log) faults.new) }
+{
+    let config = history.config();
+    let mut space = PlainSpace::new(alloc, config.tables(), config.depth());
+    for place in 0..places_to_visit(history) {
+        compare_dumps(alloc, history, place, &space, faults)?;
+        apply_place(history, &mut space, place)?;
+    }
+    Ok(())
+}
+
+/// Looks for what is wrong with a replica's dump: with how many entries it has applied, and then with its tables.
+fn check_dump(
+    history: &History,
     replica: usize,
     needed: &[u64; 4],
-    space: &mut PlainSpace,
-    from: usize,
-) -> Result<usize, Fail<Fault>>
-    requires replica { replica < length trace.now.dumps }
-    requires needed { AreNeeds trace.now (length trace.now.events) needed.now }
-    requires before { space.old ≡ space_of trace.now.layout (space_after trace.now (take from trace.now.log)) }
-    ensures clean { OnOk result (HasNone (IsDumpFaultAt replica) trace.now) }
-    ensures first { IfErr result (IfRefused (IsFirstAmong (IsDumpFaultAt replica) trace.now)) }
-    ensures after { IfOk result (λ applied. space.new ≡ space_of trace.now.layout (space_after trace.now (take applied trace.now.log))) }
+    faults: &[Option<DumpFault>; 4],
+) -> Result<(), Fail<Fault>>
+    requires replica { replica < length history.now.dumps }
+    requires needed { AreNeeds history.now (length history.now.events) needed.now }
+    requires found { AreFound history.now (length history.now.log) faults.now }
+    ensures clean { OnOk result (HasNone (IsDumpFaultAt replica) history.now) }
+    ensures first { IfErr result (IfRefused (IsFirstAmong (IsDumpFaultAt replica) history.now)) }
 {
-    let dump = &trace.dumps()[replica];
+    let dump = &history.dumps()[replica];
     let applied = dump.applied() as usize;
-    if applied > trace.log().len() {
+    if applied > history.log().len() {
         return Err(Fail::Refused(Fault::PrefixPastLog(replica as u8)));
     }
     if (applied as u64) < needed[replica] {
         return Err(Fail::Refused(Fault::PrefixShort(replica as u8)));
     }
-    go_to(alloc, trace, space, from, applied)?;
-    match check(alloc, dump, space) {
-        Ok(()) => Ok(applied),
-        Err(Fail::Memory) => Err(Fail::Memory),
-        Err(Fail::Refused(fault)) => Err(Fail::Refused(fault_at(replica as u8, fault))),
+    match faults[replica] {
+        None => Ok(()),
+        Some(fault) => Err(Fail::Refused(fault_at(replica as u8, fault))),
     }
 }
 
-/// Looks for what is wrong with the dumps, one after another. Takes memory for a space, and for what a check of a dump
-/// takes.
-pub(crate) fn check_dumps(alloc: Global, trace: &Trace) -> Result<(), Fail<Fault>>
-    ensures clean { OnOk result (HasNone IsDumpFault trace.now) }
-    ensures first { IfErr result (IfRefused (IsFirstAmong IsDumpFault trace.now)) }
+/// Looks for what is wrong with the dumps, in the order of the replicas, from the space after the whole log on: it is
+/// compared with the dumps that have applied so much. Takes memory for a second space, once that one is given back, where
+/// a dump has applied less, and for what the check of a dump takes.
+pub(crate) fn check_dumps(
+    alloc: Global,
+    history: &History,
+    space: PlainSpace,
+) -> Result<(), Fail<Fault>>
+    requires { space ≡ space_of history.now.layout (space_after history.now history.now.log) }
+    ensures clean { OnOk result (HasNone IsDumpFault history.now) }
+    ensures first { IfErr result (IfRefused (IsFirstAmong IsDumpFault history.now)) }
 {
-    let needed = entries_needed(trace);
-    let config = trace.config();
-    let mut space = PlainSpace::new(alloc, config.tables(), config.depth());
-    let mut applied = 0;
-    for replica in 0..trace.dumps().len() {
-        applied = check_dump(alloc, trace, replica, &needed, &mut space, applied)?;
+    let mut faults = compare_whole(alloc, history, space)?;
+    compare_shorter(alloc, history, &mut faults)?;
+    let needed = entries_needed(history);
+    for replica in 0..history.dumps().len() {
+        check_dump(history, replica, &needed, &faults)?;
     }
     Ok(())
 }

@@ -1,47 +1,64 @@
-ghost use Rattle.std.specs.Prelude.{◌≡◌, OnOk, IfErr};
+ghost use Rattle.std.specs.Prelude.{◌≡◌, ◌<◌, OnOk, IfErr, length};
+ghost use Rattle.vs_types.specs.Refusal.{IfRefused};
 ghost use Rattle.vs_types.specs.declared.answer.Answer.{Answer};
 ghost use Rattle.nr_trace.specs.Calls.{Response};
+ghost use Rattle.nr_trace.specs.Faults.{StandsAfter};
 ghost use Rattle.nr_trace.specs.Laws.{HasCleanLog};
 ghost use Rattle.nr_trace.specs.Orders.{known_by};
+ghost use Rattle.nr_trace.specs.inside.Reading.{Finds};
 ghost use Rattle.nr_audit.specs.inside.Search.{HasNone, IsFirstAmong};
 ghost use Rattle.nr_audit.specs.inside.Passes.{IsFloorFault};
-ghost use Rattle.nr_audit.specs.inside.Tables.{ArePositions};
+ghost use Rattle.nr_audit.specs.inside.Tables.{ArePlaces};
 
-use crate::events::is_update;
-use crate::tables::Positions;
-use nr_trace::{Event, Fault, Trace};
+use crate::history::History;
+use crate::tables::MaybeIndex;
+use nr_trace::{Event, Fault};
+use vs_types::{Fail, Query};
 
 /// How many entries of the log are known by a reply: those up to the update's own, or those that the read saw.
-pub(crate) fn entries_known(trace: &Trace, call: u32, at: u32) -> u64
-    ensures { (answer : Answer) → let reply : Response = record { call = call; at = at; answer = answer } in result ≡ known_by trace.now reply }
+pub(crate) fn entries_known(history: &History, call: u32, at: u32) -> u64
+    ensures { (answer : Answer) → let reply : Response = record { call = call; at = at; answer = answer } in result ≡ known_by history.now reply }
 {
-    if is_update(trace, call) {
+    if history.is_update(call) {
         at as u64 + 1
     } else {
         at as u64
     }
 }
 
+/// After how many entries of the log a call stands in the recorded order: the place of an update, and how many entries
+/// an answered read saw. `None` where it doesn't stand there.
+fn entries_before(history: &History, places: &[MaybeIndex], call: u32) -> Option<u32>
+    requires table { ArePlaces history.now places.now }
+    requires within { call < length history.now.events }
+    ensures { Finds (StandsAfter history.now call) result }
+{
+    match history.request(call)? {
+        Query::Update(_) => places[call as usize].get(),
+        Query::Resolve(_) => Some(history.reply(call)?.at),
+    }
+}
+
 /// Looks for a call that stands before one that was answered before it was made: by one pass over the events, with the
 /// most entries that are known so far by a reply. Takes no memory.
-pub(crate) fn check_floors(trace: &Trace, positions: &Positions) -> Result<(), Fault>
-    requires clean { HasCleanLog trace.now }
-    requires table { ArePositions trace.now positions.now.by_call.items }
-    ensures clean { OnOk result (HasNone IsFloorFault trace.now) }
-    ensures first { IfErr result (IsFirstAmong IsFloorFault trace.now) }
+pub(crate) fn check_floors(history: &History, places: &[MaybeIndex]) -> Result<(), Fail<Fault>>
+    requires clean { HasCleanLog history.now }
+    requires table { ArePlaces history.now places.now }
+    ensures clean { OnOk result (HasNone IsFloorFault history.now) }
+    ensures first { IfErr result (IfRefused (IsFirstAmong IsFloorFault history.now)) }
 {
-    let events = trace.events();
+    let events = history.events();
     let mut floor = 0;
     for (index, event) in events.iter().enumerate() {
         match *event {
             Event::Call { .. } => {
-                if let Some(entries) = positions.by_call[index] {
+                if let Some(entries) = entries_before(history, places, index as u32) {
                     if (entries as u64) < floor {
-                        return Err(Fault::Early(index as u32));
+                        return Err(Fail::Refused(Fault::Early(index as u32)));
                     }
                 }
             }
-            Event::Reply { call, at, .. } => floor = floor.max(entries_known(trace, call, at)),
+            Event::Reply { call, at, .. } => floor = floor.max(entries_known(history, call, at)),
         }
     }
     Ok(())

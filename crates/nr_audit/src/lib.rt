@@ -1,14 +1,15 @@
 //! The auditor of traces: whether what was recorded is one run of the address space.
 //!
-//! The passes go over a trace one after another, in the order of the faults that they look for. What one has found of a
-//! call, its reply and how many entries stand before it, the later ones take from it.
+//! The first pass makes a history of the trace: by number each call's request, replica and reply. The later passes take
+//! the calls from it, one after another in the order of the faults that they look for: the log, the positions, the
+//! floors, the recorded order and its answers, the dumps.
 #![tactic(auto)]
 
 mod answers;
 mod calls;
 mod dumps;
-mod events;
 mod floors;
+mod history;
 mod judging;
 mod laws;
 mod log;

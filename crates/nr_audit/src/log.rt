@@ -4,29 +4,29 @@ ghost use Rattle.nr_audit.specs.inside.Search.{HasNone, IsFirstAmong};
 ghost use Rattle.nr_audit.specs.inside.Passes.{IsLogFault};
 ghost use Rattle.nr_audit.specs.inside.Tables.{ArePlaces};
 
-use crate::events::is_update;
-use crate::tables::{Places, empty_table};
-use nr_trace::{Fault, Trace};
+use crate::history::History;
+use crate::tables::{MaybeIndex, empty_table};
+use nr_trace::Fault;
 use std::alloc::Global;
 use vs_types::Fail;
 
 /// Looks for a place that has what is no update, and one that has an update of an earlier place. Gives the place of each
-/// call, and takes memory for these.
-pub(crate) fn check_log(alloc: Global, trace: &Trace) -> Result<Places, Fail<Fault>>
-    ensures table { IfOk result (λ places. ArePlaces trace.now places.by_call.items) }
-    ensures clean { OnOk result (HasNone IsLogFault trace.now) }
-    ensures first { IfErr result (IfRefused (IsFirstAmong IsLogFault trace.now)) }
+/// call, and takes memory for these: four bytes for each event.
+pub(crate) fn check_log(alloc: Global, history: &History) -> Result<Vec<MaybeIndex>, Fail<Fault>>
+    ensures table { IfOk result (λ places. ArePlaces history.now places.items) }
+    ensures clean { OnOk result (HasNone IsLogFault history.now) }
+    ensures first { IfErr result (IfRefused (IsFirstAmong IsLogFault history.now)) }
 {
-    let log = trace.log();
-    let mut places = empty_table(alloc, trace.events().len())?;
+    let log = history.log();
+    let mut places = empty_table(alloc, history.events().len())?;
     for (place, call) in log.iter().enumerate() {
-        if !is_update(trace, *call) {
+        if !history.is_update(*call) {
             return Err(Fail::Refused(Fault::NotAnUpdate(place as u32)));
         }
-        if places[*call as usize].is_some() {
+        if places[*call as usize].get().is_some() {
             return Err(Fail::Refused(Fault::PlacedTwice(place as u32)));
         }
-        places[*call as usize] = Some(place as u32);
+        places[*call as usize] = MaybeIndex::of(place as u32);
     }
-    Ok(Places { by_call: places })
+    Ok(places)
 }

@@ -20,17 +20,12 @@ pub(crate) fn search(alloc: Global, trace: &Trace) -> Result<Vec<u32>, Fail<Faul
     ensures none { IfOk result (λ order. IsFaultless trace.now × (order.items ≡ recorded_order trace.now)) }
     ensures first { IfErr result (IfRefused (IsFirst trace.now)) }
 {
-    let replies = check_calls(alloc, trace)?;
-    let places = check_log(alloc, trace)?;
-    let positions = match check_positions(trace, places) {
-        Ok(positions) => positions,
-        Err(fault) => return Err(Fail::Refused(fault)),
-    };
-    if let Err(fault) = check_floors(trace, &positions) {
-        return Err(Fail::Refused(fault));
-    }
-    let order = list_order(alloc, trace, &positions)?;
-    check_answers(alloc, trace, &replies, &order)?;
-    check_dumps(alloc, trace)?;
+    let history = check_calls(alloc, trace)?;
+    let places = check_log(alloc, &history)?;
+    check_positions(&history)?;
+    check_floors(&history, &places)?;
+    let order = list_order(alloc, &history)?;
+    let space = check_answers(alloc, &history, &order)?;
+    check_dumps(alloc, &history, space)?;
     Ok(order)
 }

@@ -1,57 +1,58 @@
-ghost use Rattle.std.specs.Prelude.{◌≡◌, ◌<◌, IfOk, length, replicate};
-ghost use Rattle.nr_audit.specs.inside.Tables.{AreReplies};
-ghost use Rattle.nr_audit.specs.inside.Told.{told_to};
+ghost use Rattle.std.specs.Prelude.{◌≡◌, ◌+◌, ◌<◌, ◌^◌, IfOk, None, Some, replicate};
 
-use nr_trace::{Event, Trace};
 use std::alloc::Global;
-use vs_types::{Answer, Memory};
+use std::marker::Model;
+use vs_types::Memory;
 
-/// What the reply to a call tells.
+/// An index, or none, in four bytes. Contracts see it as an option.
 #[derive(Clone, Copy, Debug)]
-pub(crate) struct Told {
-    /// The place of an update, and for a read how many entries it saw.
-    pub(crate) at: u32,
-    pub(crate) answer: Answer,
+pub(crate) struct MaybeIndex {
+    /// One more than the index, and 0 for none.
+    successor: u32,
 }
 
-/// For each event of a trace the index of the reply to it, where it is a call that has one.
-#[derive(Debug, Drop)]
-pub(crate) struct Replies {
-    pub(crate) by_call: Vec<Option<u32>>,
+impl Model for MaybeIndex {
+    ghost use Rattle.std.specs.Prelude.{ℕ, Option};
+    ghost use Rattle.nr_audit.specs.inside.Indexes.{predecessor, successor_of, same_successor};
+
+    ghost Value = { Option ℕ };
+
+    ghost view = { λ i. predecessor i.successor };
+
+    ghost inverse = { λ o. record { successor = successor_of o } };
+
+    ghost inverse_ok = { λ i h. same_successor i };
 }
 
-impl Replies {
-    /// What the reply to a call tells, or `None` where there is no reply.
-    pub(crate) fn to(&self, trace: &Trace, call: u32) -> Option<Told>
-        requires table { AreReplies trace.now self.now.by_call.items }
-        requires within { call < length trace.now.events }
-        ensures { result ≡ told_to trace.now call }
+impl MaybeIndex {
+    pub(crate) fn none() -> MaybeIndex
+        ensures { result ≡ None }
     {
-        let index = self.by_call[call as usize]?;
-        let event = trace.events()[index as usize];
-        match event {
-            Event::Reply { at, answer, .. } => Some(Told { at, answer }),
-            Event::Call { .. } => None,
+        MaybeIndex { successor: 0 }
+    }
+
+    pub(crate) fn of(index: u32) -> MaybeIndex
+        requires { index + 1 < 2 ^ 32 }
+        ensures { result ≡ Some index }
+    {
+        MaybeIndex {
+            successor: index + 1,
+        }
+    }
+
+    pub(crate) fn get(self) -> Option<u32>
+        ensures { result ≡ self }
+    {
+        match self.successor {
+            0 => None,
+            successor => Some(successor - 1),
         }
     }
 }
 
-/// For each event of a trace the place that has it, where it is an update that stands in the log.
-#[derive(Debug, Drop)]
-pub(crate) struct Places {
-    pub(crate) by_call: Vec<Option<u32>>,
-}
-
-/// For each event of a trace after how many entries of the log it stands in the recorded order, where it is a call that
-/// stands there: the place of an update, and how many entries an answered read saw.
-#[derive(Debug, Drop)]
-pub(crate) struct Positions {
-    pub(crate) by_call: Vec<Option<u32>>,
-}
-
 /// A table of this many rows, with nothing in any of them.
-pub(crate) fn empty_table(alloc: Global, rows: usize) -> Result<Vec<Option<u32>>, Memory>
+pub(crate) fn empty_table(alloc: Global, rows: usize) -> Result<Vec<MaybeIndex>, Memory>
     ensures { IfOk result (λ table. table.items ≡ replicate rows None) }
 {
-    Ok(vec![in alloc; None; rows]?)
+    Ok(vec![in alloc; MaybeIndex::none(); rows]?)
 }

@@ -12,7 +12,7 @@ use Rattle.vs_types.proofs.Lists.{Contains-head, Contains-tail, Contains-cases, 
 use Rattle.vs_types.proofs.Pages.{covers_means, covers_base, same_page}
 use Rattle.vs_walk.specs.Differences.{IsLeast}
 use Rattle.vs_walk.specs.Laws.{covering, as_found}
-use Rattle.vs_walk.proofs.WaysSpaces.{ArePages, rises_first, rises_rest}
+use Rattle.vs_walk.proofs.LawsOfSpaces.{ArePages, rises_first, rises_rest}
 use Rattle.nr_dump.specs.inside.Comparing.{HeadsDiffer}
 
 -- the two lists translate a canonical address otherwise
@@ -35,13 +35,15 @@ ends_first p ps are q in_ps =
     let rise : p.base < q.base = rises_first p ps are.rise q in_ps in
     ⊎_elim
     (λ within.
-    let one : p ≡ q = are.apart p q q.base (Contains-head p ps) (Contains-tail p ps q in_ps) ((covers_means p q.base).1 (omega arith, within)) (covers_base q) in
+    let one : p ≡ q = are.apart p q q.base (Contains-head p ps) (Contains-tail p ps q in_ps) ((covers_means p q.base).1 (omega arith, within))
+    (covers_base q) in
     let same : p.base ≡ q.base = ap (λ (z : Page). z.base) one in
     absurd (omega arith))
     (λ behind. behind)
     (cases_lt q.base (end_of p))
 
-below_all : (p : Page) (ps : List Page) (address : ℕ) → ((q : Page) → Contains ps q → p.base < q.base) → address < p.base → (q : Page) → Contains (p ∷ ps) q → address < q.base
+below_all : (p : Page) (ps : List Page) (address : ℕ) → ((q : Page) → Contains ps q → p.base < q.base) → address < p.base → (q : Page) → Contains (p ∷ ps) q
+    → address < q.base
 below_all p ps address rise below q in_ps =
     ⊎_elim
     (λ same. subst (λ (z : Page). address < z.base) same below)
@@ -86,7 +88,8 @@ above_nothing : (address : ℕ) → Above [] address
 above_nothing address q in_ps = absurd (not_in_nil q in_ps)
 
 -- a page of the one list alone, at its base
-one_alone : (depth : Depth) (ps qs : List Page) (p : Page) → IsCanonical depth p.base → covering p.base ps ≡ Some p → Above qs p.base → DiffersAt depth ps qs p.base
+one_alone : (depth : Depth) (ps qs : List Page) (p : Page) → IsCanonical depth p.base → covering p.base ps ≡ Some p → Above qs p.base
+    → DiffersAt depth ps qs p.base
 one_alone depth ps qs p canonical here above =
     let nothing = nothing_covers qs p.base above in (
       canonical,
@@ -120,7 +123,8 @@ both_at depth ps qs p q differ base canonical = (
       differ (same_page p q base size (omega arith) rights),
 )
 
-pub least_of_heads : {depth : Depth} (ps qs : List Page) (base : ℕ) → ArePages depth ps → ArePages depth qs → HeadsDiffer ps qs base → IsLeast (DiffersAt depth ps qs) base
+pub least_of_heads : {depth : Depth} (ps qs : List Page) (base : ℕ) → ArePages depth ps → ArePages depth qs → HeadsDiffer ps qs base
+    → IsLeast (DiffersAt depth ps qs) base
 least_of_heads [] [] base left right h = absurd h
 least_of_heads {depth} [] (q ∷ qs) base left right h =
     subst (IsLeast (DiffersAt depth [] (q ∷ qs))) (sym h) (
@@ -135,13 +139,15 @@ least_of_heads {depth} (p ∷ ps) [] base left right h =
 least_of_heads {depth} (p ∷ ps) (q ∷ qs) base left right h = (
   ⊎_elim
       (λ (less : p.base < q.base). subst (DiffersAt depth (p ∷ ps) (q ∷ qs)) (let e = h.1 in omega arith)
-      (one_alone depth (p ∷ ps) (q ∷ qs) p (left.canonical p (Contains-head p ps)) (first_covers p ps) (below_all q qs p.base (rises_first q qs right.rise) less)))
+      (one_alone depth (p ∷ ps) (q ∷ qs) p (left.canonical p (Contains-head p ps)) (first_covers p ps)
+      (below_all q qs p.base (rises_first q qs right.rise) less)))
       (⊎_elim
       (λ (same : p.base ≡ q.base). subst (DiffersAt depth (p ∷ ps) (q ∷ qs)) (let e = h.1 in omega arith)
       (both_at depth ps qs p q h.0 same (left.canonical p (Contains-head p ps))))
       (λ (more : q.base < p.base). subst (DiffersAt depth (p ∷ ps) (q ∷ qs)) (let e = h.1 in omega arith)
       (flipped depth (q ∷ qs) (p ∷ ps) q.base
-      (one_alone depth (q ∷ qs) (p ∷ ps) q (right.canonical q (Contains-head q qs)) (first_covers q qs) (below_all p ps q.base (rises_first p ps left.rise) more)))))
+      (one_alone depth (q ∷ qs) (p ∷ ps) q (right.canonical q (Contains-head q qs)) (first_covers q qs)
+      (below_all p ps q.base (rises_first p ps left.rise) more)))))
       (three p.base q.base),
   λ address below. none_below depth (p ∷ ps) (q ∷ qs) address
       (below_all p ps address (rises_first p ps left.rise) (let e = h.1 in omega arith))
@@ -153,7 +159,8 @@ least_of_heads {depth} (p ∷ ps) (q ∷ qs) base left right h = (
 
 -- ---- after pages that both have
 
-base_of_head : (ps qs : List Page) (base : ℕ) → HeadsDiffer ps qs base → ((p : Page) × Contains ps p × (p.base ≡ base)) ⊎ ((q : Page) × Contains qs q × (q.base ≡ base))
+base_of_head : (ps qs : List Page) (base : ℕ) → HeadsDiffer ps qs base
+    → ((p : Page) × Contains ps p × (p.base ≡ base)) ⊎ ((q : Page) × Contains qs q × (q.base ≡ base))
 base_of_head [] [] base h = absurd h
 base_of_head [] (q ∷ qs) base h = inr (q, Contains-head q qs, sym h)
 base_of_head (p ∷ ps) [] base h = inl (p, Contains-head p ps, sym h)
@@ -164,7 +171,8 @@ base_of_head (p ∷ ps) (q ∷ qs) base h =
     (cases_lt p.base q.base)
 
 -- the same page before both
-one_before : (depth : Depth) (c : Page) (ps qs : List Page) (base : ℕ) → end_of c ≤ base → IsLeast (DiffersAt depth ps qs) base → IsLeast (DiffersAt depth (c ∷ ps) (c ∷ qs)) base
+one_before : (depth : Depth) (c : Page) (ps qs : List Page) (base : ℕ) → end_of c ≤ base → IsLeast (DiffersAt depth ps qs) base
+    → IsLeast (DiffersAt depth (c ∷ ps) (c ∷ qs)) base
 one_before depth c ps qs base behind least = (
   (least.0.0, λ same. least.0.1 (sym (ap (as_found base) (first_skipped c ps base not)) ∙ same ∙ ap (as_found base) (first_skipped c qs base not))),
   λ address below differs.
@@ -182,7 +190,8 @@ one_before depth c ps qs base behind least = (
     not = not_covered_behind c base behind
 
 -- the least address at which two lists differ that are equal up to here
-pub least_behind : {depth : Depth} (common ps qs : List Page) (base : ℕ) → ArePages depth (common ++ ps) → ArePages depth (common ++ qs) → HeadsDiffer ps qs base → IsLeast (DiffersAt depth (common ++ ps) (common ++ qs)) base
+pub least_behind : {depth : Depth} (common ps qs : List Page) (base : ℕ) → ArePages depth (common ++ ps) → ArePages depth (common ++ qs)
+    → HeadsDiffer ps qs base → IsLeast (DiffersAt depth (common ++ ps) (common ++ qs)) base
 least_behind [] ps qs base left right h = least_of_heads ps qs base left right h
 least_behind {depth} (c ∷ cs) ps qs base left right h =
     one_before depth c (cs ++ ps) (cs ++ qs) base

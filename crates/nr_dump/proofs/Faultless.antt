@@ -82,7 +82,8 @@ compare_pages (p ∷ ps) (q ∷ qs) =
     (λ other. (Some (min p.base q.base), ([], p ∷ ps, q ∷ qs, refl, refl, (other, refl))))
     (same_or_other p q)
   where
-    behind : (p q : Page) → p ≡ q → (ps qs : List Page) → (answer : Option ℕ) × IsCompared ps qs answer → (answer : Option ℕ) × IsCompared (p ∷ ps) (q ∷ qs) answer
+    behind : (p q : Page) → p ≡ q → (ps qs : List Page) → (answer : Option ℕ) × IsCompared ps qs answer
+        → (answer : Option ℕ) × IsCompared (p ∷ ps) (q ∷ qs) answer
     behind p q same ps qs (None, equal) = (None, ap (λ x. x ∷ ps) same ∙ ap (λ xs. q ∷ xs) equal)
     behind p q same ps qs (Some base, (common, left, right, is, are, h)) =
         (Some base, (q ∷ common, left, right, ap (λ x. x ∷ ps) same ∙ ap (λ xs. q ∷ xs) is, ap (λ xs. q ∷ xs) are, h))
@@ -106,7 +107,8 @@ way_without depth dump space clean = by_fault (walk_fault depth dump.frames dump
   by_fault (Some (walks.Shared number)) is = absurd (clean (SharedFrame number) is)
   by_fault (Some (walks.Reserved number index)) is = absurd (clean (ReservedBit number index) is)
 
-pub faultless_fits : (depth : Depth) (dump : Image) (space : Space) → AreWhole dump.frames → IsSpace depth space → HasNoFault depth dump space → FitsSpace depth dump space
+pub faultless_fits : (depth : Depth) (dump : Image) (space : Space) → AreWhole dump.frames → IsSpace depth space → HasNoFault depth dump space
+    → FitsSpace depth dump space
 faultless_fits depth dump space whole is clean = by_answer (compare_pages (found (traversal depth dump.frames dump.root)) (pages space)) where
   way : walk_fault depth dump.frames dump.root ≡ None
   way = way_without depth dump space clean
@@ -127,7 +129,8 @@ same_least P m n left right =
     (λ le. ⊎_elim (λ more. absurd (left.1 n more right.0)) (λ ge. omega arith) (cases_lt n m))
     (cases_lt m n)
 
-same_rank : (depth : Depth) (dump : Image) (space : Space) (fault other : DumpFault) → HoldsOfDump depth dump space fault → HoldsOfDump depth dump space other → rank_in_dump fault ≡ rank_in_dump other → fault ≡ other
+same_rank : (depth : Depth) (dump : Image) (space : Space) (fault other : DumpFault) → HoldsOfDump depth dump space fault → HoldsOfDump depth dump space other
+    → rank_in_dump fault ≡ rank_in_dump other → fault ≡ other
 same_rank depth dump space (MissingFrame a) (MissingFrame b) h k same = cc
 same_rank depth dump space (MissingFrame a) (SharedFrame b) h k same = cc
 same_rank depth dump space (MissingFrame a) (ReservedBit b i) h k same = cc
@@ -154,7 +157,8 @@ same_rank depth dump space (Differs a) (SharedFrame b) h k same = absurd (omega 
 same_rank depth dump space (Differs a) (ReservedBit b i) h k same = absurd (omega arith)
 same_rank depth dump space (Differs a) (StrayFrame b) h k same = absurd (omega arith)
 
-pub one_first : (depth : Depth) (dump : Image) (space : Space) (fault other : DumpFault) → IsFirstOfDump depth dump space fault → IsFirstOfDump depth dump space other → fault ≡ other
+pub one_first : (depth : Depth) (dump : Image) (space : Space) (fault other : DumpFault) → IsFirstOfDump depth dump space fault
+    → IsFirstOfDump depth dump space other → fault ≡ other
 one_first depth dump space fault other left right =
     same_rank depth dump space fault other left.holds right.holds
     (⊎_elim

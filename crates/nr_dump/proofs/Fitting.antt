@@ -17,8 +17,8 @@ use Rattle.vs_walk.specs.Traversal.{traversal, reached, found, walk_fault}
 use Rattle.vs_walk.specs.Differences.{IsStray, TranslatesOtherwise, IsLeast}
 use Rattle.vs_walk.specs.Dump.{Image}
 use Rattle.vs_walk.specs.Laws.{as_found}
-use Rattle.vs_walk.proofs.WaysLaws.{faultless_walk, reached_distinct, reached_held, shared_reached}
-use Rattle.vs_walk.proofs.WaysSpaces.{ArePages, found_are_pages, space_pages, found_translates, translates_shared}
+use Rattle.vs_walk.proofs.LawsOfTraversals.{faultless_walk, reached_distinct, reached_held, shared_reached}
+use Rattle.vs_walk.proofs.LawsOfSpaces.{ArePages, found_are_pages, space_pages, found_translates, translates_shared}
 use Rattle.nr_dump.specs.declared.fault.DumpFault.{DumpFault}
 use Rattle.nr_dump.specs.declared.fault.DumpFault.TheVariants.{MissingFrame, SharedFrame, ReservedBit, StrayFrame, Differs}
 use Rattle.nr_dump.specs.Faults.{HoldsOfDump, rank_in_dump, IsFirstOfDump, HasNoFault, FitsSpace}
@@ -32,16 +32,26 @@ as_looked : (space : Space) (address : ℕ) (at : Option Page) → page_at space
 as_looked space address None e = rw e refl
 as_looked space address (Some page) e = rw e refl
 
--- without a fault on the way the tables translate as their pages do
-otherwise_by_pages : (depth : Depth) (memory : Memory) (root : ℕ) (space : Space) (address : ℕ) → AreWhole memory → walk_fault depth memory root ≡ None → DiffersAt depth (found (traversal depth memory root)) (pages space) address → TranslatesOtherwise depth memory root space address
-otherwise_by_pages depth memory root space address whole none (canonical, differ) =
-    (canonical, λ same. differ (sym (faultless_walk depth memory root address whole canonical none) ∙ same ∙ as_looked space address (page_at space address) refl))
+-- without a fault of the traversal the tables translate as their pages do
+otherwise_by_pages : (depth : Depth) (memory : Memory) (root : ℕ) (space : Space) (address : ℕ) → AreWhole memory → walk_fault depth memory root ≡ None
+    → DiffersAt depth (found (traversal depth memory root)) (pages space) address → TranslatesOtherwise depth memory root space address
+otherwise_by_pages depth memory root space address whole none (canonical, differ) = (
+  canonical,
+  λ same. differ (sym (faultless_walk depth memory root address whole canonical none) ∙ same
+      ∙ as_looked space address (page_at space address) refl),
+)
 
-pages_otherwise : (depth : Depth) (memory : Memory) (root : ℕ) (space : Space) (address : ℕ) → AreWhole memory → walk_fault depth memory root ≡ None → TranslatesOtherwise depth memory root space address → DiffersAt depth (found (traversal depth memory root)) (pages space) address
-pages_otherwise depth memory root space address whole none (canonical, differ) =
-    (canonical, λ same. differ (faultless_walk depth memory root address whole canonical none ∙ same ∙ sym (as_looked space address (page_at space address) refl)))
+pages_otherwise : (depth : Depth) (memory : Memory) (root : ℕ) (space : Space) (address : ℕ) → AreWhole memory → walk_fault depth memory root ≡ None
+    → TranslatesOtherwise depth memory root space address → DiffersAt depth (found (traversal depth memory root)) (pages space) address
+pages_otherwise depth memory root space address whole none (canonical, differ) = (
+  canonical,
+  λ same. differ (faultless_walk depth memory root address whole canonical none ∙ same
+      ∙ sym (as_looked space address (page_at space address) refl)),
+)
 
-pub first_difference : (depth : Depth) (memory : Memory) (root : ℕ) (space : Space) (base : ℕ) → AreWhole memory → IsSpace depth space → walk_fault depth memory root ≡ None → IsCompared (found (traversal depth memory root)) (pages space) (Some base) → IsLeast (TranslatesOtherwise depth memory root space) base
+pub first_difference : (depth : Depth) (memory : Memory) (root : ℕ) (space : Space) (base : ℕ) → AreWhole memory → IsSpace depth space
+    → walk_fault depth memory root ≡ None → IsCompared (found (traversal depth memory root)) (pages space) (Some base)
+    → IsLeast (TranslatesOtherwise depth memory root space) base
 first_difference depth memory root space base whole is none (common, left, right, ps, qs, h) =
     let least = subst (λ xs. IsLeast (DiffersAt depth xs (common ++ right)) base) (sym ps) (least_behind common left right base
     (subst (λ xs. ArePages depth xs) ps (found_are_pages depth memory root whole)) (subst (λ xs. ArePages depth xs) qs (space_pages is)) h) in
@@ -55,12 +65,14 @@ first_difference depth memory root space base whole is none (common, left, right
 -- no number stands twice among distinct ones
 once_only : (number : ℕ) (xs before after : List ℕ) → IsDistinct nat_eq xs → xs ≡ before ++ number ∷ after → Contains before number → ⊥
 once_only number xs before after distinct parts (k, within, is) =
-    let apart : AllPairs (λ x y. x ≢ y) (before ++ number ∷ after) = AllPairs-from_IsDistinct Decides-eqb (before ++ number ∷ after) (subst (IsDistinct nat_eq) parts distinct) in
+    let apart : AllPairs (λ x y. x ≢ y) (before ++ number ∷ after) =
+    AllPairs-from_IsDistinct Decides-eqb (before ++ number ∷ after) (subst (IsDistinct nat_eq) parts distinct) in
     let first : get_or (before ++ number ∷ after) k number ≡ number = get_or_append_left before (number ∷ after) number k within ∙ is in
     let second : get_or (before ++ number ∷ after) (length before + 0) number ≡ number = get_or-append-add before (number ∷ after) 0 number in
     apart k (length before + 0) number (omega arith) (omega (arith, length-append before (number ∷ after))) (first ∙ sym second)
 
-faultless_way : (depth : Depth) (memory : Memory) (root : ℕ) (space : Space) → AreWhole memory → TranslatesAs depth memory root space → IsDistinct nat_eq (reached (traversal depth memory root)) → walk_fault depth memory root ≡ None
+faultless_way : (depth : Depth) (memory : Memory) (root : ℕ) (space : Space) → AreWhole memory → TranslatesAs depth memory root space
+    → IsDistinct nat_eq (reached (traversal depth memory root)) → walk_fault depth memory root ≡ None
 faultless_way depth memory root space whole translates once =
     ⊎_elim
     (λ none. none)
@@ -81,7 +93,8 @@ fits_faultless depth dump space whole fits = none where
   none (StrayFrame number) holds = fits.none_stray number holds.0
   none (Differs address) holds = holds.0.1 (fits.translates address holds.0.0)
 
-pub fault_unfits : (depth : Depth) (dump : Image) (space : Space) (fault : DumpFault) → AreWhole dump.frames → HoldsOfDump depth dump space fault → FitsSpace depth dump space → ⊥
+pub fault_unfits : (depth : Depth) (dump : Image) (space : Space) (fault : DumpFault) → AreWhole dump.frames → HoldsOfDump depth dump space fault
+    → FitsSpace depth dump space → ⊥
 fault_unfits depth dump space fault whole holds fits = fits_faultless depth dump space whole fits fault holds
 
 -- ---- what check finds
@@ -89,15 +102,17 @@ fault_unfits depth dump space fault whole holds fits = fits_faultless depth dump
 abbrev pub NoneStray : Depth → Image → Type 0
 NoneStray depth dump = (number : ℕ) → IsStray depth dump.frames dump.root number → ⊥
 
-pub fits_by_pages : (depth : Depth) (dump : Image) (space : Space) → AreWhole dump.frames → walk_fault depth dump.frames dump.root ≡ None → NoneStray depth dump → IsCompared (found (traversal depth dump.frames dump.root)) (pages space) None → FitsSpace depth dump space
+pub fits_by_pages : (depth : Depth) (dump : Image) (space : Space) → AreWhole dump.frames → walk_fault depth dump.frames dump.root ≡ None
+    → NoneStray depth dump → IsCompared (found (traversal depth dump.frames dump.root)) (pages space) None → FitsSpace depth dump space
 fits_by_pages depth dump space whole way stray same = record {
   translates = found_translates depth dump.frames dump.root space whole way same;
   once = reached_distinct depth dump.frames dump.root way;
   none_stray = stray;
 }
 
--- nothing comes before a fault on the way
-pub way_fault_first : (depth : Depth) (dump : Image) (space : Space) (fault : DumpFault) → rank_in_dump fault ≡ 1 → HoldsOfDump depth dump space fault → IsFirstOfDump depth dump space fault
+-- nothing comes before a fault of the traversal
+pub way_fault_first : (depth : Depth) (dump : Image) (space : Space) (fault : DumpFault) → rank_in_dump fault ≡ 1 → HoldsOfDump depth dump space fault
+    → IsFirstOfDump depth dump space fault
 way_fault_first depth dump space fault lowest holds = record {
   holds = holds;
   none_earlier = λ other _ earlier. not_below other (subst (λ n. rank_in_dump other < n) lowest earlier);
@@ -110,8 +125,9 @@ way_fault_first depth dump space fault lowest holds = record {
     not_below (StrayFrame number) less = omega arith
     not_below (Differs address) less = omega arith
 
--- before a stray frame come the faults on the way
-pub stray_first : (depth : Depth) (dump : Image) (space : Space) (number : ℕ) → walk_fault depth dump.frames dump.root ≡ None → IsLeast (IsStray depth dump.frames dump.root) number → IsFirstOfDump depth dump space (StrayFrame number)
+-- before a stray frame come the faults of the traversal
+pub stray_first : (depth : Depth) (dump : Image) (space : Space) (number : ℕ) → walk_fault depth dump.frames dump.root ≡ None
+    → IsLeast (IsStray depth dump.frames dump.root) number → IsFirstOfDump depth dump space (StrayFrame number)
 stray_first depth dump space number way least = record { holds = least; none_earlier = earlier } where
   earlier : (other : DumpFault) → HoldsOfDump depth dump space other → rank_in_dump other < 2 → ⊥
   earlier (MissingFrame other) holds less = cc (holds, way)
@@ -121,7 +137,9 @@ stray_first depth dump space number way least = record { holds = least; none_ear
   earlier (Differs address) holds less = omega arith
 
 -- before an address that is translated otherwise come those, and the stray frames
-pub difference_first : (depth : Depth) (dump : Image) (space : Space) (base : ℕ) → AreWhole dump.frames → IsSpace depth space → walk_fault depth dump.frames dump.root ≡ None → NoneStray depth dump → IsCompared (found (traversal depth dump.frames dump.root)) (pages space) (Some base) → IsFirstOfDump depth dump space (Differs base)
+pub difference_first : (depth : Depth) (dump : Image) (space : Space) (base : ℕ) → AreWhole dump.frames → IsSpace depth space
+    → walk_fault depth dump.frames dump.root ≡ None → NoneStray depth dump
+    → IsCompared (found (traversal depth dump.frames dump.root)) (pages space) (Some base) → IsFirstOfDump depth dump space (Differs base)
 difference_first depth dump space base whole is way stray compared = record {
   holds = first_difference depth dump.frames dump.root space base whole is way compared;
   none_earlier = earlier;
@@ -143,18 +161,23 @@ unmarked is has = let aligned = (space_pages is).aligned mark has in omega arith
 abbrev pub AreReached : Depth → Memory → ℕ → List ℕ → Type 0
 AreReached depth memory root numbers = (number : ℕ) → Contains numbers number ↔ Contains (reached (traversal depth memory root)) number
 
-pub reached_are_held : (depth : Depth) (memory : Memory) (root : ℕ) (numbers : List ℕ) → walk_fault depth memory root ≡ None → AreReached depth memory root numbers
+pub reached_are_held : (depth : Depth) (memory : Memory) (root : ℕ) (numbers : List ℕ) → walk_fault depth memory root ≡ None
+    → AreReached depth memory root numbers
     → (number : ℕ) → Contains numbers number → IsSome (finite.get memory number)
 reached_are_held depth memory root numbers way are number has =
-    All-contains (λ n. IsTrue (finite.contains_key memory n)) (reached (traversal depth memory root)) number (reached_held depth memory root way) ((are number).0 has)
+    All-contains (λ n. IsTrue (finite.contains_key memory n)) (reached (traversal depth memory root)) number (reached_held depth memory root way)
+    ((are number).0 has)
 
-stray_outside : (depth : Depth) (memory : Memory) (root : ℕ) (numbers : List ℕ) (number : ℕ) → AreReached depth memory root numbers → IsStray depth memory root number → IsOutside memory numbers number
+stray_outside : (depth : Depth) (memory : Memory) (root : ℕ) (numbers : List ℕ) (number : ℕ) → AreReached depth memory root numbers
+    → IsStray depth memory root number → IsOutside memory numbers number
 stray_outside depth memory root numbers number are stray = (stray.0, λ has. stray.1 ((are number).0 has))
 
-pub none_are_stray : (depth : Depth) (dump : Image) (numbers : List ℕ) → AreReached depth dump.frames dump.root numbers → ((number : ℕ) → IsOutside dump.frames numbers number → ⊥) → NoneStray depth dump
+pub none_are_stray : (depth : Depth) (dump : Image) (numbers : List ℕ) → AreReached depth dump.frames dump.root numbers
+    → ((number : ℕ) → IsOutside dump.frames numbers number → ⊥) → NoneStray depth dump
 none_are_stray depth dump numbers are none number stray = none number (stray_outside depth dump.frames dump.root numbers number are stray)
 
-pub least_stray : (depth : Depth) (memory : Memory) (root : ℕ) (numbers : List ℕ) (number : ℕ) → AreReached depth memory root numbers → IsLeast (IsOutside memory numbers) number → IsLeast (IsStray depth memory root) number
+pub least_stray : (depth : Depth) (memory : Memory) (root : ℕ) (numbers : List ℕ) (number : ℕ) → AreReached depth memory root numbers
+    → IsLeast (IsOutside memory numbers) number → IsLeast (IsStray depth memory root) number
 least_stray depth memory root numbers number are least = (
   (least.0.0, λ has. least.0.1 ((are number).1 has)),
   λ other below stray. least.1 other below (stray_outside depth memory root numbers other are stray),

@@ -41,7 +41,8 @@ keys_rise memory i j less within =
     omega arith
 
 -- where a frame stands among them
-place_of : (memory : Memory) (number : ℕ) → IsSome (finite.get memory number) → (j : ℕ) × (j < finite.len memory) × (slice_index (finite.keys memory) j ≡ number)
+place_of : (memory : Memory) (number : ℕ) → IsSome (finite.get memory number)
+    → (j : ℕ) × (j < finite.len memory) × (slice_index (finite.keys memory) j ≡ number)
 place_of memory number held =
     let at = held_listed memory number held in
     (at.0, omega (arith, at.1, count_is memory), get_or_default (finite.keys memory) at.0 0 number at.1 ∙ at.2)
@@ -50,7 +51,8 @@ at_place : (memory : Memory) (j : ℕ) → j < finite.len memory → IsSome (fin
 at_place memory j within =
     let number : ℕ = slice_index (finite.keys memory) j in
     finite.contains_key-keys memory number
-    ∙ list_any-from_Contains (eq_by_cmp_equiv nat_cmp_total) number (finite.keys memory) (Contains-get_or (finite.keys memory) j 0 (omega (arith, count_is memory)))
+    ∙ list_any-from_Contains (eq_by_cmp_equiv nat_cmp_total) number (finite.keys memory)
+    (Contains-get_or (finite.keys memory) j 0 (omega (arith, count_is memory)))
 
 -- ---- one after another
 
@@ -59,7 +61,8 @@ none_outside memory numbers among number outside =
     let at = place_of memory number outside.0 in
     outside.1 (subst (Contains numbers) at.2 (among at.0 at.1))
 
-pub least_outside : (memory : Memory) (numbers : List ℕ) (k : ℕ) → ((j : ℕ) → j < k → Contains numbers (slice_index (finite.keys memory) j)) → k < finite.len memory → (Contains numbers (slice_index (finite.keys memory) k) → ⊥)
+pub least_outside : (memory : Memory) (numbers : List ℕ) (k : ℕ) → ((j : ℕ) → j < k → Contains numbers (slice_index (finite.keys memory) j))
+    → k < finite.len memory → (Contains numbers (slice_index (finite.keys memory) k) → ⊥)
     → IsLeast (IsOutside memory numbers) (slice_index (finite.keys memory) k)
 least_outside memory numbers k among within not = ((at_place memory k within, not), earlier) where
   earlier : (other : ℕ) → other < slice_index (finite.keys memory) k → IsOutside memory numbers other → ⊥
@@ -69,13 +72,15 @@ least_outside memory numbers k among within not = ((at_place memory k within, no
       (λ low. outside.1 (subst (Contains numbers) at.2 (among at.0 low)))
       (λ high. ⊎_elim
       (λ above. let rise = keys_rise memory k at.0 above at.1 in omega (arith, at.2, rise, less))
-      (λ same. let one : at.0 ≡ k = omega arith in let equal : slice_index (finite.keys memory) k ≡ other = subst (λ j. slice_index (finite.keys memory) j ≡ other) one at.2 in omega arith)
+      (λ same. let one : at.0 ≡ k = omega arith in let equal : slice_index (finite.keys memory) k ≡ other =
+      subst (λ j. slice_index (finite.keys memory) j ≡ other) one at.2 in omega arith)
       (cases_lt k at.0))
       (cases_lt at.0 k)
 
 -- ---- by their count
 
-pub none_by_count : (memory : Memory) (numbers : List ℕ) → AllPairs (λ a b. a < b) numbers → ((number : ℕ) → Contains numbers number → IsSome (finite.get memory number)) → length numbers ≡ finite.len memory
+pub none_by_count : (memory : Memory) (numbers : List ℕ) → AllPairs (λ a b. a < b) numbers
+    → ((number : ℕ) → Contains numbers number → IsSome (finite.get memory number)) → length numbers ≡ finite.len memory
     → (number : ℕ) → IsOutside memory numbers number → ⊥
 none_by_count memory numbers rising held count number outside =
     let more = length-le_from_is_member nat_eq_equiv (number ∷ numbers) (finite.keys memory) distinct (λ q among.
@@ -99,13 +104,15 @@ none_by_count memory numbers rising held count number outside =
 
 -- ---- a number above the last one
 
-pub last_below_all : (memory : Memory) (last number : ℕ) → finite.len memory ≡ last + 1 → slice_index (finite.keys memory) last < number → All (λ held. held < number) (finite.keys memory)
+pub last_below_all : (memory : Memory) (last number : ℕ) → finite.len memory ≡ last + 1 → slice_index (finite.keys memory) last < number
+    → All (λ held. held < number) (finite.keys memory)
 last_below_all memory last number count below i d within =
     let counted = count_is memory in
     let is : get_or (finite.keys memory) i d ≡ slice_index (finite.keys memory) i = get_or_default (finite.keys memory) i d 0 within in
     ⊎_elim
     (λ less. let rise = keys_rise memory i last less (omega arith) in omega arith)
-    (λ last_or_more. let one : i ≡ last = omega arith in let same : slice_index (finite.keys memory) i ≡ slice_index (finite.keys memory) last = ap (slice_index (finite.keys memory)) one in omega arith)
+    (λ last_or_more. let one : i ≡ last = omega arith in let same : slice_index (finite.keys memory) i ≡ slice_index (finite.keys memory) last =
+    ap (slice_index (finite.keys memory)) one in omega arith)
     (cases_lt i last)
 
 pub none_below_all : (memory : Memory) (number : ℕ) → finite.len memory ≡ 0 → All (λ held. held < number) (finite.keys memory)

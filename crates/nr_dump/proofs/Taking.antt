@@ -23,11 +23,21 @@ heads_stay : (first : Page) (rest more right : List Page) (base : ℕ) → Heads
 heads_stay first rest more [] base h = h
 heads_stay first rest more (q ∷ qs) base h = h
 
-known_stays : (pages : List Page) (met base : ℕ) (taken : List Page) (page : Page) → AreTaken pages met (Some base) taken → AreTaken pages met (Some base) (taken ++ page ∷ [])
-known_stays pages met base taken page (common, rest, right, first, is, parts, h) =
-    (common, rest ++ page ∷ [], right, first, ap (λ xs. xs ++ page ∷ []) is ∙ append_assoc common (first ∷ rest) (page ∷ []), parts, heads_stay first rest (page ∷ []) right base h)
+known_stays : (pages : List Page) (met base : ℕ) (taken : List Page) (page : Page) → AreTaken pages met (Some base) taken
+    → AreTaken pages met (Some base) (taken ++ page ∷ [])
+known_stays pages met base taken page (common, rest, right, first, is, parts, h) = (
+  common,
+  rest ++ page ∷ [],
+  right,
+  first,
+  ap (λ xs. xs ++ page ∷ []) is
+      ∙ append_assoc common (first ∷ rest) (page ∷ []),
+  parts,
+  heads_stay first rest (page ∷ []) right base h,
+)
 
-page_met : (pages : List Page) (met : ℕ) (taken : List Page) (page : Page) → AreTaken pages met None taken → slice_get pages met ≡ Some page → AreTaken pages (met + 1) None (taken ++ page ∷ [])
+page_met : (pages : List Page) (met : ℕ) (taken : List Page) (page : Page) → AreTaken pages met None taken → slice_get pages met ≡ Some page
+    → AreTaken pages (met + 1) None (taken ++ page ∷ [])
 page_met pages met taken page (later, parts, count) next = by_later later parts (sym (next_of pages taken later met parts count) ∙ next) where
   by_later : (later : List Page) → pages ≡ taken ++ later → slice_get later 0 ≡ Some page → AreTaken pages (met + 1) None (taken ++ page ∷ [])
   by_later [] parts is = cc
@@ -35,15 +45,18 @@ page_met pages met taken page (later, parts, count) next = by_later later parts 
       let same : q ≡ page = cc in
       (qs, parts ∙ ap (λ x. taken ++ x ∷ qs) same ∙ sym (append_assoc taken (page ∷ []) qs), omega (arith, count, length-append taken (page ∷ [])))
 
-page_differs : (pages : List Page) (met : ℕ) (taken : List Page) (page next : Page) → AreTaken pages met None taken → slice_get pages met ≡ Some next → page ≢ next → AreTaken pages met (Some (min page.base next.base)) (taken ++ page ∷ [])
+page_differs : (pages : List Page) (met : ℕ) (taken : List Page) (page next : Page) → AreTaken pages met None taken → slice_get pages met ≡ Some next
+    → page ≢ next → AreTaken pages met (Some (min page.base next.base)) (taken ++ page ∷ [])
 page_differs pages met taken page next (later, parts, count) is differ = by_later later parts (sym (next_of pages taken later met parts count) ∙ is) where
-  by_later : (later : List Page) → pages ≡ taken ++ later → slice_get later 0 ≡ Some next → AreTaken pages met (Some (min page.base next.base)) (taken ++ page ∷ [])
+  by_later : (later : List Page) → pages ≡ taken ++ later → slice_get later 0 ≡ Some next
+      → AreTaken pages met (Some (min page.base next.base)) (taken ++ page ∷ [])
   by_later [] parts is = cc
   by_later (q ∷ qs) parts is =
       let same : q ≡ next = cc in
       (taken, [], q ∷ qs, page, refl, parts, ((λ e. differ (e ∙ same)), ap (λ (x : Page). min page.base x.base) (sym same)))
 
-page_beyond : (pages : List Page) (met : ℕ) (taken : List Page) (page : Page) → AreTaken pages met None taken → slice_get pages met ≡ None → AreTaken pages met (Some page.base) (taken ++ page ∷ [])
+page_beyond : (pages : List Page) (met : ℕ) (taken : List Page) (page : Page) → AreTaken pages met None taken → slice_get pages met ≡ None
+    → AreTaken pages met (Some page.base) (taken ++ page ∷ [])
 page_beyond pages met taken page (later, parts, count) none = by_later later parts (sym (next_of pages taken later met parts count) ∙ none) where
   by_later : (later : List Page) → pages ≡ taken ++ later → slice_get later 0 ≡ None → AreTaken pages met (Some page.base) (taken ++ page ∷ [])
   by_later [] parts is = (taken, [], [], page, refl, parts, refl)
@@ -64,7 +77,8 @@ meets_page pages met None told page none next (taken, is, unmarked, are) =
 meets_page pages met (Some base) told page none next has = cc
 
 pub meets_other : (pages : List Page) (met : ℕ) (difference : Option ℕ) (told : List Page) (page next : Page) → is_some difference ≡ false
-    → slice_get pages met ≡ Some next → page ≢ next → HasCompared pages met difference told → HasCompared pages met (Some (min page.base next.base)) (told ++ page ∷ [])
+    → slice_get pages met ≡ Some next → page ≢ next → HasCompared pages met difference told
+    → HasCompared pages met (Some (min page.base next.base)) (told ++ page ∷ [])
 meets_other pages met None told page next none at differ (taken, is, unmarked, are) =
     (taken ++ page ∷ [], told_more pages taken told page is, unmarked, page_differs pages met taken page next are at differ)
 meets_other pages met (Some base) told page next none at differ has = cc
@@ -81,9 +95,11 @@ pub ends_known : (pages : List Page) (met base : ℕ) (taken : List Page) → Ar
 ends_known pages met base taken (common, rest, right, first, is, parts, h) = (common, first ∷ rest, right, is, parts, h)
 
 -- after pages that agree comes the next page of the space
-pub ends_at_next : (pages : List Page) (met : ℕ) (taken : List Page) → AreTaken pages met None taken → IsCompared taken pages (option_map (λ (page : Page). page.base) (slice_get pages met))
+pub ends_at_next : (pages : List Page) (met : ℕ) (taken : List Page) → AreTaken pages met None taken
+    → IsCompared taken pages (option_map (λ (page : Page). page.base) (slice_get pages met))
 ends_at_next pages met taken (later, parts, count) =
-    subst (λ next. IsCompared taken pages (option_map (λ (page : Page). page.base) next)) (sym (next_of pages taken later met parts count)) (by_later later parts) where
+    subst (λ next. IsCompared taken pages (option_map (λ (page : Page). page.base) next)) (sym (next_of pages taken later met parts count))
+    (by_later later parts) where
       by_later : (later : List Page) → pages ≡ taken ++ later → IsCompared taken pages (option_map (λ (page : Page). page.base) (slice_get later 0))
       by_later [] parts = sym (parts ∙ append-nil taken)
       by_later (q ∷ qs) parts = (taken, [], q ∷ qs, sym (append-nil taken), parts, refl)
@@ -93,7 +109,8 @@ ends_at_next pages met taken (later, parts, count) =
 -- lists without the mark are equal where they stand before one
 same_before_mark : (ps qs xs ys : List Page) → (Contains ps mark → ⊥) → (Contains qs mark → ⊥) → ps ++ mark ∷ xs ≡ qs ++ mark ∷ ys → (ps ≡ qs) × (xs ≡ ys)
 same_before_mark [] [] xs ys left right same = (refl, cc)
-same_before_mark [] (q ∷ qs) xs ys left right same = let first : mark ≡ q = cc in absurd (right (subst (λ x. Contains (q ∷ qs) x) (sym first) (Contains-head q qs)))
+same_before_mark [] (q ∷ qs) xs ys left right same = let first : mark ≡ q = cc in
+    absurd (right (subst (λ x. Contains (q ∷ qs) x) (sym first) (Contains-head q qs)))
 same_before_mark (p ∷ ps) [] xs ys left right same = let first : p ≡ mark = cc in absurd (left (subst (λ x. Contains (p ∷ ps) x) first (Contains-head p ps)))
 same_before_mark (p ∷ ps) (q ∷ qs) xs ys left right same =
     let first : p ≡ q = cc in
@@ -106,7 +123,8 @@ starts : (pages : List Page) → (Contains pages mark → ⊥) → HasCompared p
 starts pages unmarked = ([], refl, unmarked, (pages, refl, refl))
 
 -- a comparison that began with these pages still has them, and has taken what it was told since
-has_taken : (pages own : List Page) (met : ℕ) (difference : Option ℕ) (taken : List Page) → (Contains pages mark → ⊥) → HasCompared own met difference ((pages ++ mark ∷ []) ++ taken)
+has_taken : (pages own : List Page) (met : ℕ) (difference : Option ℕ) (taken : List Page) → (Contains pages mark → ⊥)
+    → HasCompared own met difference ((pages ++ mark ∷ []) ++ taken)
     → (own ≡ pages) × AreTaken own met difference taken
 has_taken pages own met difference taken unmarked (other, is, own_unmarked, are) =
     let same = same_before_mark pages own taken other unmarked own_unmarked (sym (append_assoc pages (mark ∷ []) taken) ∙ is) in
@@ -120,6 +138,7 @@ pub compared : (pages first own : List Page) (count met : ℕ) (nothing differen
     → IsCompared taken pages answer
 compared pages first own count met nothing difference taken answer unmarked is zero none visited tells =
     let begun = subst (λ n. HasCompared first n nothing (pages ++ mark ∷ [])) (sym zero)
-    (subst (λ o. HasCompared first 0 o (pages ++ mark ∷ [])) (sym none) (subst (λ ps. HasCompared ps 0 None (pages ++ mark ∷ [])) (sym is) (starts pages unmarked))) in
+    (subst (λ o. HasCompared first 0 o (pages ++ mark ∷ [])) (sym none)
+    (subst (λ ps. HasCompared ps 0 None (pages ++ mark ∷ [])) (sym is) (starts pages unmarked))) in
     let ended = has_taken pages own met difference taken unmarked (visited (pages ++ mark ∷ []) begun) in
     subst (λ ps. IsCompared taken ps answer) ended.0 (tells taken ended.1)

@@ -63,11 +63,15 @@ fn dump_of(rt: &impl Abort, alloc: Global, root: u64, frames: &[[u64; FRAME_WORD
 
 /// Maps a page with all rights; where memory is refused, at a second try.
 fn map(rt: &impl Abort, space: &mut PlainSpace, base: u64, size: Size, phys: u64) {
-    let op = Op::map(Depth::Four, base, size, phys, Rights::ALL).expect(rt, "an operation");
-    let answer = match space.apply(op) {
-        Ok(answer) => answer,
-        Err(_) => space.apply(op).expect(rt, "memory"),
-    };
+    let depth = space.depth();
+    let op = Op::map(depth, base, size, phys, Rights::ALL).expect(rt, "an operation");
+    assert!(rt; op.fits(space.depth()));
+    if let Ok(answer) = space.apply(op) {
+        assert_eq!(rt; answer, Answer::Done);
+        return;
+    }
+    assert!(rt; op.fits(space.depth()));
+    let answer = space.apply(op).expect(rt, "memory");
     assert_eq!(rt; answer, Answer::Done);
 }
 
@@ -89,81 +93,139 @@ fn checked(
     }
 }
 
+const DEPTHS: [Depth; 2] = [Depth::Four, Depth::Five];
+
 fn check_beside_nothing(
     rt: &impl Abort,
     alloc: Global,
+    depth: Depth,
     root: u64,
     frames: &[[u64; FRAME_WORDS]],
 ) -> Result<(), DumpFault> {
     let dump = dump_of(rt, alloc, root, frames);
-    checked(rt, alloc, &dump, &PlainSpace::new(alloc, 4096, Depth::Four))
+    checked(rt, alloc, &dump, &PlainSpace::new(alloc, 4096, depth))
+}
+
+/// Bit 13 of a page of 2 MiB is reserved, and bit 12 is ignored.
+#[test]
+fn bits_of_a_large_page(rt: HostRuntime) {
+    let alloc = rt.alloc();
+    let first = words(&[(0, 0x2007)]);
+    let second = words(&[(0, 0x3007)]);
+    let reserved = [first, second, words(&[(1, 0x202087)])];
+    assert_eq!(rt;
+        check_beside_nothing(&rt, alloc, Depth::Four, 1, &reserved),
+        Err(DumpFault::ReservedBit(3, 1))
+    );
+    let ignored = [first, second, words(&[(1, 0x201087)])];
+    assert_eq!(rt;
+        check_beside_nothing(&rt, alloc, Depth::Four, 1, &ignored),
+        Err(DumpFault::Differs(0x200000))
+    );
 }
 
 #[test]
 fn faulty_dumps(rt: HostRuntime) {
     let alloc = rt.alloc();
     let first = words(&[(0, 0x2007)]);
-    let second = words(&[(0, 0x3007)]);
-    assert_eq!(rt;
-        check_beside_nothing(&rt, alloc, 1, &[first, second, words(&[(1, 0x202087)])]),
-        Err(DumpFault::ReservedBit(3, 1))
-    );
-    assert_eq!(rt;
-        check_beside_nothing(&rt, alloc, 1, &[first, second, words(&[(1, 0x201087)])]),
-        Err(DumpFault::Differs(0x200000))
-    );
-    assert_eq!(rt;
-        check_beside_nothing(&rt, alloc, 1, &[words(&[(0, 0x1007)])]),
-        Err(DumpFault::SharedFrame(1))
-    );
-    assert_eq!(rt;
-        check_beside_nothing(&rt, alloc, 1, &[first]),
-        Err(DumpFault::MissingFrame(2))
-    );
-    assert_eq!(rt;
-        check_beside_nothing(&rt, alloc, 1, &[words(&[]), words(&[])]),
-        Err(DumpFault::StrayFrame(2))
-    );
-    assert_eq!(rt;
-        check_beside_nothing(&rt, alloc, 5, &[words(&[])]),
-        Err(DumpFault::MissingFrame(5))
-    );
+    for depth in DEPTHS {
+        assert_eq!(rt;
+            check_beside_nothing(&rt, alloc, depth, 1, &[words(&[(0, 0x1007)])]),
+            Err(DumpFault::SharedFrame(1))
+        );
+        assert_eq!(rt;
+            check_beside_nothing(&rt, alloc, depth, 1, &[first]),
+            Err(DumpFault::MissingFrame(2))
+        );
+        assert_eq!(rt;
+            check_beside_nothing(&rt, alloc, depth, 1, &[words(&[]), words(&[])]),
+            Err(DumpFault::StrayFrame(2))
+        );
+        assert_eq!(rt;
+            check_beside_nothing(&rt, alloc, depth, 5, &[words(&[])]),
+            Err(DumpFault::MissingFrame(5))
+        );
+    }
 }
 
 #[test]
 fn hostile_dumps(rt: HostRuntime) {
     let alloc = rt.alloc();
     let both = words(&[(0, 0x2007), (1, 0x87)]);
+    let twice = words(&[(0, 0x2007), (1, 0x2007)]);
     let first = words(&[(0, 0x2007)]);
     let nothing = words(&[]);
+    for depth in DEPTHS {
+        assert_eq!(rt;
+            check_beside_nothing(&rt, alloc, depth, 1, &[both]),
+            Err(DumpFault::MissingFrame(2))
+        );
+        assert_eq!(rt;
+            check_beside_nothing(&rt, alloc, depth, 1, &[both, nothing]),
+            Err(DumpFault::ReservedBit(1, 1))
+        );
+        assert_eq!(rt;
+            check_beside_nothing(&rt, alloc, depth, 1, &[twice, nothing]),
+            Err(DumpFault::SharedFrame(2))
+        );
+        assert_eq!(rt;
+            check_beside_nothing(&rt, alloc, depth, 1, &[first, words(&[(0, 0x1007)])]),
+            Err(DumpFault::SharedFrame(1))
+        );
+        assert_eq!(rt;
+            check_beside_nothing(&rt, alloc, depth, 1, &[first, nothing]),
+            Ok(())
+        );
+    }
+    let large = [first, words(&[(0, 0x87)])];
     assert_eq!(rt;
-        check_beside_nothing(&rt, alloc, 1, &[both]),
-        Err(DumpFault::MissingFrame(2))
-    );
-    assert_eq!(rt;
-        check_beside_nothing(&rt, alloc, 1, &[both, nothing]),
-        Err(DumpFault::ReservedBit(1, 1))
-    );
-    assert_eq!(rt;
-        check_beside_nothing(
-            &rt,
-            alloc,
-            1,
-            &[words(&[(0, 0x2007), (1, 0x2007)]), nothing]
-        ),
-        Err(DumpFault::SharedFrame(2))
-    );
-    assert_eq!(rt;
-        check_beside_nothing(&rt, alloc, 1, &[first, words(&[(0, 0x1007)])]),
-        Err(DumpFault::SharedFrame(1))
-    );
-    assert_eq!(rt;
-        check_beside_nothing(&rt, alloc, 1, &[first, words(&[(0, 0x87)])]),
+        check_beside_nothing(&rt, alloc, Depth::Four, 1, &large),
         Err(DumpFault::Differs(0))
     );
     assert_eq!(rt;
-        check_beside_nothing(&rt, alloc, 1, &[first, nothing]),
+        check_beside_nothing(&rt, alloc, Depth::Five, 1, &large),
+        Err(DumpFault::ReservedBit(2, 0))
+    );
+}
+
+/// A root of five levels whose index 256 begins the high half.
+#[test]
+fn five_levels(rt: HostRuntime) {
+    let alloc = rt.alloc();
+    let five = Depth::Five;
+    assert_eq!(rt;
+        check_beside_nothing(&rt, alloc, five, 1, &[words(&[])]),
         Ok(())
+    );
+    assert_eq!(rt;
+        check_beside_nothing(&rt, alloc, five, 1, &[words(&[(0, 0x87)])]),
+        Err(DumpFault::ReservedBit(1, 0))
+    );
+    let frames = [
+        words(&[(256, 0x2007)]),
+        words(&[(0, 0x3007)]),
+        words(&[(0, 0x4007)]),
+        words(&[(0, 0x5007)]),
+        words(&[(0, 0x3007)]),
+    ];
+    let dump = dump_of(&rt, alloc, 1, &frames);
+    let mut space = PlainSpace::new(alloc, 4096, five);
+    assert_eq!(rt;
+        checked(&rt, alloc, &dump, &space),
+        Err(DumpFault::Differs(0xFF00000000000000))
+    );
+    map(&rt, &mut space, 0xFF00000000000000, Size::K4, 0x3000);
+    assert_eq!(rt; checked(&rt, alloc, &dump, &space), Ok(()));
+    map(&rt, &mut space, 0xFFFFFFFFFFF000, Size::K4, 0x2000);
+    assert_eq!(rt;
+        checked(&rt, alloc, &dump, &space),
+        Err(DumpFault::Differs(0xFFFFFFFFFFF000))
+    );
+    let mut of_four = PlainSpace::new(alloc, 4096, Depth::Four);
+    map(&rt, &mut of_four, 0xFFFF800000000000, Size::K4, 0x5000);
+    assert_eq!(rt;
+        checked(&rt, alloc, &dump, &of_four),
+        Err(DumpFault::StrayFrame(5))
     );
 }
 

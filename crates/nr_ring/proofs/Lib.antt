@@ -4,7 +4,14 @@ pub mod Rounds
 pub mod Views
 pub mod Turns
 pub mod CellWords
+pub mod SameWords
+pub mod Exchanges
 pub mod Splits
 pub mod Joins
 pub mod NewLog
 pub mod Passes
+pub mod Advances
+pub mod Meets
+pub mod Batches
+pub mod Fetches
+pub mod Appends

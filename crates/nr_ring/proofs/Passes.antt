@@ -35,7 +35,7 @@ tails_are log words are = λ i. record {
   local = are.locals_are 0 (omega arith) i ∷ are.locals_are 1 (omega arith) i ∷ are.locals_are 2 (omega arith) i ∷ are.locals_are 3 (omega arith) i ∷ [];
 }
 
-longer : (after before : List Event) → StartsWith after before → length before ≤ length after
+pub longer : (after before : List Event) → StartsWith after before → length before ≤ length after
 longer after before begins = omega (arith, ap (λ (l : List Event). length l) begins.1, Rattle.std.proofs.Common.length-append before begins.0)
 
 pub look_remembers : (depth : Depth) (replicas : ℕ) (words words' : List ℕ) (replica : Option ℕ) (before after : View) → Remembers depth replicas words replica before → Looks depth replicas words' before after → Remembers depth replicas words' replica after

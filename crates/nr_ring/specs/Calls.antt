@@ -1,8 +1,7 @@
 -- What the calls on a log tell the pass that makes them.
-use Rattle.std.specs.List.{range_with_len}
-use Rattle.std.specs.Prelude.{◌≡◌, ℕ, List, [], ◌∷◌, ◌++◌, All, Contains, length, nat_lt, if◌then◌else◌, ⊤}
+use Rattle.std.specs.Prelude.{◌≡◌, ◌≢◌, ℕ, ◌<◌, ◌≤◌, List, [], ◌∷◌, ◌++◌, All, Contains, length, nat_lt, if◌then◌else◌, ⊤}
 use Rattle.vs_types.specs.declared.depth.Depth.{Depth}
-use Rattle.nr_ring.specs.History.{IsHistory, log_after}
+use Rattle.nr_ring.specs.History.{IsHistory, local_of, log_after, tail}
 use Rattle.nr_ring.specs.Words.{IsWordsOf}
 use Rattle.nr_ring.specs.View.{StartsWith}
 use Rattle.nr_ring.specs.declared.event.Event.{Event}
@@ -58,6 +57,20 @@ joined view other = record {
 abbrev pub spent : View
 spent = record { seen = []; mine = []; owns = []; told = [] }
 
--- the view of the first pass of a new log, which owns all replicas
-abbrev pub first_view : ℕ → View
-first_view replicas = record { seen = []; mine = []; owns = range_with_len 0 replicas; told = [] }
+-- another pass's event has come: one that this pass had not seen before, and did not make
+abbrev pub HasMoved : View → View → Type 0
+HasMoved before after = (number : ℕ) × (length before.seen ≤ number) × (number < length after.seen) × (Contains after.mine number → ⊥)
+
+-- a pass that owns a replica may take the entries up to a place: one from its local tail to the tail, as far as the pass has seen
+pub record MayTake (replicas : ℕ) (view : View) (to : ℕ) : Type 0 where
+  pub replica : ℕ
+  pub owns : view.owns ≡ replica ∷ []
+  pub above : local_of (log_after replicas view.seen) replica ≤ to
+  pub written : to ≤ tail (log_after replicas view.seen)
+
+-- it has made one advance of its replica to the place and has seen nothing else; where the local tail was there, nothing has changed
+pub record HasTaken (replicas : ℕ) (before : View) (to : ℕ) (after : View) : Type 0 where
+  pub replica : ℕ
+  pub owns : before.owns ≡ replica ∷ []
+  pub there : local_of (log_after replicas before.seen) replica ≡ to → after ≡ before
+  pub below : local_of (log_after replicas before.seen) replica ≢ to → after ≡ with_event before (Advance replica to)

@@ -6,5 +6,6 @@ pub mod Calls
 pub mod Examples
 pub mod Laws
 pub mod Pass
+pub mod Entries
 -- models and loops
 pub mod inside

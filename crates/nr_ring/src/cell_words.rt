@@ -6,6 +6,11 @@ ghost use Rattle.nr_ring.specs.History.{Log, MayAdvance, MayAppend, after};
 ghost use Rattle.nr_ring.specs.Words.{IsAppended, IsWordsOf, advanced_words};
 ghost use Rattle.nr_ring.specs.declared.event.Event.TheVariants.{Append, Advance};
 
+/// The words of a cell are a function of its log.
+pub fn words_are_a_function_of_the_log()
+    ensures { (log : Log) (p q : List ℕ) → IsWordsOf log p → IsWordsOf log q → p ≡ q }
+{}
+
 /// An advance is two words: the replica's local tail, and the completed tail, which it raises in the same exchange.
 pub fn advances_change_two_words()
     ensures { (log : Log) (replica to : ℕ) (words : List ℕ) → replica < 4 → IsWordsOf log words → MayAdvance log replica to → IsWordsOf (after log (Advance replica to)) (advanced_words replica to words) }

@@ -4,6 +4,7 @@
 //! tail is the greatest local tail.
 #![tactic(auto)]
 
+mod batch;
 mod cell_words;
 mod event;
 pub mod examples;
@@ -16,7 +17,9 @@ mod steps;
 mod tails;
 mod view;
 
-pub use cell_words::{advances_change_two_words, appends_keep_needed_entries};
+pub use cell_words::{
+    advances_change_two_words, appends_keep_needed_entries, words_are_a_function_of_the_log,
+};
 pub use event::Event;
 pub use laws::{
     completed_is_a_local_tail, equal_tails_mean_no_event, needed_entries_fit_the_ring,
@@ -29,5 +32,5 @@ pub use steps::{
     events_keep_the_rule, joins_keep_the_rule, looks_keep_the_rule, new_logs_keep_the_rule,
     own_words_mean_all_seen, splits_keep_the_rule,
 };
-pub use tails::Tails;
+pub use tails::{AppendFault, Moved, Tails};
 pub use view::View;

@@ -1,23 +1,29 @@
 //! The log: one cell of 39 words that its threads share.
-ghost use Rattle.std.specs.Prelude.{◌≡◌, ◌≤◌, ◌-◌, ℕ, IfOk, [], ◌∷◌};
+ghost use Rattle.std.specs.Prelude.{◌≡◌, ◌≤◌, ◌-◌, ◌<◌, ℕ, All, Contains, IfErr, IfOk, MatchBool, OnErr, OnOk, [], ◌∷◌, length};
 ghost use Rattle.std.specs.List.{range_with_len};
+ghost use Rattle.vs_types.specs.LogEntry.{IsLogEntry};
 ghost use Rattle.crossbeam_utils.specs.Seq.{cell_view, IsSamePass};
-ghost use Rattle.nr_ring.specs.Calls.{HasLooked};
-ghost use Rattle.nr_ring.specs.History.{log_after};
+ghost use Rattle.nr_ring.specs.Calls.{HasLooked, HasMoved, HasTaken, MayMake, MayTake, joined, with_event};
+ghost use Rattle.nr_ring.specs.History.{IsHistory, MayAdvance, MayAppend, MayFollow, after, log_after};
+ghost use Rattle.nr_ring.specs.declared.event.Event.TheVariants.{Append, Advance};
+ghost use Rattle.nr_ring.specs.Entries.{HasAppended, IsReason, to_take};
 ghost use Rattle.nr_ring.specs.Pass.{new_pass, new_passes, tails_of};
-ghost use Rattle.nr_ring.specs.Words.{new_words};
+ghost use Rattle.nr_ring.specs.View.{StartsWith};
+ghost use Rattle.nr_ring.specs.Words.{IsWordsOf, new_words};
 ghost use Rattle.nr_ring.specs.inside.Held.{IsBelow, left_from, new_view, owned, rest_of};
 
+use crate::batch::{read_entries, test_room, why_not, with_batch};
 use crate::name::LogName;
 use crate::pass::LogPass;
-use crate::rule::{FirstOwned, LogRule, Looking};
-use crate::tails::{Tails, tails_in};
+use crate::rule::{Copies, Exchanging, FirstOwned, Happening, LogRule, Looking};
+use crate::tails::{AppendFault, Moved, Tails, tails_in};
 use crate::view::View;
+use arrayvec::ArrayVec;
 use crossbeam_utils::atomic::seq_cell::{Pass, RuledSeqCell};
 use std::alloc::Global;
-use std::marker::{Model, PhantomData};
+use std::marker::{Brand, Model, PhantomData};
 use std::sync::Wait;
-use vs_types::{Depth, Memory};
+use vs_types::{Depth, LogEntry, Memory};
 
 type Cell<J> = RuledSeqCell<[u64; 39], View, LogRule<J>, 39>;
 
@@ -109,5 +115,172 @@ impl<J: LogName> RingLog<J> {
         let words = self.cell.load_as::<Looking<J>, R>(rt, &mut pass.pass);
         pass.words = words;
         tails_in(&words)
+    }
+
+    /// Raises the local tail of the replica that the pass owns to a place, and the completed tail to it where that is lower.
+    /// Where the local tail is there already, nothing is exchanged. `Moved` where another pass's event has come since this pass
+    /// last saw the cell.
+    ///
+    /// Waits for the cell.
+    pub fn advance<R: Wait>(&self, rt: &R, pass: &mut LogPass<J>, to: u32) -> Result<(), Moved>
+        requires log { pass.old.log ≡ self.now }
+        requires to { MayTake J.replicas pass.old.view to }
+        ensures log { pass.new.log ≡ pass.old.log }
+        ensures taken { OnOk result (HasTaken J.replicas pass.old.view to pass.new.view) }
+        ensures moved { OnErr result (HasLooked J.depth J.replicas pass.old.view pass.new.view × HasMoved pass.old.view pass.new.view) }
+        ensures history { IsHistory J.depth J.replicas pass.new.view.seen }
+    {
+        let Some(replica) = pass.replica else {
+            unreachable!()
+        };
+        let local = 2 + usize::from(replica);
+        let place = u64::from(to);
+        let words = pass.words;
+        if words[local] == place {
+            return Ok(());
+        }
+        if self.try_advance::<Brand, R>(rt, pass, replica, to) {
+            Ok(())
+        } else {
+            Err(Moved)
+        }
+    }
+
+    fn try_advance<E: Happening, R: Wait>(
+        &self,
+        rt: &R,
+        pass: &mut LogPass<J>,
+        replica: u8,
+        to: u32,
+    ) -> bool
+        requires log { pass.old.log ≡ self.now }
+        requires event { E.event ≡ Advance replica to }
+        requires may { (replica < 4) × MayAdvance (log_after J.replicas pass.old.view.seen) replica to × Contains pass.old.view.owns replica }
+        ensures log { pass.new.log ≡ pass.old.log }
+        ensures view { MatchBool result (pass.new.view ≡ with_event pass.old.view E.event) (HasLooked J.depth J.replicas pass.old.view pass.new.view × HasMoved pass.old.view pass.new.view) }
+        ensures history { IsHistory J.depth J.replicas pass.new.view.seen }
+    {
+        let local = 2 + usize::from(replica);
+        let place = u64::from(to);
+        let mut next = pass.words;
+        next[1] = next[1].max(place);
+        next[local] = place;
+        self.exchange::<E, R>(rt, pass, next)
+    }
+
+    /// Looks, and then appends 1 to 16 entries at the log's depth: the place of the first. `LogEnded` where the log would go past
+    /// 65,536 entries; `Full` where some replica would have more than 16 entries to take; `Moved` where neither holds, but
+    /// another pass's event came after the look. The tails are those of the log that the pass has then seen.
+    ///
+    /// Waits for the cell.
+    pub fn append<R: Wait>(
+        &self,
+        rt: &R,
+        pass: &mut LogPass<J>,
+        batch: &[LogEntry],
+    ) -> Result<u32, AppendFault>
+        requires log { pass.old.log ≡ self.now }
+        requires count { (1 ≤ length batch.now) × (length batch.now ≤ 16) }
+        requires entries { All (IsLogEntry J.depth) batch.now }
+        ensures log { pass.new.log ≡ pass.old.log }
+        ensures appended { IfOk result (λ place. HasAppended J.depth J.replicas pass.old.view batch.now place pass.new.view) }
+        ensures refused { IfErr result (λ fault. HasLooked J.depth J.replicas pass.old.view pass.new.view × IsReason (log_after J.replicas pass.new.view.seen) (length batch.now) pass.old.view pass.new.view fault) }
+        ensures history { IsHistory J.depth J.replicas pass.new.view.seen }
+    {
+        let count = batch.len() as u64;
+        let tails = self.look(rt, pass);
+        test_room(&pass.words, count)?;
+        if self.try_append::<Brand, R>(rt, pass, batch) {
+            return Ok(tails.tail);
+        }
+        Err(why_not(&pass.words, count))
+    }
+
+    fn try_append<E: Happening, R: Wait>(
+        &self,
+        rt: &R,
+        pass: &mut LogPass<J>,
+        batch: &[LogEntry],
+    ) -> bool
+        requires log { pass.old.log ≡ self.now }
+        requires event { E.event ≡ Append batch.now }
+        requires may { MayAppend J.depth (log_after J.replicas pass.old.view.seen) batch.now }
+        ensures log { pass.new.log ≡ pass.old.log }
+        ensures view { MatchBool result (pass.new.view ≡ with_event pass.old.view E.event) (HasLooked J.depth J.replicas pass.old.view pass.new.view × HasMoved pass.old.view pass.new.view) }
+        ensures history { IsHistory J.depth J.replicas pass.new.view.seen }
+    {
+        let next = with_batch(&pass.words, batch);
+        self.exchange::<E, R>(rt, pass, next)
+    }
+
+    /// Looks, and gives all entries from the local tail of the replica that the pass owns to the tail, in order. The vector is
+    /// empty.
+    ///
+    /// Waits for the cell.
+    pub fn fetch<R: Wait>(
+        &self,
+        rt: &R,
+        pass: &mut LogPass<J>,
+        entries: &mut ArrayVec<LogEntry, 16>,
+    )
+        requires log { pass.old.log ≡ self.now }
+        requires owner { (replica : ℕ) × (pass.old.view.owns ≡ replica ∷ []) }
+        requires empty { entries.old.items ≡ [] }
+        ensures log { pass.new.log ≡ pass.old.log }
+        ensures looked { HasLooked J.depth J.replicas pass.old.view pass.new.view }
+        ensures fetched { (replica : ℕ) → pass.old.view.owns ≡ replica ∷ [] → entries.new.items ≡ to_take (log_after J.replicas pass.new.view.seen) replica }
+    {
+        self.look(rt, pass);
+        let Some(replica) = pass.replica else {
+            unreachable!()
+        };
+        let local = pass.words[2 + usize::from(replica)];
+        read_entries(self.depth, &pass.words, local, entries);
+    }
+
+    /// Exchanges the words that the pass saw last for those after an event, where the cell still has them; else it looks.
+    fn exchange<E: Happening, R: Wait>(
+        &self,
+        rt: &R,
+        pass: &mut LogPass<J>,
+        next: [u64; 39],
+    ) -> bool
+        requires log { pass.old.log ≡ self.now }
+        requires event { MayFollow J.depth (log_after J.replicas pass.old.view.seen) E.event × MayMake pass.old.view E.event }
+        requires next { IsWordsOf (after (log_after J.replicas pass.old.view.seen) E.event) next }
+        ensures log { pass.new.log ≡ pass.old.log }
+        ensures view { MatchBool result (pass.new.view ≡ with_event pass.old.view E.event) (HasLooked J.depth J.replicas pass.old.view pass.new.view × HasMoved pass.old.view pass.new.view) }
+        ensures history { IsHistory J.depth J.replicas pass.new.view.seen }
+    {
+        let words = pass.words;
+        let found = self
+            .cell
+            .compare_exchange_as::<Exchanging<J, E>, R>(rt, &mut pass.pass, words, next);
+        match found {
+            Ok(_) => {
+                pass.words = next;
+                true
+            }
+            Err(found) => {
+                pass.words = found;
+                false
+            }
+        }
+    }
+
+    /// Tells one pass what another has seen: what `told` has then seen begins with all that either had seen.
+    ///
+    /// Waits for the cell.
+    pub fn meet<R: Wait>(&self, rt: &R, pass: &mut LogPass<J>, told: &mut LogPass<J>)
+        requires log { (pass.old.log ≡ self.now) × (told.old.log ≡ self.now) }
+        ensures pass { pass.new ≡ pass.old }
+        ensures log { told.new.log ≡ told.old.log }
+        ensures met { StartsWith told.new.view.seen pass.old.view.seen × StartsWith told.new.view.seen told.old.view.seen }
+        ensures looked { HasLooked J.depth J.replicas (joined told.old.view pass.old.view) told.new.view }
+    {
+        let copy = self.cell.split_pass::<Copies>(&mut pass.pass);
+        self.cell.join_pass::<Copies>(&mut told.pass, copy);
+        let words = self.cell.load_as::<Looking<J>, R>(rt, &mut told.pass);
+        told.words = words;
     }
 }

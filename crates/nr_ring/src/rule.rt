@@ -3,7 +3,7 @@ use crate::name::LogName;
 use crate::view::View;
 use atomic_table::{Join, Split};
 use crossbeam_utils::rule::{Outcome, Protocol};
-use std::marker::PhantomData;
+use std::marker::{Brand, PhantomData};
 
 /// The rule of the cell of a log.
 pub struct LogRule<J: LogName> {
@@ -12,11 +12,12 @@ pub struct LogRule<J: LogName> {
 
 impl<J: LogName> Protocol<[u64; 39], View> for LogRule<J> {
     ghost use Rattle.nr_ring.specs.Rule.{IsKept};
-    ghost use Rattle.nr_ring.specs.Calls.{first_view};
+    ghost use Rattle.nr_ring.specs.inside.Held.{new_view};
+    ghost use Rattle.std.specs.List.{range_with_len};
 
     ghost holds = { IsKept J.depth J.replicas };
 
-    ghost first = { first_view J.replicas };
+    ghost first = { new_view (range_with_len 0 J.replicas) };
 }
 
 /// A load of the cell.
@@ -30,6 +31,30 @@ impl<J: LogName> Outcome<[u64; 39], View> for Looking<J> {
     ghost then = { λ before words words' after. Looks J.depth J.replicas words' before after };
 }
 
+/// Names the event that an exchange makes.
+pub trait Happening {
+    ghost use Rattle.nr_ring.specs.declared.event.Event.{Event};
+
+    ghost event: { Event };
+}
+
+impl Happening for Brand {
+    ghost use Rattle.nr_ring.specs.declared.event.Event.TheVariants.{Advance};
+
+    ghost event = { Advance 0 0 };
+}
+
+/// An exchange of the words that the pass knows by those after an event.
+pub struct Exchanging<J: LogName, E: Happening> {
+    of: PhantomData<(J, E)>,
+}
+
+impl<J: LogName, E: Happening> Outcome<[u64; 39], View> for Exchanging<J, E> {
+    ghost use Rattle.nr_ring.specs.inside.Held.{Exchanges};
+
+    ghost then = { λ before words words' after. Exchanges J.depth J.replicas E.event words words' before after };
+}
+
 /// The new pass takes the first replica that the other owns.
 pub struct FirstOwned;
 
@@ -40,4 +65,24 @@ impl Split<View> for FirstOwned {
     ghost left = { λ v. keeping v (drop 1 v.owns) };
 
     ghost right = { λ v. copied v (take 1 v.owns) };
+}
+
+/// A copy of a pass owns nothing, so that it can be joined to another.
+pub struct Copies;
+
+impl Split<View> for Copies {
+    ghost use Rattle.std.specs.Prelude.{[]};
+    ghost use Rattle.nr_ring.specs.Calls.{copied, keeping};
+
+    ghost left = { λ v. keeping v v.owns };
+
+    ghost right = { λ v. copied v [] };
+}
+
+impl Join<View> for Copies {
+    ghost use Rattle.nr_ring.specs.Calls.{joined, spent};
+
+    ghost both = { joined };
+
+    ghost spent = { spent };
 }

@@ -12,6 +12,21 @@ pub struct Tails {
     pub local: [u32; 4],
 }
 
+/// Another pass's event has come since this pass last saw the cell.
+#[derive(Clone, Copy, Debug, PartialEq, Eq)]
+pub struct Moved;
+
+/// Why a batch was not appended.
+#[derive(Clone, Copy, Debug, PartialEq, Eq)]
+pub enum AppendFault {
+    /// The log would go past its end, at 65,536 entries.
+    LogEnded,
+    /// Some replica has still to take an entry whose place in the ring the batch needs.
+    Full(Tails),
+    /// Another pass's event came between.
+    Moved(Tails),
+}
+
 /// The tails that the words of a log's cell have.
 pub(crate) fn tails_in(words: &[u64; 39]) -> Tails
     requires { (word : ℕ) → word < 6 → slice_index words.now word < 2 ^ 32 }

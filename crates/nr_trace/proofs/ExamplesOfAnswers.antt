@@ -5,17 +5,18 @@ use Rattle.std.specs.FinMap as finite
 use Rattle.std.specs.FinMap.Entries as kept
 use Rattle.std.specs.Ordering.{nat_cmp}
 use Rattle.std.specs.Cmp.{nat_cmp_total}
-use Rattle.vs_types.specs.Space.{Space, no_pages, least, least_overlapped, tables_of_levels, table_count}
+use Rattle.vs_types.specs.Space.{Space, no_pages, page_at, least, least_overlapped, tables_of_levels, table_count}
 use Rattle.vs_types.specs.Page.{covers, overlaps}
-use Rattle.vs_types.specs.Step.{Stepped, step, look}
+use Rattle.vs_types.specs.Step.{Stepped, step, look, allow}
 use Rattle.vs_types.specs.declared.depth.Depth.TheVariants.{Four}
 use Rattle.vs_types.specs.declared.page.Size.TheVariants.{K4}
-use Rattle.vs_types.specs.declared.answer.Answer.{Answer}
+use Rattle.vs_types.specs.declared.access.Mode.TheVariants.{User}
+use Rattle.vs_types.specs.declared.access.Access.TheVariants.{Write}
 use Rattle.vs_types.specs.declared.page.Page.{Page}
-use Rattle.vs_types.specs.declared.answer.Answer.TheVariants.{Done, Mapped, NotMapped}
+use Rattle.vs_types.specs.declared.answer.Answer.TheVariants.{Done, Allowed}
 use Rattle.nr_trace.specs.Orders.{space_after, answer_in}
 use Rattle.vs_walk.specs.Walk.{all_rights}
-use Rattle.nr_trace.specs.Examples.{map_then_resolve, map_page, map_it, resolve_it, looks_mapped}
+use Rattle.nr_trace.specs.Examples.{map_then_resolve, map_page, map_it, resolve_it, looks_mapped, map_then_access, access_it}
 
 no_length : {A : Type 0} (xs : List A) → length xs ≡ 0 → xs ≡ []
 no_length [] e = refl
@@ -49,11 +50,18 @@ maps limit enough =
     let f = few_tables limit ∙ enough in
     rw (e, f) refl
 
+-- the page covers the address
+covered : page_at with_page 0x400123 ≡ Some page
+covered = ap (λ (es : List (ℕ × Page)). find (λ p. covers p 0x400123) (map (λ e. e.1) es)) entries_with_page
+
 looks : look with_page 0x400123 ≡ looks_mapped
-looks = ap (λ (es : List (ℕ × Page)). looked_at (find (λ p. covers p 0x400123) (map (λ e. e.1) es))) entries_with_page where
-  looked_at : Option Page → Answer
-  looked_at None = NotMapped
-  looked_at (Some p) = Mapped (p.phys + (0x400123 - p.base)) p.size p.rights
+looks = rw covered refl
+
+allows : allow with_page 0x400123 User Write ≡ Allowed 0x1123
+allows = rw covered refl
+
+pub access_answer : answer_in map_then_access.layout (space_after map_then_access (0 ∷ [])) access_it ≡ Allowed 0x1123
+access_answer = ap (λ (s : Stepped). allow s.space 0x400123 User Write) (maps 4 refl) ∙ allows
 
 pub map_answer : answer_in map_then_resolve.layout (space_after map_then_resolve []) map_it ≡ Done
 map_answer = ap (λ (s : Stepped). s.answer) (maps 4 refl)

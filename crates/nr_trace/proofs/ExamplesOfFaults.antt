@@ -3,14 +3,14 @@ use Rattle.std.proofs.Common.{◌≢◌, ℕ, zero, suc, ◌<◌, [], ◌∷◌,
 use Rattle.std.proofs.lemmas.Bool.{false≢true}
 use Rattle.std.proofs.lemmas.Option.{none-some}
 use Rattle.vs_types.specs.declared.answer.Answer.{Answer}
-use Rattle.vs_types.specs.declared.answer.Answer.TheVariants.{Done, Mapped}
+use Rattle.vs_types.specs.declared.answer.Answer.TheVariants.{Done, Mapped, Allowed, Fault}
 use Rattle.vs_types.specs.declared.page.Size.TheVariants.{K4}
 use Rattle.nr_trace.specs.Calls.{Answers, IsCall}
 use Rattle.nr_trace.specs.Faults.{Holds}
 use Rattle.vs_walk.specs.Walk.{all_rights}
-use Rattle.nr_trace.specs.Examples.{map_it, resolve_it, looks_mapped, dump_of_page, with_log, with_replies, without_first_reply, with_applied}
+use Rattle.nr_trace.specs.Examples.{map_it, resolve_it, access_it, access_refused, looks_mapped, dump_of_page, with_log, with_replies, without_first_reply, with_applied}
 use Rattle.nr_trace.specs.declared.fault.Fault.TheVariants.{ThreadOpen, NoSuchCall, AnsweredTwice, NotAnUpdate, PlacedTwice, NotPlaced, PastLog, WrongAnswer, PrefixPastLog, PrefixShort}
-use Rattle.nr_trace.proofs.ExamplesOfAnswers.{resolve_answer}
+use Rattle.nr_trace.proofs.ExamplesOfAnswers.{resolve_answer, access_answer}
 
 pub not_an_update : Holds (with_log (2 ∷ [])) (NotAnUpdate 0)
 not_an_update = (2, refl, λ h. cc)
@@ -61,6 +61,18 @@ wrong_answer = record {
   reply = record { call = 2; at = 1; answer = Mapped 0x1124 K4 all_rights };
   is_reply = refl;
   differs = λ e. other_address (e ∙ resolve_answer);
+}
+
+not_allowed : Fault 7 ≢ Allowed 0x1123
+not_allowed e = cc
+
+pub refused_wrongly : Holds access_refused (WrongAnswer 2)
+refused_wrongly = record {
+  made = record { replica = 0; thread = 0; request = access_it };
+  is_made = refl;
+  reply = record { call = 2; at = 1; answer = Fault 7 };
+  is_reply = refl;
+  differs = λ e. not_allowed (e ∙ access_answer);
 }
 
 pub prefix_past_log : Holds (with_applied 2) (PrefixPastLog 0)

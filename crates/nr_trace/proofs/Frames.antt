@@ -17,8 +17,8 @@ use Rattle.vs_types.specs.Frame.{IsFrame}
 use Rattle.nr_trace.specs.Recording.{IsImage}
 use Rattle.nr_trace.specs.Spelling.{dump_head, frame_number, frame_words, dump}
 use Rattle.nr_trace.specs.inside.Reading.{SpellsHead}
-use Rattle.nr_trace.specs.declared.reading.header.DumpHead.{DumpHead}
-use Rattle.nr_trace.specs.FirstFault.{AtUnit, AtFrames, AtDumps, IsNext, Head, IsHead}
+use Rattle.nr_trace.specs.declared.fields.DumpHead.{DumpHead}
+use Rattle.nr_trace.specs.FirstFault.{AtUnit, AtFrames, AtDumps, IsNext, IsDumpHead}
 use Rattle.nr_trace.specs.inside.Progress.{HasRead, AreInRange, IsOpened, AreBelow, BehindDumps, Ahead, said, whole_spelling, opened_spelling}
 use Rattle.nr_trace.specs.declared.fault.Format.{Format}
 use Rattle.nr_trace.specs.declared.fault.Format.TheVariants.{BadCount, BadFrame}
@@ -101,7 +101,7 @@ grown_spelled : (opened : Opened) (number : ℕ) (words unit : List ℕ) → 1 �
 grown_spelled opened number words unit some above is =
     let memory = opened.dump.frames in
     let count : finite.len (finite.insert memory number words) + (opened.left - 1) ≡ finite.len memory + opened.left = omega (arith, len_more memory number words above) in
-    let head : ℕ → List ℕ = λ n. dump_head opened.dump.applied n opened.dump.root in
+    let head : ℕ → List ℕ = λ n. dump_head (record { applied = opened.dump.applied; frames = n; root = opened.dump.root }) in
     let all = finite.len memory + opened.left in
     ap (λ (n : ℕ). head n ++ flat_map frame_bytes (finite.entries (finite.insert memory number words))) count
     ∙ ap (λ (l : List ℕ). head all ++ l) (frames_spelled memory number words above)
@@ -192,7 +192,7 @@ dump_taken parts held opened number words unit is_opened fits above are is none 
       };
       bytes_are = ap (spelling_of parts.version parts.config (length parts.log.items) (length parts.events.items) parts.log.items parts.events.items) one_more
           ∙ more_dump parts.version parts.config (length parts.log.items) (length parts.events.items) parts.log.items parts.events.items parts.dumps.items image
-          ∙ ap (λ (n : ℕ). front ++ (dump_head image.applied n image.root ++ flat_map frame_bytes (finite.entries image.frames))) (let all : finite.len image.frames ≡ finite.len image.frames + (opened.left - 1) = omega (arith, none) in all)
+          ∙ ap (λ (n : ℕ). front ++ (dump_head (record { applied = image.applied; frames = n; root = image.root }) ++ flat_map frame_bytes (finite.entries image.frames))) (let all : finite.len image.frames ≡ finite.len image.frames + (opened.left - 1) = omega (arith, none) in all)
           ∙ ap (λ (l : List ℕ). front ++ l) (grown_spelled opened number words unit is_opened.some_left above is)
           ∙ sym (append_assoc front (opened_spelling opened ++ frame_number number) unit)
           ∙ ap (λ (l : List ℕ). l ++ unit) (sym (append_assoc front (opened_spelling opened) (frame_number number)));
@@ -205,37 +205,30 @@ dump_taken parts held opened number words unit is_opened fits above are is none 
 
 -- ---- the head of a dump
 
-dump_passed : (replica dumps index behind left : ℕ) (head : Head) (unit rest : List ℕ) (fault : Format) → index ≡ 0 → behind ≡ replica + 1 → left + 1 ≡ dumps → IsHead head → unit ≡ dump_head head.applied head.frames head.root
+dump_passed : (replica dumps index behind left : ℕ) (head : DumpHead) (unit rest : List ℕ) (fault : Format) → index ≡ 0 → behind ≡ replica + 1 → left + 1 ≡ dumps → IsDumpHead head → unit ≡ dump_head head
     → AtFrames replica index head.frames None (AtDumps behind left) rest fault → AtDumps replica dumps (unit ++ rest) fault
 unfolding AtDumps
 dump_passed replica zero index behind left head unit rest fault first next one_less fits is h = absurd (omega arith)
 dump_passed replica (suc dumps) index behind left head unit rest fault first next one_less fits is h =
     let same : left ≡ dumps = omega arith in
-    passed 16 (Some BadCount) IsHead (λ head. dump_head head.applied head.frames head.root) (λ head. AtFrames replica 0 head.frames None (AtDumps (replica + 1) dumps)) fault unit rest head fits is
+    passed 16 (Some BadCount) IsDumpHead dump_head (λ head. AtFrames replica 0 head.frames None (AtDumps (replica + 1) dumps)) fault unit rest head fits is
     (subst (λ (n : ℕ). AtFrames replica 0 head.frames None (AtDumps (replica + 1) n) rest fault) same
     (subst (λ (n : ℕ). AtFrames replica 0 head.frames None (AtDumps n left) rest fault) next
     (subst (λ (n : ℕ). AtFrames replica n head.frames None (AtDumps behind left) rest fault) first h)))
 
-dump_refused : (replica dumps : ℕ) (unit rest : List ℕ) → 1 ≤ dumps → length unit ≡ 16 → ((head : Head) → IsHead head → unit ≢ dump_head head.applied head.frames head.root) → AtDumps replica dumps (unit ++ rest) BadCount
+dump_refused : (replica dumps : ℕ) (unit rest : List ℕ) → 1 ≤ dumps → length unit ≡ 16 → ((head : DumpHead) → IsDumpHead head → unit ≢ dump_head head) → AtDumps replica dumps (unit ++ rest) BadCount
 unfolding AtDumps
 dump_refused replica zero unit rest some whole none = absurd (omega arith)
 dump_refused replica (suc dumps) unit rest some whole none =
-    refused 16 (Some BadCount) IsHead (λ head. dump_head head.applied head.frames head.root) (λ head. AtFrames replica 0 head.frames None (AtDumps (replica + 1) dumps)) BadCount unit rest whole refl none
+    refused 16 (Some BadCount) IsDumpHead dump_head (λ head. AtFrames replica 0 head.frames None (AtDumps (replica + 1) dumps)) BadCount unit rest whole refl none
 
 pub head_refused : (parts : Parts) (unit rest : List ℕ) → length parts.dumps.items < parts.config.replicas → length unit ≡ 16 → ((head : DumpHead) → SpellsHead unit head → ⊥) → Ahead (Dumps parts) (unit ++ rest) BadCount
 head_refused parts unit rest one_left whole none =
     dump_refused (length parts.dumps.items + 0) (parts.config.replicas - (length parts.dumps.items + 0)) unit rest (omega (arith, one_left)) whole
-    (λ head fits e. none (record { applied = head.applied; frames = head.frames; root = head.root }) (record { in_range = fits; spelled = e }))
+    (λ head fits e. none head (record { in_range = fits; spelled = e }))
 
 no_entries : finite.entries (finite.empty {X = List ℕ} {R = nat_cmp}) ≡ []
 no_entries = nil_from_length (finite.entries (finite.empty {X = List ℕ} {R = nat_cmp})) (sym (finite.len-entries (finite.empty {X = List ℕ} {R = nat_cmp})) ∙ finite.len-empty nat_cmp (List ℕ))
-
-pub nothing_above : (dump : Image) (applied root number : ℕ) → dump ≡ record { applied = applied; root = root; frames = finite.empty } → All (λ held. held < number) (finite.keys dump.frames)
-nothing_above dump applied root number is =
-    subst (λ (d : Image). All (λ held. held < number) (finite.keys d.frames)) (sym is) (subst (λ (es : List (ℕ × List ℕ)). All (λ held. held < number) (map (λ (e : ℕ × List ℕ). e.0) es)) (sym no_entries) (All-nil (λ held. held < number)))
-
-pub nothing_held : (dump : Image) (applied root : ℕ) → dump ≡ record { applied = applied; root = root; frames = finite.empty } → finite.len dump.frames < 4096
-nothing_held dump applied root is = subst (λ (d : Image). finite.len d.frames < 4096) (sym is) (omega (arith, finite.len-empty nat_cmp (List ℕ)))
 
 abbrev pub begun : DumpHead → Image
 begun head = record { applied = head.applied; root = head.root; frames = finite.empty }
@@ -262,9 +255,9 @@ head_taken parts head image unit begins in_range one_left spells =
         λ number next. subst (All (λ held. held < number)) (sym no_keys) (All-nil (λ held. held < number)),
       );
       bytes_are = ap (λ (l : List ℕ). front ++ l)
-          (ap (λ (n : ℕ). dump_head head.applied n head.root ++ flat_map frame_bytes (finite.entries (finite.empty {X = List ℕ} {R = nat_cmp}))) (let all : finite.len (finite.empty {X = List ℕ} {R = nat_cmp}) + head.frames ≡ head.frames = omega (arith, none) in all)
-          ∙ ap (λ (es : List (ℕ × List ℕ)). dump_head head.applied head.frames head.root ++ flat_map frame_bytes es) no_entries
-          ∙ append-nil (dump_head head.applied head.frames head.root)
+          (ap (λ (n : ℕ). dump_head (record { applied = head.applied; frames = n; root = head.root }) ++ flat_map frame_bytes (finite.entries (finite.empty {X = List ℕ} {R = nat_cmp}))) (let all : finite.len (finite.empty {X = List ℕ} {R = nat_cmp}) + head.frames ≡ head.frames = omega (arith, none) in all)
+          ∙ ap (λ (es : List (ℕ × List ℕ)). dump_head head ++ flat_map frame_bytes es) no_entries
+          ∙ append-nil (dump_head head)
           ∙ sym spells.spelled);
       faults = λ rest fault h.
           let replica = length parts.dumps.items in
@@ -272,6 +265,6 @@ head_taken parts head image unit begins in_range one_left spells =
           let left : parts.config.replicas - (replica + 1) + 1 ≡ parts.config.replicas - replica = omega (arith, one_left) in
           subst (λ (n : ℕ). AtDumps n (parts.config.replicas - n) (unit ++ rest) fault) same
           (dump_passed replica (parts.config.replicas - replica) (finite.len (finite.empty {X = List ℕ} {R = nat_cmp})) (replica + 1) (parts.config.replicas - (replica + 1))
-          (record { applied = head.applied; frames = head.frames; root = head.root }) unit rest fault none refl left spells.in_range spells.spelled h);
+          head unit rest fault none refl left spells.in_range spells.spelled h);
     } in
     subst (λ (d : Image). HasRead (said (Dumps parts) ++ unit) (λ rest fault. Ahead (Dumps parts) (unit ++ rest) fault) (Frame parts (record { dump = d; left = head.frames }) None)) (sym begins) made

@@ -4,6 +4,7 @@ use Rattle.std.specs.FinMap as finite
 use Rattle.std.proofs.lemmas.List.Elements.{All-map}
 use Rattle.vs_walk.specs.Dump.{Image, IsDump}
 use Rattle.vs_types.specs.Frame.{IsFrame}
+use Rattle.vs_types.specs.declared.limits.TheConstants.{LOG_PLACES, CALLS}
 use Rattle.nr_trace.specs.Versions.{KnowsDepth}
 use Rattle.nr_trace.specs.Recording.{Recording, IsImage}
 use Rattle.nr_trace.specs.Parts.{HasBadCount}
@@ -19,6 +20,6 @@ image_of dump is some = record {
   words = All-map IsFrame (λ (e : ℕ × List ℕ). e.1) (finite.entries dump.frames) is.whole;
 }
 
-pub good_counts : (parts : Recording) → KnowsDepth parts.version parts.layout.depth → length parts.log ≤ 65536 → length parts.events ≤ 131072 → length parts.dumps ≡ parts.layout.replicas → HasBadCount parts → ⊥
+pub good_counts : (parts : Recording) → KnowsDepth parts.version parts.layout.depth → length parts.log ≤ LOG_PLACES → length parts.events ≤ CALLS → length parts.dumps ≡ parts.layout.replicas → HasBadCount parts → ⊥
 good_counts parts known places events dumps bad =
     elim bad [ inl u ↦ u known | inr r ↦ elim r [ inl p ↦ absurd (omega arith) | inr q ↦ elim q [ inl e ↦ absurd (omega arith) | inr d ↦ d dumps ] ] ]

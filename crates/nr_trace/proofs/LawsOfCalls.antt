@@ -4,7 +4,7 @@ use Rattle.std.proofs.Common.{◌≡◌, ◌≢◌, ℕ, ◌<◌, ◌≤◌, ◌
 use Rattle.std.proofs.lemmas.Bool.{both_ways, cases_eq, cases_order, cases_lt}
 use Rattle.std.proofs.lemmas.Option.{same_Some, none-some, slice_get_within}
 use Rattle.vs_types.specs.declared.request.Query.{Query}
-use Rattle.vs_types.specs.declared.request.Query.TheVariants.{Update, Resolve}
+use Rattle.vs_types.specs.declared.request.Query.TheVariants.{Update, Resolve, Access}
 use Rattle.nr_trace.specs.Recording.{Recording}
 use Rattle.nr_trace.specs.Calls.{Invocation, made_by, call_of, operation_in, address_in, operation_of, IsCall, IsUpdate, IsRead, Response, reply_in, reply_of, reply_to, Answers}
 use Rattle.nr_trace.specs.Faults.{StandsAfter}
@@ -33,6 +33,7 @@ made_kinds (Some made) h = by_kind made.request where
   by_kind : (request : Query) → IsSome (operation_in request) ⊎ IsSome (address_in request)
   by_kind (Update action) = inl refl
   by_kind (Resolve address) = inr refl
+  by_kind (Access address mode access) = inr refl
 
 pub update_or_read : (trace : Recording) (call : ℕ) → IsCall trace call → IsUpdate trace call ⊎ IsRead trace call
 update_or_read trace call h = made_kinds (call_of trace call) h
@@ -43,6 +44,7 @@ made_both (Some made) h k = by_kind made.request h k where
   by_kind : (request : Query) → IsSome (operation_in request) → IsSome (address_in request) → ⊥
   by_kind (Update action) h k = cc
   by_kind (Resolve address) h k = cc
+  by_kind (Access address mode access) h k = cc
 
 pub not_both : (trace : Recording) (call : ℕ) → IsUpdate trace call → IsRead trace call → ⊥
 not_both trace call h k = made_both (call_of trace call) h k

@@ -7,8 +7,8 @@ use Rattle.vs_walk.specs.Walk.{walk, as_walk, TranslatesAs}
 use Rattle.vs_walk.specs.declared.walk.Walk.{Walk}
 use Rattle.vs_walk.specs.declared.walk.Walk.TheVariants as walks
 use Rattle.nr_trace.specs.Recording.{Recording}
-use Rattle.nr_trace.specs.Codes.{size_code, rights_code}
-use Rattle.nr_trace.specs.Spelling.{AnswerFields}
+use Rattle.vs_types.specs.Codes.{size_code, rights_code}
+use Rattle.nr_trace.specs.declared.fields.AnswerFields.{AnswerFields}
 use Rattle.nr_trace.specs.Calls.{Invocation, call_of, IsUpdate, IsRead, Response, reply_of, reply_to}
 use Rattle.nr_trace.specs.Orders.{below, before, updates, space_after, recorded_order, known_by, IsLegalOrder, FitsOrder}
 use Rattle.nr_trace.specs.Faults.{StandsAfter, RestsOnMore}
@@ -23,46 +23,43 @@ use Rattle.nr_trace.proofs.LawsOfPrecedence.{in_taken, known_of_update, known_of
 
 -- ---- walks are one or not
 
-abbrev code_of : Walk → ℕ
-code_of walks.NotMapped = 0
-code_of walks.Reserved = 1
-code_of walks.Missing = 2
-code_of (walks.Mapped phys size rights) = 3
-
-abbrev none : AnswerFields
-none = record { size = 0; rights = 0; value = 0 }
+abbrev none : ℕ → AnswerFields
+none code = record { code = code; size = 0; rights = 0; value = 0 }
 
 abbrev fields_of : Walk → AnswerFields
-fields_of walks.NotMapped = none
-fields_of walks.Reserved = none
-fields_of walks.Missing = none
-fields_of (walks.Mapped phys size rights) = record { size = size_code size; rights = rights_code rights; value = phys }
+fields_of walks.NotMapped = none 0
+fields_of walks.Reserved = none 1
+fields_of walks.Missing = none 2
+fields_of (walks.Mapped phys size rights) = record { code = 3; size = size_code size; rights = rights_code rights; value = phys }
 
-abbrev walk_of : ℕ → AnswerFields → Walk
-walk_of zero f = walks.NotMapped
-walk_of (suc zero) f = walks.Reserved
-walk_of (suc (suc zero)) f = walks.Missing
-walk_of (suc (suc (suc n))) f = walks.Mapped f.value (size_from f.size) (rights_from f.rights)
+abbrev walk_of_code : ℕ → AnswerFields → Walk
+walk_of_code zero f = walks.NotMapped
+walk_of_code (suc zero) f = walks.Reserved
+walk_of_code (suc (suc zero)) f = walks.Missing
+walk_of_code (suc (suc (suc n))) f = walks.Mapped f.value (size_from f.size) (rights_from f.rights)
 
-walk_back : (w : Walk) → walk_of (code_of w) (fields_of w) ≡ w
+abbrev walk_of : AnswerFields → Walk
+walk_of f = walk_of_code f.code f
+
+walk_back : (w : Walk) → walk_of (fields_of w) ≡ w
 walk_back walks.NotMapped = refl
 walk_back walks.Reserved = refl
 walk_back walks.Missing = refl
 walk_back (walks.Mapped phys size rights) = ap₂ (walks.Mapped phys) (size_back size) (rights_back rights)
 
-walk_apart : (a b : Walk) → code_of a ≡ code_of b → fields_of a ≡ fields_of b → a ≡ b
-walk_apart a b e f = sym (walk_back a) ∙ ap₂ walk_of e f ∙ walk_back b
+walk_apart : (a b : Walk) → fields_of a ≡ fields_of b → a ≡ b
+walk_apart a b e = sym (walk_back a) ∙ ap walk_of e ∙ walk_back b
 
 pub same_walk : (a b : Walk) → ((a ≢ b) → ⊥) → a ≡ b
 same_walk a b h =
-    by_parts (cases_eq (code_of a) (code_of b)) (cases_eq (fields_of a).size (fields_of b).size) (cases_eq (fields_of a).rights (fields_of b).rights) (cases_eq (fields_of a).value (fields_of b).value) where
-      by_parts : (code_of a ≡ code_of b) ⊎ (code_of a ≡ code_of b → ⊥)
+    by_parts (cases_eq (fields_of a).code (fields_of b).code) (cases_eq (fields_of a).size (fields_of b).size) (cases_eq (fields_of a).rights (fields_of b).rights) (cases_eq (fields_of a).value (fields_of b).value) where
+      by_parts : ((fields_of a).code ≡ (fields_of b).code) ⊎ ((fields_of a).code ≡ (fields_of b).code → ⊥)
           → ((fields_of a).size ≡ (fields_of b).size) ⊎ ((fields_of a).size ≡ (fields_of b).size → ⊥)
           → ((fields_of a).rights ≡ (fields_of b).rights) ⊎ ((fields_of a).rights ≡ (fields_of b).rights → ⊥)
           → ((fields_of a).value ≡ (fields_of b).value) ⊎ ((fields_of a).value ≡ (fields_of b).value → ⊥)
           → a ≡ b
-      by_parts (inl c) (inl s) (inl r) (inl v) = walk_apart a b c (λ i. record { size = s i; rights = r i; value = v i })
-      by_parts (inr n) s r v = absurd (h (λ e. n (ap code_of e)))
+      by_parts (inl c) (inl s) (inl r) (inl v) = walk_apart a b (λ i. record { code = c i; size = s i; rights = r i; value = v i })
+      by_parts (inr n) s r v = absurd (h (λ e. n (ap (λ x. (fields_of x).code) e)))
       by_parts (inl c) (inr n) r v = absurd (h (λ e. n (ap (λ x. (fields_of x).size) e)))
       by_parts (inl c) (inl s) (inr n) v = absurd (h (λ e. n (ap (λ x. (fields_of x).rights) e)))
       by_parts (inl c) (inl s) (inl r) (inr n) = absurd (h (λ e. n (ap (λ x. (fields_of x).value) e)))

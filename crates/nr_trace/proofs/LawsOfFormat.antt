@@ -14,14 +14,15 @@ use Rattle.vs_types.specs.Config.{Layout, IsLayout}
 use Rattle.vs_walk.specs.Dump.{Image}
 use Rattle.vs_types.specs.Frame.{IsFrame}
 use Rattle.nr_trace.specs.Recording.{Recording, IsRecording, IsImage, IsEvent}
-use Rattle.nr_trace.specs.Spelling.{magic, version_word, Spells, log_word, event, dump, frame_number, frame_words}
-use Rattle.nr_trace.specs.FirstFault.{AtUnit, Counts, IsCounts, IsHead, IsNext, AtFrames, AtDumps, AtEvents, AtLog, HasFormatFault}
+use Rattle.nr_trace.specs.Spelling.{magic, version_word, counts, counts_of, dump_head, head_of, Spells, log_word, event, dump, frame_number, frame_words}
+use Rattle.nr_trace.specs.FirstFault.{AtUnit, IsCounts, IsDumpHead, IsNext, AtFrames, AtDumps, AtEvents, AtLog, HasFormatFault}
 use Rattle.nr_trace.specs.declared.fault.Format.{Format}
 use Rattle.nr_trace.specs.declared.fault.Format.TheVariants.{BadMagic, BadVersion, BadCount, BadEvent, BadFrame}
 use Rattle.nr_trace.specs.declared.event.Event.{Event}
 use Rattle.nr_trace.specs.declared.version.Version.{Version}
-use Rattle.nr_trace.proofs.LawsOfSpelling.{Frame, FrameFits, frame, image_frames_fit, head_in, head_fits, frames_of, counts_in, counts_fit, logs, events, dumps, numbered, versioned, spelling_behind_magic}
-use Rattle.nr_trace.proofs.LawsOfUnits.{ToldApart, versions_apart, counts_of, counts_apart, length-counts, head_of, heads_apart, length-head, frame_numbers_apart, words_apart, length-frame_words, log_words_apart, events_apart, length-event}
+use Rattle.nr_trace.specs.declared.fields.Counts.{Counts}
+use Rattle.nr_trace.proofs.LawsOfSpelling.{Frame, FrameFits, frame, image_frames_fit, head_fits, frames_of, counts_fit, logs, events, dumps, numbered, versioned, spelling_behind_magic}
+use Rattle.nr_trace.proofs.LawsOfUnits.{ToldApart, versions_apart, counts_apart, length-counts, heads_apart, length-head, frame_numbers_apart, words_apart, length-frame_words, log_words_apart, events_apart, length-event}
 
 -- ---- one unit
 
@@ -93,7 +94,7 @@ dumps_one : (replica dumps : ℕ) → OneBehind (AtDumps replica dumps)
 unfolding AtDumps
 dumps_one replica zero rest f g x y = x.1 ∙ sym y.1
 dumps_one replica (suc dumps) rest f g x y =
-    unit_one 16 (Some BadCount) IsHead head_of (λ head. AtFrames replica 0 head.frames None (AtDumps (replica + 1) dumps)) heads_apart (λ head h. length-head head)
+    unit_one 16 (Some BadCount) IsDumpHead dump_head (λ head. AtFrames replica 0 head.frames None (AtDumps (replica + 1) dumps)) heads_apart (λ head h. length-head head)
     (λ head rest f g h. frames_one replica 0 head.frames None (AtDumps (replica + 1) dumps) (dumps_one (replica + 1) dumps) rest f g) rest f g x y
 
 events_one : (version : Version) (layout : Layout) (index events : ℕ) → IsLayout layout → OneBehind (AtEvents version layout index events)
@@ -120,14 +121,14 @@ abbrev BehindCounts : Version → Counts → List ℕ → Format → Type 0
 BehindCounts version numbers = AtLog version numbers.layout numbers.places numbers.events
 
 abbrev BehindVersion : Version → List ℕ → Format → Type 0
-BehindVersion version = AtUnit 14 (Some BadCount) (IsCounts version) counts_of (BehindCounts version)
+BehindVersion version = AtUnit 14 (Some BadCount) (IsCounts version) counts (BehindCounts version)
 
 abbrev BehindMagic : List ℕ → Format → Type 0
 BehindMagic = AtUnit 2 (Some BadVersion) (λ version. ⊤) version_word BehindVersion
 
 version_one : (version : Version) → OneBehind (BehindVersion version)
 version_one version rest f g =
-    unit_one 14 (Some BadCount) (IsCounts version) counts_of (BehindCounts version) (counts_apart version) (λ numbers h. length-counts numbers)
+    unit_one 14 (Some BadCount) (IsCounts version) counts (BehindCounts version) (counts_apart version) (λ numbers h. length-counts numbers)
     (λ numbers rest f g h. log_one version numbers.layout numbers.places numbers.events h.layout rest f g) rest f g
 
 magic_one : OneBehind BehindMagic
@@ -187,14 +188,14 @@ dumps_none : (replica : ℕ) (images : List Image) (fault : Format) → AllByRec
 unfolding AtDumps
 dumps_none replica [] fault fit rest is x = x.0 is
 dumps_none replica (image ∷ images) fault fit rest is x =
-    unit_none 16 (Some BadCount) IsHead head_of (λ head. AtFrames replica 0 head.frames None (AtDumps (replica + 1) (length images)))
-    heads_apart (head_in image) (frames_of image ++ flat_map dump images) fault refl (head_fits image fit.0)
+    unit_none 16 (Some BadCount) IsDumpHead dump_head (λ head. AtFrames replica 0 head.frames None (AtDumps (replica + 1) (length images)))
+    heads_apart (head_of image) (frames_of image ++ flat_map dump images) fault refl (head_fits image fit.0)
     (λ y. frames_none replica 0 (finite.entries image.frames) None (AtDumps (replica + 1) (length images)) (flat_map dump images) fault
     (image_frames_fit image fit.0) (rising_from_none (finite.entries image.frames) (finite.entries_sorted image.frames))
     (dumps_none (replica + 1) images fault fit.1 (flat_map dump images) refl)
     (frames_of image ++ flat_map dump images) refl
     (subst (λ (n : ℕ). AtFrames replica 0 n None (AtDumps (replica + 1) (length images)) (frames_of image ++ flat_map dump images) fault) (finite.len-entries image.frames) y))
-    rest (is ∙ append_assoc (head_of (head_in image)) (frames_of image) (flat_map dump images)) x
+    rest (is ∙ append_assoc (dump_head (head_of image)) (frames_of image) (flat_map dump images)) x
 
 events_none : (version : Version) (layout : Layout) (index : ℕ) (es : List Event) (images : List Image) (fault : Format) → IsLayout layout → AllByRecursion (IsEvent version layout) es → AllByRecursion IsImage images → length images ≡ layout.replicas
     → (rest : List ℕ) → rest ≡ flat_map event es ++ flat_map dump images → AtEvents version layout index (length es) rest fault → ⊥
@@ -217,7 +218,7 @@ log_none version layout (call ∷ calls) es images fault l fit events_fit images
 
 numbered_none : (trace : Recording) (fault : Format) → IsRecording trace → BehindVersion trace.version (numbered trace) fault → ⊥
 numbered_none trace fault h =
-    unit_none 14 (Some BadCount) (IsCounts trace.version) counts_of (BehindCounts trace.version) (counts_apart trace.version) (counts_in trace)
+    unit_none 14 (Some BadCount) (IsCounts trace.version) counts (BehindCounts trace.version) (counts_apart trace.version) (counts_of trace)
     (logs trace ++ (events trace ++ dumps trace)) fault refl (counts_fit trace h)
     (log_none trace.version trace.layout trace.log trace.events trace.dumps fault h.layout (recursion_from_All _ _ h.log)
     (recursion_from_All (IsEvent trace.version trace.layout) trace.events h.events) (recursion_from_All _ _ h.dumps) h.one_dump_each

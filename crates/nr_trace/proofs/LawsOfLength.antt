@@ -7,9 +7,9 @@ use Rattle.std.proofs.lemmas.List.{length-append}
 use Rattle.std.proofs.lemmas.List.Elements.{recursion_from_All}
 use Rattle.vs_walk.specs.Dump.{Image}
 use Rattle.nr_trace.specs.Recording.{Recording, IsRecording, IsImage}
-use Rattle.nr_trace.specs.Spelling.{spelling, Spells, log_word, event, dump, frame_number, frame_words}
-use Rattle.nr_trace.proofs.LawsOfUnits.{counts_of, length-counts, head_of, length-head, length-event, length_of_units, length-frame_words}
-use Rattle.nr_trace.proofs.LawsOfSpelling.{Frame, FrameFits, frame, image_frames_fit, head_in, frames_of, counts_in, logs, events, dumps, spelling_behind_version}
+use Rattle.nr_trace.specs.Spelling.{spelling, Spells, counts, counts_of, dump_head, head_of, log_word, event, dump, frame_number, frame_words}
+use Rattle.nr_trace.proofs.LawsOfUnits.{length-counts, length-head, length-event, length_of_units, length-frame_words}
+use Rattle.nr_trace.proofs.LawsOfSpelling.{Frame, FrameFits, frame, image_frames_fit, frames_of, logs, events, dumps, spelling_behind_version}
 
 -- units of at most so many bytes each
 length_at_most : {A : Type 0} (Fits : A → Type 0) (spelled : A → List ℕ) (n : ℕ) → ((a : A) → Fits a → length (spelled a) ≤ n) → (xs : List A) → AllByRecursion Fits xs → length (flat_map spelled xs) ≤ n * length xs
@@ -29,8 +29,8 @@ length-frame f h =
 
 length-dump : (image : Image) → IsImage image → length (dump image) ≤ 16810000
 length-dump image h =
-    let both = length-append (head_of (head_in image)) (frames_of image) in
-    let head = length-head (head_in image) in
+    let both = length-append (dump_head (head_of image)) (frames_of image) in
+    let head = length-head (head_of image) in
     let frames = length_at_most FrameFits frame 4104 length-frame (finite.entries image.frames) (image_frames_fit image h) in
     let few = h.few_frames in
     let counted = finite.len-entries image.frames in
@@ -39,8 +39,8 @@ length-dump image h =
 length-parts : (trace : Recording) → length (spelling trace) ≡ 20 + (length (logs trace) + (length (events trace) + length (dumps trace)))
 length-parts trace =
     let behind = ap length (spelling_behind_version trace) in
-    let front = length-append (counts_of (counts_in trace)) (logs trace ++ (events trace ++ dumps trace)) in
-    let counted = length-counts (counts_in trace) in
+    let front = length-append (counts (counts_of trace)) (logs trace ++ (events trace ++ dumps trace)) in
+    let counted = length-counts (counts_of trace) in
     let log = length-append (logs trace) (events trace ++ dumps trace) in
     let rest = length-append (events trace) (dumps trace) in
     let whole : length (spelling trace) ≡ suc (suc (suc (suc (suc (suc (length (drop 6 (spelling trace)))))))) = refl in

@@ -12,7 +12,6 @@ use Rattle.vs_types.specs.Step.{after_all}
 use Rattle.vs_types.specs.Space.{no_pages}
 use Rattle.vs_types.specs.declared.answer.Answer.{Answer}
 use Rattle.nr_trace.specs.Recording.{Recording}
-use Rattle.nr_trace.specs.Codes.{answer_code}
 use Rattle.nr_trace.specs.Spelling.{answer_fields}
 use Rattle.nr_trace.specs.Calls.{Invocation, call_of, operation_of, address_of, IsCall, IsUpdate, IsRead, Response, reply_to, IsAnswered}
 use Rattle.nr_trace.specs.Orders.{below, before, updates, operations, space_after, answer_in, reads_at, recorded_order}
@@ -236,14 +235,14 @@ updates_of_order trace clean = updates_of_blocks trace (length trace.log + 1) cl
 
 pub same_or_not : (a b : Answer) → (a ≡ b) ⊎ (a ≢ b)
 same_or_not a b =
-    by_parts (cases_eq (answer_code a) (answer_code b)) (cases_eq (answer_fields a).size (answer_fields b).size) (cases_eq (answer_fields a).rights (answer_fields b).rights) (cases_eq (answer_fields a).value (answer_fields b).value) where
-      by_parts : (answer_code a ≡ answer_code b) ⊎ (answer_code a ≡ answer_code b → ⊥)
+    by_parts (cases_eq (answer_fields a).code (answer_fields b).code) (cases_eq (answer_fields a).size (answer_fields b).size) (cases_eq (answer_fields a).rights (answer_fields b).rights) (cases_eq (answer_fields a).value (answer_fields b).value) where
+      by_parts : ((answer_fields a).code ≡ (answer_fields b).code) ⊎ ((answer_fields a).code ≡ (answer_fields b).code → ⊥)
           → ((answer_fields a).size ≡ (answer_fields b).size) ⊎ ((answer_fields a).size ≡ (answer_fields b).size → ⊥)
           → ((answer_fields a).rights ≡ (answer_fields b).rights) ⊎ ((answer_fields a).rights ≡ (answer_fields b).rights → ⊥)
           → ((answer_fields a).value ≡ (answer_fields b).value) ⊎ ((answer_fields a).value ≡ (answer_fields b).value → ⊥)
           → (a ≡ b) ⊎ (a ≢ b)
-      by_parts (inl c) (inl s) (inl r) (inl v) = inl (answer_apart a b c (λ i. record { size = s i; rights = r i; value = v i }))
-      by_parts (inr n) s r v = inr (λ e. n (ap answer_code e))
+      by_parts (inl c) (inl s) (inl r) (inl v) = inl (answer_apart a b (λ i. record { code = c i; size = s i; rights = r i; value = v i }))
+      by_parts (inr n) s r v = inr (λ e. n (ap (λ x. (answer_fields x).code) e))
       by_parts (inl c) (inr n) r v = inr (λ e. n (ap (λ x. (answer_fields x).size) e))
       by_parts (inl c) (inl s) (inr n) v = inr (λ e. n (ap (λ x. (answer_fields x).rights) e))
       by_parts (inl c) (inl s) (inl r) (inr n) = inr (λ e. n (ap (λ x. (answer_fields x).value) e))

@@ -9,10 +9,12 @@ use Rattle.vs_types.specs.Config.{Layout}
 use Rattle.vs_walk.specs.Dump.{Image}
 use Rattle.vs_types.specs.Frame.{IsFrame}
 use Rattle.nr_trace.specs.Recording.{Recording, IsRecording, IsImage, IsEvent}
-use Rattle.nr_trace.specs.Spelling.{spelling, Spells, version_word, log_word, event, dump, frame_number, frame_words}
-use Rattle.nr_trace.specs.FirstFault.{Counts, IsCounts, Head, IsHead}
+use Rattle.nr_trace.specs.Spelling.{spelling, Spells, version_word, counts, counts_of, log_word, event, dump, dump_head, head_of, frame_number, frame_words}
+use Rattle.nr_trace.specs.FirstFault.{IsCounts, IsDumpHead}
+use Rattle.nr_trace.specs.declared.fields.Counts.{Counts}
+use Rattle.nr_trace.specs.declared.fields.DumpHead.{DumpHead}
 use Rattle.nr_trace.specs.declared.version.Version.{Version}
-use Rattle.nr_trace.proofs.LawsOfUnits.{ToldApart, versions_apart, counts_of, counts_apart, head_of, heads_apart, frame_numbers_apart, words_apart, lists_apart, log_words_apart, events_apart}
+use Rattle.nr_trace.proofs.LawsOfUnits.{ToldApart, versions_apart, counts_apart, heads_apart, frame_numbers_apart, words_apart, lists_apart, log_words_apart, events_apart}
 
 abbrev pub Frame : Type 0
 Frame = ℕ × List ℕ
@@ -38,10 +40,7 @@ both_parts P Q (f ∷ fs) h k = ((h.0, k.0), both_parts P Q fs h.1 k.1)
 pub image_frames_fit : (image : Image) → IsImage image → AllByRecursion FrameFits (finite.entries image.frames)
 image_frames_fit image h = both_parts (λ n. n < 2 ^ 40) IsFrame (finite.entries image.frames) (recursion_from_All _ _ h.numbers) (recursion_from_All _ _ h.words)
 
-abbrev pub head_in : Image → Head
-head_in image = record { applied = image.applied; frames = finite.len image.frames; root = image.root }
-
-pub head_fits : (image : Image) → IsImage image → IsHead (head_in image)
+pub head_fits : (image : Image) → IsImage image → IsDumpHead (head_of image)
 head_fits image h = record { applied = h.applied; some_frame = h.some_frame; few_frames = h.few_frames; root = h.root }
 
 abbrev pub frames_of : Image → List ℕ
@@ -49,17 +48,14 @@ frames_of image = flat_map frame (finite.entries image.frames)
 
 pub images_apart : ToldApart IsImage dump
 images_apart a b us vs h k e =
-    let f = sym (append_assoc (head_of (head_in a)) (frames_of a) us) ∙ e ∙ append_assoc (head_of (head_in b)) (frames_of b) vs in
-    let heads = heads_apart (head_in a) (head_in b) (frames_of a ++ us) (frames_of b ++ vs) (head_fits a h) (head_fits b k) f in
-    let lengths = sym (finite.len-entries a.frames) ∙ ap (λ (head : Head). head.frames) heads.0 ∙ finite.len-entries b.frames in
+    let f = sym (append_assoc (dump_head (head_of a)) (frames_of a) us) ∙ e ∙ append_assoc (dump_head (head_of b)) (frames_of b) vs in
+    let heads = heads_apart (head_of a) (head_of b) (frames_of a ++ us) (frames_of b ++ vs) (head_fits a h) (head_fits b k) f in
+    let lengths = sym (finite.len-entries a.frames) ∙ ap (λ (head : DumpHead). head.frames) heads.0 ∙ finite.len-entries b.frames in
     let entries = lists_apart FrameFits frame frames_apart (finite.entries a.frames) (finite.entries b.frames) us vs (image_frames_fit a h) (image_frames_fit b k) lengths heads.1 in
     let frames = finite.same_entries_map a.frames b.frames entries.0 in
     (λ i. record { applied = (heads.0 i).applied; root = (heads.0 i).root; frames = frames i }, entries.1)
 
-abbrev pub counts_in : Recording → Counts
-counts_in trace = record { layout = trace.layout; places = length trace.log; events = length trace.events }
-
-pub counts_fit : (trace : Recording) → IsRecording trace → IsCounts trace.version (counts_in trace)
+pub counts_fit : (trace : Recording) → IsRecording trace → IsCounts trace.version (counts_of trace)
 counts_fit trace h = record { layout = h.layout; depth = h.depth; few_places = h.few_places; few_events = h.few_events }
 
 abbrev pub logs : Recording → List ℕ
@@ -73,10 +69,10 @@ dumps trace = flat_map dump trace.dumps
 
 -- the spelling after the version
 abbrev pub numbered : Recording → List ℕ
-numbered trace = counts_of (counts_in trace) ++ (logs trace ++ (events trace ++ dumps trace))
+numbered trace = counts (counts_of trace) ++ (logs trace ++ (events trace ++ dumps trace))
 
 pub spelling_behind_version : (trace : Recording) → drop 6 (spelling trace) ≡ numbered trace
-spelling_behind_version trace = ap (λ rest. counts_of (counts_in trace) ++ rest) (append_assoc (logs trace) (events trace) (dumps trace))
+spelling_behind_version trace = ap (λ rest. counts (counts_of trace) ++ rest) (append_assoc (logs trace) (events trace) (dumps trace))
 
 -- the spelling after the magic
 abbrev pub versioned : Recording → List ℕ
@@ -89,14 +85,14 @@ recordings_apart : (s t : Recording) → IsRecording s → IsRecording t → spe
 recordings_apart s t h k e =
     let f : versioned s ≡ versioned t = sym (spelling_behind_magic s) ∙ ap (drop 4) e ∙ spelling_behind_magic t in
     let (version, g) = versions_apart s.version t.version (numbered s) (numbered t) tt tt f in
-    let also = subst (λ (v : Version). IsCounts v (counts_in t)) (sym version) (counts_fit t k) in
-    let counts = counts_apart s.version (counts_in s) (counts_in t) _ _ (counts_fit s h) also g in
-    let layout = ap (λ (c : Counts). c.layout) counts.0 in
-    let log = lists_apart (λ call. call < 2 ^ 32) log_word log_words_apart s.log t.log _ _ (recursion_from_All _ _ h.log) (recursion_from_All _ _ k.log) (ap (λ (c : Counts). c.places) counts.0) counts.1 in
+    let also = subst (λ (v : Version). IsCounts v (counts_of t)) (sym version) (counts_fit t k) in
+    let numbers = counts_apart s.version (counts_of s) (counts_of t) _ _ (counts_fit s h) also g in
+    let layout = ap (λ (c : Counts). c.layout) numbers.0 in
+    let log = lists_apart (λ call. call < 2 ^ 32) log_word log_words_apart s.log t.log _ _ (recursion_from_All _ _ h.log) (recursion_from_All _ _ k.log) (ap (λ (c : Counts). c.places) numbers.0) numbers.1 in
     let in_one : AllByRecursion (IsEvent s.version s.layout) t.events =
     subst₂ (λ (v : Version) (l : Layout). AllByRecursion (IsEvent v l) t.events) (sym version) (sym layout) (recursion_from_All (IsEvent t.version t.layout) t.events k.events) in
-    let calls = lists_apart (IsEvent s.version s.layout) event (events_apart s.version s.layout h.layout) s.events t.events _ _ (recursion_from_All _ _ h.events) in_one (ap (λ (c : Counts). c.events) counts.0) log.1 in
-    let lengths = h.one_dump_each ∙ ap (λ (c : Counts). c.layout.replicas) counts.0 ∙ sym k.one_dump_each in
+    let calls = lists_apart (IsEvent s.version s.layout) event (events_apart s.version s.layout h.layout) s.events t.events _ _ (recursion_from_All _ _ h.events) in_one (ap (λ (c : Counts). c.events) numbers.0) log.1 in
+    let lengths = h.one_dump_each ∙ ap (λ (c : Counts). c.layout.replicas) numbers.0 ∙ sym k.one_dump_each in
     let images = lists_apart IsImage dump images_apart s.dumps t.dumps [] [] (recursion_from_All _ _ h.dumps) (recursion_from_All _ _ k.dumps) lengths (ap (λ rest. rest ++ []) calls.1) in
     λ i. record { version = version i; layout = layout i; log = log.0 i; events = calls.0 i; dumps = images.0 i }
 

@@ -6,29 +6,39 @@ use Rattle.std.specs.Int.{w8, w16, w32, w64, to_be_bytes, from_be_bytes}
 use Rattle.std.proofs.lemmas.Nat.{from_be_bytes-to_be_bytes_2, from_be_bytes-to_be_bytes_4, from_be_bytes-to_be_bytes_8}
 use Rattle.std.proofs.lemmas.List.{append_assoc, length-append}
 use Rattle.std.proofs.lemmas.List.Elements.{recursion_from_All}
-use Rattle.std.proofs.lemmas.Bool.Decides.{nat_tests}
 use Rattle.vs_types.specs.Config.{Layout, IsLayout}
-use Rattle.vs_types.specs.Depth.{levels, IsCanonical}
+use Rattle.vs_types.specs.Depth.{levels}
+use Rattle.vs_types.specs.Codes.{size_code, rights_code, mode_code, access_code}
+use Rattle.vs_types.specs.Fields.{request_fields}
+use Rattle.vs_types.specs.Frame.{IsFrame}
 use Rattle.vs_types.specs.Query.{IsQuery}
 use Rattle.vs_types.specs.declared.depth.Depth.{Depth}
-use Rattle.vs_types.specs.declared.depth.Depth.TheVariants.{Four}
+use Rattle.vs_types.specs.declared.depth.Depth.TheVariants.{Four, Five}
 use Rattle.vs_types.specs.declared.page.Rights.{Rights}
 use Rattle.vs_types.specs.declared.page.Size.{Size}
 use Rattle.vs_types.specs.declared.page.Size.TheVariants.{K4, M2, G1}
+use Rattle.vs_types.specs.declared.access.Mode.{Mode}
+use Rattle.vs_types.specs.declared.access.Mode.TheVariants.{Supervisor, User}
+use Rattle.vs_types.specs.declared.access.Access as accesses
+use Rattle.vs_types.specs.declared.access.Access.TheVariants.{Read, Write, Fetch}
 use Rattle.vs_types.specs.declared.op.Action.TheVariants.{Map, Unmap, Protect}
 use Rattle.vs_types.specs.declared.request.Query.{Query}
-use Rattle.vs_types.specs.declared.request.Query.TheVariants.{Update, Resolve}
+use Rattle.vs_types.specs.declared.request.Query.TheVariants.{Update, Resolve, Access}
+use Rattle.vs_types.specs.declared.fields.RequestFields.{RequestFields}
 use Rattle.vs_types.specs.declared.answer.Answer.{Answer}
-use Rattle.vs_types.specs.declared.answer.Answer.TheVariants.{Done, Overlap, Full, Removed, NotMapped, Inside, Changed, Mapped}
-use Rattle.nr_trace.specs.Codes.{kind_code, size_code, rights_code, answer_code}
-use Rattle.vs_types.specs.Frame.{IsFrame}
+use Rattle.vs_types.specs.declared.answer.Answer.TheVariants.{Done, Overlap, Full, Removed, NotMapped, Inside, Changed, Mapped, Allowed, Fault}
+use Rattle.vs_types.proofs.Pages.{canonical_fits}
+use Rattle.vs_types.proofs.LogWords.{size_code_low, rights_code_low}
 use Rattle.nr_trace.specs.Recording.{IsAnswer, IsEvent}
-use Rattle.nr_trace.specs.Spelling.{RequestFields, request_fields, AnswerFields, answer_fields, version_word, counts, log_word, event, dump_head, frame_number, frame_words}
-use Rattle.nr_trace.specs.FirstFault.{Counts, IsCounts, Head, IsHead}
-use Rattle.nr_trace.specs.declared.event.Event.{Event}
-use Rattle.nr_trace.specs.declared.event.Event.TheVariants.{Call, Reply}
+use Rattle.nr_trace.specs.Spelling.{answer_fields, version_word, counts, log_word, event, dump_head, frame_number, frame_words}
+use Rattle.nr_trace.specs.FirstFault.{IsCounts, IsDumpHead}
+use Rattle.nr_trace.specs.declared.fields.AnswerFields.{AnswerFields}
+use Rattle.nr_trace.specs.declared.fields.Counts.{Counts}
+use Rattle.nr_trace.specs.declared.fields.DumpHead.{DumpHead}
 use Rattle.nr_trace.specs.declared.version.Version.{Version}
 use Rattle.nr_trace.specs.declared.version.Version.TheVariants.{V1, V2}
+use Rattle.nr_trace.specs.declared.event.Event.{Event}
+use Rattle.nr_trace.specs.declared.event.Event.TheVariants.{Call, Reply}
 
 -- two values that fit are one if their spellings begin one list, and then what stands after is one too
 abbrev pub ToldApart : {A : Type 0} → (A → Type 0) → (A → List ℕ) → Type 0
@@ -79,11 +89,6 @@ size_back K4 = refl
 size_back M2 = refl
 size_back G1 = refl
 
-pub size_few : (size : Size) → size_code size < 3
-size_few K4 = omega arith
-size_few M2 = omega arith
-size_few G1 = omega arith
-
 abbrev pub rights_from : ℕ → Rights
 rights_from zero = record { write = false; user = false; exec = false }
 rights_from (suc zero) = record { write = true; user = false; exec = false }
@@ -107,42 +112,69 @@ rights_back_by true true true = refl
 pub rights_back : (rights : Rights) → rights_from (rights_code rights) ≡ rights
 rights_back rights = rights_back_by rights.write rights.user rights.exec
 
-rights_few_by : (write user exec : Bool) → rights_code (record { write = write; user = user; exec = exec }) < 8
-rights_few_by false false false = omega arith
-rights_few_by true false false = omega arith
-rights_few_by false true false = omega arith
-rights_few_by true true false = omega arith
-rights_few_by false false true = omega arith
-rights_few_by true false true = omega arith
-rights_few_by false true true = omega arith
-rights_few_by true true true = omega arith
+abbrev mode_from : ℕ → Mode
+mode_from zero = Supervisor
+mode_from (suc n) = User
 
-pub rights_few : (rights : Rights) → rights_code rights < 8
-rights_few rights = rights_few_by rights.write rights.user rights.exec
+mode_back : (mode : Mode) → mode_from (mode_code mode) ≡ mode
+mode_back Supervisor = refl
+mode_back User = refl
 
-abbrev request_from : ℕ → RequestFields → Query
-request_from zero f = Update (Map (record { base = f.address; size = size_from f.size; phys = f.physical; rights = rights_from f.rights }))
-request_from (suc zero) f = Update (Unmap f.address)
-request_from (suc (suc zero)) f = Update (Protect f.address (rights_from f.rights))
-request_from (suc (suc (suc n))) f = Resolve f.address
+mode_few : (mode : Mode) → mode_code mode < 8
+mode_few Supervisor = omega arith
+mode_few User = omega arith
 
-request_back : (request : Query) → request_from (kind_code request) (request_fields request) ≡ request
+abbrev access_from : ℕ → accesses.Access
+access_from zero = Read
+access_from (suc zero) = Write
+access_from (suc (suc n)) = Fetch
+
+access_back : (access : accesses.Access) → access_from (access_code access) ≡ access
+access_back Read = refl
+access_back Write = refl
+access_back Fetch = refl
+
+access_few : (access : accesses.Access) → access_code access < 3
+access_few Read = omega arith
+access_few Write = omega arith
+access_few Fetch = omega arith
+
+abbrev request_of_kind : ℕ → RequestFields → Query
+request_of_kind zero f = Update (Map (record { base = f.address; size = size_from f.size; phys = f.physical; rights = rights_from f.rights }))
+request_of_kind (suc zero) f = Update (Unmap f.address)
+request_of_kind (suc (suc zero)) f = Update (Protect f.address (rights_from f.rights))
+request_of_kind (suc (suc (suc zero))) f = Resolve f.address
+request_of_kind (suc (suc (suc (suc n)))) f = Access f.address (mode_from f.rights) (access_from f.size)
+
+abbrev request_from : RequestFields → Query
+request_from f = request_of_kind f.kind f
+
+request_back : (request : Query) → request_from (request_fields request) ≡ request
 request_back (Update (Map page)) = ap₂ (λ (size : Size) (rights : Rights). Update (Map (record { base = page.base; size = size; phys = page.phys; rights = rights }))) (size_back page.size) (rights_back page.rights)
 request_back (Update (Unmap base)) = refl
 request_back (Update (Protect base rights)) = ap (λ (rights : Rights). Update (Protect base rights)) (rights_back rights)
 request_back (Resolve address) = refl
+request_back (Access address mode access) = ap₂ (Access address) (mode_back mode) (access_back access)
 
-abbrev answer_from : ℕ → AnswerFields → Answer
-answer_from zero f = Done
-answer_from (suc zero) f = Overlap f.value
-answer_from (suc (suc zero)) f = Full f.value
-answer_from (suc (suc (suc zero))) f = Removed f.value (size_from f.size) (rights_from f.rights)
-answer_from (suc (suc (suc (suc zero)))) f = NotMapped
-answer_from (suc (suc (suc (suc (suc zero))))) f = Inside f.value
-answer_from (suc (suc (suc (suc (suc (suc zero)))))) f = Changed (rights_from f.rights)
-answer_from (suc (suc (suc (suc (suc (suc (suc n))))))) f = Mapped f.value (size_from f.size) (rights_from f.rights)
+pub request_apart : (a b : Query) → request_fields a ≡ request_fields b → a ≡ b
+request_apart a b e = sym (request_back a) ∙ ap request_from e ∙ request_back b
 
-answer_back : (answer : Answer) → answer_from (answer_code answer) (answer_fields answer) ≡ answer
+abbrev answer_of_code : ℕ → AnswerFields → Answer
+answer_of_code zero f = Done
+answer_of_code (suc zero) f = Overlap f.value
+answer_of_code (suc (suc zero)) f = Full f.value
+answer_of_code (suc (suc (suc zero))) f = Removed f.value (size_from f.size) (rights_from f.rights)
+answer_of_code (suc (suc (suc (suc zero)))) f = NotMapped
+answer_of_code (suc (suc (suc (suc (suc zero))))) f = Inside f.value
+answer_of_code (suc (suc (suc (suc (suc (suc zero)))))) f = Changed (rights_from f.rights)
+answer_of_code (suc (suc (suc (suc (suc (suc (suc zero))))))) f = Mapped f.value (size_from f.size) (rights_from f.rights)
+answer_of_code (suc (suc (suc (suc (suc (suc (suc (suc zero)))))))) f = Allowed f.value
+answer_of_code (suc (suc (suc (suc (suc (suc (suc (suc (suc n))))))))) f = Fault f.value
+
+abbrev answer_from : AnswerFields → Answer
+answer_from f = answer_of_code f.code f
+
+answer_back : (answer : Answer) → answer_from (answer_fields answer) ≡ answer
 answer_back Done = refl
 answer_back (Overlap base) = refl
 answer_back (Full need) = refl
@@ -151,117 +183,189 @@ answer_back NotMapped = refl
 answer_back (Inside base) = refl
 answer_back (Changed rights) = ap Changed (rights_back rights)
 answer_back (Mapped phys size rights) = ap₂ (Mapped phys) (size_back size) (rights_back rights)
+answer_back (Allowed phys) = refl
+answer_back (Fault code) = refl
+
+pub answer_apart : (a b : Answer) → answer_fields a ≡ answer_fields b → a ≡ b
+answer_apart a b e = sym (answer_back a) ∙ ap answer_from e ∙ answer_back b
 
 -- ---- the ranges of fields
 
-pub canonical_fits : (depth : Depth) (address : ℕ) → IsCanonical depth address → address < 2 ^ 64
-canonical_fits Four address h = grind (arith, nat_tests)
-
 -- the fields of a request or an answer fit the bytes that they have
-pub record RequestFits (code : ℕ) (fields : RequestFields) : Type 0 where
-  pub kind : code < 4
+pub record RequestFits (fields : RequestFields) : Type 0 where
+  pub kind : fields.kind < 5
   pub size : fields.size < 3
   pub rights : fields.rights < 8
   pub address : fields.address < 2 ^ 64
   pub physical : fields.physical < 2 ^ 64
 
-pub request_fits : (depth : Depth) (request : Query) → IsQuery depth request → RequestFits (kind_code request) (request_fields request)
-request_fits depth (Update (Map page)) h = record { kind = omega arith; size = size_few page.size; rights = rights_few page.rights; address = canonical_fits depth page.base h.canonical; physical = omega (arith, h.phys_range) }
-request_fits depth (Update (Unmap base)) h = record { kind = omega arith; size = omega arith; rights = omega arith; address = canonical_fits depth base h.canonical; physical = omega arith }
-request_fits depth (Update (Protect base rights)) h = record { kind = omega arith; size = omega arith; rights = rights_few rights; address = canonical_fits depth base h.canonical; physical = omega arith }
-request_fits depth (Resolve address) h = record { kind = omega arith; size = omega arith; rights = omega arith; address = canonical_fits depth address h; physical = omega arith }
+pub request_fits : (depth : Depth) (request : Query) → IsQuery depth request → RequestFits (request_fields request)
+request_fits depth (Update (Map page)) h = record {
+  kind = omega arith;
+  size = size_code_low page.size;
+  rights = rights_code_low page.rights;
+  address = canonical_fits depth page.base h.canonical;
+  physical = omega (arith, h.phys_range);
+}
+request_fits depth (Update (Unmap base)) h = record {
+  kind = omega arith;
+  size = omega arith;
+  rights = omega arith;
+  address = canonical_fits depth base h.canonical;
+  physical = omega arith;
+}
+request_fits depth (Update (Protect base rights)) h = record {
+  kind = omega arith;
+  size = omega arith;
+  rights = rights_code_low rights;
+  address = canonical_fits depth base h.canonical;
+  physical = omega arith;
+}
+request_fits depth (Resolve address) h = record {
+  kind = omega arith;
+  size = omega arith;
+  rights = omega arith;
+  address = canonical_fits depth address h;
+  physical = omega arith;
+}
+request_fits depth (Access address mode access) h = record {
+  kind = omega arith;
+  size = access_few access;
+  rights = mode_few mode;
+  address = canonical_fits depth address h;
+  physical = omega arith;
+}
 
-pub record AnswerFits (code : ℕ) (fields : AnswerFields) : Type 0 where
-  pub kind : code < 8
+pub record AnswerFits (fields : AnswerFields) : Type 0 where
+  pub code : fields.code < 10
   pub size : fields.size < 3
   pub rights : fields.rights < 8
   pub value : fields.value < 2 ^ 64
 
-pub answer_fits : (answer : Answer) → IsAnswer answer → AnswerFits (answer_code answer) (answer_fields answer)
-answer_fits Done h = record { kind = omega arith; size = omega arith; rights = omega arith; value = omega arith }
-answer_fits (Overlap base) h = record { kind = omega arith; size = omega arith; rights = omega arith; value = h }
-answer_fits (Full need) h = record { kind = omega arith; size = omega arith; rights = omega arith; value = h }
-answer_fits (Removed phys size rights) h = record { kind = omega arith; size = size_few size; rights = rights_few rights; value = h }
-answer_fits NotMapped h = record { kind = omega arith; size = omega arith; rights = omega arith; value = omega arith }
-answer_fits (Inside base) h = record { kind = omega arith; size = omega arith; rights = omega arith; value = h }
-answer_fits (Changed rights) h = record { kind = omega arith; size = omega arith; rights = rights_few rights; value = omega arith }
-answer_fits (Mapped phys size rights) h = record { kind = omega arith; size = size_few size; rights = rights_few rights; value = h }
+pub answer_fits : (answer : Answer) → IsAnswer answer → AnswerFits (answer_fields answer)
+answer_fits Done h = record { code = omega arith; size = omega arith; rights = omega arith; value = omega arith }
+answer_fits (Overlap base) h = record { code = omega arith; size = omega arith; rights = omega arith; value = h }
+answer_fits (Full need) h = record { code = omega arith; size = omega arith; rights = omega arith; value = h }
+answer_fits (Removed phys size rights) h = record { code = omega arith; size = size_code_low size; rights = rights_code_low rights; value = h }
+answer_fits NotMapped h = record { code = omega arith; size = omega arith; rights = omega arith; value = omega arith }
+answer_fits (Inside base) h = record { code = omega arith; size = omega arith; rights = omega arith; value = h }
+answer_fits (Changed rights) h = record { code = omega arith; size = omega arith; rights = rights_code_low rights; value = omega arith }
+answer_fits (Mapped phys size rights) h = record { code = omega arith; size = size_code_low size; rights = rights_code_low rights; value = h }
+answer_fits (Allowed phys) h = record { code = omega arith; size = omega arith; rights = omega arith; value = h }
+answer_fits (Fault code) h = record { code = omega arith; size = omega arith; rights = omega arith; value = h }
 
 -- ---- events
 
-pub request_apart : (depth : Depth) (a b : Query) → IsQuery depth a → IsQuery depth b → kind_code a ≡ kind_code b → request_fields a ≡ request_fields b → a ≡ b
-request_apart depth a b h k e f = sym (request_back a) ∙ ap₂ request_from e f ∙ request_back b
+-- what stands after the tag of a call, and of a reply; the unused field of each has this number
+abbrev pub call_bytes : ℕ → ℕ → RequestFields → ℕ → List ℕ
+call_bytes replica thread fields unused =
+    to_be_bytes w8 replica ++ (to_be_bytes w16 thread ++ (to_be_bytes w8 fields.kind ++ (to_be_bytes w8 fields.size
+    ++ (to_be_bytes w8 fields.rights ++ (to_be_bytes w8 unused ++ (to_be_bytes w64 fields.address ++ to_be_bytes w64 fields.physical))))))
 
-pub answer_apart : (a b : Answer) → answer_code a ≡ answer_code b → answer_fields a ≡ answer_fields b → a ≡ b
-answer_apart a b e f = sym (answer_back a) ∙ ap₂ answer_from e f ∙ answer_back b
-
-abbrev call_bytes : ℕ → ℕ → ℕ → RequestFields → List ℕ
-call_bytes replica thread kind fields =
-    to_be_bytes w8 replica ++ (to_be_bytes w16 thread ++ (to_be_bytes w8 kind ++ (to_be_bytes w8 fields.size
-    ++ (to_be_bytes w8 fields.rights ++ (to_be_bytes w8 0 ++ (to_be_bytes w64 fields.address ++ to_be_bytes w64 fields.physical))))))
-
-pub record CallFits (replica thread kind : ℕ) (fields : RequestFields) : Type 0 where
+pub record CallFits (replica thread : ℕ) (fields : RequestFields) (unused : ℕ) : Type 0 where
   pub replica_fits : replica < 2 ^ 8
   pub thread_fits : thread < 2 ^ 16
-  pub fields_fit : RequestFits kind fields
+  pub kind : fields.kind < 2 ^ 8
+  pub size : fields.size < 2 ^ 8
+  pub rights : fields.rights < 2 ^ 8
+  pub unused_fits : unused < 2 ^ 8
+  pub address : fields.address < 2 ^ 64
+  pub physical : fields.physical < 2 ^ 64
 
-record SameCall (a b c d e f : ℕ) (g h : RequestFields) (us vs : List ℕ) : Type 0 where
-  replica : a ≡ b
-  thread : c ≡ d
-  kind : e ≡ f
-  fields : g ≡ h
-  rest : us ≡ vs
+pub record SameCall (a b c d : ℕ) (g h : RequestFields) (u v : ℕ) (us vs : List ℕ) : Type 0 where
+  pub replica : a ≡ b
+  pub thread : c ≡ d
+  pub fields : g ≡ h
+  pub unused : u ≡ v
+  pub rest : us ≡ vs
 
-calls_apart : (a b c d e f : ℕ) (g h : RequestFields) (us vs : List ℕ) → CallFits a c e g → CallFits b d f h
-    → call_bytes a c e g ++ us ≡ call_bytes b d f h ++ vs → SameCall a b c d e f g h us vs
-calls_apart a b c d e f g h us vs x y is =
+pub calls_apart : (a b c d : ℕ) (g h : RequestFields) (u v : ℕ) (us vs : List ℕ) → CallFits a c g u → CallFits b d h v
+    → call_bytes a c g u ++ us ≡ call_bytes b d h v ++ vs → SameCall a b c d g h u v us vs
+calls_apart a b c d g h u v us vs x y is =
     let r1 = number_8 a b _ _ x.replica_fits y.replica_fits is in
     let r2 = number_16 c d _ _ x.thread_fits y.thread_fits r1.1 in
-    let r3 = number_8 e f _ _ (omega (arith, x.fields_fit.kind)) (omega (arith, y.fields_fit.kind)) r2.1 in
-    let r4 = number_8 g.size h.size _ _ (omega (arith, x.fields_fit.size)) (omega (arith, y.fields_fit.size)) r3.1 in
-    let r5 = number_8 g.rights h.rights _ _ (omega (arith, x.fields_fit.rights)) (omega (arith, y.fields_fit.rights)) r4.1 in
-    let r6 = number_8 0 0 _ _ (omega arith) (omega arith) r5.1 in
-    let r7 = number_64 g.address h.address _ _ x.fields_fit.address y.fields_fit.address r6.1 in
-    let r8 = number_64 g.physical h.physical us vs x.fields_fit.physical y.fields_fit.physical r7.1 in
-    record { replica = r1.0; thread = r2.0; kind = r3.0; fields = λ i. record { size = r4.0 i; rights = r5.0 i; address = r7.0 i; physical = r8.0 i }; rest = r8.1 }
+    let r3 = number_8 g.kind h.kind _ _ x.kind y.kind r2.1 in
+    let r4 = number_8 g.size h.size _ _ x.size y.size r3.1 in
+    let r5 = number_8 g.rights h.rights _ _ x.rights y.rights r4.1 in
+    let r6 = number_8 u v _ _ x.unused_fits y.unused_fits r5.1 in
+    let r7 = number_64 g.address h.address _ _ x.address y.address r6.1 in
+    let r8 = number_64 g.physical h.physical us vs x.physical y.physical r7.1 in
+    record {
+      replica = r1.0;
+      thread = r2.0;
+      fields = λ i. record { kind = r3.0 i; size = r4.0 i; rights = r5.0 i; address = r7.0 i; physical = r8.0 i };
+      unused = r6.0;
+      rest = r8.1;
+    }
 
-abbrev reply_bytes : ℕ → AnswerFields → ℕ → ℕ → List ℕ
-reply_bytes code fields call at =
-    to_be_bytes w8 code ++ (to_be_bytes w8 fields.size ++ (to_be_bytes w8 fields.rights
-    ++ (to_be_bytes w32 call ++ (to_be_bytes w32 at ++ (to_be_bytes w32 0 ++ to_be_bytes w64 fields.value)))))
+abbrev pub reply_bytes : AnswerFields → ℕ → ℕ → ℕ → List ℕ
+reply_bytes fields call at unused =
+    to_be_bytes w8 fields.code ++ (to_be_bytes w8 fields.size ++ (to_be_bytes w8 fields.rights
+    ++ (to_be_bytes w32 call ++ (to_be_bytes w32 at ++ (to_be_bytes w32 unused ++ to_be_bytes w64 fields.value)))))
 
-pub record ReplyFits (code : ℕ) (fields : AnswerFields) (call at : ℕ) : Type 0 where
-  pub fields_fit : AnswerFits code fields
+pub record ReplyFits (fields : AnswerFields) (call at unused : ℕ) : Type 0 where
+  pub code : fields.code < 2 ^ 8
+  pub size : fields.size < 2 ^ 8
+  pub rights : fields.rights < 2 ^ 8
   pub call_fits : call < 2 ^ 32
   pub at_fits : at < 2 ^ 32
+  pub unused_fits : unused < 2 ^ 32
+  pub value : fields.value < 2 ^ 64
 
-record SameReply (a b : ℕ) (c d : AnswerFields) (e f g h : ℕ) (us vs : List ℕ) : Type 0 where
-  code : a ≡ b
-  fields : c ≡ d
-  call : e ≡ f
-  at : g ≡ h
-  rest : us ≡ vs
+pub record SameReply (c d : AnswerFields) (e f g h u v : ℕ) (us vs : List ℕ) : Type 0 where
+  pub fields : c ≡ d
+  pub call : e ≡ f
+  pub at : g ≡ h
+  pub unused : u ≡ v
+  pub rest : us ≡ vs
 
-replies_apart : (a b : ℕ) (c d : AnswerFields) (e f g h : ℕ) (us vs : List ℕ) → ReplyFits a c e g → ReplyFits b d f h
-    → reply_bytes a c e g ++ us ≡ reply_bytes b d f h ++ vs → SameReply a b c d e f g h us vs
-replies_apart a b c d e f g h us vs x y is =
-    let r1 = number_8 a b _ _ (omega (arith, x.fields_fit.kind)) (omega (arith, y.fields_fit.kind)) is in
-    let r2 = number_8 c.size d.size _ _ (omega (arith, x.fields_fit.size)) (omega (arith, y.fields_fit.size)) r1.1 in
-    let r3 = number_8 c.rights d.rights _ _ (omega (arith, x.fields_fit.rights)) (omega (arith, y.fields_fit.rights)) r2.1 in
+pub replies_apart : (c d : AnswerFields) (e f g h u v : ℕ) (us vs : List ℕ) → ReplyFits c e g u → ReplyFits d f h v
+    → reply_bytes c e g u ++ us ≡ reply_bytes d f h v ++ vs → SameReply c d e f g h u v us vs
+replies_apart c d e f g h u v us vs x y is =
+    let r1 = number_8 c.code d.code _ _ x.code y.code is in
+    let r2 = number_8 c.size d.size _ _ x.size y.size r1.1 in
+    let r3 = number_8 c.rights d.rights _ _ x.rights y.rights r2.1 in
     let r4 = number_32 e f _ _ x.call_fits y.call_fits r3.1 in
     let r5 = number_32 g h _ _ x.at_fits y.at_fits r4.1 in
-    let r6 = number_32 0 0 _ _ (omega arith) (omega arith) r5.1 in
-    let r7 = number_64 c.value d.value us vs x.fields_fit.value y.fields_fit.value r6.1 in
-    record { code = r1.0; fields = λ i. record { size = r2.0 i; rights = r3.0 i; value = r7.0 i }; call = r4.0; at = r5.0; rest = r7.1 }
+    let r6 = number_32 u v _ _ x.unused_fits y.unused_fits r5.1 in
+    let r7 = number_64 c.value d.value us vs x.value y.value r6.1 in
+    record {
+      fields = λ i. record { code = r1.0 i; size = r2.0 i; rights = r3.0 i; value = r7.0 i };
+      call = r4.0;
+      at = r5.0;
+      unused = r6.0;
+      rest = r7.1;
+    }
 
-pub call_fits : (version : Version) (layout : Layout) (replica thread : ℕ) (request : Query) → IsLayout layout → IsEvent version layout (Call replica thread request) → CallFits replica thread (kind_code request) (request_fields request)
+pub call_fits : (version : Version) (layout : Layout) (replica thread : ℕ) (request : Query) → IsLayout layout → IsEvent version layout (Call replica thread request)
+    → CallFits replica thread (request_fields request) 0
 call_fits version layout replica thread request l h =
     let r : replica < layout.replicas = h.0 in
     let t : thread < layout.threads = h.1 in
-    record { replica_fits = omega (arith, l.few_replicas); thread_fits = omega (arith, l.few_threads); fields_fit = request_fits layout.depth request h.2 }
+    let fits = request_fits layout.depth request h.2 in
+    record {
+      replica_fits = omega (arith, l.few_replicas);
+      thread_fits = omega (arith, l.few_threads);
+      kind = omega (arith, fits.kind);
+      size = omega (arith, fits.size);
+      rights = omega (arith, fits.rights);
+      unused_fits = omega arith;
+      address = fits.address;
+      physical = fits.physical;
+    }
 
-pub reply_fits : (version : Version) (layout : Layout) (call at : ℕ) (answer : Answer) → IsEvent version layout (Reply call at answer) → ReplyFits (answer_code answer) (answer_fields answer) call at
-reply_fits version layout call at answer h = record { fields_fit = answer_fits answer h.2; call_fits = h.0; at_fits = h.1 }
+pub reply_fits : (version : Version) (layout : Layout) (call at : ℕ) (answer : Answer) → IsEvent version layout (Reply call at answer) → ReplyFits (answer_fields answer) call at 0
+reply_fits version layout call at answer h =
+    let fits = answer_fits answer h.2 in
+    record {
+      code = omega (arith, fits.code);
+      size = omega (arith, fits.size);
+      rights = omega (arith, fits.rights);
+      call_fits = h.0;
+      at_fits = h.1;
+      unused_fits = omega arith;
+      value = fits.value;
+    }
 
 tags_differ : (us vs : List ℕ) → to_be_bytes w8 0 ++ us ≡ to_be_bytes w8 1 ++ vs → ⊥
 tags_differ us vs e =
@@ -275,33 +379,34 @@ length-event (Reply call at answer) = refl
 
 pub events_apart : (version : Version) (layout : Layout) → IsLayout layout → ToldApart (IsEvent version layout) event
 events_apart version layout l (Call r t q) (Call s u p) us vs h k e =
-    let rest = number_8 0 0 (call_bytes r t (kind_code q) (request_fields q) ++ us) (call_bytes s u (kind_code p) (request_fields p) ++ vs) (omega arith) (omega arith) e in
-    let same = calls_apart r s t u (kind_code q) (kind_code p) (request_fields q) (request_fields p) us vs (call_fits version layout r t q l h) (call_fits version layout s u p l k) rest.1 in
-    let request = request_apart layout.depth q p h.2 k.2 same.kind same.fields in
+    let rest = number_8 0 0 (call_bytes r t (request_fields q) 0 ++ us) (call_bytes s u (request_fields p) 0 ++ vs) (omega arith) (omega arith) e in
+    let same = calls_apart r s t u (request_fields q) (request_fields p) 0 0 us vs (call_fits version layout r t q l h) (call_fits version layout s u p l k) rest.1 in
+    let request = request_apart q p same.fields in
     (λ i. Call (same.replica i) (same.thread i) (request i), same.rest)
 events_apart version layout l (Call r t q) (Reply d b y) us vs h k e = absurd (tags_differ _ _ e)
 events_apart version layout l (Reply c a x) (Call s u p) us vs h k e = absurd (tags_differ _ _ (sym e))
 events_apart version layout l (Reply c a x) (Reply d b y) us vs h k e =
-    let rest = number_8 1 1 (reply_bytes (answer_code x) (answer_fields x) c a ++ us) (reply_bytes (answer_code y) (answer_fields y) d b ++ vs) (omega arith) (omega arith) e in
-    let same = replies_apart (answer_code x) (answer_code y) (answer_fields x) (answer_fields y) c d a b us vs (reply_fits version layout c a x h) (reply_fits version layout d b y k) rest.1 in
-    let answer = answer_apart x y same.code same.fields in
+    let rest = number_8 1 1 (reply_bytes (answer_fields x) c a 0 ++ us) (reply_bytes (answer_fields y) d b 0 ++ vs) (omega arith) (omega arith) e in
+    let same = replies_apart (answer_fields x) (answer_fields y) c d a b 0 0 us vs (reply_fits version layout c a x h) (reply_fits version layout d b y k) rest.1 in
+    let answer = answer_apart x y same.fields in
     (λ i. Reply (same.call i) (same.at i) (answer i), same.rest)
 
 -- ---- versions, counts, places, heads and frames
 
 levels_apart : (d e : Depth) → levels d ≡ levels e → d ≡ e
 levels_apart Four Four h = refl
+levels_apart Four Five h = absurd (omega arith)
+levels_apart Five Four h = absurd (omega arith)
+levels_apart Five Five h = refl
 
 levels_few : (d : Depth) → levels d < 2 ^ 8
 levels_few Four = omega arith
+levels_few Five = omega arith
 
-abbrev pub counts_of : Counts → List ℕ
-counts_of numbers = counts numbers.layout numbers.places numbers.events
-
-pub length-counts : (numbers : Counts) → length (counts_of numbers) ≡ 14
+pub length-counts : (numbers : Counts) → length (counts numbers) ≡ 14
 length-counts numbers = refl
 
-pub counts_apart : (version : Version) → ToldApart (IsCounts version) counts_of
+pub counts_apart : (version : Version) → ToldApart (IsCounts version) counts
 counts_apart version a b us vs h k e =
     let r1 = number_8 (levels a.layout.depth) (levels b.layout.depth) _ _ (levels_few a.layout.depth) (levels_few b.layout.depth) e in
     let r2 = number_8 a.layout.replicas b.layout.replicas _ _ (omega (arith, h.layout.few_replicas)) (omega (arith, k.layout.few_replicas)) r1.1 in
@@ -321,13 +426,10 @@ versions_apart V2 V2 us vs h k e = (refl, (number_16 2 2 us vs (omega arith) (om
 pub log_words_apart : ToldApart (λ call. call < 2 ^ 32) log_word
 log_words_apart = number_32
 
-abbrev pub head_of : Head → List ℕ
-head_of head = dump_head head.applied head.frames head.root
-
-pub length-head : (head : Head) → length (head_of head) ≡ 16
+pub length-head : (head : DumpHead) → length (dump_head head) ≡ 16
 length-head head = refl
 
-pub heads_apart : ToldApart IsHead head_of
+pub heads_apart : ToldApart IsDumpHead dump_head
 heads_apart a b us vs h k e =
     let r1 = number_32 a.applied b.applied _ _ h.applied k.applied e in
     let r2 = number_32 a.frames b.frames _ _ (omega (arith, h.few_frames)) (omega (arith, k.few_frames)) r1.1 in

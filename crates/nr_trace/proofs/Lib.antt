@@ -1,4 +1,3 @@
-pub mod Fields
 pub mod Events
 pub mod Words
 pub mod Counts
@@ -27,3 +26,4 @@ pub mod OnlySpelled
 pub mod Images
 pub mod Written
 pub mod Framed
+pub mod Feeding

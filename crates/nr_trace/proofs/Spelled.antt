@@ -18,12 +18,12 @@ behind_nothing f xs l e = ap (λ ys. l ++ flat_map f ys) e ∙ append-nil l
 
 abbrev pub spelling_of : Version → Layout → ℕ → ℕ → List ℕ → List Event → List Image → List ℕ
 spelling_of version layout places events log recorded dumps =
-    magic ++ version_word version ++ counts layout places events ++ flat_map log_word log ++ flat_map event recorded ++ flat_map dump dumps
+    magic ++ version_word version ++ counts (record { layout = layout; places = places; events = events }) ++ flat_map log_word log ++ flat_map event recorded ++ flat_map dump dumps
 
 pub more_place : (version : Version) (layout : Layout) (places events : ℕ) (log : List ℕ) (call : ℕ) (recorded : List Event) (dumps : List Image) → recorded ≡ [] → dumps ≡ []
     → spelling_of version layout places events (log ++ call ∷ []) recorded dumps ≡ spelling_of version layout places events log recorded dumps ++ log_word call
 more_place version layout places events log call recorded dumps no_events no_dumps =
-    let front = magic ++ version_word version ++ counts layout places events in
+    let front = magic ++ version_word version ++ counts (record { layout = layout; places = places; events = events }) in
     behind_nothing dump dumps (front ++ flat_map log_word (log ++ call ∷ []) ++ flat_map event recorded) no_dumps
     ∙ behind_nothing event recorded (front ++ flat_map log_word (log ++ call ∷ [])) no_events
     ∙ sym (flat_map_more log_word front log call)
@@ -32,7 +32,7 @@ more_place version layout places events log call recorded dumps no_events no_dum
 pub more_event : (version : Version) (layout : Layout) (places events : ℕ) (log : List ℕ) (recorded : List Event) (one : Event) (dumps : List Image) → dumps ≡ []
     → spelling_of version layout places events log (recorded ++ one ∷ []) dumps ≡ spelling_of version layout places events log recorded dumps ++ event one
 more_event version layout places events log recorded one dumps no_dumps =
-    let front = magic ++ version_word version ++ counts layout places events ++ flat_map log_word log in
+    let front = magic ++ version_word version ++ counts (record { layout = layout; places = places; events = events }) ++ flat_map log_word log in
     behind_nothing dump dumps (front ++ flat_map event (recorded ++ one ∷ [])) no_dumps
     ∙ sym (flat_map_more event front recorded one)
     ∙ ap (λ (l : List ℕ). l ++ event one) (sym (behind_nothing dump dumps (front ++ flat_map event recorded) no_dumps))
@@ -40,7 +40,7 @@ more_event version layout places events log recorded one dumps no_dumps =
 pub more_dump : (version : Version) (layout : Layout) (places events : ℕ) (log : List ℕ) (recorded : List Event) (dumps : List Image) (one : Image)
     → spelling_of version layout places events log recorded (dumps ++ one ∷ []) ≡ spelling_of version layout places events log recorded dumps ++ dump one
 more_dump version layout places events log recorded dumps one =
-    sym (flat_map_more dump (magic ++ version_word version ++ counts layout places events ++ flat_map log_word log ++ flat_map event recorded) dumps one)
+    sym (flat_map_more dump (magic ++ version_word version ++ counts (record { layout = layout; places = places; events = events }) ++ flat_map log_word log ++ flat_map event recorded) dumps one)
 
 -- no place is left
 pub no_place : (version : Version) (layout : Layout) (places events : ℕ) (rest : List ℕ) (fault : Format) → places ≡ 0 → AtEvents version layout 0 events rest fault → AtLog version layout places events rest fault

@@ -1,4 +1,4 @@
--- A reader on its way through the bytes.
+-- A reader where bytes are missing, or stand after the end.
 use Rattle.std.proofs.Common.{◌≡◌, ◌≢◌, ℕ, zero, suc, ◌+◌, ◌-◌, ◌<◌, ◌≤◌, Bool, true, false, List, [], ◌++◌, length, Option, Some, None, refl, sym, ap, subst, ◌∙◌, arith, inl, append_assoc}
 use Rattle.std.specs.Prelude.{nat_lt, if◌then◌else◌}
 use Rattle.std.proofs.lemmas.Bool.{ltb-true, ltb-false}
@@ -16,32 +16,6 @@ use Rattle.nr_trace.specs.declared.fault.Format.TheVariants.{Truncated, Trailing
 use Rattle.nr_trace.specs.declared.reading.parts.Reader.{Reader}
 use Rattle.nr_trace.specs.declared.reading.parts.Reader.TheVariants.{Magic, Version, Header, Log, Events, Dumps, Frame, Words}
 use Rattle.nr_trace.specs.declared.version.Version as versions
-
--- the reader has read what stands before the rest, and a fault of the rest is one of all the bytes
-pub record IsOnItsWay (bytes : List ℕ) (reader : Reader) (rest : List ℕ) : Type 0 where
-  pub ready : IsReady reader
-  pub parts : bytes ≡ said reader ++ rest
-  pub faults : (fault : Format) → Ahead reader rest fault → HasFormatFault bytes fault
-
-pub begins : (bytes : List ℕ) (reader : Reader) → HasRead [] HasFormatFault reader → IsOnItsWay bytes reader bytes
-begins bytes reader has = record {
-  ready = has.ready;
-  parts = ap (λ (l : List ℕ). l ++ bytes) (sym has.bytes_are);
-  faults = λ fault h. has.faults bytes fault h;
-}
-
-pub goes : (bytes : List ℕ) (reader next : Reader) (rest unit behind : List ℕ) → IsOnItsWay bytes reader rest → rest ≡ unit ++ behind
-    → HasRead (said reader ++ unit) (λ more fault. Ahead reader (unit ++ more) fault) next → IsOnItsWay bytes next behind
-goes bytes reader next rest unit behind way cut has = record {
-  ready = has.ready;
-  parts = way.parts ∙ ap (λ (l : List ℕ). said reader ++ l) cut ∙ sym (append_assoc (said reader) unit behind) ∙ ap (λ (l : List ℕ). l ++ behind) (sym has.bytes_are);
-  faults = λ fault h. way.faults fault (subst (λ (l : List ℕ). Ahead reader l fault) (sym cut) (has.faults behind fault h));
-}
-
-pub refuses : (bytes : List ℕ) (reader : Reader) (rest unit behind : List ℕ) (fail : Fail Format) → IsOnItsWay bytes reader rest → rest ≡ unit ++ behind
-    → IsFault (λ more fault. Ahead reader (unit ++ more) fault) fail → IfRefused (HasFormatFault bytes) fail
-refuses bytes reader rest unit behind fails.Memory way cut h = tt
-refuses bytes reader rest unit behind (fails.Refused fault) way cut h = way.faults fault (subst (λ (l : List ℕ). Ahead reader l fault) (sym cut) (h behind))
 
 -- ---- the rest is shorter than the next unit
 
@@ -76,7 +50,7 @@ unfolding AtFrames
 short_frame replica index zero last Behind rest some short = absurd (omega arith)
 short_frame replica index (suc frames) last Behind rest some short = inl (short, refl)
 
-too_short : (reader : Reader) (len : ℕ) (rest : List ℕ) → IsReady reader → unit_bytes reader ≡ Some len → length rest < len → Ahead reader rest Truncated
+pub too_short : (reader : Reader) (len : ℕ) (rest : List ℕ) → IsReady reader → unit_bytes reader ≡ Some len → length rest < len → Ahead reader rest Truncated
 too_short (Magic alloc) len rest ready is short = inl (omega (arith, some_is 4 len is), refl)
 too_short (Version alloc) len rest ready is short = inl (omega (arith, some_is 2 len is), refl)
 too_short (Header alloc version) len rest ready is short = inl (omega (arith, some_is 14 len is), refl)
@@ -89,16 +63,13 @@ too_short (Dumps parts) len rest ready is short =
 too_short (Frame parts opened last) len rest ready is short = short_frame (length parts.dumps.items) _ opened.left last _ rest ready.0.some_left (omega (arith, some_is 8 len is))
 too_short (Words parts opened number) len rest ready is short = inl (omega (arith, some_is 4096 len is), refl)
 
-pub truncated : (bytes : List ℕ) (reader : Reader) (rest : List ℕ) (len : ℕ) → IsOnItsWay bytes reader rest → unit_bytes reader ≡ Some len → length rest < len → HasFormatFault bytes Truncated
-truncated bytes reader rest len way is short = way.faults Truncated (too_short reader len rest way.ready is short)
-
 -- ---- no unit is left
 
 at_end : (replica dumps : ℕ) (rest : List ℕ) → dumps ≡ 0 → rest ≢ [] → AtDumps replica dumps rest Trailing
 unfolding AtDumps
 at_end replica dumps rest none more = subst (λ (n : ℕ). AtDumps replica n rest Trailing) (sym none) (more, refl)
 
-too_long : (reader : Reader) (rest : List ℕ) → unit_bytes reader ≡ None → rest ≢ [] → Ahead reader rest Trailing
+pub too_long : (reader : Reader) (rest : List ℕ) → unit_bytes reader ≡ None → rest ≢ [] → Ahead reader rest Trailing
 too_long (Magic alloc) rest is more = absurd cc
 too_long (Version alloc) rest is more = absurd cc
 too_long (Header alloc version) rest is more = absurd cc
@@ -110,15 +81,6 @@ too_long (Dumps parts) rest is more =
 too_long (Frame parts opened last) rest is more = absurd cc
 too_long (Words parts opened number) rest is more = absurd cc
 
-pub trailing : (bytes : List ℕ) (reader : Reader) (rest : List ℕ) → IsOnItsWay bytes reader rest → unit_bytes reader ≡ None → rest ≢ [] → HasFormatFault bytes Trailing
-trailing bytes reader rest way is more = way.faults Trailing (too_long reader rest is more)
-
-pub spelled : (bytes : List ℕ) (reader : Reader) (rest : List ℕ) (trace : Recording) → IsOnItsWay bytes reader rest → rest ≡ [] → Spells (said reader) trace → Spells bytes trace
-spelled bytes reader rest trace way none spells = record {
-  in_range = spells.in_range;
-  spelled = way.parts ∙ ap (λ (l : List ℕ). said reader ++ l) none ∙ append-nil (said reader) ∙ spells.spelled;
-}
-
 pub some_bytes : (reader : Reader) (len : ℕ) → unit_bytes reader ≡ Some len → 1 ≤ len
 some_bytes (Magic alloc) len is = omega (arith, some_is 4 len is)
 some_bytes (Version alloc) len is = omega (arith, some_is 2 len is)
@@ -128,3 +90,29 @@ some_bytes (Events parts events) len is = omega (arith, some_is 24 len is)
 some_bytes (Dumps parts) len is = omega (arith, (chosen (nat_lt (length parts.dumps.items) parts.config.replicas) 16 len is).1)
 some_bytes (Frame parts opened last) len is = omega (arith, some_is 8 len is)
 some_bytes (Words parts opened number) len is = omega (arith, some_is 4096 len is)
+
+-- a reader of which no unit is left has read a trace
+pub ready_to_end : (reader : Reader) → IsReady reader → unit_bytes reader ≡ None → (trace : Recording) × Spells (said reader) trace
+ready_to_end (Magic alloc) ready is = absurd cc
+ready_to_end (Version alloc) ready is = absurd cc
+ready_to_end (Header alloc version) ready is = absurd cc
+ready_to_end (Log parts places events) ready is = absurd cc
+ready_to_end (Events parts events) ready is = absurd cc
+ready_to_end (Dumps parts) ready is =
+    let all : parts.config.replicas ≤ length parts.dumps.items = ltb-false _ _ (not_chosen (nat_lt (length parts.dumps.items) parts.config.replicas) 16 is) in
+    (record { version = parts.version; layout = parts.config; log = parts.log.items; events = parts.events.items; dumps = parts.dumps.items },
+    record {
+      in_range = record {
+        layout = ready.layout;
+        depth = ready.depth;
+        few_places = ready.few_places;
+        log = ready.log;
+        few_events = ready.few_events;
+        events = ready.events;
+        one_dump_each = omega (arith, ready.few_dumps, all);
+        dumps = ready.dumps;
+      };
+      spelled = refl;
+    })
+ready_to_end (Frame parts opened last) ready is = absurd cc
+ready_to_end (Words parts opened number) ready is = absurd cc

@@ -3,7 +3,7 @@ use Rattle.std.specs.Prelude.{ℕ, ◌<◌, ◌==◌, slice_get, filter_map, Opt
 use Rattle.vs_types.specs.declared.answer.Answer.{Answer}
 use Rattle.vs_types.specs.declared.op.Action.{Action}
 use Rattle.vs_types.specs.declared.request.Query.{Query}
-use Rattle.vs_types.specs.declared.request.Query.TheVariants.{Update, Resolve}
+use Rattle.vs_types.specs.declared.request.Query.TheVariants.{Update, Resolve, Access}
 use Rattle.nr_trace.specs.Recording.{Recording}
 use Rattle.nr_trace.specs.declared.event.Event.{Event}
 use Rattle.nr_trace.specs.declared.event.Event.TheVariants.{Call, Reply}
@@ -25,12 +25,14 @@ call_of trace call = option_and_then made_by (slice_get trace.events call)
 abbrev pub operation_in : Query → Option Action
 operation_in (Update action) = Some action
 operation_in (Resolve address) = None
+operation_in (Access address mode access) = None
 
 abbrev pub address_in : Query → Option ℕ
 address_in (Update action) = None
 address_in (Resolve address) = Some address
+address_in (Access address mode access) = Some address
 
--- the operation of an update, and the address of a read
+-- the operation of an update, and the address of a read: a call that asks for a resolve or an access
 abbrev pub operation_of : Recording → ℕ → Option Action
 operation_of trace call = option_and_then (λ made. operation_in made.request) (call_of trace call)
 

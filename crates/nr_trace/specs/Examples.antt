@@ -6,14 +6,16 @@ use Rattle.vs_types.specs.declared.page.Size.TheVariants.{K4}
 use Rattle.vs_types.specs.declared.op.Action.{Action}
 use Rattle.vs_types.specs.declared.op.Action.TheVariants.{Map, Unmap}
 use Rattle.vs_types.specs.declared.request.Query.{Query}
-use Rattle.vs_types.specs.declared.request.Query.TheVariants.{Update, Resolve}
+use Rattle.vs_types.specs.declared.request.Query.TheVariants.{Update, Resolve, Access}
+use Rattle.vs_types.specs.declared.access.Mode.TheVariants.{User}
+use Rattle.vs_types.specs.declared.access.Access.TheVariants.{Write}
 use Rattle.vs_types.specs.declared.answer.Answer.{Answer}
-use Rattle.vs_types.specs.declared.answer.Answer.TheVariants.{Done, NotMapped, Mapped}
+use Rattle.vs_types.specs.declared.answer.Answer.TheVariants.{Done, NotMapped, Mapped, Allowed, Fault}
 use Rattle.vs_walk.specs.Memory.{Memory}
 use Rattle.vs_walk.specs.Walk.{all_rights}
 use Rattle.vs_walk.specs.Dump.{Image}
 use Rattle.nr_trace.specs.Recording.{Recording}
-use Rattle.nr_trace.specs.declared.version.Version.TheVariants.{V1}
+use Rattle.nr_trace.specs.declared.version.Version.TheVariants.{V1, V2}
 use Rattle.nr_trace.specs.declared.event.Event.TheVariants.{Call, Reply}
 
 -- a frame with this word at this index, and else zeros
@@ -116,3 +118,20 @@ without_first_reply = record map_then_resolve { events = Call 0 0 map_it ∷ Cal
 
 abbrev pub with_applied : ℕ → Recording
 with_applied applied = record map_then_resolve { dumps = record dump_of_page { applied = applied } ∷ [] }
+
+-- `map_then_resolve` as a trace of version 2
+abbrev pub as_version_2 : Recording
+as_version_2 = record map_then_resolve { version = V2 }
+
+-- the same thread asks, in place of the resolve, whether a user may write at that address
+abbrev pub access_it : Query
+access_it = Access 0x400123 User Write
+
+abbrev pub with_access : Answer → Recording
+with_access answer = record as_version_2 { events = Call 0 0 map_it ∷ Reply 0 0 Done ∷ Call 0 0 access_it ∷ Reply 2 1 answer ∷ [] }
+
+abbrev pub map_then_access : Recording
+map_then_access = with_access (Allowed 0x1123)
+
+abbrev pub access_refused : Recording
+access_refused = with_access (Fault 7)

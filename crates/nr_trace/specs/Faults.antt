@@ -3,10 +3,8 @@ use Rattle.std.specs.Prelude.{◌≡◌, ◌≢◌, ℕ, ◌<◌, ◌⊎◌, Lis
 use Rattle.std.specs.Ordering.{nat_cmp}
 use Rattle.std.specs.Cmp.Lexicographic.{slice_cmp}
 use Rattle.std.specs.declared.cmp.Ordering.TheVariants.{Less}
-use Rattle.vs_walk.specs.Traversal.{walk_fault}
-use Rattle.vs_walk.specs.Differences.{IsStray, TranslatesOtherwise, IsLeast}
+use Rattle.vs_walk.specs.Differences.{HasMissingFrame, HasSharedFrame, HasReservedBit, HasStrayFrame, HasDifference}
 use Rattle.vs_walk.specs.Dump.{Image}
-use Rattle.vs_walk.specs.declared.walk.WalkFault.TheVariants as walks
 use Rattle.nr_trace.specs.Recording.{Recording}
 use Rattle.nr_trace.specs.Spelling.{Spells}
 use Rattle.nr_trace.specs.FirstFault.{HasFormatFault}
@@ -76,11 +74,11 @@ Holds trace (Early call) = (entries : ℕ) × StandsAfter trace call entries × 
 Holds trace (WrongAnswer call) = IsWrong trace call
 Holds trace (PrefixPastLog replica) = HasDump trace replica (λ dump. length trace.log < dump.applied)
 Holds trace (PrefixShort replica) = HasDump trace replica (RestsOnMore trace replica)
-Holds trace (MissingFrame replica number) = HasDump trace replica (λ dump. walk_fault trace.layout.depth dump.frames dump.root ≡ Some (walks.Missing number))
-Holds trace (SharedFrame replica number) = HasDump trace replica (λ dump. walk_fault trace.layout.depth dump.frames dump.root ≡ Some (walks.Shared number))
-Holds trace (ReservedBit replica number index) = HasDump trace replica (λ dump. walk_fault trace.layout.depth dump.frames dump.root ≡ Some (walks.Reserved number index))
-Holds trace (StrayFrame replica number) = HasDump trace replica (λ dump. IsLeast (IsStray trace.layout.depth dump.frames dump.root) number)
-Holds trace (Differs replica address) = HasDump trace replica (λ dump. IsLeast (TranslatesOtherwise trace.layout.depth dump.frames dump.root (space_after trace (take dump.applied trace.log))) address)
+Holds trace (MissingFrame replica number) = HasDump trace replica (λ dump. HasMissingFrame trace.layout.depth dump number)
+Holds trace (SharedFrame replica number) = HasDump trace replica (λ dump. HasSharedFrame trace.layout.depth dump number)
+Holds trace (ReservedBit replica number index) = HasDump trace replica (λ dump. HasReservedBit trace.layout.depth dump number index)
+Holds trace (StrayFrame replica number) = HasDump trace replica (λ dump. HasStrayFrame trace.layout.depth dump number)
+Holds trace (Differs replica address) = HasDump trace replica (λ dump. HasDifference trace.layout.depth dump (space_after trace (take dump.applied trace.log)) address)
 
 -- where a fault stands: its pass, then its index in that pass, then its number. Answers are compared in the recorded order
 abbrev pub rank : Recording → Fault → List ℕ

@@ -3,10 +3,13 @@
 use Rattle.std.specs.Prelude.{◌≡◌, ◌≢◌, ℕ, zero, suc, ◌+◌, ◌<◌, ◌≤◌, ◌^◌, ◌⊎◌, ◌++◌, List, [], length, take, Option, Some, None, IfSome, ⊤}
 use Rattle.vs_types.specs.Config.{Layout, IsLayout}
 use Rattle.vs_types.specs.Frame.{IsFrame}
+use Rattle.vs_types.specs.declared.limits.TheConstants.{LOG_PLACES, CALLS, TABLES}
 use Rattle.nr_trace.specs.Versions.{KnowsDepth}
 use Rattle.nr_trace.specs.Recording.{IsEvent}
 use Rattle.nr_trace.specs.Spelling.{magic, version_word, counts, log_word, event, dump_head, frame_number, frame_words}
 use Rattle.nr_trace.specs.declared.version.Version.{Version}
+use Rattle.nr_trace.specs.declared.fields.Counts.{Counts}
+use Rattle.nr_trace.specs.declared.fields.DumpHead.{DumpHead}
 use Rattle.nr_trace.specs.declared.fault.Format.{Format}
 use Rattle.nr_trace.specs.declared.fault.Format.TheVariants.{Truncated, BadMagic, BadVersion, BadCount, BadEvent, BadFrame, Trailing}
 
@@ -19,26 +22,16 @@ AtUnit {A} bytes own Fits spelled Behind rest fault =
     ⊎ ((value : A) × (more : List ℕ) × Fits value × (rest ≡ spelled value ++ more) × Behind value more fault))
 
 -- the numbers of the counts unit, and of the head of a dump
-pub record Counts : Type 0 where
-  pub layout : Layout
-  pub places : ℕ
-  pub events : ℕ
-
 pub record IsCounts (version : Version) (numbers : Counts) : Type 0 where
   pub layout : IsLayout numbers.layout
   pub depth : KnowsDepth version numbers.layout.depth
-  pub few_places : numbers.places ≤ 65536
-  pub few_events : numbers.events ≤ 131072
+  pub few_places : numbers.places ≤ LOG_PLACES
+  pub few_events : numbers.events ≤ CALLS
 
-pub record Head : Type 0 where
-  pub applied : ℕ
-  pub frames : ℕ
-  pub root : ℕ
-
-pub record IsHead (head : Head) : Type 0 where
+pub record IsDumpHead (head : DumpHead) : Type 0 where
   pub applied : head.applied < 2 ^ 32
   pub some_frame : 1 ≤ head.frames
-  pub few_frames : head.frames ≤ 4096
+  pub few_frames : head.frames ≤ TABLES
   pub root : head.root < 2 ^ 64
 
 -- nothing may stand at the end
@@ -62,7 +55,7 @@ AtFrames replica index (suc frames) before Behind rest fault =
 unfoldable pub AtDumps : ℕ → ℕ → List ℕ → Format → Type 0
 AtDumps replica zero rest fault = AtEnd rest fault
 AtDumps replica (suc dumps) rest fault =
-    AtUnit 16 (Some BadCount) IsHead (λ head. dump_head head.applied head.frames head.root) (λ head.
+    AtUnit 16 (Some BadCount) IsDumpHead dump_head (λ head.
     AtFrames replica 0 head.frames None (AtDumps (replica + 1) dumps))
     rest fault
 
@@ -80,7 +73,7 @@ AtLog version layout (suc places) events rest fault = AtUnit 4 None (λ call. ca
 -- the counts, and what comes after them
 abbrev pub AtCounts : Version → List ℕ → Format → Type 0
 AtCounts version rest fault =
-    AtUnit 14 (Some BadCount) (IsCounts version) (λ numbers. counts numbers.layout numbers.places numbers.events) (λ numbers.
+    AtUnit 14 (Some BadCount) (IsCounts version) counts (λ numbers.
     AtLog version numbers.layout numbers.places numbers.events)
     rest fault
 

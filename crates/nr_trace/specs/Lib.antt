@@ -1,8 +1,8 @@
 pub mod Versions
 pub mod Recording
-pub mod Codes
 pub mod Spelling
 pub mod FirstFault
+pub mod Feed
 pub mod Parts
 pub mod Calls
 pub mod Orders
@@ -16,6 +16,9 @@ pub use Rattle.vs_types.specs.Frame
 pub use Rattle.vs_types.specs.Page
 pub use Rattle.vs_types.specs.Operation
 pub use Rattle.vs_types.specs.Query
+pub use Rattle.vs_types.specs.Access
+pub use Rattle.vs_types.specs.Codes
+pub use Rattle.vs_types.specs.Fields
 pub use Rattle.vs_types.specs.Space
 pub use Rattle.vs_types.specs.Step
 pub use Rattle.vs_walk.specs.Memory

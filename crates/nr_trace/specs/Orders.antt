@@ -4,11 +4,11 @@ use Rattle.std.specs.Option.{option_map_or}
 use Rattle.std.specs.List.{IsDistinct, before_first, fold}
 use Rattle.vs_types.specs.Config.{Layout}
 use Rattle.vs_types.specs.Space.{Space, no_pages}
-use Rattle.vs_types.specs.Step.{step, look, after_all}
+use Rattle.vs_types.specs.Step.{step, look, allow, after_all}
 use Rattle.vs_types.specs.declared.answer.Answer.{Answer}
 use Rattle.vs_types.specs.declared.op.Action.{Action}
 use Rattle.vs_types.specs.declared.request.Query.{Query}
-use Rattle.vs_types.specs.declared.request.Query.TheVariants.{Update, Resolve}
+use Rattle.vs_types.specs.declared.request.Query.TheVariants.{Update, Resolve, Access}
 use Rattle.vs_walk.specs.Walk.{TranslatesAs}
 use Rattle.vs_walk.specs.Dump.{Image}
 use Rattle.nr_trace.specs.Recording.{Recording}
@@ -33,6 +33,7 @@ space_after trace calls = after_all trace.layout.depth trace.layout.tables no_pa
 abbrev pub answer_in : Layout → Space → Query → Answer
 answer_in layout space (Update action) = (step layout.depth layout.tables space action).answer
 answer_in layout space (Resolve address) = look space address
+answer_in layout space (Access address mode access) = allow space address mode access
 
 -- the order has distinct calls, all answered ones and some unanswered updates
 pub record HasItsCalls (trace : Recording) (order : List ℕ) : Type 0 where

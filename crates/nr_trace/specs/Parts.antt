@@ -2,6 +2,7 @@
 use Rattle.std.specs.Prelude.{◌≡◌, ◌≢◌, ℕ, ◌<◌, ◌⊎◌, List, length, take, slice_get, All, Any, Some}
 use Rattle.std.specs.FinMap as finite
 use Rattle.vs_types.specs.Config.{Layout}
+use Rattle.vs_types.specs.declared.limits.TheConstants.{LOG_PLACES, CALLS}
 use Rattle.nr_trace.specs.Recording.{Recording, IsEvent}
 use Rattle.nr_trace.specs.Versions.{KnowsDepth}
 use Rattle.nr_trace.specs.declared.version.Version.{Version}
@@ -13,7 +14,7 @@ use Rattle.nr_trace.specs.declared.fault.Format.TheVariants.{Truncated, BadMagic
 abbrev pub HasBadCount : Recording → Type 0
 HasBadCount parts =
     (KnowsDepth parts.version parts.layout.depth → ⊥)
-    ⊎ ((65536 < length parts.log) ⊎ ((131072 < length parts.events) ⊎ (length parts.dumps ≢ parts.layout.replicas)))
+    ⊎ ((LOG_PLACES < length parts.log) ⊎ ((CALLS < length parts.events) ⊎ (length parts.dumps ≢ parts.layout.replicas)))
 
 -- the event of this index is out of its range, and none before is
 pub record IsFirstOut (version : Version) (layout : Layout) (events : List Event) (index : ℕ) : Type 0 where

@@ -3,9 +3,10 @@ use Rattle.std.specs.Prelude.{◌≡◌, ℕ, ◌<◌, ◌≤◌, ◌^◌, List,
 use Rattle.std.specs.FinMap as finite
 use Rattle.vs_types.specs.Config.{Layout, IsLayout}
 use Rattle.vs_types.specs.Frame.{IsFrame}
+use Rattle.vs_types.specs.declared.limits.TheConstants.{LOG_PLACES, CALLS, TABLES}
 use Rattle.vs_types.specs.Query.{IsQuery}
 use Rattle.vs_types.specs.declared.answer.Answer.{Answer}
-use Rattle.vs_types.specs.declared.answer.Answer.TheVariants.{Done, Overlap, Full, Removed, NotMapped, Inside, Changed, Mapped}
+use Rattle.vs_types.specs.declared.answer.Answer.TheVariants.{Done, Overlap, Full, Removed, NotMapped, Inside, Changed, Mapped, Allowed, Fault}
 use Rattle.vs_walk.specs.Dump.{Image}
 use Rattle.nr_trace.specs.Versions.{KnowsDepth, KnowsQuery, KnowsAnswer}
 use Rattle.nr_trace.specs.declared.version.Version.{Version}
@@ -31,6 +32,8 @@ IsAnswer NotMapped = Unit {0}
 IsAnswer (Inside base) = base < 2 ^ 64
 IsAnswer (Changed rights) = Unit {0}
 IsAnswer (Mapped phys size rights) = phys < 2 ^ 64
+IsAnswer (Allowed phys) = phys < 2 ^ 64
+IsAnswer (Fault code) = code < 2 ^ 64
 
 -- what the version knows: a well-formed call of a replica and a thread that there are; a reply to any call, at any place
 abbrev pub IsEvent : Version → Layout → Event → Type 0
@@ -43,7 +46,7 @@ pub record IsImage (dump : Image) : Type 0 where
   pub applied : dump.applied < 2 ^ 32
   pub root : dump.root < 2 ^ 64
   pub some_frame : 1 ≤ finite.len dump.frames
-  pub few_frames : finite.len dump.frames ≤ 4096
+  pub few_frames : finite.len dump.frames ≤ TABLES
   pub numbers : All (λ number. number < 2 ^ 40) (finite.keys dump.frames)
   pub words : All IsFrame (finite.values dump.frames)
 
@@ -51,9 +54,9 @@ pub record IsImage (dump : Image) : Type 0 where
 pub record IsRecording (trace : Recording) : Type 0 where
   pub layout : IsLayout trace.layout
   pub depth : KnowsDepth trace.version trace.layout.depth
-  pub few_places : length trace.log ≤ 65536
+  pub few_places : length trace.log ≤ LOG_PLACES
   pub log : All (λ call. call < 2 ^ 32) trace.log
-  pub few_events : length trace.events ≤ 131072
+  pub few_events : length trace.events ≤ CALLS
   pub events : All (IsEvent trace.version trace.layout) trace.events
   pub one_dump_each : length trace.dumps ≡ trace.layout.replicas
   pub dumps : All IsImage trace.dumps

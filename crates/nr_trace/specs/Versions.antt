@@ -1,9 +1,11 @@
 -- The two versions of the format: the number of each, and what it knows.
 use Rattle.std.specs.Prelude.{ℕ, ⊤}
 use Rattle.vs_types.specs.declared.depth.Depth.{Depth}
-use Rattle.vs_types.specs.declared.depth.Depth.TheVariants.{Four}
+use Rattle.vs_types.specs.declared.depth.Depth.TheVariants.{Four, Five}
 use Rattle.vs_types.specs.declared.request.Query.{Query}
+use Rattle.vs_types.specs.declared.request.Query.TheVariants.{Update, Resolve, Access}
 use Rattle.vs_types.specs.declared.answer.Answer.{Answer}
+use Rattle.vs_types.specs.declared.answer.Answer.TheVariants.{Allowed, Fault}
 use Rattle.nr_trace.specs.declared.version.Version.{Version}
 use Rattle.nr_trace.specs.declared.version.Version.TheVariants.{V1, V2}
 
@@ -11,14 +13,18 @@ abbrev pub version_code : Version → ℕ
 version_code V1 = 1
 version_code V2 = 2
 
--- a depth that the version knows: version 1 knows four levels alone
+-- version 1 knows no depth but four levels
 abbrev pub KnowsDepth : Version → Depth → Type 0
-KnowsDepth version Four = ⊤
+KnowsDepth V1 Five = ⊥
+KnowsDepth version depth = ⊤
 
--- a request that the version knows: version 1 knows no access
+-- version 1 knows no access
 abbrev pub KnowsQuery : Version → Query → Type 0
+KnowsQuery V1 (Access address mode access) = ⊥
 KnowsQuery version query = ⊤
 
--- an answer that the version knows: version 1 knows none of an access
+-- version 1 knows no answer to an access
 abbrev pub KnowsAnswer : Version → Answer → Type 0
+KnowsAnswer V1 (Allowed phys) = ⊥
+KnowsAnswer V1 (Fault code) = ⊥
 KnowsAnswer version answer = ⊤

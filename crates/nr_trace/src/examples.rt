@@ -1,11 +1,16 @@
 //! Worked examples: what the definitions say of short recordings. Each function does nothing: the prover computes.
 
-ghost use Rattle.std.specs.Prelude.{◌≡◌, [], ◌∷◌, take, length};
-ghost use Rattle.nr_trace.specs.Examples.{looks_mapped, map_it, map_then_resolve, map_then_resolve_bytes, read_before_and_after, resolve_it, stale_read, unanswered_left_out, unanswered_too_early, with_applied, with_log, with_replies, without_first_reply};
+ghost use Rattle.std.specs.Prelude.{◌≡◌, [], ◌∷◌, take, drop, length};
+ghost use Rattle.nr_trace.specs.Examples.{access_it, access_refused, as_version_2, looks_mapped, map_it, map_then_access, map_then_resolve, map_then_resolve_bytes, read_before_and_after, resolve_it, stale_read, unanswered_left_out, unanswered_too_early, with_applied, with_log, with_replies, without_first_reply};
 ghost use Rattle.nr_trace.specs.Faults.{Holds};
 ghost use Rattle.nr_trace.specs.Orders.{answer_in, before, floor, recorded_order, space_after, IsLegalOrder};
+ghost use Rattle.nr_trace.specs.Recording.{IsEvent};
 ghost use Rattle.nr_trace.specs.Spelling.{spelling, Spells};
-ghost use Rattle.vs_types.specs.declared.answer.Answer.TheVariants.{Done};
+ghost use Rattle.nr_trace.specs.Versions.{KnowsDepth};
+ghost use Rattle.nr_trace.specs.declared.event.Event.TheVariants.{Call, Reply};
+ghost use Rattle.nr_trace.specs.declared.version.Version.TheVariants.{V1, V2};
+ghost use Rattle.vs_types.specs.declared.depth.Depth.TheVariants.{Five};
+ghost use Rattle.vs_types.specs.declared.answer.Answer.TheVariants.{Allowed, Done};
 ghost use Rattle.nr_trace.specs.declared.fault.Fault.TheVariants.{AnsweredTwice, Early, NoSuchCall, NotAnUpdate, NotPlaced, PastLog, PlacedTwice, PrefixPastLog, PrefixShort, ThreadOpen, WrongAnswer};
 
 /// The update stands first, and then the read that saw it.
@@ -69,4 +74,21 @@ pub fn one_fault_each()
     ensures wrong_answer { Holds (with_replies 0 2 1 0x1124) (WrongAnswer 2) }
     ensures prefix_past_log { Holds (with_applied 2) (PrefixPastLog 0) }
     ensures prefix_short { Holds (with_applied 0) (PrefixShort 0) }
+{}
+
+/// A read that asks for rights stands in the order like one that resolves, and is allowed what the page allows.
+pub fn map_then_access_answers()
+    ensures order { recorded_order map_then_access ≡ 0 ∷ 2 ∷ [] }
+    ensures access { answer_in map_then_access.layout (space_after map_then_access (before 2 (recorded_order map_then_access))) access_it ≡ Allowed 0x1123 }
+    ensures refused { Holds access_refused (WrongAnswer 2) }
+{}
+
+/// The version is one number of the spelling, and an access stands in traces of version 2 alone, as do five levels.
+pub fn versions_apart()
+    ensures spelling { drop 6 (spelling as_version_2) ≡ drop 6 (spelling map_then_resolve) }
+    ensures second { IsEvent V2 map_then_resolve.layout (Call 0 0 access_it) }
+    ensures first { IsEvent V1 map_then_resolve.layout (Call 0 0 access_it) → ⊥ }
+    ensures answer { IsEvent V1 map_then_resolve.layout (Reply 2 1 (Allowed 0x1123)) → ⊥ }
+    ensures five { KnowsDepth V2 Five }
+    ensures not_five { KnowsDepth V1 Five → ⊥ }
 {}

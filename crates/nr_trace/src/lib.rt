@@ -6,6 +6,7 @@
 mod event;
 pub mod examples;
 mod fault;
+mod fields;
 mod laws;
 mod ranges;
 mod reading;
@@ -21,7 +22,7 @@ pub use laws::{
     one_first_fault, one_first_fault_of_bytes, one_format_fault, recorded_order_by_entries,
     recorded_order_is_legal, recorded_order_is_serial, spaces_go_on_by_places,
 };
-pub use reading::read;
+pub use reading::{Feed, read};
 pub use trace::Trace;
 pub use version::Version;
 pub use writing::write;

@@ -19,9 +19,10 @@ fn is_in_range(version: Version, config: Config, event: Event) -> bool
             thread,
             request,
         } => {
-            let _depth = config.depth();
+            let depth = config.depth();
             replica < config.replicas()
                 && thread < config.threads()
+                && request.fits(depth)
                 && version.knows_query(request.query())
         }
         Event::Reply { answer, .. } => version.knows_answer(answer),

@@ -1,15 +1,17 @@
 //! Reading of traces.
 
-mod answer;
-mod codes;
 mod dumps;
 mod event;
+mod feed;
 mod fields;
 mod header;
 mod parts;
 mod places;
-mod request;
 mod whole;
 mod words;
 
+pub use feed::Feed;
 pub use whole::read;
+
+#[cfg(test)]
+mod tests;

@@ -1,7 +1,7 @@
 use super::*;
 use std::alloc::{AllocError, Global};
 use std::test::*;
-use vs_types::{Answer, Config, Depth, Memory, Op, Request, Rights, Size};
+use vs_types::{Access, Answer, Config, Depth, Memory, Mode, Op, Request, Rights, Size};
 use vs_walk::{Dump, Frames};
 
 /// A frame whose words are 0, but for one.
@@ -23,7 +23,7 @@ fn empty_bytes(alloc: Global) -> Result<Vec<u8>, AllocError> {
     Ok(bytes)
 }
 
-fn map_then_resolve_bytes(alloc: Global) -> Result<Vec<u8>, AllocError> {
+pub(crate) fn map_then_resolve_bytes(alloc: Global) -> Result<Vec<u8>, AllocError> {
     let mut bytes = vec![in alloc;
         0x4e, 0x52, 0x56, 0x54, 0, 1, 4, 1, 0, 1, 0, 4, 0, 0, 0, 1, 0, 0, 0, 4, 0, 0, 0, 0, 0, 0,
         0, 0, 0, 0, 7, 0, 0, 0, 0, 0, 0, 0x40, 0, 0, 0, 0, 0, 0, 0, 0, 0x10, 0, 1, 0, 0, 0, 0, 0,
@@ -44,11 +44,16 @@ fn one_frame(alloc: Global) -> Result<Dump, Memory> {
     Ok(dump)
 }
 
-/// The bytes with another one at an index.
-fn changed(alloc: Global, bytes: &[u8], at: usize, byte: u8) -> Result<Vec<u8>, AllocError> {
+/// The bytes with others at some indexes.
+fn changed(
+    alloc: Global,
+    bytes: &[u8],
+    changes: &[(usize, u8)],
+) -> Result<Vec<u8>, AllocError> {
     let mut changed = Vec::new(alloc);
     for (k, old) in bytes.iter().enumerate() {
-        changed.push(if k == at { byte } else { *old })?;
+        let other = changes.iter().find(|change| change.0 == k);
+        changed.push(other.map_or(*old, |change| change.1))?;
     }
     Ok(changed)
 }
@@ -146,27 +151,95 @@ fn malformed_bytes(rt: HostRuntime) -> Result<(), Fail> {
     assert_eq!(rt; fault_of(alloc, &longer), Some(Format::Trailing));
     assert_eq!(rt; fault_of(alloc, &[]), Some(Format::Truncated));
     assert_eq!(rt;
-        fault_of(alloc, &changed(alloc, &first, 31, 1)?),
+        fault_of(alloc, &changed(alloc, &first, &[(31, 1)])?),
         Some(Format::BadEvent(0))
     );
-    let many = changed(alloc, &changed(alloc, &empty, 13, 1)?, 15, 1)?;
+    let many = changed(alloc, &empty, &[(13, 1), (15, 1)])?;
     assert_eq!(rt; fault_of(alloc, &many), Some(Format::BadCount));
     assert_eq!(rt;
-        fault_of(alloc, &changed(alloc, &empty, 5, 0)?),
+        fault_of(alloc, &changed(alloc, &empty, &[(5, 0)])?),
         Some(Format::BadVersion)
     );
     assert_eq!(rt;
-        fault_of(alloc, &changed(alloc, &empty, 5, 3)?),
+        fault_of(alloc, &changed(alloc, &empty, &[(5, 3)])?),
         Some(Format::BadVersion)
     );
     assert_eq!(rt;
-        fault_of(alloc, &changed(alloc, &empty, 3, b'X')?),
+        fault_of(alloc, &changed(alloc, &empty, &[(3, b'X')])?),
         Some(Format::BadMagic)
     );
     assert_eq!(rt;
-        fault_of(alloc, &changed(alloc, &first, 4247, 1)?),
+        fault_of(alloc, &changed(alloc, &first, &[(4247, 1)])?),
         Some(Format::BadFrame(0, 1))
     );
+    Ok(())
+}
+
+// What makes of map-then-resolve one of version 2 whose second call is a user's write, which is allowed.
+const ACCESS: [(usize, u8); 6] = [(5, 2), (76, 4), (77, 1), (78, 1), (97, 8), (99, 0)];
+
+#[test]
+fn reads_that_ask_for_rights(rt: HostRuntime) -> Result<(), Fail> {
+    let alloc = rt.alloc();
+    let first = map_then_resolve_bytes(alloc)?;
+    let second = changed(alloc, &first, &[(5, 2)])?;
+    let trace = read(alloc, &second)?;
+    assert_eq!(rt; trace.version(), Version::V2);
+    assert!(rt; write(alloc, &trace)?.as_slice() == second.as_slice());
+    let bytes = changed(alloc, &first, &ACCESS)?;
+    let trace = read(alloc, &bytes)?;
+    let call = Event::Call {
+        replica: 0,
+        thread: 0,
+        request: Request::access(Depth::Four, 0x400123, Mode::User, Access::Write)?,
+    };
+    let reply = Event::Reply {
+        call: 2,
+        at: 1,
+        answer: Answer::Allowed(0x1123),
+    };
+    assert!(rt; trace.events()[2] == call && trace.events()[3] == reply);
+    assert!(rt; write(alloc, &trace)?.as_slice() == bytes.as_slice());
+    Ok(())
+}
+
+#[test]
+fn malformed_accesses(rt: HostRuntime) -> Result<(), Fail> {
+    let alloc = rt.alloc();
+    let first = map_then_resolve_bytes(alloc)?;
+    let access = changed(alloc, &first, &ACCESS)?;
+    for (at, byte) in [(5, 1), (76, 5), (77, 3), (78, 2), (79, 1), (94, 16)] {
+        let fault = fault_of(alloc, &changed(alloc, &access, &[(at, byte)])?);
+        assert_eq!(rt; fault, Some(Format::BadEvent(2)));
+    }
+    for (at, byte) in [(97, 10), (98, 1), (99, 1)] {
+        let fault = fault_of(alloc, &changed(alloc, &access, &[(at, byte)])?);
+        assert_eq!(rt; fault, Some(Format::BadEvent(3)));
+    }
+    for answer in [8, 9] {
+        let fault = fault_of(alloc, &changed(alloc, &first, &[(97, answer), (99, 0)])?);
+        assert_eq!(rt; fault, Some(Format::BadEvent(3)));
+    }
+    Ok(())
+}
+
+#[test]
+fn five_levels(rt: HostRuntime) -> Result<(), Fail> {
+    let alloc = rt.alloc();
+    let empty = empty_bytes(alloc)?;
+    let bytes = changed(alloc, &empty, &[(5, 2), (6, 5)])?;
+    let trace = read(alloc, &bytes)?;
+    let config = Config::new(Depth::Five, 1, 1, 1)?;
+    assert!(rt; trace.config() == config);
+    assert!(rt; write(alloc, &trace)?.as_slice() == bytes.as_slice());
+    for (version, levels) in [(1, 5), (1, 3), (2, 6), (2, 3)] {
+        let other = changed(alloc, &empty, &[(5, version), (6, levels)])?;
+        assert_eq!(rt; fault_of(alloc, &other), Some(Format::BadCount));
+    }
+    let none = Vec::new(alloc);
+    let dumps = vec![in alloc; one_frame(alloc)?]?;
+    let first = Trace::new(Version::V1, config, none, Vec::new(alloc), dumps);
+    assert_eq!(rt; first.err(), Some(Format::BadCount));
     Ok(())
 }
 

@@ -5,7 +5,7 @@ use crate::fault::Format;
 use crate::ranges::{all_have_frames, first_out_of_range};
 use crate::version::Version;
 use std::marker::Model;
-use vs_types::Config;
+use vs_types::{CALLS, Config, LOG_PLACES};
 use vs_walk::Dump;
 
 /// A recorded run, within the ranges of its version of the format: its layout, the call at each place of the log, the events in order,
@@ -64,10 +64,10 @@ impl Trace {
         if !version.knows_depth(config.depth()) {
             return Err(Format::BadCount);
         }
-        if log.len() > 65_536 {
+        if log.len() > LOG_PLACES as usize {
             return Err(Format::BadCount);
         }
-        if events.len() > 131_072 {
+        if events.len() > CALLS as usize {
             return Err(Format::BadCount);
         }
         if dumps.len() != config.replicas() as usize {
@@ -118,7 +118,7 @@ impl Trace {
         self.config
     }
 
-    /// The call at each place of the log: at most 65,536 of them.
+    /// The call at each place of the log: at most `LOG_PLACES` of them.
     pub fn log(&self) -> &[u32]
         ensures reads { result.now ≡ self.now.log }
         ensures in_range { IsRecording self.now }
@@ -126,7 +126,7 @@ impl Trace {
         &self.log
     }
 
-    /// What was recorded, in order: at most 131,072 events.
+    /// What was recorded, in order: at most `CALLS` events.
     pub fn events(&self) -> &[Event]
         ensures reads { result.now ≡ self.now.events }
         ensures in_range { IsRecording self.now }

@@ -30,21 +30,28 @@ impl Version {
         ensures { IsTrue result ↔ KnowsDepth self depth }
     {
         match (self, depth) {
-            (_, Depth::Four) => true,
+            (Version::V1, Depth::Five) => false,
+            _ => true,
         }
     }
 
     /// Whether a call in a trace of the version may have the request.
-    pub(crate) fn knows_query(self, _query: Query) -> bool
-        ensures { IsTrue result ↔ KnowsQuery self _query }
+    pub(crate) fn knows_query(self, query: Query) -> bool
+        ensures { IsTrue result ↔ KnowsQuery self query }
     {
-        true
+        match (self, query) {
+            (Version::V1, Query::Access(_, _, _)) => false,
+            _ => true,
+        }
     }
 
     /// Whether a reply in a trace of the version may have the answer.
-    pub(crate) fn knows_answer(self, _answer: Answer) -> bool
-        ensures { IsTrue result ↔ KnowsAnswer self _answer }
+    pub(crate) fn knows_answer(self, answer: Answer) -> bool
+        ensures { IsTrue result ↔ KnowsAnswer self answer }
     {
-        true
+        match (self, answer) {
+            (Version::V1, Answer::Allowed(_) | Answer::Fault(_)) => false,
+            _ => true,
+        }
     }
 }

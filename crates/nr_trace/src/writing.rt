@@ -1,9 +1,7 @@
 //! Writing of traces.
 
-mod codes;
 mod dumps;
 mod events;
-mod fields;
 mod header;
 mod lists;
 mod numbers;
@@ -13,6 +11,7 @@ mod tests;
 ghost use Rattle.std.specs.Prelude.{◌≡◌, IfOk};
 ghost use Rattle.nr_trace.specs.Spelling.{spelling, Spells};
 
+use crate::fields::Counts;
 use crate::trace::Trace;
 use crate::writing::dumps::put_dumps;
 use crate::writing::header::put_header;
@@ -28,13 +27,12 @@ pub fn write(alloc: Global, trace: &Trace) -> Result<Vec<u8>, Memory>
     let mut out = Vec::new(alloc);
     let log = trace.log();
     let events = trace.events();
-    put_header(
-        &mut out,
-        trace.version(),
-        trace.config(),
-        log.len() as u32,
-        events.len() as u32,
-    )?;
+    let counts = Counts {
+        layout: trace.config(),
+        places: log.len() as u32,
+        events: events.len() as u32,
+    };
+    put_header(&mut out, trace.version(), counts)?;
     put_log(&mut out, log)?;
     put_events(&mut out, events)?;
     put_dumps(&mut out, trace.dumps())?;

@@ -1,6 +1,6 @@
 -- The frames of an arena: what there is at an index, and how a change of marks and words changes them.
 use Rattle.std.proofs.Common.{◌≡◌, ℕ, zero, suc, ◌+◌, ◌<◌, ◌≤◌, ◌≢◌, Bool, true, false, cond, eqb, ltb, List, [], length, get_or, set, replicate, refl, sym, ap, subst, ◌^◌, ◌∙◌, inl, inr, lit<, arith, rules}
-use Rattle.std.specs.Prelude.{Option, Some, None, IsSome, All}
+use Rattle.std.specs.Prelude.{Option, Some, None, IsSome, IfSome, IfNone, All}
 use Rattle.std.specs.FinMap as finite
 use Rattle.std.specs.Ordering.{nat_cmp}
 use Rattle.std.specs.Cmp.{nat_cmp_total}
@@ -11,9 +11,8 @@ use Rattle.std.proofs.lemmas.Bool.{cases_eq, cases_lt, eqb-true, eqb-false, true
 use Rattle.std.proofs.lemmas.Bool.Decides.{nat_tests}
 use Rattle.vs_types.specs.Frame.{IsFrame}
 use Rattle.vs_arena.specs.Store.{Store, IsInUse, IsFree, words_of}
-use Rattle.vs_arena.specs.Arena.{with_frame, frames_below, marked, marked_frames}
+use Rattle.vs_arena.specs.inside.Arena.{with_frame, frames_below, marked, marked_frames, IsArena}
 use Rattle.vs_arena.specs.Store.{IsStore, zeros}
-use Rattle.vs_arena.specs.Arena.{IsArena}
 use Rattle.std.proofs.lemmas.Option.{cond_some}
 use Rattle.std.specs.FinMap.{nat_cmp-IsAntisymmetric}
 use Rattle.vs_arena.proofs.Stores.{get-insert, get-remove, len-insert_free, len-insert_used, len-remove_used, get_in_use}
@@ -252,3 +251,13 @@ IsInUse-from_mark marks words index is_marked =
 
 pub IsFree-from_mark : (marks : List Bool) (words : List (List ℕ)) (index : ℕ) → get_or marks index false ≡ false → IsFree (marked_frames marks words) index
 IsFree-from_mark marks words index unmarked = get-marked_frames marks words index ∙ ap (λ b. cond b (Some (get_or words index [])) None) unmarked
+
+-- what is found by its mark is in use, and what isn't is free
+pub used_if_marked : (marks : List Bool) (words : List (List ℕ)) (found : Option ℕ) → IfSome found (λ f. get_or marks f false ≡ true) → IfSome found (IsInUse (marked_frames marks words))
+used_if_marked marks words None marked = tt
+used_if_marked marks words (Some f) marked = IsInUse-from_mark marks words f marked
+
+pub free_if_unmarked : (marks : List Bool) (words : List (List ℕ)) (base number : ℕ) (found : Option ℕ) → IfNone found ((f : ℕ) → base + f ≡ number → get_or marks f false ≡ false)
+    → IfNone found ((f : ℕ) → base + f ≡ number → IsFree (marked_frames marks words) f)
+free_if_unmarked marks words base number None unmarked = λ f named. IsFree-from_mark marks words f (unmarked f named)
+free_if_unmarked marks words base number (Some f) unmarked = tt

@@ -5,7 +5,7 @@ use Rattle.std.proofs.lemmas.Grind.{get_or-set_at}
 use Rattle.std.proofs.lemmas.List.{get_or-set_same, get_or-set_other}
 use Rattle.std.proofs.lemmas.Bool.{cases_eq, true≢false}
 use Rattle.vs_types.specs.Frame.{IsFrame}
-use Rattle.vs_arena.specs.Arena.{marked_frames}
+use Rattle.vs_arena.specs.inside.Arena.{marked_frames}
 use Rattle.vs_arena.specs.inside.Region.{IsFilled}
 use Rattle.vs_arena.specs.inside.RawArena.{values, IsLinked, IsRawArena}
 use Rattle.vs_arena.proofs.MarkedFrames.{IsMarked, IsMarked-from_use, IsUnmarked, IsUnmarked-from_top, IsInUse-from_mark, IsArena-take, IsArena-give, IsArena-write, IsArena-new}

@@ -1,4 +1,5 @@
 -- Loop invariants and the insides of models: no public clause cites them.
+pub mod Arena
 pub mod RawArena
 pub mod Region
 pub mod RegionLends

@@ -1,4 +1,4 @@
-ghost use Rattle.std.specs.Prelude.{◌≡◌, ◌<◌, slice_set};
+ghost use Rattle.std.specs.Prelude.{◌≡◌, ℕ, ◌+◌, ◌<◌, ◌≤◌, true, false, IfSome, IfNone, length, slice_index_or, slice_set};
 ghost use Rattle.vs_arena.specs.Store.{zeros};
 
 use std::marker::Model;
@@ -36,6 +36,21 @@ impl Frame {
         ensures in_range { self < 4096 }
     {
         self.index
+    }
+}
+
+/// The frame of this number, where it is marked as in use. Frames lie in a row, the first of which has the number `base`.
+pub(crate) fn marked_at(base: u64, marks: &[bool], number: u64) -> Option<Frame>
+    requires { length marks.now ≤ 4096 }
+    ensures numbered { IfSome result (λ f. base + f ≡ number) }
+    ensures marked { IfSome result (λ f. slice_index_or marks.now f false ≡ true) }
+    ensures unmarked { IfNone result ((f : ℕ) → base + f ≡ number → slice_index_or marks.now f false ≡ false) }
+{
+    let index = number.checked_sub(base)? as usize;
+    if index < marks.len() && marks[index] {
+        Some(Frame::at_index(index as u16))
+    } else {
+        None
     }
 }
 

@@ -1,7 +1,7 @@
 ghost use Rattle.std.specs.Prelude.{◌≡◌, ◌+◌, ◌^◌, ◌≤◌, IfOk};
 ghost use Rattle.std.specs.FinMap as finite;
 
-use crate::frame::{Frame, cleared_words, linked_words};
+use crate::frame::{Frame, cleared_words, linked_words, marked_at};
 use crate::region::{Lease, Region, allocate, deallocate};
 use crate::store::FrameStore;
 use std::alloc::Global;
@@ -25,7 +25,8 @@ pub struct RawArena {
 
 impl Model for RawArena {
     ghost use Rattle.std.specs.Prelude.{◌≡◌, length};
-    ghost use Rattle.vs_arena.specs.Arena.{Arena, arena_code, marked_frames};
+    ghost use Rattle.vs_arena.specs.Arena.{Arena};
+    ghost use Rattle.vs_arena.specs.inside.Arena.{arena_code, marked_frames};
     ghost use Rattle.vs_arena.specs.inside.RawArena.{values, IsRawArena};
 
     ghost Value = { Arena };
@@ -133,12 +134,7 @@ impl FrameStore for RawArena {
     }
 
     fn at(&self, number: u64) -> Option<Frame> {
-        let index = number.checked_sub(self.base)? as usize;
-        if index < self.marks.len() && self.marks[index] {
-            Some(Frame::at_index(index as u16))
-        } else {
-            None
-        }
+        marked_at(self.base, &self.marks, number)
     }
 
     fn in_use(&self, number: u64) -> Frame {

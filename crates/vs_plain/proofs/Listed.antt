@@ -10,10 +10,10 @@ use Rattle.std.specs.BTreeMap.{is_at, get}
 use Rattle.std.specs.BTreeMap.Range.{IsRangeOf, IsEntryInRange, IsLeBy}
 use Rattle.std.proofs.lemmas.Bool.{cases_lt}
 use Rattle.std.specs.declared.ops.Bound.TheVariants.{Included, Unbounded}
-use Rattle.std.proofs.lemmas.Map.Keys.{le_from_not_gt, ge_from_not_lt}
+use Rattle.std.proofs.lemmas.Map.Keys.{le_from_not_gt, ge_from_not_lt, IsStrictlyIncreasing-from_sorted}
 use Rattle.std.proofs.lemmas.Bool.Decides.{nat_tests}
 use Rattle.std.specs.List.{AllByRecursion}
-use Rattle.std.specs.List.Sorted.{IsStrictlySortedBy}
+use Rattle.std.specs.List.Sorted.{IsStrictlySortedBy, IsStrictlyIncreasing}
 use Rattle.vs_types.specs.Space.{no_pages, pages, Holds}
 use Rattle.vs_types.specs.declared.page.Page.{Page}
 use Rattle.vs_plain.specs.inside.Listed.{listed_space, IsByBase}
@@ -44,6 +44,45 @@ get_listed es q h = finite.get-from_sorted nat_cmp es q (sorted_of es h) ∙ fin
 pub pages_listed : (es : List (ℕ × Page)) → IsStrictlySortedBy nat_cmp (keys_of es) → pages (listed_space es) ≡ values_of es
 pages_listed es h = ap (map (λ e. e.1)) (finite.entries-from_sorted nat_cmp es (sorted_of es h))
 
+-- ---- the pages rise by base
+
+same_number : (a b : ℕ) → is_eq (nat_cmp a b) ≡ true → a ≡ b
+same_number a b e = grind (arith, nat_tests)
+
+none_below : (q : ℕ) (es : List (ℕ × Page)) → AllByRecursion (λ y. nat_cmp q y ≡ Less) (keys_of es) → lookup (is_at (nat_cmp q)) es ≡ None
+none_below q [] h = refl
+none_below q (e ∷ es) h = rw h.0 (none_below q es h.1)
+
+-- what is listed behind an entry is not at its base
+behind : (e : ℕ × Page) (es : List (ℕ × Page)) → IsStrictlySortedBy nat_cmp (keys_of (e ∷ es)) → (q : ℕ) (p : Page)
+    → lookup (is_at (nat_cmp q)) es ≡ Some p → lookup (is_at (nat_cmp q)) (e ∷ es) ≡ Some p
+unfolding IsStrictlySortedBy
+behind e es s q p found =
+    elim (is_eq (nat_cmp q e.0)) as (λ b. is_eq (nat_cmp q e.0) ≡ b → cond b (Some e.1) (lookup (is_at (nat_cmp q)) es) ≡ Some p) [
+      | true ↦ λ same.
+          let at : q ≡ e.0 = same_number q e.0 same in
+          let none : lookup (is_at (nat_cmp q)) es ≡ None = subst (λ k. lookup (is_at (nat_cmp k)) es ≡ None) (sym at) (none_below e.0 es s.0) in
+          cc
+      | false ↦ λ other. found
+    ] refl
+
+at_its_key : (e : ℕ × Page) (es : List (ℕ × Page)) → lookup (is_at (nat_cmp e.0)) (e ∷ es) ≡ Some e.1
+at_its_key e es = let same : is_eq (nat_cmp e.0 e.0) ≡ true = grind (arith, nat_tests) in rw same refl
+
+bases_are_keys : (es : List (ℕ × Page)) → IsStrictlySortedBy nat_cmp (keys_of es) → ((q : ℕ) (p : Page) → lookup (is_at (nat_cmp q)) es ≡ Some p → p.base ≡ q)
+    → map (λ p. p.base) (values_of es) ≡ keys_of es
+unfolding IsStrictlySortedBy
+bases_are_keys [] s h = refl
+bases_are_keys (e ∷ es) s h =
+    let here : e.1.base ≡ e.0 = h e.0 e.1 (at_its_key e es) in
+    let rest : map (λ p. p.base) (values_of es) ≡ keys_of es = bases_are_keys es s.1 (λ q p found. h q p (behind e es s q p found)) in
+    ap (λ b. b ∷ map (λ p. p.base) (values_of es)) here ∙ ap (λ ks. e.0 ∷ ks) rest
+
+pub bases_rise : (es : List (ℕ × Page)) → IsByBase es → IsStrictlyIncreasing (map (λ p. p.base) (values_of es))
+bases_rise es h =
+    let keys : map (λ p. p.base) (values_of es) ≡ keys_of es = bases_are_keys es h.rising (λ q p found. h.under_base q p (get_listed es q h.rising ∙ found)) in
+    subst IsStrictlyIncreasing (sym keys) (IsStrictlyIncreasing-from_sorted (keys_of es) h.rising)
+
 none_listed : (es : List (ℕ × Page)) (q : ℕ) → es ≡ [] → IsStrictlySortedBy nat_cmp (keys_of es) → finite.get (listed_space es) q ≡ None
 none_listed es q e s = get_listed es q s ∙ ap (lookup (is_at (nat_cmp q))) e
 
@@ -70,9 +109,6 @@ cut_listed es fs base s t is =
     finite.same_map nat_cmp_total nat_cmp-IsAntisymmetric _ _ (λ q.
     get_listed fs q t ∙ is q ∙ ap (λ b. cond b None (lookup (is_at (nat_cmp q)) es)) ((eq_by_cmp_equiv nat_cmp_total).symm base q)
     ∙ ap (cond (eq_by_cmp nat_cmp q base) None) (sym (get_listed es q s)) ∙ sym (finite.get-remove nat_cmp_total (listed_space es) base q))
-
-same_number : (a b : ℕ) → is_eq (nat_cmp a b) ≡ true → a ≡ b
-same_number a b e = grind (arith, nat_tests)
 
 pub by_base_put : (es fs : List (ℕ × Page)) (page : Page) → IsByBase es → IsStrictlySortedBy nat_cmp (keys_of fs)
     → ((q : ℕ) → lookup (is_at (nat_cmp q)) fs ≡ cond (is_at (nat_cmp page.base) q) (Some page) (lookup (is_at (nat_cmp q)) es))

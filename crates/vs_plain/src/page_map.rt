@@ -1,5 +1,6 @@
-ghost use Rattle.std.specs.Prelude.{◌≡◌, ◌+◌, ◌<◌, ◌≤◌, ◌||◌, None, IfOk, IfSome, IfNone, OnOk, OnErr};
+ghost use Rattle.std.specs.Prelude.{◌≡◌, ◌+◌, ◌<◌, ◌≤◌, ◌||◌, map, None, IfOk, IfSome, IfNone, OnOk, OnErr};
 ghost use Rattle.std.specs.FinMap as finite;
+ghost use Rattle.std.specs.List.Sorted.{IsStrictlyIncreasing};
 ghost use Rattle.vs_types.specs.Space.{no_pages, pages, least_overlapped, table_count, IsSpace};
 ghost use Rattle.vs_types.specs.Depth.{levels};
 ghost use Rattle.vs_types.specs.Page.{IsPage};
@@ -136,7 +137,8 @@ impl PageMap {
 
     /// All pages, by rising base.
     pub(crate) fn list(&self) -> Result<Vec<Page>, Memory>
-        ensures { IfOk result (λ v. v.items ≡ pages self.now) }
+        ensures lists { IfOk result (λ v. v.items ≡ pages self.now) }
+        ensures rising { IfOk result (λ v. IsStrictlyIncreasing (map (λ page. page.base) v.items)) }
     {
         Ok(self.by_base.values().copied().collect(self.alloc)?)
     }

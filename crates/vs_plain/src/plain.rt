@@ -1,8 +1,10 @@
-ghost use Rattle.std.specs.Prelude.{◌≡◌, None, IfOk, OnErr};
+ghost use Rattle.std.specs.Prelude.{◌≡◌, map, None, IfOk, OnErr};
 ghost use Rattle.std.specs.FinMap as finite;
+ghost use Rattle.std.specs.List.Sorted.{IsStrictlyIncreasing};
 ghost use Rattle.vs_types.specs.Page.{IsPage};
 ghost use Rattle.vs_types.specs.Space.{no_pages, pages, page_at, least_overlapped, IsSpace, table_count};
-ghost use Rattle.vs_types.specs.Step.{step, look};
+ghost use Rattle.vs_types.specs.Operation.{IsAction};
+ghost use Rattle.vs_types.specs.Step.{step, look, allow};
 ghost use Rattle.vs_plain.specs.Plain.{BoundedSpace, IsPlainStep};
 ghost use Rattle.vs_plain.specs.inside.Place.{IsPlaceOf, no_page};
 
@@ -10,7 +12,7 @@ use crate::page_map::PageMap;
 use crate::place::{Place, reaches};
 use std::alloc::Global;
 use std::marker::Model;
-use vs_types::{Action, Answer, Depth, Memory, Op, Page, Rights, Size};
+use vs_types::{Access, Action, Answer, Depth, Memory, Mode, Op, Page, Rights, Size};
 
 /// An address space as its pages in an ordered map. Each call takes time logarithmic in their number, `pages` linear.
 ///
@@ -70,6 +72,7 @@ impl PlainSpace {
     /// The pages, by rising base. Takes memory.
     pub fn pages(&self) -> Result<Vec<Page>, Memory>
         ensures lists { IfOk result (λ v. v.items ≡ pages self.now.space) }
+        ensures rising { IfOk result (λ v. IsStrictlyIncreasing (map (λ page. page.base) v.items)) }
         ensures apart { IsSpace self.now.depth self.now.space }
     {
         self.page_map.list()
@@ -99,6 +102,13 @@ impl PlainSpace {
                 Answer::Mapped(page.phys + (address - page.base), page.size, page.rights)
             }
         }
+    }
+
+    /// What an access of an address is answered: `Allowed` or `Fault`. Takes no memory.
+    pub fn access(&self, address: u64, mode: Mode, access: Access) -> Answer
+        ensures { result ≡ allow self.now.space address mode access }
+    {
+        self.resolve(address).accessed(mode, access)
     }
 
     /// The least base of a page that overlaps this one, whose base none covers.
@@ -172,12 +182,13 @@ impl PlainSpace {
         }
     }
 
-    /// Does an operation. Takes memory where it maps a page.
+    /// Does an operation that is well formed at the space's depth. Takes memory where it maps a page.
     ///
     /// # Errors
     ///
     /// `Memory` where a growth was refused, which only a page that is added needs; the space is then unchanged.
     pub fn apply(&mut self, op: Op) -> Result<Answer, Memory>
+        requires { IsAction self.old.depth op }
         ensures ok { IfOk result (λ answer. IsPlainStep self.old op answer self.new) }
         ensures err { OnErr result (self.new ≡ self.old) }
         ensures for_a_page { OnErr result ((step self.old.depth self.old.limit self.old.space op).answer ≡ Answer.Done) }

@@ -23,7 +23,8 @@ same_by_look p q p_aligned q_aligned covered look =
     same_page q p base size (omega arith) (cc)
 
 -- a page of one space is in the other
-held_too : {depth : Depth} {s t : Space} → IsSpace depth s → IsSpace depth t → ((a : ℕ) → IsCanonical depth a → look s a ≡ look t a) → (p : Page) → Holds s p → Holds t p
+held_too : {depth : Depth} {s t : Space} → IsSpace depth s → IsSpace depth t → ((a : ℕ) → IsCanonical depth a → look s a ≡ look t a) → (p : Page)
+    → Holds s p → Holds t p
 held_too {depth} {s} {t} si ti alike p holds =
     let good = si.well_formed p holds in
     let here = look_of_page si p.base p holds (covers_base p) in
@@ -41,10 +42,14 @@ pub alike_equal : {depth : Depth} {s t : Space} → IsSpace depth s → IsSpace 
 alike_equal {depth} {s} {t} si ti alike = finite.same_map nat_cmp_total finite.nat_cmp-IsAntisymmetric s t each
   where
     forth : (k : ℕ) (p : Page) → finite.get s k ≡ Some p → finite.get t k ≡ Some p
-    forth k p e = let base = si.under_base k p e in subst (λ z. finite.get t z ≡ Some p) base (held_too si ti alike p (subst (λ z. finite.get s z ≡ Some p) (sym base) e))
+    forth k p e =
+        let base = si.under_base k p e in
+        subst (λ z. finite.get t z ≡ Some p) base (held_too si ti alike p (subst (λ z. finite.get s z ≡ Some p) (sym base) e))
 
     back : (k : ℕ) (p : Page) → finite.get t k ≡ Some p → finite.get s k ≡ Some p
-    back k p e = let base = ti.under_base k p e in subst (λ z. finite.get s z ≡ Some p) base (held_too ti si (λ a c. sym (alike a c)) p (subst (λ z. finite.get t z ≡ Some p) (sym base) e))
+    back k p e =
+        let base = ti.under_base k p e in
+        subst (λ z. finite.get s z ≡ Some p) base (held_too ti si (λ a c. sym (alike a c)) p (subst (λ z. finite.get t z ≡ Some p) (sym base) e))
 
     each : (k : ℕ) → finite.get s k ≡ finite.get t k
     each k =

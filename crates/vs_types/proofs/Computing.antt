@@ -19,7 +19,7 @@ use Rattle.vs_types.specs.declared.page.Rights.{Rights}
 use Rattle.vs_types.specs.declared.op.Action.{Action}
 use Rattle.vs_types.specs.declared.op.Action.TheVariants.{Map, Unmap, Protect}
 use Rattle.vs_types.specs.declared.answer.Answer.{Answer}
-use Rattle.vs_types.specs.declared.answer.Answer.TheVariants.{Done, Overlap, Full, Removed, NotMapped, Inside, Changed, Mapped}
+use Rattle.vs_types.specs.declared.answer.Answer.TheVariants.{Done, Overlap, Full, Removed, NotMapped, Inside, Changed}
 
 -- what holds at each depth holds at any
 pub at_both : (P : Depth → Type 0) → P Four → P Five → (depth : Depth) → P depth
@@ -99,7 +99,9 @@ record Agrees (stepped : Stepped) (ran : Ran) : Type 0 where
   entries : finite.entries stepped.space ≡ ran.entries
   answer : stepped.answer ≡ ran.answer
 
-map_agrees : (depth : Depth) (limit : ℕ) (space : Space) (page : Page) (o : Option ℕ) (b : Bool) → least_overlapped space page ≡ o → nat_le (table_count depth (finite.insert space page.base page)) limit ≡ b → Agrees (step depth limit space (Map page)) (run_one depth limit (finite.entries space) (Map page))
+map_agrees : (depth : Depth) (limit : ℕ) (space : Space) (page : Page) (o : Option ℕ) (b : Bool) → least_overlapped space page ≡ o
+    → nat_le (table_count depth (finite.insert space page.base page)) limit ≡ b
+    → Agrees (step depth limit space (Map page)) (run_one depth limit (finite.entries space) (Map page))
 map_agrees depth limit space page (Some base) b e f = rw e (record { entries = refl; answer = refl })
 map_agrees depth limit space page None true e f =
     let g = rw entries_insert at f in
@@ -108,21 +110,32 @@ map_agrees depth limit space page None false e f =
     let g = rw entries_insert at f in
     rw (e, f, g) (record { entries = refl; answer = ap (λ es. Full (count depth es)) (entries_insert space page.base page) })
 
-unmap_agrees : (depth : Depth) (limit : ℕ) (space : Space) (base : ℕ) (o : Option Page) → page_at space base ≡ o → Agrees (step depth limit space (Unmap base)) (run_one depth limit (finite.entries space) (Unmap base))
+unmap_agrees : (depth : Depth) (limit : ℕ) (space : Space) (base : ℕ) (o : Option Page) → page_at space base ≡ o
+    → Agrees (step depth limit space (Unmap base)) (run_one depth limit (finite.entries space) (Unmap base))
 unmap_agrees depth limit space base None e = rw e (record { entries = refl; answer = refl })
 unmap_agrees depth limit space base (Some page) e = rw e (removed (eqb page.base base)) where
-  removed : (b : Bool) → Agrees (if b then record { space = finite.remove space base; answer = Removed page.phys page.size page.rights } else record { space = space; answer = Inside page.base }) (if b then record { entries = without base (finite.entries space); answer = Removed page.phys page.size page.rights } else record { entries = finite.entries space; answer = Inside page.base })
+  removed : (b : Bool) → Agrees
+      (if b then record { space = finite.remove space base; answer = Removed page.phys page.size page.rights }
+        else record { space = space; answer = Inside page.base })
+      (if b then record { entries = without base (finite.entries space); answer = Removed page.phys page.size page.rights }
+        else record { entries = finite.entries space; answer = Inside page.base })
   removed true = record { entries = entries_remove space base; answer = refl }
   removed false = record { entries = refl; answer = refl }
 
-protect_agrees : (depth : Depth) (limit : ℕ) (space : Space) (base : ℕ) (rights : Rights) (o : Option Page) → page_at space base ≡ o → Agrees (step depth limit space (Protect base rights)) (run_one depth limit (finite.entries space) (Protect base rights))
+protect_agrees : (depth : Depth) (limit : ℕ) (space : Space) (base : ℕ) (rights : Rights) (o : Option Page) → page_at space base ≡ o
+    → Agrees (step depth limit space (Protect base rights)) (run_one depth limit (finite.entries space) (Protect base rights))
 protect_agrees depth limit space base rights None e = rw e (record { entries = refl; answer = refl })
 protect_agrees depth limit space base rights (Some page) e = rw e (changed (eqb page.base base)) where
-  changed : (b : Bool) → Agrees (if b then record { space = finite.insert space page.base (record page { rights = rights }); answer = Changed page.rights } else record { space = space; answer = Inside page.base }) (if b then record { entries = kept.put nat_cmp page.base (record page { rights = rights }) (finite.entries space); answer = Changed page.rights } else record { entries = finite.entries space; answer = Inside page.base })
+  changed : (b : Bool) → Agrees
+      (if b then record { space = finite.insert space page.base (record page { rights = rights }); answer = Changed page.rights }
+        else record { space = space; answer = Inside page.base })
+      (if b then record { entries = kept.put nat_cmp page.base (record page { rights = rights }) (finite.entries space); answer = Changed page.rights }
+        else record { entries = finite.entries space; answer = Inside page.base })
   changed true = record { entries = entries_insert space page.base (record page { rights = rights }); answer = refl }
   changed false = record { entries = refl; answer = refl }
 
-agrees : (depth : Depth) (limit : ℕ) (space : Space) (action : Action) → Agrees (step depth limit space action) (run_one depth limit (finite.entries space) action)
+agrees : (depth : Depth) (limit : ℕ) (space : Space) (action : Action)
+    → Agrees (step depth limit space action) (run_one depth limit (finite.entries space) action)
 agrees depth limit space (Map page) = map_agrees depth limit space page _ _ refl refl
 agrees depth limit space (Unmap base) = unmap_agrees depth limit space base _ refl
 agrees depth limit space (Protect base rights) = protect_agrees depth limit space base rights _ refl
@@ -137,13 +150,15 @@ abbrev pub run_entries : Depth → ℕ → Entries → List Action → Entries
 run_entries depth limit es [] = es
 run_entries depth limit es (action ∷ actions) = run_entries depth limit (run_one depth limit es action).entries actions
 
-answers_run : (depth : Depth) (limit : ℕ) (space : Space) (es : Entries) (actions : List Action) → finite.entries space ≡ es → answers_from depth limit space actions ≡ run_answers depth limit es actions
+answers_run : (depth : Depth) (limit : ℕ) (space : Space) (es : Entries) (actions : List Action) → finite.entries space ≡ es
+    → answers_from depth limit space actions ≡ run_answers depth limit es actions
 answers_run depth limit space es [] e = refl
 answers_run depth limit space es (action ∷ actions) e =
     let h = rw e at (agrees depth limit space action) in
     λ i. h.answer i ∷ answers_run depth limit (step depth limit space action).space _ actions h.entries i
 
-entries_run : (depth : Depth) (limit : ℕ) (space : Space) (es : Entries) (actions : List Action) → finite.entries space ≡ es → finite.entries (after_all depth limit space actions) ≡ run_entries depth limit es actions
+entries_run : (depth : Depth) (limit : ℕ) (space : Space) (es : Entries) (actions : List Action) → finite.entries space ≡ es
+    → finite.entries (after_all depth limit space actions) ≡ run_entries depth limit es actions
 entries_run depth limit space es [] e = e
 entries_run depth limit space es (action ∷ actions) e =
     let h = rw e at (agrees depth limit space action) in

@@ -5,6 +5,7 @@ pub mod LogWords
 pub mod OneEntry
 pub mod Lists
 pub mod Counts
+pub mod Accesses
 pub mod Depths
 pub mod Pages
 pub mod Spaces

@@ -1,7 +1,7 @@
 -- The fields of an operation are found again in the words of its entry.
 use Rattle.std.proofs.Common.{◌≡◌, ℕ, ◌+◌, ◌-◌, ◌*◌, ◌/◌, ◌%◌, ◌^◌, ◌<◌, ◌≤◌, Bool, true, false, List, get_or, refl, ap, sym, ◌∙◌, arith}
 use Rattle.vs_types.specs.Codes.{size_code, rights_code}
-use Rattle.vs_types.specs.Operation.{IsAction, IsSomeAction}
+use Rattle.vs_types.specs.Operation.{IsAction, IsBase, IsSomeAction}
 use Rattle.vs_types.specs.Fields.{request_fields, HasFields}
 use Rattle.vs_types.specs.LogEntry.{SpellsEntry}
 use Rattle.vs_types.specs.declared.fields.RequestFields.{RequestFields}
@@ -55,6 +55,19 @@ page_below K4 n e = omega arith
 page_below M2 n e = omega arith
 page_below G1 n e = omega arith
 
+-- the fields of an operation at the base of a page that is there
+aligned_base : {depth : Depth} {kind size rights base : ℕ} → kind < 3 → size < 3 → rights < 8 → IsBase depth base
+    → InRange (record { kind = kind; size = size; rights = rights; address = base; physical = 0 })
+aligned_base {depth} {kind} {size} {rights} {base} few_kinds few_sizes few_rights is = record {
+  kind = few_kinds;
+  size = few_sizes;
+  rights = few_rights;
+  address = is.aligned;
+  address_range = canonical_fits depth base is.canonical;
+  physical = refl;
+  physical_range = omega arith;
+}
+
 in_range : (depth : Depth) (action : Action) → IsAction depth action → InRange (request_fields (Update action))
 in_range depth (Map page) is = record {
   kind = omega arith;
@@ -65,19 +78,22 @@ in_range depth (Map page) is = record {
   physical = page_part page.size page.phys is.phys_aligned;
   physical_range = page_below page.size page.phys is.phys_range;
 }
-in_range depth (Unmap base) is = record { kind = omega arith; size = omega arith; rights = omega arith; address = is.aligned; address_range = canonical_fits depth base is.canonical; physical = refl; physical_range = omega arith }
+in_range depth (Unmap base) is =
+    aligned_base (omega arith) (omega arith) (omega arith) is
 in_range depth (Protect base rights) is =
-    record { kind = omega arith; size = omega arith; rights = rights_code_low rights; address = is.aligned; address_range = canonical_fits depth base is.canonical; physical = refl; physical_range = omega arith }
+    aligned_base (omega arith) (omega arith) (rights_code_low rights) is
 
 -- what two words have at the places of the fields
 abbrev pub fields_at : ℕ → ℕ → RequestFields
 fields_at operation rest =
-    record { kind = operation % 4096 % 4; size = operation % 4096 / 4 % 4; rights = operation % 4096 / 16; address = operation - operation % 4096; physical = rest % 2 ^ 39 * 4096 }
+    record { kind = operation % 4096 % 4; size = operation % 4096 / 4 % 4; rights = operation % 4096 / 16; address = operation - operation % 4096;
+        physical = rest % 2 ^ 39 * 4096 }
 
 same_fields : (f g : RequestFields) → f.kind ≡ g.kind → f.size ≡ g.size → f.rights ≡ g.rights → f.address ≡ g.address → f.physical ≡ g.physical → f ≡ g
 same_fields f g k s r a p = λ i. record { kind = k i; size = s i; rights = r i; address = a i; physical = p i }
 
-codes_are : (fields : RequestFields) → InRange fields → (fields.address + fields.kind + 4 * fields.size + 16 * fields.rights) % 4096 ≡ fields.kind + 4 * fields.size + 16 * fields.rights
+codes_are : (fields : RequestFields) → InRange fields
+    → (fields.address + fields.kind + 4 * fields.size + 16 * fields.rights) % 4096 ≡ fields.kind + 4 * fields.size + 16 * fields.rights
 codes_are fields is = omega arith
 
 found : (fields : RequestFields) (call operation rest : ℕ) → InRange fields
@@ -123,8 +139,10 @@ spells_update {fields} query action first second = by_kind query (ap (λ (f : Re
   in_kind (Map page) = omega arith
   in_kind (Unmap base) = omega arith
   in_kind (Protect base rights) = omega arith
+
   apart : (n k : ℕ) → 3 ≤ n → k < 3 → n ≡ k → ⊥
   apart n k low high e = omega arith
+
   by_kind : (q : Query) → (request_fields q).kind ≡ (request_fields (Update action)).kind → (a : Action) × (q ≡ Update a)
   by_kind (Update a) e = (a, refl)
   by_kind (Resolve address) e = elim (apart _ _ (omega arith) (in_kind action) e) [ ]

@@ -17,7 +17,9 @@ use Rattle.vs_types.proofs.Spaces.{page_at_means, page_at_after_insert, page_at_
 use Rattle.vs_types.proofs.Steps.{map_cases, unmap_cases, protect_cases, alone, protect_space, step_space}
 
 -- what the new space has at an address tells how it looks
-looks_changed : (page : Page) (inside : ℕ → Answer) (there : Option Page) (before after : Space) → ((address : ℕ) → page_at after address ≡ cond (covers page address) there (page_at before address)) → ((address : ℕ) → page_at after address ≡ there → look after address ≡ inside address) → LooksChanged page inside before after
+looks_changed : (page : Page) (inside : ℕ → Answer) (there : Option Page) (before after : Space)
+    → ((address : ℕ) → page_at after address ≡ cond (covers page address) there (page_at before address))
+    → ((address : ℕ) → page_at after address ≡ there → look after address ≡ inside address) → LooksChanged page inside before after
 looks_changed page inside there before after at says = record {
   there = λ address covered. says address (at address ∙ ap (λ b. cond b there (page_at before address)) covered);
   elsewhere = λ address uncovered. same_look after before address (at address ∙ ap (λ b. cond b there (page_at before address)) uncovered);
@@ -28,7 +30,8 @@ looks_changed page inside there before after at says = record {
 as_found : (space : Space) (page : Page) (address : ℕ) → page_at space address ≡ Some page → look space address ≡ as_in page address
 as_found space page address e = rw e
 
-pub done_fresh : {depth : Depth} (limit : ℕ) {space : Space} → IsSpace depth space → (page : Page) (address : ℕ) → (step depth limit space (Map page)).answer ≡ Done → IsTrue (covers page address) → look space address ≡ NotMapped
+pub done_fresh : {depth : Depth} (limit : ℕ) {space : Space} → IsSpace depth space → (page : Page) (address : ℕ)
+    → (step depth limit space (Map page)).answer ≡ Done → IsTrue (covers page address) → look space address ≡ NotMapped
 done_fresh {depth} limit {space} is page address =
     map_cases (λ s. s.answer ≡ Done → IsTrue (covers page address) → look space address ≡ NotMapped) depth limit space page
     (λ e t done covered. look_of_none space address (nothing e covered))
@@ -41,7 +44,8 @@ done_fresh {depth} limit {space} is page address =
       | Some q ↦ λ at. let found = (page_at_means is address q).0 at in absurd (alone is page e q address found.0 found.1 covered)
     ] refl
 
-pub done_looks : {depth : Depth} (limit : ℕ) {space : Space} → IsSpace depth space → (page : Page) → IsPage depth page → (step depth limit space (Map page)).answer ≡ Done → LooksChanged page (as_in page) space (step depth limit space (Map page)).space
+pub done_looks : {depth : Depth} (limit : ℕ) {space : Space} → IsSpace depth space → (page : Page) → IsPage depth page
+    → (step depth limit space (Map page)).answer ≡ Done → LooksChanged page (as_in page) space (step depth limit space (Map page)).space
 done_looks {depth} limit {space} is page good =
     map_cases (λ s. IsSpace depth s.space → s.answer ≡ Done → LooksChanged page (as_in page) space s.space) depth limit space page
     (λ e t new done. looks_changed page (as_in page) (Some page) space (finite.insert space page.base page)
@@ -54,22 +58,28 @@ done_looks {depth} limit {space} is page good =
     meets : least_overlapped space page ≡ None → (q : Page) → Holds space q → q.base ≡ page.base → ⊥
     meets e q holds same = alone is page e q page.base holds (subst (λ z. IsTrue (covers q z)) same (covers_base q)) (covers_base page)
 
-pub removed_held : {depth : Depth} (limit : ℕ) {space : Space} → IsSpace depth space → (page : Page) → (step depth limit space (Unmap page.base)).answer ≡ Removed page.phys page.size page.rights → Holds space page
+pub removed_held : {depth : Depth} (limit : ℕ) {space : Space} → IsSpace depth space → (page : Page)
+    → (step depth limit space (Unmap page.base)).answer ≡ Removed page.phys page.size page.rights → Holds space page
 removed_held {depth} limit {space} is page =
     unmap_cases (λ s. s.answer ≡ Removed page.phys page.size page.rights → Holds space page) depth limit space page.base
     (λ e answer. cc)
     (λ p e same answer. subst (Holds space) (same_page p page same (cc) (cc) (cc)) ((page_at_means is page.base p).0 e).0)
     (λ p e differs answer. cc)
 
-pub removed_looks : {depth : Depth} (limit : ℕ) {space : Space} → IsSpace depth space → (page : Page) → (step depth limit space (Unmap page.base)).answer ≡ Removed page.phys page.size page.rights → LooksChanged page (λ address. NotMapped) space (step depth limit space (Unmap page.base)).space
+pub removed_looks : {depth : Depth} (limit : ℕ) {space : Space} → IsSpace depth space → (page : Page)
+    → (step depth limit space (Unmap page.base)).answer ≡ Removed page.phys page.size page.rights
+    → LooksChanged page (λ address. NotMapped) space (step depth limit space (Unmap page.base)).space
 removed_looks {depth} limit {space} is page answer =
     unmap_cases (λ s. s.answer ≡ Removed page.phys page.size page.rights → LooksChanged page (λ address. NotMapped) space s.space) depth limit space page.base
     (λ e is_removed. cc)
-    (λ p e same is_removed. looks_changed page (λ address. NotMapped) None space (finite.remove space page.base) (λ a. page_at_after_remove is page (removed_held limit is page answer) a) (λ a at. look_of_none (finite.remove space page.base) a at))
+    (λ p e same is_removed. looks_changed page (λ address. NotMapped) None space (finite.remove space page.base)
+        (λ a. page_at_after_remove is page (removed_held limit is page answer) a) (λ a at. look_of_none (finite.remove space page.base) a at))
     (λ p e differs is_removed. cc)
     answer
 
-pub changed_held : {depth : Depth} (limit : ℕ) {space : Space} → IsSpace depth space → (base : ℕ) (rights old : Rights) → (step depth limit space (Protect base rights)).answer ≡ Changed old → (page : Page) × Holds space page × (page.base ≡ base) × (page.rights ≡ old)
+pub changed_held : {depth : Depth} (limit : ℕ) {space : Space} → IsSpace depth space → (base : ℕ) (rights old : Rights)
+    → (step depth limit space (Protect base rights)).answer ≡ Changed old
+    → (page : Page) × Holds space page × (page.base ≡ base) × (page.rights ≡ old)
 changed_held {depth} limit {space} is base rights old =
     protect_cases (λ s. s.answer ≡ Changed old → (page : Page) × Holds space page × (page.base ≡ base) × (page.rights ≡ old)) depth limit space base rights
     (λ e answer. cc)
@@ -77,7 +87,8 @@ changed_held {depth} limit {space} is base rights old =
     (λ p e differs answer. cc)
 
 -- the space in which a page that is there has other rights
-pub new_rights : {depth : Depth} {space : Space} → IsSpace depth space → (page : Page) → Holds space page → (rights : Rights) → HasNewRights page rights space (finite.insert space page.base (record page { rights = rights }))
+pub new_rights : {depth : Depth} {space : Space} → IsSpace depth space → (page : Page) → Holds space page → (rights : Rights)
+    → HasNewRights page rights space (finite.insert space page.base (record page { rights = rights }))
 new_rights {space = space} is page holds rights = record {
   held = holds;
   changed = get_inserted space page.base (record page { rights = rights });
@@ -90,18 +101,25 @@ new_rights {space = space} is page holds rights = record {
 found : {depth : Depth} {space : Space} → IsSpace depth space → (page : Page) → Holds space page → (p : Page) → page_at space page.base ≡ Some p → page ≡ p
 found is page holds p e = let at = (page_at_means is page.base page).1 (holds, covers_base page) in cc
 
-pub changed_pages : {depth : Depth} (limit : ℕ) {space : Space} → IsSpace depth space → (page : Page) (rights old : Rights) → Holds space page → (step depth limit space (Protect page.base rights)).answer ≡ Changed old → HasNewRights page rights space (step depth limit space (Protect page.base rights)).space
+pub changed_pages : {depth : Depth} (limit : ℕ) {space : Space} → IsSpace depth space → (page : Page) (rights old : Rights) → Holds space page
+    → (step depth limit space (Protect page.base rights)).answer ≡ Changed old
+    → HasNewRights page rights space (step depth limit space (Protect page.base rights)).space
 changed_pages {depth} limit {space} is page rights old holds =
     protect_cases (λ s. s.answer ≡ Changed old → HasNewRights page rights space s.space) depth limit space page.base rights
     (λ e answer. cc)
-    (λ p e same answer. subst (λ (z : Page). HasNewRights page rights space (finite.insert space z.base (record z { rights = rights }))) (found is page holds p e) (new_rights is page holds rights))
+    (λ p e same answer. subst (λ (z : Page). HasNewRights page rights space (finite.insert space z.base (record z { rights = rights })))
+        (found is page holds p e) (new_rights is page holds rights))
     (λ p e differs answer. cc)
 
-pub changed_looks : {depth : Depth} (limit : ℕ) {space : Space} → IsSpace depth space → (page : Page) (rights old : Rights) → Holds space page → (step depth limit space (Protect page.base rights)).answer ≡ Changed old → LooksChanged page (as_in (record page { rights = rights })) space (step depth limit space (Protect page.base rights)).space
+pub changed_looks : {depth : Depth} (limit : ℕ) {space : Space} → IsSpace depth space → (page : Page) (rights old : Rights) → Holds space page
+    → (step depth limit space (Protect page.base rights)).answer ≡ Changed old
+    → LooksChanged page (as_in (record page { rights = rights })) space (step depth limit space (Protect page.base rights)).space
 changed_looks {depth} limit {space} is page rights old holds =
     protect_cases (λ s. s.answer ≡ Changed old → LooksChanged page (as_in (record page { rights = rights })) space s.space) depth limit space page.base rights
     (λ e answer. cc)
-    (λ p e same answer. subst (λ (z : Page). LooksChanged page (as_in (record page { rights = rights })) space (finite.insert space z.base (record z { rights = rights }))) (found is page holds p e) changed)
+    (λ p e same answer. subst
+        (λ (z : Page). LooksChanged page (as_in (record page { rights = rights })) space (finite.insert space z.base (record z { rights = rights })))
+        (found is page holds p e) changed)
     (λ p e differs answer. cc)
   where
     one : (q : Page) → Holds space q → q.base ≡ page.base → q ≡ page
@@ -115,7 +133,11 @@ changed_looks {depth} limit {space} is page rights old holds =
         (λ a. page_at_after_insert is new (protect_space is page rights holds) (λ q h same. ap (λ (z : Page). z.size) (one q h same)) a)
         (λ a at. as_found (finite.insert space page.base new) new a at)
 
-pub others_leave : (depth : Depth) (limit : ℕ) (space : Space) (action : Action) → IsFalse (changes (step depth limit space action).answer) → (step depth limit space action).space ≡ space
-others_leave depth limit space (Map page) = map_cases (λ s. IsFalse (changes s.answer) → s.space ≡ space) depth limit space page (λ e t h. cc) (λ base e h. refl) (λ e t h. refl)
-others_leave depth limit space (Unmap base) = unmap_cases (λ s. IsFalse (changes s.answer) → s.space ≡ space) depth limit space base (λ e h. refl) (λ page e t h. cc) (λ page e t h. refl)
-others_leave depth limit space (Protect base rights) = protect_cases (λ s. IsFalse (changes s.answer) → s.space ≡ space) depth limit space base rights (λ e h. refl) (λ page e t h. cc) (λ page e t h. refl)
+pub others_leave : (depth : Depth) (limit : ℕ) (space : Space) (action : Action) → IsFalse (changes (step depth limit space action).answer)
+    → (step depth limit space action).space ≡ space
+others_leave depth limit space (Map page) =
+    map_cases (λ s. IsFalse (changes s.answer) → s.space ≡ space) depth limit space page (λ e t h. cc) (λ base e h. refl) (λ e t h. refl)
+others_leave depth limit space (Unmap base) =
+    unmap_cases (λ s. IsFalse (changes s.answer) → s.space ≡ space) depth limit space base (λ e h. refl) (λ page e t h. cc) (λ page e t h. refl)
+others_leave depth limit space (Protect base rights) =
+    protect_cases (λ s. IsFalse (changes s.answer) → s.space ≡ space) depth limit space base rights (λ e h. refl) (λ page e t h. cc) (λ page e t h. refl)

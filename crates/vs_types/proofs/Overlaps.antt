@@ -10,7 +10,8 @@ use Rattle.vs_types.proofs.Pages.{bytes_positive, covers_means, overlaps_means}
 use Rattle.vs_types.proofs.Spaces.{holds_listed, page_at_means}
 use Rattle.vs_types.proofs.Counts.{member_here, member_later, member_cases, member_comes, member_goes}
 
-least_means : (n : ℕ) (ns : List ℕ) → (m : ℕ) × (least (n ∷ ns) ≡ Some m) × (is_member nat_eq (n ∷ ns) m ≡ true) × ((k : ℕ) → is_member nat_eq (n ∷ ns) k ≡ true → m ≤ k)
+least_means : (n : ℕ) (ns : List ℕ)
+    → (m : ℕ) × (least (n ∷ ns) ≡ Some m) × (is_member nat_eq (n ∷ ns) m ≡ true) × ((k : ℕ) → is_member nat_eq (n ∷ ns) k ≡ true → m ≤ k)
 least_means n [] = (n, refl, member_here n [], λ k m. ⊎_elim (λ e. omega arith) (λ h. cc) (member_cases n [] k m))
 least_means n (k ∷ ks) =
     let r = least_means k ks in (
@@ -36,7 +37,8 @@ least_none (n ∷ ns) none = absurd (none n (member_here n ns))
 
 module _ {depth : Depth} {space : Space} (is : IsSpace depth space) (page : Page) where
   -- a page that is overlapped, with no such page before it
-  pub overlapped_first : (q : Page) → Holds space q → overlaps page q ≡ true → ((r : Page) → Holds space r → overlaps page r ≡ true → q.base ≤ r.base) → least_overlapped space page ≡ Some q.base
+  pub overlapped_first : (q : Page) → Holds space q → overlaps page q ≡ true → ((r : Page) → Holds space r → overlaps page r ≡ true → q.base ≤ r.base)
+      → least_overlapped space page ≡ Some q.base
   overlapped_first q h o first =
       sym (least_is _ q.base (member_goes (λ (p : Page). p.base) (overlaps page) (pages space) q ((holds_listed is q).1 h) o)
       (λ k m. let found = member_comes (λ (p : Page). p.base) (overlaps page) (pages space) k m in
@@ -45,7 +47,9 @@ module _ {depth : Depth} {space : Space} (is : IsSpace depth space) (page : Page
 
   -- where no page of the space is overlapped
   pub none_overlapped : ((r : Page) → Holds space r → overlaps page r ≡ true → ⊥) → least_overlapped space page ≡ None
-  none_overlapped none = sym (least_none _ (λ k m. let found = member_comes (λ (p : Page). p.base) (overlaps page) (pages space) k m in none found.0 ((holds_listed is found.0).0 found.1) found.2))
+  none_overlapped none = sym (least_none _ (λ k m.
+      let found = member_comes (λ (p : Page). p.base) (overlaps page) (pages space) k m in
+      none found.0 ((holds_listed is found.0).0 found.1) found.2))
 
   -- a page that has the base comes first
   pub overlapped_below : (b : Page) → page_at space page.base ≡ Some b → least_overlapped space page ≡ Some b.base

@@ -27,7 +27,8 @@ least_is (m ∷ k ∷ ks) n e =
       | Some x ↦ λ rest is.
           let lower : min m x ≡ n = cc in
           let later = least_is (k ∷ ks) x rest in
-          (lowest m (k ∷ ks) x n lower later.0, λ j h. ⊎_elim (λ first. omega arith) (λ behind. let above = later.1 j behind in omega arith) (Contains-cases m (k ∷ ks) j h))
+          (lowest m (k ∷ ks) x n lower later.0, λ j h. ⊎_elim (λ first. omega arith) (λ behind. let above = later.1 j behind in omega arith)
+              (Contains-cases m (k ∷ ks) j h))
     ] refl e
   where
     lowest : (m : ℕ) (ns : List ℕ) (x n : ℕ) → min m x ≡ n → Contains ns x → Contains (m ∷ ns) n
@@ -37,7 +38,8 @@ least_is (m ∷ k ∷ ks) n e =
         (cases_eq m n)
 
 -- the least overlapped base is that of a page that is overlapped, and no overlapped page begins below
-pub least_overlapped_is : {depth : Depth} {space : Space} → IsSpace depth space → (page : Page) (base : ℕ) → least_overlapped space page ≡ Some base → IsLeastOverlapped space page base
+pub least_overlapped_is : {depth : Depth} {space : Space} → IsSpace depth space → (page : Page) (base : ℕ) → least_overlapped space page ≡ Some base
+    → IsLeastOverlapped space page base
 least_overlapped_is {space = space} is page base e =
     let least = least_is (map (λ (p : Page). p.base) (filter (overlaps page) (pages space))) base e in
     let from = kept_from (λ (p : Page). p.base) (overlaps page) (pages space) base least.0 in
@@ -46,7 +48,8 @@ least_overlapped_is {space = space} is page base e =
       none_below = λ q holds meets. least.1 q.base (kept_to (λ (p : Page). p.base) (overlaps page) (pages space) q ((holds_listed is q).1 holds) meets);
     }
 
-pub overlap_says : {depth : Depth} (limit : ℕ) {space : Space} → IsSpace depth space → (page : Page) (base : ℕ) → (step depth limit space (Map page)).answer ≡ Overlap base → IsLeastOverlapped space page base
+pub overlap_says : {depth : Depth} (limit : ℕ) {space : Space} → IsSpace depth space → (page : Page) (base : ℕ)
+    → (step depth limit space (Map page)).answer ≡ Overlap base → IsLeastOverlapped space page base
 overlap_says {depth} limit {space} is page base =
     map_cases (λ s. s.answer ≡ Overlap base → IsLeastOverlapped space page base) depth limit space page
     (λ e t answer. cc)
@@ -61,20 +64,23 @@ full_says depth limit space page need =
     (λ e t answer. let above = leb-false _ limit t in subst (λ n. limit < n) (cc) above)
 
 -- a page that covers an address but begins elsewhere begins below
-inside : {depth : Depth} {space : Space} → IsSpace depth space → (at base : ℕ) (page : Page) → page_at space at ≡ Some page → page.base ≢ at → page.base ≡ base → IsInside space at base
+inside : {depth : Depth} {space : Space} → IsSpace depth space → (at base : ℕ) (page : Page) → page_at space at ≡ Some page → page.base ≢ at
+    → page.base ≡ base → IsInside space at base
 inside is at base page e differs same =
     let found = (page_at_means is at page).0 e in
     let spans = (covers_means page at).0 found.1 in
     record { covered = (page, found.0, same, found.1); below = omega arith }
 
-pub unmap_inside : {depth : Depth} (limit : ℕ) {space : Space} → IsSpace depth space → (at base : ℕ) → (step depth limit space (Unmap at)).answer ≡ Inside base → IsInside space at base
+pub unmap_inside : {depth : Depth} (limit : ℕ) {space : Space} → IsSpace depth space → (at base : ℕ)
+    → (step depth limit space (Unmap at)).answer ≡ Inside base → IsInside space at base
 unmap_inside {depth} limit {space} is at base =
     unmap_cases (λ s. s.answer ≡ Inside base → IsInside space at base) depth limit space at
     (λ e answer. cc)
     (λ page e t answer. cc)
     (λ page e t answer. inside is at base page e t (cc))
 
-pub protect_inside : {depth : Depth} (limit : ℕ) {space : Space} → IsSpace depth space → (at base : ℕ) (rights : Rights) → (step depth limit space (Protect at rights)).answer ≡ Inside base → IsInside space at base
+pub protect_inside : {depth : Depth} (limit : ℕ) {space : Space} → IsSpace depth space → (at base : ℕ) (rights : Rights)
+    → (step depth limit space (Protect at rights)).answer ≡ Inside base → IsInside space at base
 protect_inside {depth} limit {space} is at base rights =
     protect_cases (λ s. s.answer ≡ Inside base → IsInside space at base) depth limit space at rights
     (λ e answer. cc)
@@ -89,14 +95,16 @@ mapped_look {space = space} is at page e looks =
     let wrong : as_in page at ≡ NotMapped = sym other ∙ looks in
     cc
 
-pub unmap_not_mapped : {depth : Depth} (limit : ℕ) {space : Space} → IsSpace depth space → (at : ℕ) → ((step depth limit space (Unmap at)).answer ≡ NotMapped) ↔ (look space at ≡ NotMapped)
+pub unmap_not_mapped : {depth : Depth} (limit : ℕ) {space : Space} → IsSpace depth space → (at : ℕ)
+    → ((step depth limit space (Unmap at)).answer ≡ NotMapped) ↔ (look space at ≡ NotMapped)
 unmap_not_mapped {depth} limit {space} is at =
     unmap_cases (λ s. (s.answer ≡ NotMapped) ↔ (look space at ≡ NotMapped)) depth limit space at
     (λ e. (λ answer. look_of_none space at e, λ looks. refl))
     (λ page e t. (λ answer. cc, λ looks. absurd (mapped_look is at page e looks)))
     (λ page e t. (λ answer. cc, λ looks. absurd (mapped_look is at page e looks)))
 
-pub protect_not_mapped : {depth : Depth} (limit : ℕ) {space : Space} → IsSpace depth space → (at : ℕ) (rights : Rights) → ((step depth limit space (Protect at rights)).answer ≡ NotMapped) ↔ (look space at ≡ NotMapped)
+pub protect_not_mapped : {depth : Depth} (limit : ℕ) {space : Space} → IsSpace depth space → (at : ℕ) (rights : Rights)
+    → ((step depth limit space (Protect at rights)).answer ≡ NotMapped) ↔ (look space at ≡ NotMapped)
 protect_not_mapped {depth} limit {space} is at rights =
     protect_cases (λ s. (s.answer ≡ NotMapped) ↔ (look space at ≡ NotMapped)) depth limit space at rights
     (λ e. (λ answer. look_of_none space at e, λ looks. refl))

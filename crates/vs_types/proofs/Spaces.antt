@@ -52,7 +52,8 @@ found_above low q (x ∷ es) v h e =
     ] refl e
 
 -- each value is found at some key
-value_found : (es : List (ℕ × Page)) (v : Page) → T (entries.is_sorted nat_cmp es) → Contains (map (λ e. e.1) es) v → (q : ℕ) × (entries.find nat_cmp q es ≡ Some v)
+value_found : (es : List (ℕ × Page)) (v : Page) → T (entries.is_sorted nat_cmp es) → Contains (map (λ e. e.1) es) v
+    → (q : ℕ) × (entries.find nat_cmp q es ≡ Some v)
 value_found [] v s h = absurd (not_in_nil v h)
 value_found (x ∷ es) v s h =
     let parts = both_true (entries.below_all nat_cmp x.0 es) (entries.is_sorted nat_cmp es) s in
@@ -76,7 +77,8 @@ holds_listed {depth} {space} is page = (
 )
 
 -- the page at an address is one that the space holds and that covers it
-pub page_at_means : {depth : Depth} {space : Space} → IsSpace depth space → (address : ℕ) (page : Page) → (page_at space address ≡ Some page) ↔ (Holds space page × IsTrue (covers page address))
+pub page_at_means : {depth : Depth} {space : Space} → IsSpace depth space → (address : ℕ) (page : Page)
+    → (page_at space address ≡ Some page) ↔ (Holds space page × IsTrue (covers page address))
 page_at_means {depth} {space} is address page = (
   there page,
   λ h. elim (page_at space address) as (λ o. page_at space address ≡ o → o ≡ Some page) [
@@ -89,12 +91,14 @@ page_at_means {depth} {space} is address page = (
     there p e = let found = find_found (λ p. covers p address) (pages space) p e in ((holds_listed is p).0 found.0, found.1)
 
 -- where no page is at an address, none that the space holds covers it
-pub page_at_nothing : {depth : Depth} {space : Space} → IsSpace depth space → (address : ℕ) (page : Page) → page_at space address ≡ None → Holds space page → covers page address ≡ false
+pub page_at_nothing : {depth : Depth} {space : Space} → IsSpace depth space → (address : ℕ) (page : Page) → page_at space address ≡ None
+    → Holds space page → covers page address ≡ false
 page_at_nothing {depth} {space} is address page none holds =
     find_nothing (λ p. covers p address) (pages space) page none ((holds_listed is page).1 holds)
 
 -- two spaces that hold the same pages at an address have the same page there
-pub page_at_same : {depth : Depth} {s t : Space} → IsSpace depth s → IsSpace depth t → (address : ℕ) → ((p : Page) → IsTrue (covers p address) → Holds s p ↔ Holds t p) → page_at s address ≡ page_at t address
+pub page_at_same : {depth : Depth} {s t : Space} → IsSpace depth s → IsSpace depth t → (address : ℕ)
+    → ((p : Page) → IsTrue (covers p address) → Holds s p ↔ Holds t p) → page_at s address ≡ page_at t address
 page_at_same {s = s} {t = t} si ti address alike =
     elim (page_at s address) as (λ o. page_at s address ≡ o → o ≡ page_at t address) [
       | None ↦ λ none. elim (page_at t address) as (λ o. page_at t address ≡ o → None ≡ o) [
@@ -133,7 +137,8 @@ look_of_nothing address = rw (no_pages_at Four address)
 
 -- ---- how an address looks
 
-pub look_of_page : {depth : Depth} {space : Space} → IsSpace depth space → (address : ℕ) (page : Page) → Holds space page → IsTrue (covers page address) → look space address ≡ as_in page address
+pub look_of_page : {depth : Depth} {space : Space} → IsSpace depth space → (address : ℕ) (page : Page) → Holds space page
+    → IsTrue (covers page address) → look space address ≡ as_in page address
 look_of_page is address page holds covered = rw ((page_at_means is address page).1 (holds, covered))
 
 pub look_of_none : (space : Space) (address : ℕ) → page_at space address ≡ None → look space address ≡ NotMapped
@@ -145,18 +150,22 @@ look_same s t address e = rw e
 
 -- ---- a page more, or another in its place
 
-pub get_after_insert : (space : Space) (k : ℕ) (page : Page) (q : ℕ) → finite.get (finite.insert space k page) q ≡ cond (eqb q k) (Some page) (finite.get space q)
+pub get_after_insert : (space : Space) (k : ℕ) (page : Page) (q : ℕ)
+    → finite.get (finite.insert space k page) q ≡ cond (eqb q k) (Some page) (finite.get space q)
 get_after_insert space k page q = finite.get-insert nat_cmp_total space k page q ∙ ap (λ b. cond b (Some page) (finite.get space q)) (same_key q k)
 
 pub get_after_remove : (space : Space) (k q : ℕ) → finite.get (finite.remove space k) q ≡ cond (eqb q k) None (finite.get space q)
 get_after_remove space k q = finite.get-remove nat_cmp_total space k q ∙ ap (λ b. cond b None (finite.get space q)) (same_key q k)
 
 -- what is found after an insert is the page, under its key, or was there under another
-pub insert_cases : (space : Space) (k : ℕ) (page : Page) (q : ℕ) (found : Page) → finite.get (finite.insert space k page) q ≡ Some found → ((q ≡ k) × (found ≡ page)) ⊎ ((q ≢ k) × (finite.get space q ≡ Some found))
+pub insert_cases : (space : Space) (k : ℕ) (page : Page) (q : ℕ) (found : Page) → finite.get (finite.insert space k page) q ≡ Some found
+    → ((q ≡ k) × (found ≡ page)) ⊎ ((q ≢ k) × (finite.get space q ≡ Some found))
 insert_cases space k page q found e =
     ⊎_elim
-    (λ same. let t = eq-eqb q k same in let got = get_after_insert space k page q in let is : cond true (Some page) (finite.get space q) ≡ Some found = rw t at (sym got ∙ e) in inl (same, cc))
-    (λ differs. let t = ne_eqb q k differs in let got = get_after_insert space k page q in let is : cond false (Some page) (finite.get space q) ≡ Some found = rw t at (sym got ∙ e) in inr (differs, is))
+    (λ same. let t = eq-eqb q k same in let got = get_after_insert space k page q in
+        let is : cond true (Some page) (finite.get space q) ≡ Some found = rw t at (sym got ∙ e) in inl (same, cc))
+    (λ differs. let t = ne_eqb q k differs in let got = get_after_insert space k page q in
+        let is : cond false (Some page) (finite.get space q) ≡ Some found = rw t at (sym got ∙ e) in inr (differs, is))
     (cases_eq q k)
 
 pub get_inserted : (space : Space) (k : ℕ) (page : Page) → finite.get (finite.insert space k page) k ≡ Some page
@@ -175,21 +184,26 @@ get_remove_other space k q differs = get_after_remove space k q ∙ ap (λ b. co
 pub remove_cases : (space : Space) (k q : ℕ) (found : Page) → finite.get (finite.remove space k) q ≡ Some found → (q ≢ k) × (finite.get space q ≡ Some found)
 remove_cases space k q found e =
     ⊎_elim
-    (λ same. let gone = get_removed space k in let at : finite.get (finite.remove space k) k ≡ Some found = subst (λ z. finite.get (finite.remove space k) z ≡ Some found) same e in cc)
+    (λ same. let gone = get_removed space k in
+        let at : finite.get (finite.remove space k) k ≡ Some found = subst (λ z. finite.get (finite.remove space k) z ≡ Some found) same e in cc)
     (λ differs. (differs, sym (get_remove_other space k q differs) ∙ e))
     (cases_eq q k)
 
 -- a page that is put back where it was taken out
 pub put_back : (space : Space) (page : Page) → Holds space page → finite.insert (finite.remove space page.base) page.base page ≡ space
 put_back space page holds = finite.same_map nat_cmp_total finite.nat_cmp-IsAntisymmetric _ _ (λ q. ⊎_elim
-    (λ (same : q ≡ page.base). subst (λ k. finite.get (finite.insert (finite.remove space page.base) page.base page) k ≡ finite.get space k) (sym same) (get_inserted (finite.remove space page.base) page.base page ∙ sym holds))
+    (λ (same : q ≡ page.base). subst (λ k. finite.get (finite.insert (finite.remove space page.base) page.base page) k ≡ finite.get space k)
+        (sym same) (get_inserted (finite.remove space page.base) page.base page ∙ sym holds))
     (λ (differs : q ≢ page.base). get_insert_other (finite.remove space page.base) page.base page q differs ∙ get_remove_other space page.base q differs)
     (cases_eq q page.base))
 
 -- a well-formed page that has no address of the pages under other bases
-pub insert_space : {depth : Depth} {space : Space} → IsSpace depth space → (page : Page) → IsPage depth page → ((q : Page) (a : ℕ) → Holds space q → q.base ≢ page.base → IsTrue (covers q a) → IsTrue (covers page a) → ⊥) → IsSpace depth (finite.insert space page.base page)
+pub insert_space : {depth : Depth} {space : Space} → IsSpace depth space → (page : Page) → IsPage depth page
+    → ((q : Page) (a : ℕ) → Holds space q → q.base ≢ page.base → IsTrue (covers q a) → IsTrue (covers page a) → ⊥)
+    → IsSpace depth (finite.insert space page.base page)
 insert_space {depth} {space} is page good alone = record {
-  under_base = λ base p e. ⊎_elim (λ new. ap (λ (z : Page). z.base) new.1 ∙ sym new.0) (λ old. is.under_base base p old.1) (insert_cases space page.base page base p e);
+  under_base = λ base p e. ⊎_elim (λ new. ap (λ (z : Page). z.base) new.1 ∙ sym new.0) (λ old. is.under_base base p old.1)
+      (insert_cases space page.base page base p e);
   well_formed = λ p e. ⊎_elim (λ new. subst (IsPage depth) (sym new.1) good) (λ old. is.well_formed p old.1) (insert_cases space page.base page p.base p e);
   apart = λ p q a h k c d. ⊎_elim
       (λ p_new. ⊎_elim
@@ -215,7 +229,9 @@ pub same_covers : (p q : Page) (a : ℕ) → p.base ≡ q.base → p.size ≡ q.
 same_covers p q a base size = cc
 
 -- the page at an address after an insert: where the page covers it the page, and else the one that was there
-pub page_at_after_insert : {depth : Depth} {space : Space} → IsSpace depth space → (page : Page) → IsSpace depth (finite.insert space page.base page) → ((q : Page) → Holds space q → q.base ≡ page.base → q.size ≡ page.size) → (a : ℕ) → page_at (finite.insert space page.base page) a ≡ cond (covers page a) (Some page) (page_at space a)
+pub page_at_after_insert : {depth : Depth} {space : Space} → IsSpace depth space → (page : Page) → IsSpace depth (finite.insert space page.base page)
+    → ((q : Page) → Holds space q → q.base ≡ page.base → q.size ≡ page.size) → (a : ℕ)
+    → page_at (finite.insert space page.base page) a ≡ cond (covers page a) (Some page) (page_at space a)
 page_at_after_insert {depth} {space} is page new sized a =
     elim (covers page a) as (λ b. covers page a ≡ b → page_at (finite.insert space page.base page) a ≡ cond b (Some page) (page_at space a)) [
       | true ↦ λ t. (page_at_means new a page).1 (get_inserted space page.base page, t)
@@ -223,7 +239,8 @@ page_at_after_insert {depth} {space} is page new sized a =
     ] refl
   where
     forth : covers page a ≡ false → (p : Page) → IsTrue (covers p a) → Holds (finite.insert space page.base page) p → Holds space p
-    forth t p c h = ⊎_elim (λ fresh. let again = subst (λ (z : Page). IsTrue (covers z a)) fresh.1 c in cc) (λ old. old.1) (insert_cases space page.base page p.base p h)
+    forth t p c h = ⊎_elim (λ fresh. let again = subst (λ (z : Page). IsTrue (covers z a)) fresh.1 c in cc) (λ old. old.1)
+        (insert_cases space page.base page p.base p h)
 
     back : covers page a ≡ false → (p : Page) → IsTrue (covers p a) → Holds space p → Holds (finite.insert space page.base page) p
     back t p c h = ⊎_elim
@@ -231,7 +248,8 @@ page_at_after_insert {depth} {space} is page new sized a =
         (λ differs. get_insert_other space page.base page p.base differs ∙ h)
         (cases_eq p.base page.base)
 
-pub page_at_after_remove : {depth : Depth} {space : Space} → IsSpace depth space → (page : Page) → Holds space page → (a : ℕ) → page_at (finite.remove space page.base) a ≡ cond (covers page a) None (page_at space a)
+pub page_at_after_remove : {depth : Depth} {space : Space} → IsSpace depth space → (page : Page) → Holds space page → (a : ℕ)
+    → page_at (finite.remove space page.base) a ≡ cond (covers page a) None (page_at space a)
 page_at_after_remove {depth} {space} is page holds a =
     elim (covers page a) as (λ b. covers page a ≡ b → page_at (finite.remove space page.base) a ≡ cond b None (page_at space a)) [
       | true ↦ λ t. elim (page_at (finite.remove space page.base) a) as (λ o. page_at (finite.remove space page.base) a ≡ o → o ≡ None) [
@@ -249,6 +267,7 @@ page_at_after_remove {depth} {space} is page holds a =
 
     back : covers page a ≡ false → (p : Page) → IsTrue (covers p a) → Holds space p → Holds (finite.remove space page.base) p
     back t p c h = ⊎_elim
-        (λ same. let at : finite.get space page.base ≡ Some p = subst (λ z. finite.get space z ≡ Some p) same h in let one : page ≡ p = cc in let again = subst (λ (z : Page). covers z a ≡ false) one t in cc)
+        (λ same. let at : finite.get space page.base ≡ Some p = subst (λ z. finite.get space z ≡ Some p) same h in let one : page ≡ p = cc in
+            let again = subst (λ (z : Page). covers z a ≡ false) one t in cc)
         (λ differs. get_remove_other space page.base p.base differs ∙ h)
         (cases_eq p.base page.base)

@@ -47,33 +47,42 @@ module _ {depth : Depth} {space : Space} (is : IsSpace depth space) (page : Page
   still : (q : Page) → Holds space q → Holds (finite.insert space page.base page) q
   still q h = get_insert_other space page.base page q.base (absent q h) ∙ h
 
-  goes : (q : Page) → Holds (finite.insert space page.base page) q → nat_lt (bytes_of q.size) (table_bytes level) ≡ true → is_member nat_eq (stretches level (finite.insert space page.base page)) (q.base / table_bytes level) ≡ true
-  goes q h t = member_goes (λ (p : Page). p.base / table_bytes level) (λ p. nat_lt (bytes_of p.size) (table_bytes level)) (pages (finite.insert space page.base page)) q ((holds_listed is_new q).1 h) t
+  goes : (q : Page) → Holds (finite.insert space page.base page) q → nat_lt (bytes_of q.size) (table_bytes level) ≡ true
+      → is_member nat_eq (stretches level (finite.insert space page.base page)) (q.base / table_bytes level) ≡ true
+  goes q h t = member_goes (λ (p : Page). p.base / table_bytes level) (λ p. nat_lt (bytes_of p.size) (table_bytes level))
+      (pages (finite.insert space page.base page)) q ((holds_listed is_new q).1 h) t
 
   up : (k : ℕ) → is_member nat_eq (stretches level space) k ≡ true → is_member nat_eq (stretches level (finite.insert space page.base page)) k ≡ true
   up k m =
       let found = member_comes (λ (p : Page). p.base / table_bytes level) (λ p. nat_lt (bytes_of p.size) (table_bytes level)) (pages space) k m in
-      subst (λ n. is_member nat_eq (stretches level (finite.insert space page.base page)) n ≡ true) found.3 (goes found.0 (still found.0 ((holds_listed is found.0).0 found.1)) found.2)
+      subst (λ n. is_member nat_eq (stretches level (finite.insert space page.base page)) n ≡ true) found.3
+          (goes found.0 (still found.0 ((holds_listed is found.0).0 found.1)) found.2)
 
   -- a page with a table of this level begins in the stretch, there before or new
-  down : (k : ℕ) → is_member nat_eq (stretches level (finite.insert space page.base page)) k ≡ true → ((page.base / table_bytes level ≡ k) × (nat_lt (bytes_of page.size) (table_bytes level) ≡ true)) ⊎ (is_member nat_eq (stretches level space) k ≡ true)
+  down : (k : ℕ) → is_member nat_eq (stretches level (finite.insert space page.base page)) k ≡ true
+      → ((page.base / table_bytes level ≡ k) × (nat_lt (bytes_of page.size) (table_bytes level) ≡ true)) ⊎ (is_member nat_eq (stretches level space) k ≡ true)
   down k m =
-      let found = member_comes (λ (p : Page). p.base / table_bytes level) (λ p. nat_lt (bytes_of p.size) (table_bytes level)) (pages (finite.insert space page.base page)) k m in
+      let found = member_comes (λ (p : Page). p.base / table_bytes level) (λ p. nat_lt (bytes_of p.size) (table_bytes level))
+          (pages (finite.insert space page.base page)) k m in
       let held = (holds_listed is_new found.0).0 found.1 in
       ⊎_elim
       (λ new. inl (subst (λ (p : Page). (p.base / table_bytes level ≡ k) × (nat_lt (bytes_of p.size) (table_bytes level) ≡ true)) new.1 (found.3, found.2)))
       (λ old. inr (subst (λ n. is_member nat_eq (stretches level space) n ≡ true) found.3
-      (member_goes (λ (p : Page). p.base / table_bytes level) (λ p. nat_lt (bytes_of p.size) (table_bytes level)) (pages space) found.0 ((holds_listed is found.0).1 old.1) found.2)))
+      (member_goes (λ (p : Page). p.base / table_bytes level) (λ p. nat_lt (bytes_of p.size) (table_bytes level)) (pages space) found.0
+          ((holds_listed is found.0).1 old.1) found.2)))
       (insert_cases space page.base page found.0.base found.0 held)
 
   -- a page with a table of this level needs one more, unless a page with such a table begins in its stretch
-  pub tables_with : level_of page.size ≤ level → tables_of_level level (pages (finite.insert space page.base page)) ≡ cond (is_member nat_eq (stretches level space) (page.base / table_bytes level)) 0 1 + tables_of_level level (pages space)
+  pub tables_with : level_of page.size ≤ level
+      → tables_of_level level (pages (finite.insert space page.base page))
+      ≡ cond (is_member nat_eq (stretches level space) (page.base / table_bytes level)) 0 1 + tables_of_level level (pages space)
   tables_with l =
       let t = has_table page level l in
       same_count (stretches level (finite.insert space page.base page)) (page.base / table_bytes level ∷ stretches level space)
       (λ k m. ⊎_elim (λ new. or_left _ _ (eq-eqb k _ (sym new.0))) (λ old. or_right _ _ old) (down k m))
       (λ k m. ⊎_elim
-      (λ same. subst (λ n. is_member nat_eq (stretches level (finite.insert space page.base page)) n ≡ true) (sym (eqb-true k _ same)) (goes page (get_inserted space page.base page) t))
+      (λ same. subst (λ n. is_member nat_eq (stretches level (finite.insert space page.base page)) n ≡ true) (sym (eqb-true k _ same))
+          (goes page (get_inserted space page.base page) t))
       (up k)
       (or_cases (nat_eq k (page.base / table_bytes level)) _ m))
       ∙ count_more (page.base / table_bytes level) (stretches level space)

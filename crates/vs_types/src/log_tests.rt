@@ -29,6 +29,17 @@ fn words_of_entries(rt: HostRuntime) {
 }
 
 #[test]
+fn words_at_five_levels(rt: HostRuntime) {
+    let unmap = Op::unmap(Depth::Five, 0xFF00000000000000);
+    let op = unmap.expect(&rt, "a well-formed unmap");
+    let words = pack(LogEntry { call: 3, op });
+    assert_eq!(rt; words, [0xFF00000000000001, 0x18000000000]);
+    assert_eq!(rt; unpack(Depth::Five, words), Some(LogEntry { call: 3, op }));
+    // with four levels the base is not canonical
+    assert_eq!(rt; unpack(Depth::Four, words), None);
+}
+
+#[test]
 fn words_that_spell_no_entry(rt: HostRuntime) {
     // bit 7, which is reserved
     assert_eq!(rt; unpack(Depth::Four, [0x4000F0, 0x1]), None);

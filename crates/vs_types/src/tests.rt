@@ -1,6 +1,6 @@
 use crate::{
-    Action, BadConfig, BadOp, Config, Depth, Entry, Fail, Meaning, Memory, Op, Page, Query,
-    Request, Rights, Size,
+    Access, Action, Answer, BadConfig, BadOp, Config, Depth, Entry, Fail, Meaning, Memory, Mode,
+    Op, Page, Query, Request, Rights, Size, index_at,
 };
 use std::alloc::{AllocError, AllocFailed};
 
@@ -28,6 +28,31 @@ fn operations_not_well_formed(rt: HostRuntime) {
     let protect = |base: u64| Op::protect(Depth::Four, base, WRITE);
     assert_eq!(rt; protect(0xFFFF7FFFFFFFF000), Err(BadOp::NotCanonical));
     assert_eq!(rt; protect(0x1001), Err(BadOp::Unaligned));
+    let with_five_levels = Op::unmap(Depth::Five, 0x100000000000000);
+    assert_eq!(rt; with_five_levels, Err(BadOp::NotCanonical));
+}
+
+#[test]
+fn what_fits_a_depth(rt: HostRuntime) {
+    let low = Op::unmap(Depth::Four, 0x7FFFFFFFF000).expect(&rt, "a well-formed operation");
+    assert_eq!(rt;
+        (low.fits(Depth::Four), low.fits(Depth::Five)),
+        (true, true)
+    );
+    let op = Op::unmap(Depth::Five, 0xFF00000000000000).expect(&rt, "a well-formed operation");
+    assert_eq!(rt; (op.fits(Depth::Four), op.fits(Depth::Five)), (false, true));
+    let update = Request::update(op);
+    assert_eq!(rt;
+        (update.fits(Depth::Four), update.fits(Depth::Five)),
+        (false, true)
+    );
+    let read = Request::resolve(Depth::Five, 0xFFFFFFFFFFFFFF).expect(&rt, "a canonical address");
+    assert_eq!(rt;
+        (read.fits(Depth::Four), read.fits(Depth::Five)),
+        (false, true)
+    );
+    assert_eq!(rt; Depth::Five.levels(), 5);
+    assert_eq!(rt; index_at(5, 0xFF00000000000000), 256);
 }
 
 #[test]
@@ -61,6 +86,88 @@ fn requests(rt: HostRuntime) {
     assert_eq!(rt; resolve(0x800000000000), Err(BadOp::NotCanonical));
     let op = Op::unmap(Depth::Four, 0x400000).expect(&rt, "a well-formed operation");
     assert_eq!(rt; Request::update(op).query(), Query::Update(op));
+    let access = |address: u64| Request::access(
+        Depth::Five,
+        address,
+        Mode::User,
+        Access::Write,
+    ).map(|request| request.query());
+    assert_eq!(rt;
+        access(0x400123),
+        Ok(Query::Access(0x400123, Mode::User, Access::Write))
+    );
+    assert_eq!(rt; access(0x100000000000000), Err(BadOp::NotCanonical));
+}
+
+#[test]
+fn accesses(rt: HostRuntime) {
+    let written = Answer::Mapped(0x1123, Size::K4, WRITE);
+    let run = Answer::Mapped(
+        0x1123,
+        Size::K4,
+        Rights {
+            exec: true,
+            ..Rights::NONE
+        },
+    );
+    let cases = [
+        (
+            written,
+            Mode::Supervisor,
+            Access::Write,
+            Answer::Allowed(0x1123),
+        ),
+        (written, Mode::User, Access::Read, Answer::Fault(5)),
+        (written, Mode::User, Access::Write, Answer::Fault(7)),
+        (written, Mode::Supervisor, Access::Fetch, Answer::Fault(17)),
+        (written, Mode::User, Access::Fetch, Answer::Fault(21)),
+        (
+            Answer::NotMapped,
+            Mode::Supervisor,
+            Access::Read,
+            Answer::Fault(0),
+        ),
+        (
+            Answer::NotMapped,
+            Mode::User,
+            Access::Write,
+            Answer::Fault(6),
+        ),
+        (
+            Answer::NotMapped,
+            Mode::User,
+            Access::Fetch,
+            Answer::Fault(20),
+        ),
+        (run, Mode::Supervisor, Access::Write, Answer::Fault(3)),
+        (
+            run,
+            Mode::Supervisor,
+            Access::Fetch,
+            Answer::Allowed(0x1123),
+        ),
+    ];
+    for (resolved, mode, access, answer) in cases {
+        assert_eq!(rt; resolved.accessed(mode, access), answer);
+    }
+}
+
+#[test]
+fn fields(rt: HostRuntime) {
+    let requests = [
+        Op::map(Depth::Five, 0x800000000000, Size::K4, 0x1000, Rights::ALL).map(Request::update),
+        Op::unmap(Depth::Five, 0xFF00000000000000).map(Request::update),
+        Op::protect(Depth::Five, 0x1000, WRITE).map(Request::update),
+        Request::resolve(Depth::Five, 0xFFFFFFFFFFFFFF),
+        Request::access(Depth::Five, 0x400123, Mode::User, Access::Fetch),
+    ];
+    for made in requests {
+        let request = made.expect(&rt, "a well-formed request");
+        assert_eq!(rt;
+            Request::of_fields(Depth::Five, request.fields()),
+            Some(request)
+        );
+    }
 }
 
 #[test]
@@ -93,6 +200,8 @@ fn entries(rt: HostRuntime) {
     assert_eq!(rt; Entry::new(0x2007).read(4), Meaning::Table(2, Rights::ALL));
     assert_eq!(rt; Entry::new(0x202087).read(2), Meaning::Reserved);
     assert_eq!(rt; Entry::new(0).read(1), Meaning::Absent);
+    assert_eq!(rt; Entry::new(0x2007).read(5), Meaning::Table(2, Rights::ALL));
+    assert_eq!(rt; Entry::new(0x87).read(5), Meaning::Reserved);
 }
 
 #[test]

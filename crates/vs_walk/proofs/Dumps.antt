@@ -13,6 +13,7 @@ use Rattle.std.proofs.lemmas.List.Sorted.{searchable_from_sorted}
 use Rattle.std.proofs.lemmas.Bool.{cases_lt}
 use lib.Dec.{T}
 use Rattle.vs_types.specs.Frame.{IsFrame}
+use Rattle.vs_walk.specs.declared.dump.DumpFrame.{DumpFrame}
 use Rattle.vs_walk.specs.Memory.{Memory}
 use Rattle.vs_walk.specs.Dump.{AreParts}
 
@@ -52,7 +53,8 @@ below_push : (x : ℕ) (es : List (ℕ × List ℕ)) (k : ℕ) (v : List ℕ) �
 below_push x [] k v lt h = both _ _ (is_less x k lt) refl
 below_push x (e ∷ es) k v lt h = both _ _ (first _ _ h) (below_push x es k v lt (second _ _ h))
 
-pub rising_push : (es : List (ℕ × List ℕ)) (k : ℕ) (v : List ℕ) → All (λ held. held < k) (map (λ e. e.0) es) → IsTrue (is_sorted nat_cmp es) → IsTrue (is_sorted nat_cmp (es ++ (k, v) ∷ []))
+pub rising_push : (es : List (ℕ × List ℕ)) (k : ℕ) (v : List ℕ) → All (λ held. held < k) (map (λ e. e.0) es) → IsTrue (is_sorted nat_cmp es)
+    → IsTrue (is_sorted nat_cmp (es ++ (k, v) ∷ []))
 rising_push [] k v h s = refl
 rising_push (e ∷ es) k v h s =
     both _ _ (below_push e.0 es k v (All-head (λ held. held < k) e.0 (map (λ f. f.0) es) h) (first _ _ s))
@@ -77,13 +79,15 @@ pub get_of : (es : List (ℕ × List ℕ)) (memory : Memory) (q : ℕ) → IsSta
 get_of es memory q stands = ap (λ (m : Memory). finite.get m q) (sym stands.is) ∙ finite.get-from_sorted nat_cmp es q (truth _ stands.rising)
 
 -- a frame above all that are held goes to the end
-pub from_sorted_push : (es : List (ℕ × List ℕ)) (k : ℕ) (v : List ℕ) → All (λ held. held < k) (map (λ e. e.0) es) → IsTrue (is_sorted nat_cmp es) → finite.from_sorted {R = nat_cmp} (es ++ (k, v) ∷ []) ≡ finite.insert (finite.from_sorted {R = nat_cmp} es) k v
+pub from_sorted_push : (es : List (ℕ × List ℕ)) (k : ℕ) (v : List ℕ) → All (λ held. held < k) (map (λ e. e.0) es) → IsTrue (is_sorted nat_cmp es)
+    → finite.from_sorted {R = nat_cmp} (es ++ (k, v) ∷ []) ≡ finite.insert (finite.from_sorted {R = nat_cmp} es) k v
 from_sorted_push es k v h s =
     finite.same_entries_map _ _ (entries_stand _ (rising_push es k v h s)
     ∙ sym (finite.entries-insert nat_cmp_total (finite.from_sorted {R = nat_cmp} es) k v ∙ ap (put nat_cmp k v) (entries_stand es s) ∙ put_last es k v h))
 
 -- what stays of the parts of a dump where a frame is added
-pub parts_push : {applied root : ℕ} (es : List (ℕ × List ℕ)) (k : ℕ) (v : List ℕ) → AreParts applied root es → All (λ held. held < k) (map (λ e. e.0) es) → k < 2 ^ 40 → length es < 4096 → IsFrame v → AreParts applied root (es ++ (k, v) ∷ [])
+pub parts_push : {applied root : ℕ} (es : List (ℕ × List ℕ)) (k : ℕ) (v : List ℕ) → AreParts applied root es → All (λ held. held < k) (map (λ e. e.0) es)
+    → k < 2 ^ 40 → length es < 4096 → IsFrame v → AreParts applied root (es ++ (k, v) ∷ [])
 parts_push es k v parts above below room whole = record {
   applied_fits = parts.applied_fits;
   root_fits = parts.root_fits;
@@ -99,7 +103,8 @@ below_at x [] k d h lt = absurd (omega arith)
 below_at x (e ∷ es) zero d h lt = less_is x e.0 (first _ _ h)
 below_at x (e ∷ es) (suc k) d h lt = below_at x es k d (second _ _ h) (omega arith)
 
-pub numbers_rise : (es : List (ℕ × List ℕ)) (i j : ℕ) (d : ℕ × List ℕ) → IsTrue (is_sorted nat_cmp es) → i < j → j < length es → (get_or es i d).0 < (get_or es j d).0
+pub numbers_rise : (es : List (ℕ × List ℕ)) (i j : ℕ) (d : ℕ × List ℕ) → IsTrue (is_sorted nat_cmp es) → i < j → j < length es
+    → (get_or es i d).0 < (get_or es j d).0
 numbers_rise [] i j d s lt within = absurd (omega arith)
 numbers_rise (e ∷ es) i zero d s lt within = absurd (omega arith)
 numbers_rise (e ∷ es) zero (suc j) d s lt within = below_at e.0 es j d (first _ _ s) (omega arith)
@@ -115,7 +120,8 @@ apart_greater : (q k : ℕ) → k < q → eq_by_cmp nat_cmp q k ≡ false
 apart_greater q k e = ap is_eq (sym (nat_cmp_is q k Greater e))
 
 -- a frame is found by its number
-pub find_at : (es : List (ℕ × List ℕ)) (q k : ℕ) (d : ℕ × List ℕ) → IsTrue (is_sorted nat_cmp es) → k < length es → (get_or es k d).0 ≡ q → find nat_cmp q es ≡ Some (get_or es k d).1
+pub find_at : (es : List (ℕ × List ℕ)) (q k : ℕ) (d : ℕ × List ℕ) → IsTrue (is_sorted nat_cmp es) → k < length es → (get_or es k d).0 ≡ q
+    → find nat_cmp q es ≡ Some (get_or es k d).1
 find_at [] q k d s lt is = absurd (omega arith)
 find_at (e ∷ es) q zero d s lt is = ap (λ b. cond b (Some e.1) (find nat_cmp q es)) (tied q e.0 (sym is))
 find_at (e ∷ es) q (suc k) d s lt is =
@@ -144,25 +150,34 @@ pub length_rows : {X : Type 0} (number : X → ℕ) (words : X → List ℕ) (xs
 length_rows number words [] = refl
 length_rows number words (x ∷ xs) = ap suc (length_rows number words xs)
 
-row : {X : Type 0} (number : X → ℕ) (words : X → List ℕ) (xs : List X) (k : ℕ) (d : X) (e : ℕ × List ℕ) → k < length xs → get_or (rows number words xs) k e ≡ (number (get_or xs k d), words (get_or xs k d))
+row : {X : Type 0} (number : X → ℕ) (words : X → List ℕ) (xs : List X) (k : ℕ) (d : X) (e : ℕ × List ℕ) → k < length xs
+    → get_or (rows number words xs) k e ≡ (number (get_or xs k d), words (get_or xs k d))
 row number words xs k d e lt = get_or-map (λ x. (number x, words x)) xs k d e lt
 
-pub row_number : {X : Type 0} (number : X → ℕ) (words : X → List ℕ) (xs : List X) (k : ℕ) (d : X) (e : ℕ × List ℕ) → k < length xs → (get_or (rows number words xs) k e).0 ≡ number (get_or xs k d)
+pub row_number : {X : Type 0} (number : X → ℕ) (words : X → List ℕ) (xs : List X) (k : ℕ) (d : X) (e : ℕ × List ℕ) → k < length xs
+    → (get_or (rows number words xs) k e).0 ≡ number (get_or xs k d)
 row_number number words xs k d e lt = ap (λ f. f.0) (row number words xs k d e lt)
 
-climbs : {X : Type 0} (number : X → ℕ) (words : X → List ℕ) (xs : List X) (q : ℕ) → IsTrue (is_sorted nat_cmp (rows number words xs)) → IsNonDecreasingBy (λ x. ordering_index (nat_cmp (number x) q)) xs
+climbs : {X : Type 0} (number : X → ℕ) (words : X → List ℕ) (xs : List X) (q : ℕ) → IsTrue (is_sorted nat_cmp (rows number words xs))
+    → IsNonDecreasingBy (λ x. ordering_index (nat_cmp (number x) q)) xs
 climbs number words xs q s =
     searchable_from_sorted nat_cmp_total number xs q (λ k d low lt.
     let e : ℕ × List ℕ = (0, []) in
-    let up : (get_or (rows number words xs) k e).0 < (get_or (rows number words xs) (k + 1) e).0 = numbers_rise (rows number words xs) k (k + 1) e s (omega arith) (omega (arith, length_rows number words xs)) in
-    let rise : number (get_or xs k d) < number (get_or xs (k + 1) d) = omega (arith, up, row_number number words xs k d e (omega arith), row_number number words xs (k + 1) d e lt) in
+    let up : (get_or (rows number words xs) k e).0 < (get_or (rows number words xs) (k + 1) e).0 =
+    numbers_rise (rows number words xs) k (k + 1) e s (omega arith) (omega (arith, length_rows number words xs)) in
+    let rise : number (get_or xs k d) < number (get_or xs (k + 1) d) =
+    omega (arith, up, row_number number words xs k d e (omega arith), row_number number words xs (k + 1) d e lt) in
     ap is_lt (sym (nat_cmp_is (number (get_or xs (k + 1) d)) (number (get_or xs k d)) Greater rise)))
 
 -- what a binary search by number gives among frames whose numbers rise
-pub searched : {X : Type 0} (number : X → ℕ) (words : X → List ℕ) (xs : List X) (q : ℕ) (r : Result ℕ ℕ) → IsTrue (is_sorted nat_cmp (rows number words xs)) → IsSearchInRange r (length xs) → IsBinarySearchResult (λ x. nat_cmp (number x) q) xs r → MatchResult r (λ k. (d : X) → find nat_cmp q (rows number words xs) ≡ Some (words (get_or xs k d))) (λ _. find nat_cmp q (rows number words xs) ≡ None)
+pub searched : {X : Type 0} (number : X → ℕ) (words : X → List ℕ) (xs : List X) (q : ℕ) (r : Result ℕ ℕ) → IsTrue (is_sorted nat_cmp (rows number words xs))
+    → IsSearchInRange r (length xs) → IsBinarySearchResult (λ x. nat_cmp (number x) q) xs r
+    → MatchResult r (λ k. (d : X) → find nat_cmp q (rows number words xs) ≡ Some (words (get_or xs k d)))
+    (λ _. find nat_cmp q (rows number words xs) ≡ None)
 searched number words xs q (Ok k) s bound at = λ d.
     let e : ℕ × List ℕ = (0, []) in
-    find_at (rows number words xs) q k e s (omega (arith, bound, length_rows number words xs)) (row_number number words xs k d e bound ∙ ranked _ _ Equal (sym (at d)))
+    find_at (rows number words xs) q k e s (omega (arith, bound, length_rows number words xs))
+    (row_number number words xs k d e bound ∙ ranked _ _ Equal (sym (at d)))
     ∙ ap (λ f. Some f.1) (row number words xs k d e bound)
 searched number words [] q (Err i) s bound at = refl
 searched number words (x ∷ xs) q (Err i) s bound at =
@@ -175,7 +190,8 @@ searched number words (x ∷ xs) q (Err i) s bound at =
     ] in
     λ is. other (sym (row_number number words (x ∷ xs) k x e within) ∙ is))
 
-pub number_at : {X : Type 0} (number : X → ℕ) (words : X → List ℕ) (xs : List X) (k : ℕ) (d : X) → k < length xs → slice_index (map (λ e. e.0) (rows number words xs)) k ≡ number (get_or xs k d)
+pub number_at : {X : Type 0} (number : X → ℕ) (words : X → List ℕ) (xs : List X) (k : ℕ) (d : X) → k < length xs
+    → slice_index (map (λ e. e.0) (rows number words xs)) k ≡ number (get_or xs k d)
 number_at number words xs k d lt =
     let e : ℕ × List ℕ = (0, []) in
     get_or-map (λ f. f.0) (rows number words xs) k e 0 (omega (arith, length_rows number words xs)) ∙ row_number number words xs k d e lt
@@ -183,12 +199,14 @@ number_at number words xs k d lt =
 pub no_frames : finite.from_sorted {X = List ℕ} {R = nat_cmp} [] ≡ finite.empty
 no_frames = finite.empty_of_len _ (finite.len-entries _ ∙ ap length (entries_stand [] refl))
 
-pub numbers_push : (memory : Memory) (k : ℕ) (v : List ℕ) → All (λ held. held < k) (finite.keys memory) → finite.keys (finite.insert memory k v) ≡ finite.keys memory ++ k ∷ []
+pub numbers_push : (memory : Memory) (k : ℕ) (v : List ℕ) → All (λ held. held < k) (finite.keys memory)
+    → finite.keys (finite.insert memory k v) ≡ finite.keys memory ++ k ∷ []
 numbers_push memory k v above =
     ap (map (λ e. e.0)) (finite.entries-insert nat_cmp_total memory k v ∙ put_last (finite.entries memory) k v above)
     ∙ map-append (λ e. e.0) (finite.entries memory) ((k, v) ∷ [])
 
-pub count_push : (memory : Memory) (k : ℕ) (v : List ℕ) → All (λ held. held < k) (finite.keys memory) → finite.len (finite.insert memory k v) ≡ finite.len memory + 1
+pub count_push : (memory : Memory) (k : ℕ) (v : List ℕ) → All (λ held. held < k) (finite.keys memory)
+    → finite.len (finite.insert memory k v) ≡ finite.len memory + 1
 count_push memory k v above =
     finite.len-entries (finite.insert memory k v)
     ∙ ap length (finite.entries-insert nat_cmp_total memory k v ∙ put_last (finite.entries memory) k v above)
@@ -196,3 +214,19 @@ count_push memory k v above =
 
 pub no_numbers : finite.keys (finite.empty {X = List ℕ} {R = nat_cmp}) ≡ []
 no_numbers = ap finite.keys (sym no_frames) ∙ ap (map (λ e. e.0)) (entries_stand [] refl)
+
+-- ---- the frames that a dump keeps
+
+abbrev pub frame_rows : List DumpFrame → List (ℕ × List ℕ)
+frame_rows frames = rows (λ f. f.number) (λ f. f.words.value) frames
+
+pub frame_rows_push : (frames more : List DumpFrame) (f : DumpFrame) (words : List ℕ) → more ≡ frames ++ f ∷ [] → f.words.value ≡ words
+    → frame_rows more ≡ frame_rows frames ++ (f.number, words) ∷ []
+frame_rows_push frames more f words is same =
+    ap frame_rows is ∙ map-append (λ g. (g.number, g.words.value)) frames (f ∷ []) ∙ ap (λ w. frame_rows frames ++ (f.number, w) ∷ []) same
+
+pub frame_count : (frames : List DumpFrame) (memory : Memory) → IsStanding (frame_rows frames) memory → finite.len memory ≡ length frames
+frame_count frames memory stands = len_of (frame_rows frames) memory stands ∙ length_rows _ _ frames
+
+pub within_frames : (frames : List DumpFrame) (memory : Memory) (k : ℕ) → IsStanding (frame_rows frames) memory → k < finite.len memory → k < length frames
+within_frames frames memory k stands lt = subst (λ n. k < n) (frame_count frames memory stands) lt

@@ -18,7 +18,7 @@ use Rattle.vs_walk.specs.Dump.{Image, IsDump}
 use Rattle.vs_walk.specs.Memory.{Memory}
 use Rattle.vs_walk.specs.Reached.{AreJust}
 use Rattle.vs_walk.specs.Traversal.{traversal, reached, walk_fault}
-use Rattle.vs_walk.proofs.WaysLaws.{reached_held, reached_distinct}
+use Rattle.vs_walk.proofs.LawsOfTraversals.{reached_held, reached_distinct}
 
 -- a rising list of what another list holds is no longer
 pub no_longer : (ks ns : List ℕ) → AllPairs (λ a b. a < b) ks → AreJust ks ns → length ks ≤ length ns
@@ -44,10 +44,13 @@ held_next memory dump ks index words within there held q in_more =
     let k = get_or ks index 0 in
     finite.get-insert nat_cmp_total dump k words q
     ∙ ap (λ b. cond b (Some words) (finite.get dump q)) (unsigned_tied q k)
-    ∙ by_same (nat_eq q k) refl (Contains-append_cases (take index ks) (k ∷ []) q (subst (λ xs. Contains xs q) (ap (λ n. take n ks) (add-one index) ∙ take-suc ks index 0 within) in_more)) where
-      by_same : (b : Bool) → nat_eq q (get_or ks index 0) ≡ b → Contains (take index ks) q ⊎ Contains (get_or ks index 0 ∷ []) q → cond b (Some words) (finite.get dump q) ≡ finite.get memory q
+    ∙ by_same (nat_eq q k) refl (Contains-append_cases (take index ks) (k ∷ []) q
+    (subst (λ xs. Contains xs q) (ap (λ n. take n ks) (add-one index) ∙ take-suc ks index 0 within) in_more)) where
+      by_same : (b : Bool) → nat_eq q (get_or ks index 0) ≡ b → Contains (take index ks) q ⊎ Contains (get_or ks index 0 ∷ []) q
+          → cond b (Some words) (finite.get dump q) ≡ finite.get memory q
       by_same true same either = sym there ∙ ap (finite.get memory) (sym (eqb-true q (get_or ks index 0) same))
-      by_same false same either = ⊎_elim (held q) (λ last. ⊎_elim (λ is. absurd (false≢true (sym same ∙ eq-eqb q (get_or ks index 0) (sym is)))) (λ later. absurd (not_in_nil q later)) (Contains-cases (get_or ks index 0) [] q last)) either
+      by_same false same either = ⊎_elim (held q) (λ last. ⊎_elim (λ is. absurd (false≢true (sym same ∙ eq-eqb q (get_or ks index 0) (sym is))))
+          (λ later. absurd (not_in_nil q later)) (Contains-cases (get_or ks index 0) [] q last)) either
 
 -- what a memory holds is among its numbers
 pub held_number : (memory : Memory) (q : ℕ) → IsTrue (finite.contains_key memory q) → Contains (finite.keys memory) q
@@ -55,23 +58,28 @@ held_number memory q h =
     Contains-from_any (λ x y same. eqb-true x y (sym (unsigned_tied x y) ∙ same)) q (finite.keys memory) (sym (finite.contains_key-keys memory q) ∙ h)
 
 -- a frame that is reached is there
-pub reached_held_at : (memory : Memory) (number : ℕ) (ns : List ℕ) → All (λ n. IsTrue (finite.contains_key memory n)) ns → Contains ns number → finite.get memory number ≡ None → ⊥
-reached_held_at memory number ns all is none = let there = All-contains (λ n. IsTrue (finite.contains_key memory n)) ns number all is in let bad : IsTrue false = rw none at there in cc
+pub reached_held_at : (memory : Memory) (number : ℕ) (ns : List ℕ) → All (λ n. IsTrue (finite.contains_key memory n)) ns → Contains ns number
+    → finite.get memory number ≡ None → ⊥
+reached_held_at memory number ns all is none = let there = All-contains (λ n. IsTrue (finite.contains_key memory n)) ns number all is in
+    let bad : IsTrue false = rw none at there in cc
 
 -- ---- how many frames are reached
 
 -- without a fault no more frames are reached than the memory has
-pub reached_few : (depth : Depth) (memory : Memory) (root : ℕ) → walk_fault depth memory root ≡ None → length (reached (traversal depth memory root)) ≤ finite.len memory
+pub reached_few : (depth : Depth) (memory : Memory) (root : ℕ) → walk_fault depth memory root ≡ None
+    → length (reached (traversal depth memory root)) ≤ finite.len memory
 reached_few depth memory root none =
     subst (λ n. length (reached (traversal depth memory root)) ≤ n) (length-map (finite.entries memory) (λ e. e.0) ∙ sym (finite.len-entries memory))
     (length-le_from_is_member nat_eq_equiv (reached (traversal depth memory root)) (finite.keys memory) (reached_distinct depth memory root none) within) where
       within : (q : ℕ) → is_member nat_eq (reached (traversal depth memory root)) q ≡ true → is_member nat_eq (finite.keys memory) q ≡ true
       within q m =
           (is_member-Decides Decides-eqb (finite.keys memory) q).1
-          (held_number memory q (All-contains (λ n. IsTrue (finite.contains_key memory n)) (reached (traversal depth memory root)) q (reached_held depth memory root none) ((is_member-Decides Decides-eqb (reached (traversal depth memory root)) q).0 m)))
+          (held_number memory q (All-contains (λ n. IsTrue (finite.contains_key memory n)) (reached (traversal depth memory root)) q
+          (reached_held depth memory root none) ((is_member-Decides Decides-eqb (reached (traversal depth memory root)) q).0 m)))
 
 -- of a dump
-pub dump_few : (dump : Image) (depth : Depth) (root : ℕ) → IsDump dump → walk_fault depth dump.frames root ≡ None → length (reached (traversal depth dump.frames root)) ≤ 4096
+pub dump_few : (dump : Image) (depth : Depth) (root : ℕ) → IsDump dump → walk_fault depth dump.frames root ≡ None
+    → length (reached (traversal depth dump.frames root)) ≤ 4096
 dump_few dump depth root is none =
     let few = reached_few depth dump.frames root none in
     let count = finite.len-entries dump.frames in
@@ -79,9 +87,11 @@ dump_few dump depth root is none =
     omega arith
 
 dump_number : (dump : Image) (q : ℕ) → IsDump dump → Contains (finite.keys dump.frames) q → q < 2 ^ 40
-dump_number dump q is held = All-contains (λ n. n < 2 ^ 40) (finite.keys dump.frames) q (All-map (λ n. n < 2 ^ 40) (λ e. e.0) (finite.entries dump.frames) is.in_range) held
+dump_number dump q is held = All-contains (λ n. n < 2 ^ 40) (finite.keys dump.frames) q
+    (All-map (λ n. n < 2 ^ 40) (λ e. e.0) (finite.entries dump.frames) is.in_range) held
 
-pub dump_in_range : (dump : Image) (depth : Depth) (root : ℕ) → IsDump dump → walk_fault depth dump.frames root ≡ None → All (λ number. number < 2 ^ 40) (reached (traversal depth dump.frames root))
+pub dump_in_range : (dump : Image) (depth : Depth) (root : ℕ) → IsDump dump → walk_fault depth dump.frames root ≡ None
+    → All (λ number. number < 2 ^ 40) (reached (traversal depth dump.frames root))
 dump_in_range dump depth root is none k d within =
     let number = get_or (reached (traversal depth dump.frames root)) k d in
     dump_number dump number is (held_number dump.frames number (reached_held depth dump.frames root none k d within))

@@ -13,7 +13,8 @@ pub record Image : Type 0 where
   pub frames : Memory
 
 abbrev pub image_code : Coded Image
-image_code = code_by (ℕ × (ℕ × Memory)) (coded× coded_ℕ (coded× coded_ℕ (finite.code {R = nat_cmp} coded_ℕ (coded_list coded_ℕ)))) (λ d. (d.applied, (d.root, d.frames))) (λ p. record { applied = p.0; root = p.1.0; frames = p.1.1 }) (λ _. refl)
+image_code = code_by (ℕ × (ℕ × Memory)) (coded× coded_ℕ (coded× coded_ℕ (finite.code {R = nat_cmp} coded_ℕ (coded_list coded_ℕ))))
+    (λ d. (d.applied, (d.root, d.frames))) (λ p. record { applied = p.0; root = p.1.0; frames = p.1.1 }) (λ _. refl)
 
 -- what the parts of a dump are: at most 4,096 frames, whose numbers rise
 pub record AreParts (applied root : ℕ) (frames : List (ℕ × List ℕ)) : Type 0 where

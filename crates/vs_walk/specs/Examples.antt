@@ -16,6 +16,11 @@ no_words = replicate 512 0
 abbrev pub page_tables : ℕ → ℕ → Memory
 page_tables directory leaf = finite.from_entries ((1, one_word 0 0x2007) ∷ (2, one_word 0 0x3007) ∷ (3, one_word 2 directory) ∷ (4, one_word 0 leaf) ∷ [])
 
+-- the tables of one page under index 256 of a root at level 5
+abbrev pub high_tables : Memory
+high_tables = finite.from_entries ((1, one_word 256 0x2007) ∷ (2, one_word 0 0x3007) ∷ (3, one_word 0 0x4007) ∷ (4, one_word 0 0x5007) ∷
+    (5, one_word 0 0x3007) ∷ [])
+
 -- three tables, of which the lowest has this word at index 1
 abbrev pub three_tables : ℕ → Memory
 three_tables word = finite.from_entries ((1, one_word 0 0x2007) ∷ (2, one_word 0 0x3007) ∷ (3, one_word 1 word) ∷ [])

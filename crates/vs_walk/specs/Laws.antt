@@ -34,7 +34,8 @@ pub record LeadsTo (memory : Memory) (level number other : ℕ) : Type 0 where
 -- of the table that leads to it
 pub data IsTableAt (depth : Depth) (memory : Memory) (root : ℕ) : ℕ → ℕ → Type 0 where
   IsRoot : IsTableAt depth memory root (levels depth) root
-  IsBelow : (level above number : ℕ) → IsTableAt depth memory root (suc level) above → LeadsTo memory (suc level) above number → IsTableAt depth memory root level number
+  IsBelow : (level above number : ℕ) → IsTableAt depth memory root (suc level) above → LeadsTo memory (suc level) above number
+      → IsTableAt depth memory root level number
 
 -- the word of a frame at an index has a reserved bit set, as an entry of the level at which the frame is reached
 pub record IsReservedWord (depth : Depth) (memory : Memory) (root number index : ℕ) : Type 0 where

@@ -40,7 +40,12 @@ abbrev pub entry_visits : Depth → ℕ → ReachedTable → ℕ → (ReachedTab
 entry_visits depth level table index below entry.Absent = []
 entry_visits depth level table index below entry.Reserved = OfReservedBit table.number index ∷ []
 entry_visits depth level table index below (entry.Leaf phys own) =
-    OfLeaf (record { base = canonical_from depth (table.start + index * entry_bytes level); size = size_at level; phys = phys; rights = intersection table.rights own }) ∷ []
+    OfLeaf (record {
+      base = canonical_from depth (table.start + index * entry_bytes level);
+      size = size_at level;
+      phys = phys;
+      rights = intersection table.rights own;
+    }) ∷ []
 entry_visits depth level table index below (entry.Table number own) =
     below (record { number = number; start = table.start + index * entry_bytes level; rights = intersection table.rights own })
 
@@ -53,7 +58,8 @@ unfoldable pub table_visits : Depth → Memory → ℕ → ReachedTable → List
 table_visits depth memory zero table = []
 table_visits depth memory (suc level) table =
     OfFrame table.number ∷ words_visits (finite.get memory table.number) (λ words.
-    flat_map (λ place. entry_visits depth (suc level) table place.0 (λ next. table_visits depth memory level next) (meaning (suc level) place.1)) (enumerate_from 0 words))
+    flat_map (λ place. entry_visits depth (suc level) table place.0 (λ next. table_visits depth memory level next) (meaning (suc level) place.1))
+    (enumerate_from 0 words))
 
 -- all visits from the root on
 abbrev pub traversal : Depth → Memory → ℕ → List Visit

@@ -33,7 +33,9 @@ walk_words (Some words) go = go words
 unfoldable pub walk_from : Memory → ℕ → ℕ → Rights → ℕ → Walk
 walk_from memory zero number rights address = Missing
 walk_from memory (suc level) number rights address =
-    walk_words (finite.get memory number) (λ words. walk_entry (suc level) rights address (λ next own. walk_from memory level next own address) (meaning (suc level) (slice_index words (index_at (suc level) address))))
+    walk_words (finite.get memory number) (λ words.
+    walk_entry (suc level) rights address (λ next own. walk_from memory level next own address)
+    (meaning (suc level) (slice_index words (index_at (suc level) address))))
 
 -- the walk from the root on
 abbrev pub walk : Depth → Memory → ℕ → ℕ → Walk

@@ -1,14 +1,14 @@
 //! Worked examples: what the definitions give at numbers.
 ghost use Rattle.std.specs.Prelude.{◌≡◌, List, [], ◌∷◌, Some, None};
-ghost use Rattle.vs_types.specs.declared.depth.Depth.TheVariants.{Four};
+ghost use Rattle.vs_types.specs.declared.depth.Depth.TheVariants.{Four, Five};
 ghost use Rattle.vs_types.specs.declared.page.Size.TheVariants.{K4, M2};
 ghost use Rattle.vs_walk.specs.declared.walk.Walk.TheVariants.{NotMapped, Reserved, Missing, Mapped};
 ghost use Rattle.vs_walk.specs.declared.walk.WalkFault.TheVariants as faults;
 ghost use Rattle.vs_walk.specs.Walk.{all_rights, walk};
 ghost use Rattle.vs_walk.specs.Traversal.{traversal, reached, found, walk_fault};
-ghost use Rattle.vs_walk.specs.Examples.{page_tables, three_tables, one_table, two_empty_frames, one_empty_frame, write_and_exec};
+ghost use Rattle.vs_walk.specs.Examples.{page_tables, high_tables, three_tables, one_table, two_empty_frames, one_empty_frame, write_and_exec};
 
-/// Tables of one page of 4 KiB: an address in it, one after it, and the way through the tables.
+/// Tables of one page of 4 KiB: an address in it, one after it, and the traversal.
 pub fn map_then_resolve()
     ensures mapped { walk Four (page_tables 0x4007 0x1007) 1 0x400123 ≡ Mapped 0x1123 K4 all_rights }
     ensures not_mapped { walk Four (page_tables 0x4007 0x1007) 1 0x401000 ≡ NotMapped }
@@ -40,4 +40,18 @@ pub fn faulty_dumps()
     ensures stray_frame { walk_fault Four two_empty_frames 1 ≡ None }
     ensures stray_reached { reached (traversal Four two_empty_frames 1) ≡ 1 ∷ [] }
     ensures missing_root { walk_fault Four one_empty_frame 5 ≡ Some (faults.Missing 5) }
+{}
+
+/// Five levels: the high half begins at index 256 of the root, and bit 7 of its words is reserved. The same words with
+/// four levels: the root is the table of level 4, and the page one table above.
+pub fn five_levels()
+    ensures mapped { walk Five high_tables 1 0xFF00000000000123 ≡ Mapped 0x3123 K4 all_rights }
+    ensures not_mapped { walk Five high_tables 1 0x123 ≡ NotMapped }
+    ensures reached { reached (traversal Five high_tables 1) ≡ 1 ∷ 2 ∷ 3 ∷ 4 ∷ 5 ∷ [] }
+    ensures found { found (traversal Five high_tables 1) ≡ record { base = 0xFF00000000000000; size = K4; phys = 0x3000; rights = all_rights } ∷ [] }
+    ensures faultless { walk_fault Five high_tables 1 ≡ None }
+    ensures reserved_bit { walk_fault Five (one_table 0x87) 1 ≡ Some (faults.Reserved 1 0) }
+    ensures empty { walk_fault Five one_empty_frame 1 ≡ None }
+    ensures with_four { walk Four high_tables 1 0xFFFF800000000123 ≡ Mapped 0x5123 K4 all_rights }
+    ensures found_with_four { found (traversal Four high_tables 1) ≡ record { base = 0xFFFF800000000000; size = K4; phys = 0x5000; rights = all_rights } ∷ [] }
 {}

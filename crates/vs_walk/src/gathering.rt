@@ -26,8 +26,8 @@ impl Dump {
     /// The dump of the page table whose root is the frame of number `root`, after `applied` entries of the log: just the
     /// frames that are reached from there, each with its words. Takes memory for them.
     ///
-    /// Where there is no fault on the way through the tables, at most 4,096 frames may be reached, with numbers below
-    /// 2^40. It refuses with the first fault on the way.
+    /// Where the traversal meets no fault, at most 4,096 frames may be reached, with numbers below 2^40. It refuses with
+    /// the first fault.
     pub fn gather<F: Frames>(
         alloc: Global,
         frames: &F,

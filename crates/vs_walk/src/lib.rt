@@ -7,26 +7,20 @@ mod dump;
 pub mod examples;
 mod frames;
 mod gathering;
-mod laws;
+pub mod laws;
 mod listing;
 pub mod pages;
 mod reached;
 mod traversal;
 mod walk;
-mod ways;
 
 pub use dump::Dump;
 pub use frames::Frames;
-pub use laws::{spaces_translate_without_fault, translates_as_one_space};
 pub use listing::leaves;
 pub use reached::Reached;
 pub use traversal::{PageVisitor, traverse};
 pub use vs_types::FRAME_WORDS;
 pub use walk::{Walk, WalkFault, translate};
-pub use ways::{
-    dumps_are_whole, faults_are_met, faults_are_walked, few_are_reached, found_pages_are_the_space,
-    found_pages_are_the_walks, found_pages_rise, reached_once,
-};
 
 #[cfg(test)]
 mod tests;

@@ -7,7 +7,7 @@ use std::collections::BTreeSet;
 use std::marker::Model;
 use vs_types::Memory;
 
-/// The frames that are reached on the way through a page table, by rising number, each once.
+/// The frames that the traversal of a page table reaches, by rising number, each once.
 #[derive(Debug, Drop)]
 pub struct Reached {
     numbers: Vec<u64>,

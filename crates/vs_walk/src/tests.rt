@@ -1,4 +1,5 @@
-ghost use Rattle.std.specs.Prelude.{◌<◌};
+ghost use Rattle.std.specs.Prelude.{◌<◌, IfOk};
+ghost use Rattle.vs_walk.specs.Dump.{IsDump};
 
 use super::*;
 use std::alloc::Global;
@@ -173,5 +174,80 @@ fn gathered(rt: HostRuntime) -> Result<(), Fail> {
     let words = gathered.words(3).ok_or("frame 3")?;
     assert_eq!(rt; *words, one_word(2, 0x4007));
     assert!(rt; gathered.words(9).is_none());
+    Ok(())
+}
+
+/// The tables of one page under index 256 of a root at level 5, where the high half begins.
+fn high_tables(alloc: Global) -> Result<Dump, Memory>
+    ensures { IfOk result (λ dump. IsDump dump) }
+{
+    let mut dump = Dump::new(alloc, 1, 1);
+    dump.push(1, &one_word(256, 0x2007))?;
+    dump.push(2, &one_word(0, 0x3007))?;
+    dump.push(3, &one_word(0, 0x4007))?;
+    dump.push(4, &one_word(0, 0x5007))?;
+    dump.push(5, &one_word(0, 0x3007))?;
+    let _frames = dump.count();
+    Ok(dump)
+}
+
+#[test]
+fn five_levels(rt: HostRuntime) -> Result<(), Fail> {
+    let dump = high_tables(rt.alloc())?;
+    assert_eq!(rt;
+        translate(&dump, 1, Depth::Five, 0xFF00000000000123),
+        Walk::Mapped(0x3123, Size::K4, ALL)
+    );
+    assert_eq!(rt;
+        translate(&dump, 1, Depth::Five, 0xFFFFFFFFFFFFFF),
+        Walk::NotMapped
+    );
+    let found = leaves(rt.alloc(), &dump, 1, Depth::Five)?;
+    let page = Page {
+        base: 0xFF00000000000000,
+        size: Size::K4,
+        phys: 0x3000,
+        rights: ALL,
+    };
+    assert_eq!(rt; found.pages.as_slice(), [page].as_slice());
+    assert_eq!(rt; found.reached.as_slice(), [1, 2, 3, 4, 5].as_slice());
+    let found = leaves(rt.alloc(), &dump, 1, Depth::Four)?;
+    let page = Page {
+        base: 0xFFFF800000000000,
+        size: Size::K4,
+        phys: 0x5000,
+        rights: ALL,
+    };
+    assert_eq!(rt; found.pages.as_slice(), [page].as_slice());
+    assert_eq!(rt; found.reached.as_slice(), [1, 2, 3, 4].as_slice());
+    Ok(())
+}
+
+#[test]
+fn root_of_five_levels(rt: HostRuntime) -> Result<(), Fail> {
+    let mut reserved = Dump::new(rt.alloc(), 0, 1);
+    reserved.push(1, &one_word(0, 0x87))?;
+    assert_eq!(rt;
+        refusal(&leaves(rt.alloc(), &reserved, 1, Depth::Five)),
+        Some(WalkFault::Reserved(1, 0))
+    );
+    assert_eq!(rt; translate(&reserved, 1, Depth::Five, 0), Walk::Reserved);
+    let mut empty = Dump::new(rt.alloc(), 0, 1);
+    empty.push(1, &[0; 512])?;
+    let found = leaves(rt.alloc(), &empty, 1, Depth::Five)?;
+    assert_eq!(rt; found.pages.as_slice().len(), 0);
+    assert_eq!(rt; found.reached.as_slice(), [1].as_slice());
+    Ok(())
+}
+
+#[test]
+fn gathered_with_five_levels(rt: HostRuntime) -> Result<(), Fail> {
+    let dump = high_tables(rt.alloc())?;
+    let gathered = Dump::gather(rt.alloc(), &dump, 1, Depth::Five, 1)?;
+    assert_eq!(rt; gathered.count(), 5);
+    let gathered = Dump::gather(rt.alloc(), &dump, 2, Depth::Four, 1)?;
+    assert_eq!(rt; gathered.root(), 2);
+    assert_eq!(rt; gathered.count(), 4);
+    assert!(rt; gathered.words(1).is_none());
     Ok(())
 }

@@ -128,9 +128,9 @@ fn go_through<F: Frames, V: PageVisitor>(
 
 /// Goes once through all tables from the root on: each table's words by index, the table below an entry before the next
 /// entry. The visitor takes each page as it is found, by rising base, with the rights that all levels allow; its answer
-/// on memory ends the way. Takes memory for the numbers of the frames that are reached.
+/// on memory ends the traversal. Takes memory for the numbers of the frames that are reached.
 ///
-/// It refuses with the first fault on the way.
+/// It refuses with the first fault.
 pub fn traverse<F: Frames, V: PageVisitor>(
     alloc: Global,
     frames: &F,

@@ -12,13 +12,13 @@ pub enum Walk {
     NotMapped,
     /// A present entry has a reserved bit set.
     Reserved,
-    /// An entry names a frame that the memory does not have.
+    /// The memory does not have the root, or the frame that an entry names.
     Missing,
     /// The physical address in bytes, the size of the page, and the rights that all entries on the way allow.
     Mapped(u64, Size, Rights),
 }
 
-/// What keeps tables from being a tree: the first such thing on the way through them.
+/// What keeps tables from being a tree: the first such thing that the traversal meets.
 #[derive(Clone, Copy, Debug, PartialEq, Eq)]
 pub enum WalkFault {
     /// The memory does not have this frame.

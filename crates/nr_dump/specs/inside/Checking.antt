@@ -7,7 +7,7 @@ use Rattle.vs_walk.specs.declared.walk.WalkFault.TheVariants as walks
 use Rattle.nr_dump.specs.declared.fault.DumpFault.{DumpFault}
 use Rattle.nr_dump.specs.declared.fault.DumpFault.TheVariants.{MissingFrame, SharedFrame, ReservedBit}
 
--- a fault on the way through the tables, as one of the dump
+-- a fault of the traversal, as one of the dump
 abbrev pub of_walk : WalkFault → DumpFault
 of_walk (walks.Missing number) = MissingFrame number
 of_walk (walks.Shared number) = SharedFrame number

@@ -4,6 +4,8 @@ use Rattle.std.specs.Prelude.{◌≡◌, ℕ, ◌+◌, ◌-◌, ◌<◌, ◌≤�
 use Rattle.vs_types.specs.declared.depth.Depth.{Depth}
 use Rattle.nr_ring.specs.History.{IsHistory, log_after}
 use Rattle.nr_ring.specs.Words.{IsWordsOf}
+use Rattle.nr_ring.specs.Calls.{Looks, with_event}
+use Rattle.nr_ring.specs.declared.event.Event.{Event}
 use Rattle.nr_ring.specs.declared.view.View.{View}
 use Rattle.nr_ring.specs.declared.tails.Tails.{Tails}
 
@@ -40,3 +42,8 @@ left_from replicas (Some replica) = range_with_len replica (replicas - replica)
 abbrev pub rest_of : ℕ → Option ℕ → List ℕ
 rest_of replicas None = []
 rest_of replicas (Some replica) = range_with_len (replica + 1) (replicas - (replica + 1))
+
+-- what an exchange of the words that a pass knows tells: where they were those of the cell, it made the event; else it looked
+pub record Exchanges (depth : Depth) (replicas : ℕ) (event : Event) (words words' : List ℕ) (before after : View) : Type 0 where
+  pub made : IsWordsOf (log_after replicas before.seen) words → after ≡ with_event before event
+  pub failed : (IsWordsOf (log_after replicas before.seen) words → ⊥) → Looks depth replicas words' before after

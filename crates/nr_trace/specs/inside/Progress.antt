@@ -2,6 +2,7 @@
 use Rattle.std.specs.Prelude.{◌≡◌, ℕ, ◌+◌, ◌-◌, ◌<◌, ◌≤◌, ◌^◌, ◌++◌, nat_lt, List, [], length, flat_map, All, Option, Some, None, Result, MatchResult, ⊤, if◌then◌else◌}
 use Rattle.std.specs.FinMap as finite
 use Rattle.vs_types.specs.Config.{IsLayout}
+use Rattle.vs_types.specs.declared.limits.TheConstants.{LOG_PLACES, CALLS, TABLES}
 use Rattle.vs_types.specs.declared.refusal.Fail.{Fail}
 use Rattle.vs_types.specs.declared.refusal.Fail.TheVariants.{Memory, Refused}
 use Rattle.vs_types.specs.Frame.{IsFrame}
@@ -29,7 +30,7 @@ unit_bytes (Words parts opened number) = Some 4096
 -- the spelling of the parts, where there are so many places and events in all
 abbrev pub parts_spelling : ℕ → ℕ → Parts → List ℕ
 parts_spelling places events parts =
-    magic ++ version_word parts.version ++ counts parts.config places events
+    magic ++ version_word parts.version ++ counts (record { layout = parts.config; places = places; events = events })
     ++ flat_map log_word parts.log.items ++ flat_map event parts.events.items ++ flat_map dump parts.dumps.items
 
 abbrev pub whole_spelling : Parts → List ℕ
@@ -38,7 +39,7 @@ whole_spelling parts = parts_spelling (length parts.log.items) (length parts.eve
 -- the spelling of a dump as far as it has come, where so many frames are left
 abbrev pub opened_spelling : Opened → List ℕ
 opened_spelling opened =
-    dump_head opened.dump.applied (finite.len opened.dump.frames + opened.left) opened.dump.root
+    dump_head (record { applied = opened.dump.applied; frames = finite.len opened.dump.frames + opened.left; root = opened.dump.root })
     ++ flat_map (λ frame. frame_number frame.0 ++ frame_words frame.1) (finite.entries opened.dump.frames)
 
 -- the bytes that were read
@@ -75,9 +76,9 @@ Ahead (Words parts opened number) rest fault =
 pub record AreInRange (parts : Parts) : Type 0 where
   pub layout : IsLayout parts.config
   pub depth : KnowsDepth parts.version parts.config.depth
-  pub few_places : length parts.log.items ≤ 65536
+  pub few_places : length parts.log.items ≤ LOG_PLACES
   pub log : All (λ call. call < 2 ^ 32) parts.log.items
-  pub few_events : length parts.events.items ≤ 131072
+  pub few_events : length parts.events.items ≤ CALLS
   pub events : All (IsEvent parts.version parts.config) parts.events.items
   pub few_dumps : length parts.dumps.items ≤ parts.config.replicas
   pub dumps : All IsImage parts.dumps.items
@@ -91,7 +92,7 @@ pub record IsOpened (parts : Parts) (opened : Opened) : Type 0 where
   pub numbers : All (λ number. number < 2 ^ 40) (finite.keys opened.dump.frames)
   pub words : All IsFrame (finite.values opened.dump.frames)
   pub some_left : 1 ≤ opened.left
-  pub few_frames : finite.len opened.dump.frames + opened.left ≤ 4096
+  pub few_frames : finite.len opened.dump.frames + opened.left ≤ TABLES
 
 -- all frames that there are have lower numbers
 abbrev pub AreBelow : Opened → ℕ → Type 0
@@ -103,8 +104,8 @@ IsReady (Magic alloc) = ⊤
 IsReady (Version alloc) = ⊤
 IsReady (Header alloc version) = ⊤
 IsReady (Log parts places events) =
-    AreInRange parts × (1 ≤ places) × (length parts.log.items + places ≤ 65536) × (events ≤ 131072) × (parts.events.items ≡ []) × (parts.dumps.items ≡ [])
-IsReady (Events parts events) = AreInRange parts × (1 ≤ events) × (length parts.events.items + events ≤ 131072) × (parts.dumps.items ≡ [])
+    AreInRange parts × (1 ≤ places) × (length parts.log.items + places ≤ LOG_PLACES) × (events ≤ CALLS) × (parts.events.items ≡ []) × (parts.dumps.items ≡ [])
+IsReady (Events parts events) = AreInRange parts × (1 ≤ events) × (length parts.events.items + events ≤ CALLS) × (parts.dumps.items ≡ [])
 IsReady (Dumps parts) = AreInRange parts
 IsReady (Frame parts opened last) = IsOpened parts opened × ((number : ℕ) → IsNext last number → AreBelow opened number)
 IsReady (Words parts opened number) = IsOpened parts opened × (number < 2 ^ 40) × AreBelow opened number

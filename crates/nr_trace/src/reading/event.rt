@@ -2,16 +2,40 @@
 
 ghost use Rattle.std.specs.Prelude.{◌≡◌, ◌∷◌, length};
 ghost use Rattle.vs_types.specs.Config.{Layout};
+ghost use Rattle.vs_types.specs.Finds.{Finds};
 ghost use Rattle.nr_trace.specs.Recording.{IsEvent};
 ghost use Rattle.nr_trace.specs.Spelling.{event};
-ghost use Rattle.nr_trace.specs.inside.Reading.{Finds, SpellsEvent};
+ghost use Rattle.nr_trace.specs.inside.Reading.{IsAnswerIn, IsRequestIn, SpellsEvent};
 
 use crate::event::Event;
-use crate::reading::answer::answer_of;
+use crate::fields::AnswerFields;
 use crate::reading::fields::{take_u8, take_u16, take_u32, take_u64};
-use crate::reading::request::{Asked, request_of};
 use crate::version::Version;
-use vs_types::Config;
+use vs_types::{Answer, Config, Depth, Request, RequestFields};
+
+/// The request that has the fields, if the version knows it.
+fn request_of(version: Version, depth: Depth, fields: RequestFields) -> Option<Request>
+    ensures { Finds (IsRequestIn version depth fields) result }
+{
+    let request = Request::of_fields(depth, fields)?;
+    if version.knows_query(request.query()) {
+        Some(request)
+    } else {
+        None
+    }
+}
+
+/// The answer that has the fields, if the version knows it.
+fn answer_of(version: Version, fields: AnswerFields) -> Option<Answer>
+    ensures { Finds (IsAnswerIn version fields) result }
+{
+    let answer = fields.answer()?;
+    if version.knows_answer(answer) {
+        Some(answer)
+    } else {
+        None
+    }
+}
 
 fn call_of(version: Version, config: Config, bytes: &[u8]) -> Option<Event>
     requires { length bytes.now ≡ 23 }
@@ -28,16 +52,14 @@ fn call_of(version: Version, config: Config, bytes: &[u8]) -> Option<Event>
     if replica >= config.replicas() || thread >= config.threads() || unused != 0 {
         return None;
     }
-    let asked = Asked {
+    let fields = RequestFields {
+        kind,
         size,
         rights,
         address,
         physical,
     };
-    let request = request_of(config.depth(), kind, asked)?;
-    if !version.knows_query(request.query()) {
-        return None;
-    }
+    let request = request_of(version, config.depth(), fields)?;
     Some(Event::Call {
         replica,
         thread,
@@ -59,10 +81,13 @@ fn reply_of(version: Version, config: Config, bytes: &[u8]) -> Option<Event>
     if unused != 0 {
         return None;
     }
-    let answer = answer_of(code, size, rights, value)?;
-    if !version.knows_answer(answer) {
-        return None;
-    }
+    let fields = AnswerFields {
+        code,
+        size,
+        rights,
+        value,
+    };
+    let answer = answer_of(version, fields)?;
     Some(Event::Reply { call, at, answer })
 }
 

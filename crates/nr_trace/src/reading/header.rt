@@ -2,39 +2,26 @@
 
 ghost use Rattle.std.specs.Prelude.{◌≡◌, length};
 ghost use Rattle.vs_types.specs.Depth.{levels};
-ghost use Rattle.nr_trace.specs.inside.Reading.{Finds, SpellsCounts, SpellsHead};
+ghost use Rattle.vs_types.specs.Finds.{Finds};
+ghost use Rattle.nr_trace.specs.inside.Reading.{SpellsCounts, SpellsHead};
 
+use crate::fields::{Counts, DumpHead};
 use crate::reading::fields::{take_u8, take_u16, take_u32, take_u64};
 use crate::version::Version;
-use vs_types::{Config, Depth};
-
-/// How a service is laid out, and how many places and events a trace of it has.
-#[derive(Clone, Copy)]
-pub(crate) struct Header {
-    pub(crate) config: Config,
-    pub(crate) places: u32,
-    pub(crate) events: u32,
-}
-
-/// How a dump begins.
-#[derive(Clone, Copy)]
-pub(crate) struct DumpHead {
-    pub(crate) applied: u32,
-    pub(crate) frames: u32,
-    pub(crate) root: u64,
-}
+use vs_types::{CALLS, Config, Depth, LOG_PLACES, TABLES};
 
 fn depth_of(count: u8) -> Option<Depth>
     ensures { Finds (λ depth. count ≡ levels depth) result }
 {
     match count {
         4 => Some(Depth::Four),
+        5 => Some(Depth::Five),
         _ => None,
     }
 }
 
 /// What the 14 bytes spell, if all of it is in range, and the version knows the depth.
-pub(crate) fn header_of(version: Version, unit: &[u8]) -> Option<Header>
+pub(crate) fn counts_of(version: Version, unit: &[u8]) -> Option<Counts>
     requires { length unit.now ≡ 14 }
     ensures { Finds (SpellsCounts version unit.now) result }
 {
@@ -44,10 +31,10 @@ pub(crate) fn header_of(version: Version, unit: &[u8]) -> Option<Header>
     let (tables, rest) = take_u16(rest);
     let (places, rest) = take_u32(rest);
     let (events, _) = take_u32(rest);
-    if places > 65_536 {
+    if places > LOG_PLACES {
         return None;
     }
-    if events > 131_072 {
+    if events > CALLS {
         return None;
     }
     let depth = depth_of(levels)?;
@@ -55,8 +42,8 @@ pub(crate) fn header_of(version: Version, unit: &[u8]) -> Option<Header>
         return None;
     }
     match Config::new(depth, replicas, threads, tables) {
-        Ok(config) => Some(Header {
-            config,
+        Ok(layout) => Some(Counts {
+            layout,
             places,
             events,
         }),
@@ -72,7 +59,7 @@ pub(crate) fn dump_head_of(unit: &[u8]) -> Option<DumpHead>
     let (applied, rest) = take_u32(unit);
     let (frames, rest) = take_u32(rest);
     let (root, _) = take_u64(rest);
-    if frames < 1 || frames > 4096 {
+    if frames < 1 || frames > u32::from(TABLES) {
         return None;
     }
     Some(DumpHead {

@@ -1,13 +1,14 @@
 //! The units of the header, of the log and of the events.
 
 ghost use Rattle.std.specs.Prelude.{◌≡◌, ◌+◌, ◌≤◌, [], length};
+ghost use Rattle.vs_types.specs.declared.limits.TheConstants.{LOG_PLACES, CALLS};
 ghost use Rattle.nr_trace.specs.FirstFault.{AtLog, AtEvents};
 ghost use Rattle.nr_trace.specs.inside.Progress.{AreInRange, HasRead, IsReady, Takes, parts_spelling};
 
 use crate::fault::Format;
 use crate::reading::event::event_of;
 use crate::reading::fields::{take_u16, take_u32};
-use crate::reading::header::header_of;
+use crate::reading::header::counts_of;
 use crate::reading::parts::{Parts, Reader};
 use crate::version::Version;
 use std::alloc::Global;
@@ -15,7 +16,7 @@ use vs_types::Fail;
 
 fn at_events(parts: Parts, events: u32) -> Reader
     requires in_range { AreInRange parts }
-    requires few_events { length parts.events.items + events ≤ 131072 }
+    requires few_events { length parts.events.items + events ≤ CALLS }
     requires no_dumps { parts.dumps.items ≡ [] }
     ensures { HasRead (parts_spelling (length parts.log.items) (length parts.events.items + events) parts)
         (AtEvents parts.version parts.config (length parts.events.items) events) result }
@@ -29,8 +30,8 @@ fn at_events(parts: Parts, events: u32) -> Reader
 
 fn at_log(parts: Parts, places: u32, events: u32) -> Reader
     requires in_range { AreInRange parts }
-    requires few_places { length parts.log.items + places ≤ 65536 }
-    requires few_events { events ≤ 131072 }
+    requires few_places { length parts.log.items + places ≤ LOG_PLACES }
+    requires few_events { events ≤ CALLS }
     requires no_events { parts.events.items ≡ [] }
     requires no_dumps { parts.dumps.items ≡ [] }
     ensures { HasRead (parts_spelling (length parts.log.items + places) events parts) (AtLog parts.version parts.config places events) result }
@@ -73,17 +74,17 @@ pub(crate) fn take_header(
     requires { length unit.now ≡ 14 }
     ensures { Takes (Reader.Header alloc version) unit.now result }
 {
-    match header_of(version, unit) {
-        Some(header) => {
+    match counts_of(version, unit) {
+        Some(counts) => {
             let parts = Parts {
                 alloc,
                 version,
-                config: header.config,
+                config: counts.layout,
                 log: Vec::new(alloc),
                 events: Vec::new(alloc),
                 dumps: Vec::new(alloc),
             };
-            Ok(at_log(parts, header.places, header.events))
+            Ok(at_log(parts, counts.places, counts.events))
         }
         None => Err(Fail::Refused(Format::BadCount)),
     }

@@ -7,30 +7,10 @@ ghost use Rattle.nr_trace.specs.FirstFault.{HasFormatFault};
 ghost use Rattle.vs_types.specs.Refusal.{IfRefused};
 
 use crate::fault::Format;
-use crate::reading::parts::Reader;
+use crate::reading::feed::Feed;
 use crate::trace::Trace;
 use std::alloc::Global;
 use vs_types::Fail;
-
-fn read_units(alloc: Global, bytes: &[u8]) -> Result<Trace, Fail<Format>>
-    ensures spelled { IfOk result (λ trace. Spells bytes.now trace) }
-    ensures refused { IfErr result (IfRefused (HasFormatFault bytes.now)) }
-{
-    let mut reader = Reader::new(alloc);
-    let mut rest = bytes;
-    while let Some(len) = reader.unit_len() {
-        if rest.len() < len {
-            return Err(Fail::Refused(Format::Truncated));
-        }
-        let (unit, behind) = rest.split_at(len);
-        reader = reader.take_unit(unit)?;
-        rest = behind;
-    }
-    if !rest.is_empty() {
-        return Err(Fail::Refused(Format::Trailing));
-    }
-    Ok(reader.finish())
-}
 
 /// The trace that the bytes spell, or the first fault in byte order that keeps them from spelling one. It takes memory
 /// for the trace, at most about the length of the bytes, and refuses with out of memory where that is refused.
@@ -42,5 +22,7 @@ pub fn read(alloc: Global, bytes: &[u8]) -> Result<Trace, Fail<Format>>
     // Which fault it is.
     ensures refused { IfErr result (IfRefused (HasFormatFault bytes.now)) }
 {
-    read_units(alloc, bytes)
+    let mut feed = Feed::new(alloc);
+    feed.feed(bytes)?;
+    feed.end()
 }

@@ -3,17 +3,18 @@
 ghost use Rattle.std.specs.Prelude.{◌≡◌, ◌<◌, ◌++◌, OnOk, flat_map};
 ghost use Rattle.nr_trace.specs.Spelling.{dump_head, frame_number, frame_words, dump};
 
+use crate::fields::DumpHead;
 use crate::writing::lists::put_words;
 use crate::writing::numbers::{put_u32, put_u64};
 use vs_types::{FRAME_WORDS, Memory};
 use vs_walk::{Dump, Frames};
 
-fn put_dump_head(out: &mut Vec<u8>, applied: u32, frames: u32, root: u64) -> Result<(), Memory>
-    ensures { OnOk result (out.new.items ≡ out.old.items ++ dump_head applied frames root) }
+fn put_dump_head(out: &mut Vec<u8>, head: DumpHead) -> Result<(), Memory>
+    ensures { OnOk result (out.new.items ≡ out.old.items ++ dump_head head) }
 {
-    put_u32(out, applied)?;
-    put_u32(out, frames)?;
-    put_u64(out, root)?;
+    put_u32(out, head.applied)?;
+    put_u32(out, head.frames)?;
+    put_u64(out, head.root)?;
     Ok(())
 }
 
@@ -29,7 +30,12 @@ fn put_dump(out: &mut Vec<u8>, held: &Dump) -> Result<(), Memory>
     ensures { OnOk result (out.new.items ≡ out.old.items ++ dump held.now) }
 {
     let frames = held.count();
-    put_dump_head(out, held.applied(), frames as u32, held.root())?;
+    let head = DumpHead {
+        applied: held.applied(),
+        frames: frames as u32,
+        root: held.root(),
+    };
+    put_dump_head(out, head)?;
     for k in 0..frames {
         let number = held.number(k);
         let words = held.words(number).unwrap();

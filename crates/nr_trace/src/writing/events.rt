@@ -4,39 +4,38 @@ ghost use Rattle.std.specs.Prelude.{◌≡◌, ◌++◌, OnOk};
 ghost use Rattle.nr_trace.specs.Spelling.{event};
 
 use crate::event::Event;
-use crate::writing::codes::answer_code;
-use crate::writing::fields::{answer_numbers, request_numbers};
+use crate::fields::AnswerFields;
 use crate::writing::numbers::{put_u8, put_u16, put_u32, put_u64};
 use vs_types::{Answer, Memory, Request};
 
 fn put_call(out: &mut Vec<u8>, replica: u8, thread: u16, request: Request) -> Result<(), Memory>
     ensures { OnOk result (out.new.items ≡ out.old.items ++ event (Event.Call replica thread request)) }
 {
-    let numbers = request_numbers(request.query());
+    let fields = request.fields();
     put_u8(out, 0)?;
     put_u8(out, replica)?;
     put_u16(out, thread)?;
-    put_u8(out, numbers.kind)?;
-    put_u8(out, numbers.size)?;
-    put_u8(out, numbers.rights)?;
+    put_u8(out, fields.kind)?;
+    put_u8(out, fields.size)?;
+    put_u8(out, fields.rights)?;
     put_u8(out, 0)?;
-    put_u64(out, numbers.address)?;
-    put_u64(out, numbers.physical)?;
+    put_u64(out, fields.address)?;
+    put_u64(out, fields.physical)?;
     Ok(())
 }
 
 fn put_reply(out: &mut Vec<u8>, call: u32, at: u32, answer: Answer) -> Result<(), Memory>
     ensures { OnOk result (out.new.items ≡ out.old.items ++ event (Event.Reply call at answer)) }
 {
-    let numbers = answer_numbers(answer);
+    let fields = AnswerFields::of(answer);
     put_u8(out, 1)?;
-    put_u8(out, answer_code(answer))?;
-    put_u8(out, numbers.size)?;
-    put_u8(out, numbers.rights)?;
+    put_u8(out, fields.code)?;
+    put_u8(out, fields.size)?;
+    put_u8(out, fields.rights)?;
     put_u32(out, call)?;
     put_u32(out, at)?;
     put_u32(out, 0)?;
-    put_u64(out, numbers.value)?;
+    put_u64(out, fields.value)?;
     Ok(())
 }
 

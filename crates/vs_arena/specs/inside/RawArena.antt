@@ -1,6 +1,6 @@
 -- How the free frames of an arena in one region are linked through their own first words. No clause of a public call cites it.
 use Rattle.std.specs.Prelude.{◌≡◌, ℕ, ◌+◌, ◌<◌, Bool, List, [], ◌∷◌, map, slice_index, slice_index_or, Option, Some, None}
-use Rattle.vs_arena.specs.Arena.{IsArena}
+use Rattle.vs_arena.specs.inside.Arena.{IsArena}
 
 -- the values of the places that have one
 abbrev pub values : {X : Type 0} → List (Option X) → List X

@@ -1,4 +1,4 @@
--- A part of the way through all tables, as the code goes it with the frames marked that it has reached. No public clause
+-- A part of the traversal, as the code makes it with the frames marked that it has reached. No public clause
 -- cites this file.
 use Rattle.std.specs.Prelude.{◌≡◌, ℕ, ◌+◌, ◌*◌, ◌≤◌, List, ◌++◌, Some, None}
 use Rattle.vs_types.specs.Depth.{levels, half_bytes, table_bytes}

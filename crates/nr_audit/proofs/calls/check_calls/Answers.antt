@@ -5,9 +5,9 @@ use Rattle.std.proofs.lemmas.List.{get_or_read}
 use Rattle.nr_trace.specs.declared.fault.Fault.TheVariants.{ThreadOpen, NoSuchCall, AnsweredTwice}
 use Rattle.nr_audit.specs.inside.Search.{HasNone}
 use Rattle.nr_audit.specs.inside.Passes.{IsCallFaultAt}
-use Rattle.nr_audit.proofs.EventFacts.{read_event, read_gone, read_some, thread_in_layout, told_call, if_some, open_call, no_open_call}
+use Rattle.nr_audit.proofs.CallsAndReplies.{read_event, read_gone, read_some, thread_in_layout, told_call, if_some, open_call, no_open_call}
 use Rattle.nr_audit.proofs.Ranks.{more_of}
-use Rattle.nr_audit.proofs.Known.{IsKnown, known_at_start, known_after_call, none_at_call, first_open, first_no_call, first_twice, none_at_reply, known_after_reply, first_call_fault, no_call_fault, table_at_end}
+use Rattle.nr_audit.proofs.CallFaults.{HasFound, known_at_start, known_after_call, none_at_call, first_open, first_no_call, first_twice, none_at_reply, known_after_reply, first_call_fault, no_call_fault, table_at_end}
 use Rattle.nr_audit.proofs.calls.check_calls.Goals as goal
 use Rattle.nr_audit.proofs.calls.check_calls.Goals.{in-Call+else-is_open, in-Reply+else-call-index+else-not-is_call+else-is_some, then-call-index-via-then-call-index, then-call-index-via-else-call-index+then-not-is_call}
 
@@ -67,7 +67,7 @@ returns-then-is_some-clause-first c =
     first_call_fault c.args.trace.now c.loop-index.index (AnsweredTwice c.loop-index.index) c.loop-index.invariant.none
     (first_twice c.args.trace.now c.loop-index.index c.loop-index.last.items c.loop-index.replies.items known (omega (arith, ap length c.events-events.ensures.reads)) _ _ _
     (read_event c.args.trace.now c.events-events.result.now c.loop-index.index _ _ c.events-events.ensures.reads c.loop-index-test.true c.index-events-index.is c.in-Reply.is)
-    low (sym told ∙ c.if-not-is_call.false) (read_some _ _ _ read (sym c.is_some.ensures) c.if-is_some.true))
+    low (sym told ∙ c.if-not-is_call.false) (read_some _ _ _ (c.get.ensures ∙ read) (sym c.is_some.ensures) c.if-is_some.true))
 
 -- src/calls.rt:28:5
 pub loop-index-preserved : goal.loop-index-preserved
@@ -81,9 +81,10 @@ loop-index-preserved c =
           let is = read_event c.args.trace.now c.events-events.result.now c.loop-index.index _ _ c.events-events.ensures.reads c.loop-index-test.true c.index-events-index.is w.in-Call.is in
           let idle = no_open_call w.index.result.now _ w.deref.result.now c.loop-index.replies.items read w.deref.ensures.value (iff_false w.is_open.ensures w.if-is_open.false) in
           record {
-            known = subst (λ (v : Vec (Option ℕ) Global). IsKnown c.args.trace.now (c.loop-index.index + 1) v.items c.match-event.replies.items) (sym w.last-is)
-                (subst (λ (v : Vec (Option ℕ) Global). IsKnown c.args.trace.now (c.loop-index.index + 1) (set c.loop-index.last.items w.in-Call.thread (Some c.loop-index.index)) v.items) (sym w.replies-is)
-                (known_after_call c.args.trace.now c.loop-index.index c.loop-index.last.items c.loop-index.replies.items known within _ w.in-Call.thread _ is few idle));
+            known = subst (λ (v : Vec (Option ℕ) Global). HasFound c.args.trace.now (c.loop-index.index + 1) v.items c.match-event.replies.items) (sym w.last-is)
+                (subst (λ (v : Vec (Option ℕ) Global). HasFound c.args.trace.now (c.loop-index.index + 1) (set c.loop-index.last.items w.in-Call.thread w.of.result) v.items) (sym w.replies-is)
+                (subst (λ o. HasFound c.args.trace.now (c.loop-index.index + 1) (set c.loop-index.last.items w.in-Call.thread o) c.loop-index.replies.items) (sym w.of.ensures)
+                (known_after_call c.args.trace.now c.loop-index.index c.loop-index.last.items c.loop-index.replies.items known within _ w.in-Call.thread _ is few idle)));
             none = more_of IsCallFaultAt c.args.trace.now c.loop-index.index c.loop-index.invariant.none (none_at_call c.args.trace.now c.loop-index.index c.loop-index.last.items c.loop-index.replies.items known within _ w.in-Call.thread _ is idle);
           }
       | in-Reply+else-call-index+else-not-is_call+else-is_some w ↦
@@ -91,21 +92,23 @@ loop-index-preserved c =
           let told = told_call c.args.trace.now c.events-events.result.now w.in-Reply.call _ w.is_call.result c.events-events.ensures.reads (let here = c.loop-index-test.true in omega arith) w.index-events-call.is w.is_call.ensures in
           let called = sym told ∙ w.if-not-is_call.false in
           let read = get_or_read c.loop-index.replies.items w.in-Reply.call w.index-in-Reply.result.now (omega (arith, known.one_each)) w.index-in-Reply.ensures None in
-          let none = read_gone _ _ _ read (sym w.is_some.ensures) w.if-is_some.false in
+          let none = read_gone _ _ _ (w.get.ensures ∙ read) (sym w.is_some.ensures) w.if-is_some.false in
           let is = read_event c.args.trace.now c.events-events.result.now c.loop-index.index _ _ c.events-events.ensures.reads c.loop-index-test.true c.index-events-index.is w.in-Reply.is in
           record {
-            known = subst (λ (v : Vec (Option ℕ) Global). IsKnown c.args.trace.now (c.loop-index.index + 1) v.items c.match-event.replies.items) (sym w.last-is)
-                (subst (λ (v : Vec (Option ℕ) Global). IsKnown c.args.trace.now (c.loop-index.index + 1) c.loop-index.last.items v.items) (sym w.replies-is)
-                (known_after_reply c.args.trace.now c.loop-index.index c.loop-index.last.items c.loop-index.replies.items known within _ _ _ is low none));
+            known = subst (λ (v : Vec (Option ℕ) Global). HasFound c.args.trace.now (c.loop-index.index + 1) v.items c.match-event.replies.items) (sym w.last-is)
+                (subst (λ (v : Vec (Option ℕ) Global). HasFound c.args.trace.now (c.loop-index.index + 1) c.loop-index.last.items v.items) (sym w.replies-is)
+                (subst (λ o. HasFound c.args.trace.now (c.loop-index.index + 1) c.loop-index.last.items (set c.loop-index.replies.items w.in-Reply.call o)) (sym w.of-in-Reply.ensures)
+                (known_after_reply c.args.trace.now c.loop-index.index c.loop-index.last.items c.loop-index.replies.items known within _ _ _ is low none)));
             none = more_of IsCallFaultAt c.args.trace.now c.loop-index.index c.loop-index.invariant.none (none_at_reply c.args.trace.now c.loop-index.index c.loop-index.last.items c.loop-index.replies.items known within _ _ _ is low called none);
           }
     ]
 
 -- src/calls.rt:20:1
-pub returns-clause-table : goal.returns-clause-table
-returns-clause-table c =
+pub of-requires-2 : goal.of-requires-2
+of-requires-2 c =
     let at_end : c.loop-index.index ≡ length c.args.trace.now.events = omega (arith, ap length c.events-events.ensures.reads) in
-    table_at_end c.args.trace.now c.loop-index.last.items c.loop-index.replies.items (subst (λ n. IsKnown c.args.trace.now n c.loop-index.last.items c.loop-index.replies.items) at_end c.loop-index.invariant.known)
+    table_at_end c.args.trace.now c.loop-index.last.items c.loop-index.replies.items
+    (no_call_fault c.args.trace.now (subst (λ n. (lower : ℕ) → lower < n → HasNone (IsCallFaultAt lower) c.args.trace.now) at_end c.loop-index.invariant.none)) (subst (λ n. HasFound c.args.trace.now n c.loop-index.last.items c.loop-index.replies.items) at_end c.loop-index.invariant.known)
 
 -- src/calls.rt:20:1
 pub returns-clause-clean : goal.returns-clause-clean

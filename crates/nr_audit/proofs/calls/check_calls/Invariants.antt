@@ -1,11 +1,11 @@
 use Rattle.std.proofs.Common.{ℕ, ◌<◌}
 use Rattle.nr_audit.specs.inside.Search.{HasNone}
 use Rattle.nr_audit.specs.inside.Passes.{IsCallFaultAt}
-use Rattle.nr_audit.proofs.Known.{IsKnown}
+use Rattle.nr_audit.proofs.CallFaults.{HasFound}
 use Rattle.nr_audit.proofs.calls.check_calls.Given as goal
 
 abbrev pub invariant-loop-index : goal.invariant-loop-index
 invariant-loop-index l = record {
-  known : IsKnown l.trace l.index l.last.items l.replies.items;
+  known : HasFound l.trace l.index l.last.items l.replies.items;
   none : (lower : ℕ) → lower < l.index → HasNone (IsCallFaultAt lower) l.trace;
 }

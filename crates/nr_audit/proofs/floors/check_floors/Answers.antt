@@ -1,41 +1,32 @@
-use Rattle.std.proofs.Common.{◌≡◌, ℕ, ◌<◌, length, max, None, sym, ap, subst, ◌∙◌, arith}
-use Rattle.std.proofs.lemmas.List.{get_or_read}
+use Rattle.std.proofs.Common.{◌≡◌, ℕ, ◌<◌, length, max, sym, ap, subst, ◌∙◌, arith}
 use Rattle.nr_trace.specs.Orders.{floor}
-use Rattle.nr_trace.specs.Faults.{StandsAfter}
-use Rattle.nr_trace.specs.inside.Reading.{Finds}
 use Rattle.nr_trace.specs.Calls.{Response}
 use Rattle.nr_trace.proofs.LawsOfSteps.{floor_after_reply, floor_after_other}
 use Rattle.nr_audit.specs.inside.Search.{HasNone}
 use Rattle.nr_audit.specs.inside.Passes.{IsFloorFaultAt}
-use Rattle.nr_audit.proofs.EventFacts.{read_event, reply_here, no_reply_at_call, no_call_at_reply}
+use Rattle.nr_audit.proofs.CallsAndReplies.{read_event, reply_here, no_reply_at_call, no_call_at_reply}
 use Rattle.nr_audit.proofs.Ranks.{more_of}
-use Rattle.nr_audit.proofs.FloorFacts.{none_at_call, none_at_other, no_floor_fault, first_early}
+use Rattle.nr_audit.proofs.FloorFaults.{none_at_call, none_at_other, no_floor_fault, first_early}
 use Rattle.nr_audit.proofs.floors.check_floors.Goals as goal
 use Rattle.nr_audit.proofs.floors.check_floors.Goals.{in-Call+in-Some+else-entries-floor, in-Call+in_default, in-Reply}
 
 -- src/floors.rt:65:25
 pub returns-then-entries-floor-clause-first : goal.returns-then-entries-floor-clause-first
 returns-then-entries-floor-clause-first c =
-    let within : c.loop-index.index < length c.args.positions.now.by_call.items = omega (arith, c.loop-index-test.true, c.requires.table.one_each, ap length c.events-events.ensures.reads) in
-    let read = get_or_read c.args.positions.now.by_call.items c.loop-index.index c.index.result.now within c.index.ensures None in
-    let found = subst (λ o. Finds (StandsAfter c.args.trace.now c.loop-index.index) o) (sym read) (c.requires.table.each c.loop-index.index within) in
-    first_early c.args.trace.now c.loop-index.index c.index.result.now c.in-Some.entries c.loop-index.invariant.none found c.in-Some.is
+    first_early c.args.history.now c.loop-index.index c.entries_before.result c.in-Some.entries c.loop-index.invariant.none c.entries_before.ensures c.in-Some.is
     (subst (λ n. c.in-Some.entries < n) c.loop-index.invariant.floor c.if-entries-floor.true)
 
 -- src/floors.rt:60:5
 pub loop-index-preserved : goal.loop-index-preserved
 loop-index-preserved c =
-    let trace = c.args.trace.now in
+    let trace = c.args.history.now in
     let index = c.loop-index.index in
-    let within : index < length c.args.positions.now.by_call.items = omega (arith, c.loop-index-test.true, c.requires.table.one_each, ap length c.events-events.ensures.reads) in
     elim c.match-event.branch [
       | in-Call+in-Some+else-entries-floor w ↦
-          let read = get_or_read c.args.positions.now.by_call.items index w.index.result.now within w.index.ensures None in
-          let found = subst (λ o. Finds (StandsAfter trace index) o) (sym read) (c.requires.table.each index within) in
           let is = read_event trace c.events-events.result.now index _ _ c.events-events.ensures.reads c.loop-index-test.true c.index-events-index.is w.in-Call.is in
           record {
             floor = w.floor-is ∙ c.loop-index.invariant.floor ∙ sym (floor_after_other trace index (no_reply_at_call trace index _ _ _ is));
-            none = more_of IsFloorFaultAt trace index c.loop-index.invariant.none (none_at_call trace index w.index.result.now c.requires.clean found
+            none = more_of IsFloorFaultAt trace index c.loop-index.invariant.none (none_at_call trace index w.entries_before.result c.requires.clean w.entries_before.ensures
                 (λ entries there.
                 let own = w.in-Some.is in
                 let same : w.in-Some.entries ≡ entries = cc in
@@ -44,12 +35,10 @@ loop-index-preserved c =
                 omega arith));
           }
       | in-Call+in_default w ↦
-          let read = get_or_read c.args.positions.now.by_call.items index w.index.result.now within w.index.ensures None in
-          let found = subst (λ o. Finds (StandsAfter trace index) o) (sym read) (c.requires.table.each index within) in
           let is = read_event trace c.events-events.result.now index _ _ c.events-events.ensures.reads c.loop-index-test.true c.index-events-index.is w.in-Call.is in
           record {
             floor = w.floor-is ∙ c.loop-index.invariant.floor ∙ sym (floor_after_other trace index (no_reply_at_call trace index _ _ _ is));
-            none = more_of IsFloorFaultAt trace index c.loop-index.invariant.none (none_at_call trace index w.index.result.now c.requires.clean found
+            none = more_of IsFloorFaultAt trace index c.loop-index.invariant.none (none_at_call trace index w.entries_before.result c.requires.clean w.entries_before.ensures
                 (λ entries there. absurd (w.in_default.not-Some entries there)));
           }
       | in-Reply w ↦
@@ -66,5 +55,5 @@ loop-index-preserved c =
 -- src/floors.rt:50:1
 pub returns-clause-clean : goal.returns-clause-clean
 returns-clause-clean c =
-    let at_end : c.loop-index.index ≡ length c.args.trace.now.events = omega (arith, ap length c.events-events.ensures.reads) in
-    no_floor_fault c.args.trace.now (subst (λ n. (lower : ℕ) → lower < n → HasNone (IsFloorFaultAt lower) c.args.trace.now) at_end c.loop-index.invariant.none)
+    let at_end : c.loop-index.index ≡ length c.args.history.now.events = omega (arith, ap length c.events-events.ensures.reads) in
+    no_floor_fault c.args.history.now (subst (λ n. (lower : ℕ) → lower < n → HasNone (IsFloorFaultAt lower) c.args.history.now) at_end c.loop-index.invariant.none)

@@ -6,6 +6,6 @@ use Rattle.nr_audit.proofs.floors.check_floors.Given as goal
 
 abbrev pub invariant-loop-index : goal.invariant-loop-index
 invariant-loop-index l = record {
-  floor : l.floor ≡ floor l.trace l.index;
-  none : (lower : ℕ) → lower < l.index → HasNone (IsFloorFaultAt lower) l.trace;
+  floor : l.floor ≡ floor l.history l.index;
+  none : (lower : ℕ) → lower < l.index → HasNone (IsFloorFaultAt lower) l.history;
 }

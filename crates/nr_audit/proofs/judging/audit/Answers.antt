@@ -4,7 +4,7 @@ use Rattle.nr_trace.specs.FirstFault.{HasFormatFault}
 use Rattle.nr_trace.specs.declared.fault.Fault.TheVariants.{Format}
 use Rattle.nr_audit.specs.Verdict.{IsVerdictOf, IsVerdictOn}
 use Rattle.nr_audit.specs.declared.verdict.Verdict.TheVariants.{No}
-use Rattle.nr_audit.proofs.VerdictFacts.{of_spelled, no_of}
+use Rattle.nr_audit.proofs.PartsOfVerdicts.{of_spelled, no_of}
 use Rattle.nr_audit.proofs.judging.audit.Goals as goal
 
 -- src/judging.rt:76:22

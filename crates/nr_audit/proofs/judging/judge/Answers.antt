@@ -1,7 +1,7 @@
 use Rattle.std.proofs.Common.{sym, subst, ◌∙◌}
 use Rattle.nr_trace.specs.Faults.{IsFirst}
 use Rattle.nr_audit.specs.declared.verdict.Verdict.TheVariants.{Yes, No}
-use Rattle.nr_audit.proofs.VerdictFacts.{no_on, members_on, precedence_on, answers_on, dumps_on}
+use Rattle.nr_audit.proofs.PartsOfVerdicts.{no_on, members_on, precedence_on, answers_on, dumps_on}
 use Rattle.nr_audit.proofs.judging.judge.Goals as goal
 
 -- src/judging.rt:43:19

@@ -1,4 +1,4 @@
-use Rattle.nr_audit.proofs.VerdictFacts.{same_of, same_on}
+use Rattle.nr_audit.proofs.PartsOfVerdicts.{same_of, same_on}
 use Rattle.nr_audit.proofs.laws.one_verdict.Goals as goal
 
 pub returns-clause-of_bytes : goal.returns-clause-of_bytes

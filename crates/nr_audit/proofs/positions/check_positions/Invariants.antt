@@ -1,11 +1,7 @@
 use Rattle.std.proofs.Common.{ℕ, ◌<◌}
 use Rattle.nr_audit.specs.inside.Search.{HasNone}
 use Rattle.nr_audit.specs.inside.Passes.{IsPositionFaultAt}
-use Rattle.nr_audit.proofs.Positioned.{IsPositioned}
 use Rattle.nr_audit.proofs.positions.check_positions.Given as goal
 
 abbrev pub invariant-loop-index : goal.invariant-loop-index
-invariant-loop-index l = record {
-  none : (lower : ℕ) → lower < l.index → HasNone (IsPositionFaultAt lower) l.trace;
-  table : IsPositioned l.trace l.index l.positions.items;
-}
+invariant-loop-index l = (lower : ℕ) → lower < l.index → HasNone (IsPositionFaultAt lower) l.history

@@ -1,7 +1,7 @@
 use Rattle.std.proofs.Common.{◌≡◌, ◌∙◌, None, Some, ap}
 use Rattle.vs_types.specs.Space.{pages}
 use Rattle.vs_walk.specs.Traversal.{traversal, found, walk_fault}
-use Rattle.vs_walk.proofs.WaysDumps.{dump_is_whole}
+use Rattle.vs_walk.proofs.LawsOfDumps.{dump_is_whole}
 use Rattle.nr_dump.specs.declared.comparison.Comparison.{Comparison}
 use Rattle.nr_dump.specs.inside.Comparing.{IsCompared}
 use Rattle.nr_dump.proofs.Taking.{compared}
@@ -9,7 +9,8 @@ use Rattle.nr_dump.proofs.Fitting.{AreReached, reached_are_held, none_are_stray,
 use Rattle.nr_dump.proofs.checking.check.Goals as goal
 
 pub least_outside-requires : goal.least_outside-requires
-least_outside-requires c = reached_are_held c.depth.result c.args.dump.now.frames c.root.result c.in-Ok.reached c.in-Ok.ensures.faultless c.in-Ok.ensures.reached
+least_outside-requires c = reached_are_held c.depth.result c.args.dump.now.frames c.root.result c.in-Ok.reached c.in-Ok.ensures.faultless
+    c.in-Ok.ensures.reached
 
 pub returns-in-Some-clause-first : goal.returns-in-Some-clause-first
 returns-in-Some-clause-first c =
@@ -53,4 +54,5 @@ returns-clause-first c =
     c.in-Ok.ensures.pages c.in-Some-difference.ensures in
     difference_first depth c.args.dump.now c.args.space.now.space c.in-Some-difference.address (dump_is_whole c.args.dump.now c.in_default.ensures.is_dump)
     c.in_ok-pages.ensures.apart way (none_are_stray depth c.args.dump.now c.in-Ok.reached are c.in_default.ensures.none)
-    (moved (λ depth root. IsCompared (found (traversal depth frames root)) (pages c.args.space.now.space) (Some c.in-Some-difference.address)) c.depth.ensures c.root.ensures same)
+    (moved (λ depth root. IsCompared (found (traversal depth frames root)) (pages c.args.space.now.space) (Some c.in-Some-difference.address)) c.depth.ensures
+    c.root.ensures same)

@@ -1,4 +1,4 @@
-use Rattle.vs_walk.proofs.WaysDumps.{dump_is_whole}
+use Rattle.vs_walk.proofs.LawsOfDumps.{dump_is_whole}
 use Rattle.nr_dump.proofs.Fitting.{fits_faultless}
 use Rattle.nr_dump.proofs.Faultless.{faultless_fits, one_first}
 use Rattle.nr_dump.proofs.laws.dumps_fit_or_have_a_fault.Goals as goal

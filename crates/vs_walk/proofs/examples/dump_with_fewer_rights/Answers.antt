@@ -1,7 +1,7 @@
 use Rattle.std.proofs.Common.{refl}
 use Rattle.vs_walk.specs.Walk.{all_rights}
 use Rattle.vs_walk.specs.Examples.{write_and_exec}
-use Rattle.vs_walk.proofs.SmallTables.{page_walk}
+use Rattle.vs_walk.proofs.ExamplesOfTables.{page_walk}
 use Rattle.vs_walk.proofs.examples.dump_with_fewer_rights.Goals as goal
 
 pub returns : goal.returns

@@ -1,6 +1,6 @@
 use Rattle.std.proofs.Common.{ap}
 use Rattle.vs_walk.specs.Traversal.{reached}
-use Rattle.vs_walk.proofs.SmallTables as tables
+use Rattle.vs_walk.proofs.ExamplesOfTables as tables
 use Rattle.vs_walk.proofs.examples.faulty_dumps.Goals as goal
 
 pub returns-clause-reserved_bit : goal.returns-clause-reserved_bit

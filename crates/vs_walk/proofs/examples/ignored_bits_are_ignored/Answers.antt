@@ -1,6 +1,6 @@
 use Rattle.std.proofs.Common.{refl}
 use Rattle.vs_walk.specs.Walk.{all_rights}
-use Rattle.vs_walk.proofs.SmallTables.{page_walk}
+use Rattle.vs_walk.proofs.ExamplesOfTables.{page_walk}
 use Rattle.vs_walk.proofs.examples.ignored_bits_are_ignored.Goals as goal
 
 pub returns : goal.returns

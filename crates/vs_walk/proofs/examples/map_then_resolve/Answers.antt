@@ -1,7 +1,7 @@
 use Rattle.std.proofs.Common.{refl, ap}
 use Rattle.vs_walk.specs.Walk.{all_rights}
 use Rattle.vs_walk.specs.Traversal.{reached, found}
-use Rattle.vs_walk.proofs.SmallTables.{page_walk, page_walk_beside, page_visits, page_faultless}
+use Rattle.vs_walk.proofs.ExamplesOfTables.{page_walk, page_walk_beside, page_visits, page_faultless}
 use Rattle.vs_walk.proofs.examples.map_then_resolve.Goals as goal
 
 pub returns-clause-mapped : goal.returns-clause-mapped

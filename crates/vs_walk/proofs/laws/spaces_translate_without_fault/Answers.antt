@@ -1,4 +1,4 @@
-use Rattle.vs_walk.proofs.Translates.{not_reserved, not_missing}
+use Rattle.vs_walk.proofs.LawsOfTranslations.{not_reserved, not_missing}
 use Rattle.vs_walk.proofs.laws.spaces_translate_without_fault.Goals as goal
 
 pub returns : goal.returns

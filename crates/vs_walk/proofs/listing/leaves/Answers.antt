@@ -3,8 +3,8 @@ use Rattle.std.specs.List.{AllPairs}
 use Rattle.vs_types.specs.declared.page.Page.{Page}
 use Rattle.vs_walk.specs.Traversal.{traversal, found}
 use Rattle.vs_walk.specs.Laws.{covering, as_found}
-use Rattle.vs_walk.proofs.WaysLaws.{faultless_walk}
-use Rattle.vs_walk.proofs.WaysRise.{pages_rise, bases_rise}
+use Rattle.vs_walk.proofs.LawsOfTraversals.{faultless_walk}
+use Rattle.vs_walk.proofs.LawsOfRising.{pages_rise, bases_rise}
 use Rattle.vs_walk.proofs.listing.leaves.Goals as goal
 
 pub returns-clause-pages : goal.returns-clause-pages

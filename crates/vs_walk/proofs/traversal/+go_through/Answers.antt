@@ -6,8 +6,8 @@ use Rattle.vs_types.specs.declared.entry.Meaning.TheVariants as entry
 use Rattle.vs_walk.specs.Traversal.{OfFrame, OfLeaf, table_visits}
 use Rattle.vs_walk.specs.inside.Traversed.{GoesOn, Stops, TakesFound, table_at}
 use Rattle.vs_walk.specs.declared.walk.WalkFault.TheVariants.{Missing, Shared, Reserved}
-use Rattle.vs_walk.proofs.Traversed.{stops_before, takes_none, none_on, finds_on, meets_stops, missing_stops, shared_stops, new_on}
-use Rattle.vs_walk.proofs.TraversedWords.{missing_is, begun, all_met, means, leads_below, refused_at, goes_to_next, takes_to_next, stops_at_word}
+use Rattle.vs_walk.proofs.TraversalVisits.{stops_before, takes_none, none_on, finds_on, meets_stops, missing_stops, shared_stops, new_on}
+use Rattle.vs_walk.proofs.TraversalWords.{missing_is, begun, all_met, means, leads_below, refused_at, goes_to_next, takes_to_next, stops_at_word}
 use Rattle.vs_walk.proofs.traversal.+go_through.Goals.{in-Absent, in-Leaf+in_ok-take-in-Leaf, in-Table+in_ok-go_through-in-Table}
 use Rattle.vs_walk.proofs.traversal.+go_through.Goals as goal
 
@@ -27,7 +27,8 @@ returns-then-not-branch-clause-stops g t c =
     let held : Contains c.args.marks.now c.args.place.number = c.in_ok-add.ensures.new.0 (rw c.if-not-branch.true refl) in
     subst (λ ms. Stops memory c.args.marks.now ms (Shared c.args.place.number))
     (sym (begun c.args.depth memory c.args.place.level (table_at c.args.place) words c.requires.lowest some))
-    (stops_before memory c.args.marks.now (OfFrame c.args.place.number ∷ []) _ (Shared c.args.place.number) (shared_stops memory c.args.marks.now c.args.place.number words some held))
+    (stops_before memory c.args.marks.now (OfFrame c.args.place.number ∷ []) _ (Shared c.args.place.number)
+    (shared_stops memory c.args.marks.now c.args.place.number words some held))
 
 pub loop-index-init : goal.loop-index-init
 loop-index-init g t c =
@@ -35,7 +36,8 @@ loop-index-init g t c =
     let words = c.table_words-words.result.now in
     let some : finite.get memory c.args.place.number ≡ Some words = sym c.in-Some.ensures ∙ ap (λ ws. Some ws) (sym c.table_words-words.ensures.is) in
     record {
-      goes_on = new_on memory c.args.marks.now c.add.new.self c.in_ok-add.field-0 c.args.place.number words some c.in_ok-add.ensures.new c.if-not-branch.false c.in_ok-add.ensures.added;
+      goes_on = new_on memory c.args.marks.now c.add.new.self c.in_ok-add.field-0 c.args.place.number words some c.in_ok-add.ensures.new c.if-not-branch.false
+          c.in_ok-add.ensures.added;
       takes = takes_none g.V.PageVisitor.HasTaken c.args.visitor.now (OfFrame c.args.place.number ∷ []) refl;
     }
 
@@ -45,15 +47,21 @@ returns-in-Reserved-clause-stops g t c =
     let words = c.table_words-words.result.now in
     let table = table_at c.args.place in
     let some : finite.get memory c.args.place.number ≡ Some words = sym c.in-Some.ensures ∙ ap (λ ws. Some ws) (sym c.table_words-words.ensures.is) in
-    let is : meaning c.args.place.level (get_or words c.loop-index.index 0) ≡ entry.Reserved = ap (meaning c.args.place.level) (sym c.new.ensures) ∙ sym c.read.ensures ∙ c.in-Reserved.is in
-    stops_at_word c.args.depth memory c.args.place.level table words c.loop-index.index c.args.marks.now c.loop-index.marks _ (Reserved c.args.place.number c.loop-index.index)
+    let is : meaning c.args.place.level (get_or words c.loop-index.index 0) ≡ entry.Reserved = ap (meaning c.args.place.level) (sym c.new.ensures)
+    ∙ sym c.read.ensures ∙ c.in-Reserved.is in
+    stops_at_word c.args.depth memory c.args.place.level table words c.loop-index.index c.args.marks.now c.loop-index.marks _
+    (Reserved c.args.place.number c.loop-index.index)
     c.requires.lowest some c.loop-index-test.true
     (means c.args.depth memory c.args.place.level table c.loop-index.index (get_or words c.loop-index.index 0) entry.Reserved is)
     c.loop-index.invariant.goes_on
     (meets_stops memory c.loop-index.marks c.args.place.number c.loop-index.index)
 
 pub go_through-requires : goal.go_through-requires
-go_through-requires g t c κs within = (let less = c.below-below.ensures.level in let now = c.decreases in let some = c.requires.lowest in omega arith, (within.0, (within.1, c.below-below.ensures.fits)))
+go_through-requires g t c κs within = (
+  let less = c.below-below.ensures.level in let now = c.decreases in let some = c.requires.lowest in
+      omega arith,
+  (within.0, (within.1, c.below-below.ensures.fits)),
+)
 
 pub returns-in_err-go_through-in-Table-clause-stops :
     goal.returns-in_err-go_through-in-Table-clause-stops
@@ -66,7 +74,8 @@ returns-in_err-go_through-in-Table-clause-stops g t c =
     let p = err_from_is_err_and c.from_residual-in_err-go_through-in-Table.result c.from_residual-in_err-go_through-in-Table.ensures.1 in
     rw (p.1, p.2)
     (refused_at c.in_err-go_through-in-Table.field-0.0 (λ fault stops.
-    stops_at_word c.args.depth memory c.args.place.level table words index c.args.marks.now c.loop-index.marks (table_visits c.args.depth memory c.below-below.result.level (table_at c.below-below.result)) fault
+    stops_at_word c.args.depth memory c.args.place.level table words index c.args.marks.now c.loop-index.marks
+    (table_visits c.args.depth memory c.below-below.result.level (table_at c.below-below.result)) fault
     c.requires.lowest some c.loop-index-test.true
     (leads_below c.args.depth memory c.args.place c.below-below.result index (get_or words index 0) c.in-Table.number c.in-Table.own
     (ap (meaning c.args.place.level) (sym c.new.ensures) ∙ sym c.in-Table.ensures) c.below-below.ensures.level c.below-below.ensures.stands)
@@ -91,17 +100,22 @@ loop-index-preserved g t c =
             takes = takes c.loop-index.visitor [] within met c.loop-index.invariant.takes (takes_none g.V.PageVisitor.HasTaken c.loop-index.visitor [] refl);
           }
       | in-Leaf+in_ok-take-in-Leaf w ↦
-          let met = means c.args.depth memory c.args.place.level table index (get_or words index 0) (entry.Leaf w.in-Leaf.phys w.in-Leaf.own) (read ∙ w.in-Leaf.is) ∙ ap (λ page. OfLeaf page ∷ []) (sym w.page.ensures) in
+          let met = means c.args.depth memory c.args.place.level table index (get_or words index 0) (entry.Leaf w.in-Leaf.phys w.in-Leaf.own)
+          (read ∙ w.in-Leaf.is) ∙ ap (λ page. OfLeaf page ∷ []) (sym w.page.ensures) in
           rw (w.marks-is, w.visitor-is) record {
-            goes_on = goes c.loop-index.marks (OfLeaf w.page.result ∷ []) within met c.loop-index.invariant.goes_on (finds_on memory c.loop-index.marks w.page.result);
+            goes_on = goes c.loop-index.marks (OfLeaf w.page.result ∷ []) within met c.loop-index.invariant.goes_on
+                (finds_on memory c.loop-index.marks w.page.result);
             takes = takes w.take.new.self (OfLeaf w.page.result ∷ []) within met c.loop-index.invariant.takes w.in_ok-take-in-Leaf.ensures;
           }
       | in-Table+in_ok-go_through-in-Table w ↦
           let below = w.below-below.result in
-          let met = leads_below c.args.depth memory c.args.place below index (get_or words index 0) w.in-Table.number w.in-Table.own (read ∙ w.in-Table.is) w.below-below.ensures.level w.below-below.ensures.stands in
+          let met = leads_below c.args.depth memory c.args.place below index (get_or words index 0) w.in-Table.number w.in-Table.own
+          (read ∙ w.in-Table.is) w.below-below.ensures.level w.below-below.ensures.stands in
           rw (w.marks-is, w.visitor-is) record {
-            goes_on = goes w.go_through.new.marks (table_visits c.args.depth memory below.level (table_at below)) within met c.loop-index.invariant.goes_on w.in_ok-go_through-in-Table.ensures.goes_on;
-            takes = takes w.go_through.new.visitor (table_visits c.args.depth memory below.level (table_at below)) within met c.loop-index.invariant.takes w.in_ok-go_through-in-Table.ensures.pages;
+            goes_on = goes w.go_through.new.marks (table_visits c.args.depth memory below.level (table_at below)) within met c.loop-index.invariant.goes_on
+                w.in_ok-go_through-in-Table.ensures.goes_on;
+            takes = takes w.go_through.new.visitor (table_visits c.args.depth memory below.level (table_at below)) within met c.loop-index.invariant.takes
+                w.in_ok-go_through-in-Table.ensures.pages;
           }
     ]
 
@@ -111,7 +125,8 @@ returns-clause-pages g t c =
     let words = c.table_words-words.result.now in
     let some : finite.get memory c.args.place.number ≡ Some words = sym c.in-Some.ensures ∙ ap (λ ws. Some ws) (sym c.table_words-words.ensures.is) in
     subst (TakesFound (g.V.PageVisitor.HasTaken c.args.visitor.now) (g.V.PageVisitor.HasTaken c.loop-index.visitor))
-    (sym (all_met c.args.depth memory c.args.place.level (table_at c.args.place) words c.loop-index.index c.requires.lowest some c.loop-index-test.false)) c.loop-index.invariant.takes
+    (sym (all_met c.args.depth memory c.args.place.level (table_at c.args.place) words c.loop-index.index c.requires.lowest some c.loop-index-test.false))
+    c.loop-index.invariant.takes
 
 pub returns-clause-goes_on : goal.returns-clause-goes_on
 returns-clause-goes_on g t c =
@@ -119,4 +134,5 @@ returns-clause-goes_on g t c =
     let words = c.table_words-words.result.now in
     let some : finite.get memory c.args.place.number ≡ Some words = sym c.in-Some.ensures ∙ ap (λ ws. Some ws) (sym c.table_words-words.ensures.is) in
     subst (GoesOn memory c.args.marks.now c.loop-index.marks)
-    (sym (all_met c.args.depth memory c.args.place.level (table_at c.args.place) words c.loop-index.index c.requires.lowest some c.loop-index-test.false)) c.loop-index.invariant.goes_on
+    (sym (all_met c.args.depth memory c.args.place.level (table_at c.args.place) words c.loop-index.index c.requires.lowest some c.loop-index-test.false))
+    c.loop-index.invariant.goes_on

@@ -8,8 +8,8 @@ use Rattle.vs_walk.proofs.traversal.traverse.Goals as goal
 pub returns-clause-reached : goal.returns-clause-reached
 returns-clause-reached g c =
     let memory = g.F.Frames.memory c.args.frames.now in
-    let way = λ (level : ℕ). reached (table_visits c.args.depth memory level record { number = c.args.root; start = 0; rights = all_rights }) in
-    let marked : AreJust c.go_through.new.marks (way c.levels.result) =
-    subst (λ (ks : List ℕ). AreJust c.go_through.new.marks (ks ++ way c.levels.result)) c.new-marks.ensures c.in_ok-go_through.ensures.goes_on.marked in
-    subst (λ ks. AreJust ks (way (levels c.args.depth))) (sym c.in_ok-list.ensures)
-    (subst (λ level. AreJust c.go_through.new.marks (way level)) c.levels.ensures marked)
+    let reached_at = λ (level : ℕ). reached (table_visits c.args.depth memory level record { number = c.args.root; start = 0; rights = all_rights }) in
+    let marked : AreJust c.go_through.new.marks (reached_at c.levels.result) =
+    subst (λ (ks : List ℕ). AreJust c.go_through.new.marks (ks ++ reached_at c.levels.result)) c.new-marks.ensures c.in_ok-go_through.ensures.goes_on.marked in
+    subst (λ ks. AreJust ks (reached_at (levels c.args.depth))) (sym c.in_ok-list.ensures)
+    (subst (λ level. AreJust c.go_through.new.marks (reached_at level)) c.levels.ensures marked)

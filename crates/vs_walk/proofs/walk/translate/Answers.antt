@@ -16,28 +16,39 @@ returns-in_default g c =
 pub returns-in-Absent : goal.returns-in-Absent
 returns-in-Absent g c =
     sym (c.loop-level.invariant.same
-    ∙ entry_met _ _ _ _ _ _ _ _ _ c.loop-level-test.true (sym c.words.ensures ∙ ap option_copied c.in-Some.is) c.index_at.ensures.is c.new.ensures c.in-Absent.ensures)
+    ∙ entry_met _ _ _ _ _ _ _ _ _ c.loop-level-test.true (sym c.words.ensures ∙ ap option_copied c.in-Some.is) c.index_at.ensures.is c.new.ensures
+    c.in-Absent.ensures)
 
 pub returns-in-Reserved : goal.returns-in-Reserved
 returns-in-Reserved g c =
     sym (c.loop-level.invariant.same
-    ∙ entry_met _ _ _ _ _ _ _ _ _ c.loop-level-test.true (sym c.words.ensures ∙ ap option_copied c.in-Some.is) c.index_at.ensures.is c.new.ensures c.in-Reserved.ensures)
+    ∙ entry_met _ _ _ _ _ _ _ _ _ c.loop-level-test.true (sym c.words.ensures ∙ ap option_copied c.in-Some.is) c.index_at.ensures.is c.new.ensures
+    c.in-Reserved.ensures)
 
 pub returns-in-Leaf : goal.returns-in-Leaf
 returns-in-Leaf g c =
-    rw (offset_is c.loop-level.level c.new.result c.in-Leaf.phys c.args.address c.in-Leaf.own (sym c.in-Leaf.ensures), c.at_level.ensures, c.intersection.ensures)
+    rw (
+      offset_is c.loop-level.level c.new.result c.in-Leaf.phys c.args.address c.in-Leaf.own
+          (sym c.in-Leaf.ensures),
+      c.at_level.ensures,
+      c.intersection.ensures,
+    )
     (sym (c.loop-level.invariant.same
-    ∙ entry_met _ _ _ _ _ _ _ _ _ c.loop-level-test.true (sym c.words.ensures ∙ ap option_copied c.in-Some.is) c.index_at.ensures.is c.new.ensures c.in-Leaf.ensures))
+    ∙ entry_met _ _ _ _ _ _ _ _ _ c.loop-level-test.true (sym c.words.ensures ∙ ap option_copied c.in-Some.is) c.index_at.ensures.is c.new.ensures
+    c.in-Leaf.ensures))
 
 pub loop-level-preserved : goal.loop-level-preserved
 loop-level-preserved g c = record {
   few = omega (arith, c.loop-level.invariant.few);
   same = c.loop-level.invariant.same
-      ∙ entry_met _ _ _ _ _ _ _ _ _ c.loop-level-test.true (sym c.words.ensures ∙ ap option_copied c.in-Some.is) c.index_at.ensures.is c.new.ensures c.in-Table.ensures
-      ∙ ap (λ rights. walk_from (g.F.Frames.memory c.args.frames.now) (c.loop-level.level - 1) c.in-Table.next rights c.args.address) (sym c.intersection-rights.ensures);
+      ∙ entry_met _ _ _ _ _ _ _ _ _ c.loop-level-test.true (sym c.words.ensures ∙ ap option_copied c.in-Some.is) c.index_at.ensures.is c.new.ensures
+      c.in-Table.ensures
+      ∙ ap (λ rights. walk_from (g.F.Frames.memory c.args.frames.now) (c.loop-level.level - 1) c.in-Table.next rights c.args.address)
+      (sym c.intersection-rights.ensures);
 }
 
 pub returns : goal.returns
 returns g c =
     sym (c.loop-level.invariant.same
-    ∙ ap (λ level. walk_from (g.F.Frames.memory c.args.frames.now) level c.loop-level.number c.loop-level.rights c.args.address) (omega (arith, c.loop-level-test.false)) ∙ walk_nowhere _ _ _ _)
+    ∙ ap (λ level. walk_from (g.F.Frames.memory c.args.frames.now) level c.loop-level.number c.loop-level.rights c.args.address)
+    (omega (arith, c.loop-level-test.false)) ∙ walk_nowhere _ _ _ _)

@@ -4,14 +4,17 @@ use Rattle.nr_dump.proofs.Taking.{keeps_known, meets_page, meets_other, meets_be
 use Rattle.nr_dump.proofs.comparison.ComparisonPageVisitor.take.Goals as goal
 
 pub returns-then-is_some-clause-taken : goal.returns-then-is_some-clause-taken
-returns-then-is_some-clause-taken c = λ told. keeps_known c.args.self.now.pages.items c.args.self.now.met c.args.self.now.difference told c.args.page (sym c.if-is_some.ensures)
+returns-then-is_some-clause-taken c = λ told. keeps_known c.args.self.now.pages.items c.args.self.now.met c.args.self.now.difference told c.args.page
+    (sym c.if-is_some.ensures)
 
 pub returns-in_default-clause-taken : goal.returns-in_default-clause-taken
-returns-in_default-clause-taken c = λ told. meets_beyond c.args.self.now.pages.items c.args.self.now.met c.args.self.now.difference told c.args.page (sym c.if-is_some.ensures)
+returns-in_default-clause-taken c = λ told. meets_beyond c.args.self.now.pages.items c.args.self.now.met c.args.self.now.difference told c.args.page
+    (sym c.if-is_some.ensures)
     (sym c.next.ensures.next ∙ c.in_default.is)
 
 pub returns-then-are_equal-clause-taken : goal.returns-then-are_equal-clause-taken
-returns-then-are_equal-clause-taken c = λ told. meets_page c.args.self.now.pages.items c.args.self.now.met c.args.self.now.difference told c.args.page (sym c.if-is_some.ensures)
+returns-then-are_equal-clause-taken c = λ told. meets_page c.args.self.now.pages.items c.args.self.now.met c.args.self.now.difference told c.args.page
+    (sym c.if-is_some.ensures)
     (sym c.next.ensures.next ∙ c.in-Some.is ∙ ap Some (sym (c.are_equal.ensures.0 c.if-are_equal.true)))
 
 pub returns-else-are_equal-clause-taken : goal.returns-else-are_equal-clause-taken

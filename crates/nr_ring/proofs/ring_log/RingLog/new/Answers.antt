@@ -2,7 +2,7 @@ use Rattle.std.proofs.Common.{rules, ℕ, List, map, refl, ap, ◌∙◌, sym, s
 use Rattle.std.specs.List.{range_with_len}
 use Rattle.std.proofs.lemmas.List.FromFn.{map-range_with_len_more}
 use Rattle.nr_ring.specs.Pass.{Known, new_pass}
-use Rattle.nr_ring.specs.Calls.{first_view}
+use Rattle.nr_ring.specs.inside.Held.{new_view}
 use Rattle.nr_ring.specs.Rule.{IsKept}
 use Rattle.nr_ring.specs.Words.{new_words}
 use Rattle.nr_ring.proofs.NewLog.{new_kept}
@@ -11,8 +11,8 @@ use Rattle.nr_ring.proofs.ring_log.RingLog.new.Goals as goal
 pub ruled-requires : goal.ruled-requires
 ruled-requires g c =
     let replicas = g.J.LogName.replicas in
-    let P : ℕ → Type 0 = λ n. IsKept g.J.LogName.depth replicas (new_words n) (first_view replicas ∷ []) in
-    (search rules, (search rules, subst P (sym (c.from.ensures ∙ c.requires.replicas.0)) (new_kept g.J.LogName.depth replicas (first_view replicas) refl refl refl)))
+    let P : ℕ → Type 0 = λ n. IsKept g.J.LogName.depth replicas (new_words n) (new_view (range_with_len 0 replicas) ∷ []) in
+    (search rules, (search rules, subst P (sym (c.from.ensures ∙ c.requires.replicas.0)) (new_kept g.J.LogName.depth replicas (new_view (range_with_len 0 replicas)) refl refl refl)))
 
 pub loop-replica-preserved : goal.loop-replica-preserved
 loop-replica-preserved g c =

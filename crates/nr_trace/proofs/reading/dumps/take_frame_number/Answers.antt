@@ -4,7 +4,7 @@ use Rattle.nr_trace.specs.FirstFault.{AtFrames, IsNext}
 use Rattle.nr_trace.specs.Spelling.{frame_number}
 use Rattle.nr_trace.specs.inside.Progress.{BehindDumps}
 use Rattle.nr_trace.specs.declared.fault.Format.TheVariants.{BadFrame}
-use Rattle.nr_trace.proofs.Fields.{same_u64}
+use Rattle.nr_trace.proofs.LawsOfUnits.{number_64}
 use Rattle.nr_trace.proofs.Frames.{number_taken, number_refused}
 use Rattle.nr_trace.proofs.Taken.{only_front}
 use Rattle.nr_trace.proofs.reading.dumps.take_frame_number.Goals as goal
@@ -20,7 +20,7 @@ returns c = λ rest.
     let index = finite.len c.args.opened.dump.frames in
     let is = only_front c.args.unit.now _ _ c.take_u64-number.ensures c.requires.whole in
     let none : (number : ℕ) → IsNext c.args.last number → c.args.unit.now ≡ frame_number number → ⊥ = λ number next e.
-    let same = same_u64 c.take_u64-number.result.0 number [] [] (omega arith) (omega (arith, next.in_range)) (sym is ∙ e) in
+    let same = number_64 c.take_u64-number.result.0 number [] [] (omega arith) (omega (arith, next.in_range)) (sym is ∙ e) in
     let yes : c.is_next.result ≡ true = c.is_next.ensures.1 (subst (IsNext c.args.last) (sym same.0) next) in
     absurd cc in
     subst (λ i. AtFrames (length parts.dumps.items) index c.args.opened.left c.args.last (BehindDumps parts 1) (c.args.unit.now ++ rest) (BadFrame i c.count-index.result)) (sym (c.len-replica.ensures ∙ parts.dumps.ok.0))

@@ -8,5 +8,5 @@ use Rattle.nr_trace.proofs.reading.places.take_header.Goals as goal
 
 pub returns-in-None : goal.returns-in-None
 returns-in-None c = λ rest.
-    refused 14 (Some BadCount) (IsCounts c.args.version) (λ numbers. counts numbers.layout numbers.places numbers.events) (λ numbers. AtLog c.args.version numbers.layout numbers.places numbers.events) BadCount c.args.unit.now rest c.requires refl
-    (λ numbers fits e. c.in-None.ensures (record { config = numbers.layout; places = numbers.places; events = numbers.events }) (record { in_range = fits; spelled = e }))
+    refused 14 (Some BadCount) (IsCounts c.args.version) counts (λ numbers. AtLog c.args.version numbers.layout numbers.places numbers.events) BadCount c.args.unit.now rest c.requires refl
+    (λ numbers fits e. c.in-None.ensures numbers (record { in_range = fits; spelled = e }))

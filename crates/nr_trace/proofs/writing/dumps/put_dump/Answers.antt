@@ -3,8 +3,8 @@ use Rattle.std.specs.Prelude.{option_copied}
 use Rattle.nr_trace.proofs.Framed.{is_some, frame_put, dump_put, few_fit}
 use Rattle.nr_trace.proofs.writing.dumps.put_dump.Goals as goal
 
-pub overflow_cast-frames : goal.overflow_cast-frames
-overflow_cast-frames c = omega (arith, few_fit c.args.held.now c.count-frames.result c.count-frames.ensures.is_dump c.count-frames.ensures.reads)
+pub overflow_cast-head : goal.overflow_cast-head
+overflow_cast-head c = omega (arith, few_fit c.args.held.now c.count-frames.result c.count-frames.ensures.is_dump c.count-frames.ensures.reads)
 
 pub unwrap-words-requires : goal.unwrap-words-requires
 unwrap-words-requires c =

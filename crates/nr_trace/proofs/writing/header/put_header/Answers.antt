@@ -6,7 +6,8 @@ use Rattle.nr_trace.proofs.writing.header.put_header.Goals as goal
 
 pub returns : goal.returns
 returns c =
-    then c.args.out.now.items (magic ++ version_word c.args.version) c.put_u16.new.out.items (counts c.args.config c.args.places c.args.events) _
-    (then c.args.out.now.items magic c.extend_from_slice.new.self.items (version_word c.args.version) c.put_u16.new.out.items c.in_ok-extend_from_slice.ensures.items
+    let version = version_word c.args.version in
+    then c.args.out.now.items (magic ++ version) c.put_u16.new.out.items (counts c.args.numbers) _
+    (then c.args.out.now.items magic c.extend_from_slice.new.self.items version c.put_u16.new.out.items c.in_ok-extend_from_slice.ensures.items
     (c.in_ok-put_u16.ensures ∙ ap (λ (n : ℕ). c.extend_from_slice.new.self.items ++ to_be_bytes w16 n) c.code.ensures))
     c.in_ok-put_counts.ensures

@@ -1,7 +1,8 @@
 use Rattle.std.proofs.Common.{◌≡◌, ◌-◌, ℕ, Bool, List, false, length, replicate, sym, ap, subst, ◌∙◌, arith, rules}
 use Rattle.std.specs.FinMap as finite
 use Rattle.std.proofs.lemmas.List.{length-replicate}
-use Rattle.vs_arena.specs.Arena.{Arena, marked_frames}
+use Rattle.vs_arena.specs.Arena.{Arena}
+use Rattle.vs_arena.specs.inside.Arena.{marked_frames}
 use Rattle.vs_arena.specs.inside.RawArena.{values}
 use Rattle.vs_arena.proofs.MarkedFrames.{marked_frames-none}
 use Rattle.vs_arena.proofs.LinkedFrames.{HasLinked, HasLinked-none, HasLinked-push, next_empty, all_linked}

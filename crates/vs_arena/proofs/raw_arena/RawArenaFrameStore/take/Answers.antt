@@ -1,7 +1,8 @@
 use Rattle.std.proofs.Common.{◌≡◌, ◌<◌, ◌-◌, ◌+◌, true, length-set, get_or, set, [], sym, ap, subst, ◌∙◌, arith}
 use Rattle.std.specs.FinMap as finite
 use Rattle.vs_arena.specs.Store.{IsFree, zeros}
-use Rattle.vs_arena.specs.Arena.{Arena, marked_frames}
+use Rattle.vs_arena.specs.Arena.{Arena}
+use Rattle.vs_arena.specs.inside.Arena.{marked_frames}
 use Rattle.vs_arena.specs.inside.RawArena.{values}
 use Rattle.vs_arena.proofs.MarkedFrames.{IsFrame-zeros, marked_frames-mark}
 use Rattle.vs_arena.proofs.RawArenas.{IsFilled-within, value_at, values-set, IsUnmarked-next, next_within, IsRawArena-take}

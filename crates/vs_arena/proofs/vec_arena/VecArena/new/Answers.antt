@@ -1,7 +1,8 @@
 use Rattle.std.proofs.Common.{◌≡◌, ℕ, List, Bool, false, length, replicate, ap, subst, ◌∙◌, arith, rules}
 use Rattle.std.specs.FinMap as finite
 use Rattle.std.proofs.lemmas.List.{length-replicate}
-use Rattle.vs_arena.specs.Arena.{Arena, marked_frames}
+use Rattle.vs_arena.specs.Arena.{Arena}
+use Rattle.vs_arena.specs.inside.Arena.{marked_frames}
 use Rattle.vs_arena.proofs.MarkedFrames.{IsArena-new, IsFrame-zeros, marked_frames-none}
 use Rattle.vs_arena.proofs.NewArenas.{HasMade, HasMade-none, HasMade-push}
 use Rattle.vs_arena.proofs.vec_arena.VecArena.new.Goals as goal

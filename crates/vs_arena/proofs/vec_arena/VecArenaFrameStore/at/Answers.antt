@@ -1,24 +1,21 @@
-use Rattle.std.proofs.Common.{◌≡◌, get_or, false, sym, ap, subst, ◌∙◌, arith}
-use Rattle.std.proofs.lemmas.List.{get_or_read, get_or_past}
+use Rattle.std.proofs.Common.{◌≡◌, ℕ, ◌+◌, true, false, get_or, IfSome, IfNone, List, Bool, subst}
 use Rattle.vs_arena.specs.Store.{IsInUse, IsFree}
 use Rattle.vs_arena.specs.Arena.{Arena}
-use Rattle.vs_arena.proofs.MarkedFrames.{IsInUse-from_mark, IsFree-from_mark}
+use Rattle.vs_arena.proofs.MarkedFrames.{used_if_marked, free_if_unmarked}
 use Rattle.vs_arena.proofs.vec_arena.VecArenaFrameStore.at.Goals as goal
-use Rattle.vs_arena.proofs.vec_arena.VecArenaFrameStore.at.Goals.{else-index-len-via-then-index-len+else-index, else-index-len-via-else-index-len}
 
-pub returns-then-index-clause-in_use : goal.returns-then-index-clause-in_use
-returns-then-index-clause-in_use c =
-    let marks = c.self.inside.marks.items in
-    let marked = sym (get_or_read marks c.in_ok-index.index c.index.result.now (omega (arith, c.if-index-len.true, c.len.ensures, c.self.inside.marks.ok.0)) c.index.ensures false) ∙ c.if-index.true in
-    rw c.at_index.ensures (subst (λ (a : Arena). IsInUse a.frames c.in_ok-index.index) c.self.view_is (IsInUse-from_mark marks c.self.inside.words.items c.in_ok-index.index marked))
+pub marked_at-requires : goal.marked_at-requires
+marked_at-requires c = rw c.deref.ensures.value c.self.invariant.few_frames
 
-pub returns-else-index-len-clause-unknown : goal.returns-else-index-len-clause-unknown
-returns-else-index-len-clause-unknown c = λ f named.
-    let marks = c.self.inside.marks.items in
-    let base_is = ap (λ (a : Arena). a.base) c.self.view_is in
-    let here : c.in_ok-index.index ≡ f = omega (arith, base_is, c.in_ok-index.ensures.1) in
-    let unmarked : get_or marks c.in_ok-index.index false ≡ false = elim c.else-index-len.branch [
-      | else-index-len-via-then-index-len+else-index w ↦ sym (get_or_read marks c.in_ok-index.index w.index.result.now (omega (arith, w.if-index-len.true, c.len.ensures, c.self.inside.marks.ok.0)) w.index.ensures false) ∙ w.if-index.false
-      | else-index-len-via-else-index-len w ↦ get_or_past marks c.in_ok-index.index false (omega (arith, w.if-index-len.false, c.len.ensures, c.self.inside.marks.ok.0))
-    ] in
-    subst (λ (a : Arena). IsFree a.frames f) c.self.view_is (IsFree-from_mark marks c.self.inside.words.items f (rw (← here) unmarked))
+pub returns-clause-numbered : goal.returns-clause-numbered
+returns-clause-numbered c = subst (λ (a : Arena). IfSome c.marked_at.result (λ f. a.base + f ≡ c.args.number)) c.self.view_is c.marked_at.ensures.numbered
+
+pub returns-clause-in_use : goal.returns-clause-in_use
+returns-clause-in_use c =
+    let marked = subst (λ (marks : List Bool). IfSome c.marked_at.result (λ f. get_or marks f false ≡ true)) c.deref.ensures.value c.marked_at.ensures.marked in
+    subst (λ (a : Arena). IfSome c.marked_at.result (IsInUse a.frames)) c.self.view_is (used_if_marked c.self.inside.marks.items c.self.inside.words.items c.marked_at.result marked)
+
+pub returns-clause-unknown : goal.returns-clause-unknown
+returns-clause-unknown c =
+    let unmarked = subst (λ (marks : List Bool). IfNone c.marked_at.result ((f : ℕ) → c.self.inside.base + f ≡ c.args.number → get_or marks f false ≡ false)) c.deref.ensures.value c.marked_at.ensures.unmarked in
+    subst (λ (a : Arena). IfNone c.marked_at.result ((f : ℕ) → a.base + f ≡ c.args.number → IsFree a.frames f)) c.self.view_is (free_if_unmarked c.self.inside.marks.items c.self.inside.words.items c.self.inside.base c.args.number c.marked_at.result unmarked)

@@ -4,4 +4,5 @@ use Rattle.vs_types.proofs.LeafWords.{leaf_reads}
 use Rattle.vs_types.proofs.entry.Entry.leaf.Goals as goal
 
 pub returns-clause-read_back : goal.returns-clause-read_back
-returns-clause-read_back c = leaf_reads c.args.size c.args.phys c.args.rights c.if-not-rights.word (grind (arith, common_steps)) c.requires.aligned c.requires.in_range
+returns-clause-read_back c =
+    leaf_reads c.args.size c.args.phys c.args.rights c.if-not-rights.word (grind (arith, common_steps)) c.requires.aligned c.requires.in_range

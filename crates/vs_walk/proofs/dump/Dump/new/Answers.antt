@@ -1,8 +1,7 @@
 use Rattle.std.proofs.Common.{◌≡◌, ℕ, List, ap, ◌∙◌}
 use Rattle.std.specs.FinMap as finite
 use Rattle.std.specs.Ordering.{nat_cmp}
-use Rattle.vs_walk.proofs.Dumps.{no_frames, no_numbers}
-use Rattle.vs_walk.proofs.Held.{frame_rows}
+use Rattle.vs_walk.proofs.Dumps.{no_frames, no_numbers, frame_rows}
 use Rattle.vs_walk.proofs.dump.Dump.new.Goals as goal
 
 made : (c : goal.After-new) → finite.from_sorted {R = nat_cmp} (frame_rows c.new.result.items) ≡ finite.empty

@@ -4,8 +4,7 @@ use Rattle.std.specs.FinMap as finite
 use Rattle.std.proofs.lemmas.List.Elements.{All-from_get_or}
 use Rattle.std.specs.Ordering.{nat_cmp}
 use Rattle.vs_walk.specs.Dump.{Image}
-use Rattle.vs_walk.proofs.Dumps.{parts_push, from_sorted_push, entries_stand, numbers_push, count_push}
-use Rattle.vs_walk.proofs.Held.{frame_rows, frame_rows_push}
+use Rattle.vs_walk.proofs.Dumps.{parts_push, from_sorted_push, entries_stand, numbers_push, count_push, frame_rows, frame_rows_push}
 use Rattle.vs_walk.proofs.dump.Dump.push.Goals as goal
 
 held : (c : goal.In_ok-push) → finite.entries c.args.self.now.frames ≡ frame_rows c.self.inside.frames.items
@@ -20,9 +19,11 @@ room c = subst (λ es. length es < 4096) (held c) (subst (λ n. n < 4096) (finit
 pub invariant_of-self-2 : goal.invariant_of-self-2
 invariant_of-self-2 c =
     rw (frame_rows_push c.self.inside.frames.items _ _ c.args.words.now c.in_ok-push.ensures.items c.in_ok-words.ensures.ok)
-    (parts_push _ _ _ c.self.invariant (above c) c.requires.in_range (room c) record { whole = c.told-words; fit = All-from_get_or (λ w. w < 2 ^ 64) c.args.words.now 0 (λ i h. c.fits-words i) })
+    (parts_push _ _ _ c.self.invariant (above c) c.requires.in_range
+    (room c) record { whole = c.told-words; fit = All-from_get_or (λ w. w < 2 ^ 64) c.args.words.now 0 (λ i h. c.fits-words i) })
 
-pushed : (c : goal.In_ok-push) → finite.from_sorted {R = nat_cmp} (frame_rows c.push.new.self.items) ≡ finite.insert c.args.self.now.frames c.args.number c.args.words.now
+pushed : (c : goal.In_ok-push) → finite.from_sorted {R = nat_cmp}
+    (frame_rows c.push.new.self.items) ≡ finite.insert c.args.self.now.frames c.args.number c.args.words.now
 pushed c =
     ap (λ es. finite.from_sorted es) (frame_rows_push c.self.inside.frames.items _ _ c.args.words.now c.in_ok-push.ensures.items c.in_ok-words.ensures.ok)
     ∙ from_sorted_push _ _ _ (above c) c.self.invariant.rising

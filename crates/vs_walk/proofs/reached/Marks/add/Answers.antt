@@ -1,4 +1,4 @@
-use Rattle.vs_walk.proofs.Marked.{new_iff, added_just}
+use Rattle.vs_walk.proofs.ReachedNumbers.{new_iff, added_just}
 use Rattle.vs_walk.proofs.reached.Marks.add.Goals as goal
 
 pub returns-clause-new : goal.returns-clause-new

@@ -1,4 +1,4 @@
-use Rattle.vs_walk.proofs.Marked.{rising_pairs}
+use Rattle.vs_walk.proofs.ReachedNumbers.{rising_pairs}
 use Rattle.vs_walk.proofs.reached.Reached.as_slice.Goals as goal
 
 pub returns-clause-rising : goal.returns-clause-rising

@@ -1,0 +1,222 @@
+-- The answers of a trace, against the space after the calls that stand before in the recorded order.
+use Rattle.std.proofs.Common.{◌≡◌, ℕ, zero, suc, ◌+◌, ◌<◌, ◌≤◌, false, List, [], ◌∷◌, ◌++◌, length, take, get_or, Some, None, Option, refl, sym, ap, subst, ◌∙◌, inl, inr, arith}
+use Rattle.std.specs.Prelude.{is_some, option_map, Contains, IfSome, ◌==◌, nat_eq}
+use Rattle.std.specs.List.{IsDistinct, AllByRecursion, position_or_len, cons_option}
+use Rattle.std.proofs.lemmas.Bool.{cases_lt, cond-true, cond-false, false≢true, eq-eqb, eqb-true, ne_eqb}
+use Rattle.std.proofs.lemmas.List.{length-take, length-take-le, take_more}
+use Rattle.std.proofs.lemmas.List.Sums.{position_or_len_is, passes_at_first}
+use Rattle.std.proofs.lemmas.List.Elements.{filter_map-append, at_from_Contains}
+use Rattle.vs_types.specs.Config.{Layout}
+use Rattle.vs_types.specs.Space.{Space, no_pages}
+use Rattle.vs_types.specs.Step.{step, after_all}
+use Rattle.vs_types.specs.declared.depth.Depth.{Depth}
+use Rattle.vs_types.specs.declared.op.Action.{Action}
+use Rattle.vs_types.specs.declared.request.Query.{Query}
+use Rattle.vs_types.specs.declared.request.Query.TheVariants.{Update, Resolve}
+use Rattle.vs_types.specs.declared.answer.Answer.{Answer}
+use Rattle.vs_plain.specs.Plain.{BoundedSpace}
+use Rattle.nr_trace.specs.Recording.{Recording}
+use Rattle.nr_trace.specs.Calls.{Invocation, call_of, operation_of, Response, reply_to}
+use Rattle.nr_trace.specs.Orders.{before, updates, operations, space_after, answer_in, recorded_order}
+use Rattle.nr_trace.specs.Faults.{Holds, Earlier, IsWrong}
+use Rattle.nr_trace.specs.Laws.{HasCleanLog}
+use Rattle.nr_trace.specs.declared.fault.Fault.{Fault}
+use Rattle.nr_trace.specs.declared.fault.Fault.TheVariants.{WrongAnswer}
+use Rattle.nr_trace.proofs.LawsOfOrder.{order_distinct, updates_of_order}
+use Rattle.nr_trace.proofs.LawsOfFaults.{wrong_is_member}
+use Rattle.nr_audit.specs.inside.Search.{HasNone, IsFirstAmong}
+use Rattle.nr_audit.specs.inside.Passes.{IsAnswerFault}
+use Rattle.nr_audit.specs.inside.Steps.{Serves}
+use Rattle.nr_audit.specs.inside.Replies.{without_call, replied_to}
+use Rattle.nr_audit.specs.declared.history.Reply.{Reply}
+use Rattle.nr_audit.proofs.Ranks.{earlier_cases}
+use Rattle.nr_audit.proofs.CallsAndReplies.{no_call_past}
+use Rattle.nr_audit.proofs.PositionFaults.{operation_by}
+use Rattle.nr_audit.proofs.RepliesByTable.{response_of}
+
+-- ---- where a call stands among distinct ones
+
+apart_at : (x : ℕ) (xs : List ℕ) (k d : ℕ) → AllByRecursion (λ y. nat_eq x y ≡ false) xs → k < length xs → get_or xs k d ≡ x → ⊥
+apart_at x [] k d h lt e = absurd (omega arith)
+apart_at x (y ∷ ys) zero d h lt e = false≢true (sym h.0 ∙ eq-eqb x y (sym e))
+apart_at x (y ∷ ys) (suc k) d h lt e = apart_at x ys k d h.1 (omega arith) e
+
+distinct_at : (xs : List ℕ) (j k d : ℕ) → IsDistinct nat_eq xs → j < k → k < length xs → get_or xs j d ≡ get_or xs k d → ⊥
+unfolding IsDistinct
+distinct_at [] j k d h lt within e = absurd (omega arith)
+distinct_at (x ∷ xs) j zero d h lt within e = absurd (omega arith)
+distinct_at (x ∷ xs) zero (suc k) d h lt within e = apart_at x xs k d h.0 (omega arith) (sym e)
+distinct_at (x ∷ xs) (suc j) (suc k) d h lt within e = distinct_at xs j k d h.1 (omega arith) (omega arith) e
+
+place_of : (xs : List ℕ) (k d : ℕ) → IsDistinct nat_eq xs → k < length xs → position_or_len (λ other. other == get_or xs k d) xs ≡ k
+place_of xs k d distinct within = position_or_len_is (λ other. other == get_or xs k d) xs k d (omega arith)
+    (λ j lt. apart (get_or xs j d) (get_or xs k d) (distinct_at xs j k d distinct lt within))
+    (λ _. eq-eqb (get_or xs k d) (get_or xs k d) refl) where
+      apart : (a b : ℕ) → (a ≡ b → ⊥) → (a == b) ≡ false
+      apart a b = ne_eqb a b
+
+-- the calls before the one at a place are those of the places before
+pub before_at : (xs : List ℕ) (k d : ℕ) → IsDistinct nat_eq xs → k < length xs → before (get_or xs k d) xs ≡ take k xs
+before_at xs k d distinct within = ap (λ n. take n xs) (place_of xs k d distinct within)
+
+-- a call with fewer calls before it stands at that place
+pub stands_there : (xs : List ℕ) (call k d : ℕ) → length (before call xs) < k → k ≤ length xs → (j : ℕ) × (j < k) × (get_or xs j d ≡ call)
+stands_there xs call k d lt within =
+    let p = position_or_len (λ other. other == call) xs in
+    elim (cases_lt p (length xs)) [
+      | inl low ↦ (p, omega (arith, length-take-le p xs (omega arith)), eqb-true (get_or xs p d) call (passes_at_first (λ other. other == call) xs d low))
+      | inr past ↦ absurd (omega (arith, length-take p xs))
+    ]
+
+-- ---- the space after a call
+
+after_all-append : (depth : Depth) (limit : ℕ) (space : Space) (xs ys : List Action) → after_all depth limit space (xs ++ ys) ≡ after_all depth limit (after_all depth limit space xs) ys
+after_all-append depth limit space [] ys = refl
+after_all-append depth limit space (x ∷ xs) ys = after_all-append depth limit (step depth limit space x).space xs ys
+
+-- the space that a request leaves
+pub served : Layout → Space → Query → Space
+served layout space (Update action) = (step layout.depth layout.tables space action).space
+served layout space (Resolve address) = space
+
+-- the space that is kept for a layout
+abbrev pub kept : Layout → Space → BoundedSpace
+kept layout space = record { depth = layout.depth; limit = layout.tables; space = space }
+
+pub answered : (layout : Layout) (space : Space) (query : Query) (answer : Answer) (new : BoundedSpace) → Serves (kept layout space) query answer new → answer ≡ answer_in layout space query
+answered layout space (Update action) answer new h = h.0
+answered layout space (Resolve address) answer new h = h.0
+
+pub left : (layout : Layout) (space : Space) (query : Query) (answer : Answer) (new : BoundedSpace) → Serves (kept layout space) query answer new → new ≡ kept layout (served layout space query)
+unfolding served
+left layout space (Update action) answer new h = h.1
+left layout space (Resolve address) answer new h = h.1
+
+more : (trace : Recording) (order : List ℕ) (k d : ℕ) → k < length order → space_after trace (take (k + 1) order) ≡ after_all trace.layout.depth trace.layout.tables (space_after trace (take k order)) (operations trace (get_or order k d ∷ []))
+more trace order k d within =
+    ap (λ xs. space_after trace xs) (take_more order k d within)
+    ∙ ap (λ xs. after_all trace.layout.depth trace.layout.tables no_pages xs) (filter_map-append (operation_of trace) (take k order) (get_or order k d ∷ []))
+    ∙ after_all-append trace.layout.depth trace.layout.tables no_pages (operations trace (take k order)) (operations trace (get_or order k d ∷ []))
+
+-- what is no call leaves the space
+pub space_stays : (trace : Recording) (order : List ℕ) (k d : ℕ) → k < length order → option_map (λ (made : Invocation). made.request) (call_of trace (get_or order k d)) ≡ None → space_after trace (take k order) ≡ space_after trace (take (k + 1) order)
+space_stays trace order k d within none =
+    sym (more trace order k d within ∙ ap (λ o. after_all trace.layout.depth trace.layout.tables (space_after trace (take k order)) (cons_option o [])) (operation_by trace (get_or order k d) None (sym none)))
+
+-- a call leaves the space that its request leaves
+pub space_visits : (trace : Recording) (order : List ℕ) (k d : ℕ) (query : Query) → k < length order → Some query ≡ option_map (λ (made : Invocation). made.request) (call_of trace (get_or order k d)) → served trace.layout (space_after trace (take k order)) query ≡ space_after trace (take (k + 1) order)
+unfolding served
+space_visits trace order k d (Update action) within asks =
+    sym (more trace order k d within ∙ ap (λ o. after_all trace.layout.depth trace.layout.tables (space_after trace (take k order)) (cons_option o [])) (operation_by trace (get_or order k d) (Some (Update action)) asks))
+space_visits trace order k d (Resolve address) within asks =
+    sym (more trace order k d within ∙ ap (λ o. after_all trace.layout.depth trace.layout.tables (space_after trace (take k order)) (cons_option o [])) (operation_by trace (get_or order k d) (Some (Resolve address)) asks))
+
+operations_of_updates : (trace : Recording) (xs : List ℕ) → operations trace (updates trace xs) ≡ operations trace xs
+operations_of_updates trace [] = refl
+operations_of_updates trace (x ∷ xs) = by_case (operation_of trace x) refl (operations_of_updates trace xs) where
+  by_case : (o : Option Action) → operation_of trace x ≡ o → operations trace (updates trace xs) ≡ operations trace xs
+      → operations trace (updates trace (x ∷ xs)) ≡ operations trace (x ∷ xs)
+  by_case None none rest =
+      ap (λ ys. operations trace ys) (cond-false (is_some (operation_of trace x)) (x ∷ updates trace xs) (updates trace xs) (ap is_some none))
+      ∙ rest ∙ sym (ap (λ o. cons_option o (operations trace xs)) none)
+  by_case (Some action) some rest =
+      ap (λ ys. operations trace ys) (cond-true (is_some (operation_of trace x)) (x ∷ updates trace xs) (updates trace xs) (ap is_some some))
+      ∙ ap (λ ys. cons_option (operation_of trace x) ys) rest
+
+-- the recorded order leaves the space that the log does
+pub space_of_order : (trace : Recording) (order : List ℕ) → HasCleanLog trace → order ≡ recorded_order trace → space_after trace order ≡ space_after trace trace.log
+space_of_order trace order clean listed =
+    ap (λ xs. space_after trace xs) listed
+    ∙ ap (λ xs. after_all trace.layout.depth trace.layout.tables no_pages xs)
+    (sym (operations_of_updates trace (recorded_order trace)) ∙ ap (λ xs. operations trace xs) (updates_of_order trace clean))
+
+-- ---- answers
+
+made_of : (o : Option Invocation) (query : Query) → Some query ≡ option_map (λ (made : Invocation). made.request) o → (made : Invocation) × (o ≡ Some made) × (made.request ≡ query)
+made_of None query e = absurd (cc)
+made_of (Some made) query e = (made, refl, cc)
+
+module _ (trace : Recording) (order : List ℕ) (listed : order ≡ recorded_order trace) (clean : HasCleanLog trace) where
+  distinct : IsDistinct nat_eq order
+  distinct = subst (λ xs. IsDistinct nat_eq xs) (sym listed) (order_distinct trace clean)
+
+  -- the calls before that of a place in the recorded order
+  before_here : (k : ℕ) → k < length order → before (get_or order k 0) (recorded_order trace) ≡ take k order
+  before_here k within = subst (λ xs. before (get_or order k 0) xs ≡ take k order) listed (before_at order k 0 distinct within)
+
+  -- an answer that is told and is not the space's is wrong
+  pub wrong_here : (k : ℕ) (query : Query) (answer : Answer) (told : Option Reply) → k < length order → Some query ≡ option_map (λ (made : Invocation). made.request) (call_of trace (get_or order k 0))
+      → answer ≡ answer_in trace.layout (space_after trace (take k order)) query → told ≡ replied_to trace (get_or order k 0) → (IfSome told (λ reply. reply.answer ≡ answer) → ⊥) → IsWrong trace (get_or order k 0)
+  wrong_here k query answer None within asks gives is differs = absurd (differs tt)
+  wrong_here k query answer (Some told) within asks gives is differs =
+      let made = made_of (call_of trace (get_or order k 0)) query asks in
+      let reply = response_of (reply_to trace (get_or order k 0)) told (sym is) in
+      record {
+        made = made.0;
+        is_made = made.1;
+        reply = reply.0;
+        is_reply = reply.1;
+        differs = λ same. differs (sym reply.3 ∙ same
+            ∙ ap (λ xs. answer_in trace.layout (space_after trace xs) made.0.request) (before_here k within)
+            ∙ ap (λ q. answer_in trace.layout (space_after trace (take k order)) q) made.2 ∙ sym gives);
+      }
+
+  -- one that is told, if any is, and is the space's is not
+  pub right_here : (k : ℕ) (query : Query) (answer : Answer) (told : Option Reply) → k < length order → Some query ≡ option_map (λ (made : Invocation). made.request) (call_of trace (get_or order k 0))
+      → answer ≡ answer_in trace.layout (space_after trace (take k order)) query → told ≡ replied_to trace (get_or order k 0) → IfSome told (λ reply. reply.answer ≡ answer) → IsWrong trace (get_or order k 0) → ⊥
+  right_here k query answer told within asks gives is agrees wrong =
+      let made = made_of (call_of trace (get_or order k 0)) query asks in
+      let one = made.1 in
+      let two = wrong.is_made in
+      let same : made.0 ≡ wrong.made = cc in
+      let here = is ∙ ap (λ o. option_map without_call o) wrong.is_reply in
+      wrong.differs (subst (λ o. IfSome o (λ reply. reply.answer ≡ answer)) here agrees ∙ gives
+      ∙ ap (λ q. answer_in trace.layout (space_after trace (take k order)) q) (sym made.2 ∙ ap (λ (m : Invocation). m.request) same)
+      ∙ ap (λ xs. answer_in trace.layout (space_after trace xs) wrong.made.request) (sym (before_here k within)))
+
+  -- what is no call has no answer
+  pub no_call_is_right : (call : ℕ) → option_map (λ (made : Invocation). made.request) (call_of trace call) ≡ None → IsWrong trace call → ⊥
+  no_call_is_right call none wrong = let made = ap (λ o. option_map (λ (made : Invocation). made.request) o) wrong.is_made in cc
+
+  -- the first wrong answer in the recorded order is the first of all
+  pub first_wrong : (k : ℕ) → k < length order → ((j : ℕ) → j < k → IsWrong trace (get_or order j 0) → ⊥) → IsWrong trace (get_or order k 0) → IsFirstAmong IsAnswerFault trace (WrongAnswer (get_or order k 0))
+  first_wrong k within none wrong = record {
+    is_among = tt;
+    holds = wrong;
+    none_earlier = λ other among holds earlier. no_earlier other among holds earlier;
+  } where
+    no_earlier : (other : Fault) → IsAnswerFault other → Holds trace other → Earlier trace other (WrongAnswer (get_or order k 0)) → ⊥
+    no_earlier (WrongAnswer call) among holds earlier =
+        let counted = ap length (before_here k within) in
+        let taken = length-take-le k order (omega arith) in
+        elim (earlier_cases 6 (length (before call (recorded_order trace))) 10 6 (length (before (get_or order k 0) (recorded_order trace))) 10 earlier) [
+          | inl low ↦ omega arith
+          | inr rest ↦ elim rest.1 [
+            | inl low ↦
+                let there = stands_there order call k 0 (subst (λ xs. length (before call xs) < k) (sym listed) (omega arith)) (omega arith) in
+                none there.0 there.1 (subst (λ c. IsWrong trace c) (sym there.2) holds)
+            | inr also ↦ (let low = also.1 in omega arith)
+          ]
+        ]
+    no_earlier other among holds earlier = among
+
+  -- where no call of the recorded order is answered wrongly, none is
+  pub none_wrong : ((j : ℕ) → j < length order → IsWrong trace (get_or order j 0) → ⊥) → HasNone IsAnswerFault trace
+  none_wrong none (WrongAnswer call) among holds =
+      let there = at_from_Contains order call (subst (λ xs. Contains xs call) (sym listed) (wrong_is_member trace call clean holds)) in
+      none there.0 there.1 (subst (λ c. IsWrong trace c) (sym (there.2 0)) holds)
+  none_wrong none other among holds = among
+
+-- what has a query is an event
+pub query_within : (trace : Recording) (call : ℕ) (query : Query) → Some query ≡ option_map (λ (made : Invocation). made.request) (call_of trace call) → call < length trace.events
+query_within trace call query asks = elim (cases_lt call (length trace.events)) [
+  | inl low ↦ low
+  | inr past ↦ absurd (let none = ap (λ o. option_map (λ (made : Invocation). made.request) o) (no_call_past trace call past) in cc)
+]
+
+-- one more place that is not wrong
+pub right_more : (trace : Recording) (order : List ℕ) (k : ℕ) → ((j : ℕ) → j < k → IsWrong trace (get_or order j 0) → ⊥) → (IsWrong trace (get_or order k 0) → ⊥) → (j : ℕ) → j < k + 1 → IsWrong trace (get_or order j 0) → ⊥
+right_more trace order k below here j lt wrong = elim (cases_lt j k) [
+  | inl low ↦ below j low wrong
+  | inr same ↦ here (subst (λ i. IsWrong trace (get_or order i 0)) (let it : j ≡ k = omega arith in it) wrong)
+]

@@ -1,0 +1,64 @@
+-- The calls that stand before one that was answered before they were made.
+use Rattle.std.proofs.Common.{◌≡◌, ℕ, ◌<◌, ◌≤◌, [], ◌∷◌, inl, inr, length, Some, None, Option, refl, sym, ap, subst, ◌∙◌, arith}
+use Rattle.std.specs.Prelude.{is_some}
+use Rattle.std.proofs.lemmas.Bool.{cases_lt, false≢true}
+use Rattle.nr_trace.specs.Recording.{Recording}
+use Rattle.nr_trace.specs.Calls.{call_of, IsCall}
+use Rattle.nr_trace.specs.Orders.{floor}
+use Rattle.nr_trace.specs.Faults.{Holds, Earlier, StandsAfter}
+use Rattle.nr_trace.specs.Laws.{HasCleanLog}
+use Rattle.nr_trace.specs.inside.Reading.{Finds}
+use Rattle.nr_trace.specs.declared.fault.Fault.{Fault}
+use Rattle.nr_trace.specs.declared.fault.Fault.TheVariants.{Early}
+use Rattle.nr_trace.proofs.LawsOfCalls.{call_within, stands_once, update_is_call, read_is_call}
+use Rattle.nr_audit.specs.inside.Search.{HasNone, IsFirstAmong}
+use Rattle.nr_audit.specs.inside.Passes.{IsFloorFaultAt, IsFloorFault}
+use Rattle.nr_audit.proofs.Ranks.{IsRanked, none_of_all, first_of_all, lower_number}
+
+pub floor_ranks : (trace : Recording) → IsRanked IsFloorFaultAt 5 trace
+floor_ranks trace index (Early call) among = (9, ap (λ i. 5 ∷ i ∷ 9 ∷ []) among)
+floor_ranks trace index fault among = absurd among
+
+none_at : (trace : Recording) (index : ℕ) → (Holds trace (Early index) → ⊥) → HasNone (IsFloorFaultAt index) trace
+none_at trace index none (Early call) among holds = none (subst (λ c. Holds trace (Early c)) among holds)
+none_at trace index none fault among holds = absurd among
+
+stands_as_call : (trace : Recording) (call entries : ℕ) → StandsAfter trace call entries → IsCall trace call
+stands_as_call trace call entries (inl h) = update_is_call trace call h.0
+stands_as_call trace call entries (inr h) = read_is_call trace call h.0
+
+-- what is no call stands nowhere
+pub no_call_stands : (trace : Recording) (call entries : ℕ) → call_of trace call ≡ None → StandsAfter trace call entries → ⊥
+no_call_stands trace call entries none stands = false≢true (sym (ap is_some none) ∙ stands_as_call trace call entries stands)
+
+pub none_at_other : (trace : Recording) (index : ℕ) → call_of trace index ≡ None → HasNone (IsFloorFaultAt index) trace
+none_at_other trace index none = none_at trace index (λ held. no_call_stands trace index held.0 none held.1)
+
+-- a call that stands after at least as many entries as its floor, or nowhere
+pub none_at_call : (trace : Recording) (index : ℕ) (found : Option ℕ) → HasCleanLog trace → Finds (StandsAfter trace index) found
+    → ((entries : ℕ) → found ≡ Some entries → floor trace index ≤ entries) → HasNone (IsFloorFaultAt index) trace
+none_at_call trace index None clean none kept = none_at trace index (λ held. none held.0 held.1)
+none_at_call trace index (Some entries) clean stands kept = none_at trace index (λ held.
+    let same = stands_once trace index held.0 entries clean held.1 stands in
+    let low = held.2 in
+    let high = kept entries refl in
+    omega arith)
+
+pub no_floor_fault : (trace : Recording) → ((lower : ℕ) → lower < length trace.events → HasNone (IsFloorFaultAt lower) trace) → HasNone IsFloorFault trace
+no_floor_fault trace none = none_of_all IsFloorFaultAt trace (λ index. elim (cases_lt index (length trace.events)) [
+  | inl low ↦ none index low
+  | inr past ↦ none_at trace index (λ held. let within = call_within trace index (stands_as_call trace index held.0 held.1) in omega arith)
+])
+
+no_earlier : (trace : Recording) (index : ℕ) (other : Fault) → IsFloorFaultAt index other → Earlier trace other (Early index) → ⊥
+no_earlier trace index (Early call) among earlier = let h = lower_number 5 call 9 index 9 earlier among in absurd (omega arith)
+no_earlier trace index other among earlier = absurd among
+
+-- a call below its floor, after calls that are not below theirs
+pub first_early : (trace : Recording) (index : ℕ) (found : Option ℕ) (entries : ℕ) → ((lower : ℕ) → lower < index → HasNone (IsFloorFaultAt lower) trace)
+    → Finds (StandsAfter trace index) found → found ≡ Some entries → entries < floor trace index → IsFirstAmong IsFloorFault trace (Early index)
+first_early trace index found entries none finds is low = first_of_all IsFloorFaultAt 5 trace (floor_ranks trace) index (Early index) none (record {
+  is_among = refl;
+  holds = (entries, subst (Finds (StandsAfter trace index)) is finds, low);
+  none_earlier = λ other among holds earlier. no_earlier trace index other among earlier;
+})

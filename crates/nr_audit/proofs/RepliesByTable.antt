@@ -1,0 +1,94 @@
+-- The reply to a call, by the table of replies.
+use Rattle.std.proofs.Common.{◌≡◌, ℕ, zero, suc, ◌<◌, inl, inr, List, [], ◌∷◌, length, get_or, Some, None, Option, refl, sym, ap, subst, ◌∙◌, arith}
+use Rattle.std.specs.Prelude.{slice_get, filter_map, option_and_then, ◌==◌, if◌then◌else◌, is_some}
+use Rattle.std.specs.List.{cons_option}
+use Rattle.std.proofs.lemmas.Option.{slice_get_within}
+use Rattle.nr_trace.specs.Recording.{Recording}
+use Rattle.nr_trace.specs.Calls.{Response, reply_in, reply_of, reply_to}
+use Rattle.nr_trace.specs.declared.event.Event.{Event}
+use Rattle.std.proofs.lemmas.Bool.{cases_lt, eq-eqb, cond-true}
+use Rattle.std.proofs.lemmas.List.{get_or_past}
+use Rattle.std.specs.Prelude.{option_map}
+use Rattle.nr_trace.specs.Calls.{Invocation, call_of, address_in, address_of}
+use Rattle.vs_types.specs.declared.request.Query.{Query}
+use Rattle.nr_audit.specs.inside.Tables.{IsReplyBelow, AreReplies}
+use Rattle.nr_audit.specs.inside.Replies.{without_call, replied_to, entries_seen}
+use Rattle.nr_audit.specs.declared.history.Reply.{Reply}
+use Rattle.nr_audit.proofs.CallsAndReplies.{reply_by}
+use Rattle.nr_audit.proofs.PositionFaults.{address_by}
+
+-- the first thing that is given, where just one is
+pub only_given : {X Y : Type 0} (h : X → Option Y) (xs : List X) (i : ℕ) (x : X) (y : Y) → slice_get xs i ≡ Some x → h x ≡ Some y
+    → ((k : ℕ) (z : X) (w : Y) → slice_get xs k ≡ Some z → h z ≡ Some w → k ≡ i) → slice_get (filter_map h xs) 0 ≡ Some y
+only_given h [] i x y at gives only = absurd (cc)
+only_given h (e ∷ es) zero x y at gives only =
+    let same : e ≡ x = cc in
+    subst (λ o. slice_get (cons_option o (filter_map h es)) 0 ≡ Some y) (sym (ap h same ∙ gives)) refl
+only_given h (e ∷ es) (suc i) x y at gives only =
+    skip (h e) refl (only_given h es i x y at gives (λ k z w is given. let later = only (suc k) z w is given in omega arith)) where
+      skip : (o : Option _) → o ≡ h e → slice_get (filter_map h es) 0 ≡ Some y → slice_get (cons_option o (filter_map h es)) 0 ≡ Some y
+      skip None told rest = rest
+      skip (Some w) told rest = absurd (let first = only 0 e w refl (sym told) in omega arith)
+
+pub none_given : {X Y : Type 0} (h : X → Option Y) (xs : List X) → ((k : ℕ) (z : X) (w : Y) → slice_get xs k ≡ Some z → h z ≡ Some w → ⊥) → slice_get (filter_map h xs) 0 ≡ None
+none_given h [] none = refl
+none_given h (e ∷ es) none = skip (h e) refl (none_given h es (λ k z w is given. none (suc k) z w is given)) where
+  skip : (o : Option _) → o ≡ h e → slice_get (filter_map h es) 0 ≡ None → slice_get (cons_option o (filter_map h es)) 0 ≡ None
+  skip None told rest = rest
+  skip (Some w) told rest = absurd (none 0 e w refl (sym told))
+
+-- what an event says of a call
+abbrev says : ℕ → Event → Option Response
+says call event = option_and_then (λ (reply : Response). if reply.call == call then Some reply else None) (reply_in event)
+
+some_event : (o : Option Event) (reply : Response) → option_and_then reply_in o ≡ Some reply → (event : Event) × (o ≡ Some event) × (reply_in event ≡ Some reply)
+some_event None reply e = absurd (cc)
+some_event (Some event) reply e = (event, refl, e)
+
+-- the reply to a call is the event that the table names
+pub replied : (trace : Recording) (call : ℕ) (o : Option ℕ) → IsReplyBelow trace (length trace.events) call o → reply_to trace call ≡ option_and_then (λ index. reply_of trace index) o
+replied trace call None h = none_given (says call) trace.events (λ k event reply is given.
+    h k (slice_get_within trace.events k event is)
+    (ap (λ (p : Option Event). is_some (option_and_then (λ (reply : Response). if reply.call == call then Some reply else None) (option_and_then reply_in p))) is ∙ ap is_some given))
+replied trace call (Some index) h =
+    let named = reply_by trace index call h.1 in
+    let event = some_event (slice_get trace.events index) named.0 named.1 in
+    let gives : says call event.0 ≡ Some named.0 =
+    ap (λ o. option_and_then (λ (reply : Response). if reply.call == call then Some reply else None) o) event.2 ∙ cond-true (named.0.call == call) (Some named.0) None (eq-eqb named.0.call call named.2) in
+    only_given (says call) trace.events index event.0 named.0 event.1 gives (λ k other reply is given.
+    h.2 k (slice_get_within trace.events k other is)
+    (ap (λ (p : Option Event). is_some (option_and_then (λ (reply : Response). if reply.call == call then Some reply else None) (option_and_then reply_in p))) is ∙ ap is_some given)) ∙ sym named.1
+
+-- what a reply is made of
+pub response_of : (o : Option Response) (reply : Reply) → option_map without_call o ≡ Some reply
+    → (response : Response) × (o ≡ Some response) × (response.at ≡ reply.at) × (response.answer ≡ reply.answer)
+response_of None reply e = absurd (cc)
+response_of (Some response) reply e =
+    let same : without_call response ≡ reply = cc in
+    (response, refl, ap (λ (r : Reply). r.at) same, ap (λ (r : Reply). r.answer) same)
+
+-- the reply to a call, as the table has it
+pub reply_by_table : (trace : Recording) (table : List (Option ℕ)) (call : ℕ) (o : Option ℕ) → AreReplies trace table → o ≡ get_or table call None
+    → replied_to trace call ≡ option_map without_call (option_and_then (λ index. reply_of trace index) o)
+reply_by_table trace table call o are e = elim (cases_lt call (length table)) [
+  | inl low ↦ ap (option_map without_call)
+      (replied trace call (get_or table call None) (are.each call low) ∙ ap (λ p. option_and_then (λ index. reply_of trace index) p) (sym e))
+  | inr past ↦ ap (option_map without_call)
+      (replied trace call None (λ index lt. are.no_other call past index) ∙ ap (λ p. option_and_then (λ index. reply_of trace index) p) (sym (e ∙ get_or_past table call None past)))
+]
+
+-- the index that the table has is one of an event
+pub index_within : (trace : Recording) (table : List (Option ℕ)) (call index : ℕ) → AreReplies trace table → call < length table → get_or table call None ≡ Some index → index < length trace.events
+index_within trace table call index are lt e = (subst (λ o. IsReplyBelow trace (length trace.events) call o) e (are.each call lt)).0
+
+seen_of : (address : Option ℕ) (reply : Option Response) → option_and_then (λ (a : ℕ). option_map (λ (r : Response). r.at) reply) address
+    ≡ option_and_then (λ (a : ℕ). option_map (λ (r : Reply). r.at) (option_map without_call reply)) address
+seen_of None reply = refl
+seen_of (Some a) None = refl
+seen_of (Some a) (Some r) = refl
+
+-- how many entries a read saw, by its request and its reply
+pub seen_by : (trace : Recording) (call : ℕ) (query : Option Query) → query ≡ option_map (λ (made : Invocation). made.request) (call_of trace call)
+    → entries_seen trace call ≡ option_and_then (λ (a : ℕ). option_map (λ (r : Reply). r.at) (replied_to trace call)) (option_and_then address_in query)
+seen_by trace call query asks =
+    seen_of (address_of trace call) (reply_to trace call) ∙ ap (λ o. option_and_then (λ (a : ℕ). option_map (λ (r : Reply). r.at) (replied_to trace call)) o) (address_by trace call query asks)

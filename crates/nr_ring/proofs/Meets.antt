@@ -1,0 +1,29 @@
+-- A pass that was told of another looks.
+use Rattle.std.proofs.Common.{◌≡◌, ℕ, ◌+◌, ◌<◌, ◌≤◌, List, [], ◌∷◌, All, Contains, Option, length, sym, subst, arith}
+use Rattle.vs_types.specs.declared.depth.Depth.{Depth}
+use Rattle.nr_ring.specs.Calls.{IsCut, Looks, joined}
+use Rattle.nr_ring.specs.View.{StartsWith}
+use Rattle.nr_ring.specs.declared.view.View.{View}
+use Rattle.nr_ring.specs.inside.Held.{Remembers}
+use Rattle.nr_ring.proofs.Passes.{longer}
+
+-- a copy owns nothing
+pub cut_nothing : (owns : List ℕ) → IsCut owns owns []
+cut_nothing owns = record { kept_of = λ r has. has; given_of = λ r has. absurd (omega (arith, has.1)); apart = λ r kept given. absurd (omega (arith, given.1)) }
+
+pub met : (depth : Depth) (replicas : ℕ) (words : List ℕ) (told other after : View) → Looks depth replicas words (joined told other) after → StartsWith after.seen other.seen × StartsWith after.seen told.seen
+met depth replicas words told other after looks = (looks.looked.told 0 [] (omega arith), looks.looked.told 1 [] (omega arith))
+
+pub met_remembers : (depth : Depth) (replicas : ℕ) (words words' : List ℕ) (replica : Option ℕ) (told other after : View) → Remembers depth replicas words replica told → Looks depth replicas words' (joined told other) after
+    → Remembers depth replicas words' replica after
+met_remembers depth replicas words words' replica told other after is looks = record {
+  few = is.few;
+  is_history = looks.looked.is_history;
+  words_are = looks.words_are;
+  owns = Rattle.std.proofs.Common.◌∙◌ looks.looked.owns is.owns;
+  owned_below = is.owned_below;
+  mine =
+      let P : List ℕ → Type 0 = λ l. All (λ number. number < length after.seen) l in
+      let more = longer after.seen told.seen (met depth replicas words' told other after looks).1 in
+      subst P (sym looks.looked.mine) (λ k d lt. omega (arith, is.mine k d lt, more));
+}

@@ -1,0 +1,5 @@
+use Rattle.nr_ring.specs.declared.event.Event.TheVariants.{Advance}
+use Rattle.nr_ring.proofs.ring_log.RingLog.advance.Given as goal
+
+abbrev pub ghosts-try_advance : goal.ghosts-try_advance
+ghosts-try_advance g a = record { event = Advance a.replica a.to }

@@ -1,0 +1,5 @@
+use Rattle.nr_ring.specs.declared.event.Event.TheVariants.{Append}
+use Rattle.nr_ring.proofs.ring_log.RingLog.append.Given as goal
+
+abbrev pub ghosts-try_append : goal.ghosts-try_append
+ghosts-try_append g a = record { event = Append a.batch.now }

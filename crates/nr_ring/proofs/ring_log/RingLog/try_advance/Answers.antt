@@ -1,0 +1,33 @@
+use Rattle.std.proofs.Common.{◌≡◌, ℕ, ◌+◌, max, set, List, ap, ◌∙◌, sym, subst}
+use Rattle.std.specs.Prelude.{slice_index}
+use Rattle.nr_ring.specs.Calls.{MayMake}
+use Rattle.nr_ring.specs.History.{MayFollow, after, log_after}
+use Rattle.nr_ring.specs.Pass.{Known}
+use Rattle.nr_ring.specs.Words.{IsWordsOf}
+use Rattle.nr_ring.specs.declared.event.Event.{Event}
+use Rattle.nr_ring.specs.declared.event.Event.TheVariants.{Advance}
+use Rattle.nr_ring.specs.declared.view.View.{View}
+use Rattle.nr_ring.proofs.CellWords.{advance_words}
+use Rattle.nr_ring.proofs.ring_log.RingLog.try_advance.Goals as goal
+
+pub exchange-requires-clause-event : goal.exchange-requires-clause-event
+exchange-requires-clause-event g c =
+    let view = c.args.pass.now.view in
+    let P : Event → Type 0 = λ event. MayFollow g.J.LogName.depth (log_after g.J.LogName.replicas view.seen) event × MayMake view event in
+    subst P (sym c.requires.event) (c.requires.may.1, c.requires.may.2)
+
+pub exchange-requires-clause-next : goal.exchange-requires-clause-next
+exchange-requires-clause-next g c =
+    let log = log_after g.J.LogName.replicas c.args.pass.now.view.seen in
+    let words = c.pass.inside.words in
+    let Is : View → Type 0 = λ v. IsWordsOf (log_after g.J.LogName.replicas v.seen) words in
+    let are = subst Is (ap (λ (k : Known). k.view) c.pass.view_is) c.pass.invariant.words_are in
+    let advanced = advance_words log c.args.replica c.args.to words c.requires.may.0 are c.requires.may.1 in
+    let place = c.from-place.ensures in
+    let local = c.from-local.ensures in
+    let raised : c.max.result ≡ max (slice_index words 1) c.args.to = c.max.ensures ∙ ap (λ n. max (slice_index words 1) n) place in
+    let before : List ℕ = set (set words 1 c.max.result) (2 + c.from-local.result) c.from-place.result in
+    let next : before ≡ set (set words 1 (max (slice_index words 1) c.args.to)) (2 + c.args.replica) c.args.to = λ i. set (set words 1 (raised i)) (2 + local i) (place i) in
+    let Next : List ℕ → Type 0 = λ ws. IsWordsOf (after log (Advance c.args.replica c.args.to)) ws in
+    let After : Event → Type 0 = λ event. IsWordsOf (after log event) before in
+    subst After (sym c.requires.event) (subst Next (sym next) advanced)

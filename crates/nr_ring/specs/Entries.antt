@@ -1,0 +1,29 @@
+-- Appending entries to a log, and taking them.
+use Rattle.std.specs.Prelude.{◌≡◌, ℕ, List, drop}
+use Rattle.vs_types.specs.declared.depth.Depth.{Depth}
+use Rattle.vs_types.specs.declared.log_entry.LogEntry.{LogEntry}
+use Rattle.nr_ring.specs.History.{Log, AllKeepUp, HasRoom, IsEnded, IsFull, local_of, log_after, tail}
+use Rattle.nr_ring.specs.Calls.{HasLooked, HasMoved, with_event}
+use Rattle.nr_ring.specs.Pass.{tails_of}
+use Rattle.nr_ring.specs.declared.event.Event.TheVariants.{Append}
+use Rattle.nr_ring.specs.declared.tails.AppendFault.{AppendFault}
+use Rattle.nr_ring.specs.declared.tails.AppendFault.TheVariants.{LogEnded, Full, Moved}
+use Rattle.nr_ring.specs.declared.view.View.{View}
+
+-- the entries that a replica has still to take
+abbrev pub to_take : Log → ℕ → List LogEntry
+to_take log replica = drop (local_of log replica) log.entries
+
+-- the pass looked, and then appended the batch and nothing else: the batch stands at the end of the log, from this place on
+pub record HasAppended (depth : Depth) (replicas : ℕ) (before : View) (batch : List LogEntry) (place : ℕ) (after : View) : Type 0 where
+  pub seen_before : View
+  pub looked : HasLooked depth replicas before seen_before
+  pub appended : after ≡ with_event seen_before (Append batch)
+  pub place_is : place ≡ tail (log_after replicas seen_before.seen)
+
+-- why a batch of so many entries was not appended to the log that the pass has then seen: the log would go past its end; it is full; or
+-- it is neither, but another pass's event came. The tails that are told are the log's
+abbrev pub IsReason : Log → ℕ → View → View → AppendFault → Type 0
+IsReason log n before after LogEnded = IsEnded log n
+IsReason log n before after (Full tails) = (tails ≡ tails_of log) × HasRoom log n × IsFull log n
+IsReason log n before after (Moved tails) = (tails ≡ tails_of log) × HasRoom log n × AllKeepUp log n × HasMoved before after

@@ -1,0 +1,48 @@
+-- A batch on its way into the words, and the bounds that bar it.
+use Rattle.std.specs.Prelude.{◌≡◌, ◌⊎◌, ℕ, ◌+◌, ◌<◌, ◌≤◌, All, List, Some, drop, length, take, slice_get, slice_index}
+use Rattle.vs_types.specs.LogEntry.{IsLogEntry, log_words}
+use Rattle.vs_types.specs.declared.depth.Depth.{Depth}
+use Rattle.vs_types.specs.declared.log_entry.LogEntry.{LogEntry}
+use Rattle.nr_ring.specs.History.{Log, AllKeepUp, HasRoom, IsEnded, IsFull, tail}
+use Rattle.nr_ring.specs.Pass.{tails_of}
+use Rattle.nr_ring.specs.Words.{word_of, IsWordsOf}
+use Rattle.nr_ring.specs.declared.tails.AppendFault.{AppendFault}
+use Rattle.nr_ring.specs.declared.tails.AppendFault.TheVariants.{LogEnded, Full, Moved}
+
+-- the bound that bars so many entries from the log
+abbrev pub Bars : Log → ℕ → AppendFault → Type 0
+Bars log n LogEnded = IsEnded log n
+Bars log n (Full tails) = (tails ≡ tails_of log) × HasRoom log n × IsFull log n
+Bars log n (Moved tails) = ⊥
+
+-- why so many entries were not appended to the log, where another pass's event came in between
+abbrev pub Explains : Log → ℕ → AppendFault → Type 0
+Explains log n LogEnded = IsEnded log n
+Explains log n (Full tails) = (tails ≡ tails_of log) × HasRoom log n × IsFull log n
+Explains log n (Moved tails) = (tails ≡ tails_of log) × HasRoom log n × AllKeepUp log n
+
+-- the first n entries of a batch stand in the words, at their places from one on, and all else is as before
+pub record IsWritten (place n : ℕ) (batch : List LogEntry) (before after : List ℕ) : Type 0 where
+  pub long : length after ≡ 39
+  pub head_stays : (word : ℕ) → word < 7 → slice_index after word ≡ slice_index before word
+  pub entries_are : (i : ℕ) (entry : LogEntry) (k : ℕ) → i < n → slice_get batch i ≡ Some entry → k < 2 → slice_index after (word_of (place + i) + k) ≡ slice_index (log_words entry) k
+  pub others_stay : (word : ℕ) → 7 ≤ word → ((i : ℕ) → i < n → (word < word_of (place + i)) ⊎ (word_of (place + i) + 2 ≤ word)) → slice_index after word ≡ slice_index before word
+
+-- the tails that words have are small
+pub record AreSmall (words : List ℕ) : Type 0 where
+  pub tails : (word : ℕ) → word < 6 → slice_index words word ≤ 65536
+  pub replicas : slice_index words 6 ≤ 4
+
+-- the words are those of a log at this depth whose entries from a place on are in the ring
+pub record CanBeRead (depth : Depth) (words : List ℕ) (from : ℕ) : Type 0 where
+  pub log : Log
+  pub are : IsWordsOf log words
+  pub fit : All (IsLogEntry depth) log.entries
+  pub low : from ≤ tail log
+  pub near : tail log ≤ from + 16
+  pub ends : tail log ≤ 65536
+
+-- so many entries from a place on were read
+pub record IsRead (depth : Depth) (words : List ℕ) (from n : ℕ) (entries : List LogEntry) : Type 0 where
+  pub count : length entries ≡ n
+  pub are : (log : Log) → IsWordsOf log words → All (IsLogEntry depth) log.entries → entries ≡ take n (drop from log.entries)

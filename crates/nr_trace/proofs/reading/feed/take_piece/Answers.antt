@@ -1,0 +1,20 @@
+use Rattle.std.proofs.Common.{ap, sym, ◌∙◌, ◌≡◌, ◌++◌, rules, append_assoc}
+use Rattle.vs_types.specs.Refusal.{IfRefused}
+use Rattle.nr_trace.specs.Feed.{IsSettled}
+use Rattle.nr_trace.specs.inside.Progress.{said}
+use Rattle.nr_trace.proofs.Feeding.{refuses, sound_after, unit_completed}
+use Rattle.nr_trace.proofs.reading.feed.take_piece.Goals as goal
+
+pub returns-in_err-reader-in-Some : goal.returns-in_err-reader-in-Some
+returns-in_err-reader-in-Some c =
+    let begun = c.args.begun.items in
+    let bytes = said c.args.reader ++ begun ++ c.args.piece.now in
+    let refused : IfRefused (IsSettled bytes) c.in_err-reader-in-Some.field-0.0 =
+    refuses bytes c.args.reader (begun ++ c.args.piece.now) c.deref.result.now c.split_at.result.1.now c.in_err-reader-in-Some.field-0.0
+    record { sound = c.requires.sound; parts = append_assoc (said c.args.reader) begun c.args.piece.now }
+    (unit_completed begun c.args.piece.now c.split_at.result.0.now c.split_at.result.1.now c.deref.result.now (search rules) (c.deref.ensures.value ∙ c.in_ok-extend_from_slice-in-Some-2.ensures.items))
+    c.in_err-reader-in-Some.ensures in
+    search rules
+
+pub take_bytes-requires-clause-sound : goal.take_bytes-requires-clause-sound
+take_bytes-requires-clause-sound c = sound_after c.args.reader c.in_ok-reader-in-Some.reader c.deref.result.now c.requires.sound c.in_ok-reader-in-Some.ensures

@@ -1,0 +1,80 @@
+use crate::fault::Format;
+use crate::reading::feed::Feed;
+use crate::reading::whole::read;
+use crate::tests::map_then_resolve_bytes;
+use crate::trace::Trace;
+use crate::writing::write;
+use std::alloc::Global;
+use std::test::*;
+
+/// What the bytes give in pieces of this length.
+fn read_in_pieces(
+    alloc: Global,
+    bytes: &[u8],
+    len: usize,
+) -> Result<Trace, vs_types::Fail<Format>> {
+    let mut feed = Feed::new(alloc);
+    for piece in bytes.chunks(len) {
+        feed.feed(piece)?;
+    }
+    feed.end()
+}
+
+fn refusal<T: Drop>(given: Result<T, vs_types::Fail<Format>>) -> Option<Format> {
+    match given {
+        Err(vs_types::Fail::Refused(fault)) => Some(fault),
+        _ => None,
+    }
+}
+
+#[test]
+fn pieces_of_every_kind_give_one_trace(rt: HostRuntime) -> Result<(), Fail> {
+    let alloc = rt.alloc();
+    let bytes = map_then_resolve_bytes(alloc)?;
+    for len in [1, 7, 4095, 4096] {
+        let trace = read_in_pieces(alloc, &bytes, len)?;
+        assert!(rt; write(alloc, &trace)?.as_slice() == bytes.as_slice());
+    }
+    Ok(())
+}
+
+#[test]
+fn a_fault_is_told_again(rt: HostRuntime) -> Result<(), Fail> {
+    let alloc = rt.alloc();
+    let mut feed = Feed::new(alloc);
+    assert!(rt; feed.feed(b"NRV").is_ok());
+    assert_eq!(rt; refusal(feed.feed(b"X")), Some(Format::BadMagic));
+    let bytes = map_then_resolve_bytes(alloc)?;
+    assert_eq!(rt; refusal(feed.feed(&bytes)), Some(Format::BadMagic));
+    assert_eq!(rt; refusal(feed.end()), Some(Format::BadMagic));
+    Ok(())
+}
+
+#[test]
+fn a_byte_behind_the_trace_is_told_at_once(rt: HostRuntime) -> Result<(), Fail> {
+    let alloc = rt.alloc();
+    let bytes = map_then_resolve_bytes(alloc)?;
+    let mut feed = Feed::new(alloc);
+    assert!(rt; feed.feed(&bytes).is_ok());
+    assert_eq!(rt; refusal(feed.feed(&[0])), Some(Format::Trailing));
+    Ok(())
+}
+
+#[test]
+fn each_cut_is_truncated(rt: HostRuntime) -> Result<(), Fail> {
+    let alloc = rt.alloc();
+    let bytes = map_then_resolve_bytes(alloc)?;
+    for len in 0..bytes.len() {
+        assert_eq!(rt; refusal(read(alloc, &bytes[..len])), Some(Format::Truncated));
+    }
+    Ok(())
+}
+
+#[test]
+fn promised_events_that_do_not_come(rt: HostRuntime) -> Result<(), Fail> {
+    let header = [
+        0x4e, 0x52, 0x56, 0x54, 0, 1, 4, 1, 0, 1, 0, 1, 0, 1, 0, 0, 0, 2, 0, 0,
+    ];
+    assert_eq!(rt; refusal(read(rt.alloc(), &header)), Some(Format::Truncated));
+    Ok(())
+}

@@ -1,0 +1,41 @@
+-- How an arena's frames are laid out, each with a mark that says whether it is in use.
+use Rattle.std.specs.Prelude.{◌≡◌, ℕ, suc, zero, ◌+◌, ◌^◌, ◌<◌, ◌≤◌, Bool, false, List, [], length, slice_index, slice_index_or, All, Option, Some, None, refl, if◌then◌else◌}
+use Rattle.std.specs.Coded.{Coded, code_by, coded×, coded_ℕ, coded_list}
+use Rattle.std.specs.FinMap as finite
+use Rattle.std.specs.Ordering.{nat_cmp}
+use Rattle.vs_types.specs.Frame.{IsFrame}
+use Rattle.vs_arena.specs.Store.{Store}
+use Rattle.vs_arena.specs.Arena.{Arena}
+
+abbrev pub arena_code : Coded Arena
+arena_code = code_by (ℕ × (ℕ × Store)) (coded× coded_ℕ (coded× coded_ℕ (finite.code {R = nat_cmp} coded_ℕ (coded_list coded_ℕ)))) (λ a. (a.base, (a.size, a.frames))) (λ p. record { base = p.0; size = p.1.0; frames = p.1.1 }) (λ _. refl)
+
+-- the frame at an index, where there is one
+abbrev pub with_frame : Store → ℕ → Option (List ℕ) → Store
+with_frame store index None = store
+with_frame store index (Some words) = finite.insert store index words
+
+-- the frames of the indexes below n, as this gives them
+unfoldable pub frames_below : ℕ → (ℕ → Option (List ℕ)) → Store
+frames_below zero at = finite.empty
+frames_below (suc n) at = with_frame (frames_below n at) n (at n)
+
+-- the words at an index that is marked
+abbrev pub marked : List Bool → List (List ℕ) → ℕ → Option (List ℕ)
+marked marks words index = if slice_index_or marks index false then Some (slice_index_or words index []) else None
+
+-- the frames that are marked as in use
+abbrev pub marked_frames : List Bool → List (List ℕ) → Store
+marked_frames marks words = frames_below (length marks) (marked marks words)
+
+-- how an arena is laid out: frames in a row, a mark for each, and a list that begins with the frames that aren't in use
+pub record IsArena (base : ℕ) (words : List (List ℕ)) (marks : List Bool) (free : List ℕ) (free_count : ℕ) : Type 0 where
+  pub few_frames : length marks ≤ 4096
+  pub numbers_fit : base + length marks ≤ 2 ^ 40
+  pub words_for_each : length words ≡ length marks
+  pub whole_frames : All IsFrame words
+  pub room_for_each : length free ≡ length marks
+  pub free_within : (k : ℕ) → k < free_count → slice_index free k < length marks
+  pub free_unmarked : (k : ℕ) → k < free_count → slice_index_or marks (slice_index free k) false ≡ false
+  pub free_once : (j k : ℕ) → j < free_count → k < free_count → slice_index free j ≡ slice_index free k → j ≡ k
+  pub counted : finite.len (marked_frames marks words) + free_count ≡ length marks

@@ -1,5 +1,0 @@
-use Rattle.vs_walk.proofs.WaysDumps.{dump_is_whole}
-use Rattle.vs_walk.proofs.ways.dumps_are_whole.Goals as goal
-
-pub returns : goal.returns
-returns c = dump_is_whole

@@ -1,6 +1,0 @@
-use Rattle.vs_walk.proofs.WaysSpaces.{found_translates, translates_found, translates_shared}
-use Rattle.vs_walk.proofs.WaysBuilt.{found_space}
-use Rattle.vs_walk.proofs.ways.found_pages_are_the_space.Goals as goal
-
-pub returns : goal.returns
-returns c = record { translates = found_translates; found = translates_found; fault = translates_shared; space = found_space }

@@ -1,5 +1,0 @@
-use Rattle.vs_walk.proofs.WaysLaws.{faultless_walk, each_walk, none_covers}
-use Rattle.vs_walk.proofs.ways.found_pages_are_the_walks.Goals as goal
-
-pub returns : goal.returns
-returns c = record { faultless = faultless_walk; each = each_walk; none = none_covers }
