@@ -1,4 +1,5 @@
 ghost use Rattle.std.specs.Prelude.{◌≡◌, ◌<◌, ◌≤◌, ◌^◌, ℕ, [], All, IfOk, IfSome, IsErr, vec_len};
+ghost use Rattle.vs_types.specs.declared.limits.TheConstants.{CALLS};
 
 use crate::answered::Answered;
 use crate::slot::{NotTaken, Occupied, Slot};
@@ -43,7 +44,7 @@ impl Slots {
     /// Waits for the slot's lock.
     pub fn post<R: Wait>(&self, rt: &R, thread: u16, call: u32, op: Op) -> Result<(), Occupied>
         requires thread { thread < self.now }
-        requires call { call < 131072 }
+        requires call { call < CALLS }
     {
         let waiting = Waiting::new(thread, call, op);
         self.slots[usize::from(thread)].lock(rt).post(waiting)

@@ -1,4 +1,5 @@
 ghost use Rattle.std.specs.Prelude.{◌≡◌, ◌<◌};
+ghost use Rattle.vs_types.specs.declared.limits.TheConstants.{CALLS};
 
 use vs_types::{LogEntry, Op};
 
@@ -10,13 +11,13 @@ pub struct Waiting {
     /// The number of its call.
     pub call: u32,
     pub op: Op,
-    ghost in_range: { call < 131072 },
+    ghost in_range: { call < CALLS },
 }
 
 impl Waiting {
     /// An update of a thread.
     pub fn new(thread: u16, call: u32, op: Op) -> Waiting
-        requires { call < 131072 }
+        requires { call < CALLS }
         ensures thread { result.thread ≡ thread }
         ensures call { result.call ≡ call }
         ensures op { result.op ≡ op }
@@ -27,7 +28,7 @@ impl Waiting {
     /// Its call is below 131,072.
     pub fn entry(self) -> LogEntry
         ensures entry { result ≡ record { call = self.call; op = self.op } }
-        ensures in_range { self.call < 131072 }
+        ensures in_range { self.call < CALLS }
     {
         LogEntry {
             call: self.call,
