@@ -31,7 +31,7 @@ step_at : (mid new : PageTable) (action : Action) (answer : Answer) (depth : Dep
 step_at mid new action answer depth limit is_depth is_limit stepped space is_table =
     subst (λ d. (answer ≡ (step d limit space action).answer) × IsTableOf new (step d limit space action).space) is_depth
     (subst (λ l. (answer ≡ (step mid.depth l space action).answer) × IsTableOf new (step mid.depth l space action).space) is_limit
-        (stepped.steps space is_table))
+    (stepped.steps space is_table))
 
 pub applies_more : (old mid new : PageTable) (actions : List Action) (action : Action) (old_sum sum : ℕ) (answer : Answer)
     → Applies old actions old_sum mid sum → IsTableStep mid action answer new
@@ -43,12 +43,12 @@ applies_more old mid new actions action old_sum sum answer so_far stepped =
       same = stepped.same ∙ ap (λ (t : PageTable). let r : PageTable = record t { memory = new.memory } in r) so_far.same;
       sums = λ space is_table.
           let one = step_at mid new action answer old.depth old.limit is_depth is_limit stepped (after_all old.depth old.limit space actions)
-              (so_far.is_table space is_table) in
+          (so_far.is_table space is_table) in
           ap (λ s. sum_with s (answer_number answer)) (so_far.sums space is_table)
           ∙ ap (λ a. sum_with (sum_of_steps old.depth old.limit space old_sum actions) (answer_number a)) one.0
           ∙ sym (sum_of_steps-append old.depth old.limit space old_sum actions (action ∷ []));
       is_table = λ space is_table.
           let one = step_at mid new action answer old.depth old.limit is_depth is_limit stepped (after_all old.depth old.limit space actions)
-              (so_far.is_table space is_table) in
+          (so_far.is_table space is_table) in
           subst (λ s. IsTableOf new s) (sym (after_all-append old.depth old.limit space actions (action ∷ []))) one.1;
     }

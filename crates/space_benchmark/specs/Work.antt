@@ -48,7 +48,7 @@ after_count depth progress = record progress { sum = sum_with progress.sum (tabl
 abbrev pub after_round : Depth → ℕ → Load → Progress → Progress
 after_round depth limit load progress =
     after_count depth (after_steps depth limit load.unmaps.items
-        (after_steps depth limit load.protects.items (after_looks load.addresses.items (after_count depth (after_steps depth limit load.maps.items progress)))))
+    (after_steps depth limit load.protects.items (after_looks load.addresses.items (after_count depth (after_steps depth limit load.maps.items progress)))))
 
 -- one round on a page table: the table after it is that of the space after it, and the sum goes on with all that was answered
 pub record IsRound (old : PageTable) (load : Load) (old_sum : ℕ) (new : PageTable) (new_sum : ℕ) : Type 0 where

@@ -104,7 +104,9 @@ pub fn measure<S: FrameStore + Drop>(
     ensures { IfOk result (λ measured. measured.sum.value ≡ (after_rounds load.now.depth FRAMES load.now rounds start).sum) }
 {
     let depth = load.depth;
-    if !all_fit(depth, &load.maps) || !all_fit(depth, &load.protects) || !all_fit(depth, &load.unmaps)
+    if !all_fit(depth, &load.maps)
+        || !all_fit(depth, &load.protects)
+        || !all_fit(depth, &load.unmaps)
     {
         return Err(ProgFault::BadPage);
     }
