@@ -78,11 +78,7 @@ fn run<S: FrameStore + Drop>(
         assert_eq!(rt; told.table, *answer, "{name}, row {place}, the page table");
         assert_eq!(rt; told.plain, *answer, "{name}, row {place}, the plain space");
         let counts = both.tables();
-        assert_eq!(rt;
-            counts.table,
-            tables,
-            "{name}, row {place}, the page table"
-        );
+        assert_eq!(rt; counts.table, tables, "{name}, row {place}, the page table");
         assert_eq!(rt;
             counts.plain,
             tables,
