@@ -26,7 +26,7 @@ use Rattle.vs_types.proofs.Spaces.{page_at_means, insert_space}
 use Rattle.vs_walk.specs.Memory.{Memory, AreWhole}
 use Rattle.vs_walk.specs.Walk.{walk, as_walk}
 use Rattle.vs_walk.specs.declared.walk.Walk.TheVariants.{Mapped, Reserved}
-use Rattle.vs_walk.proofs.Translates.{not_reserved}
+use Rattle.vs_walk.proofs.LawsOfTranslations.{not_reserved}
 use Rattle.vs_space.specs.Held.{with_word}
 use Rattle.vs_space.specs.Path.{found_at, table_at, table_in, SamePath}
 use Rattle.vs_space.specs.inside.Tree.{IsTree, IsFilled, NothingUnder}

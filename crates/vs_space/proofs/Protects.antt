@@ -22,7 +22,7 @@ use Rattle.vs_types.proofs.Tables.{protect_tables}
 use Rattle.vs_walk.specs.Memory.{Memory, AreWhole}
 use Rattle.vs_walk.specs.Walk.{walk, as_walk, TranslatesAs}
 use Rattle.vs_walk.specs.declared.walk.Walk.TheVariants.{NotMapped, Mapped}
-use Rattle.vs_walk.proofs.Translates.{one_space, not_reserved}
+use Rattle.vs_walk.proofs.LawsOfTranslations.{one_space, not_reserved}
 use Rattle.vs_space.specs.Held.{with_word}
 use Rattle.vs_space.specs.Path.{found_at, table_at, table_in, SamePath}
 use Rattle.vs_space.specs.inside.Tree.{IsTree, IsFilled}
