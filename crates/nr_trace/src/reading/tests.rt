@@ -66,7 +66,10 @@ fn bytes_cut_short_are_truncated(rt: HostRuntime) -> Result<(), Fail> {
     let bytes = map_then_resolve_bytes(alloc)?;
     for len in 0..bytes.len() {
         if len < 200 || len % 97 == 0 {
-            assert_eq!(rt; refusal(read(alloc, &bytes[..len])), Some(Format::Truncated));
+            assert_eq!(rt;
+                refusal(read(alloc, &bytes[..len])),
+                Some(Format::Truncated)
+            );
         }
     }
     Ok(())
