@@ -400,9 +400,6 @@ def resolve(data, spelling, replica=0):
     if not re.fullmatch("0x[0-9a-fA-F]{1,16}", spelling):
         return "", "bad address\n", 2
     address = int(spelling, 16)
-    if len(data) < 7 or data[6] != 5:               # at five levels the trace comes first
-        if not is_canonical(4, address):
-            return "", "not canonical\n", 2
     try:
         trace = read(data)
     except Fault as fault:

@@ -1,6 +1,7 @@
 -- What the commands answer to bytes: a text and a status.
 use Rattle.std.specs.Prelude.{◌≡◌, ◌≤◌, ◌⊎◌, ℕ, List, Option, Some, IfSome, Result, MatchResult, slice_get}
 use Rattle.std.specs.Io.KnownBytes.{Appends}
+use Rattle.vs_types.specs.Depth.{IsCanonical}
 use Rattle.vs_types.specs.Refusal.{IfRefused}
 use Rattle.vs_types.specs.declared.refusal.Fail.{Fail}
 use Rattle.vs_walk.specs.Walk.{walk}
@@ -13,7 +14,7 @@ use Rattle.nr_trace.specs.declared.fault.Fault.TheVariants as faults
 use Rattle.nr_audit.specs.Verdict.{IsVerdictOf}
 use Rattle.nr_audit.specs.declared.verdict.Verdict.{Verdict}
 use Rattle.nrvs.specs.Text.{no_text, verdict_text, verdict_status, walk_text}
-use Rattle.nrvs.specs.Addresses.{SpellsCanonical}
+use Rattle.nrvs.specs.Addresses.{SpellsAddress}
 use Rattle.nrvs.specs.declared.command.Command.{Command}
 use Rattle.nrvs.specs.declared.command.Command.TheVariants.{Audit, Resolve}
 
@@ -24,10 +25,11 @@ pub record IsAudit (bytes text : List ℕ) (status : ℕ) : Type 0 where
   pub text_is : text ≡ verdict_text verdict
   pub status_is : status ≡ verdict_status verdict
 
--- the bytes spell a trace, and the text is where the walk of the address ends in the dump of the replica
+-- the bytes spell a trace, at its depth the address is canonical, and the text is where its walk ends in the dump of the replica
 pub record IsWalkInDump (bytes : List ℕ) (address replica : ℕ) (text : List ℕ) (status : ℕ) : Type 0 where
   pub trace : Recording
   pub spelled : Spells bytes trace
+  pub canonical : IsCanonical trace.layout.depth address
   pub dump : Image
   pub is_dump : slice_get trace.dumps replica ≡ Some dump
   pub text_is : text ≡ walk_text (walk trace.layout.depth dump.frames dump.root address)
@@ -44,16 +46,23 @@ pub record IsFormatRefusal (bytes text : List ℕ) (status : ℕ) : Type 0 where
 abbrev pub IsWalk : ℕ → ℕ → List ℕ → List ℕ → ℕ → Type 0
 IsWalk address replica bytes text status = IsWalkInDump bytes address replica text status ⊎ IsFormatRefusal bytes text status
 
--- the bytes spell a trace that has no replica of this number
-pub record LacksReplica (bytes : List ℕ) (replica : ℕ) : Type 0 where
+-- the bytes spell a trace at whose depth the address is not canonical
+pub record IsOutOfItsDepth (bytes : List ℕ) (address : ℕ) : Type 0 where
   pub trace : Recording
   pub spelled : Spells bytes trace
+  pub not_canonical : IsCanonical trace.layout.depth address → ⊥
+
+-- the bytes spell a trace at whose depth it is, and which has no replica of this number
+pub record LacksReplica (bytes : List ℕ) (address replica : ℕ) : Type 0 where
+  pub trace : Recording
+  pub spelled : Spells bytes trace
+  pub canonical : IsCanonical trace.layout.depth address
   pub lacking : trace.layout.replicas ≤ replica
 
 -- of `resolve`, where this word spells the address
 pub record IsResolve (word : List ℕ) (replica : ℕ) (bytes text : List ℕ) (status : ℕ) : Type 0 where
   pub address : ℕ
-  pub spelled : SpellsCanonical word address
+  pub spelled : SpellsAddress word address
   pub is_walk : IsWalk address replica bytes text status
 
 -- the text and the status that are those of the command on these bytes

@@ -1,7 +1,7 @@
 -- The program ends with no answer: why, its exit status, and what it tells standard error.
 use Rattle.std.specs.Prelude.{◌≡◌, ◌≢◌, ℕ, List, codes, Option, Result, Ok, Err, IfErr, ⊤}
-use Rattle.nrvs.specs.Addresses.{SpellsCanonical, IsAddressFault}
-use Rattle.nrvs.specs.Answers.{IsReadOf, LacksReplica}
+use Rattle.nrvs.specs.Addresses.{SpellsAddress}
+use Rattle.nrvs.specs.Answers.{IsReadOf, IsOutOfItsDepth, LacksReplica}
 use Rattle.nrvs.specs.declared.command.Command.{Command}
 use Rattle.nrvs.specs.declared.command.Command.TheVariants.{Audit, Resolve}
 use Rattle.nrvs.specs.declared.fault.ProgFault.{ProgFault}
@@ -31,19 +31,21 @@ IsEndFault CannotWrite = ⊤
 IsEndFault Memory = ⊤
 IsEndFault _ = ⊥
 
--- why the walk of a canonical address in the dump of a replica is not made
-abbrev pub IsWalkFault : List ℕ → ℕ → ProgFault → Type 0
-IsWalkFault bytes replica NoSuchReplica = LacksReplica bytes replica
-IsWalkFault bytes replica Memory = ⊤
-IsWalkFault bytes replica _ = ⊥
+-- why the walk of an address in the dump of a replica is not made
+abbrev pub IsWalkFault : List ℕ → ℕ → ℕ → ProgFault → Type 0
+IsWalkFault bytes address replica NotCanonical = IsOutOfItsDepth bytes address
+IsWalkFault bytes address replica NoSuchReplica = LacksReplica bytes address replica
+IsWalkFault bytes address replica Memory = ⊤
+IsWalkFault bytes address replica _ = ⊥
 
 -- the fault of `resolve` on this word and replica, where the input is known; the word is tested first
 abbrev pub IsResolveFault : List ℕ → ℕ → Option (List ℕ) → ProgFault → Type 0
-IsResolveFault word replica known BadAddress = IsAddressFault word BadAddress
-IsResolveFault word replica known NotCanonical = IsAddressFault word NotCanonical
+IsResolveFault word replica known BadAddress = (address : ℕ) → SpellsAddress word address → ⊥
+IsResolveFault word replica known NotCanonical =
+    (address : ℕ) × SpellsAddress word address × ((input : List ℕ) × IsReadOf known input × IsOutOfItsDepth input address)
 IsResolveFault word replica known NoSuchReplica =
-    ((address : ℕ) × SpellsCanonical word address) × ((input : List ℕ) × IsReadOf known input × LacksReplica input replica)
-IsResolveFault word replica known _ = (address : ℕ) × SpellsCanonical word address
+    (address : ℕ) × SpellsAddress word address × ((input : List ℕ) × IsReadOf known input × LacksReplica input address replica)
+IsResolveFault word replica known _ = (address : ℕ) × SpellsAddress word address
 
 -- the fault of the command, where the input is known
 abbrev pub IsRefusal : Command → Option (List ℕ) → ProgFault → Type 0

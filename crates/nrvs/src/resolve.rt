@@ -1,10 +1,8 @@
 ghost use Rattle.std.specs.Prelude.{ℕ, IfOk, IfErr, List, MatchResult, string_bytes};
-ghost use Rattle.vs_types.specs.Depth.{IsCanonical};
-ghost use Rattle.vs_types.specs.declared.depth.Depth.TheVariants.{Four};
 ghost use Rattle.nrvs.specs.Answers.{IsReadFrom, IsResolve, IsWalk, WritesReport};
 ghost use Rattle.nrvs.specs.Refusals.{IsWalkFault, IsResolveFault, WritesAnswersAlone};
 
-use crate::address::read_address;
+use crate::address::parse_address;
 use crate::ends::{read_trace, write_report};
 use crate::fault::ProgFault;
 use crate::report::Report;
@@ -15,23 +13,27 @@ use std::io::{Read, Write};
 use vs_types::Fail;
 use vs_walk::translate;
 
-/// What `resolve` answers to what was read of an input: where the walk of a canonical address ends in a replica's dump, with
-/// status 0; or the line of the format fault, with status 1; or `NoSuchReplica`. Takes memory for the text.
+/// What `resolve` answers to what was read of an input: where the walk of the address ends in a replica's dump, with status 0;
+/// or the line of the format fault, with status 1; or `NotCanonical`, where it is not canonical at the trace's depth, and then
+/// `NoSuchReplica`. Takes memory for the text.
 pub fn resolve_read(
     alloc: Global,
     read: Result<Trace, Fail<Format>>,
     address: u64,
     replica: u8,
 ) -> Result<Report, ProgFault>
-    requires { IsCanonical Four address }
-    ensures { (bytes : List ℕ) → IsReadFrom bytes read → MatchResult result (λ report. IsWalk address replica bytes (string_bytes report.text) report.status) (IsWalkFault bytes replica) }
+    ensures { (bytes : List ℕ) → IsReadFrom bytes read → MatchResult result (λ report. IsWalk address replica bytes (string_bytes report.text) report.status) (IsWalkFault bytes address replica) }
 {
     match read {
         Ok(trace) => {
+            let depth = trace.config().depth();
+            if !depth.is_canonical(address) {
+                return Err(ProgFault::NotCanonical);
+            }
             let Some(dump) = trace.dumps().get(replica as usize) else {
                 return Err(ProgFault::NoSuchReplica);
             };
-            let walk = translate(dump, dump.root(), trace.config().depth(), address);
+            let walk = translate(dump, dump.root(), depth, address);
             let text = walk_text(alloc, walk)?;
             Ok(Report { text, status: 0 })
         }
@@ -44,8 +46,8 @@ pub fn resolve_read(
 }
 
 /// Reads a trace, and writes where the walk of an address ends in a replica's dump. It tests the spelling of the
-/// address, then whether it is canonical, then reads, then tests the replica. The status is 0, or 1 where the input
-/// spells no trace. It reads in blocks, and stops where the input can't become a trace any more. Where it gives no answer
+/// address, then reads, then tests whether the address is canonical at the trace's depth, then the replica. The status is 0,
+/// or 1 where the input spells no trace. It reads in blocks, and stops where the input can't become a trace any more. Where it gives no answer
 /// some input may have been read, and nothing was written but where that failed.
 pub fn resolve_io<R: Read + Drop, W: Write>(
     alloc: Global,
@@ -58,7 +60,7 @@ pub fn resolve_io<R: Read + Drop, W: Write>(
     ensures err { IfErr result (IsResolveFault address.now replica (R.remaining reader)) }
     ensures alone { WritesAnswersAlone writer.old writer.new result }
 {
-    let address = read_address(address)?;
+    let address = parse_address(address).ok_or(ProgFault::BadAddress)?;
     let read = read_trace(alloc, reader)?;
     let report = resolve_read(alloc, read, address, replica)?;
     write_report(writer, &report)

@@ -1,6 +1,6 @@
 use Rattle.std.proofs.lemmas.Result.{IfOk-weaker}
 use Rattle.nr_audit.specs.Verdict.{IsVerdictOf, IsVerdictOn}
-use Rattle.nr_audit.proofs.VerdictFacts.{of_spelled}
+use Rattle.nr_audit.proofs.PartsOfVerdicts.{of_spelled}
 use Rattle.nrvs.proofs.Input.{trace_read}
 use Rattle.nrvs.proofs.audit.judge_read.Goals as goal
 
