@@ -1,5 +1,5 @@
 #!/usr/bin/env python3
-"""Prints what crates/space_benchmark must print: space_sums.py ROUNDS.
+"""Prints what crates/space_benchmark must print: space_sums.py ROUNDS, or space_sums.py ROUNDS five.
 
 It has no page table: a space is a dictionary from bases to pages, and tables are counted by their definition.
 """
@@ -39,7 +39,8 @@ WORKLOADS = [(small_dense, 32768), (small_sparse, 1536), (mixed_dense, 32768), (
 class Space:
     """From the base of each page to its level, physical address and rights, which are write + 2 user + 4 exec."""
 
-    def __init__(self):
+    def __init__(self, levels):
+        self.levels = levels
         self.pages = {}
 
     def covering(self, address):
@@ -73,6 +74,7 @@ class Space:
 
     def tables(self):
         stretches = {(4, base >> 39) for base in self.pages}
+        stretches |= {(5, base >> 48) for base in self.pages if self.levels == 5}
         stretches |= {(3, base >> 30) for base, page in self.pages.items() if page[0] < 3}
         stretches |= {(2, base >> 21) for base, page in self.pages.items() if page[0] < 2}
         return 1 + len(stretches)
@@ -99,12 +101,13 @@ def calls(space, place, pages):
 
 
 def main():
-    if len(sys.argv) != 2:
-        sys.exit("usage: space_sums.py ROUNDS")
+    if len(sys.argv) not in (2, 3) or sys.argv[2:] not in ([], ["five"]):
+        sys.exit("usage: space_sums.py ROUNDS [five]")
+    levels = 5 if sys.argv[2:] else 4
     for place, pages in WORKLOADS:
         total = 0
         for _ in range(int(sys.argv[1])):
-            for value in calls(Space(), place, pages):
+            for value in calls(Space(levels), place, pages):
                 total = total * 31 + value & MASK
         print(place.__name__, total)
 

@@ -1,5 +1,5 @@
 //! The same workloads on the same page table in plain Rust, with no proof, to compare with `space_benchmark`:
-//!     rustc -O -C target-cpu=x86-64-v2 benchmarks/unverified.rs && ./unverified ROUNDS
+//!     rustc -O -C target-cpu=x86-64-v2 benchmarks/unverified.rs && ./unverified ROUNDS [five]
 use std::time::{Duration, Instant};
 
 const FRAMES: usize = 4096;
@@ -108,27 +108,28 @@ impl Answer {
 
 struct Space {
     arena: Arena,
+    levels: usize,
     root: u64,
 }
 
 /// Where a descent ends: the tables on the way by level, the level, and the word there.
 struct Place {
-    way: [u64; 5],
+    way: [u64; 6],
     level: usize,
     word: u64,
 }
 
 impl Space {
-    fn new() -> Space {
+    fn new(levels: usize) -> Space {
         let mut arena = Arena::new();
         let root = arena.take().unwrap();
-        Space { arena, root }
+        Space { arena, levels, root }
     }
 
     fn descend(&self, address: u64, lowest: usize) -> Place {
-        let mut way = [0; 5];
+        let mut way = [0; 6];
         let mut number = self.root;
-        let mut level = 4;
+        let mut level = self.levels;
         loop {
             way[level] = number;
             let word = self.arena.table(number)[index_at(level, address)];
@@ -194,7 +195,7 @@ impl Space {
         }
         let mut level = place.level;
         self.arena.table_mut(place.way[level])[index_at(level, base)] = 0;
-        while level < 4 && is_empty(self.arena.table(place.way[level]), index_at(level, base)) {
+        while level < self.levels && is_empty(self.arena.table(place.way[level]), index_at(level, base)) {
             self.arena.give(place.way[level]);
             level += 1;
             self.arena.table_mut(place.way[level])[index_at(level, base)] = 0;
@@ -283,6 +284,7 @@ fn round(space: &mut Space, load: &Load, mut sum: u64, times: &mut [Duration; 4]
 
 fn main() {
     let rounds: u32 = std::env::args().nth(1).and_then(|n| n.parse().ok()).expect("ROUNDS");
+    let levels = if std::env::args().nth(2).as_deref() == Some("five") { 5 } else { 4 };
     let workloads: [(&str, fn(u64) -> (u64, usize), u64); 4] = [
         ("small_dense", small_dense, 32768),
         ("small_sparse", small_sparse, 1536),
@@ -292,7 +294,7 @@ fn main() {
     eprintln!("operations a second  {:>12} {:>12} {:>12} {:>12}", "map", "resolve", "protect", "unmap");
     for (name, page, pages) in workloads {
         let load = load(page, pages);
-        let mut space = Space::new();
+        let mut space = Space::new(levels);
         let mut times = [Duration::ZERO; 4];
         let sum = (0..rounds).fold(0, |sum, _| round(&mut space, &load, sum, &mut times));
         println!("{name} {sum}");

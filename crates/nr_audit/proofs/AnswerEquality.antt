@@ -6,7 +6,7 @@ use Rattle.vs_types.specs.declared.page.Size.{Size}
 use Rattle.vs_types.specs.declared.page.Size.TheVariants.{K4, M2, G1}
 use Rattle.vs_types.specs.declared.page.Rights.{Rights}
 use Rattle.vs_types.specs.declared.answer.Answer.{Answer}
-use Rattle.vs_types.specs.declared.answer.Answer.TheVariants.{Done, Overlap, Full, Removed, NotMapped, Inside, Changed, Mapped}
+use Rattle.vs_types.specs.declared.answer.Answer.TheVariants.{Done, Overlap, Full, Removed, NotMapped, Inside, Changed, Mapped, Allowed, Fault}
 use Rattle.vs_types.specs.contracts.page.SizePartialEq.TheImpl as sizes
 use Rattle.vs_types.specs.contracts.page.RightsPartialEq.TheImpl as rights
 use Rattle.vs_types.specs.contracts.answer.AnswerPartialEq.TheImpl as answers
@@ -71,6 +71,8 @@ same NotMapped NotMapped e = refl
 same (Inside x) (Inside y) e = ap (λ n. Inside n) (eqb-true x y e)
 same (Changed p) (Changed q) e = ap (λ r. Changed r) (same_rights p q e)
 same (Mapped x s p) (Mapped y t q) e = let each = parts x y s t p q e in ap (λ n. Mapped n s p) each.0 ∙ ap (λ u. Mapped y u p) each.1 ∙ ap (λ r. Mapped y t r) each.2
+same (Allowed x) (Allowed y) e = ap (λ n. Allowed n) (eqb-true x y e)
+same (Fault x) (Fault y) e = ap (λ n. Fault n) (eqb-true x y e)
 same a b e = absurd (false≢true e)
 
 itself : (a : Answer) → answers.ghosts.eq a a ≡ true
@@ -82,6 +84,8 @@ itself NotMapped = refl
 itself (Inside x) = eq-eqb x x refl
 itself (Changed p) = rights_itself p
 itself (Mapped x s p) = all_parts x s p
+itself (Allowed x) = eq-eqb x x refl
+itself (Fault x) = eq-eqb x x refl
 
 pub same_answers : (a b : Answer) (told : Bool) → told ≡ answers.ghosts.eq a b → (told ≡ true) ↔ (a ≡ b)
 same_answers a b told e = (λ t. same a b (sym e ∙ t), λ s. e ∙ subst (λ c. answers.ghosts.eq a c ≡ true) s (itself a))

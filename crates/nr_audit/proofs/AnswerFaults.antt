@@ -1,6 +1,6 @@
 -- The answers of a trace, against the space after the calls that stand before in the recorded order.
 use Rattle.std.proofs.Common.{◌≡◌, ℕ, zero, suc, ◌+◌, ◌<◌, ◌≤◌, false, List, [], ◌∷◌, ◌++◌, length, take, get_or, Some, None, Option, refl, sym, ap, subst, ◌∙◌, inl, inr, arith}
-use Rattle.std.specs.Prelude.{is_some, option_map, Contains, IfSome, ◌==◌, nat_eq}
+use Rattle.std.specs.Prelude.{is_some, option_and_then, option_map, Contains, IfSome, ◌==◌, nat_eq}
 use Rattle.std.specs.List.{IsDistinct, AllByRecursion, position_or_len, cons_option}
 use Rattle.std.proofs.lemmas.Bool.{cases_lt, cond-true, cond-false, false≢true, eq-eqb, eqb-true, ne_eqb}
 use Rattle.std.proofs.lemmas.List.{length-take, length-take-le, take_more}
@@ -12,11 +12,11 @@ use Rattle.vs_types.specs.Step.{step, after_all}
 use Rattle.vs_types.specs.declared.depth.Depth.{Depth}
 use Rattle.vs_types.specs.declared.op.Action.{Action}
 use Rattle.vs_types.specs.declared.request.Query.{Query}
-use Rattle.vs_types.specs.declared.request.Query.TheVariants.{Update, Resolve}
+use Rattle.vs_types.specs.declared.request.Query.TheVariants.{Update, Resolve, Access}
 use Rattle.vs_types.specs.declared.answer.Answer.{Answer}
 use Rattle.vs_plain.specs.Plain.{BoundedSpace}
 use Rattle.nr_trace.specs.Recording.{Recording}
-use Rattle.nr_trace.specs.Calls.{Invocation, call_of, operation_of, Response, reply_to}
+use Rattle.nr_trace.specs.Calls.{Invocation, call_of, operation_in, operation_of, Response, reply_to}
 use Rattle.nr_trace.specs.Orders.{before, updates, operations, space_after, answer_in, recorded_order}
 use Rattle.nr_trace.specs.Faults.{Holds, Earlier, IsWrong}
 use Rattle.nr_trace.specs.Laws.{HasCleanLog}
@@ -30,8 +30,6 @@ use Rattle.nr_audit.specs.inside.Steps.{Serves}
 use Rattle.nr_audit.specs.inside.Replies.{without_call, replied_to}
 use Rattle.nr_audit.specs.declared.history.Reply.{Reply}
 use Rattle.nr_audit.proofs.Ranks.{earlier_cases}
-use Rattle.nr_audit.proofs.CallsAndReplies.{no_call_past}
-use Rattle.nr_audit.proofs.PositionFaults.{operation_by}
 use Rattle.nr_audit.proofs.RepliesByTable.{response_of}
 
 -- ---- where a call stands among distinct ones
@@ -78,6 +76,7 @@ after_all-append depth limit space (x ∷ xs) ys = after_all-append depth limit 
 pub served : Layout → Space → Query → Space
 served layout space (Update action) = (step layout.depth layout.tables space action).space
 served layout space (Resolve address) = space
+served layout space (Access address mode access) = space
 
 -- the space that is kept for a layout
 abbrev pub kept : Layout → Space → BoundedSpace
@@ -86,17 +85,28 @@ kept layout space = record { depth = layout.depth; limit = layout.tables; space 
 pub answered : (layout : Layout) (space : Space) (query : Query) (answer : Answer) (new : BoundedSpace) → Serves (kept layout space) query answer new → answer ≡ answer_in layout space query
 answered layout space (Update action) answer new h = h.0
 answered layout space (Resolve address) answer new h = h.0
+answered layout space (Access address mode access) answer new h = h.0
 
 pub left : (layout : Layout) (space : Space) (query : Query) (answer : Answer) (new : BoundedSpace) → Serves (kept layout space) query answer new → new ≡ kept layout (served layout space query)
 unfolding served
 left layout space (Update action) answer new h = h.1
 left layout space (Resolve address) answer new h = h.1
+left layout space (Access address mode access) answer new h = h.1
 
 more : (trace : Recording) (order : List ℕ) (k d : ℕ) → k < length order → space_after trace (take (k + 1) order) ≡ after_all trace.layout.depth trace.layout.tables (space_after trace (take k order)) (operations trace (get_or order k d ∷ []))
 more trace order k d within =
     ap (λ xs. space_after trace xs) (take_more order k d within)
     ∙ ap (λ xs. after_all trace.layout.depth trace.layout.tables no_pages xs) (filter_map-append (operation_of trace) (take k order) (get_or order k d ∷ []))
     ∙ after_all-append trace.layout.depth trace.layout.tables no_pages (operations trace (take k order)) (operations trace (get_or order k d ∷ []))
+
+asked : (o : Option Invocation) → option_and_then (λ (made : Invocation). operation_in made.request) o ≡ option_and_then operation_in (option_map (λ (made : Invocation). made.request) o)
+asked None = refl
+asked (Some made) = refl
+
+-- what a request tells of its call
+operation_by : (trace : Recording) (call : ℕ) (query : Option Query) → query ≡ option_map (λ (made : Invocation). made.request) (call_of trace call)
+    → operation_of trace call ≡ option_and_then operation_in query
+operation_by trace call query e = asked (call_of trace call) ∙ ap (λ q. option_and_then operation_in q) (sym e)
 
 -- what is no call leaves the space
 pub space_stays : (trace : Recording) (order : List ℕ) (k d : ℕ) → k < length order → option_map (λ (made : Invocation). made.request) (call_of trace (get_or order k d)) ≡ None → space_after trace (take k order) ≡ space_after trace (take (k + 1) order)
@@ -110,6 +120,8 @@ space_visits trace order k d (Update action) within asks =
     sym (more trace order k d within ∙ ap (λ o. after_all trace.layout.depth trace.layout.tables (space_after trace (take k order)) (cons_option o [])) (operation_by trace (get_or order k d) (Some (Update action)) asks))
 space_visits trace order k d (Resolve address) within asks =
     sym (more trace order k d within ∙ ap (λ o. after_all trace.layout.depth trace.layout.tables (space_after trace (take k order)) (cons_option o [])) (operation_by trace (get_or order k d) (Some (Resolve address)) asks))
+space_visits trace order k d (Access address mode access) within asks =
+    sym (more trace order k d within ∙ ap (λ o. after_all trace.layout.depth trace.layout.tables (space_after trace (take k order)) (cons_option o [])) (operation_by trace (get_or order k d) (Some (Access address mode access)) asks))
 
 operations_of_updates : (trace : Recording) (xs : List ℕ) → operations trace (updates trace xs) ≡ operations trace xs
 operations_of_updates trace [] = refl
@@ -206,13 +218,6 @@ module _ (trace : Recording) (order : List ℕ) (listed : order ≡ recorded_ord
       let there = at_from_Contains order call (subst (λ xs. Contains xs call) (sym listed) (wrong_is_member trace call clean holds)) in
       none there.0 there.1 (subst (λ c. IsWrong trace c) (sym (there.2 0)) holds)
   none_wrong none other among holds = among
-
--- what has a query is an event
-pub query_within : (trace : Recording) (call : ℕ) (query : Query) → Some query ≡ option_map (λ (made : Invocation). made.request) (call_of trace call) → call < length trace.events
-query_within trace call query asks = elim (cases_lt call (length trace.events)) [
-  | inl low ↦ low
-  | inr past ↦ absurd (let none = ap (λ o. option_map (λ (made : Invocation). made.request) o) (no_call_past trace call past) in cc)
-]
 
 -- one more place that is not wrong
 pub right_more : (trace : Recording) (order : List ℕ) (k : ℕ) → ((j : ℕ) → j < k → IsWrong trace (get_or order j 0) → ⊥) → (IsWrong trace (get_or order k 0) → ⊥) → (j : ℕ) → j < k + 1 → IsWrong trace (get_or order j 0) → ⊥

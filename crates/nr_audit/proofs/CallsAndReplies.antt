@@ -95,8 +95,8 @@ read_some o p told e f t none = false≢true (sym (ap is_some (e ∙ none)) ∙ 
 -- the thread of a call that is read is one of the layout
 pub thread_in_layout : (trace : Recording) (events : List Event) (i : ℕ) (event : Event) (replica thread : ℕ) (request : Query) → IsRecording trace → events ≡ trace.events → i < length events → event ≡ get_or events i event → event ≡ Call replica thread request → thread < trace.layout.threads
 thread_in_layout trace events i event replica thread request ranged same lt read is =
-    let each = All-get_or (IsEvent trace.layout) trace.events i event (omega (arith, ap length same)) ranged.events in
-    (subst (λ (e : Event). IsEvent trace.layout e) (sym (read ∙ ap (λ (xs : List Event). get_or xs i event) same) ∙ is) each).1
+    let each = All-get_or (IsEvent trace.version trace.layout) trace.events i event (omega (arith, ap length same)) ranged.events in
+    (subst (λ (e : Event). IsEvent trace.version trace.layout e) (sym (read ∙ ap (λ (xs : List Event). get_or xs i event) same) ∙ is) each).1
 
 -- whether the event at an index is a call, as it is told
 pub told_call : (trace : Recording) (events : List Event) (i : ℕ) (event : Event) (told : Bool) → events ≡ trace.events → i < length events → event ≡ get_or events i event → told ≡ is_some (made_by event) → told ≡ is_some (call_of trace i)

@@ -7,11 +7,10 @@ use Rattle.nr_trace.specs.Calls.{call_of, IsCall}
 use Rattle.nr_trace.specs.Orders.{floor}
 use Rattle.nr_trace.specs.Faults.{Holds, Earlier, StandsAfter}
 use Rattle.nr_trace.specs.Laws.{HasCleanLog}
-use Rattle.nr_trace.specs.inside.Reading.{Finds}
 use Rattle.nr_trace.specs.declared.fault.Fault.{Fault}
 use Rattle.nr_trace.specs.declared.fault.Fault.TheVariants.{Early}
 use Rattle.nr_trace.proofs.LawsOfCalls.{call_within, stands_once, update_is_call, read_is_call}
-use Rattle.nr_audit.specs.inside.Search.{HasNone, IsFirstAmong}
+use Rattle.nr_audit.specs.inside.Search.{Finds, HasNone, IsFirstAmong}
 use Rattle.nr_audit.specs.inside.Passes.{IsFloorFaultAt, IsFloorFault}
 use Rattle.nr_audit.proofs.Ranks.{IsRanked, none_of_all, first_of_all, lower_number}
 

@@ -1,21 +1,19 @@
 -- The reply to a call, by the table of replies.
-use Rattle.std.proofs.Common.{◌≡◌, ℕ, zero, suc, ◌<◌, inl, inr, List, [], ◌∷◌, length, get_or, Some, None, Option, refl, sym, ap, subst, ◌∙◌, arith}
+use Rattle.std.proofs.Common.{◌≡◌, ℕ, zero, suc, ◌<◌, true, false, inl, inr, List, [], ◌∷◌, length, get_or, Some, None, Option, refl, sym, ap, subst, ◌∙◌, arith}
 use Rattle.std.specs.Prelude.{slice_get, filter_map, option_and_then, ◌==◌, if◌then◌else◌, is_some}
 use Rattle.std.specs.List.{cons_option}
 use Rattle.std.proofs.lemmas.Option.{slice_get_within}
 use Rattle.nr_trace.specs.Recording.{Recording}
 use Rattle.nr_trace.specs.Calls.{Response, reply_in, reply_of, reply_to}
 use Rattle.nr_trace.specs.declared.event.Event.{Event}
-use Rattle.std.proofs.lemmas.Bool.{cases_lt, eq-eqb, cond-true}
+use Rattle.std.proofs.lemmas.Bool.{cases_lt, eq-eqb, cond-true, false≢true}
 use Rattle.std.proofs.lemmas.List.{get_or_past}
 use Rattle.std.specs.Prelude.{option_map}
-use Rattle.nr_trace.specs.Calls.{Invocation, call_of, address_in, address_of}
-use Rattle.vs_types.specs.declared.request.Query.{Query}
+use Rattle.nr_trace.specs.Calls.{address_of, IsRead}
 use Rattle.nr_audit.specs.inside.Tables.{IsReplyBelow, AreReplies}
 use Rattle.nr_audit.specs.inside.Replies.{without_call, replied_to, entries_seen}
 use Rattle.nr_audit.specs.declared.history.Reply.{Reply}
 use Rattle.nr_audit.proofs.CallsAndReplies.{reply_by}
-use Rattle.nr_audit.proofs.PositionFaults.{address_by}
 
 -- the first thing that is given, where just one is
 pub only_given : {X Y : Type 0} (h : X → Option Y) (xs : List X) (i : ℕ) (x : X) (y : Y) → slice_get xs i ≡ Some x → h x ≡ Some y
@@ -81,14 +79,21 @@ reply_by_table trace table call o are e = elim (cases_lt call (length table)) [
 pub index_within : (trace : Recording) (table : List (Option ℕ)) (call index : ℕ) → AreReplies trace table → call < length table → get_or table call None ≡ Some index → index < length trace.events
 index_within trace table call index are lt e = (subst (λ o. IsReplyBelow trace (length trace.events) call o) e (are.each call lt)).0
 
-seen_of : (address : Option ℕ) (reply : Option Response) → option_and_then (λ (a : ℕ). option_map (λ (r : Response). r.at) reply) address
-    ≡ option_and_then (λ (a : ℕ). option_map (λ (r : Reply). r.at) (option_map without_call reply)) address
-seen_of None reply = refl
-seen_of (Some a) None = refl
-seen_of (Some a) (Some r) = refl
+seen_of : (address : Option ℕ) (response : Option Response) (reply : Option Reply) → is_some address ≡ true → reply ≡ option_map without_call response
+    → option_map (λ (r : Reply). r.at) reply ≡ option_and_then (λ (a : ℕ). option_map (λ (r : Response). r.at) response) address
+seen_of None response reply read told = absurd (false≢true read)
+seen_of (Some a) response reply read told = ap (option_map (λ (r : Reply). r.at)) told ∙ again response where
+  again : (o : Option Response) → option_map (λ (r : Reply). r.at) (option_map without_call o) ≡ option_map (λ (r : Response). r.at) o
+  again None = refl
+  again (Some r) = refl
 
--- how many entries a read saw, by its request and its reply
-pub seen_by : (trace : Recording) (call : ℕ) (query : Option Query) → query ≡ option_map (λ (made : Invocation). made.request) (call_of trace call)
-    → entries_seen trace call ≡ option_and_then (λ (a : ℕ). option_map (λ (r : Reply). r.at) (replied_to trace call)) (option_and_then address_in query)
-seen_by trace call query asks =
-    seen_of (address_of trace call) (reply_to trace call) ∙ ap (λ o. option_and_then (λ (a : ℕ). option_map (λ (r : Reply). r.at) (replied_to trace call)) o) (address_by trace call query asks)
+-- how many entries a read saw, by the reply to it
+pub seen_by_read : (trace : Recording) (call : ℕ) (reply : Option Reply) → IsRead trace call → reply ≡ replied_to trace call → option_map (λ (r : Reply). r.at) reply ≡ entries_seen trace call
+seen_by_read trace call reply read told = seen_of (address_of trace call) (reply_to trace call) reply read told
+
+not_seen : (address : Option ℕ) (response : Option Response) → is_some address ≡ false → ◌≡◌ {A = Option ℕ} None (option_and_then (λ (a : ℕ). option_map (λ (r : Response). r.at) response) address)
+not_seen None response none = refl
+not_seen (Some a) response none = absurd (false≢true (sym none))
+
+pub not_seen_by : (trace : Recording) (call : ℕ) → is_some (address_of trace call) ≡ false → None ≡ entries_seen trace call
+not_seen_by trace call none = not_seen (address_of trace call) (reply_to trace call) none

@@ -1,6 +1,7 @@
 ghost use Rattle.std.specs.Prelude.{◌≡◌, ◌↔◌, IfOk, OnOk, IfErr, IfSome, IsTrue};
 ghost use Rattle.nr_trace.specs.Laws.{HasCleanLog};
 ghost use Rattle.nr_trace.specs.Orders.{recorded_order, space_after};
+ghost use Rattle.vs_types.specs.Query.{IsQuery};
 ghost use Rattle.vs_types.specs.Refusal.{IfRefused};
 ghost use Rattle.nr_audit.specs.inside.Search.{HasNone, IsFirstAmong};
 ghost use Rattle.nr_audit.specs.inside.Passes.{IsAnswerFault};
@@ -14,11 +15,13 @@ use vs_types::{Answer, Fail, Memory, Query};
 
 /// Serves a request on a space.
 pub(crate) fn serve(space: &mut PlainSpace, query: Query) -> Result<Answer, Memory>
+    requires { IsQuery space.old.depth query }
     ensures { IfOk result (λ answer. Serves space.old query answer space.new) }
 {
     match query {
         Query::Update(op) => space.apply(op),
         Query::Resolve(address) => Ok(space.resolve(address)),
+        Query::Access(address, mode, access) => Ok(space.access(address, mode, access)),
     }
 }
 

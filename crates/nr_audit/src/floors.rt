@@ -5,15 +5,14 @@ ghost use Rattle.nr_trace.specs.Calls.{Response};
 ghost use Rattle.nr_trace.specs.Faults.{StandsAfter};
 ghost use Rattle.nr_trace.specs.Laws.{HasCleanLog};
 ghost use Rattle.nr_trace.specs.Orders.{known_by};
-ghost use Rattle.nr_trace.specs.inside.Reading.{Finds};
-ghost use Rattle.nr_audit.specs.inside.Search.{HasNone, IsFirstAmong};
+ghost use Rattle.nr_audit.specs.inside.Search.{Finds, HasNone, IsFirstAmong};
 ghost use Rattle.nr_audit.specs.inside.Passes.{IsFloorFault};
 ghost use Rattle.nr_audit.specs.inside.Tables.{ArePlaces};
 
 use crate::history::History;
 use crate::tables::MaybeIndex;
 use nr_trace::{Event, Fault};
-use vs_types::{Fail, Query};
+use vs_types::Fail;
 
 /// How many entries of the log are known by a reply: those up to the update's own, or those that the read saw.
 pub(crate) fn entries_known(history: &History, call: u32, at: u32) -> u64
@@ -33,10 +32,13 @@ fn entries_before(history: &History, places: &[MaybeIndex], call: u32) -> Option
     requires within { call < length history.now.events }
     ensures { Finds (StandsAfter history.now call) result }
 {
-    match history.request(call)? {
-        Query::Update(_) => places[call as usize].get(),
-        Query::Resolve(_) => Some(history.reply(call)?.at),
+    if history.is_update(call) {
+        return places[call as usize].get();
     }
+    if history.is_read(call) {
+        return Some(history.reply(call)?.at);
+    }
+    None
 }
 
 /// Looks for a call that stands before one that was answered before it was made: by one pass over the events, with the

@@ -1,6 +1,7 @@
-ghost use Rattle.std.specs.Prelude.{◌≡◌, ◌<◌, IfSome, length, option_map, is_some};
-ghost use Rattle.nr_trace.specs.Calls.{call_of, operation_of, reply_to};
-ghost use Rattle.nr_trace.specs.Recording.{Recording, IsRecording};
+ghost use Rattle.std.specs.Prelude.{◌≡◌, ◌<◌, IfSome, option_map, is_some};
+ghost use Rattle.nr_trace.specs.Calls.{address_of, call_of, operation_of};
+ghost use Rattle.vs_types.specs.Query.{IsQuery};
+ghost use Rattle.nr_trace.specs.Recording.{IsRecording};
 ghost use Rattle.nr_audit.specs.inside.Replies.{replied_to};
 ghost use Rattle.nr_audit.specs.inside.Tables.{AreReplies};
 
@@ -80,7 +81,8 @@ impl<'a> History<'a> {
 
     /// What the call of this number asks, or `None` where there is no such call.
     pub(crate) fn request(&self, call: u32) -> Option<Query>
-        ensures { result ≡ option_map (λ made. made.request) (call_of self.now call) }
+        ensures asks { result ≡ option_map (λ made. made.request) (call_of self.now call) }
+        ensures well_formed { IfSome result (IsQuery self.now.layout.depth) }
     {
         match self.trace.events().get(call as usize)? {
             Event::Call { request, .. } => Some(request.query()),
@@ -93,6 +95,16 @@ impl<'a> History<'a> {
         ensures { result ≡ is_some (operation_of self.now call) }
     {
         matches!(self.request(call), Some(Query::Update(_)))
+    }
+
+    /// Whether a read has this number: a call that asks for a resolve or an access.
+    pub(crate) fn is_read(&self, call: u32) -> bool
+        ensures { result ≡ is_some (address_of self.now call) }
+    {
+        matches!(
+            self.request(call),
+            Some(Query::Resolve(_) | Query::Access(..))
+        )
     }
 
     /// The replica at which a call was made, or `None` where no call has this number.

@@ -261,75 +261,138 @@ fn faulty_dumps(rt: HostRuntime) -> Result<(), Fail> {
     Ok(())
 }
 
+/// The bytes of a trace, as those of version 2 with this number of levels.
+fn as_version_2(bytes: Vec<u8>, levels: u8) -> Vec<u8> {
+    let mut bytes = bytes;
+    if bytes.len() > 6 {
+        bytes[5] = 2;
+        bytes[6] = levels;
+    }
+    bytes
+}
+
 #[test]
-fn one_fault_each(rt: HostRuntime) -> Result<(), Fail> {
+fn map_then_access(rt: HostRuntime) -> Result<(), Fail> {
     let alloc = rt.alloc();
-    let table = &[ONE_PAGE];
-    let right = [MAP, DONE, RESOLVE, MAPPED];
-    let open = verdict_of(alloc, &[0], &[MAP, RESOLVE, with(MAPPED, 7, 1)], table)?;
-    assert!(rt; is_no(&open, Fault::ThreadOpen(1)));
-    let other_call = [MAP, DONE, RESOLVE, with(MAPPED, 7, 1)];
+    let resolve = trace_of(alloc, 4, &[0], &[MAP, DONE, RESOLVE, MAPPED], &[ONE_PAGE])?;
+    assert!(rt; is_yes(&audit(alloc, &as_version_2(resolve, 4))?, &[0, 2]));
+    let access = with(with(with(RESOLVE, 4, 4), 5, 1), 6, 1);
+    let allowed = with(with(MAPPED, 1, 8), 3, 0);
+    let events = [MAP, DONE, access, allowed];
+    let right = trace_of(alloc, 4, &[0], &events, &[ONE_PAGE])?;
+    assert!(rt; is_yes(&audit(alloc, &as_version_2(right, 4))?, &[0, 2]));
+    let of_version_1 = trace_of(alloc, 4, &[0], &events, &[ONE_PAGE])?;
     assert!(rt;
         is_no(
-            &verdict_of(alloc, &[0], &other_call, table)?,
-            Fault::NoSuchCall(3)
+            &audit(alloc, &of_version_1)?,
+            Fault::Format(Format::BadEvent(2))
         )
     );
-    let same_call = [MAP, DONE, RESOLVE, with(MAPPED, 7, 0)];
+    let fault = with(with(with(allowed, 1, 9), 22, 0), 23, 7);
+    let wrong = trace_of(alloc, 4, &[0], &[MAP, DONE, access, fault], &[ONE_PAGE])?;
     assert!(rt;
         is_no(
-            &verdict_of(alloc, &[0], &same_call, table)?,
-            Fault::AnsweredTwice(3)
-        )
-    );
-    assert!(rt;
-        is_no(
-            &verdict_of(alloc, &[2], &right, table)?,
-            Fault::NotAnUpdate(0)
-        )
-    );
-    assert!(rt;
-        is_no(
-            &verdict_of(alloc, &[0, 0], &right, table)?,
-            Fault::PlacedTwice(1)
-        )
-    );
-    let other_place = [MAP, with(DONE, 11, 1), RESOLVE, MAPPED];
-    assert!(rt;
-        is_no(
-            &verdict_of(alloc, &[0], &other_place, table)?,
-            Fault::NotPlaced(1)
-        )
-    );
-    let far = [MAP, DONE, RESOLVE, with(MAPPED, 11, 2)];
-    assert!(rt; is_no(&verdict_of(alloc, &[0], &far, table)?, Fault::PastLog(3)));
-    let other_answer = [MAP, DONE, RESOLVE, with(MAPPED, 23, 0x24)];
-    assert!(rt;
-        is_no(
-            &verdict_of(alloc, &[0], &other_answer, table)?,
+            &audit(alloc, &as_version_2(wrong, 4))?,
             Fault::WrongAnswer(2)
         )
     );
+    Ok(())
+}
+
+#[test]
+fn five_levels(rt: HostRuntime) -> Result<(), Fail> {
+    let alloc = rt.alloc();
+    let empty = trace_of(alloc, 4, &[], &[], &[EMPTY])?;
+    assert!(rt; is_yes(&audit(alloc, &as_version_2(empty, 5))?, &[]));
+    let large = Table {
+        applied: 0,
+        root: 1,
+        words: &[(0, 0x87)],
+    };
+    let reserved = trace_of(alloc, 4, &[], &[], &[large])?;
+    assert!(rt;
+        is_no(
+            &audit(alloc, &as_version_2(reserved, 5))?,
+            Fault::ReservedBit(0, 1, 0)
+        )
+    );
+    Ok(())
+}
+
+/// The fault of a trace that is map-then-resolve with this log, these events and this dump.
+fn has_fault(
+    alloc: Global,
+    log: &[u8],
+    events: &[[u8; 24]],
+    dump: Table,
+    fault: Fault,
+) -> Result<bool, Fail> {
+    Ok(is_no(&verdict_of(alloc, log, events, &[dump])?, fault))
+}
+
+#[test]
+fn one_fault_of_calls_each(rt: HostRuntime) -> Result<(), Fail> {
+    let alloc = rt.alloc();
+    let open = [MAP, RESOLVE, with(MAPPED, 7, 1)];
+    assert!(rt; has_fault(alloc, &[0], &open, ONE_PAGE, Fault::ThreadOpen(1))?);
+    let other_call = [MAP, DONE, RESOLVE, with(MAPPED, 7, 1)];
+    assert!(rt; has_fault(alloc, &[0], &other_call, ONE_PAGE, Fault::NoSuchCall(3))?);
+    let same_call = [MAP, DONE, RESOLVE, with(MAPPED, 7, 0)];
+    assert!(rt; has_fault(alloc, &[0], &same_call, ONE_PAGE, Fault::AnsweredTwice(3))?);
+    let other_place = [MAP, with(DONE, 11, 1), RESOLVE, MAPPED];
+    assert!(rt; has_fault(alloc, &[0], &other_place, ONE_PAGE, Fault::NotPlaced(1))?);
+    let far = [MAP, DONE, RESOLVE, with(MAPPED, 11, 2)];
+    assert!(rt; has_fault(alloc, &[0], &far, ONE_PAGE, Fault::PastLog(3))?);
+    let other_answer = [MAP, DONE, RESOLVE, with(MAPPED, 23, 0x24)];
+    assert!(rt; has_fault(alloc, &[0], &other_answer, ONE_PAGE, Fault::WrongAnswer(2))?);
+    Ok(())
+}
+
+#[test]
+fn one_fault_of_log_and_prefix_each(rt: HostRuntime) -> Result<(), Fail> {
+    let alloc = rt.alloc();
+    let right = [MAP, DONE, RESOLVE, MAPPED];
+    assert!(rt; has_fault(alloc, &[2], &right, ONE_PAGE, Fault::NotAnUpdate(0))?);
+    assert!(rt; has_fault(alloc, &[0, 0], &right, ONE_PAGE, Fault::PlacedTwice(1))?);
     let ahead = Table {
         applied: 2,
         ..ONE_PAGE
     };
-    assert!(rt;
-        is_no(
-            &verdict_of(alloc, &[0], &right, &[ahead])?,
-            Fault::PrefixPastLog(0)
-        )
-    );
+    assert!(rt; has_fault(alloc, &[0], &right, ahead, Fault::PrefixPastLog(0))?);
     let late = Table {
         applied: 0,
         ..ONE_PAGE
     };
-    assert!(rt;
-        is_no(
-            &verdict_of(alloc, &[0], &right, &[late])?,
-            Fault::PrefixShort(0)
-        )
-    );
+    assert!(rt; has_fault(alloc, &[0], &right, late, Fault::PrefixShort(0))?);
+    Ok(())
+}
+
+/// Of two faulty dumps the one of the lower replica is told, whichever has applied more.
+#[test]
+fn faulty_dumps_by_replica(rt: HostRuntime) -> Result<(), Fail> {
+    let events = [MAP, with(RESOLVE, 3, 1), with(MAPPED, 7, 1)];
+    let empty_late = Table {
+        applied: 1,
+        ..EMPTY
+    };
+    let page_early = Table {
+        applied: 0,
+        ..ONE_PAGE
+    };
+    let verdict = verdict_of(
+        rt.alloc(),
+        &[0],
+        &events,
+        &[ONE_PAGE, page_early, empty_late],
+    )?;
+    assert!(rt; is_no(&verdict, Fault::Differs(1, 0x400000)));
+    let verdict = verdict_of(
+        rt.alloc(),
+        &[0],
+        &events,
+        &[ONE_PAGE, empty_late, page_early],
+    )?;
+    assert!(rt; is_no(&verdict, Fault::Differs(1, 0x400000)));
     Ok(())
 }
 

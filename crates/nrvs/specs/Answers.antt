@@ -1,6 +1,8 @@
 -- What the commands answer to bytes: a text and a status.
-use Rattle.std.specs.Prelude.{◌≡◌, ◌≤◌, ◌⊎◌, ℕ, List, Option, Some, IfSome, take, slice_get}
+use Rattle.std.specs.Prelude.{◌≡◌, ◌≤◌, ◌⊎◌, ℕ, List, Option, Some, IfSome, Result, MatchResult, slice_get}
 use Rattle.std.specs.Io.KnownBytes.{Appends}
+use Rattle.vs_types.specs.Refusal.{IfRefused}
+use Rattle.vs_types.specs.declared.refusal.Fail.{Fail}
 use Rattle.vs_walk.specs.Walk.{walk}
 use Rattle.vs_walk.specs.Dump.{Image}
 use Rattle.nr_trace.specs.Recording.{Recording}
@@ -14,10 +16,6 @@ use Rattle.nrvs.specs.Text.{no_text, verdict_text, verdict_status, walk_text}
 use Rattle.nrvs.specs.Addresses.{SpellsCanonical}
 use Rattle.nrvs.specs.declared.command.Command.{Command}
 use Rattle.nrvs.specs.declared.command.Command.TheVariants.{Audit, Resolve}
-
--- one byte more than the longest trace has
-abbrev pub read_limit : ℕ
-read_limit = 70647893
 
 -- of `audit`: the text and the status are those of the verdict of these bytes
 pub record IsAudit (bytes text : List ℕ) (status : ℕ) : Type 0 where
@@ -63,11 +61,21 @@ abbrev pub IsAnswer : Command → List ℕ → List ℕ → ℕ → Type 0
 IsAnswer Audit = IsAudit
 IsAnswer (Resolve word replica) = IsResolve word.now replica
 
--- what was read of an input is its front, where the reader's contract specifies its bytes
+-- the input is that of the reader, where the reader's contract specifies its bytes
 abbrev pub IsReadOf : Option (List ℕ) → List ℕ → Type 0
-IsReadOf known input = IfSome known (λ whole. input ≡ take read_limit whole)
+IsReadOf known input = IfSome known (λ whole. input ≡ whole)
 
--- a text that goes with the status, on the input that was read, was written after what was there, and nothing else
+-- the trace that the bytes spell, or the fault that they have
+abbrev pub IsReadFrom : List ℕ → Result Recording (Fail Format) → Type 0
+IsReadFrom bytes read = MatchResult read (Spells bytes) (IfRefused (HasFormatFault bytes))
+
+-- so an input was read
+pub record HasRead (known : Option (List ℕ)) (read : Result Recording (Fail Format)) : Type 0 where
+  pub input : List ℕ
+  pub is_read : IsReadOf known input
+  pub read_is : IsReadFrom input read
+
+-- a text that goes with the status, on the input, was written after what was there, and nothing else
 pub record WritesReport (IsReport : List ℕ → List ℕ → ℕ → Type 0) (known old new : Option (List ℕ)) (status : ℕ) : Type 0 where
   pub input : List ℕ
   pub is_read : IsReadOf known input

@@ -1,16 +1,18 @@
-ghost use Rattle.std.specs.Prelude.{◌≡◌, IfOk, IfErr, string_bytes};
+ghost use Rattle.std.specs.Prelude.{◌≡◌, ℕ, IfOk, IfErr, List, string_bytes};
+ghost use Rattle.nr_audit.specs.Verdict.{IsVerdictOf};
 ghost use Rattle.nrvs.specs.Text.{verdict_status};
 ghost use Rattle.nrvs.specs.Refusals.{IsEndFault, WritesAnswersAlone};
-ghost use Rattle.nrvs.specs.Answers.{IsAudit, WritesReport};
+ghost use Rattle.nrvs.specs.Answers.{IsAudit, IsReadFrom, WritesReport};
 
-use crate::ends::{read_input, write_report};
+use crate::ends::{read_trace, write_report};
 use crate::fault::ProgFault;
 use crate::report::Report;
 use crate::text::verdict_text;
-use nr_audit::{Verdict, audit};
+use nr_audit::{Verdict, judge};
+use nr_trace::{Fault, Format, Trace};
 use std::alloc::Global;
 use std::io::{Read, Write};
-use vs_types::Memory;
+use vs_types::{Fail, Memory};
 
 fn status_of(verdict: &Verdict) -> u8
     ensures { result ≡ verdict_status verdict.now }
@@ -21,12 +23,23 @@ fn status_of(verdict: &Verdict) -> u8
     }
 }
 
-/// What `audit` answers to these bytes: the text of their verdict, and 0 where they are those of a right trace, else 1. Takes
-/// memory for the trace and the text.
-pub fn audit_bytes(alloc: Global, bytes: &[u8]) -> Result<Report, Memory>
-    ensures { IfOk result (λ report. IsAudit bytes.now (string_bytes report.text) report.status) }
+/// The verdict on what was read of an input.
+fn judge_read(alloc: Global, read: Result<Trace, Fail<Format>>) -> Result<Verdict, Memory>
+    ensures { (bytes : List ℕ) → IsReadFrom bytes read → IfOk result (IsVerdictOf bytes) }
 {
-    let verdict = audit(alloc, bytes)?;
+    match read {
+        Ok(trace) => judge(alloc, &trace),
+        Err(Fail::Memory) => Err(Memory),
+        Err(Fail::Refused(fault)) => Ok(Verdict::No(Fault::Format(fault))),
+    }
+}
+
+/// What `audit` answers to what was read of an input: the text of its verdict, and 0 where it is a right trace, else 1.
+/// Takes memory for the judgement and the text.
+pub fn audit_read(alloc: Global, read: Result<Trace, Fail<Format>>) -> Result<Report, Memory>
+    ensures { (bytes : List ℕ) → IsReadFrom bytes read → IfOk result (λ report. IsAudit bytes (string_bytes report.text) report.status) }
+{
+    let verdict = judge_read(alloc, read)?;
     let text = verdict_text(alloc, &verdict)?;
     Ok(Report {
         text,
@@ -34,9 +47,9 @@ pub fn audit_bytes(alloc: Global, bytes: &[u8]) -> Result<Report, Memory>
     })
 }
 
-/// Reads a trace, judges it, and writes the verdict; the status is 0 where it is right, else 1. It reads at
-/// most one byte more than the longest trace has. Where it gives no answer some input may have been read, and nothing
-/// was written but where that failed.
+/// Reads a trace in blocks, judges it, and writes the verdict; the status is 0 where it is right, else 1. It stops reading
+/// where the input can't become a trace any more. Where it gives no answer some input may have been read, and nothing was
+/// written but where that failed.
 pub fn audit_io<R: Read + Drop, W: Write>(
     alloc: Global,
     reader: R,
@@ -46,7 +59,7 @@ pub fn audit_io<R: Read + Drop, W: Write>(
     ensures err { IfErr result IsEndFault }
     ensures alone { WritesAnswersAlone writer.old writer.new result }
 {
-    let input = read_input(alloc, reader)?;
-    let report = audit_bytes(alloc, &input)?;
+    let read = read_trace(alloc, reader)?;
+    let report = audit_read(alloc, read)?;
     write_report(writer, &report)
 }

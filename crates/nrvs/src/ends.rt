@@ -1,26 +1,73 @@
-ghost use Rattle.std.specs.Prelude.{◌≡◌, ◌≢◌, IfOk, IfErr, OnOk, string_bytes};
-ghost use Rattle.std.specs.Io.KnownBytes.{Appends};
-ghost use Rattle.nrvs.specs.Answers.{IsReadOf};
+ghost use Rattle.std.specs.Prelude.{◌≡◌, ◌<◌, [], IfOk, IfErr, OnOk, length, string_bytes, take};
+ghost use Rattle.nr_trace.specs.Feed.Fed.{Taken};
+ghost use Rattle.std.specs.Io.{ReadsAtMost};
+ghost use Rattle.std.specs.Io.KnownBytes.{Appends, Consumes, IsAtEnd};
+ghost use Rattle.nrvs.specs.Answers.{HasRead};
 
 use crate::fault::ProgFault;
 use crate::report::Report;
+use nr_trace::{Feed, Format, Trace};
 use std::alloc::Global;
 use std::io::{ErrorKind, Read, Write};
+use vs_types::Fail;
 
-/// One byte more than the longest trace has.
-const READ_LIMIT: u64 = 70_647_893;
+/// The most bytes that are read at a time.
+const BLOCK: usize = 4096;
 
-/// The input, in blocks, but no more than the limit.
-pub fn read_input<R: Read + Drop>(alloc: Global, reader: R) -> Result<Vec<u8>, ProgFault>
-    ensures ok { IfOk result (λ bytes. IsReadOf (R.remaining reader) bytes.items) }
-    ensures err { IfErr result (λ fault. (fault ≢ ProgFault.CannotRead) → fault ≡ ProgFault.Memory) }
+/// Reads into the block: how many bytes, none at the end of the input. A read that was interrupted is tried again.
+fn read_block<R: Read>(reader: &mut R, block: &mut [u8]) -> Result<usize, ProgFault>
+    ensures bound { ReadsAtMost result block.new }
+    ensures ok { IfOk result (λ count. Consumes (R.remaining reader.old) (R.remaining reader.new) (take count block.new)) }
+    ensures end { IfOk result (λ count. count ≡ 0 → 0 < length block.old → IsAtEnd (R.remaining reader.new)) }
+    ensures err { IfErr result (λ fault. fault ≡ ProgFault.CannotRead) }
 {
-    let mut bytes = Vec::new(alloc);
-    match reader.take(READ_LIMIT).read_to_end(&mut bytes) {
-        Ok(_) => Ok(bytes),
-        Err(error) if error.kind() == ErrorKind::OutOfMemory => Err(ProgFault::Memory),
-        Err(_) => Err(ProgFault::CannotRead),
+    for _ in 0..u64::MAX {
+        match reader.read(block) {
+            Ok(count) => return Ok(count),
+            Err(error) => {
+                if error.kind() != ErrorKind::Interrupted {
+                    return Err(ProgFault::CannotRead);
+                }
+            }
+        }
     }
+    Err(ProgFault::CannotRead)
+}
+
+/// Reads blocks and feeds each, to the end of the input or to the first refusal.
+fn feed_blocks<R: Read + Drop>(
+    mut reader: R,
+    mut feed: Feed,
+    block: &mut [u8],
+) -> Result<Result<Trace, Fail<Format>>, ProgFault>
+    requires empty { feed ≡ Taken [] }
+    requires room { 0 < length block.old }
+    ensures ok { IfOk result (HasRead (R.remaining reader)) }
+    ensures err { IfErr result (λ fault. fault ≡ ProgFault.CannotRead) }
+{
+    for _ in 0..u64::MAX {
+        let count = read_block(&mut reader, block)?;
+        if count == 0 {
+            return Ok(feed.end());
+        }
+        if let Err(fail) = feed.feed(&block[..count]) {
+            return Ok(Err(fail));
+        }
+    }
+    Err(ProgFault::CannotRead)
+}
+
+/// Reads the input in blocks of at most 4,096 bytes and feeds each to the reader of traces: the trace that the input
+/// spells, or why it spells none. It stops at the first refusal. Takes memory for the trace, and keeps no other bytes than
+/// one block.
+pub fn read_trace<R: Read + Drop>(
+    alloc: Global,
+    reader: R,
+) -> Result<Result<Trace, Fail<Format>>, ProgFault>
+    ensures ok { IfOk result (HasRead (R.remaining reader)) }
+    ensures err { IfErr result (λ fault. fault ≡ ProgFault.CannotRead) }
+{
+    feed_blocks(reader, Feed::new(alloc), &mut [0; BLOCK])
 }
 
 /// Writes the text and nothing else. A flush that fails is a failed write.

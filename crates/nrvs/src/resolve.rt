@@ -1,33 +1,32 @@
-ghost use Rattle.std.specs.Prelude.{IfOk, IfErr, MatchResult, string_bytes};
+ghost use Rattle.std.specs.Prelude.{ℕ, IfOk, IfErr, List, MatchResult, string_bytes};
 ghost use Rattle.vs_types.specs.Depth.{IsCanonical};
 ghost use Rattle.vs_types.specs.declared.depth.Depth.TheVariants.{Four};
-ghost use Rattle.nrvs.specs.Answers.{IsResolve, IsWalk, WritesReport};
+ghost use Rattle.nrvs.specs.Answers.{IsReadFrom, IsResolve, IsWalk, WritesReport};
 ghost use Rattle.nrvs.specs.Refusals.{IsWalkFault, IsResolveFault, WritesAnswersAlone};
 
 use crate::address::read_address;
-use crate::ends::{read_input, write_report};
+use crate::ends::{read_trace, write_report};
 use crate::fault::ProgFault;
 use crate::report::Report;
 use crate::text::{no_text, walk_text};
-use nr_trace::{Fault, Trace, read};
+use nr_trace::{Fault, Format, Trace};
 use std::alloc::Global;
 use std::io::{Read, Write};
 use vs_types::Fail;
 use vs_walk::translate;
 
-/// Where the walk of a canonical address ends in a replica's dump of the trace that these bytes spell, with status 0; or
-/// the line of the format fault that keeps them from spelling one, with status 1; or `NoSuchReplica`. Takes memory for
-/// the trace and the text.
-pub fn resolve_bytes(
+/// What `resolve` answers to what was read of an input: where the walk of a canonical address ends in a replica's dump, with
+/// status 0; or the line of the format fault, with status 1; or `NoSuchReplica`. Takes memory for the text.
+pub fn resolve_read(
     alloc: Global,
-    bytes: &[u8],
+    read: Result<Trace, Fail<Format>>,
     address: u64,
     replica: u8,
 ) -> Result<Report, ProgFault>
     requires { IsCanonical Four address }
-    ensures { MatchResult result (λ report. IsWalk address replica bytes.now (string_bytes report.text) report.status) (IsWalkFault bytes.now replica) }
+    ensures { (bytes : List ℕ) → IsReadFrom bytes read → MatchResult result (λ report. IsWalk address replica bytes (string_bytes report.text) report.status) (IsWalkFault bytes replica) }
 {
-    match read(alloc, bytes) {
+    match read {
         Ok(trace) => {
             let Some(dump) = trace.dumps().get(replica as usize) else {
                 return Err(ProgFault::NoSuchReplica);
@@ -46,8 +45,8 @@ pub fn resolve_bytes(
 
 /// Reads a trace, and writes where the walk of an address ends in a replica's dump. It tests the spelling of the
 /// address, then whether it is canonical, then reads, then tests the replica. The status is 0, or 1 where the input
-/// spells no trace. It reads at most one byte more than the longest trace has. Where it gives no answer some input may
-/// have been read, and nothing was written but where that failed.
+/// spells no trace. It reads in blocks, and stops where the input can't become a trace any more. Where it gives no answer
+/// some input may have been read, and nothing was written but where that failed.
 pub fn resolve_io<R: Read + Drop, W: Write>(
     alloc: Global,
     reader: R,
@@ -60,7 +59,7 @@ pub fn resolve_io<R: Read + Drop, W: Write>(
     ensures alone { WritesAnswersAlone writer.old writer.new result }
 {
     let address = read_address(address)?;
-    let input = read_input(alloc, reader)?;
-    let report = resolve_bytes(alloc, &input, address, replica)?;
+    let read = read_trace(alloc, reader)?;
+    let report = resolve_read(alloc, read, address, replica)?;
     write_report(writer, &report)
 }

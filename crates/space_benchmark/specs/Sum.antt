@@ -4,7 +4,7 @@ use Rattle.vs_types.specs.Page.{level_of}
 use Rattle.vs_types.specs.declared.page.Rights.{Rights}
 use Rattle.vs_types.specs.declared.page.Size.{Size}
 use Rattle.vs_types.specs.declared.answer.Answer.{Answer}
-use Rattle.vs_types.specs.declared.answer.Answer.TheVariants.{Done, Overlap, Full, Removed, NotMapped, Inside, Changed, Mapped}
+use Rattle.vs_types.specs.declared.answer.Answer.TheVariants.{Done, Overlap, Full, Removed, NotMapped, Inside, Changed, Mapped, Allowed, Fault}
 
 abbrev bit : Bool → ℕ
 bit b = if b then 1 else 0
@@ -30,6 +30,8 @@ answer_number NotMapped = 4
 answer_number (Inside base) = with_value 5 base
 answer_number (Changed rights) = 6 + 8 * rights_number rights
 answer_number (Mapped phys size rights) = with_value (7 + page_number size rights) phys
+answer_number (Allowed phys) = with_value 8 phys
+answer_number (Fault code) = with_value 9 code
 
 -- a sum goes on with a number: 64 bits are kept
 abbrev pub sum_with : ℕ → ℕ → ℕ

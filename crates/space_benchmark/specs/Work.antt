@@ -33,7 +33,8 @@ pub record Progress : Type 0 where
 
 -- operations, one after another
 abbrev pub after_steps : Depth → ℕ → List Action → Progress → Progress
-after_steps depth limit actions progress = record { space = after_all depth limit progress.space actions; sum = sum_of_steps depth limit progress.space progress.sum actions }
+after_steps depth limit actions progress =
+    record { space = after_all depth limit progress.space actions; sum = sum_of_steps depth limit progress.space progress.sum actions }
 
 -- resolves of addresses
 abbrev pub after_looks : List ℕ → Progress → Progress
@@ -46,7 +47,8 @@ after_count depth progress = record progress { sum = sum_with progress.sum (tabl
 -- one round: maps, the tables, resolves, protects, unmaps, the tables
 abbrev pub after_round : Depth → ℕ → Load → Progress → Progress
 after_round depth limit load progress =
-    after_count depth (after_steps depth limit load.unmaps.items (after_steps depth limit load.protects.items (after_looks load.addresses.items (after_count depth (after_steps depth limit load.maps.items progress)))))
+    after_count depth (after_steps depth limit load.unmaps.items
+    (after_steps depth limit load.protects.items (after_looks load.addresses.items (after_count depth (after_steps depth limit load.maps.items progress)))))
 
 -- one round on a page table: the table after it is that of the space after it, and the sum goes on with all that was answered
 pub record IsRound (old : PageTable) (load : Load) (old_sum : ℕ) (new : PageTable) (new_sum : ℕ) : Type 0 where

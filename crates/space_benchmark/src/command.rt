@@ -5,6 +5,7 @@ use crate::workload::Workload;
 use std::env;
 use std::time::Duration;
 use vs_arena::{RawArena, VecArena};
+use vs_types::Depth;
 
 /// Runs the program on its words, and gives the exit status.
 pub fn run(rt: &HostRuntime) -> u8 {
@@ -26,33 +27,60 @@ enum Store {
     Raw,
 }
 
-/// How often each workload is run, the first word, a number up to 65,535, or once where there is none; and over which store: one
-/// block of memory where the second word is `raw`.
-fn words(rt: &HostRuntime) -> Result<(u16, Store), ProgFault> {
+/// What the program's words ask for.
+#[derive(Clone, Copy)]
+struct Wanted {
+    /// How often each workload is run.
+    rounds: u16,
+    store: Store,
+    depth: Depth,
+}
+
+/// The first word is the number of rounds, up to 65,535, or one round where there is none. After it `raw` asks for frames in
+/// one block of memory, and then `five` for five levels.
+fn read_words(rt: &HostRuntime) -> Result<Wanted, ProgFault> {
     let words: Vec<String> = env::args(rt)
         .map_err(|_| ProgFault::Memory)?
         .collect(rt.alloc())?;
-    let (rounds, store) = match words.as_slice() {
-        [] | [_] => return Ok((1, Store::Vec)),
-        [_, rounds] => (rounds, Store::Vec),
-        [_, rounds, store] if store.as_str() == "raw" => (rounds, Store::Raw),
+    let (rounds, store, depth) = match words.as_slice() {
+        [] | [_] => {
+            return Ok(Wanted {
+                rounds: 1,
+                store: Store::Vec,
+                depth: Depth::Four,
+            });
+        }
+        [_, rounds] => (rounds, Store::Vec, Depth::Four),
+        [_, rounds, raw] if raw.as_str() == "raw" => (rounds, Store::Raw, Depth::Four),
+        [_, rounds, five] if five.as_str() == "five" => (rounds, Store::Vec, Depth::Five),
+        [_, rounds, raw, five] if raw.as_str() == "raw" && five.as_str() == "five" => {
+            (rounds, Store::Raw, Depth::Five)
+        }
         _ => return Err(ProgFault::BadRounds),
     };
     let rounds = rounds.parse::<u16>().map_err(|_| ProgFault::BadRounds)?;
-    Ok((rounds, store))
+    Ok(Wanted {
+        rounds,
+        store,
+        depth,
+    })
 }
 
 /// Runs each workload on a page table of its own, and prints its sum and its times.
 fn try_run(rt: &HostRuntime) -> Result<u8, ProgFault> {
     let alloc = rt.alloc();
-    let (rounds, store) = words(rt)?;
+    let Wanted {
+        rounds,
+        store,
+        depth,
+    } = read_words(rt)?;
     eprintln!(rt;
         "operations a second  {:>12} {:>12} {:>12} {:>12}",
         "map", "resolve", "protect", "unmap"
     )
     .map_err(|_| ProgFault::CannotWrite)?;
     for workload in Workload::ALL {
-        let load = Load::new(alloc, workload)?;
+        let load = Load::new(alloc, workload, depth)?;
         let measured = match store {
             Store::Vec => measure(rt, VecArena::new(alloc, BASE, FRAMES)?, &load, rounds)?,
             Store::Raw => measure(rt, RawArena::new(alloc, BASE, FRAMES)?, &load, rounds)?,

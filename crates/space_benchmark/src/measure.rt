@@ -2,17 +2,17 @@ ghost use Rattle.std.specs.Prelude.{◌≡◌, All, IfOk, OnOk};
 ghost use Rattle.std.specs.FinMap as finite;
 ghost use Rattle.vs_types.specs.Depth.{IsCanonical};
 ghost use Rattle.vs_types.specs.Space as spaces;
-ghost use Rattle.vs_types.specs.declared.depth.Depth.TheVariants.{Four};
+ghost use Rattle.vs_types.specs.Operation.{IsAction};
 ghost use Rattle.vs_space.specs.Table.{IsTableOf};
 ghost use Rattle.space_benchmark.specs.Work.{Applies, IsRound, sum_of_looks, after_rounds, start};
 
 use crate::fault::ProgFault;
-use crate::load::Load;
+use crate::load::{Load, all_fit};
 use crate::sum::Sum;
 use std::time::{Clock, Duration, Instant};
 use vs_arena::FrameStore;
 use vs_space::Space;
-use vs_types::{Depth, Op};
+use vs_types::Op;
 
 /// How many frames the store has.
 pub const FRAMES: usize = 4096;
@@ -60,7 +60,10 @@ impl Measured {
         space: &mut Space<S>,
         load: &Load,
     ) -> Result<(), ProgFault>
-        requires { space.old.depth ≡ Four }
+        requires depth { space.old.depth ≡ load.now.depth }
+        requires maps { All (IsAction load.now.depth) load.now.maps.items }
+        requires protects { All (IsAction load.now.depth) load.now.protects.items }
+        requires unmaps { All (IsAction load.now.depth) load.now.unmaps.items }
         ensures { OnOk result (IsRound space.old load.now self.old.sum.value space.new self.new.sum.value) }
     {
         let start = now(clock)?;
@@ -89,7 +92,7 @@ impl Measured {
     }
 }
 
-/// Rounds of a workload, on a page table of its own over this store.
+/// Rounds of a workload, on a page table of its own, of the workload's depth, over this store.
 pub fn measure<S: FrameStore + Drop>(
     clock: &impl Clock,
     store: S,
@@ -98,9 +101,16 @@ pub fn measure<S: FrameStore + Drop>(
 ) -> Result<Measured, ProgFault>
     requires empty { S.frames store ≡ finite.empty }
     requires size { S.size store ≡ FRAMES }
-    ensures { IfOk result (λ measured. measured.sum.value ≡ (after_rounds Four FRAMES load.now rounds start).sum) }
+    ensures { IfOk result (λ measured. measured.sum.value ≡ (after_rounds load.now.depth FRAMES load.now rounds start).sum) }
 {
-    let Ok(mut space) = Space::new(store, Depth::Four) else {
+    let depth = load.depth;
+    if !all_fit(depth, &load.maps)
+        || !all_fit(depth, &load.protects)
+        || !all_fit(depth, &load.unmaps)
+    {
+        return Err(ProgFault::BadPage);
+    }
+    let Ok(mut space) = Space::new(store, depth) else {
         unreachable!();
     };
     let mut measured = Measured::new();
@@ -117,6 +127,7 @@ fn now(clock: &impl Clock) -> Result<Instant, ProgFault> {
 
 /// Does the operations one after another.
 fn apply_all<S: FrameStore>(space: &mut Space<S>, ops: &[Op], sum: &mut Sum)
+    requires { All (IsAction space.old.depth) ops.now }
     ensures { Applies space.old ops.now sum.old.value space.new sum.new.value }
 {
     for op in ops {

@@ -56,6 +56,8 @@ fn number_of(answer: Answer) -> u64
         Answer::Inside(base) => with_value(5, base),
         Answer::Changed(rights) => 6 + 8 * rights_number(rights),
         Answer::Mapped(phys, size, rights) => with_value(7 + page_number(size, rights), phys),
+        Answer::Allowed(phys) => with_value(8, phys),
+        Answer::Fault(code) => with_value(9, code),
     }
 }
 

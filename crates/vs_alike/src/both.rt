@@ -1,8 +1,10 @@
 ghost use Rattle.std.specs.Prelude.{◌≡◌, IfOk, OnErr};
 ghost use Rattle.std.specs.FinMap as finite;
 ghost use Rattle.vs_types.specs.Depth.{IsCanonical};
+ghost use Rattle.vs_types.specs.Operation.{IsAction};
+ghost use Rattle.vs_types.specs.Space as spaces;
 ghost use Rattle.vs_types.specs.Space.{no_pages, table_count};
-ghost use Rattle.vs_types.specs.Step.{step, look};
+ghost use Rattle.vs_types.specs.Step.{step, look, allow};
 ghost use Rattle.vs_space.specs.Walk.{walk, as_walk};
 ghost use Rattle.vs_space.specs.Table as tables;
 ghost use Rattle.vs_plain.specs.Plain.{BoundedSpace, IsPlainStep};
@@ -13,7 +15,7 @@ use std::marker::Model;
 use vs_arena::FrameStore;
 use vs_plain::PlainSpace;
 use vs_space::{NoRoot, Space};
-use vs_types::{Answer, Depth, Memory, Op};
+use vs_types::{Access, Answer, Depth, Memory, Mode, Op};
 
 /// What the page table says, and what the plain space says.
 #[derive(Clone, Copy, Debug)]
@@ -107,12 +109,27 @@ impl<S: FrameStore> Both<S> {
         }
     }
 
-    /// Does an operation on each: their answers are the same. Takes memory where it maps a page.
+    /// An access of a canonical address in each: the same answer.
+    pub fn access(&self, address: u64, mode: Mode, access: Access) -> Told<Answer>
+        requires { IsCanonical self.now.plain.depth address }
+        ensures same { result.table ≡ result.plain }
+        ensures table_allows { (space : spaces.Space) → tables.IsTableOf self.now.table space → result.table ≡ allow space address mode access }
+        ensures plain_allows { result.plain ≡ allow self.now.plain.space address mode access }
+    {
+        Told {
+            table: self.table.access(address, mode, access),
+            plain: self.plain.access(address, mode, access),
+        }
+    }
+
+    /// Does an operation that is well formed at their depth on each: their answers are the same. Takes memory where it maps a
+    /// page.
     ///
     /// # Errors
     ///
     /// `Memory` where a growth was refused, which only a page that is added needs; both are then unchanged.
     pub fn apply(&mut self, op: Op) -> Result<Told<Answer>, Memory>
+        requires { IsAction self.old.plain.depth op }
         ensures same { IfOk result (λ told. told.table ≡ told.plain) }
         ensures table_steps { IfOk result (λ told. tables.IsTableStep self.old.table op told.table self.new.table) }
         ensures plain_steps { IfOk result (λ told. IsPlainStep self.old.plain op told.plain self.new.plain) }

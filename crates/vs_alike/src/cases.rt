@@ -1,4 +1,4 @@
-use vs_types::{Answer, Rights, Size};
+use vs_types::{Access, Answer, Mode, Rights, Size};
 
 /// A call, by the numbers that it is made of.
 #[derive(Clone, Copy, Debug)]
@@ -8,6 +8,7 @@ pub enum Call {
     Unmap(u64),
     Protect(u64, Rights),
     Resolve(u64),
+    Access(u64, Mode, Access),
 }
 
 /// A call, what it must be answered, and how many tables there must be after it.
@@ -24,6 +25,12 @@ const WRITE: Rights = Rights {
     write: true,
     user: false,
     exec: false,
+};
+
+const EXEC: Rights = Rights {
+    write: false,
+    user: false,
+    exec: true,
 };
 
 const USER_AND_EXEC: Rights = Rights {
@@ -150,4 +157,105 @@ pub static PROTECT: [Row; 4] = [
         4,
     ),
     Row(Call::Protect(0x2000, ALL), Answer::NotMapped, 4),
+];
+
+/// A page that can only be written, and then only be fetched from.
+pub static ACCESS: [Row; 12] = [
+    Row(
+        Call::Map(0x400000, Size::K4, 0x1000, WRITE),
+        Answer::Done,
+        4,
+    ),
+    Row(
+        Call::Access(0x400123, Mode::Supervisor, Access::Write),
+        Answer::Allowed(0x1123),
+        4,
+    ),
+    Row(
+        Call::Access(0x400123, Mode::User, Access::Read),
+        Answer::Fault(5),
+        4,
+    ),
+    Row(
+        Call::Access(0x400123, Mode::User, Access::Write),
+        Answer::Fault(7),
+        4,
+    ),
+    Row(
+        Call::Access(0x400123, Mode::Supervisor, Access::Fetch),
+        Answer::Fault(17),
+        4,
+    ),
+    Row(
+        Call::Access(0x400123, Mode::User, Access::Fetch),
+        Answer::Fault(21),
+        4,
+    ),
+    Row(
+        Call::Access(0x401000, Mode::Supervisor, Access::Read),
+        Answer::Fault(0),
+        4,
+    ),
+    Row(
+        Call::Access(0x401000, Mode::User, Access::Write),
+        Answer::Fault(6),
+        4,
+    ),
+    Row(
+        Call::Access(0x401000, Mode::User, Access::Fetch),
+        Answer::Fault(20),
+        4,
+    ),
+    Row(Call::Protect(0x400000, EXEC), Answer::Changed(WRITE), 4),
+    Row(
+        Call::Access(0x400123, Mode::Supervisor, Access::Write),
+        Answer::Fault(3),
+        4,
+    ),
+    Row(
+        Call::Access(0x400123, Mode::Supervisor, Access::Fetch),
+        Answer::Allowed(0x1123),
+        4,
+    ),
+];
+
+/// At five levels: the first address past 47 bits, the last page of the low half and the first of the high one.
+pub static BOTH_HALVES_OF_FIVE: [Row; 6] = [
+    Row(
+        Call::Map(0x800000000000, Size::K4, 0x1000, ALL),
+        Answer::Done,
+        5,
+    ),
+    Row(
+        Call::Map(0xFFFFFFFFFFF000, Size::K4, 0x2000, ALL),
+        Answer::Done,
+        9,
+    ),
+    Row(
+        Call::Map(0xFF00000000000000, Size::K4, 0x3000, ALL),
+        Answer::Done,
+        13,
+    ),
+    Row(
+        Call::Resolve(0xFFFFFFFFFFFFFF),
+        Answer::Mapped(0x2FFF, Size::K4, ALL),
+        13,
+    ),
+    Row(
+        Call::Access(0xFF00000000000000, Mode::User, Access::Fetch),
+        Answer::Allowed(0x3000),
+        13,
+    ),
+    Row(
+        Call::Unmap(0x800000000000),
+        Answer::Removed(0x1000, Size::K4, ALL),
+        9,
+    ),
+];
+
+/// At five levels, under a limit of 4 tables.
+pub static FULL_OF_FIVE: [Row; 3] = [
+    Row(Call::Map(0, Size::K4, 0x1000, ALL), Answer::Full(5), 1),
+    Row(Call::Map(0, Size::G1, 0, ALL), Answer::Done, 3),
+    Row(Call::Map(0, Size::K4, 0x1000, ALL), Answer::Overlap(0), 3),
 ];

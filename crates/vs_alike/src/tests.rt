@@ -1,8 +1,10 @@
 ghost use Rattle.std.specs.Prelude.{◌≡◌};
 ghost use Rattle.std.specs.FinMap as finite;
-ghost use Rattle.vs_types.specs.declared.depth.Depth.TheVariants.{Four};
 
-use crate::cases::{BOTH_HALVES, Call, FULL, GIGABYTE, OVERLAP, PROTECT, Row, UNMAP};
+use crate::cases::{
+    ACCESS, BOTH_HALVES, BOTH_HALVES_OF_FIVE, Call, FULL, FULL_OF_FIVE, GIGABYTE, OVERLAP, PROTECT,
+    Row, UNMAP,
+};
 use crate::{Both, Told};
 use std::alloc::Global;
 use std::process::Abort;
@@ -14,36 +16,41 @@ use vs_types::{Answer, BadOp, Depth, Op};
 #[derive(Clone, Copy)]
 struct Case<'a> {
     name: &'a str,
+    depth: Depth,
     /// The limit of tables.
     limit: u16,
+    /// How many tables more there are than a row says, where there is a page.
+    more: usize,
     rows: &'a [Row],
 }
 
 /// The operation of a call, if it is one.
-fn operation(call: Call) -> Result<Option<Op>, BadOp> {
+fn operation(depth: Depth, call: Call) -> Result<Option<Op>, BadOp> {
     let op = match call {
-        Call::Map(base, size, phys, rights) => Op::map(Depth::Four, base, size, phys, rights)?,
-        Call::Unmap(base) => Op::unmap(Depth::Four, base)?,
-        Call::Protect(base, rights) => Op::protect(Depth::Four, base, rights)?,
-        Call::Resolve(_) => return Ok(None),
+        Call::Map(base, size, phys, rights) => Op::map(depth, base, size, phys, rights)?,
+        Call::Unmap(base) => Op::unmap(depth, base)?,
+        Call::Protect(base, rights) => Op::protect(depth, base, rights)?,
+        Call::Resolve(_) | Call::Access(_, _, _) => return Ok(None),
     };
     Ok(Some(op))
 }
 
-/// What both answer to a call. A resolve must be of a canonical address.
+/// What both answer to a call. A read must be of a canonical address.
 fn answers<S: FrameStore>(
     rt: &impl Abort,
     both: &mut Both<S>,
     call: Call,
-) -> Result<Told<Answer>, Fail>
-    requires { both.old.plain.depth ≡ Four }
-    ensures { both.new.plain.depth ≡ Four }
-{
-    if let Some(op) = operation(call)? {
+) -> Result<Told<Answer>, Fail> {
+    let depth = both.plain().depth();
+    if let Some(op) = operation(depth, call)? {
+        assert!(rt; op.fits(depth));
         return Ok(both.apply(op)?);
     }
     match call {
-        Call::Resolve(address) if Depth::Four.is_canonical(address) => Ok(both.resolve(address)),
+        Call::Resolve(address) if depth.is_canonical(address) => Ok(both.resolve(address)),
+        Call::Access(address, mode, access) if depth.is_canonical(address) => {
+            Ok(both.access(address, mode, access))
+        }
         _ => panic!(rt; "not canonical"),
     }
 }
@@ -59,38 +66,68 @@ fn run<S: FrameStore + Drop>(
     requires { S.frames store ≡ finite.empty }
 {
     let name = case.name;
-    let mut both = Both::new(alloc, store, Depth::Four)?;
+    let mut both = Both::new(alloc, store, case.depth)?;
     assert_eq!(rt; both.plain().pages()?.len(), 0, "{name}");
     for (place, Row(call, answer, tables)) in case.rows.iter().enumerate() {
         let told = answers(rt, &mut both, *call)?;
+        let tables = if *tables > 1 {
+            tables.saturating_add(case.more)
+        } else {
+            1
+        };
         assert_eq!(rt; told.table, *answer, "{name}, row {place}, the page table");
         assert_eq!(rt; told.plain, *answer, "{name}, row {place}, the plain space");
         let counts = both.tables();
-        assert_eq!(rt;
-            counts.table,
-            *tables,
-            "{name}, row {place}, the page table"
-        );
+        assert_eq!(rt; counts.table, tables, "{name}, row {place}, the page table");
         assert_eq!(rt;
             counts.plain,
-            *tables,
+            tables,
             "{name}, row {place}, the plain space"
         );
-        assert_eq!(rt; both.table().tables(), *tables, "{name}, row {place}");
+        assert_eq!(rt; both.table().tables(), tables, "{name}, row {place}");
     }
     Ok(())
 }
 
 #[test]
 fn worked_examples(rt: HostRuntime) -> Result<(), Fail> {
-    let case = |name, limit, rows| Case { name, limit, rows };
+    let four = |name, limit, rows| Case {
+        name,
+        depth: Depth::Four,
+        limit,
+        more: 0,
+        rows,
+    };
+    // the same calls at five levels: one table more, below the root
+    let deeper = |name, rows| Case {
+        name,
+        depth: Depth::Five,
+        limit: 4096,
+        more: 1,
+        rows,
+    };
+    let five = |name, limit, rows| Case {
+        name,
+        depth: Depth::Five,
+        limit,
+        more: 0,
+        rows,
+    };
     let cases = [
-        case("both halves", 4096, BOTH_HALVES.as_slice()),
-        case("overlap names the least base", 4096, OVERLAP.as_slice()),
-        case("gigabyte page", 4096, GIGABYTE.as_slice()),
-        case("full names its need", 3, FULL.as_slice()),
-        case("unmap frees tables", 4096, UNMAP.as_slice()),
-        case("protect changes rights", 4096, PROTECT.as_slice()),
+        four("both halves", 4096, BOTH_HALVES.as_slice()),
+        four("overlap names the least base", 4096, OVERLAP.as_slice()),
+        four("gigabyte page", 4096, GIGABYTE.as_slice()),
+        four("full names its need", 3, FULL.as_slice()),
+        four("unmap frees tables", 4096, UNMAP.as_slice()),
+        four("protect changes rights", 4096, PROTECT.as_slice()),
+        four("accesses by rights", 4096, ACCESS.as_slice()),
+        deeper("overlap at five levels", OVERLAP.as_slice()),
+        deeper("gigabyte page at five levels", GIGABYTE.as_slice()),
+        deeper("unmap at five levels", UNMAP.as_slice()),
+        deeper("protect at five levels", PROTECT.as_slice()),
+        deeper("accesses at five levels", ACCESS.as_slice()),
+        five("both halves of five", 4096, BOTH_HALVES_OF_FIVE.as_slice()),
+        five("full at five levels", 4, FULL_OF_FIVE.as_slice()),
     ];
     let alloc = rt.alloc();
     for case in &cases {

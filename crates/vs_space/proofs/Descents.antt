@@ -19,9 +19,11 @@ use Rattle.vs_space.specs.inside.Descent.{IsDescent}
 use Rattle.vs_space.proofs.Paths.{table_first, table_below}
 use Rattle.vs_space.proofs.Written.{written_at}
 
-pub entry_read : (level : ℕ) (m : Memory) (n a index word : ℕ) (e : Meaning) → word_at m n index ≡ Some word → index ≡ index_at level a → e ≡ meaning level word → found_at level m n a ≡ Some e
+pub entry_read : (level : ℕ) (m : Memory) (n a index word : ℕ) (e : Meaning) → word_at m n index ≡ Some word → index ≡ index_at level a
+    → e ≡ meaning level word → found_at level m n a ≡ Some e
 unfolding found_at
-entry_read level m n a index word e got is reads = ap (λ i. option_map (meaning level) (word_at m n i)) (sym is) ∙ ap (option_map (meaning level)) got ∙ ap Some (sym reads)
+entry_read level m n a index word e got is reads = ap (λ i. option_map (meaning level) (word_at m n i)) (sym is) ∙ ap (option_map (meaning level)) got
+    ∙ ap Some (sym reads)
 
 -- the tables on the path of an address, from the root down to this level
 pub record IsOnPath (depth : Depth) (memory : Memory) (root address lowest level number : ℕ) (path : List ℕ) : Type 0 where
@@ -31,7 +33,8 @@ pub record IsOnPath (depth : Depth) (memory : Memory) (root address lowest level
   pub last : number ≡ slice_index path level
   pub reached : (j : ℕ) → level ≤ j → j ≤ levels depth → table_at (levels depth) memory root j address ≡ Some (slice_index path j)
 
-pub at_root : (depth : Depth) (m : Memory) (root a lowest level : ℕ) (path : List ℕ) → level ≡ levels depth → lowest ≤ levels depth → length path ≡ 6 → ((j : ℕ) → j < 6 → slice_index path j ≡ root) → IsOnPath depth m root a lowest level root path
+pub at_root : (depth : Depth) (m : Memory) (root a lowest level : ℕ) (path : List ℕ) → level ≡ levels depth → lowest ≤ levels depth → length path ≡ 6
+    → ((j : ℕ) → j < 6 → slice_index path j ≡ root) → IsOnPath depth m root a lowest level root path
 at_root depth m root a lowest level path top low long same = record {
   above = omega arith;
   below = omega arith;
@@ -43,7 +46,8 @@ at_root depth m root a lowest level path top low long same = record {
       (table_first (levels depth) root m a ∙ ap Some (sym (same j (omega (arith, few_levels depth)))));
 }
 
-pub used_here : (depth : Depth) (m : Memory) (root a lowest level number : ℕ) (path : List ℕ) → IsTree (levels depth) m root → IsOnPath depth m root a lowest level number path → IsSome (finite.get m number)
+pub used_here : (depth : Depth) (m : Memory) (root a lowest level number : ℕ) (path : List ℕ) → IsTree (levels depth) m root
+    → IsOnPath depth m root a lowest level number path → IsSome (finite.get m number)
 used_here depth m root a lowest level number path tree on = tree.in_use level a number (on.reached level (omega arith) on.below ∙ ap Some (sym on.last))
 
 -- what is no table leads to none
@@ -54,10 +58,13 @@ no_table (entry.Leaf phys own) other = refl
 no_table (entry.Table n own) other = absurd (other n own refl)
 
 -- and its words are as written
-pub written_on_path : (depth : Depth) (m : Memory) (root a lowest level number : ℕ) (path : List ℕ) → IsTree (levels depth) m root → IsReached (levels depth) m root → IsOnPath depth m root a lowest level number path → AreWritten level m number
-written_on_path depth m root a lowest level number path tree all on = written_at (levels depth) root m tree all level a number (on.reached level (omega arith) on.below ∙ ap Some (sym on.last))
+pub written_on_path : (depth : Depth) (m : Memory) (root a lowest level number : ℕ) (path : List ℕ) → IsTree (levels depth) m root
+    → IsReached (levels depth) m root → IsOnPath depth m root a lowest level number path → AreWritten level m number
+written_on_path depth m root a lowest level number path tree all on =
+    written_at (levels depth) root m tree all level a number (on.reached level (omega arith) on.below ∙ ap Some (sym on.last))
 
-pub stops : (depth : Depth) (m : Memory) (root a lowest level number : ℕ) (path : List ℕ) (e : Meaning) → IsOnPath depth m root a lowest level number path → found_at level m number a ≡ Some e → (lowest < level → table_in (Some e) ≡ None) → IsDescent depth m root a lowest level path e
+pub stops : (depth : Depth) (m : Memory) (root a lowest level number : ℕ) (path : List ℕ) (e : Meaning) → IsOnPath depth m root a lowest level number path
+    → found_at level m number a ≡ Some e → (lowest < level → table_in (Some e) ≡ None) → IsDescent depth m root a lowest level path e
 stops depth m root a lowest level number path e on found ends = record {
   above = on.above;
   below = on.below;
@@ -66,7 +73,9 @@ stops depth m root a lowest level number path e on found ends = record {
   ends = ends;
 }
 
-pub goes_down : (depth : Depth) (m : Memory) (root a lowest level number next : ℕ) (own : Rights) (path : List ℕ) → 1 ≤ lowest → IsOnPath depth m root a lowest level number path → found_at level m number a ≡ Some (entry.Table next own) → lowest ≢ level → IsOnPath depth m root a lowest (level - 1) next (slice_set path (level - 1) next)
+pub goes_down : (depth : Depth) (m : Memory) (root a lowest level number next : ℕ) (own : Rights) (path : List ℕ) → 1 ≤ lowest
+    → IsOnPath depth m root a lowest level number path → found_at level m number a ≡ Some (entry.Table next own) → lowest ≢ level
+    → IsOnPath depth m root a lowest (level - 1) next (slice_set path (level - 1) next)
 goes_down depth m root a lowest level number next own path some on found other = record {
   above = omega (arith, on.above);
   below = omega (arith, on.below);
@@ -97,7 +106,8 @@ all_root root (suc (suc (suc (suc (suc zero))))) lt = refl
 all_root root (suc (suc (suc (suc (suc (suc j)))))) lt = absurd (omega arith)
 
 -- the highest table on the path is the root
-pub path_root : (depth : Depth) (m : Memory) (root a lowest level : ℕ) (path : List ℕ) (e : Meaning) → IsDescent depth m root a lowest level path e → slice_index path (levels depth) ≡ root
+pub path_root : (depth : Depth) (m : Memory) (root a lowest level : ℕ) (path : List ℕ) (e : Meaning) → IsDescent depth m root a lowest level path e
+    → slice_index path (levels depth) ≡ root
 path_root depth m root a lowest level path e descent =
     same _ _ (sym (descent.reached (levels depth) descent.below (omega arith)) ∙ table_first (levels depth) root m a)
   where

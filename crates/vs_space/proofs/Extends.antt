@@ -8,10 +8,9 @@ use Rattle.vs_types.specs.declared.depth.Depth.{Depth}
 use Rattle.vs_types.specs.declared.entry.Meaning.TheVariants as entry
 use Rattle.vs_arena.specs.Store.{zeros}
 use Rattle.vs_arena.proofs.Stores.{IsInUse-insert}
-use Rattle.vs_walk.specs.Memory.{Memory}
+use Rattle.vs_walk.specs.Memory.{Memory, AreWhole}
 use Rattle.vs_walk.specs.Walk.{all_rights, walk}
 use Rattle.vs_space.specs.Held.{with_word}
-use Rattle.vs_walk.specs.Ways.{AreWhole}
 use Rattle.vs_space.specs.Path.{found_at, table_in, table_at, SamePath}
 use Rattle.vs_space.specs.inside.Tree.{IsTree}
 use Rattle.vs_space.specs.inside.Grow.{IsOpen, IsExtended}
@@ -22,10 +21,12 @@ use Rattle.vs_space.proofs.Links.{found_in_zeros, still_clear, linked, old_or_ne
 use Rattle.vs_space.proofs.Reached.{reached_link}
 use Rattle.vs_space.proofs.Written.{written_table}
 
-pub extended_start : (depth : Depth) (m : Memory) (root base from number : ℕ) → IsOpen depth m root base from number → IsExtended depth m m root base from from number
+pub extended_start : (depth : Depth) (m : Memory) (root base from number : ℕ) → IsOpen depth m root base from number
+    → IsExtended depth m m root base from from number
 extended_start depth m root base from number here = record { open_at = here; walks = λ b. refl; more = omega arith }
 
-module _ (depth : Depth) (m : Memory) (root base level number : ℕ) (here : IsOpen depth m root base level number) (deep : 1 < level) (f : ℕ) (free : finite.get m f ≡ None)
+module _ (depth : Depth) (m : Memory) (root base level number : ℕ) (here : IsOpen depth m root base level number) (deep : 1 < level) (f : ℕ)
+    (free : finite.get m f ≡ None)
     (whole : AreWhole (finite.insert m f zeros)) (w : ℕ) (leads : meaning level w ≡ entry.Table f all_rights) (is_word : w ≡ table_word f) where
   abbrev taken : Memory
   taken = finite.insert m f zeros
@@ -62,7 +63,8 @@ module _ (depth : Depth) (m : Memory) (root base level number : ℕ) (here : IsO
       walk_link (levels depth) root taken tree_taken whole level base number at_taken w f leads clear unreached absent_taken (level - 1) one some b
       ∙ walk_take (levels depth) root m here.tree f free b
 
-  was_there : (j b q : ℕ) → table_at (levels depth) new root j b ≡ Some q → (SamePath (levels depth) (suc j) base b → ⊥) → table_at (levels depth) m root j b ≡ Some q
+  was_there : (j b q : ℕ) → table_at (levels depth) new root j b ≡ Some q → (SamePath (levels depth) (suc j) base b → ⊥)
+      → table_at (levels depth) m root j b ≡ Some q
   was_there j b q r off = ⊎_elim
       (λ old. sym (table_take (levels depth) root m here.tree f free j b) ∙ old)
       (λ fresh. absurd (off (λ i from to. fresh.1 i (omega (arith, fresh.0, from)) to)))
@@ -70,7 +72,8 @@ module _ (depth : Depth) (m : Memory) (root base level number : ℕ) (here : IsO
 
   linked_new : table_at (levels depth) new root (level - 1) base ≡ Some f
   linked_new =
-      linked (levels depth) root taken tree_taken whole level base number at_taken w f leads clear unreached absent_taken (level - 1) one some base (λ i from to. refl)
+      linked (levels depth) root taken tree_taken whole level base number at_taken w f leads clear unreached absent_taken (level - 1) one some base
+      (λ i from to. refl)
 
   open_new : IsOpen depth new root base (level - 1) f
   open_new = record {
@@ -96,5 +99,6 @@ module _ (depth : Depth) (m : Memory) (root base level number : ℕ) (here : IsO
         more = omega (arith, one_more, extended.more, le, deep);
       })
 
-pub taken_used : (depth : Depth) (m : Memory) (root base level number f : ℕ) → IsOpen depth m root base level number → IsSome (finite.get (finite.insert m f zeros) number)
+pub taken_used : (depth : Depth) (m : Memory) (root base level number f : ℕ) → IsOpen depth m root base level number
+    → IsSome (finite.get (finite.insert m f zeros) number)
 taken_used depth m root base level number f here = IsInUse-insert m f zeros number (here.tree.in_use level base number here.reached)

@@ -1,4 +1,5 @@
 pub mod Numbered
+pub mod Canonical
 pub mod Paths
 pub mod Writes
 pub mod Trees

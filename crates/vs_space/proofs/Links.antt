@@ -1,5 +1,5 @@
 -- A new table is linked at an absent entry, and a table under which nothing is mapped is taken out.
-use Rattle.std.proofs.Common.{◌≡◌, ◌≢◌, ℕ, suc, ◌+◌, ◌-◌, ◌<◌, ◌≤◌, List, Option, Some, None, inl, inr, ◌⊎◌, ⊎_elim, refl, sym, ap, subst, ◌∙◌, arith}
+use Rattle.std.proofs.Common.{◌≡◌, ◌≢◌, ℕ, suc, ◌-◌, ◌<◌, ◌≤◌, List, Option, Some, None, inl, inr, ◌⊎◌, ⊎_elim, refl, sym, ap, subst, ◌∙◌, arith}
 use Rattle.std.specs.Prelude.{IsSome, option_map, slice_index, replicate}
 use Rattle.std.proofs.lemmas.Bool.{cases_eq, cases_lt}
 use Rattle.std.proofs.lemmas.List.{get_or_past, get_or-replicate, length-replicate}
@@ -9,11 +9,10 @@ use Rattle.vs_types.specs.Entry.{meaning}
 use Rattle.vs_types.specs.declared.page.Rights.{Rights}
 use Rattle.vs_types.specs.declared.entry.Meaning.TheVariants as entry
 use Rattle.vs_arena.specs.Store.{zeros}
-use Rattle.vs_walk.specs.Memory.{Memory}
+use Rattle.vs_walk.specs.Memory.{Memory, AreWhole}
 use Rattle.vs_walk.specs.Walk.{all_rights, walk_from}
 use Rattle.vs_walk.specs.declared.walk.Walk.TheVariants.{NotMapped}
 use Rattle.vs_space.specs.Held.{word_at, with_word}
-use Rattle.vs_walk.specs.Ways.{AreWhole}
 use Rattle.vs_space.specs.Path.{found_at, table_in, table_at, SamePath}
 use Rattle.vs_space.specs.inside.Tree.{IsTree}
 use Rattle.vs_space.proofs.Numbered.{get-insert_other, get-remove_other}
@@ -26,7 +25,8 @@ zero_absent : (level : ℕ) → meaning level 0 ≡ entry.Absent
 zero_absent level = refl
 
 pub zeros_are : (i : ℕ) → slice_index zeros i ≡ 0
-zeros_are i = ⊎_elim (λ (lt : i < 512). get_or-replicate 512 i 0 0 lt) (λ (le : 512 ≤ i). get_or_past (replicate 512 0) i 0 (omega (arith, length-replicate {A = ℕ} 512 0))) (cases_lt i 512)
+zeros_are i = ⊎_elim (λ (lt : i < 512). get_or-replicate 512 i 0 0 lt)
+    (λ (le : 512 ≤ i). get_or_past (replicate 512 0) i 0 (omega (arith, length-replicate {A = ℕ} 512 0))) (cases_lt i 512)
 
 -- each entry of a frame of zeros is absent
 pub found_in_zeros : (level : ℕ) (m : Memory) (f b : ℕ) → finite.get m f ≡ Some zeros → found_at level m f b ≡ Some entry.Absent
@@ -91,8 +91,10 @@ module _ (top : ℕ) (root : ℕ) (m : Memory) (tree : IsTree top m root) (whole
       (λ (here : j ≡ level).
       let there = table_here top root m tree whole level a n at w b same in
       let q_is : q ≡ n = one_some q n (sym r ∙ ap (λ i. table_at top new root i b) here ∙ there) in
-      let found : found_at level new n b ≡ Some (entry.Table next own) = subst (λ i. found_at i new n b ≡ Some (entry.Table next own)) here (subst (λ x. found_at j new x b ≡ Some (entry.Table next own)) q_is g) in
-      let same_entry : entry.Table next own ≡ entry.Table f all_rights = one_meaning _ _ (sym found ∙ found_on_path top root m tree whole level a n at w b same ∙ ap Some leads) in
+      let found : found_at level new n b ≡ Some (entry.Table next own) =
+      subst (λ i. found_at i new n b ≡ Some (entry.Table next own)) here (subst (λ x. found_at j new x b ≡ Some (entry.Table next own)) q_is g) in
+      let same_entry : entry.Table next own ≡ entry.Table f all_rights =
+      one_meaning _ _ (sym found ∙ found_on_path top root m tree whole level a n at w b same ∙ ap Some leads) in
       cc)
       (λ (other : j ≢ level). tree.allows j b q next own old (sym (above top root m tree whole level a n at w b j q other old) ∙ g))
       (cases_eq j level))

@@ -23,12 +23,11 @@ use Rattle.vs_types.proofs.Looks.{done_looks}
 use Rattle.vs_types.proofs.Overlaps.{overlapped_below}
 use Rattle.vs_types.proofs.Pages.{covers_means, covers_base, covered_canonical, level_some}
 use Rattle.vs_types.proofs.Spaces.{page_at_means, insert_space}
-use Rattle.vs_walk.specs.Memory.{Memory}
+use Rattle.vs_walk.specs.Memory.{Memory, AreWhole}
 use Rattle.vs_walk.specs.Walk.{walk, as_walk}
 use Rattle.vs_walk.specs.declared.walk.Walk.TheVariants.{Mapped, Reserved}
-use Rattle.vs_walk.proofs.Translates.{not_reserved}
+use Rattle.vs_walk.proofs.LawsOfTranslations.{not_reserved}
 use Rattle.vs_space.specs.Held.{with_word}
-use Rattle.vs_walk.specs.Ways.{AreWhole}
 use Rattle.vs_space.specs.Path.{found_at, table_at, table_in, SamePath}
 use Rattle.vs_space.specs.inside.Tree.{IsTree, IsFilled, NothingUnder}
 use Rattle.vs_space.specs.inside.Grow.{IsOpen, IsExtended, IsLeastBase}
@@ -47,20 +46,27 @@ use Rattle.vs_space.proofs.Written.{written_leaf, leaf_at_level}
 use Rattle.vs_space.proofs.Overlaps.{overlapped_none, overlapped_least}
 use Rattle.vs_space.proofs.TableCounts.{count_added}
 
-map_overlaps : (depth : Depth) (limit : ℕ) (space : Space) (page : Page) (base : ℕ) → least_overlapped space page ≡ Some base → step depth limit space (Map page) ≡ record { space = space; answer = answers.Overlap base }
+map_overlaps : (depth : Depth) (limit : ℕ) (space : Space) (page : Page) (base : ℕ) → least_overlapped space page ≡ Some base
+    → step depth limit space (Map page) ≡ record { space = space; answer = answers.Overlap base }
 map_overlaps depth limit space page base least = map_cases (λ s. s ≡ record { space = space; answer = answers.Overlap base }) depth limit space page
     (λ e t. absurd (cc))
     (λ other e. let same : other ≡ base = cc in ap (λ b. let s : Stepped = record { space = space; answer = answers.Overlap b } in s) same)
     (λ e t. absurd (cc))
 
-map_is_full : (depth : Depth) (limit : ℕ) (space : Space) (page : Page) → least_overlapped space page ≡ None → limit < table_count depth (finite.insert space page.base page) → step depth limit space (Map page) ≡ record { space = space; answer = answers.Full (table_count depth (finite.insert space page.base page)) }
-map_is_full depth limit space page least above = map_cases (λ s. s ≡ record { space = space; answer = answers.Full (table_count depth (finite.insert space page.base page)) }) depth limit space page
+map_is_full : (depth : Depth) (limit : ℕ) (space : Space) (page : Page) → least_overlapped space page ≡ None
+    → limit < table_count depth (finite.insert space page.base page)
+    → step depth limit space (Map page) ≡ record { space = space; answer = answers.Full (table_count depth (finite.insert space page.base page)) }
+map_is_full depth limit space page least above =
+    map_cases (λ s. s ≡ record { space = space; answer = answers.Full (table_count depth (finite.insert space page.base page)) }) depth limit space page
     (λ e t. absurd (omega (arith, above, leb-true (table_count depth (finite.insert space page.base page)) limit t)))
     (λ other e. absurd (cc))
     (λ e t. refl)
 
-map_is_done : (depth : Depth) (limit : ℕ) (space : Space) (page : Page) → least_overlapped space page ≡ None → table_count depth (finite.insert space page.base page) ≤ limit → step depth limit space (Map page) ≡ record { space = finite.insert space page.base page; answer = answers.Done }
-map_is_done depth limit space page least few = map_cases (λ s. s ≡ record { space = finite.insert space page.base page; answer = answers.Done }) depth limit space page
+map_is_done : (depth : Depth) (limit : ℕ) (space : Space) (page : Page) → least_overlapped space page ≡ None
+    → table_count depth (finite.insert space page.base page) ≤ limit
+    → step depth limit space (Map page) ≡ record { space = finite.insert space page.base page; answer = answers.Done }
+map_is_done depth limit space page least few =
+    map_cases (λ s. s ≡ record { space = finite.insert space page.base page; answer = answers.Done }) depth limit space page
     (λ e t. refl)
     (λ other e. absurd (cc))
     (λ e t. absurd (omega (arith, few, leb-false (table_count depth (finite.insert space page.base page)) limit t)))
@@ -80,9 +86,14 @@ module _ (depth : Depth) (m : Memory) (root : ℕ) (table : IsPageTable depth m 
 
   -- ---- a leaf on the path: its page has the base of the new one
 
-  pub leaf_overlaps : (phys : ℕ) (own : Rights) → IsDescent depth m root page.base (level_of page.size) level path (entry.Leaf phys own) → (first limit bytes : ℕ) → bytes ≡ bytes_of (size_at level) → IsTableStep (page_table depth first limit root m) (Map page) (answers.Overlap (page.base - page.base % bytes)) (page_table depth first limit root m)
-  leaf_overlaps phys own descent first limit bytes are = stays (page_table depth first limit root m) (Map page) (answers.Overlap (page.base - page.base % bytes)) (own_space depth first limit root m table) (λ space is translates.
-      let leaf = page_here depth m root table page.base good.canonical level (slice_index path level) space is translates phys own (met (entry.Leaf phys own) descent) in
+  pub leaf_overlaps : (phys : ℕ) (own : Rights) → IsDescent depth m root page.base (level_of page.size) level path (entry.Leaf phys own)
+      → (first limit bytes : ℕ) → bytes ≡ bytes_of (size_at level)
+      → IsTableStep (page_table depth first limit root m) (Map page) (answers.Overlap (page.base - page.base % bytes)) (page_table depth first limit root m)
+  leaf_overlaps phys own descent first limit bytes are =
+      stays (page_table depth first limit root m) (Map page) (answers.Overlap (page.base - page.base % bytes)) (own_space depth first limit root m table)
+      (λ space is translates.
+      let leaf = page_here depth m root table page.base good.canonical level (slice_index path level) space is translates phys own
+      (met (entry.Leaf phys own) descent) in
       let size : bytes_of leaf.0.size ≡ bytes = ap bytes_of leaf.1.size ∙ sym are in
       let offset : page.base % bytes_of leaf.0.size ≡ page.base % bytes = ap (λ n. page.base % n) size in
       let base_is : leaf.0.base ≡ page.base - page.base % bytes = omega (arith, leaf.1.base) in
@@ -102,7 +113,8 @@ module _ (depth : Depth) (m : Memory) (root : ℕ) (table : IsPageTable depth m 
         (λ (deep : 1 < level_of page.size). deep)
         (λ (le : level_of page.size ≤ 1).
         let one : level ≡ 1 = omega (arith, own_level, level_some page.size) in
-        let words = words_found 1 m (slice_index path level) page.base (entry.Table next rights) (subst (λ l. found_at l m (slice_index path level) page.base ≡ Some (entry.Table next rights)) one descent.is) in
+        let words = words_found 1 m (slice_index path level) page.base (entry.Table next rights)
+        (subst (λ l. found_at l m (slice_index path level) page.base ≡ Some (entry.Table next rights)) one descent.is) in
         absurd (never_table (slice_index words.0 (index_at 1 page.base)) next rights words.2))
         (cases_lt 1 (level_of page.size))
 
@@ -110,7 +122,8 @@ module _ (depth : Depth) (m : Memory) (root : ℕ) (table : IsPageTable depth m 
     within_root = omega (arith, own_level, descent.below, not_lowest)
 
     pub base_aligned : page.base % table_bytes (level_of page.size - 1) ≡ 0
-    base_aligned = let e : 12 + 9 * (level_of page.size - 1) ≡ 3 + 9 * level_of page.size = omega (arith, not_lowest) in subst (λ n. page.base % 2 ^ n ≡ 0) (sym e) good.aligned
+    base_aligned = let e : 12 + 9 * (level_of page.size - 1) ≡ 3 + 9 * level_of page.size = omega (arith, not_lowest) in
+        subst (λ n. page.base % 2 ^ n ≡ 0) (sym e) good.aligned
 
     pub table_reached : table_at (levels depth) m root (level_of page.size - 1) page.base ≡ Some next
     table_reached =
@@ -119,9 +132,11 @@ module _ (depth : Depth) (m : Memory) (root : ℕ) (table : IsPageTable depth m 
 
     pub table_overlaps : (number limit base : ℕ) → IsLeastBase depth m root page.base (level_of page.size - 1) base
         → IsTableStep (page_table depth number limit root m) (Map page) (answers.Overlap base) (page_table depth number limit root m)
-    table_overlaps number limit base first = stays (page_table depth number limit root m) (Map page) (answers.Overlap base) (own_space depth number limit root m table) (λ space is translates.
+    table_overlaps number limit base first = stays (page_table depth number limit root m) (Map page) (answers.Overlap base)
+        (own_space depth number limit root m table) (λ space is translates.
         let inside = (path_covers depth page good base first.canonical (λ i from to. first.same_path i (omega (arith, from, not_lowest)) to)).0 in
-        let leaf = leaf_page depth m root space is translates table.tree base first.leaf.level first.leaf.number first.leaf.phys first.leaf.own first.canonical first.leaf.some
+        let leaf = leaf_page depth m root space is translates table.tree base first.leaf.level first.leaf.number first.leaf.phys first.leaf.own
+        first.canonical first.leaf.some
         first.leaf.reached first.leaf.found in
         let same : level_of leaf.0.size ≡ first.leaf.level = leaf.1.level_is in
         let aligned : base % bytes_of leaf.0.size ≡ 0 = ap (λ l. base % entry_bytes l) same ∙ first.leaf.begins in
@@ -168,7 +183,8 @@ module _ (depth : Depth) (m : Memory) (root : ℕ) (table : IsPageTable depth m 
 
       need_is : table_count depth (finite.insert space page.base page) ≡ finite.len m + (level - level_of page.size)
       need_is =
-          let added = count_added depth m root space page level of.is_space of.translates good is_with absent_base (none_there page.base (covers_base page)) descent.above descent.below nothing
+          let added = count_added depth m root space page level of.is_space of.translates good is_with absent_base
+          (none_there page.base (covers_base page)) descent.above descent.below nothing
           (λ j over le empty.
           let up : suc (j - 1) ≡ j = omega (arith, over) in
           table.filled.filled (j - 1) page.base _ (omega (arith, over, le)) (descent.reached (j - 1) (omega (arith, over)) (omega (arith, le)))
@@ -177,14 +193,22 @@ module _ (depth : Depth) (m : Memory) (root : ℕ) (table : IsPageTable depth m 
 
     pub full_step : (first limit need : ℕ) → need ≡ finite.len m + (level - level_of page.size) → limit < need
         → IsTableStep (page_table depth first limit root m) (Map page) (answers.Full need) (page_table depth first limit root m)
-    full_step first limit need is_need above = stays (page_table depth first limit root m) (Map page) (answers.Full need) (own_space depth first limit root m table) (λ space is translates.
+    full_step first limit need is_need above =
+        stays (page_table depth first limit root m) (Map page) (answers.Full need) (own_space depth first limit root m table) (λ space is translates.
         let of = space_of depth m root space table is translates in
         let count = need_is space of in
         map_is_full depth limit space page (none_overlapped space of) (omega (arith, count, is_need, above))
         ∙ ap (λ n. let s : Stepped = record { space = space; answer = answers.Full n } in s) (count ∙ sym is_need))
 
     pub is_open : IsOpen depth m root page.base level (slice_index path level)
-    is_open = record { tree = table.tree; filled = but_none page.base table.filled; all_reached = table.reached; below = descent.below; reached = here.at; absent = descent.is }
+    is_open = record {
+      tree = table.tree;
+      filled = but_none page.base table.filled;
+      all_reached = table.reached;
+      below = descent.below;
+      reached = here.at;
+      absent = descent.is;
+    }
 
     -- the leaf is written in the last table
     module _ (m' : Memory) (number : ℕ) (extended : IsExtended depth m m' root page.base level (level_of page.size) number) (whole : AreWhole m') (w : ℕ)
@@ -235,7 +259,8 @@ module _ (depth : Depth) (m : Memory) (root : ℕ) (table : IsPageTable depth m 
         inside_is b is_b same =
             let at = (path_covers depth page good b is_b same).1 in
             let offset : page.phys + b % bytes_of page.size ≡ page.phys + (b - page.base) = omega (arith, at) in
-            walk_on b same ∙ ap (λ p. Mapped p (size_at (level_of page.size)) page.rights) offset ∙ ap (λ z. Mapped (page.phys + (b - page.base)) z page.rights) (size_same page.size)
+            walk_on b same ∙ ap (λ p. Mapped p (size_at (level_of page.size)) page.rights) offset
+            ∙ ap (λ z. Mapped (page.phys + (b - page.base)) z page.rights) (size_same page.size)
 
         pub space_is : IsSpaceOf depth new root (step depth limit space (Map page)).space
         space_is = record {
@@ -243,7 +268,8 @@ module _ (depth : Depth) (m : Memory) (root : ℕ) (table : IsPageTable depth m 
           translates = translates_changed depth m new root space (step depth limit space (Map page)).space page (as_in page) looks of.translates good inside_is
               (λ b is_b apart. walk_off b apart);
           counted =
-              let written = len_written m' number (index_at (level_of page.size) page.base) w (extended.open_at.tree.in_use (level_of page.size) page.base number at) in
+              let written = len_written m' number (index_at (level_of page.size) page.base) w
+              (extended.open_at.tree.in_use (level_of page.size) page.base number at) in
               let count : table_count depth (step depth limit space (Map page)).space ≡ table_count depth (finite.insert space page.base page) =
               ap (λ (s : Stepped). table_count depth s.space) done in
               omega (arith, written, extended.more, need_is space of, count);
@@ -255,9 +281,12 @@ module _ (depth : Depth) (m : Memory) (root : ℕ) (table : IsPageTable depth m 
         map_table limit room = subst (λ i. IsPageTable depth (with_word m' number i w) root) (sym is_index) (record {
           tree = tree_new;
           filled = filled_new;
-          reached = reached_write (levels depth) root m' extended.open_at.tree whole (level_of page.size) page.base number at w (ap table_in extended.open_at.absent)
-              (written_leaf (level_of page.size) w page.phys page.rights leads (leaf_at_level page.size w page.phys page.rights is_word)) extended.open_at.all_reached;
-          whole = whole_written m' number (index_at (level_of page.size) page.base) w (extended.open_at.tree.in_use (level_of page.size) page.base number at) whole;
+          reached = reached_write (levels depth) root m' extended.open_at.tree whole (level_of page.size) page.base number at w
+              (ap table_in extended.open_at.absent)
+              (written_leaf (level_of page.size) w page.phys page.rights leads (leaf_at_level page.size w page.phys page.rights is_word))
+              extended.open_at.all_reached;
+          whole = whole_written m' number (index_at (level_of page.size) page.base) w
+              (extended.open_at.tree.in_use (level_of page.size) page.base number at) whole;
           root_fits = table.root_fits;
           some_space = ((step depth limit table.some_space.0 (Map page)).space, space_is limit room table.some_space.0 table.some_space.1);
         })
@@ -270,6 +299,7 @@ module _ (depth : Depth) (m : Memory) (root : ℕ) (table : IsPageTable depth m 
           unchanged = λ refused. absurd (cc);
           steps = λ space is.
               let of = space_of depth m root space table is.is_space is.translates in
-              let after = subst (λ i. IsSpaceOf depth (with_word m' number i w) root (step depth limit space (Map page)).space) (sym is_index) (space_is limit room space of) in
+              let after = subst (λ i. IsSpaceOf depth (with_word m' number i w) root (step depth limit space (Map page)).space) (sym is_index)
+              (space_is limit room space of) in
               (sym (answer_is limit room space of), record { is_space = after.is_space; translates = after.translates });
         }

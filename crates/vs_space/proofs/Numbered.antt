@@ -11,9 +11,8 @@ use Rattle.std.specs.Prelude.{IsSome, option_map, unwrap_or, slice_index, slice_
 use Rattle.std.proofs.lemmas.List.{length-set, length-replicate}
 use Rattle.vs_arena.specs.Store.{Store, IsInUse, IsFree, words_of, zeros}
 use Rattle.vs_arena.proofs.Stores.{get_in_use}
-use Rattle.vs_walk.specs.Memory.{Memory}
+use Rattle.vs_walk.specs.Memory.{Memory, AreWhole}
 use Rattle.vs_space.specs.Held.{numbered, Held, word_at, with_word, AreNumbered}
-use Rattle.vs_walk.specs.Ways.{AreWhole}
 
 cmp_shift : (b x y : ℕ) → nat_cmp (b + x) (b + y) ≡ nat_cmp x y
 cmp_shift b x y = elim (nat_cmp x y) as (λ r. r ≡ nat_cmp x y → nat_cmp (b + x) (b + y) ≡ r) [
@@ -49,7 +48,8 @@ sorted b store = subst T (sym (sorted_shift b (finite.entries store))) (finite.e
 
 pub get_numbered : (base : ℕ) (store : Store) (index : ℕ) → finite.get (numbered base store) (base + index) ≡ finite.get store index
 unfolding numbered
-get_numbered base store index = finite.get-from_sorted nat_cmp _ _ (sorted base store) ∙ find_shift base index (finite.entries store) ∙ sym (finite.get-entries store index)
+get_numbered base store index = finite.get-from_sorted nat_cmp _ _ (sorted base store) ∙ find_shift base index (finite.entries store)
+    ∙ sym (finite.get-entries store index)
 
 pub get_below_base : (base : ℕ) (store : Store) (q : ℕ) → q < base → finite.get (numbered base store) q ≡ None
 unfolding numbered
@@ -62,7 +62,8 @@ length_shift b (e ∷ es) = ap suc (length_shift b es)
 pub len_numbered : (base : ℕ) (store : Store) → finite.len (numbered base store) ≡ finite.len store
 unfolding numbered
 len_numbered base store =
-    finite.len-entries _ ∙ ap length (finite.entries-from_sorted nat_cmp _ (sorted base store)) ∙ length_shift base (finite.entries store) ∙ sym (finite.len-entries store)
+    finite.len-entries _ ∙ ap length (finite.entries-from_sorted nat_cmp _ (sorted base store)) ∙ length_shift base (finite.entries store)
+    ∙ sym (finite.len-entries store)
 
 pub get-insert : (m : Memory) (k : ℕ) (v : List ℕ) (q : ℕ) → finite.get (finite.insert m k v) q ≡ cond (eqb q k) (Some v) (finite.get m q)
 get-insert m k v q = finite.get-insert nat_cmp_total m k v q ∙ ap (λ b. cond b (Some v) (finite.get m q)) (unsigned_tied q k)
@@ -91,23 +92,28 @@ len-insert_used m k v own h = finite.len-insert nat_cmp_total m k v ∙ ap (λ o
 pub len-remove_used : (m : Memory) (k : ℕ) (own : List ℕ) → finite.get m k ≡ Some own → finite.len (finite.remove m k) + 1 ≡ finite.len m
 len-remove_used m k own h =
     let fewer = finite.len-remove nat_cmp_total m k ∙ ap (λ o. cond (is_some o) (finite.len m - 1) (finite.len m)) h in
-    let some : finite.len m ≡ 0 → ⊥ = λ none. none-some own (sym (ap (λ (n : Memory). finite.get n k) (finite.empty_of_len m none) ∙ finite.get-empty nat_cmp k) ∙ h) in
+    let some : finite.len m ≡ 0 → ⊥ = λ none. none-some own
+    (sym (ap (λ (n : Memory). finite.get n k) (finite.empty_of_len m none) ∙ finite.get-empty nat_cmp k) ∙ h) in
     omega arith
 
 -- two memories with the same frames at each number from the base on, and none below
-same_numbered : (base : ℕ) (m n : Memory) → ((q : ℕ) → q < base → finite.get m q ≡ finite.get n q) → ((i : ℕ) → finite.get m (base + i) ≡ finite.get n (base + i)) → m ≡ n
+same_numbered : (base : ℕ) (m n : Memory) → ((q : ℕ) → q < base → finite.get m q ≡ finite.get n q)
+    → ((i : ℕ) → finite.get m (base + i) ≡ finite.get n (base + i)) → m ≡ n
 same_numbered base m n below from = finite.same_map nat_cmp_total finite.nat_cmp-IsAntisymmetric m n (λ q.
     ⊎_elim (λ low. below q low)
     (λ high. let at : base + (q - base) ≡ q = omega arith in subst (λ k. finite.get m k ≡ finite.get n k) at (from (q - base)))
     (cases_lt q base))
 
-pub numbered-insert : (base : ℕ) (store : Store) (index : ℕ) (words : List ℕ) → numbered base (finite.insert store index words) ≡ finite.insert (numbered base store) (base + index) words
+pub numbered-insert : (base : ℕ) (store : Store) (index : ℕ) (words : List ℕ)
+    → numbered base (finite.insert store index words) ≡ finite.insert (numbered base store) (base + index) words
 numbered-insert base store index words =
     same_numbered base _ _
     (λ q low. get_below_base base _ q low ∙ sym (get-insert_other _ _ words q (λ e. omega arith) ∙ get_below_base base store q low))
     (λ i. get_numbered base _ i ∙ ⊎_elim
-    (λ (same : i ≡ index). subst (λ k. finite.get (finite.insert store index words) k ≡ finite.get (finite.insert (numbered base store) (base + index) words) (base + k)) (sym same) (get-insert_same store index words ∙ sym (get-insert_same (numbered base store) (base + index) words)))
-    (λ (other : i ≢ index). get-insert_other store index words i other ∙ sym (get-insert_other (numbered base store) (base + index) words (base + i) (λ e. other (omega arith)) ∙ get_numbered base store i))
+    (λ (same : i ≡ index). subst (λ k. finite.get (finite.insert store index words) k ≡ finite.get (finite.insert (numbered base store) (base + index) words)
+    (base + k)) (sym same) (get-insert_same store index words ∙ sym (get-insert_same (numbered base store) (base + index) words)))
+    (λ (other : i ≢ index). get-insert_other store index words i other
+    ∙ sym (get-insert_other (numbered base store) (base + index) words (base + i) (λ e. other (omega arith)) ∙ get_numbered base store i))
     (cases_eq i index))
 
 pub numbered-remove : (base : ℕ) (store : Store) (index : ℕ) → numbered base (finite.remove store index) ≡ finite.remove (numbered base store) (base + index)
@@ -115,8 +121,10 @@ numbered-remove base store index =
     same_numbered base _ _
     (λ q low. get_below_base base _ q low ∙ sym (get-remove_other _ _ q (λ e. omega arith) ∙ get_below_base base store q low))
     (λ i. get_numbered base _ i ∙ ⊎_elim
-    (λ (same : i ≡ index). subst (λ k. finite.get (finite.remove store index) k ≡ finite.get (finite.remove (numbered base store) (base + index)) (base + k)) (sym same) (get-remove_same store index ∙ sym (get-remove_same (numbered base store) (base + index))))
-    (λ (other : i ≢ index). get-remove_other store index i other ∙ sym (get-remove_other (numbered base store) (base + index) (base + i) (λ e. other (omega arith)) ∙ get_numbered base store i))
+    (λ (same : i ≡ index). subst (λ k. finite.get (finite.remove store index) k ≡ finite.get (finite.remove (numbered base store) (base + index)) (base + k))
+    (sym same) (get-remove_same store index ∙ sym (get-remove_same (numbered base store) (base + index))))
+    (λ (other : i ≢ index). get-remove_other store index i other
+    ∙ sym (get-remove_other (numbered base store) (base + index) (base + i) (λ e. other (omega arith)) ∙ get_numbered base store i))
     (cases_eq i index))
 
 pub numbered-empty : (base : ℕ) → numbered base finite.empty ≡ finite.empty
@@ -127,11 +135,14 @@ numbered-empty base = finite.empty_of_len _ (len_numbered base _ ∙ finite.len-
 pub none_at : (base : ℕ) (store : Store) (number : ℕ) → ((f : ℕ) → base + f ≡ number → IsFree store f) → finite.get (numbered base store) number ≡ None
 none_at base store number free = ⊎_elim
     (λ low. get_below_base base store number low)
-    (λ high. let at : base + (number - base) ≡ number = omega arith in subst (λ q. finite.get (numbered base store) q ≡ None) at (get_numbered base store (number - base) ∙ free (number - base) at))
+    (λ high. let at : base + (number - base) ≡ number = omega arith in
+    subst (λ q. finite.get (numbered base store) q ≡ None) at (get_numbered base store (number - base) ∙ free (number - base) at))
     (cases_lt number base)
 
-pub some_at : (base : ℕ) (store : Store) (number f : ℕ) → base + f ≡ number → IsInUse store f → finite.get (numbered base store) number ≡ Some (words_of store f)
-some_at base store number f at used = subst (λ q. finite.get (numbered base store) q ≡ Some (words_of store f)) at (get_numbered base store f ∙ get_in_use store f used)
+pub some_at : (base : ℕ) (store : Store) (number f : ℕ) → base + f ≡ number → IsInUse store f
+    → finite.get (numbered base store) number ≡ Some (words_of store f)
+some_at base store number f at used = subst (λ q. finite.get (numbered base store) q ≡ Some (words_of store f)) at
+    (get_numbered base store f ∙ get_in_use store f used)
 
 pub not_unused : (base : ℕ) (store : Store) (number : ℕ) → IsSome (finite.get (numbered base store) number) → ((f : ℕ) → base + f ≡ number → IsFree store f) → ⊥
 not_unused base store number used free = let none : IsSome {T = List ℕ} None = subst IsSome (none_at base store number free) used in cc
@@ -144,16 +155,19 @@ named base store number used = ⊎_elim
     (number - base, at, subst IsSome (get_numbered base store (number - base)) (subst (λ q. IsSome (finite.get (numbered base store) q)) (sym at) used)))
     (cases_lt number base)
 
-pub word_numbered : (base : ℕ) (store : Store) (number f index : ℕ) → base + f ≡ number → IsInUse store f → word_at (numbered base store) number index ≡ Some (slice_index (words_of store f) index)
+pub word_numbered : (base : ℕ) (store : Store) (number f index : ℕ) → base + f ≡ number → IsInUse store f
+    → word_at (numbered base store) number index ≡ Some (slice_index (words_of store f) index)
 unfolding word_at
 word_numbered base store number f index at used = ap (option_map (λ words. slice_index words index)) (some_at base store number f at used)
 
-pub with_word_numbered : (base : ℕ) (store : Store) (number f index word : ℕ) → base + f ≡ number → IsInUse store f → numbered base (finite.insert store f (slice_set (words_of store f) index word)) ≡ with_word (numbered base store) number index word
+pub with_word_numbered : (base : ℕ) (store : Store) (number f index word : ℕ) → base + f ≡ number → IsInUse store f
+    → numbered base (finite.insert store f (slice_set (words_of store f) index word)) ≡ with_word (numbered base store) number index word
 unfolding with_word
 with_word_numbered base store number f index word at used =
     numbered-insert base store f _
     ∙ ap (λ n. finite.insert (numbered base store) n (slice_set (words_of store f) index word)) at
-    ∙ ap (λ (o : Option (List ℕ)). finite.insert (numbered base store) number (slice_set (unwrap_or o []) index word)) (sym (some_at base store number f at used))
+    ∙ ap (λ (o : Option (List ℕ)). finite.insert (numbered base store) number (slice_set (unwrap_or o []) index word))
+    (sym (some_at base store number f at used))
 
 abbrev pub held : ℕ → ℕ → Memory → Held
 held base limit memory = record { base = base; limit = limit; memory = memory }
@@ -169,11 +183,14 @@ whole-empty store e = λ i words got. absurd (none-some words (sym (ap (λ (s : 
 
 pub whole-insert : (store : Store) (f : ℕ) (own : List ℕ) → length own ≡ 512 → AreWhole store → AreWhole (finite.insert store f own)
 whole-insert store f own long is = λ i words got. ⊎_elim
-    (λ (same : i ≡ f). let mine : Some own ≡ Some words = sym (get-insert_same store f own) ∙ subst (λ k. finite.get (finite.insert store f own) k ≡ Some words) same got in let one : own ≡ words = cc in subst (λ (ws : List ℕ). length ws ≡ 512) one long)
+    (λ (same : i ≡ f). let mine : Some own ≡ Some words = sym (get-insert_same store f own)
+    ∙ subst (λ k. finite.get (finite.insert store f own) k ≡ Some words) same got in let one : own ≡ words = cc in
+    subst (λ (ws : List ℕ). length ws ≡ 512) one long)
     (λ (other : i ≢ f). is i words (sym (get-insert_other store f own i other) ∙ got))
     (cases_eq i f)
 
-pub whole-set : (store : Store) (f index word : ℕ) → IsInUse store f → AreWhole store → AreWhole (finite.insert store f (slice_set (words_of store f) index word))
+pub whole-set : (store : Store) (f index word : ℕ) → IsInUse store f → AreWhole store
+    → AreWhole (finite.insert store f (slice_set (words_of store f) index word))
 whole-set store f index word used is = whole-insert store f _ (length-set (words_of store f) index word ∙ is f (words_of store f) (get_in_use store f used)) is
 
 pub whole-zeros : (store : Store) (f : ℕ) → AreWhole store → AreWhole (finite.insert store f zeros)
@@ -185,17 +202,20 @@ whole-remove store f is = λ i words got. ⊎_elim
     (λ (other : i ≢ f). is i words (sym (get-remove_other store f i other) ∙ got))
     (cases_eq i f)
 
-pub stored : (limit limit' base base' : ℕ) (store' : Store) (m : Memory) → limit' ≡ limit → base' ≡ base → numbered base store' ≡ m → held base' limit' (numbered base' store') ≡ held base limit m
+pub stored : (limit limit' base base' : ℕ) (store' : Store) (m : Memory) → limit' ≡ limit → base' ≡ base → numbered base store' ≡ m
+    → held base' limit' (numbered base' store') ≡ held base limit m
 stored limit limit' base base' store' m same_limit same_base e = rw (same_limit, same_base, e) refl
 
 -- but for their memory, they are as they were
-pub same_but_memory : (old now new : Held) (m : Memory) → new ≡ record now { memory = m } → now ≡ record old { memory = now.memory } → new ≡ record old { memory = new.memory }
+pub same_but_memory : (old now new : Held) (m : Memory) → new ≡ record now { memory = m } → now ≡ record old { memory = now.memory }
+    → new ≡ record old { memory = new.memory }
 same_but_memory old now new m is same =
     is ∙ ap (λ (h : Held). held h.base h.limit m) same ∙ ap (held old.base old.limit) (sym (ap (λ (h : Held). h.memory) is))
 
 -- ---- the numbers of the frames in use
 
-pub numbers_stored : (limit limit' base base' : ℕ) (store' : Store) (m : Memory) → limit' ≡ limit → base' ≡ base → numbered base store' ≡ m → AreNumbered base limit m → AreNumbered base' limit' (numbered base' store')
+pub numbers_stored : (limit limit' base base' : ℕ) (store' : Store) (m : Memory) → limit' ≡ limit → base' ≡ base → numbered base store' ≡ m
+    → AreNumbered base limit m → AreNumbered base' limit' (numbered base' store')
 numbers_stored limit limit' base base' store' m same_limit same_base e is = rw (same_limit, same_base, e) is
 
 pub numbers_none : (base limit : ℕ) (m : Memory) → m ≡ finite.empty → AreNumbered base limit m
@@ -203,7 +223,8 @@ numbers_none base limit m e = record { from_base = λ n used. absurd (nothing n 
   nothing : (n : ℕ) → IsSome (finite.get m n) → ⊥
   nothing n used = let none : IsSome {T = List ℕ} None = subst IsSome (ap (λ (s : Memory). finite.get s n) e ∙ finite.get-empty nat_cmp n) used in cc
 
-pub numbers_insert : (base limit : ℕ) (m : Memory) (k : ℕ) (words : List ℕ) → base ≤ k → k < base + limit → AreNumbered base limit m → AreNumbered base limit (finite.insert m k words)
+pub numbers_insert : (base limit : ℕ) (m : Memory) (k : ℕ) (words : List ℕ) → base ≤ k → k < base + limit → AreNumbered base limit m
+    → AreNumbered base limit (finite.insert m k words)
 numbers_insert base limit m k words low high is = record {
   from_base = λ n used. ⊎_elim
       (λ (same : n ≡ k). omega arith)
@@ -215,7 +236,8 @@ numbers_insert base limit m k words low high is = record {
       (cases_eq n k);
 }
 
-pub numbers_written : (base limit : ℕ) (m : Memory) (n i w : ℕ) → IsSome (finite.get m n) → AreNumbered base limit m → AreNumbered base limit (with_word m n i w)
+pub numbers_written : (base limit : ℕ) (m : Memory) (n i w : ℕ) → IsSome (finite.get m n) → AreNumbered base limit m
+    → AreNumbered base limit (with_word m n i w)
 unfolding with_word
 numbers_written base limit m n i w used is = numbers_insert base limit m n _ (is.from_base n used) (is.below n used) is
 
@@ -223,6 +245,7 @@ pub numbers_removed : (base limit : ℕ) (m : Memory) (k : ℕ) → AreNumbered 
 numbers_removed base limit m k is = record { from_base = λ n used. is.from_base n (before n used); below = λ n used. is.below n (before n used) } where
   before : (n : ℕ) → IsSome (finite.get (finite.remove m k) n) → IsSome (finite.get m n)
   before n used = ⊎_elim
-      (λ (same : n ≡ k). let none : IsSome {T = List ℕ} None = subst IsSome (ap (finite.get (finite.remove m k)) same ∙ get-remove_same m k) used in absurd (cc))
+      (λ (same : n ≡ k). let none : IsSome {T = List ℕ} None = subst IsSome (ap (finite.get (finite.remove m k)) same ∙ get-remove_same m k) used in
+      absurd (cc))
       (λ (other : n ≢ k). subst IsSome (get-remove_other m k n other) used)
       (cases_eq n k)

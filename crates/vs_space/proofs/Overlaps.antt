@@ -19,7 +19,8 @@ module _ {depth : Depth} {space : Space} (is : IsSpace depth space) (page : Page
       cc)
 
   -- a page that begins in this one, with nothing mapped before it, comes first
-  pub overlapped_least : (q : Page) → page_at space q.base ≡ Some q → IsTrue (covers page q.base) → ((a : ℕ) → page.base ≤ a → a < q.base → page_at space a ≡ None) → least_overlapped space page ≡ Some q.base
+  pub overlapped_least : (q : Page) → page_at space q.base ≡ Some q → IsTrue (covers page q.base)
+      → ((a : ℕ) → page.base ≤ a → a < q.base → page_at space a ≡ None) → least_overlapped space page ≡ Some q.base
   overlapped_least q e inside before =
       let at = (page_at_means is q.base q).0 e in
       let spans = (covers_means page q.base).0 inside in
@@ -32,7 +33,8 @@ module _ {depth : Depth} {space : Space} (is : IsSpace depth space) (page : Page
       let covered = (covers_means r page.base).1 (omega (arith, outside), meet.0) in
       let here = (page_at_means is page.base r).1 (h, covered) in
       ⊎_elim
-      (λ (strictly : page.base < q.base). let nothing = before page.base (omega arith) strictly in let wrong : None ≡ Some r = sym nothing ∙ here in none_some r wrong)
+      (λ (strictly : page.base < q.base). let nothing = before page.base (omega arith) strictly in let wrong : None ≡ Some r = sym nothing ∙ here in
+      none_some r wrong)
       (λ (le : q.base ≤ page.base).
       let same : page.base ≡ q.base = omega (arith, le, spans.0) in
       let one : r ≡ q = some_page r q (sym here ∙ ap (page_at space) same ∙ e) in

@@ -1,6 +1,6 @@
 -- The paths of addresses through the tables of a memory.
-use Rattle.std.proofs.Common.{◌≡◌, ◌≢◌, ℕ, zero, suc, ◌+◌, ◌-◌, ◌%◌, ◌<◌, ◌≤◌, Bool, true, false, List, Option, Some, None, ⊎_elim, refl, sym, ap, subst, ◌∙◌, arith}
-use Rattle.std.specs.Prelude.{nat_eq, if◌then◌else◌, option_and_then, option_map, slice_index}
+use Rattle.std.proofs.Common.{◌≡◌, ◌≢◌, ℕ, zero, suc, ◌+◌, ◌-◌, ◌%◌, ◌<◌, ◌≤◌, List, Option, Some, None, ⊎_elim, refl, sym, ap, subst, ◌∙◌, arith}
+use Rattle.std.specs.Prelude.{if◌then◌else◌, option_and_then, option_map, slice_index}
 use Rattle.std.proofs.lemmas.Bool.{eq-eqb, ne_eqb, cases_eq, cases_lt}
 use Rattle.std.specs.FinMap as finite
 use Rattle.vs_types.specs.Depth.{entry_bytes, index_at}
@@ -79,7 +79,7 @@ above_lowest m root level a other = ap (λ b. if b then Some root else None) (ne
 
 none_above : (top : ℕ) (m : Memory) (root level a : ℕ) → top < level → table_at top m root level a ≡ None
 none_above zero m root level a high = above_lowest m root level a (λ e. omega arith)
-none_above (suc top) m root level a high = at_lower top m root level a (λ e. omega arith) 
+none_above (suc top) m root level a high = at_lower top m root level a (λ e. omega arith)
     ∙ by (λ next. none_above top m next level a (omega arith)) (table_in (found_at (suc top) m root a))
   where
     by : ((next : ℕ) → table_at top m next level a ≡ None) → (o : Option ℕ) → option_and_then (λ next. table_at top m next level a) o ≡ None
@@ -92,8 +92,10 @@ one_down : (top : ℕ) (m : Memory) (root level a : ℕ) → level < top
 one_down zero m root level a low = absurd (omega arith)
 one_down (suc top) m root level a low = at_lower top m root level a (λ e. omega arith) ∙ ⊎_elim
     (λ (same : level ≡ top).
-    subst (λ l. option_and_then (λ next. table_at top m next l a) (table_in (found_at (suc top) m root a)) ≡ option_and_then (λ n. table_in (found_at (suc l) m n a)) (table_at (suc top) m root (suc l) a))
-    (sym same) (highest (table_in (found_at (suc top) m root a)) ∙ sym (ap (option_and_then (λ n. table_in (found_at (suc top) m n a))) (at_highest (suc top) m root a))))
+    subst (λ l. option_and_then (λ next. table_at top m next l a) (table_in (found_at (suc top) m root a)) ≡ option_and_then
+    (λ n. table_in (found_at (suc l) m n a)) (table_at (suc top) m root (suc l) a))
+    (sym same) (highest (table_in (found_at (suc top) m root a))
+    ∙ sym (ap (option_and_then (λ n. table_in (found_at (suc top) m n a))) (at_highest (suc top) m root a))))
     (λ (other : level ≢ top).
     lower (λ next. one_down top m next level a (omega (arith, low, other))) (table_in (found_at (suc top) m root a))
     ∙ sym (ap (option_and_then (λ n. table_in (found_at (suc level) m n a))) (at_lower top m root (suc level) a (λ e. other (omega arith)))))
@@ -123,11 +125,13 @@ module _ (top : ℕ) (root : ℕ) where
       (λ (le : level ≤ top). le)
       (cases_lt top level)
 
-  pub table_next : (m : Memory) (level a n : ℕ) → table_at top m root (suc level) a ≡ Some n → table_at top m root level a ≡ table_in (found_at (suc level) m n a)
+  pub table_next : (m : Memory) (level a n : ℕ) → table_at top m root (suc level) a ≡ Some n
+      → table_at top m root level a ≡ table_in (found_at (suc level) m n a)
   table_next m level a n is =
       one_down top m root level a (omega (arith, reached_within m (suc level) a n is)) ∙ ap (option_and_then (λ n. table_in (found_at (suc level) m n a))) is
 
-  pub table_below : (m : Memory) (level below a n : ℕ) → level ≡ suc below → table_at top m root level a ≡ Some n → table_at top m root below a ≡ table_in (found_at level m n a)
+  pub table_below : (m : Memory) (level below a n : ℕ) → level ≡ suc below → table_at top m root level a ≡ Some n
+      → table_at top m root below a ≡ table_in (found_at level m n a)
   table_below m level below a n one is =
       subst (λ l. table_at top m root below a ≡ table_in (found_at l m n a)) (sym one)
       (table_next m below a n (subst (λ l. table_at top m root l a ≡ Some n) one is))
@@ -147,7 +151,8 @@ module _ (top : ℕ) (root : ℕ) where
   pub table_before : (m : Memory) (level a n : ℕ) → level < top → table_at top m root level a ≡ Some n
       → (p : ℕ) × (own : Rights) × (table_at top m root (suc level) a ≡ Some p) × (found_at (suc level) m p a ≡ Some (entry.Table n own))
   table_before m level a n low is =
-      elim (table_at top m root (suc level) a) as (λ o. table_at top m root (suc level) a ≡ o → (p : ℕ) × (own : Rights) × (table_at top m root (suc level) a ≡ Some p) × (found_at (suc level) m p a ≡ Some (entry.Table n own))) [
+      elim (table_at top m root (suc level) a) as (λ o. table_at top m root (suc level) a ≡ o
+      → (p : ℕ) × (own : Rights) × (table_at top m root (suc level) a ≡ Some p) × (found_at (suc level) m p a ≡ Some (entry.Table n own))) [
         | None ↦ λ none. let nothing = table_none m level a low none in cc
         | Some p ↦ λ at. let step = table_in_some (found_at (suc level) m p a) n (sym (table_next m level a p at) ∙ is) in (p, step.0, at, step.1)
       ] refl
@@ -215,13 +220,15 @@ module _ (top : ℕ) (root : ℕ) where
         same = alike (suc level) n (omega arith) at
 
         on : Goes m m' b level → (e : Meaning) → found_at (suc level) m n b ≡ Some e
-            → walk_entry (suc level) rights b (λ next own. walk_from m' level next own b) e ≡ walk_entry (suc level) rights b (λ next own. walk_from m level next own b) e
+            → walk_entry (suc level) rights b (λ next own. walk_from m' level next own b) e ≡ walk_entry (suc level) rights b
+            (λ next own. walk_from m level next own b) e
         on go entry.Absent is = refl
         on go entry.Reserved is = refl
         on go (entry.Leaf phys own) is = refl
         on go (entry.Table next own) is = go next (intersection rights own) (table_next m level b n at ∙ ap table_in is)
 
-        by : Goes m m' b level → (o : Option Meaning) → found_at (suc level) m n b ≡ o → walk_from m' (suc level) n rights b ≡ walk_from m (suc level) n rights b
+        by : Goes m m' b level → (o : Option Meaning) → found_at (suc level) m n b ≡ o
+            → walk_from m' (suc level) n rights b ≡ walk_from m (suc level) n rights b
         by go None is = walk_lost m' level n rights b (same ∙ is) ∙ sym (walk_lost m level n rights b is)
         by go (Some e) is = walk_found m' level n rights b e (same ∙ is) ∙ on go e is ∙ sym (walk_found m level n rights b e is)
 
@@ -232,9 +239,11 @@ module _ (top : ℕ) (root : ℕ) where
 
   -- entries that lead to tables allow everything
   abbrev pub AllowsAll : Memory → Type 0
-  AllowsAll m = (level a n next : ℕ) (own : Rights) → table_at top m root level a ≡ Some n → found_at level m n a ≡ Some (entry.Table next own) → own ≡ all_rights
+  AllowsAll m = (level a n next : ℕ) (own : Rights) → table_at top m root level a ≡ Some n → found_at level m n a ≡ Some (entry.Table next own)
+      → own ≡ all_rights
 
-  pub walk_reaches : (m : Memory) → AllowsAll m → (b level n : ℕ) → table_at top m root level b ≡ Some n → walk_from m top root all_rights b ≡ walk_from m level n all_rights b
+  pub walk_reaches : (m : Memory) → AllowsAll m → (b level n : ℕ) → table_at top m root level b ≡ Some n
+      → walk_from m top root all_rights b ≡ walk_from m level n all_rights b
   walk_reaches m allows b level n at =
       from_root (λ l. (n : ℕ) → table_at top m root l b ≡ Some n → walk_from m top root all_rights b ≡ walk_from m l n all_rights b)
       (λ n at. ap (λ x. walk_from m top x all_rights b) (some_same root n (sym (table_first m b) ∙ at)))
@@ -254,7 +263,8 @@ module _ (top : ℕ) (root : ℕ) where
   walk_absent m allows b zero n some at is = absurd (omega arith)
   walk_absent m allows b (suc level) n some at is = walk_reaches m allows b (suc level) n at ∙ walk_found m level n all_rights b entry.Absent is
 
-  pub walk_reserved : (m : Memory) → AllowsAll m → (b level n : ℕ) → 1 ≤ level → table_at top m root level b ≡ Some n → found_at level m n b ≡ Some entry.Reserved
+  pub walk_reserved : (m : Memory) → AllowsAll m → (b level n : ℕ) → 1 ≤ level → table_at top m root level b ≡ Some n
+      → found_at level m n b ≡ Some entry.Reserved
       → walk_from m top root all_rights b ≡ Reserved
   walk_reserved m allows b zero n some at is = absurd (omega arith)
   walk_reserved m allows b (suc level) n some at is = walk_reaches m allows b (suc level) n at ∙ walk_found m level n all_rights b entry.Reserved is

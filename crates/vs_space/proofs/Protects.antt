@@ -1,5 +1,5 @@
 -- What a page table is after the rights of a page have changed.
-use Rattle.std.proofs.Common.{◌≡◌, ◌≢◌, ℕ, suc, ◌+◌, ◌-◌, ◌%◌, ◌<◌, ◌≤◌, Some, None, refl, sym, ap, subst, ◌∙◌, arith}
+use Rattle.std.proofs.Common.{◌≡◌, ◌≢◌, ℕ, ◌+◌, ◌-◌, ◌%◌, ◌≤◌, Some, None, refl, sym, ap, subst, ◌∙◌, arith}
 use Rattle.vs_types.specs.Depth.{levels, entry_bytes, index_at, IsCanonical}
 use Rattle.vs_types.specs.Entry.{meaning, size_at, leaf_word}
 use Rattle.vs_types.specs.Operation.{IsBase}
@@ -12,7 +12,6 @@ use Rattle.vs_types.specs.declared.op.Action.{Action}
 use Rattle.vs_types.specs.declared.op.Action.TheVariants.{Unmap, Protect}
 use Rattle.vs_types.specs.declared.page.Page.{Page}
 use Rattle.vs_types.specs.declared.page.Rights.{Rights}
-use Rattle.vs_types.specs.declared.page.Size.{Size}
 use Rattle.vs_types.specs.declared.entry.Meaning.{Meaning}
 use Rattle.vs_types.specs.declared.entry.Meaning.TheVariants as entry
 use Rattle.vs_types.specs.declared.answer.Answer.{Answer}
@@ -20,12 +19,11 @@ use Rattle.vs_types.specs.declared.answer.Answer.TheVariants as answers
 use Rattle.vs_types.proofs.Steps.{protect_cases, unmap_cases, step_space}
 use Rattle.vs_types.proofs.Looks.{changed_looks}
 use Rattle.vs_types.proofs.Tables.{protect_tables}
-use Rattle.vs_walk.specs.Memory.{Memory}
+use Rattle.vs_walk.specs.Memory.{Memory, AreWhole}
 use Rattle.vs_walk.specs.Walk.{walk, as_walk, TranslatesAs}
 use Rattle.vs_walk.specs.declared.walk.Walk.TheVariants.{NotMapped, Mapped}
-use Rattle.vs_walk.proofs.Translates.{one_space, not_reserved}
+use Rattle.vs_walk.proofs.LawsOfTranslations.{one_space, not_reserved}
 use Rattle.vs_space.specs.Held.{with_word}
-use Rattle.vs_walk.specs.Ways.{AreWhole}
 use Rattle.vs_space.specs.Path.{found_at, table_at, table_in, SamePath}
 use Rattle.vs_space.specs.inside.Tree.{IsTree, IsFilled}
 use Rattle.vs_space.specs.Table.{PageTable, IsTableOf, IsTableStep}
@@ -38,7 +36,8 @@ use Rattle.vs_space.proofs.Written.{written_leaf}
 use Rattle.vs_space.proofs.Regions.{IsLeafPage, leaf_page, nothing_at, translates_changed, path_covers}
 
 -- a page table is that of just one space, which has as many tables as there are
-pub space_of : (depth : Depth) (m : Memory) (root : ℕ) (space : Space) → IsPageTable depth m root → IsSpace depth space → TranslatesAs depth m root space → IsSpaceOf depth m root space
+pub space_of : (depth : Depth) (m : Memory) (root : ℕ) (space : Space) → IsPageTable depth m root → IsSpace depth space → TranslatesAs depth m root space
+    → IsSpaceOf depth m root space
 space_of depth m root space table is translates =
     let own = table.some_space.1 in
     let same : table.some_space.0 ≡ space = one_space depth m root table.some_space.0 space own.is_space is own.translates translates in
@@ -73,23 +72,32 @@ module _ (depth : Depth) (m : Memory) (root : ℕ) (table : IsPageTable depth m 
 
   -- ---- the answers that change nothing
 
-  pub unmap_none : (limit : ℕ) (space : Space) → page_at space base ≡ None → step depth limit space (Unmap base) ≡ record { space = space; answer = answers.NotMapped }
-  unmap_none limit space none = unmap_cases (λ s. s ≡ record { space = space; answer = answers.NotMapped }) depth limit space base (λ e. refl) (λ q e same. absurd (cc)) (λ q e differs. absurd (cc))
+  pub unmap_none : (limit : ℕ) (space : Space) → page_at space base ≡ None
+      → step depth limit space (Unmap base) ≡ record { space = space; answer = answers.NotMapped }
+  unmap_none limit space none = unmap_cases (λ s. s ≡ record { space = space; answer = answers.NotMapped }) depth limit space base (λ e. refl)
+      (λ q e same. absurd (cc)) (λ q e differs. absurd (cc))
 
-  pub protect_none : (limit : ℕ) (space : Space) (rights : Rights) → page_at space base ≡ None → step depth limit space (Protect base rights) ≡ record { space = space; answer = answers.NotMapped }
-  protect_none limit space rights none = protect_cases (λ s. s ≡ record { space = space; answer = answers.NotMapped }) depth limit space base rights (λ e. refl) (λ q e same. absurd (cc)) (λ q e differs. absurd (cc))
+  pub protect_none : (limit : ℕ) (space : Space) (rights : Rights) → page_at space base ≡ None
+      → step depth limit space (Protect base rights) ≡ record { space = space; answer = answers.NotMapped }
+  protect_none limit space rights none = protect_cases (λ s. s ≡ record { space = space; answer = answers.NotMapped }) depth limit space base rights
+      (λ e. refl) (λ q e same. absurd (cc)) (λ q e differs. absurd (cc))
 
-  pub unmap_inside : (limit : ℕ) (space : Space) (q : Page) → page_at space base ≡ Some q → q.base ≢ base → step depth limit space (Unmap base) ≡ record { space = space; answer = answers.Inside q.base }
-  unmap_inside limit space q here apart = unmap_cases (λ s. s ≡ record { space = space; answer = answers.Inside q.base }) depth limit space base (λ e. absurd (cc))
+  pub unmap_inside : (limit : ℕ) (space : Space) (q : Page) → page_at space base ≡ Some q → q.base ≢ base
+      → step depth limit space (Unmap base) ≡ record { space = space; answer = answers.Inside q.base }
+  unmap_inside limit space q here apart = unmap_cases (λ s. s ≡ record { space = space; answer = answers.Inside q.base }) depth limit space base
+      (λ e. absurd (cc))
       (λ p e same. let one : p ≡ q = cc in absurd (apart (sym (ap (λ (z : Page). z.base) one) ∙ same)))
       (λ p e differs. let one : p ≡ q = cc in ap (λ (z : Page). let s : Stepped = record { space = space; answer = answers.Inside z.base } in s) one)
 
-  pub protect_inside : (limit : ℕ) (space : Space) (rights : Rights) (q : Page) → page_at space base ≡ Some q → q.base ≢ base → step depth limit space (Protect base rights) ≡ record { space = space; answer = answers.Inside q.base }
-  protect_inside limit space rights q here apart = protect_cases (λ s. s ≡ record { space = space; answer = answers.Inside q.base }) depth limit space base rights (λ e. absurd (cc))
+  pub protect_inside : (limit : ℕ) (space : Space) (rights : Rights) (q : Page) → page_at space base ≡ Some q → q.base ≢ base
+      → step depth limit space (Protect base rights) ≡ record { space = space; answer = answers.Inside q.base }
+  protect_inside limit space rights q here apart =
+      protect_cases (λ s. s ≡ record { space = space; answer = answers.Inside q.base }) depth limit space base rights (λ e. absurd (cc))
       (λ p e same. let one : p ≡ q = cc in absurd (apart (sym (ap (λ (z : Page). z.base) one) ∙ same)))
       (λ p e differs. let one : p ≡ q = cc in ap (λ (z : Page). let s : Stepped = record { space = space; answer = answers.Inside z.base } in s) one)
 
-  pub protect_changes : (limit : ℕ) (space : Space) (rights : Rights) (q : Page) → page_at space base ≡ Some q → q.base ≡ base → (step depth limit space (Protect base rights)).answer ≡ answers.Changed q.rights
+  pub protect_changes : (limit : ℕ) (space : Space) (rights : Rights) (q : Page) → page_at space base ≡ Some q → q.base ≡ base
+      → (step depth limit space (Protect base rights)).answer ≡ answers.Changed q.rights
   protect_changes limit space rights q here same = protect_cases (λ s. s.answer ≡ answers.Changed q.rights) depth limit space base rights (λ e. absurd (cc))
       (λ p e is. let one : p ≡ q = cc in ap (λ (z : Page). answers.Changed z.rights) one)
       (λ p e differs. let one : p ≡ q = cc in absurd (differs (ap (λ (z : Page). z.base) one ∙ same)))
@@ -99,11 +107,14 @@ abbrev pub page_table : Depth → ℕ → ℕ → ℕ → Memory → PageTable
 page_table depth first limit root memory = record { depth = depth; base = first; limit = limit; root = root; memory = memory }
 
 -- the space that the table is of
-pub own_space : (depth : Depth) (first limit root : ℕ) (m : Memory) → IsPageTable depth m root → (space : Space) × IsTableOf (page_table depth first limit root m) space
+pub own_space : (depth : Depth) (first limit root : ℕ) (m : Memory) → IsPageTable depth m root
+    → (space : Space) × IsTableOf (page_table depth first limit root m) space
 own_space depth first limit root m table = (table.some_space.0, record { is_space = table.some_space.1.is_space; translates = table.some_space.1.translates })
 
 -- a table that doesn't change makes a step whose space stays
-pub stays : (old : PageTable) (action : Action) (answer : Answer) → (space : Space) × IsTableOf old space → ((space : Space) → IsSpace old.depth space → TranslatesAs old.depth old.memory old.root space → step old.depth old.limit space action ≡ record { space = space; answer = answer }) → IsTableStep old action answer old
+pub stays : (old : PageTable) (action : Action) (answer : Answer) → (space : Space) × IsTableOf old space
+    → ((space : Space) → IsSpace old.depth space → TranslatesAs old.depth old.memory old.root space
+    → step old.depth old.limit space action ≡ record { space = space; answer = answer }) → IsTableStep old action answer old
 stays old action answer own says = record {
   some_space = own;
   same = refl;
@@ -130,7 +141,8 @@ module _ (depth : Depth) (m : Memory) (root : ℕ) (table : IsPageTable depth m 
   -- how an address of the page is walked
   walk_new : (b : ℕ) → SamePath (levels depth) level base b → walk depth new root b ≡ Mapped (phys + b % entry_bytes level) (size_at level) rights
   walk_new b same =
-      walk_leaf (levels depth) root new tree_new.allows b level n phys rights met.some (table_here (levels depth) root m table.tree whole level base n met.at w b same)
+      walk_leaf (levels depth) root new tree_new.allows b level n phys rights met.some
+      (table_here (levels depth) root m table.tree whole level base n met.at w b same)
       (found_on_path (levels depth) root m table.tree whole level base n met.at w b same ∙ ap Some leads)
 
   walk_off : (b : ℕ) → (SamePath (levels depth) level base b → ⊥) → walk depth new root b ≡ walk depth m root b
@@ -177,16 +189,19 @@ module _ (depth : Depth) (m : Memory) (root : ℕ) (table : IsPageTable depth m 
     pub space_is : IsSpaceOf depth new root (step depth limit space (Protect base rights)).space
     space_is = record {
       is_space = step_space limit of.is_space (Protect base rights) good;
-      translates = translates_changed depth m new root space (step depth limit space (Protect base rights)).space leaf.0 (as_in (record leaf.0 { rights = rights }))
+      translates = translates_changed depth m new root space (step depth limit space (Protect base rights)).space leaf.0
+          (as_in (record leaf.0 { rights = rights }))
           looks of.translates leaf.1.good inside_is (λ b canonical apart. walk_off b (λ same. apart (of_page b same)));
-      counted = len_written m n (index_at level base) w (table.tree.in_use level base n met.at) ∙ of.counted ∙ sym (protect_tables limit of.is_space base rights);
+      counted = len_written m n (index_at level base) w (table.tree.in_use level base n met.at) ∙ of.counted
+          ∙ sym (protect_tables limit of.is_space base rights);
     }
 
   pub table_new : IsPageTable depth new root
   table_new = record {
     tree = tree_new;
     filled = filled_new;
-    reached = reached_write (levels depth) root m table.tree whole level base n met.at w (ap table_in met.found) (written_leaf level w phys rights leads is_word) table.reached;
+    reached = reached_write (levels depth) root m table.tree whole level base n met.at w (ap table_in met.found)
+        (written_leaf level w phys rights leads is_word) table.reached;
     whole = whole_written m n (index_at level base) w (table.tree.in_use level base n met.at) whole;
     root_fits = table.root_fits;
     some_space = ((step depth 0 table.some_space.0 (Protect base rights)).space, space_is 0 table.some_space.0 table.some_space.1);

@@ -1,5 +1,5 @@
 -- Tables under which nothing is mapped are given back, one by one.
-use Rattle.std.proofs.Common.{◌≡◌, ◌≢◌, ℕ, suc, ◌+◌, ◌-◌, ◌*◌, ◌/◌, ◌%◌, ◌^◌, ◌<◌, ◌≤◌, List, Option, Some, None, inl, inr, ⊎_elim, refl, sym, ap, subst, ◌∙◌, arith}
+use Rattle.std.proofs.Common.{◌≡◌, ◌≢◌, ℕ, suc, ◌+◌, ◌-◌, ◌*◌, ◌/◌, ◌%◌, ◌^◌, ◌<◌, ◌≤◌, List, Option, Some, None, ⊎_elim, refl, sym, ap, subst, ◌∙◌, arith}
 use lib.Pow.{shr-shr, shl-shr}
 use Rattle.std.proofs.lemmas.Nat.{div-mul-add, mod-mul-add}
 use Rattle.std.specs.Prelude.{IsSome, option_map, slice_index}
@@ -7,12 +7,10 @@ use Rattle.std.specs.FinMap as finite
 use Rattle.vs_types.specs.Depth.{levels, index_at, IsCanonical}
 use Rattle.vs_types.specs.Entry.{meaning}
 use Rattle.vs_types.specs.declared.depth.Depth.{Depth}
-use Rattle.vs_types.specs.declared.depth.Depth.TheVariants.{Four}
 use Rattle.vs_types.specs.declared.page.Rights.{Rights}
 use Rattle.vs_types.specs.declared.page.Size.{Size}
 use Rattle.vs_types.specs.declared.entry.Meaning.{Meaning}
 use Rattle.vs_types.specs.declared.entry.Meaning.TheVariants as entry
-use Rattle.vs_types.proofs.Pages.{canonical_means}
 use Rattle.vs_walk.specs.Memory.{Memory}
 use Rattle.vs_walk.specs.Walk.{walk}
 use Rattle.vs_walk.specs.declared.walk.Walk.TheVariants.{NotMapped, Mapped, Reserved}
@@ -20,6 +18,7 @@ use Rattle.vs_space.specs.Held.{word_at, with_word}
 use Rattle.vs_space.specs.Path.{found_at, entry_in, IsFirstPresent, HasPresent, table_in, table_at, SamePath}
 use Rattle.vs_space.specs.inside.Tree.{IsTree, NothingUnder, AreWritten}
 use Rattle.vs_space.specs.inside.Prune.{IsCut, IsPruned}
+use Rattle.vs_space.proofs.Canonical.{half_same}
 use Rattle.vs_space.proofs.Numbered.{len-remove_used, whole-remove}
 use Rattle.vs_space.proofs.Paths.{reached_within, table_below, none_past, same_table, found_same, walk_absent, walk_reserved, walk_leaf}
 use Rattle.vs_space.proofs.Writes.{len_written, written_in_use, same_or_not, words_in}
@@ -35,7 +34,8 @@ pub found_entry : (level : ℕ) (m : Memory) (n a : ℕ) → found_at level m n 
 unfolding found_at entry_in
 found_entry level m n a = refl
 
-pub entry_word : (level : ℕ) (m : Memory) (n index word : ℕ) (e : Meaning) → word_at m n index ≡ Some word → e ≡ meaning level word → entry_in level m n index ≡ Some e
+pub entry_word : (level : ℕ) (m : Memory) (n index word : ℕ) (e : Meaning) → word_at m n index ≡ Some word → e ≡ meaning level word
+    → entry_in level m n index ≡ Some e
 unfolding entry_in
 entry_word level m n index word e got reads = ap (option_map (meaning level)) got ∙ ap Some (sym reads)
 
@@ -45,9 +45,14 @@ word_in m n index words got = ap (option_map (λ (ws : List ℕ). slice_index ws
 
 entry_some : (level : ℕ) (m : Memory) (n index : ℕ) → IsSome (finite.get m n) → (e : Meaning) × (entry_in level m n index ≡ Some e)
 unfolding entry_in word_at
-entry_some level m n index used = (_, ap (λ (o : Option (List ℕ)). option_map (meaning level) (option_map (λ words. slice_index words index) o)) (words_in m n used))
+entry_some level m n index used = (
+  _,
+  ap (λ (o : Option (List ℕ)). option_map (meaning level) (option_map (λ words. slice_index words index) o))
+      (words_in m n used),
+)
 
-pub first_here : (level : ℕ) (m : Memory) (n index word : ℕ) (e : Meaning) → index < 512 → ((i : ℕ) → i < index → entry_in level m n i ≡ Some entry.Absent) → word_at m n index ≡ Some word → e ≡ meaning level word → e ≢ entry.Absent → IsFirstPresent level m n index
+pub first_here : (level : ℕ) (m : Memory) (n index word : ℕ) (e : Meaning) → index < 512 → ((i : ℕ) → i < index → entry_in level m n i ≡ Some entry.Absent)
+    → word_at m n index ≡ Some word → e ≡ meaning level word → e ≢ entry.Absent → IsFirstPresent level m n index
 first_here level m n index word e lt before got reads other = record {
   within = lt;
   present = λ absent. let is : Some e ≡ Some entry.Absent = sym (entry_word level m n index word e got reads) ∙ absent in other (cc);
@@ -58,9 +63,6 @@ mapped_apart : (phys : ℕ) (size : Size) (rights : Rights) → NotMapped ≡ Ma
 mapped_apart phys size rights e = cc
 
 -- ---- an address with an index
-
-half_same : (depth : Depth) (a b : ℕ) → IsCanonical depth a → a / 2 ^ (12 + 9 * levels depth - 1) ≡ b / 2 ^ (12 + 9 * levels depth - 1) → IsCanonical depth b
-half_same Four a b is same = (canonical_means Four b).1 (⊎_elim (λ low. inl (omega arith)) (λ high. inr (omega arith, omega arith)) ((canonical_means Four a).0 is))
 
 pub canonical_stretch : (depth : Depth) (a b e : ℕ) → IsCanonical depth a → e ≤ 12 + 9 * levels depth - 1 → a / 2 ^ e ≡ b / 2 ^ e → IsCanonical depth b
 canonical_stretch depth a b e is le same =
@@ -104,10 +106,12 @@ pub record IsPruning (depth : Depth) (old m : Memory) (root base from level : �
   pub above : from ≤ level
   pub fewer : finite.len m + (level - from) ≡ finite.len old
 
-pub pruning_start : (depth : Depth) (m : Memory) (root base from : ℕ) (path : List ℕ) → IsCut depth m root base from path → IsPruning depth m m root base from from path
+pub pruning_start : (depth : Depth) (m : Memory) (root base from : ℕ) (path : List ℕ) → IsCut depth m root base from path
+    → IsPruning depth m m root base from from path
 pruning_start depth m root base from path cut = record { cut = cut; walks = λ b canonical. refl; above = omega arith; fewer = omega arith }
 
-module _ (depth : Depth) (m : Memory) (root base level : ℕ) (path : List ℕ) (canonical : IsCanonical depth base) (cut : IsCut depth m root base level path) where
+module _ (depth : Depth) (m : Memory) (root base level : ℕ) (path : List ℕ) (canonical : IsCanonical depth base)
+    (cut : IsCut depth m root base level path) where
   at : table_at (levels depth) m root level base ≡ Some (slice_index path level)
   at = cut.reached level (omega arith) cut.below
 
@@ -143,7 +147,8 @@ module _ (depth : Depth) (m : Memory) (root base level : ℕ) (path : List ℕ) 
     by entry.Reserved is = faultless b.0 b.1
         (walk_reserved (levels depth) root m cut.tree.allows b.0 level (slice_index path level) cut.some there (found entry.Reserved is))
     by (entry.Leaf phys own) is =
-        let walked = walk_leaf (levels depth) root m cut.tree.allows b.0 level (slice_index path level) phys own cut.some there (found (entry.Leaf phys own) is) in
+        let walked = walk_leaf (levels depth) root m cut.tree.allows b.0 level (slice_index path level) phys own cut.some there
+        (found (entry.Leaf phys own) is) in
         mapped_apart _ _ _ (sym quiet ∙ walked)
     by (entry.Table next own) is =
         let up : level ≡ suc (level - 1) = omega (arith, cut.some) in
@@ -155,7 +160,8 @@ module _ (depth : Depth) (m : Memory) (root base level : ℕ) (path : List ℕ) 
         cc)
         (λ c is_c same. nothing c is_c (λ i from to. b.2 i from to ∙ same i (omega arith) to))
 
-  pub pruned_by : (old : Memory) (from : ℕ) → IsPruning depth old m root base from level path → (level < levels depth → NothingUnder depth m root (suc level) base → ⊥)
+  pub pruned_by : (old : Memory) (from : ℕ) → IsPruning depth old m root base from level path
+      → (level < levels depth → NothingUnder depth m root (suc level) base → ⊥)
       → IsPruned depth old m root base from level
   pruned_by old from pruning something = record {
     tree = cut.tree;
@@ -194,7 +200,8 @@ module _ (depth : Depth) (m : Memory) (root base level : ℕ) (path : List ℕ) 
     none_below : (b j : ℕ) → SamePath (levels depth) (level + 1) base b → j < level → table_at (levels depth) m root j b ≡ None
     none_below b j same lt =
         none_past (levels depth) root m (level - 1) j b (omega (arith, cut.below)) (omega arith)
-        (table_below (levels depth) root m level (level - 1) b (slice_index path level) (omega (arith, cut.some)) (reaches_here b same) ∙ ap table_in (absent_here b))
+        (table_below (levels depth) root m level (level - 1) b (slice_index path level) (omega (arith, cut.some)) (reaches_here b same)
+        ∙ ap table_in (absent_here b))
 
     abbrev cleared : Memory
     cleared = finite.remove (with_word m (slice_index path (level + 1)) (index_at (level + 1) base) 0) (slice_index path level)
@@ -202,28 +209,36 @@ module _ (depth : Depth) (m : Memory) (root base level : ℕ) (path : List ℕ) 
     walks_same : (b : ℕ) → IsCanonical depth b → walk depth cleared root b ≡ walk depth m root b
     walks_same b is_b = ⊎_elim
         (λ same.
-        walk_unlink_on (levels depth) root m cut.tree cut.whole (level + 1) base (slice_index path (level + 1)) level (slice_index path level) at_parent one at b same
+        walk_unlink_on (levels depth) root m cut.tree cut.whole (level + 1) base (slice_index path (level + 1)) level
+        (slice_index path level) at_parent one at b same
         ∙ sym (nothing_here b is_b same))
-        (λ apart. walk_unlink_off (levels depth) root m cut.tree cut.whole (level + 1) base (slice_index path (level + 1)) level (slice_index path level) at_parent one at b apart)
+        (λ apart. walk_unlink_off (levels depth) root m cut.tree cut.whole (level + 1) base (slice_index path (level + 1)) level
+        (slice_index path level) at_parent one at b apart)
         (same_or_not (levels depth) (level + 1) base b)
 
     cut_after : IsCut depth cleared root base (level + 1) path
     cut_after = record {
-      tree = tree_unlink (levels depth) root m cut.tree cut.whole (level + 1) base (slice_index path (level + 1)) level (slice_index path level) at_parent one at;
+      tree = tree_unlink (levels depth) root m cut.tree cut.whole (level + 1) base (slice_index path (level + 1)) level
+          (slice_index path level) at_parent one at;
       filled = but_alike depth m cleared root base
           (λ j b q r off.
-          table_unlink (levels depth) root m cut.tree cut.whole (level + 1) base (slice_index path (level + 1)) level (slice_index path level) at_parent one at j b q r)
+          table_unlink (levels depth) root m cut.tree cut.whole (level + 1) base (slice_index path (level + 1)) level
+          (slice_index path level) at_parent one at j b q r)
           walks_same cut.filled;
-      all_reached = reached_unlink (levels depth) root m cut.tree cut.whole (level + 1) base (slice_index path (level + 1)) level (slice_index path level) at_parent one at
+      all_reached = reached_unlink (levels depth) root m cut.tree cut.whole (level + 1) base (slice_index path (level + 1)) level
+          (slice_index path level) at_parent one at
           none_below cut.all_reached;
       whole = whole-remove _ (slice_index path level)
-          (whole_written m (slice_index path (level + 1)) (index_at (level + 1) base) 0 (cut.tree.in_use (level + 1) base (slice_index path (level + 1)) at_parent) cut.whole);
+          (whole_written m (slice_index path (level + 1)) (index_at (level + 1) base) 0
+          (cut.tree.in_use (level + 1) base (slice_index path (level + 1)) at_parent) cut.whole);
       some = omega arith;
       below = omega arith;
       reached = λ j from to.
-          table_kept (levels depth) root m cut.tree cut.whole (level + 1) base (slice_index path (level + 1)) level (slice_index path level) at_parent one at j base from
+          table_kept (levels depth) root m cut.tree cut.whole (level + 1) base (slice_index path (level + 1)) level
+          (slice_index path level) at_parent one at j base from
           ∙ cut.reached j (omega arith) to;
-      absent = found_unlinked (levels depth) root m cut.tree cut.whole (level + 1) base (slice_index path (level + 1)) level (slice_index path level) at_parent one at base (λ i from to. refl);
+      absent = found_unlinked (levels depth) root m cut.tree cut.whole (level + 1) base (slice_index path (level + 1)) level
+          (slice_index path level) at_parent one at base (λ i from to. refl);
     }
 
     one_fewer : finite.len cleared + 1 ≡ finite.len m
@@ -236,7 +251,8 @@ module _ (depth : Depth) (m : Memory) (root base level : ℕ) (path : List ℕ) 
     pub pruning_on : (index : ℕ) → index ≡ index_at (level + 1) base → (old : Memory) (from : ℕ) → IsPruning depth old m root base from level path
         → IsPruning depth old (finite.remove (with_word m (slice_index path (level + 1)) index 0) (slice_index path level)) root base from (level + 1) path
     pruning_on index is_index old from pruning =
-        subst (λ i. IsPruning depth old (finite.remove (with_word m (slice_index path (level + 1)) i 0) (slice_index path level)) root base from (level + 1) path) (sym is_index) (record {
+        subst (λ i. IsPruning depth old (finite.remove (with_word m (slice_index path (level + 1)) i 0) (slice_index path level)) root base from
+        (level + 1) path) (sym is_index) (record {
           cut = cut_after;
           walks = λ b is_b. walks_same b is_b ∙ pruning.walks b is_b;
           above = omega (arith, pruning.above);
@@ -244,7 +260,8 @@ module _ (depth : Depth) (m : Memory) (root base level : ℕ) (path : List ℕ) 
         })
 
 -- the words of the table are as written
-pub emptied_written : (depth : Depth) (m : Memory) (root base level : ℕ) (path : List ℕ) → IsCut depth m root base level path → AreWritten level m (slice_index path level)
+pub emptied_written : (depth : Depth) (m : Memory) (root base level : ℕ) (path : List ℕ) → IsCut depth m root base level path
+    → AreWritten level m (slice_index path level)
 emptied_written depth m root base level path cut =
     written_at (levels depth) root m cut.tree cut.all_reached level base (slice_index path level) (cut.reached level (omega arith) cut.below)
 

@@ -6,9 +6,8 @@ use Rattle.std.proofs.lemmas.List.{length-set}
 use Rattle.std.specs.FinMap as finite
 use Rattle.vs_types.specs.Depth.{index_at}
 use Rattle.vs_arena.specs.Store.{zeros}
-use Rattle.vs_walk.specs.Memory.{Memory}
+use Rattle.vs_walk.specs.Memory.{Memory, AreWhole}
 use Rattle.vs_space.specs.Held.{with_word}
-use Rattle.vs_walk.specs.Ways.{AreWhole}
 use Rattle.vs_space.specs.Path.{found_at, table_in, table_at, SamePath}
 use Rattle.vs_space.specs.inside.Tree.{IsTree, IsReached, AreWritten}
 use Rattle.vs_space.specs.Written.{IsWritten}
@@ -44,9 +43,11 @@ kept_before m f q now = subst IsSome (get-remove_other m f q (not_given m f q no
 
 -- ---- the entry for an address a is written in the table of a level on its path
 
-module _ (top : ℕ) (root : ℕ) (m : Memory) (tree : IsTree top m root) (whole : AreWhole m) (level a n : ℕ) (at : table_at top m root level a ≡ Some n) (w : ℕ) where
+module _ (top : ℕ) (root : ℕ) (m : Memory) (tree : IsTree top m root) (whole : AreWhole m) (level a n : ℕ) (at : table_at top m root level a ≡ Some n)
+    (w : ℕ) where
   -- a path that doesn't go on past the entry stands
-  stands_off : (j b q : ℕ) → (SamePath top level a b → j < level → ⊥) → table_at top m root j b ≡ Some q → table_at top (with_word m n (index_at level a) w) root j b ≡ Some q
+  stands_off : (j b q : ℕ) → (SamePath top level a b → j < level → ⊥) → table_at top m root j b ≡ Some q
+      → table_at top (with_word m n (index_at level a) w) root j b ≡ Some q
   stands_off j b q off reached = ⊎_elim
       (λ same. ⊎_elim
       (λ (past : j < level). absurd (off same past))
@@ -75,7 +76,8 @@ module _ (top : ℕ) (root : ℕ) (m : Memory) (tree : IsTree top m root) (whole
 
 -- ---- a frame that wasn't in use is linked at an absent entry
 
-pub reached_link : (top root : ℕ) (m : Memory) (tree : IsTree top m root) (f : ℕ) (free : finite.get m f ≡ None) (whole : AreWhole (finite.insert m f zeros)) (level a n : ℕ)
+pub reached_link : (top root : ℕ) (m : Memory) (tree : IsTree top m root) (f : ℕ) (free : finite.get m f ≡ None) (whole : AreWhole (finite.insert m f zeros))
+    (level a n : ℕ)
     → table_at top (finite.insert m f zeros) root level a ≡ Some n → (w below : ℕ) → table_in (found_at level (finite.insert m f zeros) n a) ≡ None
     → table_at top (with_word (finite.insert m f zeros) n (index_at level a) w) root below a ≡ Some f → IsWritten level w → IsReached top m root
     → IsReached top (with_word (finite.insert m f zeros) n (index_at level a) w) root
@@ -84,8 +86,13 @@ reached_link top root m tree f free whole level a n at w below ended down writte
       (λ (same : q ≡ f).
       let apart : f ≢ n = λ e. new_unreached top root m tree f free level a (at ∙ ap Some (sym e)) in
       let clear : finite.get (with_word (finite.insert m f zeros) n (index_at level a) w) f ≡ Some zeros =
-      get_written_other (finite.insert m f zeros) n (index_at level a) w f apart ∙ get-insert_same m f zeros in
-      (below, a, down ∙ ap Some (sym same), subst (AreWritten below (with_word (finite.insert m f zeros) n (index_at level a) w)) (sym same) (written_clear below _ f clear)))
+      get_written_other (finite.insert m f zeros) n (index_at level a) w f apart ∙ get-insert_same m f zeros in (
+        below,
+        a,
+        down ∙ ap Some (sym same),
+        subst (AreWritten below (with_word (finite.insert m f zeros) n (index_at level a) w)) (sym same)
+            (written_clear below _ f clear),
+      ))
       (λ (other : q ≢ f).
       let taken = tree_take top root m tree f free in
       let before = used_before (finite.insert m f zeros) n (index_at level a) w q (taken.in_use level a n at) now in
@@ -102,7 +109,8 @@ reached_link top root m tree f free whole level a n at w below ended down writte
 
 -- ---- the entry that leads to a table that leads to none is cleared, and the frame given back
 
-pub reached_unlink : (top root : ℕ) (m : Memory) (tree : IsTree top m root) (whole : AreWhole m) (level a n below f : ℕ) (at : table_at top m root level a ≡ Some n)
+pub reached_unlink : (top root : ℕ) (m : Memory) (tree : IsTree top m root) (whole : AreWhole m) (level a n below f : ℕ)
+    (at : table_at top m root level a ≡ Some n)
     (one : level ≡ suc below) (down : table_at top m root below a ≡ Some f)
     → ((b j : ℕ) → SamePath top level a b → j < below → table_at top m root j b ≡ None)
     → IsReached top m root → IsReached top (finite.remove (with_word m n (index_at level a) 0) f) root

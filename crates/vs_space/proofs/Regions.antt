@@ -1,5 +1,5 @@
 -- Which addresses take one path: those of an aligned stretch. What a walk's end says of the space.
-use Rattle.std.proofs.Common.{◌≡◌, ◌≢◌, ℕ, zero, suc, ◌+◌, ◌-◌, ◌*◌, ◌/◌, ◌%◌, ◌^◌, ◌<◌, ◌≤◌, true, false, Some, None, IsTrue, ⊎_elim, refl, sym, ap, subst, ◌∙◌, mod-lt, arith}
+use Rattle.std.proofs.Common.{◌≡◌, ◌≢◌, ℕ, zero, suc, ◌+◌, ◌-◌, ◌*◌, ◌/◌, ◌%◌, ◌^◌, ◌<◌, ◌≤◌, true, false, Some, None, IsTrue, refl, sym, ap, subst, ◌∙◌, mod-lt, arith}
 use lib.Pow.{pow_pos, split, shr-shr}
 use Rattle.std.proofs.lemmas.Nat.{div-mul-add}
 use Rattle.std.specs.Prelude.{slice_index}
@@ -10,15 +10,13 @@ use Rattle.vs_types.specs.Space.{Space, Holds, IsSpace, page_at}
 use Rattle.vs_types.specs.Step.{look}
 use Rattle.vs_types.specs.Laws.{LooksChanged}
 use Rattle.vs_types.specs.declared.depth.Depth.{Depth}
-use Rattle.vs_types.specs.declared.depth.Depth.TheVariants.{Four}
 use Rattle.vs_types.specs.declared.page.Page.{Page}
 use Rattle.vs_types.specs.declared.page.Rights.{Rights}
 use Rattle.vs_types.specs.declared.page.Size.{Size}
-use Rattle.vs_types.specs.declared.page.Size.TheVariants.{K4, M2, G1}
 use Rattle.vs_types.specs.declared.entry.Meaning.TheVariants as entry
 use Rattle.vs_types.specs.declared.answer.Answer.{Answer}
 use Rattle.vs_types.specs.declared.answer.Answer.TheVariants as answers
-use Rattle.vs_types.proofs.Pages.{canonical_means, covers_means, level_some}
+use Rattle.vs_types.proofs.Pages.{three_levels, level_at_most, covers_means, level_some}
 use Rattle.vs_types.proofs.Spaces.{page_at_means, look_of_none}
 use Rattle.vs_walk.specs.Memory.{Memory}
 use Rattle.vs_walk.specs.Walk.{walk, as_walk, TranslatesAs}
@@ -26,16 +24,10 @@ use Rattle.vs_walk.specs.declared.walk.Walk.TheVariants.{NotMapped, Mapped}
 use Rattle.vs_walk.proofs.Walks.{leaf_level}
 use Rattle.vs_space.specs.Path.{found_at, table_at, SamePath}
 use Rattle.vs_space.specs.inside.Tree.{IsTree}
+use Rattle.vs_space.proofs.Canonical.{top_same}
 use Rattle.vs_space.proofs.Paths.{words_found, walk_leaf}
 
 -- ---- stretches
-
--- the highest index of a canonical address tells all above
-top_same : (depth : Depth) (a b : ℕ) → IsCanonical depth a → IsCanonical depth b → index_at (levels depth) a ≡ index_at (levels depth) b → a / 2 ^ (12 + 9 * (levels depth - 1)) ≡ b / 2 ^ (12 + 9 * (levels depth - 1))
-top_same Four a b is_a is_b same = ⊎_elim
-    (λ low_a. ⊎_elim (λ low_b. omega arith) (λ high_b. omega arith) ((canonical_means Four b).0 is_b))
-    (λ high_a. ⊎_elim (λ low_b. omega arith) (λ high_b. omega arith) ((canonical_means Four b).0 is_b))
-    ((canonical_means Four a).0 is_a)
 
 parts_same : (x y : ℕ) → x / 512 ≡ y / 512 → x % 512 ≡ y % 512 → x ≡ y
 parts_same x y p q = omega arith
@@ -82,12 +74,6 @@ in_block e base b at low high =
     let parts : b ≡ base / 2 ^ e * 2 ^ e + (b - base) = omega arith in
     sym (ap (λ x. x / 2 ^ e) parts ∙ div-mul-add (base / 2 ^ e) (2 ^ e) (b - base) (omega arith))
 
--- pages are smaller than what a root covers
-pub below_root : (depth : Depth) (size : Size) → level_of size < levels depth
-below_root Four K4 = omega arith
-below_root Four M2 = omega arith
-below_root Four G1 = omega arith
-
 -- a page has the canonical addresses that take its path
 module _ (depth : Depth) (q : Page) (good : IsPage depth q) where
   below : ℕ
@@ -106,10 +92,11 @@ module _ (depth : Depth) (q : Page) (good : IsPage depth q) where
       (stretch_same (levels depth) (level_of q.size - 1) q.base b
       (subst (λ n. q.base / 2 ^ n ≡ b / 2 ^ n) (sym exponent) (in_block (3 + 9 * level_of q.size) q.base b good.aligned at.0 at.1)))
 
-  pub path_covers : (b : ℕ) → IsCanonical depth b → SamePath (levels depth) (level_of q.size) q.base b → IsTrue (covers q b) × (q.base + b % bytes_of q.size ≡ b)
+  pub path_covers : (b : ℕ) → IsCanonical depth b → SamePath (levels depth) (level_of q.size) q.base b
+      → IsTrue (covers q b) × (q.base + b % bytes_of q.size ≡ b)
   path_covers b canonical same =
       let quotient = subst (λ n. q.base / 2 ^ n ≡ b / 2 ^ n) exponent
-      (same_stretch depth (level_of q.size - 1) q.base b good.canonical canonical (omega (arith, below_root depth q.size))
+      (same_stretch depth (level_of q.size - 1) q.base b good.canonical canonical (omega (arith, three_levels depth, level_at_most q.size))
       (subst (λ l. SamePath (levels depth) l q.base b) own same)) in
       let at = block (3 + 9 * level_of q.size) q.base b good.aligned quotient in
       ((covers_means q b).1 (at.0, at.1), at.2)
@@ -124,25 +111,32 @@ level_back (suc (suc (suc zero))) some few = refl
 level_back (suc (suc (suc (suc level)))) some few = absurd (omega arith)
 
 -- where an address is walked to nothing, no page is there
-pub nothing_at : (depth : Depth) (m : Memory) (root : ℕ) (space : Space) (a : ℕ) → TranslatesAs depth m root space → IsCanonical depth a → walk depth m root a ≡ NotMapped → page_at space a ≡ None
+pub nothing_at : (depth : Depth) (m : Memory) (root : ℕ) (space : Space) (a : ℕ) → TranslatesAs depth m root space → IsCanonical depth a
+    → walk depth m root a ≡ NotMapped → page_at space a ≡ None
 nothing_at depth m root space a translates canonical is =
     elim (page_at space a) as (λ o. page_at space a ≡ o → o ≡ None) [
       | None ↦ λ e. refl
-      | Some q ↦ λ e. let looks : look space a ≡ answers.Mapped (q.phys + (a - q.base)) q.size q.rights = rw e refl in let walked : NotMapped ≡ Mapped (q.phys + (a - q.base)) q.size q.rights = sym is ∙ translates a canonical ∙ ap as_walk looks in cc
+      | Some q ↦ λ e. let looks : look space a ≡ answers.Mapped (q.phys + (a - q.base)) q.size q.rights = rw e refl in
+          let walked : NotMapped ≡ Mapped (q.phys + (a - q.base)) q.size q.rights = sym is ∙ translates a canonical ∙ ap as_walk looks in cc
     ] refl
 
 -- where no page is, an address is walked to nothing
-pub walked_to_nothing : (depth : Depth) (m : Memory) (root : ℕ) (space : Space) (a : ℕ) → TranslatesAs depth m root space → IsCanonical depth a → page_at space a ≡ None → walk depth m root a ≡ NotMapped
+pub walked_to_nothing : (depth : Depth) (m : Memory) (root : ℕ) (space : Space) (a : ℕ) → TranslatesAs depth m root space → IsCanonical depth a
+    → page_at space a ≡ None → walk depth m root a ≡ NotMapped
 walked_to_nothing depth m root space a translates canonical e = translates a canonical ∙ ap as_walk (look_of_none space a e)
 
 -- where a page is, an address is mapped
-pub walked_to_page : (depth : Depth) (m : Memory) (root : ℕ) (space : Space) (a : ℕ) (q : Page) → TranslatesAs depth m root space → IsCanonical depth a → page_at space a ≡ Some q → walk depth m root a ≢ NotMapped
+pub walked_to_page : (depth : Depth) (m : Memory) (root : ℕ) (space : Space) (a : ℕ) (q : Page) → TranslatesAs depth m root space → IsCanonical depth a
+    → page_at space a ≡ Some q → walk depth m root a ≢ NotMapped
 walked_to_page depth m root space a q translates canonical e is = let none = nothing_at depth m root space a translates canonical is in cc
 
 -- the page at an address that is mapped
-pub page_walked : (depth : Depth) (m : Memory) (root : ℕ) (space : Space) (a phys : ℕ) (size : Size) (rights : Rights) → TranslatesAs depth m root space → IsCanonical depth a → walk depth m root a ≡ Mapped phys size rights → (q : Page) × (page_at space a ≡ Some q) × (q.phys + (a - q.base) ≡ phys) × (q.size ≡ size) × (q.rights ≡ rights)
+pub page_walked : (depth : Depth) (m : Memory) (root : ℕ) (space : Space) (a phys : ℕ) (size : Size) (rights : Rights) → TranslatesAs depth m root space
+    → IsCanonical depth a → walk depth m root a ≡ Mapped phys size rights
+    → (q : Page) × (page_at space a ≡ Some q) × (q.phys + (a - q.base) ≡ phys) × (q.size ≡ size) × (q.rights ≡ rights)
 page_walked depth m root space a phys size rights translates canonical is =
-    elim (page_at space a) as (λ o. page_at space a ≡ o → (q : Page) × (page_at space a ≡ Some q) × (q.phys + (a - q.base) ≡ phys) × (q.size ≡ size) × (q.rights ≡ rights)) [
+    elim (page_at space a) as (λ o. page_at space a ≡ o
+    → (q : Page) × (page_at space a ≡ Some q) × (q.phys + (a - q.base) ≡ phys) × (q.size ≡ size) × (q.rights ≡ rights)) [
       | None ↦ λ e. let nothing = walked_to_nothing depth m root space a translates canonical e in cc
       | Some q ↦ λ e.
           let looks : look space a ≡ answers.Mapped (q.phys + (a - q.base)) q.size q.rights = rw e refl in
@@ -168,7 +162,8 @@ pub leaf_page : (depth : Depth) (m : Memory) (root : ℕ) (space : Space) → Is
 leaf_page depth m root space is translates tree a level n phys own canonical some at found =
     let words = words_found level m n a (entry.Leaf phys own) found in
     let few = (leaf_level level (slice_index words.0 (index_at level a)) phys own words.2).0 in
-    let walked : walk depth m root a ≡ Mapped (phys + a % entry_bytes level) (size_at level) own = walk_leaf (levels depth) root m tree.allows a level n phys own some at found in
+    let walked : walk depth m root a ≡ Mapped (phys + a % entry_bytes level) (size_at level) own =
+    walk_leaf (levels depth) root m tree.allows a level n phys own some at found in
     let page = page_walked depth m root space a (phys + a % entry_bytes level) (size_at level) own translates canonical walked in
     let q = page.0 in
     let there = (page_at_means is a q).0 page.1 in
@@ -177,8 +172,7 @@ leaf_page depth m root space is translates tree a level n phys own canonical som
     let bytes : entry_bytes level ≡ bytes_of q.size = ap entry_bytes (sym same) in
     let spans = (covers_means q a).0 there.1 in
     let in_page = block (3 + 9 * level_of q.size) q.base a good.aligned (in_block (3 + 9 * level_of q.size) q.base a good.aligned spans.0 spans.1) in
-    let offset : a % entry_bytes level ≡ a % bytes_of q.size = ap (λ n. a % n) bytes in
-    (
+    let offset : a % entry_bytes level ≡ a % bytes_of q.size = ap (λ n. a % n) bytes in (
       q,
       record {
         here = page.1;

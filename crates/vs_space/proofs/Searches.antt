@@ -11,8 +11,6 @@ use Rattle.vs_types.specs.declared.depth.Depth.{Depth}
 use Rattle.vs_types.specs.declared.page.Rights.{Rights}
 use Rattle.vs_types.specs.declared.entry.Meaning.{Meaning}
 use Rattle.vs_types.specs.declared.entry.Meaning.TheVariants as entry
-use Rattle.vs_types.proofs.Pages.{canonical_means}
-use Rattle.vs_types.specs.declared.depth.Depth.TheVariants.{Four}
 use Rattle.vs_walk.proofs.Walks.{few_levels}
 use Rattle.vs_walk.specs.Memory.{Memory}
 use Rattle.vs_walk.specs.Walk.{walk}
@@ -37,7 +35,8 @@ pub record IsSearching (depth : Depth) (m : Memory) (root start from level numbe
   pub aligned : base % table_bytes level ≡ 0
   pub reached : table_at (levels depth) m root level base ≡ Some number
 
-pub searching_start : (depth : Depth) (m : Memory) (root start from number : ℕ) → IsCanonical depth start → 1 ≤ from → from < levels depth → start % table_bytes from ≡ 0 → table_at (levels depth) m root from start ≡ Some number → IsSearching depth m root start from from number start
+pub searching_start : (depth : Depth) (m : Memory) (root start from number : ℕ) → IsCanonical depth start → 1 ≤ from → from < levels depth
+    → start % table_bytes from ≡ 0 → table_at (levels depth) m root from start ≡ Some number → IsSearching depth m root start from from number start
 searching_start depth m root start from number canonical some below aligned reached = record {
   canonical = canonical;
   from_start = omega arith;
@@ -51,7 +50,8 @@ searching_start depth m root start from number canonical some below aligned reac
 }
 
 -- an address of an aligned stretch of 512 parts, by its part
-part : (e base b : ℕ) → base % 2 ^ (e + 9) ≡ 0 → base ≤ b → b < base + 2 ^ (e + 9) → (base + b / 2 ^ e % 512 * 2 ^ e ≤ b) × (b < base + (b / 2 ^ e % 512 + 1) * 2 ^ e)
+part : (e base b : ℕ) → base % 2 ^ (e + 9) ≡ 0 → base ≤ b → b < base + 2 ^ (e + 9)
+    → (base + b / 2 ^ e % 512 * 2 ^ e ≤ b) × (b < base + (b / 2 ^ e % 512 + 1) * 2 ^ e)
 part e base b at low high =
     let same = in_block (e + 9) base b at low high in
     let whole = split base (e + 9) in
@@ -61,7 +61,9 @@ part e base b at low high =
     let parts : x ≡ x / 512 * 512 + x % 512 = div_mod x in
     let own = split b e in
     let rest : b % 2 ^ e < 2 ^ e = mod-lt b (pow_pos e) in
-    sums (2 ^ e) base b x (base / 2 ^ (e + 9)) (x % 512) (b % 2 ^ e) (begins (2 ^ e) (2 ^ (e + 9)) (base / 2 ^ (e + 9)) base double (omega (arith, whole, at))) (parts ∙ ap (λ y. y * 512 + x % 512) (high_part ∙ sym same)) (sym own) rest
+    sums (2 ^ e) base b x (base / 2 ^ (e + 9)) (x % 512) (b % 2 ^ e)
+    (begins (2 ^ e) (2 ^ (e + 9)) (base / 2 ^ (e + 9)) base double (omega (arith, whole, at)))
+    (parts ∙ ap (λ y. y * 512 + x % 512) (high_part ∙ sym same)) (sym own) rest
   where
     div_mod : (x : ℕ) → x ≡ x / 512 * 512 + x % 512
     div_mod x = omega arith
@@ -76,7 +78,8 @@ part e base b at low high =
         let all : b ≡ (q * 512 + i) * u + r = t ∙ ap (λ y. y * u + r) s in
         (omega arith, omega arith)
 
-module _ (depth : Depth) (m : Memory) (root start from level number base : ℕ) (tree : IsTree (levels depth) m root) (search : IsSearching depth m root start from level number base) where
+module _ (depth : Depth) (m : Memory) (root start from level number base : ℕ) (tree : IsTree (levels depth) m root)
+    (search : IsSearching depth m root start from level number base) where
   wide : 12 + 9 * level ≡ 3 + 9 * level + 9
   wide = omega arith
 
@@ -84,16 +87,18 @@ module _ (depth : Depth) (m : Memory) (root start from level number base : ℕ) 
   used = tree.in_use level base number search.reached
 
   -- an address of the stretch whose entry is absent
-  quiet : (b : ℕ) → SamePath (levels depth) (suc level) base b → entry_in level m number (index_at level b) ≡ Some entry.Absent → walk depth m root b ≡ NotMapped
+  quiet : (b : ℕ) → SamePath (levels depth) (suc level) base b → entry_in level m number (index_at level b) ≡ Some entry.Absent
+      → walk depth m root b ≡ NotMapped
   quiet b same absent =
       walk_absent (levels depth) root m tree.allows b level number search.some
       (sym (same_table (levels depth) root m level base b same) ∙ search.reached) (found_entry level m number b ∙ absent)
 
   -- the table has an entry that is present
   pub not_empty : IsFilled depth m root → ((i : ℕ) → i < 512 → entry_in level m number i ≡ Some entry.Absent) → ⊥
-  not_empty filled empty = filled.filled level base number search.below search.reached (λ b is_b same. quiet b same (empty (index_at level b) (index_low b))) where
-    index_low : (b : ℕ) → index_at level b < 512
-    index_low b = omega arith
+  not_empty filled empty = filled.filled level base number search.below search.reached
+      (λ b is_b same. quiet b same (empty (index_at level b) (index_low b))) where
+        index_low : (b : ℕ) → index_at level b < 512
+        index_low b = omega arith
 
   module _ (index : ℕ) (first : IsFirstPresent level m number index) (next : ℕ) (next_is : next ≡ base + index * 2 ^ (3 + 9 * level)) where
     aligned_wide : base % 2 ^ (3 + 9 * level + 9) ≡ 0
@@ -131,9 +136,10 @@ module _ (depth : Depth) (m : Memory) (root start from level number base : ℕ) 
     next_reached = sym (same_table (levels depth) root m level base next next_path) ∙ search.reached
 
     pub next_aligned : next % 2 ^ (3 + 9 * level) ≡ 0
-    next_aligned = ap (λ x. x % 2 ^ (3 + 9 * level)) (sum_is ∙ sym (plus_zero _)) ∙ mod-mul-add (base / 2 ^ (3 + 9 * level + 9) * 512 + index) (2 ^ (3 + 9 * level)) 0 (pow_pos (3 + 9 * level)) where
-      plus_zero : (n : ℕ) → n + 0 ≡ n
-      plus_zero n = omega arith
+    next_aligned = ap (λ x. x % 2 ^ (3 + 9 * level)) (sum_is ∙ sym (plus_zero _))
+        ∙ mod-mul-add (base / 2 ^ (3 + 9 * level + 9) * 512 + index) (2 ^ (3 + 9 * level)) 0 (pow_pos (3 + 9 * level)) where
+          plus_zero : (n : ℕ) → n + 0 ≡ n
+          plus_zero n = omega arith
 
     from_base : base ≤ next
     from_base = omega (arith, next_is)
@@ -143,21 +149,27 @@ module _ (depth : Depth) (m : Memory) (root start from level number base : ℕ) 
     next_before b is_b low high = ⊎_elim
         (λ (earlier : b < base). search.before b is_b low earlier)
         (λ (later : base ≤ b).
-        let bytes : index * 2 ^ (3 + 9 * level) ≤ 2 ^ (3 + 9 * level + 9) = room (2 ^ (3 + 9 * level)) (2 ^ (3 + 9 * level + 9)) (pow-add 2 (3 + 9 * level) 9) first.within in
+        let bytes : index * 2 ^ (3 + 9 * level) ≤ 2 ^ (3 + 9 * level + 9) =
+        room (2 ^ (3 + 9 * level)) (2 ^ (3 + 9 * level + 9)) (pow-add 2 (3 + 9 * level) 9) first.within in
         let inside : b < base + 2 ^ (3 + 9 * level + 9) = omega (arith, next_is, bytes, high) in
         let places = part (3 + 9 * level) base b aligned_wide later inside in
-        let earlier : index_at level b < index = less (2 ^ (3 + 9 * level)) base b (index_at level b) index (pow_pos (3 + 9 * level)) places.0 (omega (arith, next_is, high)) in
-        let wide_same : base / 2 ^ (12 + 9 * level) ≡ b / 2 ^ (12 + 9 * level) = subst (λ n. base / 2 ^ n ≡ b / 2 ^ n) (sym wide) (in_block (3 + 9 * level + 9) base b aligned_wide later inside) in
+        let earlier : index_at level b < index = less (2 ^ (3 + 9 * level)) base b (index_at level b) index (pow_pos (3 + 9 * level)) places.0
+        (omega (arith, next_is, high)) in
+        let wide_same : base / 2 ^ (12 + 9 * level) ≡ b / 2 ^ (12 + 9 * level) =
+        subst (λ n. base / 2 ^ n ≡ b / 2 ^ n) (sym wide) (in_block (3 + 9 * level + 9) base b aligned_wide later inside) in
         quiet b (stretch_same (levels depth) level base b wide_same) (first.before (index_at level b) earlier))
         (cases_lt b base)
       where
         room : (u v : ℕ) → v ≡ u * 512 → index < 512 → index * u ≤ v
-        room u v e lt = let le : index ≤ 512 = omega arith in let more : index * u ≤ 512 * u = grind arith in let same : 512 * u ≡ u * 512 = mul_comm 512 u in omega arith
+        room u v e lt = let le : index ≤ 512 = omega arith in let more : index * u ≤ 512 * u = grind arith in let same : 512 * u ≡ u * 512 = mul_comm 512 u in
+            omega arith
 
         less : (u base b i index : ℕ) → 0 < u → base + i * u ≤ b → b < base + index * u → i < index
-        less u base b i index some lo hi = ⊎_elim (λ (lt : i < index). lt) (λ (le : index ≤ i). let more : index * u ≤ i * u = grind arith in absurd (omega arith)) (cases_lt i index)
+        less u base b i index some lo hi = ⊎_elim (λ (lt : i < index). lt)
+            (λ (le : index ≤ i). let more : index * u ≤ i * u = grind arith in absurd (omega arith)) (cases_lt i index)
 
-    pub search_on : (found : ℕ) (own : Rights) → found_at level m number next ≡ Some (entry.Table found own) → 1 < level → IsSearching depth m root start from (level - 1) found next
+    pub search_on : (found : ℕ) (own : Rights) → found_at level m number next ≡ Some (entry.Table found own) → 1 < level
+        → IsSearching depth m root start from (level - 1) found next
     search_on found own is deep = record {
       canonical = next_canonical;
       from_start = omega (arith, search.from_start, from_base);
@@ -190,30 +202,32 @@ module _ (depth : Depth) (m : Memory) (root start from level number base : ℕ) 
     }
 
     -- the entry is present: it leads to a table, or is a leaf
-    pub present_ends : ((b : ℕ) → IsCanonical depth b → walk depth m root b ≢ Reserved) → (e : Meaning) → found_at level m number next ≡ Some e → ((n : ℕ) (own : Rights) → e ≢ entry.Table n own) → IsLeastBase depth m root start from next
-    present_ends faultless entry.Absent is other = absurd (first.present (subst (λ i. entry_in level m number i ≡ Some entry.Absent) next_index (sym (found_entry level m number next) ∙ is)))
+    pub present_ends : ((b : ℕ) → IsCanonical depth b → walk depth m root b ≢ Reserved) → (e : Meaning) → found_at level m number next ≡ Some e
+        → ((n : ℕ) (own : Rights) → e ≢ entry.Table n own) → IsLeastBase depth m root start from next
+    present_ends faultless entry.Absent is other =
+        absurd (first.present (subst (λ i. entry_in level m number i ≡ Some entry.Absent) next_index (sym (found_entry level m number next) ∙ is)))
     present_ends faultless entry.Reserved is other =
         absurd (faultless next next_canonical (walk_reserved (levels depth) root m tree.allows next level number search.some next_reached is))
     present_ends faultless (entry.Leaf phys own) is other = search_ends phys own is
     present_ends faultless (entry.Table n own) is other = absurd (other n own refl)
 
-pub canonical_fits : (depth : Depth) (a : ℕ) → IsCanonical depth a → a < 2 ^ 64
-canonical_fits Four a is = ⊎_elim (λ low. omega arith) (λ high. high.1) ((canonical_means Four a).0 is)
-
 under : (x y : ℕ) → x ≤ y → y ≤ 2 ^ 60 → x < 18446744073709551616
 under x y a b = omega arith
 
 -- the offset of an entry as it is computed
-pub offset_of : (depth : Depth) (level index : ℕ) → level < levels depth → index < 512 → index * 2 ^ (3 + 9 * level) % 18446744073709551616 ≡ index * 2 ^ (3 + 9 * level)
+pub offset_of : (depth : Depth) (level index : ℕ) → level < levels depth → index < 512
+    → index * 2 ^ (3 + 9 * level) % 18446744073709551616 ≡ index * 2 ^ (3 + 9 * level)
 offset_of depth level index below low = mod-eq_of_lt small where
   room : (u v : ℕ) → v ≡ u * 512 → index * u ≤ v
-  room u v e = let le : index ≤ 512 = omega arith in let more : index * u ≤ 512 * u = grind arith in let same : 512 * u ≡ u * 512 = mul_comm 512 u in omega arith
+  room u v e = let le : index ≤ 512 = omega arith in let more : index * u ≤ 512 * u = grind arith in let same : 512 * u ≡ u * 512 = mul_comm 512 u in
+      omega arith
 
   power : 2 ^ (3 + 9 * level + 9) ≤ 2 ^ 60
   power = let le : 3 + 9 * level + 9 ≤ 60 = omega (arith, few_levels depth) in pow_mono {j = 60} le
 
   small : index * 2 ^ (3 + 9 * level) < 18446744073709551616
-  small = let within = room (2 ^ (3 + 9 * level)) (2 ^ (3 + 9 * level + 9)) (pow-add 2 (3 + 9 * level) 9) in under (index * 2 ^ (3 + 9 * level)) (2 ^ (3 + 9 * level + 9)) within power
+  small = let within = room (2 ^ (3 + 9 * level)) (2 ^ (3 + 9 * level + 9)) (pow-add 2 (3 + 9 * level) 9) in
+      under (index * 2 ^ (3 + 9 * level)) (2 ^ (3 + 9 * level + 9)) within power
 
 -- an entry that leads to a table is above the lowest level
 pub deep_table : (level : ℕ) (m : Memory) (n a next : ℕ) (own : Rights) → 1 ≤ level → found_at level m n a ≡ Some (entry.Table next own) → 1 < level

@@ -16,15 +16,16 @@ use Rattle.vs_types.proofs.TableCounts.{has_table, stretches, tables_with, table
 use Rattle.vs_walk.specs.Memory.{Memory}
 use Rattle.vs_walk.specs.Walk.{walk, TranslatesAs}
 use Rattle.vs_walk.specs.declared.walk.Walk.TheVariants.{NotMapped}
-use Rattle.vs_space.specs.Path.{SamePath}
 use Rattle.vs_space.specs.inside.Tree.{NothingUnder}
 use Rattle.vs_space.proofs.Regions.{same_stretch, stretch_same, block, in_block, walked_to_page, walked_to_nothing}
 
 -- ---- the tables that a page needs, by the levels at which a smaller page begins in its stretch
 
-module _ {depth : Depth} {space : Space} (is : IsSpace depth space) (page : Page) (is_new : IsSpace depth (finite.insert space page.base page)) (absent : (q : Page) → Holds space q → q.base ≢ page.base) (stop : ℕ) (own : level_of page.size ≤ stop)
+module _ {depth : Depth} {space : Space} (is : IsSpace depth space) (page : Page) (is_new : IsSpace depth (finite.insert space page.base page))
+    (absent : (q : Page) → Holds space q → q.base ≢ page.base) (stop : ℕ) (own : level_of page.size ≤ stop)
     (fresh : (level : ℕ) → level_of page.size ≤ level → level < stop → is_member nat_eq (stretches level space) (page.base / table_bytes level) ≡ false) where
-  below_stop : (n : ℕ) → n < stop → tables_of_levels n (pages (finite.insert space page.base page)) ≡ (n + 1 - level_of page.size) + tables_of_levels n (pages space)
+  below_stop : (n : ℕ) → n < stop → tables_of_levels n (pages (finite.insert space page.base page)) ≡ (n + 1 - level_of page.size) + tables_of_levels n
+      (pages space)
   below_stop zero lt = omega (arith, level_some page.size)
   below_stop (suc n) lt = ⊎_elim
       (λ (small : suc n < level_of page.size).
@@ -37,30 +38,39 @@ module _ {depth : Depth} {space : Space} (is : IsSpace depth space) (page : Page
       omega arith)
       (cases_lt (suc n) (level_of page.size))
 
-  module _ (last : ℕ) (there : (level : ℕ) → stop ≤ level → level ≤ last → is_member nat_eq (stretches level space) (page.base / table_bytes level) ≡ true) where
-    from_stop : (d n : ℕ) → n + 1 ≡ stop + d → n ≤ last → tables_of_levels n (pages (finite.insert space page.base page)) ≡ (stop - level_of page.size) + tables_of_levels n (pages space)
-    from_stop zero n e le = let same : n + 1 ≡ stop = omega arith in let base = below_stop n (omega arith) in omega arith
-    from_stop (suc d) zero e le = absurd (omega (arith, level_some page.size))
-    from_stop (suc d) (suc n) e le =
-        let here = tables_with is page is_new absent (suc n) (omega arith) ∙ ap (λ b. cond b 0 1 + tables_of_level (suc n) (pages space)) (there (suc n) (omega arith) le) in
-        let rest = from_stop d n (omega arith) (omega arith) in
-        omega arith
+  module _ (last : ℕ) (there : (level : ℕ) → stop ≤ level → level ≤ last → is_member nat_eq (stretches level space) (page.base / table_bytes level) ≡ true)
+    where
+      from_stop : (d n : ℕ) → n + 1 ≡ stop + d → n ≤ last
+          → tables_of_levels n (pages (finite.insert space page.base page)) ≡ (stop - level_of page.size) + tables_of_levels n (pages space)
+      from_stop zero n e le = let same : n + 1 ≡ stop = omega arith in let base = below_stop n (omega arith) in omega arith
+      from_stop (suc d) zero e le = absurd (omega (arith, level_some page.size))
+      from_stop (suc d) (suc n) e le =
+          let here = tables_with is page is_new absent (suc n) (omega arith)
+          ∙ ap (λ b. cond b 0 1 + tables_of_level (suc n) (pages space)) (there (suc n) (omega arith) le) in
+          let rest = from_stop d n (omega arith) (omega arith) in
+          omega arith
 
-    pub levels_added : stop ≤ last + 1 → tables_of_levels last (pages (finite.insert space page.base page)) ≡ (stop - level_of page.size) + tables_of_levels last (pages space)
-    levels_added le = from_stop (last + 1 - stop) last (omega arith) (omega arith)
+      pub levels_added : stop ≤ last + 1 → tables_of_levels last (pages (finite.insert space page.base page))
+          ≡ (stop - level_of page.size) + tables_of_levels last (pages space)
+      levels_added le = from_stop (last + 1 - stop) last (omega arith) (omega arith)
 
 -- ---- whether a smaller page begins in the stretch of an address, by the walks
 
-module _ (depth : Depth) (m : Memory) (root : ℕ) (space : Space) (is : IsSpace depth space) (translates : TranslatesAs depth m root space) (base : ℕ) (canonical : IsCanonical depth base) (level : ℕ) (below : level < levels depth) where
+module _ (depth : Depth) (m : Memory) (root : ℕ) (space : Space) (is : IsSpace depth space) (translates : TranslatesAs depth m root space) (base : ℕ)
+    (canonical : IsCanonical depth base) (level : ℕ) (below : level < levels depth) where
   -- where nothing is mapped, no page begins
   pub none_begins : NothingUnder depth m root (suc level) base → is_member nat_eq (stretches level space) (base / table_bytes level) ≡ false
   none_begins nothing =
-      elim (is_member nat_eq (stretches level space) (base / table_bytes level)) as (λ t. is_member nat_eq (stretches level space) (base / table_bytes level) ≡ t → t ≡ false) [
+      elim (is_member nat_eq (stretches level space) (base / table_bytes level))
+      as (λ t. is_member nat_eq (stretches level space) (base / table_bytes level) ≡ t → t ≡ false) [
         | true ↦ λ t.
-            let found = member_comes (λ (p : Page). p.base / table_bytes level) (λ p. nat_lt (bytes_of p.size) (table_bytes level)) (pages space) (base / table_bytes level) t in
+            let found = member_comes (λ (p : Page). p.base / table_bytes level) (λ p. nat_lt (bytes_of p.size) (table_bytes level)) (pages space)
+            (base / table_bytes level) t in
             let held = (holds_listed is found.0).0 found.1 in
             let good = is.well_formed found.0 held in
-            absurd (walked_to_page depth m root space found.0.base found.0 translates good.canonical ((page_at_means is found.0.base found.0).1 (held, covers_base found.0)) (nothing found.0.base good.canonical (stretch_same (levels depth) level base found.0.base (sym found.3))))
+            absurd (walked_to_page depth m root space found.0.base found.0 translates good.canonical
+            ((page_at_means is found.0.base found.0).1 (held, covers_base found.0))
+            (nothing found.0.base good.canonical (stretch_same (levels depth) level base found.0.base (sym found.3))))
         | false ↦ λ t. refl
       ] refl
 
@@ -71,7 +81,8 @@ module _ (depth : Depth) (m : Memory) (root : ℕ) (space : Space) (is : IsSpace
       ap (λ n. a / 2 ^ n) (sym whole) ∙ sym (shr-shr a e (f - e)) ∙ ap (λ x. x / 2 ^ (f - e)) same ∙ shr-shr b e (f - e) ∙ ap (λ n. b / 2 ^ n) whole
 
   -- a page that has an address of the stretch, and not the base, begins in it
-  begins_there : page_at space base ≡ None → (b : ℕ) (q : Page) → page_at space b ≡ Some q → base / table_bytes level ≡ b / table_bytes level → is_member nat_eq (stretches level space) (base / table_bytes level) ≡ true
+  begins_there : page_at space base ≡ None → (b : ℕ) (q : Page) → page_at space b ≡ Some q → base / table_bytes level ≡ b / table_bytes level
+      → is_member nat_eq (stretches level space) (base / table_bytes level) ≡ true
   begins_there none b q at same = ⊎_elim
       (λ (large : level < level_of q.size).
       let up = coarser base b (12 + 9 * level) (3 + 9 * level_of q.size) (omega arith) same in
@@ -82,7 +93,8 @@ module _ (depth : Depth) (m : Memory) (root : ℕ) (space : Space) (is : IsSpace
       (λ (small : level_of q.size ≤ level).
       let up = coarser q.base b (3 + 9 * level_of q.size) (12 + 9 * level) (omega arith) own in
       subst (λ n. is_member nat_eq (stretches level space) n ≡ true) (up ∙ sym same)
-      (member_goes (λ (p : Page). p.base / table_bytes level) (λ p. nat_lt (bytes_of p.size) (table_bytes level)) (pages space) q ((holds_listed is q).1 held.0) (has_table q level small)))
+      (member_goes (λ (p : Page). p.base / table_bytes level) (λ p. nat_lt (bytes_of p.size) (table_bytes level)) (pages space) q
+      ((holds_listed is q).1 held.0) (has_table q level small)))
       (cases_lt level (level_of q.size))
     where
       held : Holds space q × IsTrue (covers q b)
@@ -95,9 +107,11 @@ module _ (depth : Depth) (m : Memory) (root : ℕ) (space : Space) (is : IsSpace
       own = let spans = (covers_means q b).0 held.1 in in_block (3 + 9 * level_of q.size) q.base b good.aligned spans.0 spans.1
 
   -- where something is mapped, and no page has the base, a smaller page begins
-  pub some_begins : (NothingUnder depth m root (suc level) base → ⊥) → page_at space base ≡ None → is_member nat_eq (stretches level space) (base / table_bytes level) ≡ true
+  pub some_begins : (NothingUnder depth m root (suc level) base → ⊥) → page_at space base ≡ None
+      → is_member nat_eq (stretches level space) (base / table_bytes level) ≡ true
   some_begins something none =
-      elim (is_member nat_eq (stretches level space) (base / table_bytes level)) as (λ t. is_member nat_eq (stretches level space) (base / table_bytes level) ≡ t → t ≡ true) [
+      elim (is_member nat_eq (stretches level space) (base / table_bytes level))
+      as (λ t. is_member nat_eq (stretches level space) (base / table_bytes level) ≡ t → t ≡ true) [
         | true ↦ λ t. refl
         | false ↦ λ t. absurd (something (λ b is_b same.
             elim (page_at space b) as (λ o. page_at space b ≡ o → walk depth m root b ≡ NotMapped) [
@@ -108,14 +122,17 @@ module _ (depth : Depth) (m : Memory) (root : ℕ) (space : Space) (is : IsSpace
 
 -- what a page adds to the table count, where the path of its base ends at the table of this level
 pub count_added : (depth : Depth) (m : Memory) (root : ℕ) (space : Space) (page : Page) (level : ℕ) → IsSpace depth space → TranslatesAs depth m root space
-    → IsPage depth page → IsSpace depth (finite.insert space page.base page) → ((q : Page) → Holds space q → q.base ≢ page.base) → page_at space page.base ≡ None
+    → IsPage depth page → IsSpace depth (finite.insert space page.base page) → ((q : Page) → Holds space q → q.base ≢ page.base)
+    → page_at space page.base ≡ None
     → level_of page.size ≤ level → level ≤ levels depth → NothingUnder depth m root level page.base
     → ((j : ℕ) → level < j → j ≤ levels depth → NothingUnder depth m root j page.base → ⊥)
     → table_count depth (finite.insert space page.base page) ≡ (level - level_of page.size) + table_count depth space
 count_added depth m root space page level is translates good is_new absent none own below nothing something =
     let added = levels_added is page is_new absent level own
-    (λ l from to. none_begins depth m root space is translates page.base good.canonical l (omega arith) (λ b is_b same. nothing b is_b (λ i over under. same i (omega arith) under)))
+    (λ l from to. none_begins depth m root space is translates page.base good.canonical l (omega arith)
+    (λ b is_b same. nothing b is_b (λ i over under. same i (omega arith) under)))
     (levels depth - 1)
-    (λ l from to. some_begins depth m root space is translates page.base good.canonical l (omega (arith, level_some page.size)) (something (suc l) (omega arith) (omega (arith, level_some page.size))) none)
+    (λ l from to. some_begins depth m root space is translates page.base good.canonical l (omega (arith, level_some page.size))
+    (something (suc l) (omega arith) (omega (arith, level_some page.size))) none)
     (omega (arith, level_some page.size)) in
     omega arith

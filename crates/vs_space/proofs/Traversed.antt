@@ -17,19 +17,18 @@ use Rattle.vs_types.specs.declared.page.Rights.{Rights}
 use Rattle.vs_types.specs.declared.entry.Meaning.{Meaning}
 use Rattle.vs_types.specs.declared.entry.Meaning.TheVariants as entry
 use Rattle.vs_types.proofs.Lists.{Contains-head, Contains-tail, Contains-cases, not_in_nil}
-use Rattle.vs_walk.specs.Memory.{Memory}
+use Rattle.vs_walk.specs.Memory.{Memory, AreWhole}
 use Rattle.vs_walk.specs.Walk.{all_rights, TranslatesAs}
 use Rattle.vs_walk.specs.Traversal.{Visit, OfFrame, ReachedTable, entry_visits, table_visits, traversal, reached_by, reached, walk_fault}
-use Rattle.vs_walk.proofs.WaysLists.{contained_at_some_word}
-use Rattle.vs_walk.proofs.WaysBits.{entry_some, no_table_below}
-use Rattle.vs_walk.proofs.WaysMoves.{at_word_met, table_met, missing_met, nothing_met, first_met, word_is_met, reached_is_met, met_is_reached}
-use Rattle.vs_walk.proofs.WaysFound.{IsPlaced, place_below}
-use Rattle.vs_walk.proofs.WaysRise.{root_placed}
-use Rattle.vs_walk.proofs.WaysMet.{at_entry, offset_fits, some_levels}
-use Rattle.vs_walk.proofs.WaysLaws.{shared_reached}
-use Rattle.vs_walk.proofs.WaysSpaces.{translates_shared}
+use Rattle.vs_walk.proofs.LawsOfLists.{contained_at_some_word}
+use Rattle.vs_walk.proofs.TranslatedBits.{entry_some, no_table_below}
+use Rattle.vs_walk.proofs.LawsOfVisits.{at_word_met, table_met, missing_met, nothing_met, first_met, word_is_met, reached_is_met, met_is_reached}
+use Rattle.vs_walk.proofs.LawsOfFoundPages.{IsPlaced, place_below}
+use Rattle.vs_walk.proofs.LawsOfRising.{root_placed}
+use Rattle.vs_walk.proofs.LawsOfMetFaults.{at_entry, offset_fits, some_levels}
+use Rattle.vs_walk.proofs.LawsOfTraversals.{shared_reached}
+use Rattle.vs_walk.proofs.LawsOfSpaces.{translates_shared}
 use Rattle.vs_space.specs.Held.{word_at}
-use Rattle.vs_walk.specs.Ways.{AreWhole}
 use Rattle.vs_space.specs.Path.{found_at, table_in, table_at, SamePath}
 use Rattle.vs_space.specs.inside.Tree.{IsTree, IsReached}
 use Rattle.vs_space.specs.inside.Invariant.{IsPageTable}
@@ -73,12 +72,14 @@ words_once f IsAt (word ∷ words) from tells once is_at =
     (λ k lt. subst (λ i. Once (reached (f (i, get_or words k 0)))) (omega arith) (once (suc k) (omega arith))) later)
     (λ n here there.
     let at = contained_at_some_word f words (from + 1) (OfFrame n) (reached_is_met _ n there) in
-    let first : IsAt from n = subst (λ i. IsAt i n) (omega arith) (is_at 0 n (omega arith) (subst (λ i. Contains (f (i, word)) (OfFrame n)) (omega arith) (reached_is_met _ n here))) in
+    let first : IsAt from n = subst (λ i. IsAt i n) (omega arith)
+    (is_at 0 n (omega arith) (subst (λ i. Contains (f (i, word)) (OfFrame n)) (omega arith) (reached_is_met _ n here))) in
     let same = tells from (from + 1 + at.0) n first (later at.0 n at.1 at.2) in
     omega arith))
   where
     later : (k n : ℕ) → k < length words → Contains (f (from + 1 + k, get_or words k 0)) (OfFrame n) → IsAt (from + 1 + k) n
-    later k n lt met = subst (λ i. IsAt i n) (omega arith) (is_at (suc k) n (omega arith) (subst (λ i. Contains (f (i, get_or words k 0)) (OfFrame n)) (omega arith) met))
+    later k n lt met = subst (λ i. IsAt i n) (omega arith)
+        (is_at (suc k) n (omega arith) (subst (λ i. Contains (f (i, get_or words k 0)) (OfFrame n)) (omega arith) met))
 
 -- ---- one entry
 
@@ -91,19 +92,24 @@ abbrev next_table : ℕ → ReachedTable → ℕ → ℕ → Rights → ReachedT
 next_table level table index number own = record { number = number; start = entry_start level table index; rights = intersection table.rights own }
 
 -- frames are reached only where the entry leads to a table
-into_table : (depth : Depth) (level : ℕ) (table : ReachedTable) (index : ℕ) (below : ReachedTable → List Visit) (means : Meaning) (n : ℕ) → Contains (entry_visits depth (suc level) table index below means) (OfFrame n) → (number : ℕ) × (own : Rights) × (means ≡ entry.Table number own) × Contains (below (next_table level table index number own)) (OfFrame n)
+into_table : (depth : Depth) (level : ℕ) (table : ReachedTable) (index : ℕ) (below : ReachedTable → List Visit) (means : Meaning) (n : ℕ)
+    → Contains (entry_visits depth (suc level) table index below means) (OfFrame n)
+    → (number : ℕ) × (own : Rights) × (means ≡ entry.Table number own) × Contains (below (next_table level table index number own)) (OfFrame n)
 into_table depth level table index below entry.Absent n met = absurd (not_in_nil _ met)
 into_table depth level table index below entry.Reserved n met = ⊎_elim (λ same. cc) (λ later. absurd (not_in_nil _ later)) (Contains-cases _ [] _ met)
 into_table depth level table index below (entry.Leaf phys own) n met = ⊎_elim (λ same. cc) (λ later. absurd (not_in_nil _ later)) (Contains-cases _ [] _ met)
 into_table depth level table index below (entry.Table number own) n met = (number, own, refl, met)
 
-entry_once : (depth : Depth) (level : ℕ) (table : ReachedTable) (index : ℕ) (below : ReachedTable → List Visit) (means : Meaning) → ((number : ℕ) (own : Rights) → means ≡ entry.Table number own → Once (reached (below (next_table level table index number own)))) → Once (reached (entry_visits depth (suc level) table index below means))
+entry_once : (depth : Depth) (level : ℕ) (table : ReachedTable) (index : ℕ) (below : ReachedTable → List Visit) (means : Meaning)
+    → ((number : ℕ) (own : Rights) → means ≡ entry.Table number own → Once (reached (below (next_table level table index number own))))
+    → Once (reached (entry_visits depth (suc level) table index below means))
 entry_once depth level table index below entry.Absent lower = tt
 entry_once depth level table index below entry.Reserved lower = tt
 entry_once depth level table index below (entry.Leaf phys own) lower = tt
 entry_once depth level table index below (entry.Table number own) lower = lower number own refl
 
-found_in : (level : ℕ) (m : Memory) (n a index : ℕ) (words : List ℕ) (means : Meaning) → finite.get m n ≡ Some words → index_at level a ≡ index → meaning level (get_or words index 0) ≡ means → found_at level m n a ≡ Some means
+found_in : (level : ℕ) (m : Memory) (n a index : ℕ) (words : List ℕ) (means : Meaning) → finite.get m n ≡ Some words → index_at level a ≡ index
+    → meaning level (get_or words index 0) ≡ means → found_at level m n a ≡ Some means
 unfolding found_at word_at
 found_in level m n a index words means is at says =
     ap (λ (o : Option (List ℕ)). option_map (meaning level) (option_map (λ words. slice_index words (index_at level a)) o)) is
@@ -134,10 +140,12 @@ module _ (depth : Depth) (top : ℕ) (root : ℕ) (m : Memory) (whole : AreWhole
   root_on_path = record { descended = root_placed top root; at = table_first top root m 0 }
 
   -- an entry of a table on its path
-  module _ (level : ℕ) (table : ReachedTable) (on : IsOnPath (suc level) table) (words : List ℕ) (is : finite.get m table.number ≡ Some words) (index : ℕ) (within : index < 512) where
+  module _ (level : ℕ) (table : ReachedTable) (on : IsOnPath (suc level) table) (words : List ℕ) (is : finite.get m table.number ≡ Some words) (index : ℕ)
+      (within : index < 512) where
     entry_path : SamePath top (suc (suc level)) table.start (entry_start level table index)
     entry_path = subst (λ r. SamePath top (suc (suc level)) table.start (table.start + r)) (omega arith)
-        (path_into top (suc level) on.descended.times table.start (index * entry_bytes (suc level) + 0) on.descended.at (offset_fits level index 0 within (entry_some (suc level))))
+        (path_into top (suc level) on.descended.times table.start (index * entry_bytes (suc level) + 0) on.descended.at
+        (offset_fits level index 0 within (entry_some (suc level))))
 
     entry_index : index_at (suc level) (entry_start level table index) ≡ index
     entry_index =
@@ -145,7 +153,8 @@ module _ (depth : Depth) (top : ℕ) (root : ℕ) (m : Memory) (whole : AreWhole
         (ap (λ n. n + index * entry_bytes (suc level)) on.descended.at ∙ omega arith)).0
 
     -- the table to which it leads is on its path
-    next_on_path : (number : ℕ) (own : Rights) → meaning (suc level) (get_or words index 0) ≡ entry.Table number own → IsOnPath level (next_table level table index number own)
+    next_on_path : (number : ℕ) (own : Rights) → meaning (suc level) (get_or words index 0) ≡ entry.Table number own
+        → IsOnPath level (next_table level table index number own)
     next_on_path number own says = record {
       descended = place_below level table index number own on.descended;
       at = table_next top root m level _ table.number (sym (same_table top root m (suc level) _ _ entry_path) ∙ on.at)
@@ -180,7 +189,8 @@ module _ (depth : Depth) (top : ℕ) (root : ℕ) (m : Memory) (whole : AreWhole
 
   through : (level : ℕ) (table : ReachedTable) (on : IsOnPath (suc level) table) (words : List ℕ) → finite.get m table.number ≡ Some words
       → ((next : ReachedTable) → IsOnPath level next → (n : ℕ) → Contains (table_visits depth m level next) (OfFrame n) → IsUnder level next.start n)
-      → (index n : ℕ) → index < length words → Contains (at_word_met depth m level table (index, get_or words index 0)) (OfFrame n) → IsThrough (suc level) table.start index n
+      → (index n : ℕ) → index < length words → Contains (at_word_met depth m level table (index, get_or words index 0)) (OfFrame n)
+      → IsThrough (suc level) table.start index n
   through level table on words is lower index n lt met =
       let within : index < 512 = omega (arith, whole table.number words is) in
       let into = into_table depth level table index (λ next. table_visits depth m level next) (meaning (suc level) (get_or words index 0)) n met in
@@ -190,7 +200,8 @@ module _ (depth : Depth) (top : ℕ) (root : ℕ) (m : Memory) (whole : AreWhole
         address = under.address;
         below = omega (arith, under.below);
         path = λ i over to. entry_path level table on words is index within i over to ∙ under.path i (omega arith) to;
-        turns = sym (under.path (suc level) (omega arith) (reached_within top root m (suc level) table.start table.number on.at)) ∙ entry_index level table on words is index within;
+        turns = sym (under.path (suc level) (omega arith) (reached_within top root m (suc level) table.start table.number on.at))
+            ∙ entry_index level table on words is index within;
         at = under.at;
       }
 
@@ -206,7 +217,8 @@ module _ (depth : Depth) (top : ℕ) (root : ℕ) (m : Memory) (whole : AreWhole
   from_through : {level start index n : ℕ} → IsThrough level start index n → IsUnder level start n
   from_through {level} {start} {index} {n} t = record { lower = t.lower; address = t.address; below = omega (arith, t.below); path = t.path; at = t.at }
 
-  table_reaches : (level : ℕ) (table : ReachedTable) → IsOnPath level table → (n : ℕ) → Contains (table_visits depth m level table) (OfFrame n) → IsUnder level table.start n
+  table_reaches : (level : ℕ) (table : ReachedTable) → IsOnPath level table → (n : ℕ) → Contains (table_visits depth m level table) (OfFrame n)
+      → IsUnder level table.start n
   table_reaches zero table on n met = absurd (not_in_nil _ (subst (λ ms. Contains ms (OfFrame n)) (nothing_met depth m table) met))
   table_reaches (suc level) table on n met =
       elim (finite.get m table.number) as (λ o. finite.get m table.number ≡ o → IsUnder (suc level) table.start n) [
@@ -254,12 +266,14 @@ module _ (depth : Depth) (top : ℕ) (root : ℕ) (m : Memory) (whole : AreWhole
                 λ again.
                     let at = contained_at_some_word (at_word_met depth m level table) words 0 (OfFrame table.number) (reached_is_met _ table.number again) in
                     not_own (suc level) table on at.0
-                    (by_index at.0 table.number at.1 (subst (λ i. Contains (at_word_met depth m level table (i, get_or words at.0 0)) (OfFrame table.number)) (omega arith) at.2)),
+                    (by_index at.0 table.number at.1 (subst (λ i. Contains (at_word_met depth m level table (i, get_or words at.0 0)) (OfFrame table.number))
+                    (omega arith) at.2)),
                 words_once (at_word_met depth m level table) (IsThrough (suc level) table.start) words 0
                     (λ i j n. one_turn (suc level) table.start i j n (reached_within top root m (suc level) table.start table.number on.at))
                     (λ index lt. subst (λ i. Once (reached (at_word_met depth m level table (i, get_or words index 0)))) (omega arith)
                     (entry_once depth level table index (λ next. table_visits depth m level next) (meaning (suc level) (get_or words index 0))
-                    (λ number own says. table_once level _ (next_on_path level table on words is index (omega (arith, whole table.number words is)) number own says))))
+                    (λ number own says. table_once level _ (next_on_path level table on words is index
+                    (omega (arith, whole table.number words is)) number own says))))
                     (λ index n lt met. subst (λ i. IsThrough (suc level) table.start i n) (omega arith)
                     (by_index index n lt (subst (λ i. Contains (at_word_met depth m level table (i, get_or words index 0)) (OfFrame n)) (omega arith) met))),
               )
@@ -273,12 +287,14 @@ module _ (depth : Depth) (top : ℕ) (root : ℕ) (m : Memory) (whole : AreWhole
     | Some p ↦ λ is. (p, is)
   ] refl
 
-  path_reached : (d level lower : ℕ) (table : ReachedTable) → d + lower ≡ level → 0 < level → IsOnPath level table → (a n : ℕ) → SamePath top (suc level) table.start a
+  path_reached : (d level lower : ℕ) (table : ReachedTable) → d + lower ≡ level → 0 < level → IsOnPath level table → (a n : ℕ)
+      → SamePath top (suc level) table.start a
       → table_at top m root lower a ≡ Some n → Contains (table_visits depth m level table) (OfFrame n)
   path_reached d zero lower table deep some on a n same at = absurd (omega arith)
   path_reached zero (suc level) lower table deep some on a n same at =
       let number : table.number ≡ n =
-      one_some table.number n (sym on.at ∙ same_table top root m (suc level) table.start a same ∙ subst (λ j. table_at top m root j a ≡ Some n) (omega arith) at) in
+      one_some table.number n (sym on.at ∙ same_table top root m (suc level) table.start a same
+      ∙ subst (λ j. table_at top m root j a ≡ Some n) (omega arith) at) in
       let first = first_met depth m level table in
       subst (λ x. Contains (table_visits depth m (suc level) table) (OfFrame x)) number
       (subst (λ ms. Contains ms (OfFrame table.number)) (sym first.1) (Contains-head (OfFrame table.number) first.0))
@@ -286,17 +302,20 @@ module _ (depth : Depth) (top : ℕ) (root : ℕ) (m : Memory) (whole : AreWhole
       let high : suc level ≤ top = reached_within top root m (suc level) table.start table.number on.at in
       let next = some_there lower level a n (omega arith) (omega (arith, high)) at in
       let before = table_before top root m level a next.0 (omega (arith, high)) next.1 in
-      let parent : before.0 ≡ table.number = one_some before.0 table.number (sym before.2 ∙ sym (same_table top root m (suc level) table.start a same) ∙ on.at) in
+      let parent : before.0 ≡ table.number = one_some before.0 table.number
+      (sym before.2 ∙ sym (same_table top root m (suc level) table.start a same) ∙ on.at) in
       let leads : found_at (suc level) m table.number a ≡ Some (entry.Table next.0 before.1) =
       subst (λ p. found_at (suc level) m p a ≡ Some (entry.Table next.0 before.1)) parent before.3 in
       let words = words_found (suc level) m table.number a (entry.Table next.0 before.1) leads in
       let index : ℕ = index_at (suc level) a in
       let within : index < 512 = mod-lt (a / entry_bytes (suc level)) (omega arith) in
       next_is_met level table on words.0 words.1 index within next.0 before.1 (OfFrame n) words.2
-      (path_reached d level lower (next_table level table index next.0 before.1) (omega arith) (above_zero level (get_or words.0 index 0) next.0 before.1 words.2)
+      (path_reached d level lower (next_table level table index next.0 before.1) (omega arith)
+      (above_zero level (get_or words.0 index 0) next.0 before.1 words.2)
       (next_on_path level table on words.0 words.1 index within next.0 before.1 words.2) a n
       (same_longer top (suc level) (entry_start level table index) a
-      (λ i over to. sym (entry_path level table on words.0 words.1 index within i over to) ∙ same i over to) (entry_index level table on words.0 words.1 index within))
+      (λ i over to. sym (entry_path level table on words.0 words.1 index within i over to) ∙ same i over to)
+      (entry_index level table on words.0 words.1 index within))
       at)
 
 -- ---- from the root on
@@ -305,7 +324,8 @@ module _ (depth : Depth) (memory : Memory) (root : ℕ) (whole : AreWhole memory
   -- each frame that is reached is in use
   pub in_use : IsTree (levels depth) memory root → (n : ℕ) → Contains (reached (traversal depth memory root)) n → IsSome (finite.get memory n)
   in_use tree n is =
-      let under = table_reaches depth (levels depth) root memory whole (levels depth) _ (root_on_path depth (levels depth) root memory whole) n (reached_is_met (traversal depth memory root) n is) in
+      let under = table_reaches depth (levels depth) root memory whole (levels depth) _ (root_on_path depth (levels depth) root memory whole) n
+      (reached_is_met (traversal depth memory root) n is) in
       tree.in_use under.lower under.address n under.at
 
   -- and each frame in use is reached
@@ -314,7 +334,8 @@ module _ (depth : Depth) (memory : Memory) (root : ℕ) (whole : AreWhole memory
       let path = paths.path n used in
       met_is_reached (traversal depth memory root) n
       (path_reached depth (levels depth) root memory whole (levels depth - path.0) (levels depth) path.0 _
-      (omega (arith, reached_within (levels depth) root memory path.0 path.1 n path.2)) (some_levels depth) (root_on_path depth (levels depth) root memory whole) path.1 n
+      (omega (arith, reached_within (levels depth) root memory path.0 path.1 n path.2)) (some_levels depth)
+      (root_on_path depth (levels depth) root memory whole) path.1 n
       (λ i over to. absurd (omega arith)) path.2)
 
   -- and there is no fault
@@ -324,7 +345,8 @@ module _ (depth : Depth) (memory : Memory) (root : ℕ) (whole : AreWhole memory
       (λ shared.
       let twice = shared_reached depth memory root shared.0 shared.1 in
       absurd (not_twice shared.0 twice.0 twice.1
-      (subst Once twice.2 (table_once depth (levels depth) root memory whole tree (levels depth) _ (root_on_path depth (levels depth) root memory whole))) twice.3))
+      (subst Once twice.2 (table_once depth (levels depth) root memory whole tree (levels depth) _ (root_on_path depth (levels depth) root memory whole)))
+      twice.3))
       (translates_shared depth memory root space whole translates)
 
 -- a page table's traversal meets no fault, and reaches just the frames in use
@@ -341,7 +363,9 @@ traversed depth memory root table = (
 -- ---- frame numbers
 
 -- what a word leads to, where it leads to a table
-leads_to : (present reserved leaf : Bool) (phys number n : ℕ) (rights own : Rights) → (if not present then entry.Absent else if reserved then entry.Reserved else if leaf then entry.Leaf phys rights else entry.Table number rights) ≡ entry.Table n own → number ≡ n
+leads_to : (present reserved leaf : Bool) (phys number n : ℕ) (rights own : Rights)
+    → (if not present then entry.Absent else if reserved then entry.Reserved else if leaf then entry.Leaf phys rights else entry.Table number rights)
+    ≡ entry.Table n own → number ≡ n
 leads_to false reserved leaf phys number n rights own is = cc
 leads_to true true leaf phys number n rights own is = cc
 leads_to true false true phys number n rights own is = cc
@@ -362,6 +386,7 @@ numbers_fit depth memory root table n used =
     ∙ subst (λ l. table_at (levels depth) memory root l path.1 ≡ Some n) same path.2) in
     subst (λ number. number < 2 ^ 40) first table.root_fits)
     (λ (other : path.0 ≢ levels depth).
-    let before = table_before (levels depth) root memory path.0 path.1 n (omega (arith, other, reached_within (levels depth) root memory path.0 path.1 n path.2)) path.2 in
+    let before = table_before (levels depth) root memory path.0 path.1 n
+    (omega (arith, other, reached_within (levels depth) root memory path.0 path.1 n path.2)) path.2 in
     table_fits (suc path.0) _ n before.1 (words_found (suc path.0) memory before.0 path.1 (entry.Table n before.1) before.3).2)
     (cases_eq path.0 (levels depth))

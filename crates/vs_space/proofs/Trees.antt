@@ -1,5 +1,5 @@
 -- Trees of tables stay trees: an entry that leads to no table is written, a table is linked, a table is taken out.
-use Rattle.std.proofs.Common.{◌≡◌, ◌≢◌, ℕ, suc, ◌+◌, ◌-◌, ◌<◌, ◌≤◌, Some, None, ⊎_elim, sym, ap, subst, ◌∙◌, arith}
+use Rattle.std.proofs.Common.{◌≡◌, ◌≢◌, ℕ, suc, ◌-◌, ◌<◌, ◌≤◌, Some, None, ⊎_elim, sym, ap, subst, ◌∙◌, arith}
 use Rattle.std.specs.Prelude.{IsSome}
 use Rattle.std.proofs.lemmas.Bool.{cases_eq, cases_lt}
 use Rattle.std.specs.FinMap as finite
@@ -8,11 +8,10 @@ use Rattle.vs_types.specs.Entry.{meaning}
 use Rattle.vs_types.specs.declared.depth.Depth.{Depth}
 use Rattle.vs_types.specs.declared.entry.Meaning.{Meaning}
 use Rattle.vs_types.specs.declared.entry.Meaning.TheVariants as entry
-use Rattle.vs_walk.specs.Memory.{Memory}
+use Rattle.vs_walk.specs.Memory.{Memory, AreWhole}
 use Rattle.vs_walk.specs.Walk.{all_rights, walk, walk_from}
 use Rattle.vs_walk.specs.declared.walk.Walk.TheVariants.{NotMapped}
 use Rattle.vs_space.specs.Held.{with_word}
-use Rattle.vs_walk.specs.Ways.{AreWhole}
 use Rattle.vs_space.specs.Path.{found_at, table_in, table_at, SamePath}
 use Rattle.vs_space.specs.inside.Tree.{IsTree, IsFilled, NothingUnder}
 use Rattle.vs_space.specs.inside.Prune.{IsFilledBut}
@@ -45,7 +44,8 @@ module _ (top : ℕ) (root : ℕ) (m m' : Memory) (alike : (j b q : ℕ) → tab
 
 -- ---- an entry that leads to no table
 
-module _ (top : ℕ) (root : ℕ) (m : Memory) (tree : IsTree top m root) (whole : AreWhole m) (level a n : ℕ) (at : table_at top m root level a ≡ Some n) (w : ℕ) (ends : table_in (Some (meaning level w)) ≡ None) where
+module _ (top : ℕ) (root : ℕ) (m : Memory) (tree : IsTree top m root) (whole : AreWhole m) (level a n : ℕ) (at : table_at top m root level a ≡ Some n) (w : ℕ)
+    (ends : table_in (Some (meaning level w)) ≡ None) where
   abbrev new : Memory
   new = with_word m n (index_at level a) w
 
@@ -74,8 +74,10 @@ module _ (top : ℕ) (root : ℕ) (m : Memory) (tree : IsTree top m root) (whole
         (λ (here : j ≡ level).
         let there = table_here top root m tree whole level a n at w b same in
         let q_is : q ≡ n = one_some q n (sym r ∙ ap (λ i. table_at top new root i b) here ∙ there) in
-        let found : found_at level new n b ≡ Some (entry.Table next own) = subst (λ i. found_at i new n b ≡ Some (entry.Table next own)) here (subst (λ x. found_at j new x b ≡ Some (entry.Table next own)) q_is f) in
-        let is_table : table_in (Some (entry.Table next own)) ≡ None = ap table_in (sym found ∙ found_on_path top root m tree whole level a n at w b same) ∙ ends in
+        let found : found_at level new n b ≡ Some (entry.Table next own) =
+        subst (λ i. found_at i new n b ≡ Some (entry.Table next own)) here (subst (λ x. found_at j new x b ≡ Some (entry.Table next own)) q_is f) in
+        let is_table : table_in (Some (entry.Table next own)) ≡ None = ap table_in (sym found ∙ found_on_path top root m tree whole level a n at w b same)
+        ∙ ends in
         cc)
         (λ (other : j ≢ level). tree.allows j b q next own (fewer j b q r) (sym (above top root m tree whole level a n at w b j q other (fewer j b q r)) ∙ f))
         (cases_eq j level))

@@ -1,5 +1,5 @@
 -- What a page table is after a page was taken out.
-use Rattle.std.proofs.Common.{◌≡◌, ◌≢◌, ℕ, suc, ◌+◌, ◌-◌, ◌%◌, ◌<◌, List, Some, None, ⊎_elim, refl, sym, ap, subst, ◌∙◌, arith}
+use Rattle.std.proofs.Common.{◌≡◌, ◌≢◌, ℕ, ◌+◌, ◌-◌, ◌%◌, List, Some, None, ⊎_elim, refl, sym, ap, subst, ◌∙◌, arith}
 use Rattle.std.specs.Prelude.{slice_index}
 use Rattle.std.specs.FinMap as finite
 use Rattle.vs_types.specs.Depth.{levels, index_at, IsCanonical}
@@ -18,12 +18,11 @@ use Rattle.vs_types.specs.declared.answer.Answer.TheVariants as answers
 use Rattle.vs_types.proofs.Steps.{unmap_cases, step_space}
 use Rattle.vs_types.proofs.Looks.{removed_looks}
 use Rattle.vs_types.proofs.Spaces.{remove_cases, put_back}
-use Rattle.vs_walk.specs.Memory.{Memory}
+use Rattle.vs_walk.specs.Memory.{Memory, AreWhole}
 use Rattle.vs_walk.specs.Walk.{walk, TranslatesAs}
 use Rattle.vs_walk.specs.declared.walk.Walk.TheVariants.{NotMapped, Reserved}
-use Rattle.vs_walk.proofs.Translates.{not_reserved}
+use Rattle.vs_walk.proofs.LawsOfTranslations.{not_reserved}
 use Rattle.vs_space.specs.Held.{with_word}
-use Rattle.vs_walk.specs.Ways.{AreWhole}
 use Rattle.vs_space.specs.Path.{found_at, table_at, table_in, SamePath}
 use Rattle.vs_space.specs.inside.Tree.{IsTree, NothingUnder}
 use Rattle.vs_space.specs.inside.Prune.{IsCut, IsPruned}
@@ -41,9 +40,13 @@ use Rattle.vs_space.proofs.TableCounts.{count_added}
 use Rattle.vs_space.proofs.Meets.{page_met}
 
 -- the unmap of the page that begins there
-unmap_removes : (depth : Depth) (limit : ℕ) (space : Space) (base : ℕ) (q : Page) → page_at space base ≡ Some q → q.base ≡ base → step depth limit space (Unmap base) ≡ record { space = finite.remove space base; answer = answers.Removed q.phys q.size q.rights }
-unmap_removes depth limit space base q here same = unmap_cases (λ s. s ≡ record { space = finite.remove space base; answer = answers.Removed q.phys q.size q.rights }) depth limit space base (λ e. absurd (cc))
-    (λ p e is. let one : p ≡ q = cc in ap (λ (z : Page). let s : Stepped = record { space = finite.remove space base; answer = answers.Removed z.phys z.size z.rights } in s) one)
+unmap_removes : (depth : Depth) (limit : ℕ) (space : Space) (base : ℕ) (q : Page) → page_at space base ≡ Some q → q.base ≡ base
+    → step depth limit space (Unmap base) ≡ record { space = finite.remove space base; answer = answers.Removed q.phys q.size q.rights }
+unmap_removes depth limit space base q here same =
+    unmap_cases (λ s. s ≡ record { space = finite.remove space base; answer = answers.Removed q.phys q.size q.rights }) depth limit space base
+    (λ e. absurd (cc))
+    (λ p e is. let one : p ≡ q = cc in ap (λ (z : Page). let s : Stepped =
+    record { space = finite.remove space base; answer = answers.Removed z.phys z.size z.rights } in s) one)
     (λ p e differs. let one : p ≡ q = cc in absurd (differs (ap (λ (z : Page). z.base) one ∙ same)))
 
 module _ (depth : Depth) (m : Memory) (root : ℕ) (table : IsPageTable depth m root) (base : ℕ) (canonical : IsCanonical depth base) (level : ℕ) (path : List ℕ)
@@ -83,7 +86,8 @@ module _ (depth : Depth) (m : Memory) (root : ℕ) (table : IsPageTable depth m 
   is_cut = record {
     tree = tree_cut;
     filled = but_write depth root m table.tree whole level base (slice_index path level) at 0 ends (but_none base table.filled);
-    all_reached = reached_write (levels depth) root m table.tree whole level base (slice_index path level) at 0 (ap table_in descent.is) (written_zero level) table.reached;
+    all_reached = reached_write (levels depth) root m table.tree whole level base (slice_index path level) at 0 (ap table_in descent.is)
+        (written_zero level) table.reached;
     whole = whole_written m (slice_index path level) (index_at level base) 0 (table.tree.in_use level base (slice_index path level) at) whole;
     some = descent.above;
     below = descent.below;
@@ -101,7 +105,8 @@ module _ (depth : Depth) (m : Memory) (root : ℕ) (table : IsPageTable depth m 
 
   -- ---- the tables after what is left empty was given back
 
-  module _ (m' : Memory) (up : ℕ) (pruned : IsPruned depth cut m' root base level up) (aligned : base % 4096 ≡ 0) (limit : ℕ) (space : Space) (of : IsSpaceOf depth m root space) where
+  module _ (m' : Memory) (up : ℕ) (pruned : IsPruned depth cut m' root base level up) (aligned : base % 4096 ≡ 0) (limit : ℕ) (space : Space)
+      (of : IsSpaceOf depth m root space) where
     good : IsBase depth base
     good = record { canonical = canonical; aligned = aligned }
 
@@ -123,7 +128,8 @@ module _ (depth : Depth) (m : Memory) (root : ℕ) (table : IsPageTable depth m 
     looks : LooksChanged leaf.0 (λ address. answers.NotMapped) space (step depth limit space (Unmap base)).space
     looks = subst (λ a. LooksChanged leaf.0 (λ address. answers.NotMapped) space (step depth limit space (Unmap a)).space) begins_here
         (removed_looks limit of.is_space leaf.0
-        (subst (λ a. (step depth limit space (Unmap a)).answer ≡ answers.Removed leaf.0.phys leaf.0.size leaf.0.rights) (sym begins_here) (ap (λ (s : Stepped). s.answer) removes)))
+        (subst (λ a. (step depth limit space (Unmap a)).answer ≡ answers.Removed leaf.0.phys leaf.0.size leaf.0.rights) (sym begins_here)
+        (ap (λ (s : Stepped). s.answer) removes)))
 
     is_after : IsSpace depth (step depth limit space (Unmap base)).space
     is_after = step_space limit of.is_space (Unmap base) good
@@ -139,7 +145,8 @@ module _ (depth : Depth) (m : Memory) (root : ℕ) (table : IsPageTable depth m 
         (subst (λ l. SamePath (levels depth) l base b) (sym leaf.1.level_is) same)
 
     translates_after : TranslatesAs depth m' root (step depth limit space (Unmap base)).space
-    translates_after = translates_changed depth m m' root space (step depth limit space (Unmap base)).space leaf.0 (λ address. answers.NotMapped) looks of.translates leaf.1.good
+    translates_after = translates_changed depth m m' root space (step depth limit space (Unmap base)).space leaf.0
+        (λ address. answers.NotMapped) looks of.translates leaf.1.good
         (λ b is_b same. pruned.walks b is_b ∙ walk_on b (on_path b same))
         (λ b is_b apart. pruned.walks b is_b ∙ walk_off b (λ same. apart (of_page b same)))
 
@@ -151,12 +158,14 @@ module _ (depth : Depth) (m : Memory) (root : ℕ) (table : IsPageTable depth m 
 
     nothing_now : page_at (step depth limit space (Unmap base)).space leaf.0.base ≡ None
     nothing_now = subst (λ a. page_at (step depth limit space (Unmap base)).space a ≡ None) (sym begins_here)
-        (nothing_at depth m' root (step depth limit space (Unmap base)).space base translates_after canonical (pruned.walks base canonical ∙ walk_on base (λ i from to. refl)))
+        (nothing_at depth m' root (step depth limit space (Unmap base)).space base translates_after canonical
+        (pruned.walks base canonical ∙ walk_on base (λ i from to. refl)))
 
     added : table_count depth space ≡ (up - level) + table_count depth (step depth limit space (Unmap base)).space
     added =
         ap (table_count depth) (sym again)
-        ∙ count_added depth m' root (step depth limit space (Unmap base)).space leaf.0 up is_after translates_after leaf.1.good (subst (IsSpace depth) (sym again) of.is_space)
+        ∙ count_added depth m' root (step depth limit space (Unmap base)).space leaf.0 up is_after translates_after leaf.1.good
+        (subst (IsSpace depth) (sym again) of.is_space)
         (λ r held same. (remove_cases space leaf.0.base r.base r (subst (λ (s : Space). Holds s r) removed_is held)).0 same)
         nothing_now (omega (arith, leaf.1.level_is, pruned.above)) pruned.below
         (subst (λ a. NothingUnder depth m' root up a) (sym begins_here) pruned.nothing)
@@ -173,7 +182,8 @@ module _ (depth : Depth) (m : Memory) (root : ℕ) (table : IsPageTable depth m 
     }
 
   -- as the code has it: the entry at this index was cleared
-  module _ (index : ℕ) (is_index : index ≡ index_at level base) (m' : Memory) (up : ℕ) (pruned : IsPruned depth (with_word m (slice_index path level) index 0) m' root base level up)
+  module _ (index : ℕ) (is_index : index ≡ index_at level base) (m' : Memory) (up : ℕ)
+      (pruned : IsPruned depth (with_word m (slice_index path level) index 0) m' root base level up)
       (aligned : base % 4096 ≡ 0) where
     pruned_here : IsPruned depth cut m' root base level up
     pruned_here = subst (λ i. IsPruned depth (with_word m (slice_index path level) i 0) m' root base level up) is_index pruned
@@ -188,7 +198,8 @@ module _ (depth : Depth) (m : Memory) (root : ℕ) (table : IsPageTable depth m 
       some_space = ((step depth 0 table.some_space.0 (Unmap base)).space, space_is m' up pruned_here aligned 0 table.some_space.0 table.some_space.1);
     }
 
-    pub unmap_step : (first limit : ℕ) → IsTableStep (page_table depth first limit root m) (Unmap base) (answers.Removed phys (size_at level) own) (page_table depth first limit root m')
+    pub unmap_step : (first limit : ℕ) → IsTableStep (page_table depth first limit root m) (Unmap base) (answers.Removed phys (size_at level) own)
+        (page_table depth first limit root m')
     unmap_step first limit = record {
       some_space = own_space depth first limit root m table;
       same = refl;

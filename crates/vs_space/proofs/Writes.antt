@@ -6,10 +6,9 @@ use Rattle.std.proofs.lemmas.List.{get_or-set_same, get_or-set_other}
 use Rattle.std.specs.FinMap as finite
 use Rattle.vs_types.specs.Depth.{index_at}
 use Rattle.vs_types.specs.Entry.{meaning}
-use Rattle.vs_walk.specs.Memory.{Memory}
+use Rattle.vs_walk.specs.Memory.{Memory, AreWhole}
 use Rattle.vs_walk.specs.Walk.{all_rights, walk_from}
 use Rattle.vs_space.specs.Held.{word_at, with_word}
-use Rattle.vs_walk.specs.Ways.{AreWhole}
 use Rattle.vs_space.specs.Path.{found_at, table_at, SamePath}
 use Rattle.vs_space.specs.inside.Tree.{IsTree}
 use Rattle.vs_space.proofs.Numbered.{get-insert_same, get-insert_other, len-insert_used}
@@ -25,7 +24,8 @@ words_in m n used = by (finite.get m n) used where
 pub used_some : (m : Memory) (n : ℕ) (words : List ℕ) → finite.get m n ≡ Some words → IsSome (finite.get m n)
 used_some m n words e = subst IsSome (sym e) refl
 
-found_of : (level : ℕ) (m : Memory) (n b : ℕ) (o : Option (List ℕ)) → finite.get m n ≡ o → found_at level m n b ≡ option_map (meaning level) (option_map (λ words. slice_index words (index_at level b)) o)
+found_of : (level : ℕ) (m : Memory) (n b : ℕ) (o : Option (List ℕ)) → finite.get m n ≡ o
+    → found_at level m n b ≡ option_map (meaning level) (option_map (λ words. slice_index words (index_at level b)) o)
 unfolding found_at word_at
 found_of level m n b o e = ap (λ (x : Option (List ℕ)). option_map (meaning level) (option_map (λ words. slice_index words (index_at level b)) x)) e
 
@@ -51,14 +51,16 @@ unfolding with_word
 len_written m n i w used = len-insert_used m n _ _ (words_in m n used)
 
 -- the entry that was written is found
-pub found_here : (level : ℕ) (m : Memory) (n i w b : ℕ) → AreWhole m → IsSome (finite.get m n) → i < 512 → index_at level b ≡ i → found_at level (with_word m n i w) n b ≡ Some (meaning level w)
+pub found_here : (level : ℕ) (m : Memory) (n i w b : ℕ) → AreWhole m → IsSome (finite.get m n) → i < 512 → index_at level b ≡ i
+    → found_at level (with_word m n i w) n b ≡ Some (meaning level w)
 found_here level m n i w b whole used low at =
     found_of level (with_word m n i w) n b _ (get_written m n i w)
     ∙ ap (λ j. Some (meaning level (slice_index (slice_set (unwrap_or (finite.get m n) []) i w) j))) at
     ∙ ap (λ x. Some (meaning level x)) (get_or-set_same (unwrap_or (finite.get m n) []) i w 0 (omega (arith, whole n _ (words_in m n used))))
 
 -- and each other entry is found as before
-pub found_elsewhere : (level : ℕ) (m : Memory) (n i w q b : ℕ) → IsSome (finite.get m n) → (q ≡ n → index_at level b ≢ i) → found_at level (with_word m n i w) q b ≡ found_at level m q b
+pub found_elsewhere : (level : ℕ) (m : Memory) (n i w q b : ℕ) → IsSome (finite.get m n) → (q ≡ n → index_at level b ≢ i)
+    → found_at level (with_word m n i w) q b ≡ found_at level m q b
 found_elsewhere level m n i w q b used apart = ⊎_elim
     (λ (same : q ≡ n). subst (λ k. found_at level (with_word m n i w) k b ≡ found_at level m k b) (sym same)
     (found_of level (with_word m n i w) n b _ (get_written m n i w)
@@ -92,7 +94,8 @@ same_or_not top level a b = by (top + 1 - level) level (omega arith) where
 
 -- ---- the entry for an address a is written in the table of a level on its path
 
-module _ (top : ℕ) (root : ℕ) (m : Memory) (tree : IsTree top m root) (whole : AreWhole m) (level a n : ℕ) (at : table_at top m root level a ≡ Some n) (w : ℕ) where
+module _ (top : ℕ) (root : ℕ) (m : Memory) (tree : IsTree top m root) (whole : AreWhole m) (level a n : ℕ) (at : table_at top m root level a ≡ Some n)
+    (w : ℕ) where
   abbrev pub after_write : Memory
   after_write = with_word m n (index_at level a) w
 
@@ -123,4 +126,5 @@ module _ (top : ℕ) (root : ℕ) (m : Memory) (tree : IsTree top m root) (whole
   table_here b same = table_above b level (omega arith) ∙ sym (same_table top root m level a b (λ i from to. same i (omega arith) to)) ∙ at
 
   pub found_on_path : (b : ℕ) → SamePath top level a b → found_at level after_write n b ≡ Some (meaning level w)
-  found_on_path b same = found_here level m n (index_at level a) w b whole used (omega arith) (sym (same level (omega arith) (reached_within top root m level a n at)))
+  found_on_path b same = found_here level m n (index_at level a) w b whole used (omega arith)
+      (sym (same level (omega arith) (reached_within top root m level a n at)))

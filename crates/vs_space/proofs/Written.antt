@@ -1,5 +1,5 @@
 -- Words stay written as entries of their tables' levels.
-use Rattle.std.proofs.Common.{◌≡◌, ◌≢◌, ℕ, ◌<◌, ◌≤◌, List, [], Option, Some, ⊎_elim, refl, sym, ap, subst, ◌∙◌, arith}
+use Rattle.std.proofs.Common.{◌≡◌, ◌≢◌, ℕ, ◌<◌, List, [], Option, Some, ⊎_elim, refl, sym, ap, subst, ◌∙◌, arith}
 use Rattle.std.specs.Prelude.{IsSome, option_map, unwrap_or, slice_index, slice_set}
 use Rattle.std.proofs.lemmas.Bool.{cases_eq}
 use Rattle.std.proofs.lemmas.List.{get_or-set_same, get_or-set_other}
@@ -13,9 +13,8 @@ use Rattle.vs_types.specs.declared.page.Size.TheVariants.{K4, M2, G1}
 use Rattle.vs_types.specs.declared.entry.Meaning.{Meaning}
 use Rattle.vs_types.specs.declared.entry.Meaning.TheVariants as entry
 use Rattle.vs_arena.specs.Store.{zeros}
-use Rattle.vs_walk.specs.Memory.{Memory}
+use Rattle.vs_walk.specs.Memory.{Memory, AreWhole}
 use Rattle.vs_walk.specs.Walk.{all_rights}
-use Rattle.vs_walk.specs.Ways.{AreWhole}
 use Rattle.vs_space.specs.Held.{word_at, with_word}
 use Rattle.vs_space.specs.Path.{table_at, entry_in, HasPresent}
 use Rattle.vs_space.specs.inside.Tree.{IsTree, IsReached, AreWritten}
@@ -35,7 +34,8 @@ written_as level word e says is = record { is = is ∙ ap (word_for level) (sym 
 pub written_table : (level word number : ℕ) → meaning level word ≡ entry.Table number all_rights → word ≡ table_word number → IsWritten level word
 written_table level word number says is = written_as level word (entry.Table number all_rights) says is
 
-pub written_leaf : (level word phys : ℕ) (rights : Rights) → meaning level word ≡ entry.Leaf phys rights → word ≡ leaf_word (size_at level) phys rights → IsWritten level word
+pub written_leaf : (level word phys : ℕ) (rights : Rights) → meaning level word ≡ entry.Leaf phys rights → word ≡ leaf_word (size_at level) phys rights
+    → IsWritten level word
 written_leaf level word phys rights says is = written_as level word (entry.Leaf phys rights) says is
 
 size_same : (size : Size) → size_at (level_of size) ≡ size
@@ -68,7 +68,8 @@ written_clear level m n clear = λ i word got.
     subst (IsWritten level) (sym zero_here) (written_zero level)
 
 -- a frame stays written when a word that is written is put in
-pub written_set : (level : ℕ) (m : Memory) (n i w : ℕ) → AreWhole m → IsSome (finite.get m n) → i < 512 → IsWritten level w → AreWritten level m n → AreWritten level (with_word m n i w) n
+pub written_set : (level : ℕ) (m : Memory) (n i w : ℕ) → AreWhole m → IsSome (finite.get m n) → i < 512 → IsWritten level w → AreWritten level m n
+    → AreWritten level (with_word m n i w) n
 written_set level m n i w whole used low is are = λ j word got. ⊎_elim
     (λ (same : j ≡ i).
     let here : word ≡ w = one_word word w (sym got ∙ word_of (with_word m n i w) n j _ (get_written m n i w)
@@ -82,7 +83,8 @@ written_set level m n i w whole used low is are = λ j word got. ⊎_elim
 
 -- ---- the entry for an address a is written in the table of a level on its path
 
-pub written_on : (top root : ℕ) (m : Memory) → IsTree top m root → AreWhole m → (level a n : ℕ) → table_at top m root level a ≡ Some n → (w : ℕ) → IsWritten level w
+pub written_on : (top root : ℕ) (m : Memory) → IsTree top m root → AreWhole m → (level a n : ℕ) → table_at top m root level a ≡ Some n → (w : ℕ)
+    → IsWritten level w
     → (j b q : ℕ) → table_at top m root j b ≡ Some q → AreWritten j m q → AreWritten j (with_word m n (index_at level a) w) q
 written_on top root m tree whole level a n at w is j b q reached are = ⊎_elim
     (λ (same : q ≡ n).
@@ -95,17 +97,20 @@ written_on top root m tree whole level a n at w is j b q reached are = ⊎_elim
     (cases_eq q n)
 
 -- the words of a table that is reached are as written at its level
-pub written_at : (top root : ℕ) (m : Memory) → IsTree top m root → IsReached top m root → (level a n : ℕ) → table_at top m root level a ≡ Some n → AreWritten level m n
+pub written_at : (top root : ℕ) (m : Memory) → IsTree top m root → IsReached top m root → (level a n : ℕ) → table_at top m root level a ≡ Some n
+    → AreWritten level m n
 written_at top root m tree is level a n at =
     let own = is.path n (tree.in_use level a n at) in
     subst (λ l. AreWritten l m n) (tree.once own.0 level own.1 a n own.2 at).0 own.3
 
 -- an entry is absent where its word is 0, and nowhere else
-pub entry_zero : (level : ℕ) (m : Memory) (n i : ℕ) (words : List ℕ) → finite.get m n ≡ Some words → slice_index words i ≡ 0 → entry_in level m n i ≡ Some entry.Absent
+pub entry_zero : (level : ℕ) (m : Memory) (n i : ℕ) (words : List ℕ) → finite.get m n ≡ Some words → slice_index words i ≡ 0
+    → entry_in level m n i ≡ Some entry.Absent
 unfolding entry_in
 entry_zero level m n i words got none = ap (option_map (meaning level)) (word_of m n i (Some words) got) ∙ ap (λ w. Some (meaning level w)) none
 
-pub entry_other : (level : ℕ) (m : Memory) (n i : ℕ) (words : List ℕ) → finite.get m n ≡ Some words → AreWritten level m n → i < 512 → slice_index words i ≢ 0 → HasPresent level m n
+pub entry_other : (level : ℕ) (m : Memory) (n i : ℕ) (words : List ℕ) → finite.get m n ≡ Some words → AreWritten level m n → i < 512 → slice_index words i ≢ 0
+    → HasPresent level m n
 unfolding entry_in
 entry_other level m n i words got are low other =
     let here = word_of m n i (Some words) got in

@@ -27,4 +27,5 @@ pub record IsTableStep (old : PageTable) (action : Action) (answer : Answer) (ne
   pub some_space : (space : Space) × IsTableOf old space
   pub same : new ≡ record old { memory = new.memory }
   pub unchanged : IsFalse (changes answer) → new ≡ old
-  pub steps : (space : Space) → IsTableOf old space → (answer ≡ (step old.depth old.limit space action).answer) × IsTableOf new (step old.depth old.limit space action).space
+  pub steps : (space : Space) → IsTableOf old space
+      → (answer ≡ (step old.depth old.limit space action).answer) × IsTableOf new (step old.depth old.limit space action).space

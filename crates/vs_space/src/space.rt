@@ -2,11 +2,11 @@ ghost use Rattle.std.specs.Prelude.{◌<◌, ◌≤◌, ◌≡◌, ◌^◌, ◌+
 ghost use Rattle.std.specs.FinMap as finite;
 ghost use Rattle.vs_types.specs.declared.op.Action.{Action};
 ghost use Rattle.vs_types.specs.Depth.{IsCanonical};
-ghost use Rattle.vs_types.specs.Operation.{IsBase};
+ghost use Rattle.vs_types.specs.Operation.{IsAction, IsBase};
 ghost use Rattle.vs_types.specs.Page.{IsPage};
 ghost use Rattle.vs_types.specs.Space as spaces;
 ghost use Rattle.vs_types.specs.Space.{no_pages, table_count};
-ghost use Rattle.vs_types.specs.Step.{look};
+ghost use Rattle.vs_types.specs.Step.{allow, look};
 ghost use Rattle.vs_walk.specs.Traversal.{traversal, reached, walk_fault};
 ghost use Rattle.vs_space.specs.Table.{PageTable, IsTableOf, IsTableStep};
 ghost use Rattle.vs_space.specs.Written.{IsWrittenTable};
@@ -15,7 +15,9 @@ use crate::tables::Tables;
 use crate::word::read_written;
 use std::marker::Model;
 use vs_arena::{FRAME_WORDS, FrameStore};
-use vs_types::{Action, Answer, Depth, Entry, Meaning, Op, Page, Rights, Size, index_at};
+use vs_types::{
+    Access, Action, Answer, Depth, Entry, Meaning, Mode, Op, Page, Rights, Size, index_at,
+};
 use vs_walk::Frames;
 
 /// There is no frame for the root: the store has none.
@@ -83,6 +85,13 @@ impl<S: FrameStore + Drop> Space<S> {
 }
 
 impl<S: FrameStore> Space<S> {
+    /// Its depth.
+    pub fn depth(&self) -> Depth
+        ensures { result ≡ self.now.depth }
+    {
+        self.depth
+    }
+
     /// How many tables there are, the root among them: the frames in use.
     pub fn tables(&self) -> usize
         ensures reads { result ≡ finite.len self.now.memory }
@@ -123,10 +132,21 @@ impl<S: FrameStore> Space<S> {
         Answer::Mapped(phys + address % size.bytes(), size, rights)
     }
 
-    /// Does an operation: the answer and the space after it are those of a step, under the store's capacity as the limit.
+    /// Whether an access of a canonical address is allowed, and where that is: `Allowed`, or `Fault` with the error code of
+    /// the page fault. It goes down the tables once.
+    pub fn access(&self, address: u64, mode: Mode, access: Access) -> Answer
+        requires { IsCanonical self.now.depth address }
+        ensures { (space : spaces.Space) → IsTableOf self.now space → result ≡ allow space address mode access }
+    {
+        self.resolve(address).accessed(mode, access)
+    }
+
+    /// Does an operation that is well formed at the space's depth: the answer and the space after it are those of a step,
+    /// under the store's capacity as the limit.
     /// It reads and writes at most one table a level, but for the first page below a table, and for whether a table is
     /// empty, which is one pass over its words.
     pub fn apply(&mut self, op: Op) -> Answer
+        requires { IsAction self.old.depth op }
         ensures { IsTableStep self.old op result self.new }
     {
         match op.action() {

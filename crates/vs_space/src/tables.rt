@@ -8,7 +8,7 @@ ghost use Rattle.vs_types.specs.Entry.{meaning};
 ghost use Rattle.vs_types.specs.declared.entry.Meaning.{Meaning};
 ghost use Rattle.vs_space.specs.inside.Prune.{IsCut, IsPruned};
 ghost use Rattle.vs_space.specs.Held.{numbered, word_at, with_word, AreNumbered};
-ghost use Rattle.vs_walk.specs.Ways.{AreWhole};
+ghost use Rattle.vs_walk.specs.Memory.{AreWhole};
 ghost use Rattle.vs_space.specs.Path.{found_at, table_at, entry_in, IsFirstPresent, HasPresent};
 ghost use Rattle.vs_space.specs.inside.Tree.{IsTree, IsFilled, IsReached, AreWritten};
 ghost use Rattle.vs_space.specs.Written.{IsWritten};
@@ -29,7 +29,7 @@ pub(crate) struct Tables<S: FrameStore> {
 
 impl<S: FrameStore> Model for Tables<S> {
     ghost use Rattle.vs_space.specs.Held.{Held, held_code, numbered, AreNumbered};
-    ghost use Rattle.vs_walk.specs.Ways.{AreWhole};
+    ghost use Rattle.vs_walk.specs.Memory.{AreWhole};
 
     ghost Value = { Held };
 

@@ -20,12 +20,3 @@ pub mod LawsOfVisits
 pub mod LawsOfWalks
 pub mod ExamplesOfOneWord
 pub mod ExamplesOfTables
-pub mod WaysLists
-pub mod WaysBits
-pub mod WaysMoves
-pub mod WaysFound
-pub mod WaysRise
-pub mod WaysMet
-pub mod WaysLaws
-pub mod WaysSpaces
-pub mod Translates

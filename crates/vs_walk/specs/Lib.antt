@@ -5,7 +5,6 @@ pub mod Reached
 pub mod Differences
 pub mod Dump
 pub mod Examples
-pub mod Ways
 pub mod Laws
 pub mod inside
 pub use Rattle.vs_types.specs.Depth

@@ -1,4 +1,5 @@
 -- What a search for some faults of a trace finds: none of them, or the first. No public clause cites this file.
+use Rattle.std.specs.Prelude.{ℕ, Option, Some, None}
 use Rattle.nr_trace.specs.Recording.{Recording}
 use Rattle.nr_trace.specs.Faults.{Holds, Earlier}
 use Rattle.nr_trace.specs.declared.fault.Fault.{Fault}
@@ -12,3 +13,8 @@ pub record IsFirstAmong (Among : Fault → Type 0) (trace : Recording) (fault : 
   pub is_among : Among fault
   pub holds : Holds trace fault
   pub none_earlier : (other : Fault) → Among other → Holds trace other → Earlier trace other fault → ⊥
+
+-- a number with the property, or none where no number has it
+abbrev pub Finds : (ℕ → Type 0) → Option ℕ → Type 0
+Finds P None = (number : ℕ) → P number → ⊥
+Finds P (Some number) = P number

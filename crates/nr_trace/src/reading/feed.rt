@@ -45,11 +45,7 @@ fn take_units(reader: Reader, bytes: &[u8]) -> Result<(Reader, &[u8]), Fail<Form
 }
 
 /// Takes all whole units at the front of the bytes, and keeps the beginning of the next one.
-fn take_bytes(
-    reader: Reader,
-    mut begun: Vec<u8>,
-    bytes: &[u8],
-) -> Result<State, Fail<Format>>
+fn take_bytes(reader: Reader, mut begun: Vec<u8>, bytes: &[u8]) -> Result<State, Fail<Format>>
     requires sound { IsSound reader }
     requires between { begun.items ≡ [] }
     ensures { MatchResult result (HasCome (said reader ++ bytes.now)) (IfRefused (IsSettled (said reader ++ bytes.now))) }
@@ -60,11 +56,7 @@ fn take_bytes(
 }
 
 /// Completes the unit that has begun, and goes on behind it.
-fn take_piece(
-    reader: Reader,
-    mut begun: Vec<u8>,
-    piece: &[u8],
-) -> Result<State, Fail<Format>>
+fn take_piece(reader: Reader, mut begun: Vec<u8>, piece: &[u8]) -> Result<State, Fail<Format>>
     requires sound { IsSound reader }
     requires fewer { AreFewer (unit_bytes reader) begun.items }
     ensures { MatchResult result (HasCome (said reader ++ begun.items ++ piece.now)) (IfRefused (IsSettled (said reader ++ begun.items ++ piece.now))) }

@@ -4,9 +4,8 @@ use Rattle.std.specs.FinMap as finite
 use Rattle.vs_types.specs.Depth.{levels, IsCanonical}
 use Rattle.vs_types.specs.declared.depth.Depth.{Depth}
 use Rattle.vs_types.specs.declared.entry.Meaning.TheVariants as entry
-use Rattle.vs_walk.specs.Memory.{Memory}
+use Rattle.vs_walk.specs.Memory.{Memory, AreWhole}
 use Rattle.vs_walk.specs.Walk.{walk}
-use Rattle.vs_walk.specs.Ways.{AreWhole}
 use Rattle.vs_space.specs.Path.{found_at, table_at, SamePath}
 use Rattle.vs_space.specs.inside.Tree.{IsTree, IsFilled, IsReached, NothingUnder}
 

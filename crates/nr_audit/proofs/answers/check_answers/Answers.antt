@@ -1,6 +1,7 @@
 use Rattle.std.proofs.Common.{◌≡◌, ℕ, ◌<◌, length, take, get_or, sym, ap, subst, ◌∙◌, arith}
 use Rattle.std.proofs.Math.Seq.{take-length}
 use Rattle.std.proofs.lemmas.Bool.{iff_false}
+use Rattle.vs_types.specs.Query.{IsQuery}
 use Rattle.vs_plain.specs.Plain.{BoundedSpace}
 use Rattle.nr_trace.specs.Orders.{space_after}
 use Rattle.nr_trace.specs.Faults.{IsWrong}
@@ -14,11 +15,15 @@ loop-call-preserved-in_default c =
     let trace = c.args.history.now in
     let order = c.args.order.now in
     let k = c.loop-call.call-index in
-    let none = sym c.request.ensures ∙ c.in_default.is in
+    let none = sym c.request.ensures.asks ∙ c.in_default.is in
     record {
       space = c.loop-call.invariant.space ∙ ap (λ s. kept trace.layout s) (space_stays trace order k 0 c.loop-call-test.true none);
       right = right_more trace order k c.loop-call.invariant.right (no_call_is_right trace order c.requires.listed c.requires.clean (get_or order k 0) none);
     }
+
+-- src/answers.rt:65:22
+pub serve-requires : goal.serve-requires
+serve-requires c = subst (λ (s : BoundedSpace). IsQuery s.depth c.in-Some.query) (sym c.loop-call.invariant.space) c.in-Some.ensures.well_formed
 
 -- src/answers.rt:66:13
 pub returns-then-not-agrees-clause-first : goal.returns-then-not-agrees-clause-first
@@ -29,7 +34,7 @@ returns-then-not-agrees-clause-first c =
     let serves = subst (λ (s : BoundedSpace). Serves s c.in-Some.query c.in_ok-answer.answer c.serve.new.space) c.loop-call.invariant.space c.in_ok-answer.ensures in
     let gives = answered trace.layout (space_after trace (take k order)) c.in-Some.query c.in_ok-answer.answer c.serve.new.space serves in
     first_wrong trace order c.requires.listed c.requires.clean k c.loop-call-test.true c.loop-call.invariant.right
-    (wrong_here trace order c.requires.listed c.requires.clean k c.in-Some.query c.in_ok-answer.answer c.reply.result c.loop-call-test.true (sym c.in-Some.is ∙ c.request.ensures) gives c.reply.ensures
+    (wrong_here trace order c.requires.listed c.requires.clean k c.in-Some.query c.in_ok-answer.answer c.reply.result c.loop-call-test.true (sym c.in-Some.is ∙ c.request.ensures.asks) gives c.reply.ensures
     (iff_false c.agrees.ensures c.if-not-agrees.true))
 
 -- src/answers.rt:60:5
@@ -38,7 +43,7 @@ loop-call-preserved c =
     let trace = c.args.history.now in
     let order = c.args.order.now in
     let k = c.loop-call.call-index in
-    let asks = sym c.in-Some.is ∙ c.request.ensures in
+    let asks = sym c.in-Some.is ∙ c.request.ensures.asks in
     let serves = subst (λ (s : BoundedSpace). Serves s c.in-Some.query c.in_ok-answer.answer c.serve.new.space) c.loop-call.invariant.space c.in_ok-answer.ensures in
     let gives = answered trace.layout (space_after trace (take k order)) c.in-Some.query c.in_ok-answer.answer c.serve.new.space serves in
     record {

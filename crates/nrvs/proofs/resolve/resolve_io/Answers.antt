@@ -6,8 +6,9 @@ use Rattle.nrvs.proofs.resolve.resolve_io.Goals as goal
 pub returns-clause-ok : goal.returns-clause-ok
 returns-clause-ok g c =
     let report = c.in_ok-report.report in
+    let has = c.in_ok-read.ensures.ok in
     IfOk-weaker c.write_report.result _ _
-    (λ status h. writes (IsResolve c.args.address.now c.args.replica) (g.R.Read.remaining c.args.reader) c.in_ok-input.input.items c.deref.result.now report.text.bytes.items
-    (g.W.Write.contents c.args.writer.now) (g.W.Write.contents c.write_report.new.writer) report.status status c.in_ok-input.ensures.ok c.deref.ensures.value
-    record { address = c.in_ok-address.address; spelled = c.in_ok-address.ensures; is_walk = c.in_ok-report.ensures } h.0 h.1)
+    (λ status h. writes (IsResolve c.args.address.now c.args.replica) (g.R.Read.remaining c.args.reader) c.in_ok-read.read report.text.bytes.items
+    (g.W.Write.contents c.args.writer.now) (g.W.Write.contents c.write_report.new.writer) report.status status has
+    record { address = c.in_ok-address.address; spelled = c.in_ok-address.ensures; is_walk = c.in_ok-report.ensures has.input has.read_is } h.0 h.1)
     c.write_report.ensures.ok

@@ -1,7 +1,6 @@
-use Rattle.vs_types.specs.declared.depth.Depth.TheVariants.{Four}
 use Rattle.space_benchmark.specs.Work.{after_rounds, start}
 use Rattle.space_benchmark.proofs.Rounds.{IsAt}
 use Rattle.space_benchmark.proofs.measure.measure.Given as goal
 
 abbrev pub invariant-loop : goal.invariant-loop
-invariant-loop g l = IsAt Four 4096 (after_rounds Four 4096 l.load l.counter start) l.space l.measured.sum.value
+invariant-loop g l = IsAt l.load.depth 4096 (after_rounds l.load.depth 4096 l.load l.counter start) l.space l.measured.sum.value

@@ -12,14 +12,20 @@ use Rattle.vs_space.proofs.space.Space.new.Goals as goal
 
 pub returns-in_default-clause-no_root : goal.returns-in_default-clause-no_root
 returns-in_default-clause-no_root g c =
-    sym (ap (λ (h : Held). h.limit) c.new-tables.ensures) ∙ sym c.in_default.ensures.all_in_use ∙ ap (λ (h : Held). finite.len h.memory) c.new-tables.ensures ∙ finite.len-empty nat_cmp (List ℕ)
+    sym (ap (λ (h : Held). h.limit) c.new-tables.ensures) ∙ sym c.in_default.ensures.all_in_use ∙ ap (λ (h : Held). finite.len h.memory) c.new-tables.ensures
+    ∙ finite.len-empty nat_cmp (List ℕ)
 
 pub invariant_of-result : goal.invariant_of-result
 invariant_of-result g c =
-    let after = c.in-Some.ensures.taken ∙ ap (λ (h : Held). let r : Held = record { base = h.base; limit = h.limit; memory = finite.insert h.memory c.in-Some.root zeros } in r) c.new-tables.ensures in
-    (subst (λ (h : Held). IsPageTable c.args.depth h.memory c.in-Some.root) (sym after) (new_table c.args.depth c.in-Some.root c.in-Some.ensures.in_range), c.in-Some.ensures.numbers)
+    let after = c.in-Some.ensures.taken ∙ ap (λ (h : Held). let r : Held =
+    record { base = h.base; limit = h.limit; memory = finite.insert h.memory c.in-Some.root zeros } in r) c.new-tables.ensures in (
+      subst (λ (h : Held). IsPageTable c.args.depth h.memory c.in-Some.root) (sym after) (new_table c.args.depth c.in-Some.root c.in-Some.ensures.in_range),
+      c.in-Some.ensures.numbers,
+    )
 
 pub returns-clause-empty : goal.returns-clause-empty
 returns-clause-empty g c =
-    let after = c.in-Some.ensures.taken ∙ ap (λ (h : Held). let r : Held = record { base = h.base; limit = h.limit; memory = finite.insert h.memory c.in-Some.root zeros } in r) c.new-tables.ensures in
-    subst (λ (h : Held). IsTableOf (page_table c.args.depth h.base h.limit c.in-Some.root h.memory) no_pages) (sym after) (new_is_empty c.args.depth c.in-Some.root _ _)
+    let after = c.in-Some.ensures.taken ∙ ap (λ (h : Held). let r : Held =
+    record { base = h.base; limit = h.limit; memory = finite.insert h.memory c.in-Some.root zeros } in r) c.new-tables.ensures in
+    subst (λ (h : Held). IsTableOf (page_table c.args.depth h.base h.limit c.in-Some.root h.memory) no_pages) (sym after)
+    (new_is_empty c.args.depth c.in-Some.root _ _)

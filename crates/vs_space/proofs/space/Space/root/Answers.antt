@@ -16,11 +16,13 @@ returns-clause-faultless g c = subst (λ (t : PageTable). walk_fault t.depth t.m
     (traversed _ _ _ c.self.invariant.0).0
 
 pub returns-clause-in_use : goal.returns-clause-in_use
-returns-clause-in_use g c = subst (λ (t : PageTable). (number : ℕ) → Contains (reached (traversal t.depth t.memory t.root)) number → IsTrue (finite.contains_key t.memory number)) c.self.view_is
+returns-clause-in_use g c = subst (λ (t : PageTable). (number : ℕ) → Contains (reached (traversal t.depth t.memory t.root)) number
+    → IsTrue (finite.contains_key t.memory number)) c.self.view_is
     (traversed _ _ _ c.self.invariant.0).1
 
 pub returns-clause-each : goal.returns-clause-each
-returns-clause-each g c = subst (λ (t : PageTable). (number : ℕ) → IsTrue (finite.contains_key t.memory number) → Contains (reached (traversal t.depth t.memory t.root)) number) c.self.view_is
+returns-clause-each g c = subst (λ (t : PageTable). (number : ℕ) → IsTrue (finite.contains_key t.memory number)
+    → Contains (reached (traversal t.depth t.memory t.root)) number) c.self.view_is
     (traversed _ _ _ c.self.invariant.0).2
 
 pub returns-clause-in_range : goal.returns-clause-in_range
@@ -32,9 +34,12 @@ returns-clause-from_base g c = subst (λ (t : PageTable). (number : ℕ) → IsT
     c.self.invariant.1.from_base
 
 pub returns-clause-below_limit : goal.returns-clause-below_limit
-returns-clause-below_limit g c = subst (λ (t : PageTable). (number : ℕ) → IsTrue (finite.contains_key t.memory number) → number < t.base + t.limit) c.self.view_is
+returns-clause-below_limit g c = subst (λ (t : PageTable). (number : ℕ) → IsTrue (finite.contains_key t.memory number) → number < t.base + t.limit)
+    c.self.view_is
     c.self.invariant.1.below
 
 pub returns-clause-written : goal.returns-clause-written
-returns-clause-written g c = subst (λ (t : PageTable). (number : ℕ) → IsTrue (finite.contains_key t.memory number) → IsWrittenTable t.depth t.memory t.root number) c.self.view_is
-    (λ number used. let table = c.self.invariant.0.reached.path number used in record { level = table.0; address = table.1; reached = table.2; written = table.3 })
+returns-clause-written g c = subst (λ (t : PageTable). (number : ℕ) → IsTrue (finite.contains_key t.memory number)
+    → IsWrittenTable t.depth t.memory t.root number) c.self.view_is
+    (λ number used. let table = c.self.invariant.0.reached.path number used in
+    record { level = table.0; address = table.1; reached = table.2; written = table.3 })

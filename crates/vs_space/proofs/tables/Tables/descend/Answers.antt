@@ -9,17 +9,20 @@ loop-level-init g c = at_root _ _ c.args.root _ c.args.lowest _ _ c.levels-level
 pub loop-level-preserved : goal.loop-level-preserved
 loop-level-preserved g c =
     goes_down _ _ c.args.root _ c.args.lowest _ _ c.in-Table.next _ _ c.requires.some_level c.loop-level.invariant
-    (entry_read c.loop-level.level _ c.loop-level.number c.args.address _ _ _ c.word-word.ensures c.index_at.ensures.is c.in-Table.ensures) (λ e. c.if-level-lowest.false (sym e))
+    (entry_read c.loop-level.level _ c.loop-level.number c.args.address _ _ _ c.word-word.ensures c.index_at.ensures.is c.in-Table.ensures)
+    (λ e. c.if-level-lowest.false (sym e))
 
 pub returns-then-level-lowest-clause-descent : goal.returns-then-level-lowest-clause-descent
 returns-then-level-lowest-clause-descent g c =
     stops _ _ c.args.root _ c.args.lowest _ _ _ (meaning c.loop-level.level c.word-word.result) c.loop-level.invariant
-    (entry_read c.loop-level.level _ c.loop-level.number c.args.address _ _ _ c.word-word.ensures c.index_at.ensures.is refl) (λ deep. absurd (omega (arith, c.if-level-lowest.true, deep)))
+    (entry_read c.loop-level.level _ c.loop-level.number c.args.address _ _ _ c.word-word.ensures c.index_at.ensures.is refl)
+    (λ deep. absurd (omega (arith, c.if-level-lowest.true, deep)))
 
 pub returns-in_default-clause-descent : goal.returns-in_default-clause-descent
 returns-in_default-clause-descent g c =
     stops _ _ c.args.root _ c.args.lowest _ _ _ (meaning c.loop-level.level c.word-word.result) c.loop-level.invariant
-    (entry_read c.loop-level.level _ c.loop-level.number c.args.address _ _ _ c.word-word.ensures c.index_at.ensures.is refl) (λ deep. no_table _ (λ n own e. c.in_default.not-Table n own (c.read_written.ensures ∙ e)))
+    (entry_read c.loop-level.level _ c.loop-level.number c.args.address _ _ _ c.word-word.ensures c.index_at.ensures.is refl)
+    (λ deep. no_table _ (λ n own e. c.in_default.not-Table n own (c.read_written.ensures ∙ e)))
 
 pub returns-then-level-lowest-clause-written : goal.returns-then-level-lowest-clause-written
 returns-then-level-lowest-clause-written g c =

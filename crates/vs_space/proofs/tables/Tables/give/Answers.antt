@@ -21,5 +21,6 @@ returns-clause-numbers g c =
 pub returns-clause-removed : goal.returns-clause-removed
 returns-clause-removed g c =
     stored _ _ _ _ _ _ c.give.ensures.same_size c.give.ensures.same_base
-    (ap (numbered (g.S.FrameStore.base c.self.inside.store)) c.give.ensures.removed ∙ numbered-remove _ _ _ ∙ ap (finite.remove _) c.frame_of-frame.ensures.numbered)
+    (ap (numbered (g.S.FrameStore.base c.self.inside.store)) c.give.ensures.removed ∙ numbered-remove _ _ _
+    ∙ ap (finite.remove _) c.frame_of-frame.ensures.numbered)
     ∙ ap (λ (h : Held). held h.base h.limit (finite.remove h.memory c.args.number)) c.self.view_is

@@ -7,4 +7,5 @@ pub invariant_of-result : goal.invariant_of-result
 invariant_of-result g c = (whole-empty _ c.requires, numbers_none _ _ _ (ap (numbered (g.S.FrameStore.base c.args.store)) c.requires ∙ numbered-empty _))
 
 pub returns : goal.returns
-returns g c = ap (held (g.S.FrameStore.base c.args.store) (g.S.FrameStore.size c.args.store)) (ap (numbered (g.S.FrameStore.base c.args.store)) c.requires ∙ numbered-empty _)
+returns g c = ap (held (g.S.FrameStore.base c.args.store) (g.S.FrameStore.size c.args.store))
+    (ap (numbered (g.S.FrameStore.base c.args.store)) c.requires ∙ numbered-empty _)

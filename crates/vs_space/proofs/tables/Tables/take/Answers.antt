@@ -8,7 +8,8 @@ use Rattle.vs_space.proofs.tables.Tables.take.Goals as goal
 
 pub returns-in_err-frame-clause-all_in_use : goal.returns-in_err-frame-clause-all_in_use
 returns-in_err-frame-clause-all_in_use g c =
-    rw c.from_residual.ensures (ap (λ (h : Held). finite.len h.memory) (sym c.self.view_is) ∙ len_numbered _ _ ∙ c.in_err-frame.ensures.all_in_use ∙ ap (λ (h : Held). h.limit) c.self.view_is)
+    rw c.from_residual.ensures (ap (λ (h : Held). finite.len h.memory) (sym c.self.view_is) ∙ len_numbered _ _ ∙ c.in_err-frame.ensures.all_in_use
+    ∙ ap (λ (h : Held). h.limit) c.self.view_is)
 
 pub number-requires : goal.number-requires
 number-requires g c = rw c.in_ok-frame.ensures.cleared (IsInUse-insert_same _ c.in_ok-frame.frame zeros)
@@ -29,13 +30,16 @@ returns-clause-numbers g c =
 
 pub returns-clause-was_free : goal.returns-clause-was_free
 returns-clause-was_free g c =
-    let named : c.number.result ≡ g.S.FrameStore.base c.self.inside.store + c.in_ok-frame.frame = c.number.ensures.numbered ∙ ap (λ b. b + c.in_ok-frame.frame) c.take.ensures.same_base in
+    let named : c.number.result ≡ g.S.FrameStore.base c.self.inside.store + c.in_ok-frame.frame = c.number.ensures.numbered
+    ∙ ap (λ b. b + c.in_ok-frame.frame) c.take.ensures.same_base in
     ap (λ (h : Held). finite.get h.memory c.number.result) (sym c.self.view_is)
     ∙ ap (finite.get _) named ∙ get_numbered _ _ c.in_ok-frame.frame ∙ c.in_ok-frame.ensures.was_free
 
 pub returns-clause-taken : goal.returns-clause-taken
 returns-clause-taken g c =
-    let named : c.number.result ≡ g.S.FrameStore.base c.self.inside.store + c.in_ok-frame.frame = c.number.ensures.numbered ∙ ap (λ b. b + c.in_ok-frame.frame) c.take.ensures.same_base in
+    let named : c.number.result ≡ g.S.FrameStore.base c.self.inside.store + c.in_ok-frame.frame = c.number.ensures.numbered
+    ∙ ap (λ b. b + c.in_ok-frame.frame) c.take.ensures.same_base in
     stored _ _ _ _ _ _ c.take.ensures.same_size c.take.ensures.same_base
-    (ap (numbered (g.S.FrameStore.base c.self.inside.store)) c.in_ok-frame.ensures.cleared ∙ numbered-insert _ _ _ zeros ∙ ap (λ n. finite.insert (numbered (g.S.FrameStore.base c.self.inside.store) (g.S.FrameStore.frames c.self.inside.store)) n zeros) (sym named))
+    (ap (numbered (g.S.FrameStore.base c.self.inside.store)) c.in_ok-frame.ensures.cleared ∙ numbered-insert _ _ _ zeros
+    ∙ ap (λ n. finite.insert (numbered (g.S.FrameStore.base c.self.inside.store) (g.S.FrameStore.frames c.self.inside.store)) n zeros) (sym named))
     ∙ ap (λ (h : Held). held h.base h.limit (finite.insert h.memory c.number.result zeros)) c.self.view_is

@@ -9,7 +9,7 @@ use Rattle.nr_trace.proofs.reading.feed.Feed.feed.Goals.{in-Open, in-Stopped}
 
 pub returns-in-Ok : goal.returns-in-Ok
 returns-in-Ok c = elim c.match-state.branch [
-  in-Open w ↦
+  | in-Open w ↦
       let bytes = said w.in-Open.reader ++ w.in-Open.begun.items ++ c.args.piece.now in
       let come : HasCome bytes c.in-Ok.state = subst (λ r. MatchResult r (HasCome bytes) (IfRefused (IsSettled bytes))) (sym w.next-is ∙ c.in-Ok.is) w.take_piece-next.ensures in
       piece_taken c.args.self.now c.replace-state.result c.in-Ok.state w.in-Open.reader w.in-Open.begun c.args.piece.now

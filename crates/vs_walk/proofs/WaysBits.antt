@@ -1,2 +1,0 @@
--- The same lemmas under another name.
-pub use Rattle.vs_walk.proofs.TranslatedBits.{entry_some, no_table_below}
