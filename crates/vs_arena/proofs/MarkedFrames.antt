@@ -9,6 +9,7 @@ use Rattle.std.proofs.lemmas.List.{length-set, length-replicate, get_or-set_same
 use Rattle.std.proofs.lemmas.List.Elements.{All-set, All-replicate}
 use Rattle.std.proofs.lemmas.Bool.{cases_eq, cases_lt, eqb-true, eqb-false, true≢false, lt-ltb, le-ltb}
 use Rattle.std.proofs.lemmas.Bool.Decides.{nat_tests}
+use Rattle.vs_types.specs.declared.limits.TheConstants.{TABLES}
 use Rattle.vs_types.specs.Frame.{IsFrame}
 use Rattle.vs_arena.specs.Store.{Store, IsInUse, IsFree, words_of}
 use Rattle.vs_arena.specs.inside.Arena.{with_frame, frames_below, marked, marked_frames, IsArena}
@@ -229,7 +230,7 @@ marked_frames-none n words = same_at _ _ (λ q. get-marked_frames (replicate n f
     | inr le ↦ get_or_past (replicate n false) q false (omega (arith, length-replicate n false))
   ]
 
-pub IsArena-new : (base n : ℕ) (words : List (List ℕ)) (free : List ℕ) → n ≤ 4096 → base + n ≤ 2 ^ 40 → length words ≡ n → All IsFrame words → length free ≡ n → ((k : ℕ) → k < n → get_or free k 0 ≡ k) → IsArena base words (replicate n false) free n
+pub IsArena-new : (base n : ℕ) (words : List (List ℕ)) (free : List ℕ) → n ≤ TABLES → base + n ≤ 2 ^ 40 → length words ≡ n → All IsFrame words → length free ≡ n → ((k : ℕ) → k < n → get_or free k 0 ≡ k) → IsArena base words (replicate n false) free n
 IsArena-new base n words free few fit words_long whole free_long itself =
     let long = length-replicate n false in
     record {

@@ -4,6 +4,7 @@ use Rattle.std.specs.Prelude.{Option, Some, None, All}
 use Rattle.std.proofs.lemmas.Grind.{get_or-set_at}
 use Rattle.std.proofs.lemmas.List.{get_or-set_same, get_or-set_other}
 use Rattle.std.proofs.lemmas.Bool.{cases_eq, true≢false}
+use Rattle.vs_types.specs.declared.limits.TheConstants.{TABLES}
 use Rattle.vs_types.specs.Frame.{IsFrame}
 use Rattle.vs_arena.specs.inside.Arena.{marked_frames}
 use Rattle.vs_arena.specs.inside.Region.{IsFilled}
@@ -136,7 +137,7 @@ module _ (base : ℕ) (places : List (Option (List ℕ))) (marks : List Bool) (c
         });
       }
 
-pub IsRawArena-new : (base n next : ℕ) (places : List (Option (List ℕ))) (words : List (List ℕ)) (free : List ℕ) → n ≤ 4096 → base + n ≤ 2 ^ 40
+pub IsRawArena-new : (base n next : ℕ) (places : List (Option (List ℕ))) (words : List (List ℕ)) (free : List ℕ) → n ≤ TABLES → base + n ≤ 2 ^ 40
     → places ≡ map Some words → length words ≡ n → All IsFrame words → length free ≡ n → ((k : ℕ) → k < n → get_or free k 0 ≡ k)
     → ((k : ℕ) → k + 1 < n → get_or (get_or words (k + 1) []) 0 0 ≡ k) → ((k : ℕ) → k + 1 ≡ n → next ≡ k)
     → IsRawArena base places (replicate n false) n next

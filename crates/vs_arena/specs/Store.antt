@@ -2,6 +2,7 @@
 use Rattle.std.specs.Prelude.{◌≡◌, ℕ, ◌+◌, ◌^◌, ◌<◌, ◌≤◌, List, [], replicate, unwrap_or, Some, None, IsSome}
 use Rattle.std.specs.FinMap as finite
 use Rattle.std.specs.Ordering.{nat_cmp}
+use Rattle.vs_types.specs.declared.limits.TheConstants.{TABLES}
 use Rattle.vs_types.specs.Frame.{IsFrame}
 
 abbrev pub Store : Type 0
@@ -25,7 +26,7 @@ zeros = replicate 512 0
 
 -- the frames in use of a store with this base frame number and this capacity
 pub record IsStore (base size : ℕ) (store : Store) : Type 0 where
-  pub few_frames : size ≤ 4096
+  pub few_frames : size ≤ TABLES
   pub numbers_fit : base + size ≤ 2 ^ 40
   pub within : (index : ℕ) → IsInUse store index → index < size
   pub frames : (index : ℕ) (words : List ℕ) → finite.get store index ≡ Some words → IsFrame words

@@ -1,4 +1,5 @@
 ghost use Rattle.std.specs.Prelude.{◌≡◌, ℕ, ◌+◌, ◌<◌, ◌≤◌, true, false, IfSome, IfNone, length, slice_index_or, slice_set};
+ghost use Rattle.vs_types.specs.declared.limits.TheConstants.{TABLES};
 ghost use Rattle.vs_arena.specs.Store.{zeros};
 
 use std::marker::Model;
@@ -12,19 +13,20 @@ pub struct Frame {
 
 impl Model for Frame {
     ghost use Rattle.std.specs.Prelude.{ℕ, ◌<◌};
+    ghost use Rattle.vs_types.specs.declared.limits.TheConstants.{TABLES};
 
     ghost Value = { ℕ };
 
     ghost view = { λ f. f.index };
 
-    ghost invariant = { λ f. f.index < 4096 };
+    ghost invariant = { λ f. f.index < TABLES };
 
     ghost inverse = { λ n. record { index = n } };
 }
 
 impl Frame {
     pub(crate) fn at_index(index: u16) -> Frame
-        requires { index < 4096 }
+        requires { index < TABLES }
         ensures { result ≡ index }
     {
         Frame { index }
@@ -33,7 +35,7 @@ impl Frame {
     /// Its place in the store: 0 to 4,095.
     pub fn index(self) -> u16
         ensures reads { result ≡ self }
-        ensures in_range { self < 4096 }
+        ensures in_range { self < TABLES }
     {
         self.index
     }
@@ -41,7 +43,7 @@ impl Frame {
 
 /// The frame of this number, where it is marked as in use. Frames lie in a row, the first of which has the number `base`.
 pub(crate) fn marked_at(base: u64, marks: &[bool], number: u64) -> Option<Frame>
-    requires { length marks.now ≤ 4096 }
+    requires { length marks.now ≤ TABLES }
     ensures numbered { IfSome result (λ f. base + f ≡ number) }
     ensures marked { IfSome result (λ f. slice_index_or marks.now f false ≡ true) }
     ensures unmarked { IfNone result ((f : ℕ) → base + f ≡ number → slice_index_or marks.now f false ≡ false) }

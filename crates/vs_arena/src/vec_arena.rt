@@ -1,5 +1,6 @@
 ghost use Rattle.std.specs.Prelude.{◌≡◌, ◌+◌, ◌^◌, ◌≤◌, IfOk};
 ghost use Rattle.std.specs.FinMap as finite;
+ghost use Rattle.vs_types.specs.declared.limits.TheConstants.{TABLES};
 
 use crate::frame::{Frame, cleared_words, marked_at};
 use crate::store::FrameStore;
@@ -36,7 +37,7 @@ impl Model for VecArena {
 impl VecArena {
     /// A store of `n` frames of which none is in use; frame 0 has the number `base`. Its one error is out of memory.
     pub fn new(alloc: Global, base: u64, n: usize) -> Result<VecArena, Memory>
-        requires few { n ≤ 4096 }
+        requires few { n ≤ TABLES }
         requires in_range { base + n ≤ 2 ^ 40 }
         ensures { IfOk result (λ a. a ≡ record { base = base; size = n; frames = finite.empty }) }
     {

@@ -3,6 +3,7 @@ use Rattle.std.specs.Prelude.{ℕ, ◌^◌, ◌<◌, ◌≤◌, List, All, IsTru
 use Rattle.std.specs.Coded.{Coded, code_by, coded×, coded_ℕ, coded_list}
 use Rattle.std.specs.FinMap as finite
 use Rattle.std.specs.Ordering.{nat_cmp}
+use Rattle.vs_types.specs.declared.limits.TheConstants.{TABLES}
 use Rattle.vs_types.specs.Frame.{IsFrame}
 use Rattle.vs_walk.specs.Memory.{Memory}
 
@@ -20,7 +21,7 @@ image_code = code_by (ℕ × (ℕ × Memory)) (coded× coded_ℕ (coded× coded_
 pub record AreParts (applied root : ℕ) (frames : List (ℕ × List ℕ)) : Type 0 where
   pub applied_fits : applied < 2 ^ 32
   pub root_fits : root < 2 ^ 64
-  pub few : length frames ≤ 4096
+  pub few : length frames ≤ TABLES
   pub rising : IsTrue (finite.is_sorted nat_cmp frames)
   pub in_range : All (λ frame. frame.0 < 2 ^ 40) frames
   pub whole : All (λ frame. IsFrame frame.1) frames

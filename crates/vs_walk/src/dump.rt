@@ -1,5 +1,6 @@
 ghost use Rattle.std.specs.Prelude.{◌≡◌, ◌+◌, ◌<◌, ◌^◌, [], ◌∷◌, ◌++◌, All, OnOk, OnErr, slice_index};
 ghost use Rattle.std.specs.FinMap as finite;
+ghost use Rattle.vs_types.specs.declared.limits.TheConstants.{TABLES};
 ghost use Rattle.vs_walk.specs.Dump.{IsDump};
 
 use crate::frames::Frames;
@@ -56,7 +57,7 @@ impl Dump {
     pub fn push(&mut self, number: u64, words: &[u64; FRAME_WORDS]) -> Result<(), Memory>
         requires above { All (λ held. held < number) (finite.keys self.old.frames) }
         requires in_range { number < 2 ^ 40 }
-        requires room { finite.len self.old.frames < 4096 }
+        requires room { finite.len self.old.frames < TABLES }
         ensures ok { OnOk result (self.new ≡ record self.old { frames = finite.insert self.old.frames number words.now }) }
         ensures numbers { OnOk result (finite.keys self.new.frames ≡ finite.keys self.old.frames ++ number ∷ []) }
         ensures count { OnOk result (finite.len self.new.frames ≡ finite.len self.old.frames + 1) }

@@ -1,5 +1,6 @@
 ghost use Rattle.std.specs.Prelude.{◌≡◌, ◌<◌, ◌≤◌, ◌^◌, ℕ, length, All, Contains, IsTrue, Some, None, IfOk, IfErr, OnOk};
 ghost use Rattle.std.specs.FinMap as finite;
+ghost use Rattle.vs_types.specs.declared.limits.TheConstants.{TABLES};
 ghost use Rattle.vs_types.specs.Refusal.{IfRefused};
 ghost use Rattle.vs_walk.specs.Traversal.{traversal, reached, walk_fault};
 
@@ -35,7 +36,7 @@ impl Dump {
         depth: Depth,
         applied: u32,
     ) -> Result<Dump, Fail<WalkFault>>
-        requires few { walk_fault depth (F.memory frames.now) root ≡ None → length (reached (traversal depth (F.memory frames.now) root)) ≤ 4096 }
+        requires few { walk_fault depth (F.memory frames.now) root ≡ None → length (reached (traversal depth (F.memory frames.now) root)) ≤ TABLES }
         requires in_range { walk_fault depth (F.memory frames.now) root ≡ None → All (λ number. number < 2 ^ 40) (reached (traversal depth (F.memory frames.now) root)) }
         ensures applied { IfOk result (λ dump. dump.applied ≡ applied) }
         ensures root { IfOk result (λ dump. dump.root ≡ root) }

@@ -3,6 +3,7 @@
 ghost use Rattle.std.specs.Prelude.{◌≡◌, ◌≢◌, ◌≤◌, ◌<◌, ◌^◌, ◌⊎◌, ◌++◌, ◌∷◌, ℕ, List, length, All, Contains, IsTrue, IsFalse, Some, None, nat_eq};
 ghost use Rattle.std.specs.FinMap as finite;
 ghost use Rattle.std.specs.List.{AllPairs, IsDistinct};
+ghost use Rattle.vs_types.specs.declared.limits.TheConstants.{TABLES};
 ghost use Rattle.vs_types.specs.declared.depth.Depth.{Depth};
 ghost use Rattle.vs_types.specs.declared.page.Page.{Page};
 ghost use Rattle.vs_types.specs.Depth.{IsCanonical};
@@ -91,6 +92,6 @@ pub fn dumps_are_whole()
 /// numbers below 2^40.
 pub fn few_are_reached()
     ensures few { (depth : Depth) (memory : Memory) (root : ℕ) → walk_fault depth memory root ≡ None → length (reached (traversal depth memory root)) ≤ finite.len memory }
-    ensures of_dump { (dump : Image) (depth : Depth) (root : ℕ) → IsDump dump → walk_fault depth dump.frames root ≡ None → length (reached (traversal depth dump.frames root)) ≤ 4096 }
+    ensures of_dump { (dump : Image) (depth : Depth) (root : ℕ) → IsDump dump → walk_fault depth dump.frames root ≡ None → length (reached (traversal depth dump.frames root)) ≤ TABLES }
     ensures in_range { (dump : Image) (depth : Depth) (root : ℕ) → IsDump dump → walk_fault depth dump.frames root ≡ None → All (λ number. number < 2 ^ 40) (reached (traversal depth dump.frames root)) }
 {}

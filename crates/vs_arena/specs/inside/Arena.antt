@@ -3,6 +3,7 @@ use Rattle.std.specs.Prelude.{◌≡◌, ℕ, suc, zero, ◌+◌, ◌^◌, ◌<�
 use Rattle.std.specs.Coded.{Coded, code_by, coded×, coded_ℕ, coded_list}
 use Rattle.std.specs.FinMap as finite
 use Rattle.std.specs.Ordering.{nat_cmp}
+use Rattle.vs_types.specs.declared.limits.TheConstants.{TABLES}
 use Rattle.vs_types.specs.Frame.{IsFrame}
 use Rattle.vs_arena.specs.Store.{Store}
 use Rattle.vs_arena.specs.Arena.{Arena}
@@ -30,7 +31,7 @@ marked_frames marks words = frames_below (length marks) (marked marks words)
 
 -- how an arena is laid out: frames in a row, a mark for each, and a list that begins with the frames that aren't in use
 pub record IsArena (base : ℕ) (words : List (List ℕ)) (marks : List Bool) (free : List ℕ) (free_count : ℕ) : Type 0 where
-  pub few_frames : length marks ≤ 4096
+  pub few_frames : length marks ≤ TABLES
   pub numbers_fit : base + length marks ≤ 2 ^ 40
   pub words_for_each : length words ≡ length marks
   pub whole_frames : All IsFrame words

@@ -5,6 +5,7 @@ use Rattle.std.specs.List.{AllPairs}
 use Rattle.std.proofs.Math.Seq.{take-suc}
 use Rattle.std.proofs.lemmas.List.{take_all}
 use Rattle.std.proofs.lemmas.List.Elements.{All-contains, Contains-get_or}
+use Rattle.vs_types.specs.declared.limits.TheConstants.{TABLES}
 use Rattle.vs_walk.specs.Dump.{Image}
 use Rattle.vs_walk.specs.Reached.{AreJust}
 use Rattle.vs_walk.specs.Traversal.{traversal, reached}
@@ -47,9 +48,9 @@ push-requires-clause-room g c =
     let just : AreJust ks ns = subst (λ xs. AreJust xs ns) (sym c.as_slice-numbers.ensures.is) c.in_ok-reached.ensures.reached in
     let rising : AllPairs (λ a b. a < b) ks = subst (AllPairs (λ a b. a < b)) (sym c.as_slice-numbers.ensures.is) c.as_slice-numbers.ensures.rising in
     let fit : length ks ≤ length ns = no_longer ks ns rising just in
-    let few : length ns ≤ 4096 = c.requires.few c.in_ok-reached.ensures.faultless in
+    let few : length ns ≤ TABLES = c.requires.few c.in_ok-reached.ensures.faultless in
     let within : c.loop-number.number-index < length ks = c.loop-number-test.true in
-    subst (λ n. n < 4096) (sym c.loop-number.invariant.count) (omega (arith, within, fit, few))
+    subst (λ n. n < TABLES) (sym c.loop-number.invariant.count) (omega (arith, within, fit, few))
 
 pub loop-number-preserved : goal.loop-number-preserved
 loop-number-preserved g c =

@@ -3,6 +3,7 @@ use Rattle.std.specs.Prelude.{All}
 use Rattle.std.specs.FinMap as finite
 use Rattle.std.proofs.lemmas.List.Elements.{All-from_get_or}
 use Rattle.std.specs.Ordering.{nat_cmp}
+use Rattle.vs_types.specs.declared.limits.TheConstants.{TABLES}
 use Rattle.vs_walk.specs.Dump.{Image}
 use Rattle.vs_walk.proofs.Dumps.{parts_push, from_sorted_push, entries_stand, numbers_push, count_push, frame_rows, frame_rows_push}
 use Rattle.vs_walk.proofs.dump.Dump.push.Goals as goal
@@ -13,8 +14,8 @@ held c = ap (λ d. finite.entries d.frames) (sym c.self.view_is) ∙ entries_sta
 above : (c : goal.In_ok-push) → All (λ n. n < c.args.number) (map (λ e. e.0) (frame_rows c.self.inside.frames.items))
 above c = subst (λ es. All (λ n. n < c.args.number) (map (λ e. e.0) es)) (held c) c.requires.above
 
-room : (c : goal.In_ok-push) → length (frame_rows c.self.inside.frames.items) < 4096
-room c = subst (λ es. length es < 4096) (held c) (subst (λ n. n < 4096) (finite.len-entries c.args.self.now.frames) c.requires.room)
+room : (c : goal.In_ok-push) → length (frame_rows c.self.inside.frames.items) < TABLES
+room c = subst (λ es. length es < TABLES) (held c) (subst (λ n. n < TABLES) (finite.len-entries c.args.self.now.frames) c.requires.room)
 
 pub invariant_of-self-2 : goal.invariant_of-self-2
 invariant_of-self-2 c =
