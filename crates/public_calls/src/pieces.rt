@@ -1,12 +1,9 @@
 ghost use Rattle.std.specs.Prelude.{◌<◌};
 
-use crate::fault::Format;
-use crate::reading::feed::Feed;
-use crate::reading::whole::read;
-use crate::tests::map_then_resolve_bytes;
-use crate::writing::write;
+use crate::trace::map_then_resolve_bytes;
+use nr_trace::{Feed, Format, read, write};
 use std::alloc::Global;
-use std::test::*;
+use std::test::Fail;
 
 /// Whether the bytes, which spell a trace, spell it in pieces of this length too.
 fn is_read_in_pieces(alloc: Global, bytes: &[u8], len: usize) -> Result<bool, Fail>
@@ -66,7 +63,10 @@ fn bytes_cut_short_are_truncated(rt: HostRuntime) -> Result<(), Fail> {
     let bytes = map_then_resolve_bytes(alloc)?;
     for len in 0..bytes.len() {
         if len < 200 || len % 97 == 0 {
-            assert_eq!(rt; refusal(read(alloc, &bytes[..len])), Some(Format::Truncated));
+            assert_eq!(rt;
+                refusal(read(alloc, &bytes[..len])),
+                Some(Format::Truncated)
+            );
         }
     }
     Ok(())
