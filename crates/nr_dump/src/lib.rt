@@ -10,6 +10,3 @@ mod laws;
 pub use checking::check;
 pub use fault::DumpFault;
 pub use laws::dumps_fit_or_have_a_fault;
-
-#[cfg(test)]
-mod tests;

@@ -7,8 +7,6 @@
 mod answered;
 mod slot;
 mod slots;
-#[cfg(test)]
-mod tests;
 mod waiting;
 
 pub use answered::Answered;

@@ -26,6 +26,3 @@ pub use reading::{Feed, read};
 pub use trace::Trace;
 pub use version::Version;
 pub use writing::write;
-
-#[cfg(test)]
-mod tests;

@@ -12,6 +12,3 @@ mod words;
 
 pub use feed::Feed;
 pub use whole::read;
-
-#[cfg(test)]
-mod tests;

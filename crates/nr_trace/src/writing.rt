@@ -5,8 +5,6 @@ mod events;
 mod header;
 mod lists;
 mod numbers;
-#[cfg(test)]
-mod tests;
 
 ghost use Rattle.std.specs.Prelude.{◌≡◌, IfOk};
 ghost use Rattle.nr_trace.specs.Spelling.{spelling, Spells};

@@ -6,8 +6,3 @@
 mod both;
 
 pub use both::{Both, Told};
-
-#[cfg(test)]
-mod cases;
-#[cfg(test)]
-mod tests;

@@ -7,8 +7,6 @@ mod frame;
 mod raw_arena;
 mod region;
 mod store;
-#[cfg(test)]
-mod tests;
 mod vec_arena;
 
 pub use frame::Frame;

@@ -8,6 +8,3 @@ mod place;
 mod plain;
 
 pub use plain::PlainSpace;
-
-#[cfg(test)]
-mod tests;

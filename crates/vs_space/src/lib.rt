@@ -9,6 +9,3 @@ mod tables;
 mod word;
 
 pub use space::{NoRoot, Space};
-
-#[cfg(test)]
-mod tests;

@@ -34,8 +34,3 @@ pub use op::{Action, BadOp, Op};
 pub use page::{Page, Rights, Size};
 pub use refusal::{Fail, Memory};
 pub use request::{Query, Request};
-
-#[cfg(test)]
-mod log_tests;
-#[cfg(test)]
-mod tests;

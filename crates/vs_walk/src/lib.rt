@@ -21,6 +21,3 @@ pub use reached::Reached;
 pub use traversal::{PageVisitor, traverse};
 pub use vs_types::FRAME_WORDS;
 pub use walk::{Walk, WalkFault, translate};
-
-#[cfg(test)]
-mod tests;

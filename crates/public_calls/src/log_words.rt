@@ -1,4 +1,4 @@
-use crate::{CALLS, Depth, LogEntry, Op, Rights, Size, pack, unpack};
+use vs_types::{CALLS, Depth, LogEntry, Op, Rights, Size, pack, unpack};
 
 #[test]
 fn words_of_entries(rt: HostRuntime) {

@@ -2,15 +2,14 @@ ghost use Rattle.std.specs.Prelude.{◌≡◌, ◌+◌, ◌^◌, ◌≤◌};
 ghost use Rattle.std.specs.FinMap as finite;
 ghost use Rattle.vs_arena.specs.Store.{zeros};
 
-use crate::{Frame, FrameStore, RawArena, VecArena};
+use crate::values::BASE;
 use std::alloc::Global;
 use std::marker::Send;
 use std::process::Abort;
 use std::test::Fail;
+use vs_arena::{Frame, FrameStore, RawArena, VecArena};
 
-const BASE: u64 = 1 << 39;
-
-#[tactic(auto, using(crate::proofs::Stores::in_use))]
+#[tactic(auto, using(vs_arena::proofs::Stores::in_use))]
 fn take_cleared<S: FrameStore>(rt: &impl Abort, store: &mut S) -> Frame
     ensures { S.frames store.new ≡ finite.insert (S.frames store.old) result zeros }
 {
@@ -20,7 +19,7 @@ fn take_cleared<S: FrameStore>(rt: &impl Abort, store: &mut S) -> Frame
 }
 
 // What a new store of two frames from `BASE` on does.
-#[tactic(auto, using(crate::proofs::Stores::in_use))]
+#[tactic(auto, using(vs_arena::proofs::Stores::in_use))]
 fn use_two<S: FrameStore>(rt: &impl Abort, store: &mut S) {
     assert_eq!(rt; store.capacity(), 2);
     let first = take_cleared(rt, store);
@@ -44,7 +43,7 @@ fn use_two<S: FrameStore>(rt: &impl Abort, store: &mut S) {
 }
 
 // All frames of a new store are taken, given back in that order, and taken again.
-#[tactic(auto, using(crate::proofs::Stores::in_use))]
+#[tactic(auto, using(vs_arena::proofs::Stores::in_use))]
 fn use_all<S: FrameStore>(rt: &impl Abort, alloc: Global, store: &mut S) -> Result<(), Fail> {
     let mut order = Vec::new(alloc);
     for _ in 0..store.capacity() {

@@ -1,3 +1,4 @@
+use crate::values::{EXEC, USER_AND_EXEC, WRITE};
 use vs_types::{Access, Answer, Mode, Rights, Size};
 
 /// A call, by the numbers that it is made of.
@@ -15,29 +16,7 @@ pub enum Call {
 #[derive(Clone, Copy, Debug)]
 pub struct Row(pub Call, pub Answer, pub usize);
 
-const ALL: Rights = Rights {
-    write: true,
-    user: true,
-    exec: true,
-};
-
-const WRITE: Rights = Rights {
-    write: true,
-    user: false,
-    exec: false,
-};
-
-const EXEC: Rights = Rights {
-    write: false,
-    user: false,
-    exec: true,
-};
-
-const USER_AND_EXEC: Rights = Rights {
-    write: false,
-    user: true,
-    exec: true,
-};
+const ALL: Rights = Rights::ALL;
 
 /// The last page of the low half and the first of the high one, with the entries 255 and 256 of the root.
 pub static BOTH_HALVES: [Row; 6] = [

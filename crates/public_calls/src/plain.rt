@@ -1,21 +1,7 @@
-use crate::PlainSpace;
+use crate::values::{DEPTHS, EXEC, USER_AND_EXEC, WRITE};
 use std::process::Abort;
+use vs_plain::PlainSpace;
 use vs_types::{Access, Answer, BadOp, Depth, Mode, Op, Page, Rights, Size};
-
-const WRITE: Rights = Rights {
-    write: true,
-    ..Rights::NONE
-};
-
-const EXEC: Rights = Rights {
-    exec: true,
-    ..Rights::NONE
-};
-
-const USER_AND_EXEC: Rights = Rights {
-    write: false,
-    ..Rights::ALL
-};
 
 /// The answer; where memory is refused, that of a second try, before which the space must be unchanged.
 fn apply(rt: &impl Abort, space: &mut PlainSpace, op: Result<Op, BadOp>) -> Answer {
@@ -53,8 +39,6 @@ fn protect(rt: &impl Abort, space: &mut PlainSpace, base: u64, rights: Rights) -
     let op = Op::protect(space.depth(), base, rights);
     apply(rt, space, op)
 }
-
-const DEPTHS: [Depth; 2] = [Depth::Four, Depth::Five];
 
 /// How many tables a page takes more than with four levels.
 fn more(depth: Depth) -> u8 {

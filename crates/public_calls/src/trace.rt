@@ -1,6 +1,6 @@
-use super::*;
+use nr_trace::{Event, Format, Trace, Version, read, write};
 use std::alloc::{AllocError, Global};
-use std::test::*;
+use std::test::Fail;
 use vs_types::{Access, Answer, Config, Depth, Memory, Mode, Op, Request, Rights, Size};
 use vs_walk::{Dump, Frames};
 
@@ -45,11 +45,7 @@ fn one_frame(alloc: Global) -> Result<Dump, Memory> {
 }
 
 /// The bytes with others at some indexes.
-fn changed(
-    alloc: Global,
-    bytes: &[u8],
-    changes: &[(usize, u8)],
-) -> Result<Vec<u8>, AllocError> {
+fn changed(alloc: Global, bytes: &[u8], changes: &[(usize, u8)]) -> Result<Vec<u8>, AllocError> {
     let mut changed = Vec::new(alloc);
     for (k, old) in bytes.iter().enumerate() {
         let other = changes.iter().find(|change| change.0 == k);
@@ -198,6 +194,7 @@ fn reads_that_ask_for_rights(rt: HostRuntime) -> Result<(), Fail> {
         at: 1,
         answer: Answer::Allowed(0x1123),
     };
+    assert_eq!(rt; trace.events().len(), 4);
     assert!(rt; trace.events()[2] == call && trace.events()[3] == reply);
     assert!(rt; write(alloc, &trace)?.as_slice() == bytes.as_slice());
     Ok(())

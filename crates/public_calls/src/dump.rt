@@ -1,7 +1,8 @@
 ghost use Rattle.std.specs.Prelude.{◌<◌, All, IsTrue};
 ghost use Rattle.std.specs.FinMap as finite;
 
-use crate::{DumpFault, check};
+use crate::values::DEPTHS;
+use nr_dump::{DumpFault, check};
 use std::alloc::Global;
 use std::process::Abort;
 use vs_plain::PlainSpace;
@@ -92,8 +93,6 @@ fn checked(
         Err(Fail::Memory) => panic!(rt; "memory"),
     }
 }
-
-const DEPTHS: [Depth; 2] = [Depth::Four, Depth::Five];
 
 fn check_beside_nothing(
     rt: &impl Abort,

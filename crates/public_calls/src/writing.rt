@@ -1,10 +1,6 @@
-use crate::event::Event;
-use crate::fault::Format;
-use crate::trace::Trace;
-use crate::version::Version;
-use crate::writing::write;
+use nr_trace::{Event, Format, Trace, Version, write};
 use std::alloc::Global;
-use std::test::*;
+use std::test::Fail;
 use vs_types::{Answer, Config, Depth, Op, Request, Rights, Size};
 use vs_walk::Dump;
 

@@ -1,10 +1,11 @@
 ghost use Rattle.std.specs.Prelude.{◌<◌, IfOk};
 ghost use Rattle.vs_walk.specs.Dump.{IsDump};
 
-use super::*;
 use std::alloc::Global;
 use std::test::Fail;
 use vs_types::{Depth, Memory, Page, Rights, Size};
+use vs_walk::pages::Leaves;
+use vs_walk::{Dump, Frames, Walk, WalkFault, leaves, translate};
 
 fn one_word(index: usize, word: u64) -> [u64; 512]
     requires { index < 512 }
@@ -40,12 +41,6 @@ fn dump_with_fewer_rights(rt: HostRuntime) -> Result<(), Fail> {
     Ok(())
 }
 
-const ALL: Rights = Rights {
-    write: true,
-    user: true,
-    exec: true,
-};
-
 /// Three tables of which the lowest, frame 3, has this word at index 1.
 fn three_tables(alloc: Global, word: u64) -> Result<Dump, Memory> {
     let mut dump = Dump::new(alloc, 0, 1);
@@ -68,7 +63,7 @@ fn map_then_resolve(rt: HostRuntime) -> Result<(), Fail> {
         base: 0x400000,
         size: Size::K4,
         phys: 0x1000,
-        rights: ALL,
+        rights: Rights::ALL,
     };
     assert_eq!(rt; found.pages.as_slice(), [page].as_slice());
     assert_eq!(rt; found.reached.as_slice(), [1, 2, 3, 4].as_slice());
@@ -101,7 +96,7 @@ fn both_halves_of_the_address_space(rt: HostRuntime) -> Result<(), Fail> {
         base: 0xFFFF800000000000,
         size: Size::G1,
         phys: 0x40000000,
-        rights: ALL,
+        rights: Rights::ALL,
     };
     assert_eq!(rt; found.pages.as_slice(), [low, high].as_slice());
     assert_eq!(rt; found.reached.as_slice(), [1, 2, 3].as_slice());
@@ -143,14 +138,14 @@ fn faulty_dumps(rt: HostRuntime) -> Result<(), Fail> {
         base: 0x200000,
         size: Size::M2,
         phys: 0x200000,
-        rights: ALL,
+        rights: Rights::ALL,
     };
     assert_eq!(rt; found.pages.as_slice(), [page].as_slice());
     Ok(())
 }
 
 /// The fault with which the tables are refused.
-fn refusal(answer: &Result<pages::Leaves, vs_types::Fail<WalkFault>>) -> Option<WalkFault> {
+fn refusal(answer: &Result<Leaves, vs_types::Fail<WalkFault>>) -> Option<WalkFault> {
     match answer {
         Err(vs_types::Fail::Refused(fault)) => Some(*fault),
         _ => None,
@@ -196,7 +191,7 @@ fn five_levels(rt: HostRuntime) -> Result<(), Fail> {
     let dump = high_tables(rt.alloc())?;
     assert_eq!(rt;
         translate(&dump, 1, Depth::Five, 0xFF00000000000123),
-        Walk::Mapped(0x3123, Size::K4, ALL)
+        Walk::Mapped(0x3123, Size::K4, Rights::ALL)
     );
     assert_eq!(rt;
         translate(&dump, 1, Depth::Five, 0xFFFFFFFFFFFFFF),
@@ -207,7 +202,7 @@ fn five_levels(rt: HostRuntime) -> Result<(), Fail> {
         base: 0xFF00000000000000,
         size: Size::K4,
         phys: 0x3000,
-        rights: ALL,
+        rights: Rights::ALL,
     };
     assert_eq!(rt; found.pages.as_slice(), [page].as_slice());
     assert_eq!(rt; found.reached.as_slice(), [1, 2, 3, 4, 5].as_slice());
@@ -216,7 +211,7 @@ fn five_levels(rt: HostRuntime) -> Result<(), Fail> {
         base: 0xFFFF800000000000,
         size: Size::K4,
         phys: 0x5000,
-        rights: ALL,
+        rights: Rights::ALL,
     };
     assert_eq!(rt; found.pages.as_slice(), [page].as_slice());
     assert_eq!(rt; found.reached.as_slice(), [1, 2, 3, 4].as_slice());

@@ -1,12 +1,8 @@
-use crate::{
+use crate::values::WRITE;
+use std::alloc::{AllocError, AllocFailed};
+use vs_types::{
     Access, Action, Answer, BadConfig, BadOp, Config, Depth, Entry, Fail, Meaning, Memory, Mode,
     Op, Page, Query, Request, Rights, Size, index_at,
-};
-use std::alloc::{AllocError, AllocFailed};
-
-const WRITE: Rights = Rights {
-    write: true,
-    ..Rights::NONE
 };
 
 #[test]

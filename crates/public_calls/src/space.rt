@@ -1,21 +1,14 @@
 ghost use Rattle.std.specs.Prelude.{◌<◌};
 
-use super::*;
+use crate::values::{BASE, WRITE};
 use std::process::Abort;
 use std::test::Fail;
 use vs_arena::VecArena;
+use vs_space::{NoRoot, Space};
 use vs_types::{Answer, BadOp, Depth, Op, Rights, Size};
 use vs_walk::Frames;
 
 type Table = Space<VecArena>;
-
-/// The number of frame 0: all pages lie below the tables.
-const BASE: u64 = 1 << 39;
-
-const WRITE: Rights = Rights {
-    write: true,
-    ..Rights::NONE
-};
 
 // The answer of an operation that must be well formed.
 fn apply(rt: &impl Abort, space: &mut Table, op: Result<Op, BadOp>) -> Answer {

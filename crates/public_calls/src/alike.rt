@@ -1,14 +1,14 @@
 ghost use Rattle.std.specs.Prelude.{◌≡◌};
 ghost use Rattle.std.specs.FinMap as finite;
 
-use crate::cases::{
+use crate::alike_cases::{
     ACCESS, BOTH_HALVES, BOTH_HALVES_OF_FIVE, Call, FULL, FULL_OF_FIVE, GIGABYTE, OVERLAP, PROTECT,
     Row, UNMAP,
 };
-use crate::{Both, Told};
 use std::alloc::Global;
 use std::process::Abort;
 use std::test::Fail;
+use vs_alike::{Both, Told};
 use vs_arena::{FrameStore, RawArena, VecArena};
 use vs_types::{Answer, BadOp, Depth, Op};
 

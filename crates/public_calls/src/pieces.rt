@@ -1,12 +1,9 @@
 ghost use Rattle.std.specs.Prelude.{◌<◌};
 
-use crate::fault::Format;
-use crate::reading::feed::Feed;
-use crate::reading::whole::read;
-use crate::tests::map_then_resolve_bytes;
-use crate::writing::write;
+use crate::trace::map_then_resolve_bytes;
+use nr_trace::{Feed, Format, read, write};
 use std::alloc::Global;
-use std::test::*;
+use std::test::Fail;
 
 /// Whether the bytes, which spell a trace, spell it in pieces of this length too.
 fn is_read_in_pieces(alloc: Global, bytes: &[u8], len: usize) -> Result<bool, Fail>

@@ -1,7 +1,7 @@
 ghost use Rattle.std.specs.Prelude.{◌≡◌};
 
-use crate::{Answered, NotTaken, Occupied, Slot, Slots, Waiting};
 use arrayvec::ArrayVec;
+use nr_slots::{Answered, NotTaken, Occupied, Slot, Slots, Waiting};
 use std::alloc::Global;
 use std::process::Abort;
 use vs_types::{Answer, Depth, Op};
