@@ -99,20 +99,21 @@ ready_to_end (Header alloc version) ready is = absurd cc
 ready_to_end (Log parts places events) ready is = absurd cc
 ready_to_end (Events parts events) ready is = absurd cc
 ready_to_end (Dumps parts) ready is =
-    let all : parts.config.replicas ≤ length parts.dumps.items = ltb-false _ _ (not_chosen (nat_lt (length parts.dumps.items) parts.config.replicas) 16 is) in
-    (record { version = parts.version; layout = parts.config; log = parts.log.items; events = parts.events.items; dumps = parts.dumps.items },
-    record {
-      in_range = record {
-        layout = ready.layout;
-        depth = ready.depth;
-        few_places = ready.few_places;
-        log = ready.log;
-        few_events = ready.few_events;
-        events = ready.events;
-        one_dump_each = omega (arith, ready.few_dumps, all);
-        dumps = ready.dumps;
-      };
-      spelled = refl;
-    })
+    let all : parts.config.replicas ≤ length parts.dumps.items = ltb-false _ _ (not_chosen (nat_lt (length parts.dumps.items) parts.config.replicas) 16 is) in (
+      record { version = parts.version; layout = parts.config; log = parts.log.items; events = parts.events.items; dumps = parts.dumps.items },
+      record {
+        in_range = record {
+          layout = ready.layout;
+          depth = ready.depth;
+          few_places = ready.few_places;
+          log = ready.log;
+          few_events = ready.few_events;
+          events = ready.events;
+          one_dump_each = omega (arith, ready.few_dumps, all);
+          dumps = ready.dumps;
+        };
+        spelled = refl;
+      },
+    )
 ready_to_end (Frame parts opened last) ready is = absurd cc
 ready_to_end (Words parts opened number) ready is = absurd cc

@@ -116,9 +116,9 @@ unmap_agrees depth limit space base None e = rw e (record { entries = refl; answ
 unmap_agrees depth limit space base (Some page) e = rw e (removed (eqb page.base base)) where
   removed : (b : Bool) → Agrees
       (if b then record { space = finite.remove space base; answer = Removed page.phys page.size page.rights }
-        else record { space = space; answer = Inside page.base })
+      else record { space = space; answer = Inside page.base })
       (if b then record { entries = without base (finite.entries space); answer = Removed page.phys page.size page.rights }
-        else record { entries = finite.entries space; answer = Inside page.base })
+      else record { entries = finite.entries space; answer = Inside page.base })
   removed true = record { entries = entries_remove space base; answer = refl }
   removed false = record { entries = refl; answer = refl }
 
@@ -128,9 +128,9 @@ protect_agrees depth limit space base rights None e = rw e (record { entries = r
 protect_agrees depth limit space base rights (Some page) e = rw e (changed (eqb page.base base)) where
   changed : (b : Bool) → Agrees
       (if b then record { space = finite.insert space page.base (record page { rights = rights }); answer = Changed page.rights }
-        else record { space = space; answer = Inside page.base })
+      else record { space = space; answer = Inside page.base })
       (if b then record { entries = kept.put nat_cmp page.base (record page { rights = rights }) (finite.entries space); answer = Changed page.rights }
-        else record { entries = finite.entries space; answer = Inside page.base })
+      else record { entries = finite.entries space; answer = Inside page.base })
   changed true = record { entries = entries_insert space page.base (record page { rights = rights }); answer = refl }
   changed false = record { entries = refl; answer = refl }
 

@@ -48,7 +48,7 @@ pub kept_from : {X Y : Type 0} (f : X → Y) (test : X → Bool) (xs : List X) (
 kept_from f test [] y h = absurd (not_in_nil y h)
 kept_from {X} {Y} f test (x ∷ xs) y h =
     elim (test x) as (λ b. test x ≡ b → Contains (map f (cond b (x ∷ filter test xs) (filter test xs))) y
-        → (z : X) × Contains (x ∷ xs) z × (test z ≡ true) × (f z ≡ y)) [
+    → (z : X) × Contains (x ∷ xs) z × (test z ≡ true) × (f z ≡ y)) [
       | true ↦ λ t k. ⊎_elim
           (λ same. (x, Contains-head x xs, t, same))
           (λ later. let rest = kept_from f test xs y later in (rest.0, Contains-tail x xs rest.0 rest.1, rest.2, rest.3))
@@ -78,7 +78,7 @@ unique_has [] q = refl
 unique_has (x ∷ xs) q =
     let rest = unique_has xs q in
     elim (is_member nat_eq xs x) as (λ b. is_member nat_eq xs x ≡ b
-        → is_member nat_eq (cond b (unique_keys nat_eq xs) (x ∷ unique_keys nat_eq xs)) q ≡ (nat_eq q x || is_member nat_eq xs q)) [
+    → is_member nat_eq (cond b (unique_keys nat_eq xs) (x ∷ unique_keys nat_eq xs)) q ≡ (nat_eq q x || is_member nat_eq xs q)) [
       | true ↦ λ m. elim (nat_eq q x) as (λ c. nat_eq q x ≡ c → is_member nat_eq (unique_keys nat_eq xs) q ≡ (c || is_member nat_eq xs q)) [
         | true ↦ λ t. rest ∙ (ap (is_member nat_eq xs) (eqb-true q x t) ∙ m)
         | false ↦ λ t. rest

@@ -86,8 +86,13 @@ in_range depth (Protect base rights) is =
 -- what two words have at the places of the fields
 abbrev pub fields_at : ℕ → ℕ → RequestFields
 fields_at operation rest =
-    record { kind = operation % 4096 % 4; size = operation % 4096 / 4 % 4; rights = operation % 4096 / 16; address = operation - operation % 4096;
-        physical = rest % 2 ^ 39 * 4096 }
+    record {
+      kind = operation % 4096 % 4;
+      size = operation % 4096 / 4 % 4;
+      rights = operation % 4096 / 16;
+      address = operation - operation % 4096;
+      physical = rest % 2 ^ 39 * 4096;
+    }
 
 same_fields : (f g : RequestFields) → f.kind ≡ g.kind → f.size ≡ g.size → f.rights ≡ g.rights → f.address ≡ g.address → f.physical ≡ g.physical → f ≡ g
 same_fields f g k s r a p = λ i. record { kind = k i; size = s i; rights = r i; address = a i; physical = p i }

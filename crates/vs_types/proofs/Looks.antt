@@ -73,7 +73,7 @@ removed_looks {depth} limit {space} is page answer =
     unmap_cases (λ s. s.answer ≡ Removed page.phys page.size page.rights → LooksChanged page (λ address. NotMapped) space s.space) depth limit space page.base
     (λ e is_removed. cc)
     (λ p e same is_removed. looks_changed page (λ address. NotMapped) None space (finite.remove space page.base)
-        (λ a. page_at_after_remove is page (removed_held limit is page answer) a) (λ a at. look_of_none (finite.remove space page.base) a at))
+    (λ a. page_at_after_remove is page (removed_held limit is page answer) a) (λ a at. look_of_none (finite.remove space page.base) a at))
     (λ p e differs is_removed. cc)
     answer
 
@@ -108,7 +108,7 @@ changed_pages {depth} limit {space} is page rights old holds =
     protect_cases (λ s. s.answer ≡ Changed old → HasNewRights page rights space s.space) depth limit space page.base rights
     (λ e answer. cc)
     (λ p e same answer. subst (λ (z : Page). HasNewRights page rights space (finite.insert space z.base (record z { rights = rights })))
-        (found is page holds p e) (new_rights is page holds rights))
+    (found is page holds p e) (new_rights is page holds rights))
     (λ p e differs answer. cc)
 
 pub changed_looks : {depth : Depth} (limit : ℕ) {space : Space} → IsSpace depth space → (page : Page) (rights old : Rights) → Holds space page
@@ -118,8 +118,8 @@ changed_looks {depth} limit {space} is page rights old holds =
     protect_cases (λ s. s.answer ≡ Changed old → LooksChanged page (as_in (record page { rights = rights })) space s.space) depth limit space page.base rights
     (λ e answer. cc)
     (λ p e same answer. subst
-        (λ (z : Page). LooksChanged page (as_in (record page { rights = rights })) space (finite.insert space z.base (record z { rights = rights })))
-        (found is page holds p e) changed)
+    (λ (z : Page). LooksChanged page (as_in (record page { rights = rights })) space (finite.insert space z.base (record z { rights = rights })))
+    (found is page holds p e) changed)
     (λ p e differs answer. cc)
   where
     one : (q : Page) → Holds space q → q.base ≡ page.base → q ≡ page

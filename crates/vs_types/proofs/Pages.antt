@@ -30,9 +30,11 @@ overlaps_means p q = (λ h. grind (arith, nat_tests), λ h. grind (arith, nat_te
 pub overlaps_shares : (p q : Page) → IsTrue (overlaps p q) ↔ ((a : ℕ) × IsTrue (covers p a) × IsTrue (covers q a))
 overlaps_shares p q = (
   λ h.
-      let ends = (overlaps_means p q).0 h in
-      (max p.base q.base, (covers_means p (max p.base q.base)).1 (omega arith, omega (arith, ends, bytes_positive p.size, bytes_positive q.size)),
-          (covers_means q (max p.base q.base)).1 (omega arith, omega (arith, ends, bytes_positive p.size, bytes_positive q.size))),
+      let ends = (overlaps_means p q).0 h in (
+        max p.base q.base,
+        (covers_means p (max p.base q.base)).1 (omega arith, omega (arith, ends, bytes_positive p.size, bytes_positive q.size)),
+        (covers_means q (max p.base q.base)).1 (omega arith, omega (arith, ends, bytes_positive p.size, bytes_positive q.size)),
+      ),
   λ h.
       let left = (covers_means p h.0).0 h.1 in
       let right = (covers_means q h.0).0 h.2 in

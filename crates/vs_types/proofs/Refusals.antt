@@ -26,9 +26,11 @@ least_is (m ∷ k ∷ ks) n e =
       | None ↦ λ none is. cc
       | Some x ↦ λ rest is.
           let lower : min m x ≡ n = cc in
-          let later = least_is (k ∷ ks) x rest in
-          (lowest m (k ∷ ks) x n lower later.0, λ j h. ⊎_elim (λ first. omega arith) (λ behind. let above = later.1 j behind in omega arith)
-              (Contains-cases m (k ∷ ks) j h))
+          let later = least_is (k ∷ ks) x rest in (
+            lowest m (k ∷ ks) x n lower later.0,
+            λ j h. ⊎_elim (λ first. omega arith) (λ behind. let above = later.1 j behind in omega arith)
+                (Contains-cases m (k ∷ ks) j h),
+          )
     ] refl e
   where
     lowest : (m : ℕ) (ns : List ℕ) (x n : ℕ) → min m x ≡ n → Contains ns x → Contains (m ∷ ns) n

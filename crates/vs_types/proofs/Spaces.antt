@@ -163,9 +163,9 @@ pub insert_cases : (space : Space) (k : ℕ) (page : Page) (q : ℕ) (found : Pa
 insert_cases space k page q found e =
     ⊎_elim
     (λ same. let t = eq-eqb q k same in let got = get_after_insert space k page q in
-        let is : cond true (Some page) (finite.get space q) ≡ Some found = rw t at (sym got ∙ e) in inl (same, cc))
+    let is : cond true (Some page) (finite.get space q) ≡ Some found = rw t at (sym got ∙ e) in inl (same, cc))
     (λ differs. let t = ne_eqb q k differs in let got = get_after_insert space k page q in
-        let is : cond false (Some page) (finite.get space q) ≡ Some found = rw t at (sym got ∙ e) in inr (differs, is))
+    let is : cond false (Some page) (finite.get space q) ≡ Some found = rw t at (sym got ∙ e) in inr (differs, is))
     (cases_eq q k)
 
 pub get_inserted : (space : Space) (k : ℕ) (page : Page) → finite.get (finite.insert space k page) k ≡ Some page
@@ -185,7 +185,7 @@ pub remove_cases : (space : Space) (k q : ℕ) (found : Page) → finite.get (fi
 remove_cases space k q found e =
     ⊎_elim
     (λ same. let gone = get_removed space k in
-        let at : finite.get (finite.remove space k) k ≡ Some found = subst (λ z. finite.get (finite.remove space k) z ≡ Some found) same e in cc)
+    let at : finite.get (finite.remove space k) k ≡ Some found = subst (λ z. finite.get (finite.remove space k) z ≡ Some found) same e in cc)
     (λ differs. (differs, sym (get_remove_other space k q differs) ∙ e))
     (cases_eq q k)
 
@@ -193,7 +193,7 @@ remove_cases space k q found e =
 pub put_back : (space : Space) (page : Page) → Holds space page → finite.insert (finite.remove space page.base) page.base page ≡ space
 put_back space page holds = finite.same_map nat_cmp_total finite.nat_cmp-IsAntisymmetric _ _ (λ q. ⊎_elim
     (λ (same : q ≡ page.base). subst (λ k. finite.get (finite.insert (finite.remove space page.base) page.base page) k ≡ finite.get space k)
-        (sym same) (get_inserted (finite.remove space page.base) page.base page ∙ sym holds))
+    (sym same) (get_inserted (finite.remove space page.base) page.base page ∙ sym holds))
     (λ (differs : q ≢ page.base). get_insert_other (finite.remove space page.base) page.base page q differs ∙ get_remove_other space page.base q differs)
     (cases_eq q page.base))
 
@@ -268,6 +268,6 @@ page_at_after_remove {depth} {space} is page holds a =
     back : covers page a ≡ false → (p : Page) → IsTrue (covers p a) → Holds space p → Holds (finite.remove space page.base) p
     back t p c h = ⊎_elim
         (λ same. let at : finite.get space page.base ≡ Some p = subst (λ z. finite.get space z ≡ Some p) same h in let one : page ≡ p = cc in
-            let again = subst (λ (z : Page). covers z a ≡ false) one t in cc)
+        let again = subst (λ (z : Page). covers z a ≡ false) one t in cc)
         (λ differs. get_remove_other space page.base p.base differs ∙ h)
         (cases_eq p.base page.base)

@@ -23,10 +23,10 @@ with_page space page = finite.insert space page.base page
 -- a map: the page is there, or a page is overlapped, or tables are too few
 pub map_cases : (P : Stepped → Type 0) (depth : Depth) (limit : ℕ) (space : Space) (page : Page)
     → (least_overlapped space page ≡ None → nat_le (table_count depth (with_page space page)) limit ≡ true
-        → P (record { space = with_page space page; answer = Done }))
+    → P (record { space = with_page space page; answer = Done }))
     → ((base : ℕ) → least_overlapped space page ≡ Some base → P (record { space = space; answer = Overlap base }))
     → (least_overlapped space page ≡ None → nat_le (table_count depth (with_page space page)) limit ≡ false
-        → P (record { space = space; answer = Full (table_count depth (with_page space page)) }))
+    → P (record { space = space; answer = Full (table_count depth (with_page space page)) }))
     → P (step depth limit space (Map page))
 map_cases P depth limit space page done overlap full =
     elim (least_overlapped space page) as (λ o. least_overlapped space page ≡ o → P (step depth limit space (Map page))) [
@@ -45,7 +45,7 @@ map_cases P depth limit space page done overlap full =
 pub unmap_cases : (P : Stepped → Type 0) (depth : Depth) (limit : ℕ) (space : Space) (base : ℕ)
     → (page_at space base ≡ None → P (record { space = space; answer = NotMapped }))
     → ((page : Page) → page_at space base ≡ Some page → page.base ≡ base
-        → P (record { space = finite.remove space base; answer = Removed page.phys page.size page.rights }))
+    → P (record { space = finite.remove space base; answer = Removed page.phys page.size page.rights }))
     → ((page : Page) → page_at space base ≡ Some page → page.base ≢ base → P (record { space = space; answer = Inside page.base }))
     → P (step depth limit space (Unmap base))
 unmap_cases P depth limit space base none removed inside =
@@ -59,7 +59,7 @@ unmap_cases P depth limit space base none removed inside =
 pub protect_cases : (P : Stepped → Type 0) (depth : Depth) (limit : ℕ) (space : Space) (base : ℕ) (rights : Rights)
     → (page_at space base ≡ None → P (record { space = space; answer = NotMapped }))
     → ((page : Page) → page_at space base ≡ Some page → page.base ≡ base
-        → P (record { space = with_page space (record page { rights = rights }); answer = Changed page.rights }))
+    → P (record { space = with_page space (record page { rights = rights }); answer = Changed page.rights }))
     → ((page : Page) → page_at space base ≡ Some page → page.base ≢ base → P (record { space = space; answer = Inside page.base }))
     → P (step depth limit space (Protect base rights))
 protect_cases P depth limit space base rights none changed inside =
@@ -96,7 +96,7 @@ pub protect_space : {depth : Depth} {space : Space} → IsSpace depth space → 
 protect_space {depth} {space} is page rights holds =
     insert_space is (record page { rights = rights })
     (let good = is.well_formed page holds in
-        record { canonical = good.canonical; aligned = good.aligned; phys_aligned = good.phys_aligned; phys_range = good.phys_range })
+    record { canonical = good.canonical; aligned = good.aligned; phys_aligned = good.phys_aligned; phys_range = good.phys_range })
     (λ q a h differs c d. differs (ap (λ (z : Page). z.base) (is.apart q page a h holds c d)))
 
 pub step_space : {depth : Depth} (limit : ℕ) {space : Space} → IsSpace depth space → (action : Action) → IsAction depth action

@@ -56,20 +56,20 @@ module _ {depth : Depth} {space : Space} (is : IsSpace depth space) (page : Page
   up k m =
       let found = member_comes (λ (p : Page). p.base / table_bytes level) (λ p. nat_lt (bytes_of p.size) (table_bytes level)) (pages space) k m in
       subst (λ n. is_member nat_eq (stretches level (finite.insert space page.base page)) n ≡ true) found.3
-          (goes found.0 (still found.0 ((holds_listed is found.0).0 found.1)) found.2)
+      (goes found.0 (still found.0 ((holds_listed is found.0).0 found.1)) found.2)
 
   -- a page with a table of this level begins in the stretch, there before or new
   down : (k : ℕ) → is_member nat_eq (stretches level (finite.insert space page.base page)) k ≡ true
       → ((page.base / table_bytes level ≡ k) × (nat_lt (bytes_of page.size) (table_bytes level) ≡ true)) ⊎ (is_member nat_eq (stretches level space) k ≡ true)
   down k m =
       let found = member_comes (λ (p : Page). p.base / table_bytes level) (λ p. nat_lt (bytes_of p.size) (table_bytes level))
-          (pages (finite.insert space page.base page)) k m in
+      (pages (finite.insert space page.base page)) k m in
       let held = (holds_listed is_new found.0).0 found.1 in
       ⊎_elim
       (λ new. inl (subst (λ (p : Page). (p.base / table_bytes level ≡ k) × (nat_lt (bytes_of p.size) (table_bytes level) ≡ true)) new.1 (found.3, found.2)))
       (λ old. inr (subst (λ n. is_member nat_eq (stretches level space) n ≡ true) found.3
       (member_goes (λ (p : Page). p.base / table_bytes level) (λ p. nat_lt (bytes_of p.size) (table_bytes level)) (pages space) found.0
-          ((holds_listed is found.0).1 old.1) found.2)))
+      ((holds_listed is found.0).1 old.1) found.2)))
       (insert_cases space page.base page found.0.base found.0 held)
 
   -- a page with a table of this level needs one more, unless a page with such a table begins in its stretch
@@ -82,7 +82,7 @@ module _ {depth : Depth} {space : Space} (is : IsSpace depth space) (page : Page
       (λ k m. ⊎_elim (λ new. or_left _ _ (eq-eqb k _ (sym new.0))) (λ old. or_right _ _ old) (down k m))
       (λ k m. ⊎_elim
       (λ same. subst (λ n. is_member nat_eq (stretches level (finite.insert space page.base page)) n ≡ true) (sym (eqb-true k _ same))
-          (goes page (get_inserted space page.base page) t))
+      (goes page (get_inserted space page.base page) t))
       (up k)
       (or_cases (nat_eq k (page.base / table_bytes level)) _ m))
       ∙ count_more (page.base / table_bytes level) (stretches level space)

@@ -26,7 +26,7 @@ level_within level ps qs within = distinct_count_within (of ps) (of qs) (λ n ha
     let small : nat_lt (bytes_of twin.0.size) (table_bytes level) ≡ true = ap (λ s. nat_lt (bytes_of s) (table_bytes level)) twin.3 ∙ from.2 in
     let place : twin.0.base / table_bytes level ≡ n = ap (λ b. b / table_bytes level) twin.2 ∙ from.3 in
     subst (Contains (of qs)) place
-        (kept_to (λ (p : Page). p.base / table_bytes level) (λ p. nat_lt (bytes_of p.size) (table_bytes level)) qs twin.0 twin.1 small))
+    (kept_to (λ (p : Page). p.base / table_bytes level) (λ p. nat_lt (bytes_of p.size) (table_bytes level)) qs twin.0 twin.1 small))
   where
     of : List Page → List ℕ
     of rs = map (λ (p : Page). p.base / table_bytes level) (filter (λ p. nat_lt (bytes_of p.size) (table_bytes level)) rs)
@@ -89,6 +89,6 @@ pub step_limit : {depth : Depth} (limit : ℕ) {space : Space} → IsSpace depth
     → table_count depth (step depth limit space action).space ≤ limit
 step_limit {depth} limit {space} is (Map page) few =
     map_cases (λ s. table_count depth s.space ≤ limit) depth limit space page
-        (λ e t. leb-true (table_count depth (finite.insert space page.base page)) limit t) (λ base e. few) (λ e t. few)
+    (λ e t. leb-true (table_count depth (finite.insert space page.base page)) limit t) (λ base e. few) (λ e t. few)
 step_limit limit is (Unmap base) few = le_trans (unmap_tables limit is base) few
 step_limit {depth} limit is (Protect base rights) few = subst (λ n. n ≤ limit) (sym (protect_tables limit is base rights)) few

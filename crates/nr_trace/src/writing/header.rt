@@ -22,11 +22,7 @@ fn put_counts(out: &mut Vec<u8>, numbers: Counts) -> Result<(), Memory>
 }
 
 /// The magic, the version and the counts.
-pub(crate) fn put_header(
-    out: &mut Vec<u8>,
-    version: Version,
-    numbers: Counts,
-) -> Result<(), Memory>
+pub(crate) fn put_header(out: &mut Vec<u8>, version: Version, numbers: Counts) -> Result<(), Memory>
     ensures { OnOk result (out.new.items ≡ out.old.items ++ (magic ++ version_word version ++ counts numbers)) }
 {
     out.extend_from_slice(b"NRVT")?;

@@ -19,5 +19,5 @@ returns-in_err-request c =
 pub returns-in_default : goal.returns-in_default
 returns-in_default c = λ entry is.
     let update = spells_update c.in_ok-request.request entry.op c.in_ok-request.ensures.fields_are
-        (finds_again c.args.depth c.args.words entry is).fields.fields_are in
+    (finds_again c.args.depth c.args.words entry is).fields.fields_are in
     c.in_default.not-Update update.0 (c.query.ensures.reads ∙ update.1)
