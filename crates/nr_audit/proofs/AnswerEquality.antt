@@ -66,11 +66,13 @@ same : (a b : Answer) → answers.ghosts.eq a b ≡ true → a ≡ b
 same Done Done e = refl
 same (Overlap x) (Overlap y) e = ap (λ n. Overlap n) (eqb-true x y e)
 same (Full x) (Full y) e = ap (λ n. Full n) (eqb-true x y e)
-same (Removed x s p) (Removed y t q) e = let each = parts x y s t p q e in ap (λ n. Removed n s p) each.0 ∙ ap (λ u. Removed y u p) each.1 ∙ ap (λ r. Removed y t r) each.2
+same (Removed x s p) (Removed y t q) e = let each = parts x y s t p q e in
+    ap (λ n. Removed n s p) each.0 ∙ ap (λ u. Removed y u p) each.1 ∙ ap (λ r. Removed y t r) each.2
 same NotMapped NotMapped e = refl
 same (Inside x) (Inside y) e = ap (λ n. Inside n) (eqb-true x y e)
 same (Changed p) (Changed q) e = ap (λ r. Changed r) (same_rights p q e)
-same (Mapped x s p) (Mapped y t q) e = let each = parts x y s t p q e in ap (λ n. Mapped n s p) each.0 ∙ ap (λ u. Mapped y u p) each.1 ∙ ap (λ r. Mapped y t r) each.2
+same (Mapped x s p) (Mapped y t q) e = let each = parts x y s t p q e in
+    ap (λ n. Mapped n s p) each.0 ∙ ap (λ u. Mapped y u p) each.1 ∙ ap (λ r. Mapped y t r) each.2
 same (Allowed x) (Allowed y) e = ap (λ n. Allowed n) (eqb-true x y e)
 same (Fault x) (Fault y) e = ap (λ n. Fault n) (eqb-true x y e)
 same a b e = absurd (false≢true e)

@@ -1,5 +1,6 @@
 -- The answers of a trace, against the space after the calls that stand before in the recorded order.
-use Rattle.std.proofs.Common.{◌≡◌, ℕ, zero, suc, ◌+◌, ◌<◌, ◌≤◌, false, List, [], ◌∷◌, ◌++◌, length, take, get_or, Some, None, Option, refl, sym, ap, subst, ◌∙◌, inl, inr, arith}
+use Rattle.std.proofs.Common.{◌≡◌, ℕ, zero, suc, ◌+◌, ◌<◌, ◌≤◌, false, List, [], ◌∷◌, ◌++◌, length, take, get_or, Some, None, Option, refl, sym, ap, subst, ◌∙◌}
+use Rattle.std.proofs.Common.{inl, inr, arith}
 use Rattle.std.specs.Prelude.{is_some, option_and_then, option_map, Contains, IfSome, ◌==◌, nat_eq}
 use Rattle.std.specs.List.{IsDistinct, AllByRecursion, position_or_len, cons_option}
 use Rattle.std.proofs.lemmas.Bool.{cases_lt, cond-true, cond-false, false≢true, eq-eqb, eqb-true, ne_eqb}
@@ -68,7 +69,8 @@ stands_there xs call k d lt within =
 
 -- ---- the space after a call
 
-after_all-append : (depth : Depth) (limit : ℕ) (space : Space) (xs ys : List Action) → after_all depth limit space (xs ++ ys) ≡ after_all depth limit (after_all depth limit space xs) ys
+after_all-append : (depth : Depth) (limit : ℕ) (space : Space) (xs ys : List Action)
+    → after_all depth limit space (xs ++ ys) ≡ after_all depth limit (after_all depth limit space xs) ys
 after_all-append depth limit space [] ys = refl
 after_all-append depth limit space (x ∷ xs) ys = after_all-append depth limit (step depth limit space x).space xs ys
 
@@ -82,24 +84,29 @@ served layout space (Access address mode access) = space
 abbrev pub kept : Layout → Space → BoundedSpace
 kept layout space = record { depth = layout.depth; limit = layout.tables; space = space }
 
-pub answered : (layout : Layout) (space : Space) (query : Query) (answer : Answer) (new : BoundedSpace) → Serves (kept layout space) query answer new → answer ≡ answer_in layout space query
+pub answered : (layout : Layout) (space : Space) (query : Query) (answer : Answer) (new : BoundedSpace) → Serves (kept layout space) query answer new
+    → answer ≡ answer_in layout space query
 answered layout space (Update action) answer new h = h.0
 answered layout space (Resolve address) answer new h = h.0
 answered layout space (Access address mode access) answer new h = h.0
 
-pub left : (layout : Layout) (space : Space) (query : Query) (answer : Answer) (new : BoundedSpace) → Serves (kept layout space) query answer new → new ≡ kept layout (served layout space query)
+pub left : (layout : Layout) (space : Space) (query : Query) (answer : Answer) (new : BoundedSpace) → Serves (kept layout space) query answer new
+    → new ≡ kept layout (served layout space query)
 unfolding served
 left layout space (Update action) answer new h = h.1
 left layout space (Resolve address) answer new h = h.1
 left layout space (Access address mode access) answer new h = h.1
 
-more : (trace : Recording) (order : List ℕ) (k d : ℕ) → k < length order → space_after trace (take (k + 1) order) ≡ after_all trace.layout.depth trace.layout.tables (space_after trace (take k order)) (operations trace (get_or order k d ∷ []))
+more : (trace : Recording) (order : List ℕ) (k d : ℕ) → k < length order
+    → space_after trace (take (k + 1) order)
+    ≡ after_all trace.layout.depth trace.layout.tables (space_after trace (take k order)) (operations trace (get_or order k d ∷ []))
 more trace order k d within =
     ap (λ xs. space_after trace xs) (take_more order k d within)
     ∙ ap (λ xs. after_all trace.layout.depth trace.layout.tables no_pages xs) (filter_map-append (operation_of trace) (take k order) (get_or order k d ∷ []))
     ∙ after_all-append trace.layout.depth trace.layout.tables no_pages (operations trace (take k order)) (operations trace (get_or order k d ∷ []))
 
-asked : (o : Option Invocation) → option_and_then (λ (made : Invocation). operation_in made.request) o ≡ option_and_then operation_in (option_map (λ (made : Invocation). made.request) o)
+asked : (o : Option Invocation)
+    → option_and_then (λ (made : Invocation). operation_in made.request) o ≡ option_and_then operation_in (option_map (λ (made : Invocation). made.request) o)
 asked None = refl
 asked (Some made) = refl
 
@@ -109,19 +116,31 @@ operation_by : (trace : Recording) (call : ℕ) (query : Option Query) → query
 operation_by trace call query e = asked (call_of trace call) ∙ ap (λ q. option_and_then operation_in q) (sym e)
 
 -- what is no call leaves the space
-pub space_stays : (trace : Recording) (order : List ℕ) (k d : ℕ) → k < length order → option_map (λ (made : Invocation). made.request) (call_of trace (get_or order k d)) ≡ None → space_after trace (take k order) ≡ space_after trace (take (k + 1) order)
+pub space_stays : (trace : Recording) (order : List ℕ) (k d : ℕ) → k < length order
+    → option_map (λ (made : Invocation). made.request) (call_of trace (get_or order k d)) ≡ None
+    → space_after trace (take k order) ≡ space_after trace (take (k + 1) order)
 space_stays trace order k d within none =
-    sym (more trace order k d within ∙ ap (λ o. after_all trace.layout.depth trace.layout.tables (space_after trace (take k order)) (cons_option o [])) (operation_by trace (get_or order k d) None (sym none)))
+    sym (more trace order k d within
+    ∙ ap (λ o. after_all trace.layout.depth trace.layout.tables (space_after trace (take k order)) (cons_option o []))
+    (operation_by trace (get_or order k d) None (sym none)))
 
 -- a call leaves the space that its request leaves
-pub space_visits : (trace : Recording) (order : List ℕ) (k d : ℕ) (query : Query) → k < length order → Some query ≡ option_map (λ (made : Invocation). made.request) (call_of trace (get_or order k d)) → served trace.layout (space_after trace (take k order)) query ≡ space_after trace (take (k + 1) order)
+pub space_visits : (trace : Recording) (order : List ℕ) (k d : ℕ) (query : Query) → k < length order
+    → Some query ≡ option_map (λ (made : Invocation). made.request) (call_of trace (get_or order k d))
+    → served trace.layout (space_after trace (take k order)) query ≡ space_after trace (take (k + 1) order)
 unfolding served
 space_visits trace order k d (Update action) within asks =
-    sym (more trace order k d within ∙ ap (λ o. after_all trace.layout.depth trace.layout.tables (space_after trace (take k order)) (cons_option o [])) (operation_by trace (get_or order k d) (Some (Update action)) asks))
+    sym (more trace order k d within
+    ∙ ap (λ o. after_all trace.layout.depth trace.layout.tables (space_after trace (take k order)) (cons_option o []))
+    (operation_by trace (get_or order k d) (Some (Update action)) asks))
 space_visits trace order k d (Resolve address) within asks =
-    sym (more trace order k d within ∙ ap (λ o. after_all trace.layout.depth trace.layout.tables (space_after trace (take k order)) (cons_option o [])) (operation_by trace (get_or order k d) (Some (Resolve address)) asks))
+    sym (more trace order k d within
+    ∙ ap (λ o. after_all trace.layout.depth trace.layout.tables (space_after trace (take k order)) (cons_option o []))
+    (operation_by trace (get_or order k d) (Some (Resolve address)) asks))
 space_visits trace order k d (Access address mode access) within asks =
-    sym (more trace order k d within ∙ ap (λ o. after_all trace.layout.depth trace.layout.tables (space_after trace (take k order)) (cons_option o [])) (operation_by trace (get_or order k d) (Some (Access address mode access)) asks))
+    sym (more trace order k d within
+    ∙ ap (λ o. after_all trace.layout.depth trace.layout.tables (space_after trace (take k order)) (cons_option o []))
+    (operation_by trace (get_or order k d) (Some (Access address mode access)) asks))
 
 operations_of_updates : (trace : Recording) (xs : List ℕ) → operations trace (updates trace xs) ≡ operations trace xs
 operations_of_updates trace [] = refl
@@ -136,7 +155,8 @@ operations_of_updates trace (x ∷ xs) = by_case (operation_of trace x) refl (op
       ∙ ap (λ ys. cons_option (operation_of trace x) ys) rest
 
 -- the recorded order leaves the space that the log does
-pub space_of_order : (trace : Recording) (order : List ℕ) → HasCleanLog trace → order ≡ recorded_order trace → space_after trace order ≡ space_after trace trace.log
+pub space_of_order : (trace : Recording) (order : List ℕ) → HasCleanLog trace → order ≡ recorded_order trace
+    → space_after trace order ≡ space_after trace trace.log
 space_of_order trace order clean listed =
     ap (λ xs. space_after trace xs) listed
     ∙ ap (λ xs. after_all trace.layout.depth trace.layout.tables no_pages xs)
@@ -144,7 +164,8 @@ space_of_order trace order clean listed =
 
 -- ---- answers
 
-made_of : (o : Option Invocation) (query : Query) → Some query ≡ option_map (λ (made : Invocation). made.request) o → (made : Invocation) × (o ≡ Some made) × (made.request ≡ query)
+made_of : (o : Option Invocation) (query : Query) → Some query ≡ option_map (λ (made : Invocation). made.request) o
+    → (made : Invocation) × (o ≡ Some made) × (made.request ≡ query)
 made_of None query e = absurd (cc)
 made_of (Some made) query e = (made, refl, cc)
 
@@ -157,8 +178,10 @@ module _ (trace : Recording) (order : List ℕ) (listed : order ≡ recorded_ord
   before_here k within = subst (λ xs. before (get_or order k 0) xs ≡ take k order) listed (before_at order k 0 distinct within)
 
   -- an answer that is told and is not the space's is wrong
-  pub wrong_here : (k : ℕ) (query : Query) (answer : Answer) (told : Option Reply) → k < length order → Some query ≡ option_map (λ (made : Invocation). made.request) (call_of trace (get_or order k 0))
-      → answer ≡ answer_in trace.layout (space_after trace (take k order)) query → told ≡ replied_to trace (get_or order k 0) → (IfSome told (λ reply. reply.answer ≡ answer) → ⊥) → IsWrong trace (get_or order k 0)
+  pub wrong_here : (k : ℕ) (query : Query) (answer : Answer) (told : Option Reply) → k < length order
+      → Some query ≡ option_map (λ (made : Invocation). made.request) (call_of trace (get_or order k 0))
+      → answer ≡ answer_in trace.layout (space_after trace (take k order)) query → told ≡ replied_to trace (get_or order k 0)
+      → (IfSome told (λ reply. reply.answer ≡ answer) → ⊥) → IsWrong trace (get_or order k 0)
   wrong_here k query answer None within asks gives is differs = absurd (differs tt)
   wrong_here k query answer (Some told) within asks gives is differs =
       let made = made_of (call_of trace (get_or order k 0)) query asks in
@@ -174,8 +197,10 @@ module _ (trace : Recording) (order : List ℕ) (listed : order ≡ recorded_ord
       }
 
   -- one that is told, if any is, and is the space's is not
-  pub right_here : (k : ℕ) (query : Query) (answer : Answer) (told : Option Reply) → k < length order → Some query ≡ option_map (λ (made : Invocation). made.request) (call_of trace (get_or order k 0))
-      → answer ≡ answer_in trace.layout (space_after trace (take k order)) query → told ≡ replied_to trace (get_or order k 0) → IfSome told (λ reply. reply.answer ≡ answer) → IsWrong trace (get_or order k 0) → ⊥
+  pub right_here : (k : ℕ) (query : Query) (answer : Answer) (told : Option Reply) → k < length order
+      → Some query ≡ option_map (λ (made : Invocation). made.request) (call_of trace (get_or order k 0))
+      → answer ≡ answer_in trace.layout (space_after trace (take k order)) query → told ≡ replied_to trace (get_or order k 0)
+      → IfSome told (λ reply. reply.answer ≡ answer) → IsWrong trace (get_or order k 0) → ⊥
   right_here k query answer told within asks gives is agrees wrong =
       let made = made_of (call_of trace (get_or order k 0)) query asks in
       let one = made.1 in
@@ -191,7 +216,8 @@ module _ (trace : Recording) (order : List ℕ) (listed : order ≡ recorded_ord
   no_call_is_right call none wrong = let made = ap (λ o. option_map (λ (made : Invocation). made.request) o) wrong.is_made in cc
 
   -- the first wrong answer in the recorded order is the first of all
-  pub first_wrong : (k : ℕ) → k < length order → ((j : ℕ) → j < k → IsWrong trace (get_or order j 0) → ⊥) → IsWrong trace (get_or order k 0) → IsFirstAmong IsAnswerFault trace (WrongAnswer (get_or order k 0))
+  pub first_wrong : (k : ℕ) → k < length order → ((j : ℕ) → j < k → IsWrong trace (get_or order j 0) → ⊥) → IsWrong trace (get_or order k 0)
+      → IsFirstAmong IsAnswerFault trace (WrongAnswer (get_or order k 0))
   first_wrong k within none wrong = record {
     is_among = tt;
     holds = wrong;
@@ -220,7 +246,8 @@ module _ (trace : Recording) (order : List ℕ) (listed : order ≡ recorded_ord
   none_wrong none other among holds = among
 
 -- one more place that is not wrong
-pub right_more : (trace : Recording) (order : List ℕ) (k : ℕ) → ((j : ℕ) → j < k → IsWrong trace (get_or order j 0) → ⊥) → (IsWrong trace (get_or order k 0) → ⊥) → (j : ℕ) → j < k + 1 → IsWrong trace (get_or order j 0) → ⊥
+pub right_more : (trace : Recording) (order : List ℕ) (k : ℕ) → ((j : ℕ) → j < k → IsWrong trace (get_or order j 0) → ⊥)
+    → (IsWrong trace (get_or order k 0) → ⊥) → (j : ℕ) → j < k + 1 → IsWrong trace (get_or order j 0) → ⊥
 right_more trace order k below here j lt wrong = elim (cases_lt j k) [
   | inl low ↦ below j low wrong
   | inr same ↦ here (subst (λ i. IsWrong trace (get_or order i 0)) (let it : j ≡ k = omega arith in it) wrong)

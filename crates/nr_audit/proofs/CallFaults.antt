@@ -1,6 +1,7 @@
 -- The faults of calls and replies, and what the first events of a trace tell: the reply to each call, and the last call of
 -- each thread.
-use Rattle.std.proofs.Common.{◌≡◌, ◌≢◌, ℕ, ◌+◌, ◌<◌, ◌≤◌, ◌⊎◌, List, [], ◌∷◌, length, replicate, set, get_or, Some, None, Option, refl, sym, ap, subst, ◌∙◌, inl, inr, arith, get_or-set_other, get_or-set_same}
+use Rattle.std.proofs.Common.{◌≡◌, ◌≢◌, ℕ, ◌+◌, ◌<◌, ◌≤◌, ◌⊎◌, List, [], ◌∷◌, length, replicate, set, get_or, Some, None, Option, refl, sym, ap, subst, ◌∙◌}
+use Rattle.std.proofs.Common.{inl, inr, arith, get_or-set_other, get_or-set_same}
 use Rattle.std.specs.Prelude.{slice_get}
 use Rattle.std.proofs.lemmas.List.{get_or-replicate, get_or_past, length-set, length-replicate}
 use Rattle.std.proofs.lemmas.Bool.{cases_lt, cases_eq}
@@ -16,13 +17,15 @@ use Rattle.nr_audit.specs.inside.Search.{HasNone, IsFirstAmong}
 use Rattle.nr_audit.specs.inside.Passes.{IsCallFaultAt, IsCallFault}
 use Rattle.nr_audit.specs.inside.Tables.{IsReplyBelow, AreReplies}
 use Rattle.nr_audit.proofs.Ranks.{IsRanked, none_of_all, first_of_all, lower_number}
-use Rattle.nr_audit.proofs.CallsAndReplies.{made_here, no_reply_at_call, reply_here, no_call_at_reply, no_call_past, no_reply_past, answers_by, reply_by, no_reply_with, no_answer, answers_only}
+use Rattle.nr_audit.proofs.CallsAndReplies.{made_here, no_reply_at_call, reply_here, no_call_at_reply, no_call_past, no_reply_past, answers_by, reply_by}
+use Rattle.nr_audit.proofs.CallsAndReplies.{no_reply_with, no_answer, answers_only}
 
 pub record HasFound (trace : Recording) (end : ℕ) (last table : List (Option ℕ)) : Type 0 where
   pub threads : length last ≡ trace.layout.threads
   pub one_each : length table ≡ length trace.events
   pub replies : (call : ℕ) → call < length table → IsReplyBelow trace end call (get_or table call None)
-  pub last_made : (thread call : ℕ) → get_or last thread None ≡ Some call → (made : Invocation) × (call < end) × (call_of trace call ≡ Some made) × (made.thread ≡ thread)
+  pub last_made : (thread call : ℕ) → get_or last thread None ≡ Some call
+      → (made : Invocation) × (call < end) × (call_of trace call ≡ Some made) × (made.thread ≡ thread)
   pub others_answered : (call : ℕ) (made : Invocation) → call < end → call_of trace call ≡ Some made
       → (get_or last made.thread None ≡ Some call) ⊎ ((index : ℕ) × (index < end) × Answers trace index call)
 
@@ -42,11 +45,14 @@ nothing_known trace = record {
 }
 
 -- before the first event nothing is known
-pub known_at_start : (trace : Recording) (last table : List (Option ℕ)) → last ≡ replicate trace.layout.threads None → table ≡ replicate (length trace.events) None → HasFound trace 0 last table
-known_at_start trace last table e f = subst (λ l. HasFound trace 0 l table) (sym e) (subst (λ t. HasFound trace 0 (replicate trace.layout.threads None) t) (sym f) (nothing_known trace))
+pub known_at_start : (trace : Recording) (last table : List (Option ℕ)) → last ≡ replicate trace.layout.threads None
+    → table ≡ replicate (length trace.events) None → HasFound trace 0 last table
+known_at_start trace last table e f =
+    subst (λ l. HasFound trace 0 l table) (sym e) (subst (λ t. HasFound trace 0 (replicate trace.layout.threads None) t) (sym f) (nothing_known trace))
 
 -- an event that is no reply to the call leaves what is known of the reply to it
-reply_stays : (trace : Recording) (end call : ℕ) (o : Option ℕ) → (Answers trace end call → ⊥) → IsReplyBelow trace end call o → IsReplyBelow trace (end + 1) call o
+reply_stays : (trace : Recording) (end call : ℕ) (o : Option ℕ) → (Answers trace end call → ⊥) → IsReplyBelow trace end call o
+    → IsReplyBelow trace (end + 1) call o
 reply_stays trace end call None other h = λ index lt answers. elim (cases_lt index end) [
   | inl low ↦ h index low answers
   | inr same ↦ other (subst (λ i. Answers trace i call) (omega arith) answers)
@@ -66,7 +72,8 @@ answered trace end call None some h = absurd (some refl)
 answered trace end call (Some reply) some h = (reply, h.0, h.1)
 
 -- and one that has none is not
-unanswered : (trace : Recording) (end call : ℕ) (o : Option ℕ) → o ≡ None → IsReplyBelow trace end call o → (index : ℕ) → index < end → Answers trace index call → ⊥
+unanswered : (trace : Recording) (end call : ℕ) (o : Option ℕ) → o ≡ None → IsReplyBelow trace end call o → (index : ℕ) → index < end
+    → Answers trace index call → ⊥
 unanswered trace end call None e h = h
 unanswered trace end call (Some reply) e h = absurd (cc)
 
@@ -74,7 +81,8 @@ unanswered trace end call (Some reply) e h = absurd (cc)
 abbrev pub IsIdle : List (Option ℕ) → List (Option ℕ) → ℕ → Type 0
 IsIdle last table thread = (call : ℕ) → get_or last thread None ≡ Some call → get_or table call None ≢ None
 
-none_at : (trace : Recording) (i : ℕ) → (OpensTwice trace i → ⊥) → (Holds trace (NoSuchCall i) → ⊥) → (Holds trace (AnsweredTwice i) → ⊥) → HasNone (IsCallFaultAt i) trace
+none_at : (trace : Recording) (i : ℕ) → (OpensTwice trace i → ⊥) → (Holds trace (NoSuchCall i) → ⊥) → (Holds trace (AnsweredTwice i) → ⊥)
+    → HasNone (IsCallFaultAt i) trace
 none_at trace i a b c (ThreadOpen j) among holds = a (subst (λ k. OpensTwice trace k) among holds)
 none_at trace i a b c (NoSuchCall j) among holds = b (subst (λ k. Holds trace (NoSuchCall k)) among holds)
 none_at trace i a b c (AnsweredTwice j) among holds = c (subst (λ k. Holds trace (AnsweredTwice k)) among holds)
@@ -86,13 +94,15 @@ open_is_first trace i (NoSuchCall j) among earlier = let h = lower_number 2 j 3 
 open_is_first trace i (AnsweredTwice j) among earlier = let h = lower_number 2 j 4 i 2 earlier among in absurd (omega arith)
 open_is_first trace i fault among earlier = absurd among
 
-no_call_is_first : (trace : Recording) (i : ℕ) (other : Fault) → (OpensTwice trace i → ⊥) → IsCallFaultAt i other → Holds trace other → Earlier trace other (NoSuchCall i) → ⊥
+no_call_is_first : (trace : Recording) (i : ℕ) (other : Fault) → (OpensTwice trace i → ⊥) → IsCallFaultAt i other → Holds trace other
+    → Earlier trace other (NoSuchCall i) → ⊥
 no_call_is_first trace i (ThreadOpen j) idle among holds earlier = idle (subst (λ k. OpensTwice trace k) among holds)
 no_call_is_first trace i (NoSuchCall j) idle among holds earlier = let h = lower_number 2 j 3 i 3 earlier among in absurd (omega arith)
 no_call_is_first trace i (AnsweredTwice j) idle among holds earlier = let h = lower_number 2 j 4 i 3 earlier among in absurd (omega arith)
 no_call_is_first trace i fault idle among holds earlier = absurd among
 
-twice_is_first : (trace : Recording) (i : ℕ) (other : Fault) → (OpensTwice trace i → ⊥) → (Holds trace (NoSuchCall i) → ⊥) → IsCallFaultAt i other → Holds trace other → Earlier trace other (AnsweredTwice i) → ⊥
+twice_is_first : (trace : Recording) (i : ℕ) (other : Fault) → (OpensTwice trace i → ⊥) → (Holds trace (NoSuchCall i) → ⊥) → IsCallFaultAt i other
+    → Holds trace other → Earlier trace other (AnsweredTwice i) → ⊥
 twice_is_first trace i (ThreadOpen j) idle such among holds earlier = idle (subst (λ k. OpensTwice trace k) among holds)
 twice_is_first trace i (NoSuchCall j) idle such among holds earlier = such (subst (λ k. Holds trace (NoSuchCall k)) among holds)
 twice_is_first trace i (AnsweredTwice j) idle such among holds earlier = let h = lower_number 2 j 4 i 4 earlier among in absurd (omega arith)
@@ -105,7 +115,8 @@ call_ranks trace index (AnsweredTwice event) among = (4, ap (λ i. 2 ∷ i ∷ 4
 call_ranks trace index fault among = absurd among
 
 -- the first fault of an event, after events that have none, is the first of all calls
-pub first_call_fault : (trace : Recording) (index : ℕ) (fault : Fault) → ((lower : ℕ) → lower < index → HasNone (IsCallFaultAt lower) trace) → IsFirstAmong (IsCallFaultAt index) trace fault → IsFirstAmong IsCallFault trace fault
+pub first_call_fault : (trace : Recording) (index : ℕ) (fault : Fault) → ((lower : ℕ) → lower < index → HasNone (IsCallFaultAt lower) trace)
+    → IsFirstAmong (IsCallFaultAt index) trace fault → IsFirstAmong IsCallFault trace fault
 first_call_fault trace = first_of_all IsCallFaultAt 2 trace (call_ranks trace)
 
 -- where no event has a fault, none holds
@@ -119,7 +130,8 @@ no_call_fault trace none = none_of_all IsCallFaultAt trace (λ index. elim (case
 ])
 
 -- what is known after all events
-pub table_at_end : (trace : Recording) (last table : List (Option ℕ)) → HasNone IsCallFault trace → HasFound trace (length trace.events) last table → AreReplies trace table
+pub table_at_end : (trace : Recording) (last table : List (Option ℕ)) → HasNone IsCallFault trace → HasFound trace (length trace.events) last table
+    → AreReplies trace table
 table_at_end trace last table clean known = record {
   one_each = known.one_each;
   each = known.replies;
@@ -148,12 +160,20 @@ module _ (trace : Recording) (end : ℕ) (last table : List (Option ℕ)) (known
     known_after_call few idle = record {
       threads = length-set last thread (Some end) ∙ known.threads;
       one_each = known.one_each;
-      replies = λ call lt. reply_stays trace end call (get_or table call None) (no_answer trace end call (no_reply_at_call trace end replica thread request is)) (known.replies call lt);
+      replies = λ call lt. reply_stays trace end call (get_or table call None)
+          (no_answer trace end call (no_reply_at_call trace end replica thread request is)) (known.replies call lt);
       last_made = λ other call e. elim (cases_eq other thread) [
         | inl same ↦
-            let here : get_or (set last thread (Some end)) other None ≡ Some end = subst (λ t. get_or (set last thread (Some end)) t None ≡ Some end) (sym same) (get_or-set_same last thread (Some end) None (omega (arith, known.threads))) in
-            let it : end ≡ call = cc in
-            (record { replica = replica; thread = thread; request = request }, omega arith, subst (λ i. call_of trace i ≡ Some (record { replica = replica; thread = thread; request = request })) it (made_here trace end replica thread request is), sym same)
+            let here : get_or (set last thread (Some end)) other None ≡ Some end =
+            subst (λ t. get_or (set last thread (Some end)) t None ≡ Some end) (sym same)
+            (get_or-set_same last thread (Some end) None (omega (arith, known.threads))) in
+            let it : end ≡ call = cc in (
+              record { replica = replica; thread = thread; request = request },
+              omega arith,
+              subst (λ i. call_of trace i ≡ Some (record { replica = replica; thread = thread; request = request })) it
+                  (made_here trace end replica thread request is),
+              sym same,
+            )
         | inr apart ↦
             let old = known.last_made other call (sym (get_or-set_other last thread other (Some end) None apart) ∙ e) in
             (old.0, omega (arith, old.1), old.2, old.3)
@@ -162,7 +182,8 @@ module _ (trace : Recording) (end : ℕ) (last table : List (Option ℕ)) (known
         | inl low ↦ elim (known.others_answered call made low e) [
           | inl at_last ↦ elim (cases_eq made.thread thread) [
             | inl same ↦
-                let reply = answered trace end call (get_or table call None) (idle call (subst (λ t. get_or last t None ≡ Some call) same at_last)) (known.replies call (below_table call low)) in
+                let reply = answered trace end call (get_or table call None) (idle call (subst (λ t. get_or last t None ≡ Some call) same at_last))
+                (known.replies call (below_table call low)) in
                 inr (reply.0, omega (arith, reply.1), reply.2)
             | inr apart ↦ inl (get_or-set_other last thread made.thread (Some end) None apart ∙ at_last)
           ]
@@ -188,7 +209,9 @@ module _ (trace : Recording) (end : ℕ) (last table : List (Option ℕ)) (known
         let threads : twice.earlier_made.thread ≡ thread = twice.same_thread ∙ ap (λ (m : Invocation). m.thread) same in
         elim (known.others_answered twice.earlier twice.earlier_made twice.is_earlier twice.is_earlier_made) [
           | inl at_last ↦
-              let reply = answered trace end twice.earlier (get_or table twice.earlier None) (idle twice.earlier (subst (λ t. get_or last t None ≡ Some twice.earlier) threads at_last)) (known.replies twice.earlier (below_table twice.earlier twice.is_earlier)) in
+              let reply = answered trace end twice.earlier (get_or table twice.earlier None)
+              (idle twice.earlier (subst (λ t. get_or last t None ≡ Some twice.earlier) threads at_last))
+              (known.replies twice.earlier (below_table twice.earlier twice.is_earlier)) in
               twice.not_answered reply.0 reply.1 reply.2
           | inr reply ↦ twice.not_answered reply.0 reply.1 reply.2
         ])
@@ -241,7 +264,8 @@ module _ (trace : Recording) (end : ℕ) (last table : List (Option ℕ)) (known
           let first = answered trace end call (get_or table call None) some (known.replies call (below_table call low)) in
           (record { call = call; at = at; answer = answer }, mine, first);
       none_earlier = λ other among holds earlier.
-          twice_is_first trace end other no_open (λ held. names_it (λ reply. (reply.call < end) × IsCall trace reply.call → ⊥) held (low, called)) among holds earlier;
+          twice_is_first trace end other no_open
+          (λ held. names_it (λ reply. (reply.call < end) × IsCall trace reply.call → ⊥) held (low, called)) among holds earlier;
     }
 
     -- the first reply to a call
@@ -258,18 +282,22 @@ module _ (trace : Recording) (end : ℕ) (last table : List (Option ℕ)) (known
       one_each = length-set table call (Some end) ∙ known.one_each;
       replies = λ other lt. elim (cases_eq other call) [
         | inl same ↦
-            let here : get_or (set table call (Some end)) other None ≡ Some end = subst (λ c. get_or (set table call (Some end)) c None ≡ Some end) (sym same) (get_or-set_same table call (Some end) None (below_table call low)) in
+            let here : get_or (set table call (Some end)) other None ≡ Some end =
+            subst (λ c. get_or (set table call (Some end)) c None ≡ Some end) (sym same)
+            (get_or-set_same table call (Some end) None (below_table call low)) in
             subst (λ o. IsReplyBelow trace (end + 1) other o) (sym here) (
               omega arith,
               answers_by trace end other (record { call = call; at = at; answer = answer }) mine (sym same),
               λ index below answers. elim (cases_lt index end) [
-                | inl before ↦ absurd (unanswered trace end call (get_or table call None) none (known.replies call (below_table call low)) index before (subst (λ c. Answers trace index c) same answers))
+                | inl before ↦ absurd (unanswered trace end call (get_or table call None) none (known.replies call (below_table call low)) index before
+                    (subst (λ c. Answers trace index c) same answers))
                 | inr now ↦ omega arith
               ],
             )
         | inr apart ↦
             subst (λ o. IsReplyBelow trace (end + 1) other o) (sym (get_or-set_other table call other (Some end) None apart))
-            (reply_stays trace end other (get_or table other None) (λ answers. apart (sym (answers_only trace end other (record { call = call; at = at; answer = answer }) mine answers)))
+            (reply_stays trace end other (get_or table other None)
+            (λ answers. apart (sym (answers_only trace end other (record { call = call; at = at; answer = answer }) mine answers)))
             (known.replies other (omega (arith, length-set table call (Some end)))))
       ];
       last_made = λ thread other e. let old = known.last_made thread other e in (old.0, omega (arith, old.1), old.2, old.3);
@@ -278,6 +306,7 @@ module _ (trace : Recording) (end : ℕ) (last table : List (Option ℕ)) (known
           | inl at_last ↦ inl at_last
           | inr reply ↦ inr (reply.0, omega (arith, reply.1), reply.2)
         ]
-        | inr now ↦ absurd (let none = no_call_at_reply trace end call at answer is in let told = subst (λ i. call_of trace i ≡ Some made) (let it : other ≡ end = omega arith in it) e in cc)
+        | inr now ↦ absurd (let none = no_call_at_reply trace end call at answer is in
+            let told = subst (λ i. call_of trace i ≡ Some made) (let it : other ≡ end = omega arith in it) e in cc)
       ];
     }

@@ -16,7 +16,8 @@ pub made_here : (trace : Recording) (i replica thread : ℕ) (request : Query) �
     → call_of trace i ≡ Some (record { replica = replica; thread = thread; request = request })
 made_here trace i replica thread request e = ap (λ o. option_and_then made_by o) e
 
-pub no_reply_at_call : (trace : Recording) (i replica thread : ℕ) (request : Query) → slice_get trace.events i ≡ Some (Call replica thread request) → reply_of trace i ≡ None
+pub no_reply_at_call : (trace : Recording) (i replica thread : ℕ) (request : Query) → slice_get trace.events i ≡ Some (Call replica thread request)
+    → reply_of trace i ≡ None
 no_reply_at_call trace i replica thread request e = ap (λ o. option_and_then reply_in o) e
 
 pub reply_here : (trace : Recording) (i call at : ℕ) (answer : Answer) → slice_get trace.events i ≡ Some (Reply call at answer)
@@ -44,7 +45,8 @@ answers_by trace i call reply is same =
 
 pub reply_by : (trace : Recording) (i call : ℕ) → Answers trace i call → (reply : Response) × (reply_of trace i ≡ Some reply) × (reply.call ≡ call)
 reply_by trace i call h =
-    elim (reply_of trace i) as (λ o. IsSome (option_and_then (λ (r : Response). if r.call == call then Some r else None) o) → (reply : Response) × (o ≡ Some reply) × (reply.call ≡ call)) [
+    elim (reply_of trace i) as (λ o. IsSome (option_and_then (λ (r : Response). if r.call == call then Some r else None) o)
+    → (reply : Response) × (o ≡ Some reply) × (reply.call ≡ call)) [
       | None ↦ λ h. absurd (false≢true h)
       | Some reply ↦ λ h. elim (cases_Bool (reply.call == call)) [
         | inl t ↦ (reply, refl, eqb-true reply.call call t)
@@ -80,7 +82,8 @@ made_from trace i h =
     ] h
 
 -- the event at an index, as a pattern takes it apart
-pub read_event : (trace : Recording) (events : List Event) (i : ℕ) (event shape : Event) → events ≡ trace.events → i < length events → event ≡ get_or events i event → event ≡ shape → slice_get trace.events i ≡ Some shape
+pub read_event : (trace : Recording) (events : List Event) (i : ℕ) (event shape : Event) → events ≡ trace.events → i < length events
+    → event ≡ get_or events i event → event ≡ shape → slice_get trace.events i ≡ Some shape
 read_event trace events i event shape same lt read is =
     subst (λ (xs : List Event). slice_get xs i ≡ Some shape) same (slice_get-get_or events i event lt ∙ ap (λ x. Some x) (sym read ∙ is))
 
@@ -93,13 +96,15 @@ pub read_some : (o p : Option ℕ) (told : Bool) → p ≡ o → is_some p ≡ t
 read_some o p told e f t none = false≢true (sym (ap is_some (e ∙ none)) ∙ f ∙ t)
 
 -- the thread of a call that is read is one of the layout
-pub thread_in_layout : (trace : Recording) (events : List Event) (i : ℕ) (event : Event) (replica thread : ℕ) (request : Query) → IsRecording trace → events ≡ trace.events → i < length events → event ≡ get_or events i event → event ≡ Call replica thread request → thread < trace.layout.threads
+pub thread_in_layout : (trace : Recording) (events : List Event) (i : ℕ) (event : Event) (replica thread : ℕ) (request : Query) → IsRecording trace
+    → events ≡ trace.events → i < length events → event ≡ get_or events i event → event ≡ Call replica thread request → thread < trace.layout.threads
 thread_in_layout trace events i event replica thread request ranged same lt read is =
     let each = All-get_or (IsEvent trace.version trace.layout) trace.events i event (omega (arith, ap length same)) ranged.events in
     (subst (λ (e : Event). IsEvent trace.version trace.layout e) (sym (read ∙ ap (λ (xs : List Event). get_or xs i event) same) ∙ is) each).1
 
 -- whether the event at an index is a call, as it is told
-pub told_call : (trace : Recording) (events : List Event) (i : ℕ) (event : Event) (told : Bool) → events ≡ trace.events → i < length events → event ≡ get_or events i event → told ≡ is_some (made_by event) → told ≡ is_some (call_of trace i)
+pub told_call : (trace : Recording) (events : List Event) (i : ℕ) (event : Event) (told : Bool) → events ≡ trace.events → i < length events
+    → event ≡ get_or events i event → told ≡ is_some (made_by event) → told ≡ is_some (call_of trace i)
 told_call trace events i event told same lt read is =
     is ∙ ap is_some (sym (read_call trace i event (omega (arith, ap length same)) (read ∙ ap (λ (xs : List Event). get_or xs i event) same)))
 
@@ -108,10 +113,12 @@ if_some None P h = tt
 if_some (Some call) P h = h call refl
 
 -- the call that a thread has open, as it is told
-pub open_call : (read real : Option ℕ) (seen table : List (Option ℕ)) → read ≡ real → seen ≡ table → IsSomeAnd read (λ call. get_or seen call None ≡ None) → (call : ℕ) × (real ≡ Some call) × (get_or table call None ≡ None)
+pub open_call : (read real : Option ℕ) (seen table : List (Option ℕ)) → read ≡ real → seen ≡ table → IsSomeAnd read (λ call. get_or seen call None ≡ None)
+    → (call : ℕ) × (real ≡ Some call) × (get_or table call None ≡ None)
 open_call None real seen table e s h = absurd h
 open_call (Some call) real seen table e s h = (call, sym e, subst (λ (t : List (Option ℕ)). get_or t call None ≡ None) s h)
 
-pub no_open_call : (read real : Option ℕ) (seen table : List (Option ℕ)) → read ≡ real → seen ≡ table → (IsSomeAnd read (λ call. get_or seen call None ≡ None) → ⊥) → (call : ℕ) → real ≡ Some call → get_or table call None ≢ None
+pub no_open_call : (read real : Option ℕ) (seen table : List (Option ℕ)) → read ≡ real → seen ≡ table
+    → (IsSomeAnd read (λ call. get_or seen call None ≡ None) → ⊥) → (call : ℕ) → real ≡ Some call → get_or table call None ≢ None
 no_open_call read real seen table e s h call is none =
     h (subst (λ o. IsSomeAnd o (λ call. get_or seen call None ≡ None)) (sym (e ∙ is)) (subst (λ (t : List (Option ℕ)). get_or t call None ≡ None) (sym s) none))

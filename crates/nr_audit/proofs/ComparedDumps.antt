@@ -1,5 +1,6 @@
 -- What is found in the dumps, as they are compared one after another.
-use Rattle.std.proofs.Common.{◌≡◌, ◌≢◌, ℕ, ◌+◌, ◌<◌, ◌≤◌, ◌⊎◌, inl, inr, List, length, replicate, set, slice_get, get_or, Some, None, Option, refl, sym, ap, subst, ◌∙◌, arith, get_or-set_other, get_or-set_same}
+use Rattle.std.proofs.Common.{◌≡◌, ◌≢◌, ℕ, ◌+◌, ◌<◌, ◌≤◌, ◌⊎◌, inl, inr, List, length, replicate, set, slice_get, get_or, Some, None, Option, refl, sym, ap}
+use Rattle.std.proofs.Common.{subst, ◌∙◌, arith, get_or-set_other, get_or-set_same}
 use Rattle.std.proofs.lemmas.Bool.{cases_lt, cases_eq}
 use Rattle.std.proofs.lemmas.List.{length-set, length-replicate}
 use Rattle.std.proofs.lemmas.Option.{slice_get_within, same_Some}
@@ -15,7 +16,8 @@ compared_at_start trace applied faults = record {
   kept = λ replica dump is other. refl;
 }
 
-module _ (trace : Recording) (applied end : ℕ) (old new : List (Option DumpFault)) (dump : Image) (here : slice_get trace.dumps end ≡ Some dump) (are : AreCompared trace applied end old new) where
+module _ (trace : Recording) (applied end : ℕ) (old new : List (Option DumpFault)) (dump : Image) (here : slice_get trace.dumps end ≡ Some dump)
+    (are : AreCompared trace applied end old new) where
   same_dump : (replica : ℕ) (other : Image) → replica ≡ end → slice_get trace.dumps replica ≡ Some other → other ≡ dump
   same_dump replica other same is = same_Some other dump (sym is ∙ ap (slice_get trace.dumps) same ∙ here)
 
@@ -34,7 +36,8 @@ module _ (trace : Recording) (applied end : ℕ) (old new : List (Option DumpFau
   }
 
   -- what is found in the dump of this prefix is kept under its replica
-  pub compared_with : (found : Option DumpFault) → dump.applied ≡ applied → end < length new → IsFoundIn trace dump found → AreCompared trace applied (end + 1) old (set new end found)
+  pub compared_with : (found : Option DumpFault) → dump.applied ≡ applied → end < length new → IsFoundIn trace dump found
+      → AreCompared trace applied (end + 1) old (set new end found)
   compared_with found same within is_found = record {
     as_many = length-set new end found ∙ are.as_many;
     found = λ replica other low is prefix. elim (cases_eq replica end) [
@@ -59,7 +62,8 @@ module _ (trace : Recording) (applied end : ℕ) (old new : List (Option DumpFau
   }
 
 -- the dumps of the whole log
-pub found_in_whole : (trace : Recording) (old new : List (Option DumpFault)) → old ≡ replicate {A = Option DumpFault} 4 None → AreCompared trace (length trace.log) (length trace.dumps) old new
+pub found_in_whole : (trace : Recording) (old new : List (Option DumpFault)) → old ≡ replicate {A = Option DumpFault} 4 None
+    → AreCompared trace (length trace.log) (length trace.dumps) old new
     → AreFound trace 0 new
 found_in_whole trace old new start are = record {
   four = are.as_many ∙ ap length start ∙ length-replicate {A = Option DumpFault} 4 None;
@@ -70,7 +74,8 @@ found_in_whole trace old new start are = record {
 }
 
 -- those of one prefix more
-pub found_more : (trace : Recording) (place : ℕ) (old new : List (Option DumpFault)) → AreFound trace place old → AreCompared trace place (length trace.dumps) old new → AreFound trace (place + 1) new
+pub found_more : (trace : Recording) (place : ℕ) (old new : List (Option DumpFault)) → AreFound trace place old
+    → AreCompared trace place (length trace.dumps) old new → AreFound trace (place + 1) new
 found_more trace place old new were are = record {
   four = are.as_many ∙ were.four;
   each = λ replica dump is compared. elim (cases_eq dump.applied place) [
@@ -85,7 +90,8 @@ found_more trace place old new were are = record {
 }
 
 -- all that are not past the log
-pub found_in_all : (trace : Recording) (end : ℕ) (faults : List (Option DumpFault)) → HasShorterBelow trace (length trace.dumps) end → AreFound trace end faults → AreFound trace (length trace.log) faults
+pub found_in_all : (trace : Recording) (end : ℕ) (faults : List (Option DumpFault)) → HasShorterBelow trace (length trace.dumps) end
+    → AreFound trace end faults → AreFound trace (length trace.log) faults
 found_in_all trace end faults shorter are = record {
   four = are.four;
   each = λ replica dump is compared. elim compared [
@@ -107,7 +113,8 @@ found_at trace replica dump faults are is within = are.each replica dump is (eli
 pub none_shorter : (trace : Recording) (entries : ℕ) → HasShorterBelow trace 0 entries
 none_shorter trace entries replica dump low = absurd (omega arith)
 
-pub one_shorter_more : (trace : Recording) (end old new : ℕ) (dump : Image) → slice_get trace.dumps end ≡ Some dump → old ≤ new → (dump.applied < length trace.log → dump.applied < new)
+pub one_shorter_more : (trace : Recording) (end old new : ℕ) (dump : Image) → slice_get trace.dumps end ≡ Some dump → old ≤ new
+    → (dump.applied < length trace.log → dump.applied < new)
     → HasShorterBelow trace end old → HasShorterBelow trace (end + 1) new
 one_shorter_more trace end old new dump here grows own below replica other low is short = elim (cases_lt replica end) [
   | inl before ↦ (let less = below replica other before is short in omega arith)

@@ -101,7 +101,8 @@ none_lower replica (StrayFrame at frame) among lt = omega arith
 none_lower replica (Differs at address) among lt = omega arith
 none_lower replica other among lt = among
 
-one_lower : (trace : Recording) (replica : ℕ) (other : Fault) → (Holds trace (PrefixPastLog replica) → ⊥) → IsDumpFaultAt replica other → Holds trace other → number_of other < 12 → ⊥
+one_lower : (trace : Recording) (replica : ℕ) (other : Fault) → (Holds trace (PrefixPastLog replica) → ⊥) → IsDumpFaultAt replica other → Holds trace other
+    → number_of other < 12 → ⊥
 one_lower trace replica (PrefixPastLog at) none among holds lt = none (subst (λ r. Holds trace (PrefixPastLog r)) among holds)
 one_lower trace replica (PrefixShort at) none among holds lt = omega arith
 one_lower trace replica (MissingFrame at frame) none among holds lt = omega arith
@@ -139,7 +140,8 @@ reply_below trace index reply is = let (event, at, own) = reply_in_event (slice_
 
 module _ (trace : Recording) (replica : ℕ) (dump : Image) (is : slice_get trace.dumps replica ≡ Some dump) where
   -- what holds of the dump holds of the trace
-  told : (fault : DumpFault) → dumps.HoldsOfDump trace.layout.depth dump (space_after trace (take dump.applied trace.log)) fault → Holds trace (at_replica replica fault)
+  told : (fault : DumpFault) → dumps.HoldsOfDump trace.layout.depth dump (space_after trace (take dump.applied trace.log)) fault
+      → Holds trace (at_replica replica fault)
   told (of_dump.MissingFrame frame) holds = (dump, is, holds)
   told (of_dump.SharedFrame frame) holds = (dump, is, holds)
   told (of_dump.ReservedBit frame index) holds = (dump, is, holds)
@@ -151,19 +153,45 @@ module _ (trace : Recording) (replica : ℕ) (dump : Image) (is : slice_get trac
 
   -- a fault of the replica that holds is one of its prefix, or one of the dump's
   back : (other : Fault) → IsDumpFaultAt replica other → Holds trace other → (number_of other < 13)
-      ⊎ ((fault : DumpFault) × dumps.HoldsOfDump trace.layout.depth dump (space_after trace (take dump.applied trace.log)) fault × (number_in fault ≡ number_of other))
+      ⊎ ((fault : DumpFault) × dumps.HoldsOfDump trace.layout.depth dump (space_after trace (take dump.applied trace.log)) fault
+      × (number_in fault ≡ number_of other))
   back (PrefixPastLog at) among holds = inl (lit< tt)
   back (PrefixShort at) among holds = inl (lit< tt)
   back (MissingFrame at frame) among holds =
-      inr (of_dump.MissingFrame frame, subst (λ d. dumps.HoldsOfDump trace.layout.depth d (space_after trace (take d.applied trace.log)) (of_dump.MissingFrame frame)) (own_dump at holds.0 among holds.1) holds.2, refl)
+      inr (
+        of_dump.MissingFrame frame,
+        subst (λ d. dumps.HoldsOfDump trace.layout.depth d (space_after trace (take d.applied trace.log)) (of_dump.MissingFrame frame))
+            (own_dump at holds.0 among holds.1) holds.2,
+        refl,
+      )
   back (SharedFrame at frame) among holds =
-      inr (of_dump.SharedFrame frame, subst (λ d. dumps.HoldsOfDump trace.layout.depth d (space_after trace (take d.applied trace.log)) (of_dump.SharedFrame frame)) (own_dump at holds.0 among holds.1) holds.2, refl)
+      inr (
+        of_dump.SharedFrame frame,
+        subst (λ d. dumps.HoldsOfDump trace.layout.depth d (space_after trace (take d.applied trace.log)) (of_dump.SharedFrame frame))
+            (own_dump at holds.0 among holds.1) holds.2,
+        refl,
+      )
   back (ReservedBit at frame index) among holds =
-      inr (of_dump.ReservedBit frame index, subst (λ d. dumps.HoldsOfDump trace.layout.depth d (space_after trace (take d.applied trace.log)) (of_dump.ReservedBit frame index)) (own_dump at holds.0 among holds.1) holds.2, refl)
+      inr (
+        of_dump.ReservedBit frame index,
+        subst (λ d. dumps.HoldsOfDump trace.layout.depth d (space_after trace (take d.applied trace.log)) (of_dump.ReservedBit frame index))
+            (own_dump at holds.0 among holds.1) holds.2,
+        refl,
+      )
   back (StrayFrame at frame) among holds =
-      inr (of_dump.StrayFrame frame, subst (λ d. dumps.HoldsOfDump trace.layout.depth d (space_after trace (take d.applied trace.log)) (of_dump.StrayFrame frame)) (own_dump at holds.0 among holds.1) holds.2, refl)
+      inr (
+        of_dump.StrayFrame frame,
+        subst (λ d. dumps.HoldsOfDump trace.layout.depth d (space_after trace (take d.applied trace.log)) (of_dump.StrayFrame frame))
+            (own_dump at holds.0 among holds.1) holds.2,
+        refl,
+      )
   back (Differs at address) among holds =
-      inr (of_dump.Differs address, subst (λ d. dumps.HoldsOfDump trace.layout.depth d (space_after trace (take d.applied trace.log)) (of_dump.Differs address)) (own_dump at holds.0 among holds.1) holds.2, refl)
+      inr (
+        of_dump.Differs address,
+        subst (λ d. dumps.HoldsOfDump trace.layout.depth d (space_after trace (take d.applied trace.log)) (of_dump.Differs address))
+            (own_dump at holds.0 among holds.1) holds.2,
+        refl,
+      )
   back other among holds = absurd among
 
   past_log : Holds trace (PrefixPastLog replica) → length trace.log < dump.applied
@@ -173,7 +201,8 @@ module _ (trace : Recording) (replica : ℕ) (dump : Image) (is : slice_get trac
   rests_on_more holds = subst (λ (d : Image). RestsOnMore trace replica d) (own_dump replica holds.0 refl holds.1) holds.2
 
   -- a fault of a lower number comes earlier
-  comes_earlier : (other fault : DumpFault) → number_in other < number_in fault → dumps.HoldsOfDump trace.layout.depth dump (space_after trace (take dump.applied trace.log)) other
+  comes_earlier : (other fault : DumpFault) → number_in other < number_in fault
+      → dumps.HoldsOfDump trace.layout.depth dump (space_after trace (take dump.applied trace.log)) other
       → dumps.HoldsOfDump trace.layout.depth dump (space_after trace (take dump.applied trace.log)) fault → dumps.rank_in_dump other < dumps.rank_in_dump fault
   comes_earlier (of_dump.MissingFrame a) (of_dump.MissingFrame b) lt f g = absurd (omega arith)
   comes_earlier (of_dump.MissingFrame a) (of_dump.SharedFrame b) lt f g = absurd cc
@@ -214,7 +243,8 @@ module _ (trace : Recording) (replica : ℕ) (dump : Image) (is : slice_get trac
     not_past : Holds trace (PrefixPastLog replica) → ⊥
     not_past holds = let past = past_log holds in omega arith
 
-    pub first_short : (needs : List ℕ) → AreNeeds trace (length trace.events) needs → dump.applied < get_or needs replica 0 → IsFirstAmong (IsDumpFaultAt replica) trace (PrefixShort replica)
+    pub first_short : (needs : List ℕ) → AreNeeds trace (length trace.events) needs → dump.applied < get_or needs replica 0
+        → IsFirstAmong (IsDumpFaultAt replica) trace (PrefixShort replica)
     first_short needs are short =
         let known = are.reached replica (omega arith) in
         record {
@@ -232,14 +262,22 @@ module _ (trace : Recording) (replica : ℕ) (dump : Image) (is : slice_get trac
               more = let just = known.just in omega arith;
             },
           );
-          none_earlier = λ other among holds earlier. one_lower trace replica other not_past among holds (lower trace replica 12 (PrefixShort replica) refl other among earlier);
+          none_earlier = λ other among holds earlier. one_lower trace replica other not_past among holds
+              (lower trace replica 12 (PrefixShort replica) refl other among earlier);
         }
 
     module _ (needs : List ℕ) (are : AreNeeds trace (length trace.events) needs) (enough : get_or needs replica 0 ≤ dump.applied) where
       not_short : Holds trace (PrefixShort replica) → ⊥
       not_short holds =
           let rests = rests_on_more holds in
-          let most = are.most replica rests.index rests.reply (record { below = reply_below trace rests.index rests.reply rests.is_reply; is_reply = rests.is_reply; made = rests.made; is_made = rests.is_made; here = rests.here }) in
+          let most = are.most replica rests.index rests.reply (record {
+            below = reply_below trace rests.index rests.reply rests.is_reply;
+            is_reply =
+                rests.is_reply;
+            made = rests.made;
+            is_made = rests.is_made;
+            here = rests.here;
+          }) in
           let more = rests.more in
           omega arith
 
@@ -261,7 +299,8 @@ module _ (trace : Recording) (replica : ℕ) (dump : Image) (is : slice_get trac
         | inr there ↦ none there.0 there.1
       ]
 
-      pub first_of_replica : (fault : DumpFault) → dumps.IsFirstOfDump trace.layout.depth dump (space_after trace (take dump.applied trace.log)) fault → IsFirstAmong (IsDumpFaultAt replica) trace (at_replica replica fault)
+      pub first_of_replica : (fault : DumpFault) → dumps.IsFirstOfDump trace.layout.depth dump (space_after trace (take dump.applied trace.log)) fault
+          → IsFirstAmong (IsDumpFaultAt replica) trace (at_replica replica fault)
       first_of_replica fault first = record {
         is_among = is_of_replica replica fault;
         holds = told fault first.holds;

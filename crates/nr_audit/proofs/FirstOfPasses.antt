@@ -9,7 +9,9 @@ use Rattle.nr_trace.specs.Orders.{before, recorded_order}
 use Rattle.nr_trace.specs.Faults.{Holds, rank, IsFirst}
 use Rattle.nr_trace.specs.Laws.{HasCleanLog, IsFaultless}
 use Rattle.nr_trace.specs.declared.fault.Fault.{Fault}
-use Rattle.nr_trace.specs.declared.fault.Fault.TheVariants.{Format, ThreadOpen, NoSuchCall, AnsweredTwice, NotAnUpdate, PlacedTwice, NotPlaced, PastLog, Early, WrongAnswer, PrefixPastLog, PrefixShort, MissingFrame, SharedFrame, ReservedBit, StrayFrame, Differs}
+use Rattle.nr_trace.specs.declared.fault.Fault.TheVariants.{Format, ThreadOpen, NoSuchCall, AnsweredTwice, NotAnUpdate, PlacedTwice, NotPlaced, PastLog, Early}
+use Rattle.nr_trace.specs.declared.fault.Fault.TheVariants.{WrongAnswer, PrefixPastLog, PrefixShort, MissingFrame, SharedFrame, ReservedBit, StrayFrame}
+use Rattle.nr_trace.specs.declared.fault.Fault.TheVariants.{Differs}
 use Rattle.vs_types.specs.Refusal.{IfRefused}
 use Rattle.vs_types.specs.declared.refusal.Fail.{Fail}
 use Rattle.vs_types.specs.declared.refusal.Fail.TheVariants.{Memory, Refused}
@@ -91,14 +93,16 @@ none_of_format trace (StrayFrame replica number) lt holds = omega arith
 none_of_format trace (Differs replica address) lt holds = omega arith
 
 -- one pass more
-pub none_before_next : (pass : ℕ) (Among : Fault → Type 0) (trace : Recording) → AreOfPass pass Among → HasNoneBefore pass trace → HasNone Among trace → HasNoneBefore (pass + 1) trace
+pub none_before_next : (pass : ℕ) (Among : Fault → Type 0) (trace : Recording) → AreOfPass pass Among → HasNoneBefore pass trace → HasNone Among trace
+    → HasNoneBefore (pass + 1) trace
 none_before_next pass Among trace are none here fault lt holds = elim (cases_lt (pass_of fault) pass) [
   | inl low ↦ none fault low holds
   | inr same ↦ here fault (are.all fault (omega arith)) holds
 ]
 
 -- the first fault of a pass is the first of all
-pub first_of_pass : (pass : ℕ) (Among : Fault → Type 0) (trace : Recording) (fault : Fault) → AreOfPass pass Among → HasNoneBefore pass trace → IsFirstAmong Among trace fault → IsFirst trace fault
+pub first_of_pass : (pass : ℕ) (Among : Fault → Type 0) (trace : Recording) (fault : Fault) → AreOfPass pass Among → HasNoneBefore pass trace
+    → IsFirstAmong Among trace fault → IsFirst trace fault
 first_of_pass pass Among trace fault are none first = record {
   holds = first.holds;
   none_earlier = λ other holds earlier.
@@ -106,7 +110,8 @@ first_of_pass pass Among trace fault are none first = record {
       let s = ranked trace fault in
       let own = are.only fault first.is_among in
       let ordered : slice_cmp nat_cmp (pass_of other ∷ r.at ∷ r.number ∷ []) (pass_of fault ∷ s.at ∷ s.number ∷ []) ≡ Less =
-      subst (λ b. slice_cmp nat_cmp (pass_of other ∷ r.at ∷ r.number ∷ []) b ≡ Less) s.is (subst (λ a. slice_cmp nat_cmp a (rank trace fault) ≡ Less) r.is earlier) in
+      subst (λ b. slice_cmp nat_cmp (pass_of other ∷ r.at ∷ r.number ∷ []) b ≡ Less) s.is
+      (subst (λ a. slice_cmp nat_cmp a (rank trace fault) ≡ Less) r.is earlier) in
       elim (earlier_cases (pass_of other) r.at r.number (pass_of fault) s.at s.number ordered) [
         | inl low ↦ none other (omega arith) holds
         | inr same ↦ first.none_earlier other (are.all other (same.0 ∙ own)) holds earlier
@@ -114,7 +119,8 @@ first_of_pass pass Among trace fault are none first = record {
 }
 
 -- what a pass refuses is the first of all
-pub refused_by_pass : (pass : ℕ) (Among : Fault → Type 0) (trace : Recording) (fail : Fail Fault) → AreOfPass pass Among → HasNoneBefore pass trace → IfRefused (IsFirstAmong Among trace) fail → IfRefused (IsFirst trace) fail
+pub refused_by_pass : (pass : ℕ) (Among : Fault → Type 0) (trace : Recording) (fail : Fail Fault) → AreOfPass pass Among → HasNoneBefore pass trace
+    → IfRefused (IsFirstAmong Among trace) fail → IfRefused (IsFirst trace) fail
 refused_by_pass pass Among trace Memory are none first = tt
 refused_by_pass pass Among trace (Refused fault) are none first = first_of_pass pass Among trace fault are none first
 

@@ -1,5 +1,6 @@
 -- The faults of the log, and what its first places tell: the place of each call.
-use Rattle.std.proofs.Common.{◌≡◌, ◌≢◌, ℕ, ◌+◌, ◌<◌, ◌≤◌, List, [], ◌∷◌, length, replicate, set, get_or, Some, None, Option, refl, sym, ap, subst, ◌∙◌, inl, inr, arith, get_or-set_other, get_or-set_same}
+use Rattle.std.proofs.Common.{◌≡◌, ◌≢◌, ℕ, ◌+◌, ◌<◌, ◌≤◌, List, [], ◌∷◌, length, replicate, set, get_or, Some, None, Option, refl, sym, ap, subst, ◌∙◌, inl}
+use Rattle.std.proofs.Common.{inr, arith, get_or-set_other, get_or-set_same}
 use Rattle.std.specs.Prelude.{slice_get, is_some, option_and_then}
 use Rattle.std.proofs.lemmas.List.{length-set, length-replicate}
 use Rattle.std.proofs.lemmas.Bool.{cases_lt, cases_eq, false≢true}
@@ -25,15 +26,18 @@ logged_at_start trace table e = subst (λ (t : List (Option ℕ)). ArePlacesBelo
   each = λ call lt. subst (λ o. IsPlaceBelow trace 0 call o) (sym (nothing (length trace.events) call)) (λ place lt. absurd (omega arith));
 })
 
-placed : (trace : Recording) (end call : ℕ) (o : Option ℕ) → o ≢ None → IsPlaceBelow trace end call o → (place : ℕ) × (place < end) × (slice_get trace.log place ≡ Some call)
+placed : (trace : Recording) (end call : ℕ) (o : Option ℕ) → o ≢ None → IsPlaceBelow trace end call o
+    → (place : ℕ) × (place < end) × (slice_get trace.log place ≡ Some call)
 placed trace end call None some h = absurd (some refl)
 placed trace end call (Some place) some h = (place, h.0, h.1)
 
-unplaced : (trace : Recording) (end call : ℕ) (o : Option ℕ) → o ≡ None → IsPlaceBelow trace end call o → (place : ℕ) → place < end → slice_get trace.log place ≡ Some call → ⊥
+unplaced : (trace : Recording) (end call : ℕ) (o : Option ℕ) → o ≡ None → IsPlaceBelow trace end call o → (place : ℕ) → place < end
+    → slice_get trace.log place ≡ Some call → ⊥
 unplaced trace end call None e h = h
 unplaced trace end call (Some place) e h = absurd (cc)
 
-place_stays : (trace : Recording) (end call : ℕ) (o : Option ℕ) → (slice_get trace.log end ≡ Some call → ⊥) → IsPlaceBelow trace end call o → IsPlaceBelow trace (end + 1) call o
+place_stays : (trace : Recording) (end call : ℕ) (o : Option ℕ) → (slice_get trace.log end ≡ Some call → ⊥) → IsPlaceBelow trace end call o
+    → IsPlaceBelow trace (end + 1) call o
 place_stays trace end call None other h = λ place lt has. elim (cases_lt place end) [
   | inl low ↦ h place low has
   | inr same ↦ other (subst (λ i. slice_get trace.log i ≡ Some call) (omega arith) has)
@@ -58,7 +62,8 @@ log_ranks trace place (PlacedTwice at) among = (6, ap (λ i. 3 ∷ i ∷ 6 ∷ [
 log_ranks trace place fault among = absurd among
 
 -- the first fault of a place, after places that have none, is the first of the log
-pub first_log_fault : (trace : Recording) (place : ℕ) (fault : Fault) → ((lower : ℕ) → lower < place → HasNone (IsLogFaultAt lower) trace) → IsFirstAmong (IsLogFaultAt place) trace fault → IsFirstAmong IsLogFault trace fault
+pub first_log_fault : (trace : Recording) (place : ℕ) (fault : Fault) → ((lower : ℕ) → lower < place → HasNone (IsLogFaultAt lower) trace)
+    → IsFirstAmong (IsLogFaultAt place) trace fault → IsFirstAmong IsLogFault trace fault
 first_log_fault trace = first_of_all IsLogFaultAt 3 trace (log_ranks trace)
 
 nothing_placed : (trace : Recording) (place : ℕ) (P : ℕ → Type 0) → length trace.log ≤ place → HasPlaced trace place P → ⊥
@@ -79,7 +84,8 @@ no_update_is_first trace place (NotAnUpdate j) among earlier = let h = lower_num
 no_update_is_first trace place (PlacedTwice j) among earlier = let h = lower_number 3 j 6 place 5 earlier among in absurd (omega arith)
 no_update_is_first trace place fault among earlier = absurd among
 
-twice_is_first : (trace : Recording) (place : ℕ) (other : Fault) → (Holds trace (NotAnUpdate place) → ⊥) → IsLogFaultAt place other → Holds trace other → Earlier trace other (PlacedTwice place) → ⊥
+twice_is_first : (trace : Recording) (place : ℕ) (other : Fault) → (Holds trace (NotAnUpdate place) → ⊥) → IsLogFaultAt place other → Holds trace other
+    → Earlier trace other (PlacedTwice place) → ⊥
 twice_is_first trace place (NotAnUpdate j) update among holds earlier = update (subst (λ k. Holds trace (NotAnUpdate k)) among holds)
 twice_is_first trace place (PlacedTwice j) update among holds earlier = let h = lower_number 3 j 6 place 6 earlier among in absurd (omega arith)
 twice_is_first trace place fault update among holds earlier = absurd among
@@ -88,10 +94,13 @@ twice_is_first trace place fault update among holds earlier = absurd among
 pub update_within : (trace : Recording) (call : ℕ) → IsUpdate trace call → call < length trace.events
 update_within trace call update = elim (cases_lt call (length trace.events)) [
   | inl low ↦ low
-  | inr past ↦ absurd (false≢true (sym (ap is_some (ap (λ o. option_and_then (λ (made : Invocation). operation_in made.request) (option_and_then made_by o)) (slice_get_past trace.events call past))) ∙ update))
+  | inr past ↦ absurd (false≢true
+      (sym (ap is_some (ap (λ o. option_and_then (λ (made : Invocation). operation_in made.request) (option_and_then made_by o))
+      (slice_get_past trace.events call past))) ∙ update))
 ]
 
-module _ (trace : Recording) (end call : ℕ) (table : List (Option ℕ)) (logged : ArePlacesBelow trace end table) (has : slice_get trace.log end ≡ Some call) where
+module _ (trace : Recording) (end call : ℕ) (table : List (Option ℕ)) (logged : ArePlacesBelow trace end table)
+    (has : slice_get trace.log end ≡ Some call) where
   it_is : (P : ℕ → Type 0) → HasPlaced trace end P → P call
   it_is P held = let told = held.1 in let same : held.0 ≡ call = cc in subst P same held.2
 
@@ -107,7 +116,12 @@ module _ (trace : Recording) (end call : ℕ) (table : List (Option ℕ)) (logge
   pub first_placed_twice : IsUpdate trace call → get_or table call None ≢ None → IsFirstAmong (IsLogFaultAt end) trace (PlacedTwice end)
   first_placed_twice update some = record {
     is_among = refl;
-    holds = (call, has, placed trace end call (get_or table call None) some (logged.each call (omega (arith, update_within trace call update, logged.one_each))));
+    holds = (
+      call,
+      has,
+      placed trace end call (get_or table call None) some
+          (logged.each call (omega (arith, update_within trace call update, logged.one_each))),
+    );
     none_earlier = λ other among held earlier. twice_is_first trace end other (λ held. it_is (λ c. IsUpdate trace c → ⊥) held update) among held earlier;
   }
 
@@ -116,7 +130,8 @@ module _ (trace : Recording) (end call : ℕ) (table : List (Option ℕ)) (logge
       (λ held. it_is (λ c. IsUpdate trace c → ⊥) held update)
       (λ held.
       let earlier = it_is (λ c. (earlier : ℕ) × (earlier < end) × (slice_get trace.log earlier ≡ Some c)) held in
-      unplaced trace end call (get_or table call None) none (logged.each call (omega (arith, update_within trace call update, logged.one_each))) earlier.0 earlier.1 earlier.2)
+      unplaced trace end call (get_or table call None) none
+      (logged.each call (omega (arith, update_within trace call update, logged.one_each))) earlier.0 earlier.1 earlier.2)
 
   pub logged_after : IsUpdate trace call → get_or table call None ≡ None → ArePlacesBelow trace (end + 1) (set table call (Some end))
   logged_after update none =
@@ -125,12 +140,14 @@ module _ (trace : Recording) (end call : ℕ) (table : List (Option ℕ)) (logge
         one_each = length-set table call (Some end) ∙ logged.one_each;
         each = λ other lt. elim (cases_eq other call) [
           | inl same ↦
-              let here : get_or (set table call (Some end)) other None ≡ Some end = subst (λ c. get_or (set table call (Some end)) c None ≡ Some end) (sym same) (get_or-set_same table call (Some end) None within) in
+              let here : get_or (set table call (Some end)) other None ≡ Some end =
+              subst (λ c. get_or (set table call (Some end)) c None ≡ Some end) (sym same) (get_or-set_same table call (Some end) None within) in
               subst (λ o. IsPlaceBelow trace (end + 1) other o) (sym here) (
                 omega arith,
                 has ∙ ap (λ c. Some c) (sym same),
                 λ place below at. elim (cases_lt place end) [
-                  | inl before ↦ absurd (unplaced trace end call (get_or table call None) none (logged.each call within) place before (at ∙ ap (λ c. Some c) same))
+                  | inl before ↦ absurd (unplaced trace end call (get_or table call None) none (logged.each call within) place before (at
+                      ∙ ap (λ c. Some c) same))
                   | inr now ↦ omega arith
                 ],
               )

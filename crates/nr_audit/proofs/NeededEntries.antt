@@ -1,5 +1,6 @@
 -- The most entries that are known by the replies at each replica, and what that says of its dump.
-use Rattle.std.proofs.Common.{cond, ◌≡◌, ℕ, ◌+◌, ◌<◌, ◌≤◌, ◌⊎◌, inl, inr, List, max, replicate, set, get_or, Some, None, Option, refl, sym, ap, subst, ◌∙◌, arith, get_or-set_other, get_or-set_same}
+use Rattle.std.proofs.Common.{cond, ◌≡◌, ℕ, ◌+◌, ◌<◌, ◌≤◌, ◌⊎◌, inl, inr, List, max, replicate, set, get_or, Some, None, Option, refl, sym, ap, subst, ◌∙◌}
+use Rattle.std.proofs.Common.{arith, get_or-set_other, get_or-set_same}
 use Rattle.std.specs.Prelude.{option_map}
 use Rattle.std.specs.Ordering.{nat_cmp, ord_max, is_lt}
 use Rattle.std.specs.declared.cmp.Ordering.{Ordering}
@@ -25,7 +26,8 @@ needs_at_start trace needs e = subst (λ (xs : List ℕ). AreNeeds trace 0 xs) (
   reached = λ replica some. let none = no_needs replica in absurd (omega arith);
 })
 
-later_reply : (trace : Recording) (end replica index : ℕ) (reply : Response) → IsReplyAt trace end replica index reply → IsReplyAt trace (end + 1) replica index reply
+later_reply : (trace : Recording) (end replica index : ℕ) (reply : Response) → IsReplyAt trace end replica index reply
+    → IsReplyAt trace (end + 1) replica index reply
 later_reply trace end replica index reply at = record {
   below = let low = at.below in omega arith;
   is_reply = at.is_reply;
@@ -43,14 +45,16 @@ later_known trace end replica entries known = record {
 }
 
 -- a reply below the next end is one below this, or the last
-earlier_or_last : (trace : Recording) (end replica index : ℕ) (reply : Response) → IsReplyAt trace (end + 1) replica index reply → IsReplyAt trace end replica index reply ⊎ (index ≡ end)
+earlier_or_last : (trace : Recording) (end replica index : ℕ) (reply : Response) → IsReplyAt trace (end + 1) replica index reply
+    → IsReplyAt trace end replica index reply ⊎ (index ≡ end)
 earlier_or_last trace end replica index reply at = elim (cases_lt index end) [
   | inl low ↦ inl (record { below = low; is_reply = at.is_reply; made = at.made; is_made = at.is_made; here = at.here })
   | inr past ↦ inr (let low = at.below in omega arith)
 ]
 
 -- an event that is no reply to a call changes nothing
-pub needs_stay : (trace : Recording) (end : ℕ) (needs : List ℕ) → ((replica : ℕ) (reply : Response) → IsReplyAt trace (end + 1) replica end reply → ⊥) → AreNeeds trace end needs → AreNeeds trace (end + 1) needs
+pub needs_stay : (trace : Recording) (end : ℕ) (needs : List ℕ) → ((replica : ℕ) (reply : Response) → IsReplyAt trace (end + 1) replica end reply → ⊥)
+    → AreNeeds trace end needs → AreNeeds trace (end + 1) needs
 needs_stay trace end needs none are = record {
   four = are.four;
   most = λ replica index reply at. elim (earlier_or_last trace end replica index reply at) [
@@ -63,7 +67,8 @@ needs_stay trace end needs none are = record {
 pub no_reply_at : (trace : Recording) (end replica : ℕ) (reply : Response) → reply_of trace end ≡ None → IsReplyAt trace (end + 1) replica end reply → ⊥
 no_reply_at trace end replica reply none at = let is = at.is_reply in cc
 
-pub no_call_at : (trace : Recording) (end replica : ℕ) (own reply : Response) → reply_of trace end ≡ Some own → call_of trace own.call ≡ None → IsReplyAt trace (end + 1) replica end reply → ⊥
+pub no_call_at : (trace : Recording) (end replica : ℕ) (own reply : Response) → reply_of trace end ≡ Some own → call_of trace own.call ≡ None
+    → IsReplyAt trace (end + 1) replica end reply → ⊥
 no_call_at trace end replica own reply is none at =
     let other = at.is_reply in
     let same : own ≡ reply = cc in
@@ -72,7 +77,8 @@ no_call_at trace end replica own reply is none at =
     cc
 
 -- a reply to a call at a replica raises what the replica needs to what is known by it
-pub needs_grow : (trace : Recording) (end : ℕ) (needs : List ℕ) (own : Response) (made : Invocation) → reply_of trace end ≡ Some own → call_of trace own.call ≡ Some made → made.replica < 4
+pub needs_grow : (trace : Recording) (end : ℕ) (needs : List ℕ) (own : Response) (made : Invocation) → reply_of trace end ≡ Some own
+    → call_of trace own.call ≡ Some made → made.replica < 4
     → AreNeeds trace end needs → AreNeeds trace (end + 1) (set needs made.replica (max (get_or needs made.replica 0) (known_by trace own)))
 needs_grow trace end needs own made is is_made within are = record {
   four = length-set needs made.replica most_known ∙ are.four;
@@ -93,7 +99,8 @@ needs_grow trace end needs own made is is_made within are = record {
         (by_greater (cases_lt (known_by trace own) (get_or needs made.replica 0))))
     | inr apart ↦
         let stays = get_or-set_other needs made.replica replica most_known 0 apart in
-        subst (λ n. KnowsJust trace (end + 1) replica n) (sym stays) (later_known trace end replica (get_or needs replica 0) (are.reached replica (subst (λ n. 0 < n) stays some)))
+        subst (λ n. KnowsJust trace (end + 1) replica n) (sym stays)
+        (later_known trace end replica (get_or needs replica 0) (are.reached replica (subst (λ n. 0 < n) stays some)))
   ];
 } where
   most_known : ℕ
@@ -122,10 +129,12 @@ needs_grow trace end needs own made is is_made within are = record {
   last_reply : IsReplyAt trace (end + 1) made.replica end own
   last_reply = record { below = omega arith; is_reply = is; made = made; is_made = is_made; here = refl }
 
-  by_greater : (known_by trace own < get_or needs made.replica 0) ⊎ (get_or needs made.replica 0 ≤ known_by trace own) → KnowsJust trace (end + 1) made.replica most_known
+  by_greater : (known_by trace own < get_or needs made.replica 0) ⊎ (get_or needs made.replica 0 ≤ known_by trace own)
+      → KnowsJust trace (end + 1) made.replica most_known
   by_greater (inl less) =
       let same : get_or needs made.replica 0 ≡ most_known = omega arith in
-      subst (λ n. KnowsJust trace (end + 1) made.replica n) same (later_known trace end made.replica (get_or needs made.replica 0) (are.reached made.replica (omega arith)))
+      subst (λ n. KnowsJust trace (end + 1) made.replica n) same
+      (later_known trace end made.replica (get_or needs made.replica 0) (are.reached made.replica (omega arith)))
   by_greater (inr more) = record { index = end; reply = own; at = last_reply; just = let it : known_by trace own ≡ most_known = omega arith in it }
 
 -- ---- what is read of the trace
@@ -137,7 +146,8 @@ greater_is a b = by_cmp (nat_cmp b a) refl where
   by_cmp Equal e = let h = ranked b a Equal e in let it : b ≡ max a b = omega arith in it
   by_cmp Greater e = let h = ranked b a Greater e in let it : b ≡ max a b = omega arith in it
 
-pub made_at : (o : Option Invocation) (replica : ℕ) → Some replica ≡ option_map (λ (made : Invocation). made.replica) o → (made : Invocation) × (o ≡ Some made) × (made.replica ≡ replica)
+pub made_at : (o : Option Invocation) (replica : ℕ) → Some replica ≡ option_map (λ (made : Invocation). made.replica) o
+    → (made : Invocation) × (o ≡ Some made) × (made.replica ≡ replica)
 made_at None replica e = absurd cc
 made_at (Some made) replica e = (made, refl, cc)
 

@@ -7,7 +7,9 @@ use Rattle.nr_trace.specs.Orders.{recorded_order, HasItsCalls, KeepsPrecedence, 
 use Rattle.nr_trace.specs.Faults.{Holds, IsFirst, IsFirstOf}
 use Rattle.nr_trace.specs.Laws.{IsFaultless}
 use Rattle.nr_trace.specs.declared.fault.Fault.{Fault}
-use Rattle.nr_trace.specs.declared.fault.Fault.TheVariants.{Format, ThreadOpen, NoSuchCall, AnsweredTwice, NotAnUpdate, PlacedTwice, NotPlaced, PastLog, Early, WrongAnswer, PrefixPastLog, PrefixShort, MissingFrame, SharedFrame, ReservedBit, StrayFrame, Differs}
+use Rattle.nr_trace.specs.declared.fault.Fault.TheVariants.{Format, ThreadOpen, NoSuchCall, AnsweredTwice, NotAnUpdate, PlacedTwice, NotPlaced, PastLog, Early}
+use Rattle.nr_trace.specs.declared.fault.Fault.TheVariants.{WrongAnswer, PrefixPastLog, PrefixShort, MissingFrame, SharedFrame, ReservedBit, StrayFrame}
+use Rattle.nr_trace.specs.declared.fault.Fault.TheVariants.{Differs}
 use Rattle.nr_trace.specs.declared.fault.Format.{Format as FormatFault}
 use Rattle.nr_trace.proofs.LawsOfSpelling.{one_trace}
 use Rattle.nr_trace.proofs.LawsOfFormat.{no_fault}
@@ -74,7 +76,8 @@ of_spelled bytes trace (Yes order) spelled is = (trace, spelled, is.0, is.1)
 of_spelled bytes trace (No fault) spelled is = first_of_spelled bytes trace fault spelled is
 
 -- the first fault of bytes is one of the format, or of the trace that they spell
-sides : (bytes : List ℕ) (fault : Fault) → IsFirstOf bytes fault → ((format : FormatFault) × HasFormatFault bytes format) ⊎ ((trace : Recording) × Spells bytes trace × IsFirst trace fault)
+sides : (bytes : List ℕ) (fault : Fault) → IsFirstOf bytes fault
+    → ((format : FormatFault) × HasFormatFault bytes format) ⊎ ((trace : Recording) × Spells bytes trace × IsFirst trace fault)
 sides bytes (Format format) h = inl (format, h)
 sides bytes fault h = inr h
 
@@ -85,12 +88,14 @@ none_of_faultless bytes trace fault spelled faultless first = elim (sides bytes 
 ]
 
 pub same_of : (bytes : List ℕ) (a b : Verdict) → IsVerdictOf bytes a → IsVerdictOf bytes b → a ≡ b
-same_of bytes (Yes order) (Yes other) (t, spelled, none, is) (u, also, nothing, same) = ap Yes (is ∙ ap recorded_order (one_trace bytes t u spelled also) ∙ sym same)
+same_of bytes (Yes order) (Yes other) (t, spelled, none, is) (u, also, nothing, same) =
+    ap Yes (is ∙ ap recorded_order (one_trace bytes t u spelled also) ∙ sym same)
 same_of bytes (Yes order) (No fault) (t, spelled, none, is) k = absurd (none_of_faultless bytes t fault spelled none k)
 same_of bytes (No fault) (Yes order) h (t, spelled, none, is) = absurd (none_of_faultless bytes t fault spelled none h)
 same_of bytes (No fault) (No other) h k = ap No (one_first_of bytes fault other h k)
 
-pub yes_of : (bytes : List ℕ) (trace : Recording) (verdict : Verdict) → IsVerdictOf bytes verdict → Spells bytes trace → IsFaultless trace → verdict ≡ Yes (recorded_order trace)
+pub yes_of : (bytes : List ℕ) (trace : Recording) (verdict : Verdict) → IsVerdictOf bytes verdict → Spells bytes trace → IsFaultless trace
+    → verdict ≡ Yes (recorded_order trace)
 yes_of bytes trace verdict is spelled faultless = same_of bytes verdict (Yes (recorded_order trace)) is (trace, spelled, faultless, refl)
 
 pub no_of : (bytes : List ℕ) (verdict : Verdict) (fault : Fault) → IsVerdictOf bytes verdict → IsFirstOf bytes fault → verdict ≡ No fault
@@ -113,21 +118,31 @@ right_of bytes (Yes order) (trace, spelled, faultless, is) =
     }
 
 -- what is right of the whole is right of each part
-part_of : (bytes : List ℕ) (P : List ℕ → Type 0) (verdict : Verdict) → IsVerdictOf bytes verdict → ((order : List ℕ) → AreRightWith bytes order → P order) → IfYes P verdict
+part_of : (bytes : List ℕ) (P : List ℕ → Type 0) (verdict : Verdict) → IsVerdictOf bytes verdict
+    → ((order : List ℕ) → AreRightWith bytes order → P order) → IfYes P verdict
 part_of bytes P (Yes order) is part = part order (right_of bytes (Yes order) is)
 part_of bytes P (No fault) is part = tt
 
 pub one_trace_of : (bytes : List ℕ) (verdict : Verdict) → IsVerdictOf bytes verdict → IfYes (λ order. (trace : Recording) × SpellsAlone bytes trace) verdict
 one_trace_of bytes verdict is = part_of bytes (λ order. (trace : Recording) × SpellsAlone bytes trace) verdict is (λ order right. (right.trace, right.spelled))
 
-pub members_of : (bytes : List ℕ) (verdict : Verdict) → IsVerdictOf bytes verdict → IfYes (λ order. IsSpelledWith bytes (λ trace. HasItsCalls trace order)) verdict
-members_of bytes verdict is = part_of bytes (λ order. IsSpelledWith bytes (λ trace. HasItsCalls trace order)) verdict is (λ order right. (right.trace, right.spelled, right.members))
+pub members_of : (bytes : List ℕ) (verdict : Verdict) → IsVerdictOf bytes verdict
+    → IfYes (λ order. IsSpelledWith bytes (λ trace. HasItsCalls trace order)) verdict
+members_of bytes verdict is =
+    part_of bytes (λ order. IsSpelledWith bytes (λ trace. HasItsCalls trace order)) verdict is (λ order right. (right.trace, right.spelled, right.members))
 
-pub precedence_of : (bytes : List ℕ) (verdict : Verdict) → IsVerdictOf bytes verdict → IfYes (λ order. IsSpelledWith bytes (λ trace. KeepsPrecedence trace order)) verdict
-precedence_of bytes verdict is = part_of bytes (λ order. IsSpelledWith bytes (λ trace. KeepsPrecedence trace order)) verdict is (λ order right. (right.trace, right.spelled, right.precedence))
+pub precedence_of : (bytes : List ℕ) (verdict : Verdict) → IsVerdictOf bytes verdict
+    → IfYes (λ order. IsSpelledWith bytes (λ trace. KeepsPrecedence trace order)) verdict
+precedence_of bytes verdict is =
+    part_of bytes (λ order. IsSpelledWith bytes (λ trace. KeepsPrecedence trace order)) verdict is
+    (λ order right. (right.trace, right.spelled, right.precedence))
 
-pub answers_of : (bytes : List ℕ) (verdict : Verdict) → IsVerdictOf bytes verdict → IfYes (λ order. IsSpelledWith bytes (λ trace. HasTheAnswers trace order)) verdict
-answers_of bytes verdict is = part_of bytes (λ order. IsSpelledWith bytes (λ trace. HasTheAnswers trace order)) verdict is (λ order right. (right.trace, right.spelled, right.answers))
+pub answers_of : (bytes : List ℕ) (verdict : Verdict) → IsVerdictOf bytes verdict
+    → IfYes (λ order. IsSpelledWith bytes (λ trace. HasTheAnswers trace order)) verdict
+answers_of bytes verdict is =
+    part_of bytes (λ order. IsSpelledWith bytes (λ trace. HasTheAnswers trace order)) verdict is (λ order right. (right.trace, right.spelled, right.answers))
 
-pub dumps_of : (bytes : List ℕ) (verdict : Verdict) → IsVerdictOf bytes verdict → IfYes (λ order. IsSpelledWith bytes (λ trace. HasFittingDumps trace order)) verdict
-dumps_of bytes verdict is = part_of bytes (λ order. IsSpelledWith bytes (λ trace. HasFittingDumps trace order)) verdict is (λ order right. (right.trace, right.spelled, right.dumps))
+pub dumps_of : (bytes : List ℕ) (verdict : Verdict) → IsVerdictOf bytes verdict
+    → IfYes (λ order. IsSpelledWith bytes (λ trace. HasFittingDumps trace order)) verdict
+dumps_of bytes verdict is = part_of bytes (λ order. IsSpelledWith bytes (λ trace. HasFittingDumps trace order)) verdict is
+    (λ order right. (right.trace, right.spelled, right.dumps))

@@ -25,7 +25,8 @@ position_ranks trace index (PastLog event) among = (8, ap (λ i. 4 ∷ i ∷ 8 �
 position_ranks trace index fault among = absurd among
 
 -- the first fault of an event, after events that have none, is the first of all positions
-pub first_position_fault : (trace : Recording) (index : ℕ) (fault : Fault) → ((lower : ℕ) → lower < index → HasNone (IsPositionFaultAt lower) trace) → IsFirstAmong (IsPositionFaultAt index) trace fault → IsFirstAmong IsPositionFault trace fault
+pub first_position_fault : (trace : Recording) (index : ℕ) (fault : Fault) → ((lower : ℕ) → lower < index → HasNone (IsPositionFaultAt lower) trace)
+    → IsFirstAmong (IsPositionFaultAt index) trace fault → IsFirstAmong IsPositionFault trace fault
 first_position_fault trace = first_of_all IsPositionFaultAt 4 trace (position_ranks trace)
 
 -- at what is no reply no position has a fault
@@ -33,7 +34,8 @@ pub none_without_reply : (trace : Recording) (index : ℕ) → reply_of trace in
 none_without_reply trace index none = none_at trace index (no_reply_with trace index _ none) (no_reply_with trace index _ none)
 
 -- where no event has a fault, none holds
-pub no_position_fault : (trace : Recording) → ((lower : ℕ) → lower < length trace.events → HasNone (IsPositionFaultAt lower) trace) → HasNone IsPositionFault trace
+pub no_position_fault : (trace : Recording) → ((lower : ℕ) → lower < length trace.events → HasNone (IsPositionFaultAt lower) trace)
+    → HasNone IsPositionFault trace
 no_position_fault trace none = none_of_all IsPositionFaultAt trace (λ index. elim (cases_lt index (length trace.events)) [
   | inl low ↦ none index low
   | inr past ↦ none_without_reply trace index (no_reply_past trace index past)
@@ -44,7 +46,8 @@ placed_is_first trace index (NotPlaced j) among earlier = let h = lower_number 4
 placed_is_first trace index (PastLog j) among earlier = let h = lower_number 4 j 8 index 7 earlier among in absurd (omega arith)
 placed_is_first trace index fault among earlier = absurd among
 
-past_is_first : (trace : Recording) (index : ℕ) (other : Fault) → (Holds trace (NotPlaced index) → ⊥) → IsPositionFaultAt index other → Holds trace other → Earlier trace other (PastLog index) → ⊥
+past_is_first : (trace : Recording) (index : ℕ) (other : Fault) → (Holds trace (NotPlaced index) → ⊥) → IsPositionFaultAt index other → Holds trace other
+    → Earlier trace other (PastLog index) → ⊥
 past_is_first trace index (NotPlaced j) none among holds earlier = none (subst (λ k. Holds trace (NotPlaced k)) among holds)
 past_is_first trace index (PastLog j) none among holds earlier = let h = lower_number 4 j 8 index 8 earlier among in absurd (omega arith)
 past_is_first trace index fault none among holds earlier = absurd among
@@ -66,13 +69,15 @@ module _ (trace : Recording) (index call at : ℕ) (answer : Answer) (is : slice
   not_misplaced : (IsUpdate trace call × (slice_get trace.log at ≢ Some call) → ⊥) → Holds trace (NotPlaced index) → ⊥
   not_misplaced none held = none (it_is (λ reply. IsUpdate trace reply.call × (slice_get trace.log reply.at ≢ Some reply.call)) held)
 
-  pub first_past_log : (IsUpdate trace call × (slice_get trace.log at ≢ Some call) → ⊥) → IsRead trace call × (length trace.log < at) → IsFirstAmong (IsPositionFaultAt index) trace (PastLog index)
+  pub first_past_log : (IsUpdate trace call × (slice_get trace.log at ≢ Some call) → ⊥) → IsRead trace call × (length trace.log < at)
+      → IsFirstAmong (IsPositionFaultAt index) trace (PastLog index)
   first_past_log none past = record {
     is_among = refl;
     holds = (record { call = call; at = at; answer = answer }, mine, past);
     none_earlier = λ other among held earlier. past_is_first trace index other (not_misplaced none) among held earlier;
   }
 
-  pub none_at_reply : (IsUpdate trace call × (slice_get trace.log at ≢ Some call) → ⊥) → (IsRead trace call × (length trace.log < at) → ⊥) → HasNone (IsPositionFaultAt index) trace
+  pub none_at_reply : (IsUpdate trace call × (slice_get trace.log at ≢ Some call) → ⊥) → (IsRead trace call × (length trace.log < at) → ⊥)
+      → HasNone (IsPositionFaultAt index) trace
   none_at_reply placed within = none_at trace index (not_misplaced placed)
       (λ held. within (it_is (λ reply. IsRead trace reply.call × (length trace.log < reply.at)) held))

@@ -44,19 +44,22 @@ abbrev pub IsRanked : (ℕ → Fault → Type 0) → ℕ → Recording → Type 
 IsRanked At pass trace = (index : ℕ) (fault : Fault) → At index fault → (number : ℕ) × (rank trace fault ≡ pass ∷ index ∷ number ∷ [])
 
 -- none below an index and none at it are none below the next
-pub more_of : (At : ℕ → Fault → Type 0) (trace : Recording) (index : ℕ) → ((lower : ℕ) → lower < index → HasNone (At lower) trace) → HasNone (At index) trace → (lower : ℕ) → lower < index + 1 → HasNone (At lower) trace
+pub more_of : (At : ℕ → Fault → Type 0) (trace : Recording) (index : ℕ) → ((lower : ℕ) → lower < index → HasNone (At lower) trace) → HasNone (At index) trace
+    → (lower : ℕ) → lower < index + 1 → HasNone (At lower) trace
 more_of At trace index below here lower lt = elim (cases_lt lower index) [
   | inl low ↦ below lower low
   | inr same ↦ subst (λ i. HasNone (At i) trace) (let it : index ≡ lower = omega arith in it) here
 ]
 
 -- none of the faults of an index holds, at any index
-pub none_of_all : (At : ℕ → Fault → Type 0) (trace : Recording) → ((index : ℕ) → HasNone (At index) trace) → HasNone (λ fault. (index : ℕ) × At index fault) trace
+pub none_of_all : (At : ℕ → Fault → Type 0) (trace : Recording) → ((index : ℕ) → HasNone (At index) trace)
+    → HasNone (λ fault. (index : ℕ) × At index fault) trace
 none_of_all At trace none fault among holds = none among.0 fault among.1 holds
 
 -- the first of the faults of an index, where none of a lower index holds, is the first of all
 pub first_of_all : (At : ℕ → Fault → Type 0) (pass : ℕ) (trace : Recording) → IsRanked At pass trace → (index : ℕ) (fault : Fault)
-    → ((lower : ℕ) → lower < index → HasNone (At lower) trace) → IsFirstAmong (At index) trace fault → IsFirstAmong (λ fault. (index : ℕ) × At index fault) trace fault
+    → ((lower : ℕ) → lower < index → HasNone (At lower) trace) → IsFirstAmong (At index) trace fault
+    → IsFirstAmong (λ fault. (index : ℕ) × At index fault) trace fault
 first_of_all At pass trace ranks index fault none first = record {
   is_among = (index, first.is_among);
   holds = first.holds;

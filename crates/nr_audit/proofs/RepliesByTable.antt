@@ -1,5 +1,6 @@
 -- The reply to a call, by the table of replies.
-use Rattle.std.proofs.Common.{◌≡◌, ℕ, zero, suc, ◌<◌, true, false, inl, inr, List, [], ◌∷◌, length, get_or, Some, None, Option, refl, sym, ap, subst, ◌∙◌, arith}
+use Rattle.std.proofs.Common.{◌≡◌, ℕ, zero, suc, ◌<◌, true, false, inl, inr, List, [], ◌∷◌, length, get_or, Some, None, Option, refl, sym, ap, subst, ◌∙◌}
+use Rattle.std.proofs.Common.{arith}
 use Rattle.std.specs.Prelude.{slice_get, filter_map, option_and_then, ◌==◌, if◌then◌else◌, is_some}
 use Rattle.std.specs.List.{cons_option}
 use Rattle.std.proofs.lemmas.Option.{slice_get_within}
@@ -28,7 +29,8 @@ only_given h (e ∷ es) (suc i) x y at gives only =
       skip None told rest = rest
       skip (Some w) told rest = absurd (let first = only 0 e w refl (sym told) in omega arith)
 
-pub none_given : {X Y : Type 0} (h : X → Option Y) (xs : List X) → ((k : ℕ) (z : X) (w : Y) → slice_get xs k ≡ Some z → h z ≡ Some w → ⊥) → slice_get (filter_map h xs) 0 ≡ None
+pub none_given : {X Y : Type 0} (h : X → Option Y) (xs : List X) → ((k : ℕ) (z : X) (w : Y) → slice_get xs k ≡ Some z → h z ≡ Some w → ⊥)
+    → slice_get (filter_map h xs) 0 ≡ None
 none_given h [] none = refl
 none_given h (e ∷ es) none = skip (h e) refl (none_given h es (λ k z w is given. none (suc k) z w is given)) where
   skip : (o : Option _) → o ≡ h e → slice_get (filter_map h es) 0 ≡ None → slice_get (cons_option o (filter_map h es)) 0 ≡ None
@@ -39,23 +41,28 @@ none_given h (e ∷ es) none = skip (h e) refl (none_given h es (λ k z w is giv
 abbrev says : ℕ → Event → Option Response
 says call event = option_and_then (λ (reply : Response). if reply.call == call then Some reply else None) (reply_in event)
 
-some_event : (o : Option Event) (reply : Response) → option_and_then reply_in o ≡ Some reply → (event : Event) × (o ≡ Some event) × (reply_in event ≡ Some reply)
+some_event : (o : Option Event) (reply : Response) → option_and_then reply_in o ≡ Some reply
+    → (event : Event) × (o ≡ Some event) × (reply_in event ≡ Some reply)
 some_event None reply e = absurd (cc)
 some_event (Some event) reply e = (event, refl, e)
 
 -- the reply to a call is the event that the table names
-pub replied : (trace : Recording) (call : ℕ) (o : Option ℕ) → IsReplyBelow trace (length trace.events) call o → reply_to trace call ≡ option_and_then (λ index. reply_of trace index) o
+pub replied : (trace : Recording) (call : ℕ) (o : Option ℕ) → IsReplyBelow trace (length trace.events) call o
+    → reply_to trace call ≡ option_and_then (λ index. reply_of trace index) o
 replied trace call None h = none_given (says call) trace.events (λ k event reply is given.
     h k (slice_get_within trace.events k event is)
-    (ap (λ (p : Option Event). is_some (option_and_then (λ (reply : Response). if reply.call == call then Some reply else None) (option_and_then reply_in p))) is ∙ ap is_some given))
+    (ap (λ (p : Option Event). is_some (option_and_then (λ (reply : Response). if reply.call == call then Some reply else None) (option_and_then reply_in p)))
+    is ∙ ap is_some given))
 replied trace call (Some index) h =
     let named = reply_by trace index call h.1 in
     let event = some_event (slice_get trace.events index) named.0 named.1 in
     let gives : says call event.0 ≡ Some named.0 =
-    ap (λ o. option_and_then (λ (reply : Response). if reply.call == call then Some reply else None) o) event.2 ∙ cond-true (named.0.call == call) (Some named.0) None (eq-eqb named.0.call call named.2) in
+    ap (λ o. option_and_then (λ (reply : Response). if reply.call == call then Some reply else None) o) event.2
+    ∙ cond-true (named.0.call == call) (Some named.0) None (eq-eqb named.0.call call named.2) in
     only_given (says call) trace.events index event.0 named.0 event.1 gives (λ k other reply is given.
     h.2 k (slice_get_within trace.events k other is)
-    (ap (λ (p : Option Event). is_some (option_and_then (λ (reply : Response). if reply.call == call then Some reply else None) (option_and_then reply_in p))) is ∙ ap is_some given)) ∙ sym named.1
+    (ap (λ (p : Option Event). is_some (option_and_then (λ (reply : Response). if reply.call == call then Some reply else None) (option_and_then reply_in p)))
+    is ∙ ap is_some given)) ∙ sym named.1
 
 -- what a reply is made of
 pub response_of : (o : Option Response) (reply : Reply) → option_map without_call o ≡ Some reply
@@ -72,11 +79,13 @@ reply_by_table trace table call o are e = elim (cases_lt call (length table)) [
   | inl low ↦ ap (option_map without_call)
       (replied trace call (get_or table call None) (are.each call low) ∙ ap (λ p. option_and_then (λ index. reply_of trace index) p) (sym e))
   | inr past ↦ ap (option_map without_call)
-      (replied trace call None (λ index lt. are.no_other call past index) ∙ ap (λ p. option_and_then (λ index. reply_of trace index) p) (sym (e ∙ get_or_past table call None past)))
+      (replied trace call None (λ index lt. are.no_other call past index)
+      ∙ ap (λ p. option_and_then (λ index. reply_of trace index) p) (sym (e ∙ get_or_past table call None past)))
 ]
 
 -- the index that the table has is one of an event
-pub index_within : (trace : Recording) (table : List (Option ℕ)) (call index : ℕ) → AreReplies trace table → call < length table → get_or table call None ≡ Some index → index < length trace.events
+pub index_within : (trace : Recording) (table : List (Option ℕ)) (call index : ℕ) → AreReplies trace table → call < length table
+    → get_or table call None ≡ Some index → index < length trace.events
 index_within trace table call index are lt e = (subst (λ o. IsReplyBelow trace (length trace.events) call o) e (are.each call lt)).0
 
 seen_of : (address : Option ℕ) (response : Option Response) (reply : Option Reply) → is_some address ≡ true → reply ≡ option_map without_call response
@@ -88,10 +97,12 @@ seen_of (Some a) response reply read told = ap (option_map (λ (r : Reply). r.at
   again (Some r) = refl
 
 -- how many entries a read saw, by the reply to it
-pub seen_by_read : (trace : Recording) (call : ℕ) (reply : Option Reply) → IsRead trace call → reply ≡ replied_to trace call → option_map (λ (r : Reply). r.at) reply ≡ entries_seen trace call
+pub seen_by_read : (trace : Recording) (call : ℕ) (reply : Option Reply) → IsRead trace call → reply ≡ replied_to trace call
+    → option_map (λ (r : Reply). r.at) reply ≡ entries_seen trace call
 seen_by_read trace call reply read told = seen_of (address_of trace call) (reply_to trace call) reply read told
 
-not_seen : (address : Option ℕ) (response : Option Response) → is_some address ≡ false → ◌≡◌ {A = Option ℕ} None (option_and_then (λ (a : ℕ). option_map (λ (r : Response). r.at) response) address)
+not_seen : (address : Option ℕ) (response : Option Response) → is_some address ≡ false
+    → ◌≡◌ {A = Option ℕ} None (option_and_then (λ (a : ℕ). option_map (λ (r : Response). r.at) response) address)
 not_seen None response none = refl
 not_seen (Some a) response none = absurd (false≢true (sym none))
 

@@ -12,14 +12,16 @@ use Rattle.nr_audit.specs.inside.Replies.{without_call, replied_to}
 use Rattle.nr_audit.specs.declared.history.Reply.{Reply}
 use Rattle.nr_audit.proofs.RepliesByTable.{response_of}
 
-pub by_place : (trace : Recording) (call : ℕ) (place : Option ℕ) → IsUpdate trace call → IsPlaceBelow trace (length trace.log) call place → Finds (StandsAfter trace call) place
+pub by_place : (trace : Recording) (call : ℕ) (place : Option ℕ) → IsUpdate trace call → IsPlaceBelow trace (length trace.log) call place
+    → Finds (StandsAfter trace call) place
 by_place trace call None update none = λ entries stands. elim stands [
   | inl u ↦ none entries (slice_get_within trace.log entries call u.1) u.1
   | inr r ↦ not_both trace call update r.0
 ]
 by_place trace call (Some own) update there = inl (update, there.1)
 
-pub by_reply : (trace : Recording) (call : ℕ) (reply : Option Reply) → IsRead trace call → reply ≡ replied_to trace call → Finds (StandsAfter trace call) (option_map (λ (r : Reply). r.at) reply)
+pub by_reply : (trace : Recording) (call : ℕ) (reply : Option Reply) → IsRead trace call → reply ≡ replied_to trace call
+    → Finds (StandsAfter trace call) (option_map (λ (r : Reply). r.at) reply)
 by_reply trace call None read told = λ entries stands. elim stands [
   | inl u ↦ not_both trace call u.0 read
   | inr r ↦ (let some = ap (option_map without_call) r.2 in absurd cc)

@@ -1,5 +1,6 @@
 -- What a dump's pages, beside those of a space, say of its faults.
-use Rattle.std.proofs.Common.{◌≡◌, ◌≢◌, ℕ, ◌+◌, ◌<◌, List, ◌∷◌, ◌++◌, length, get_or, Option, Some, None, ⊎_elim, refl, sym, subst, ◌∙◌, arith, Contains, nat_eq}
+use Rattle.std.proofs.Common.{◌≡◌, ◌≢◌, ℕ, ◌+◌, ◌<◌, List, ◌∷◌, ◌++◌, length, get_or, Option, Some, None, ⊎_elim, refl, sym, subst, ◌∙◌, arith, Contains}
+use Rattle.std.proofs.Common.{nat_eq}
 use Rattle.std.specs.Prelude.{IsSome, IsTrue, ◌↔◌}
 use Rattle.std.specs.FinMap as finite
 use Rattle.std.specs.List.{IsDistinct, AllPairs}

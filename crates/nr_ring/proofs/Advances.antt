@@ -15,10 +15,12 @@ same_replica owns p q a b = ap (λ (l : List ℕ). slice_index l 0) (sym a ∙ b
 pub low_replica : (depth : Depth) (replicas : ℕ) (words : List ℕ) (r : ℕ) (v : View) → Remembers depth replicas words (Some r) v → r < 4
 low_replica depth replicas words r v is = omega (arith, is.few, is.owned_below r refl)
 
-pub local_word : (depth : Depth) (replicas : ℕ) (words : List ℕ) (r : ℕ) (v : View) → Remembers depth replicas words (Some r) v → slice_index words (2 + r) ≡ local_of (log_after replicas v.seen) r
+pub local_word : (depth : Depth) (replicas : ℕ) (words : List ℕ) (r : ℕ) (v : View) → Remembers depth replicas words (Some r) v
+    → slice_index words (2 + r) ≡ local_of (log_after replicas v.seen) r
 local_word depth replicas words r v is = is.words_are.locals_are r (low_replica depth replicas words r v is)
 
-pub may_advance : (depth : Depth) (replicas : ℕ) (words : List ℕ) (r : ℕ) (v : View) (to : ℕ) → Remembers depth replicas words (Some r) v → MayTake replicas v to → (slice_index words (2 + r) ≡ to → ⊥)
+pub may_advance : (depth : Depth) (replicas : ℕ) (words : List ℕ) (r : ℕ) (v : View) (to : ℕ) → Remembers depth replicas words (Some r) v
+    → MayTake replicas v to → (slice_index words (2 + r) ≡ to → ⊥)
     → MayAdvance (log_after replicas v.seen) r to × Contains v.owns r
 may_advance depth replicas words r v to is may other =
     let same : may.replica ≡ r = same_replica v.owns may.replica r may.owns is.owns in
@@ -27,13 +29,17 @@ may_advance depth replicas words r v to is may other =
     let low : local_of (log_after replicas v.seen) r ≤ to = subst P same may.above in
     let word = local_word depth replicas words r v is in
     let differ : local_of (log_after replicas v.seen) r ≡ to → ⊥ = λ e. other (word ∙ e) in
-    let below : local_of (log_after replicas v.seen) r < to = omega (arith, low, differ) in
-    (record { there = omega (arith, as_many_locals depth replicas v.seen is.is_history, is.owned_below r refl); some = below; written = may.written }, subst Q (sym is.owns) (0, omega arith, refl))
+    let below : local_of (log_after replicas v.seen) r < to = omega (arith, low, differ) in (
+      record { there = omega (arith, as_many_locals depth replicas v.seen is.is_history, is.owned_below r refl); some = below; written = may.written },
+      subst Q (sym is.owns) (0, omega arith, refl),
+    )
 
-pub taken_there : (depth : Depth) (replicas : ℕ) (words : List ℕ) (r : ℕ) (v : View) (to : ℕ) → Remembers depth replicas words (Some r) v → slice_index words (2 + r) ≡ to → HasTaken replicas v to v
+pub taken_there : (depth : Depth) (replicas : ℕ) (words : List ℕ) (r : ℕ) (v : View) (to : ℕ) → Remembers depth replicas words (Some r) v
+    → slice_index words (2 + r) ≡ to → HasTaken replicas v to v
 taken_there depth replicas words r v to is at =
     record { replica = r; owns = is.owns; there = λ _. refl; below = λ other. absurd (other (sym (local_word depth replicas words r v is) ∙ at)) }
 
-pub taken_now : (depth : Depth) (replicas : ℕ) (words : List ℕ) (r : ℕ) (v w : View) (to : ℕ) → Remembers depth replicas words (Some r) v → (slice_index words (2 + r) ≡ to → ⊥) → w ≡ with_event v (Advance r to) → HasTaken replicas v to w
+pub taken_now : (depth : Depth) (replicas : ℕ) (words : List ℕ) (r : ℕ) (v w : View) (to : ℕ) → Remembers depth replicas words (Some r) v
+    → (slice_index words (2 + r) ≡ to → ⊥) → w ≡ with_event v (Advance r to) → HasTaken replicas v to w
 taken_now depth replicas words r v w to is other made =
     record { replica = r; owns = is.owns; there = λ at. absurd (other (local_word depth replicas words r v is ∙ at)); below = λ _. made }

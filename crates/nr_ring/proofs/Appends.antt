@@ -1,5 +1,6 @@
 -- The room for a batch, and what an append tells.
-use Rattle.std.proofs.Common.{◌≡◌, ℕ, ◌+◌, ◌<◌, ◌≤◌, List, [], ◌∷◌, ◌++◌, All, Contains, Option, Some, length, length-append, ap, sym, subst, ◌∙◌, le_trans, arith}
+use Rattle.std.proofs.Common.{◌≡◌, ℕ, ◌+◌, ◌<◌, ◌≤◌, List, [], ◌∷◌, ◌++◌, All, Contains, Option, Some, length, length-append, ap, sym, subst, ◌∙◌, le_trans}
+use Rattle.std.proofs.Common.{arith}
 use Rattle.std.specs.Prelude.{slice_index}
 use Rattle.std.proofs.lemmas.List.{append_assoc}
 use Rattle.vs_types.specs.declared.depth.Depth.{Depth}
@@ -25,7 +26,8 @@ are_small depth replicas words replica v is = record {
   replicas = omega (arith, is.words_are.replicas_are, as_many_locals depth replicas v.seen is.is_history, is.few);
 }
 
-pub keeps_up : (log : Log) (words : List ℕ) (count : ℕ) → IsWordsOf log words → ((r : ℕ) → r < slice_index words 6 → slice_index words 0 + count ≤ slice_index words (2 + r) + 16) → slice_index words 6 ≤ 4 → AllKeepUp log count
+pub keeps_up : (log : Log) (words : List ℕ) (count : ℕ) → IsWordsOf log words
+    → ((r : ℕ) → r < slice_index words 6 → slice_index words 0 + count ≤ slice_index words (2 + r) + 16) → slice_index words 6 ≤ 4 → AllKeepUp log count
 keeps_up log words count are room few r lt =
     let present : r < slice_index words 6 = omega (arith, are.replicas_are, lt) in
     omega (arith, room r present, are.tail_is, are.locals_are r (omega arith))
@@ -50,7 +52,8 @@ pub moved_later : (depth : Depth) (replicas : ℕ) (u v w : View) → HasLooked 
 moved_later depth replicas u v w looked moved = (moved.0, omega (arith, longer v.seen u.seen looked.seen, moved.1), moved.2, moved.3)
 
 -- the words of a pass can be read from its replica's local tail on
-pub can_be_read : (depth : Depth) (replicas : ℕ) (words : List ℕ) (r : ℕ) (v : View) → Remembers depth replicas words (Some r) v → CanBeRead depth words (slice_index words (2 + r))
+pub can_be_read : (depth : Depth) (replicas : ℕ) (words : List ℕ) (r : ℕ) (v : View) → Remembers depth replicas words (Some r) v
+    → CanBeRead depth words (slice_index words (2 + r))
 can_be_read depth replicas words r v is =
     let fits = history_fits depth replicas v.seen is.is_history in
     let word = local_word depth replicas words r v is in
@@ -59,7 +62,12 @@ can_be_read depth replicas words r v is =
       are = is.words_are;
       fit = history_entries depth replicas v.seen is.is_history;
       low = omega (arith, word, fits.written r);
-      near = omega (arith, word, fits.kept_up r (omega (arith, as_many_locals depth replicas v.seen is.is_history, is.owned_below r Rattle.std.proofs.Common.refl)));
+      near = omega (
+        arith,
+        word,
+        fits.kept_up r
+            (omega (arith, as_many_locals depth replicas v.seen is.is_history, is.owned_below r Rattle.std.proofs.Common.refl)),
+      );
       ends = fits.ends;
     }
 

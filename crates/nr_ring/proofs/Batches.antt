@@ -1,5 +1,6 @@
 -- A batch is written into the words entry by entry.
-use Rattle.std.proofs.Common.{◌≡◌, ◌≢◌, ℕ, zero, suc, ◌+◌, ◌-◌, ◌*◌, ◌%◌, ◌<◌, ◌≤◌, List, [], ◌∷◌, Some, length, get_or, set, ◌⊎◌, inl, inr, ⊎_elim, refl, ap, sym, ◌∙◌, arith}
+use Rattle.std.proofs.Common.{◌≡◌, ◌≢◌, ℕ, zero, suc, ◌+◌, ◌-◌, ◌*◌, ◌%◌, ◌<◌, ◌≤◌, List, [], ◌∷◌, Some, length, get_or, set, ◌⊎◌, inl, inr, ⊎_elim, refl, ap}
+use Rattle.std.proofs.Common.{sym, ◌∙◌, arith}
 use Rattle.std.specs.Option.{unwrap_or}
 use Rattle.std.specs.Prelude.{slice_get, slice_index}
 use Rattle.std.proofs.Math.ListN.{length-set}
@@ -18,10 +19,12 @@ abbrev pub with_two : ℕ → List ℕ → List ℕ → List ℕ
 with_two at two words = set (set words at (slice_index two 0)) (at + 1) (slice_index two 1)
 
 first_of : (at : ℕ) (two words : List ℕ) → at < length words → slice_index (with_two at two words) at ≡ slice_index two 0
-first_of at two words lt = get_or-set_other (set words at (slice_index two 0)) (at + 1) at (slice_index two 1) 0 (λ e. absurd (omega arith)) ∙ get_or-set_same words at (slice_index two 0) 0 lt
+first_of at two words lt = get_or-set_other (set words at (slice_index two 0)) (at + 1) at (slice_index two 1) 0 (λ e. absurd (omega arith))
+    ∙ get_or-set_same words at (slice_index two 0) 0 lt
 
 second_of : (at : ℕ) (two words : List ℕ) → at + 1 < length words → slice_index (with_two at two words) (at + 1) ≡ slice_index two 1
-second_of at two words lt = get_or-set_same (set words at (slice_index two 0)) (at + 1) (slice_index two 1) 0 (omega (arith, length-set words at (slice_index two 0)))
+second_of at two words lt = get_or-set_same (set words at (slice_index two 0)) (at + 1) (slice_index two 1) 0
+    (omega (arith, length-set words at (slice_index two 0)))
 
 else_of : (at word : ℕ) (two words : List ℕ) → word ≢ at → word ≢ at + 1 → slice_index (with_two at two words) word ≡ slice_index words word
 else_of at word two words first second =
@@ -33,9 +36,11 @@ either_of at (suc zero) two words lt le = second_of at two words lt
 either_of at (suc (suc k)) two words lt le = absurd (omega arith)
 
 pub nothing_written : (place : ℕ) (batch : List LogEntry) (words : List ℕ) → length words ≡ 39 → IsWritten place 0 batch words words
-nothing_written place batch words long = record { long = long; head_stays = λ word lt. refl; entries_are = λ i entry k lt there two. absurd (omega arith); others_stay = λ word low apart. refl }
+nothing_written place batch words long =
+    record { long = long; head_stays = λ word lt. refl; entries_are = λ i entry k lt there two. absurd (omega arith); others_stay = λ word low apart. refl }
 
-pub one_more_written : (place n : ℕ) (batch : List LogEntry) (entry : LogEntry) (before words : List ℕ) → IsWritten place n batch before words → n < 16 → slice_get batch n ≡ Some entry
+pub one_more_written : (place n : ℕ) (batch : List LogEntry) (entry : LogEntry) (before words : List ℕ) → IsWritten place n batch before words → n < 16
+    → slice_get batch n ≡ Some entry
     → IsWritten place (n + 1) batch before (with_two (word_of (place + n)) (log_words entry) words)
 one_more_written place n batch entry before words is few there =
     let at = word_of (place + n) in
@@ -53,27 +58,33 @@ one_more_written place n batch entry before words is few there =
           (λ t. let differ : i ≢ n = t.1 in
           let before_it : i < n = omega arith in
           let clear = apart (place + i) (place + n) (omega arith) (omega arith) in
-          else_of at (word_of (place + i) + k) two words (λ e. ⊎_elim (λ l. absurd (omega arith)) (λ l. absurd (omega arith)) clear) (λ e. ⊎_elim (λ l. absurd (omega arith)) (λ l. absurd (omega arith)) clear)
+          else_of at (word_of (place + i) + k) two words (λ e. ⊎_elim (λ l. absurd (omega arith)) (λ l. absurd (omega arith)) clear)
+          (λ e. ⊎_elim (λ l. absurd (omega arith)) (λ l. absurd (omega arith)) clear)
           ∙ is.entries_are i other k before_it here le)
           (eqb_tells i n);
       others_stay = λ word low clear.
           let here = clear n (omega arith) in
-          else_of at word two words (λ e. ⊎_elim (λ l. absurd (omega arith)) (λ l. absurd (omega arith)) here) (λ e. ⊎_elim (λ l. absurd (omega arith)) (λ l. absurd (omega arith)) here)
+          else_of at word two words (λ e. ⊎_elim (λ l. absurd (omega arith)) (λ l. absurd (omega arith)) here)
+          (λ e. ⊎_elim (λ l. absurd (omega arith)) (λ l. absurd (omega arith)) here)
           ∙ is.others_stay word low (λ i lt. clear i (omega arith));
     }
 
 -- with the tail raised, all of a batch is appended
-pub all_written : (log : Log) (batch : List LogEntry) (before words : List ℕ) (place end : ℕ) → place ≡ tail log → end ≡ tail log + length batch → IsWordsOf log before → IsWritten place (length batch) batch before words → IsAppended log batch before (set words 0 end)
+pub all_written : (log : Log) (batch : List LogEntry) (before words : List ℕ) (place end : ℕ) → place ≡ tail log → end ≡ tail log + length batch
+    → IsWordsOf log before → IsWritten place (length batch) batch before words → IsAppended log batch before (set words 0 end)
 all_written log batch before words place end start now are is =
-    let high : (word : ℕ) → 0 < word → slice_index (set words 0 end) word ≡ slice_index words word = λ word lt. get_or-set_other words 0 word end 0 (λ e. absurd (omega arith)) in
+    let high : (word : ℕ) → 0 < word → slice_index (set words 0 end) word ≡ slice_index words word =
+    λ word lt. get_or-set_other words 0 word end 0 (λ e. absurd (omega arith)) in
     record {
       long = length-set words 0 end ∙ is.long;
       tail_is = get_or-set_same words 0 end 0 (omega (arith, is.long)) ∙ now;
       head_stays = λ word lt le. high word lt ∙ is.head_stays word le;
       entries_are = λ i entry k there le.
           let at : tail log + i ≡ place + i = omega (arith, start) in
-          high (word_of (tail log + i) + k) (omega arith) ∙ ap (λ p. slice_index words (word_of p + k)) at ∙ is.entries_are i entry k (slice_get_within batch i entry there) there le;
+          high (word_of (tail log + i) + k) (omega arith) ∙ ap (λ p. slice_index words (word_of p + k)) at
+          ∙ is.entries_are i entry k (slice_get_within batch i entry there) there le;
       others_stay = λ word low clear.
           high word (omega arith)
-          ∙ is.others_stay word low (λ i lt. let at : tail log + i ≡ place + i = omega (arith, start) in let P : ℕ → Type 0 = λ p. (word < word_of p) ⊎ (word_of p + 2 ≤ word) in Rattle.std.proofs.Common.subst P at (clear i lt));
+          ∙ is.others_stay word low (λ i lt. let at : tail log + i ≡ place + i = omega (arith, start) in
+          let P : ℕ → Type 0 = λ p. (word < word_of p) ⊎ (word_of p + 2 ≤ word) in Rattle.std.proofs.Common.subst P at (clear i lt));
     }

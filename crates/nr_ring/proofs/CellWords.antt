@@ -1,5 +1,6 @@
 -- The words of the cell after an advance and after an append.
-use Rattle.std.proofs.Common.{◌≡◌, ◌≢◌, ℕ, zero, suc, ◌+◌, ◌-◌, ◌*◌, ◌%◌, ◌<◌, ◌≤◌, max, List, [], ◌∷◌, ◌++◌, Some, length, get_or, set, ◌⊎◌, inl, inr, ⊎_elim, refl, ap, sym, ◌∙◌, arith}
+use Rattle.std.proofs.Common.{◌≡◌, ◌≢◌, ℕ, zero, suc, ◌+◌, ◌-◌, ◌*◌, ◌%◌, ◌<◌, ◌≤◌, max, List, [], ◌∷◌, ◌++◌, Some, length, get_or, set, ◌⊎◌, inl, inr, ⊎_elim}
+use Rattle.std.proofs.Common.{refl, ap, sym, ◌∙◌, arith}
 use Rattle.std.specs.Prelude.{slice_get, slice_index}
 use Rattle.std.proofs.Math.ListN.{length-append, length-set}
 use Rattle.std.proofs.lemmas.List.{get_or-set_same, get_or-set_other}
@@ -12,11 +13,14 @@ use Rattle.nr_ring.specs.declared.event.Event.TheVariants.{Append, Advance}
 use Rattle.nr_ring.proofs.LocalTails.{greatest_raised, le_or_lt}
 
 -- a word that an advance leaves
-left_alone : (words : List ℕ) (replica to word : ℕ) → word ≢ 1 → word ≢ 2 + replica → slice_index (advanced_words replica to words) word ≡ slice_index words word
+left_alone : (words : List ℕ) (replica to word : ℕ) → word ≢ 1 → word ≢ 2 + replica
+    → slice_index (advanced_words replica to words) word ≡ slice_index words word
 left_alone words replica to word one two =
-    get_or-set_other (set words 1 (max (slice_index words 1) to)) (2 + replica) word to 0 two ∙ get_or-set_other words 1 word (max (slice_index words 1) to) 0 one
+    get_or-set_other (set words 1 (max (slice_index words 1) to)) (2 + replica) word to 0 two
+    ∙ get_or-set_other words 1 word (max (slice_index words 1) to) 0 one
 
-pub advance_words : (log : Log) (replica to : ℕ) (words : List ℕ) → replica < 4 → IsWordsOf log words → MayAdvance log replica to → IsWordsOf (after log (Advance replica to)) (advanced_words replica to words)
+pub advance_words : (log : Log) (replica to : ℕ) (words : List ℕ) → replica < 4 → IsWordsOf log words → MayAdvance log replica to
+    → IsWordsOf (after log (Advance replica to)) (advanced_words replica to words)
 advance_words log replica to words few is may =
     let middle = set words 1 (max (slice_index words 1) to) in
     let wide : length middle ≡ 39 = length-set words 1 (max (slice_index words 1) to) ∙ is.long in
@@ -39,8 +43,10 @@ advance_words log replica to words few is may =
           ∙ is.locals_are r lt
           ∙ sym (get_or-set_other log.locals replica r to 0 other))
           (eqb_tells r replica);
-      replicas_are = left_alone words replica to 6 (λ e. absurd (omega arith)) (λ e. absurd (omega arith)) ∙ is.replicas_are ∙ sym (length-set log.locals replica to);
-      entries_are = λ place entry k there near lt. left_alone words replica to (word_of place + k) (λ e. absurd (omega arith)) (λ e. absurd (omega arith)) ∙ is.entries_are place entry k there near lt;
+      replicas_are = left_alone words replica to 6 (λ e. absurd (omega arith)) (λ e. absurd (omega arith)) ∙ is.replicas_are
+          ∙ sym (length-set log.locals replica to);
+      entries_are = λ place entry k there near lt. left_alone words replica to (word_of place + k) (λ e. absurd (omega arith)) (λ e. absurd (omega arith))
+          ∙ is.entries_are place entry k there near lt;
       unused = λ word le. left_alone words replica to word (λ e. absurd (omega arith)) (λ e. absurd (omega arith)) ∙ is.unused word le;
     }
 
@@ -55,10 +61,12 @@ get_right (x ∷ xs) ys i = ap (slice_get (x ∷ (xs ++ ys))) (Rattle.std.proofs
 
 -- places less than 16 apart have words of their own
 pub apart : (place later : ℕ) → place < later → later < place + 16 → (word_of place + 2 ≤ word_of later) ⊎ (word_of later + 2 ≤ word_of place)
-apart place later lt near = ⊎_elim (λ le. let differ : place % 16 ≢ later % 16 = λ e. absurd (omega arith) in inl (omega arith)) (λ gt. inr (omega arith)) (le_or_lt (place % 16) (later % 16))
+apart place later lt near = ⊎_elim (λ le. let differ : place % 16 ≢ later % 16 = λ e. absurd (omega arith) in
+    inl (omega arith)) (λ gt. inr (omega arith)) (le_or_lt (place % 16) (later % 16))
 
 -- an append changes no entry that a replica has still to take
-pub append_words : (depth : Depth) (log : Log) (batch : List LogEntry) (before words : List ℕ) → IsWordsOf log before → MayAppend depth log batch → IsAppended log batch before words → IsWordsOf (after log (Append batch)) words
+pub append_words : (depth : Depth) (log : Log) (batch : List LogEntry) (before words : List ℕ) → IsWordsOf log before → MayAppend depth log batch
+    → IsAppended log batch before words → IsWordsOf (after log (Append batch)) words
 append_words depth log batch before words is may new =
     let long = length-append log.entries batch in
     record {
@@ -77,11 +85,13 @@ append_words depth log batch before words is may new =
           (λ (old : place < tail log).
           let found : slice_get log.entries place ≡ Some entry = sym (get_left log.entries batch place old) ∙ there in
           let later : tail log + length batch ≤ place + 16 = omega (arith, near, long) in
-          new.others_stay (word_of place + k) (omega arith) (λ i within. ⊎_elim (λ l. inl (omega arith)) (λ l. inr (omega arith)) (apart place (tail log + i) (omega arith) (omega arith)))
+          new.others_stay (word_of place + k) (omega arith)
+          (λ i within. ⊎_elim (λ l. inl (omega arith)) (λ l. inr (omega arith)) (apart place (tail log + i) (omega arith) (omega arith)))
           ∙ is.entries_are place entry k found (omega arith) lt)
           (le_or_lt (tail log) place);
       unused = λ word le.
-          new.others_stay word (omega arith) (λ i within. inr (unused_later (tail log) (length batch) i word within (omega (arith, le, long)))) ∙ is.unused word (omega (arith, le, long));
+          new.others_stay word (omega arith) (λ i within. inr (unused_later (tail log) (length batch) i word within (omega (arith, le, long))))
+          ∙ is.unused word (omega (arith, le, long));
     } where
       unused_later : (t n i word : ℕ) → i < n → 7 + 2 * (t + n) ≤ word → word_of (t + i) + 2 ≤ word
       unused_later t n i word lt le = omega arith

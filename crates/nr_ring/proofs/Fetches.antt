@@ -1,5 +1,6 @@
 -- The entries that a replica has still to take, read from the words.
-use Rattle.std.proofs.Common.{◌≡◌, ℕ, zero, suc, ◌+◌, ◌<◌, ◌≤◌, List, [], ◌∷◌, ◌++◌, All, Some, Option, length, get_or, take, drop, add-zero, ap, sym, subst, ◌∙◌, arith}
+use Rattle.std.proofs.Common.{◌≡◌, ℕ, zero, suc, ◌+◌, ◌<◌, ◌≤◌, List, [], ◌∷◌, ◌++◌, All, Some, Option, length, get_or, take, drop, add-zero, ap, sym, subst}
+use Rattle.std.proofs.Common.{◌∙◌, arith}
 use Rattle.std.specs.Prelude.{slice_get, slice_index}
 use Rattle.std.proofs.lemmas.List.Elements.{All-append}
 use Rattle.std.proofs.lemmas.List.{take_more, get_or-drop, length-drop}
@@ -15,12 +16,15 @@ use Rattle.nr_ring.specs.declared.event.Event.TheVariants.{Append, Advance}
 use Rattle.nr_ring.proofs.SameWords.{item_of}
 
 -- all entries of a log are at its depth
-entries_fit : (depth : Depth) (log : Log) (events : List Event) → MayGoOn depth log events → All (IsLogEntry depth) log.entries → All (IsLogEntry depth) (after_all log events).entries
+entries_fit : (depth : Depth) (log : Log) (events : List Event) → MayGoOn depth log events → All (IsLogEntry depth) log.entries
+    → All (IsLogEntry depth) (after_all log events).entries
 entries_fit depth log [] may fit = fit
-entries_fit depth log (Append batch ∷ events) may fit = entries_fit depth (after log (Append batch)) events may.1 (All-append (IsLogEntry depth) log.entries batch fit may.0.entries)
+entries_fit depth log (Append batch ∷ events) may fit =
+    entries_fit depth (after log (Append batch)) events may.1 (All-append (IsLogEntry depth) log.entries batch fit may.0.entries)
 entries_fit depth log (Advance replica to ∷ events) may fit = entries_fit depth (after log (Advance replica to)) events may.1 fit
 
-pub history_entries : (depth : Depth) (replicas : ℕ) (events : List Event) → IsHistory depth replicas events → All (IsLogEntry depth) (log_after replicas events).entries
+pub history_entries : (depth : Depth) (replicas : ℕ) (events : List Event) → IsHistory depth replicas events
+    → All (IsLogEntry depth) (log_after replicas events).entries
 history_entries depth replicas events is = entries_fit depth (new_log replicas) events is (λ k d lt. absurd (omega arith))
 
 item_holds : (P : LogEntry → Type 0) (xs : List LogEntry) (i : ℕ) (x : LogEntry) → slice_get xs i ≡ Some x → All P xs → P x
@@ -29,7 +33,8 @@ item_holds P (y ∷ ys) zero x e all = let Q : Option LogEntry → Type 0 = λ o
 item_holds P (y ∷ ys) (suc i) x e all = item_holds P ys i x e (λ k d lt. all (suc k) d (omega arith))
 
 -- the two words of a place spell the entry that stands there
-pub spelled_at : (depth : Depth) (log : Log) (words : List ℕ) (place : ℕ) (entry : LogEntry) → IsWordsOf log words → All (IsLogEntry depth) log.entries → slice_get log.entries place ≡ Some entry → tail log ≤ place + 16
+pub spelled_at : (depth : Depth) (log : Log) (words : List ℕ) (place : ℕ) (entry : LogEntry) → IsWordsOf log words → All (IsLogEntry depth) log.entries
+    → slice_get log.entries place ≡ Some entry → tail log ≤ place + 16
     → SpellsEntry depth (slice_index words (word_of place) ∷ slice_index words (word_of place + 1) ∷ []) entry
 spelled_at depth log words place entry are fit there near =
     let first = ap (slice_index words) (sym (add-zero (word_of place))) ∙ are.entries_are place entry 0 there near (omega arith) in
@@ -37,14 +42,16 @@ spelled_at depth log words place entry are fit there near =
     record { is_entry = item_holds (IsLogEntry depth) log.entries place entry there fit; spelled = λ i. first i ∷ second i ∷ [] }
 
 -- what is found there is the entry
-pub found_at : (depth : Depth) (log : Log) (words : List ℕ) (place : ℕ) (entry : LogEntry) → IsWordsOf log words → All (IsLogEntry depth) log.entries → tail log ≤ place + 16 → place < tail log
+pub found_at : (depth : Depth) (log : Log) (words : List ℕ) (place : ℕ) (entry : LogEntry) → IsWordsOf log words → All (IsLogEntry depth) log.entries
+    → tail log ≤ place + 16 → place < tail log
     → SpellsEntry depth (slice_index words (word_of place) ∷ slice_index words (word_of place + 1) ∷ []) entry → slice_get log.entries place ≡ Some entry
 found_at depth log words place entry are fit near lt spells =
     let there = item_of log.entries place lt in
     there.1 ∙ ap Some (one_entry depth depth _ there.0 entry (spelled_at depth log words place there.0 are fit there.1 near) spells)
 
 -- one entry more of those that a replica has still to take
-pub take_one_more : (xs : List LogEntry) (from n at : ℕ) (x : LogEntry) → at ≡ from + n → slice_get xs at ≡ Some x → take (n + 1) (drop from xs) ≡ take n (drop from xs) ++ x ∷ []
+pub take_one_more : (xs : List LogEntry) (from n at : ℕ) (x : LogEntry) → at ≡ from + n → slice_get xs at ≡ Some x
+    → take (n + 1) (drop from xs) ≡ take n (drop from xs) ++ x ∷ []
 take_one_more xs from n at x is e =
     let lt = slice_get_within xs at x e in
     let below : n < length (drop from xs) = omega (arith, length-drop from xs) in

@@ -1,11 +1,13 @@
 -- What events change.
-use Rattle.std.proofs.Common.{◌≡◌, ℕ, zero, suc, ◌+◌, ◌<◌, ◌≤◌, List, [], ◌∷◌, ◌++◌, All, length, get_or, replicate, subst, ◌⊎◌, inl, inr, ⊎_elim, refl, ap, sym, ◌∙◌, le_refl, le_trans, arith}
+use Rattle.std.proofs.Common.{◌≡◌, ℕ, zero, suc, ◌+◌, ◌<◌, ◌≤◌, List, [], ◌∷◌, ◌++◌, All, length, get_or, replicate, subst, ◌⊎◌, inl, inr, ⊎_elim, refl, ap}
+use Rattle.std.proofs.Common.{sym, ◌∙◌, le_refl, le_trans, arith}
 use Rattle.std.proofs.Math.ListN.{length-append, length-set, length-replicate}
 use Rattle.std.proofs.lemmas.List.{append-nil, append_assoc, get_or-set_same}
 use Rattle.vs_types.specs.LogEntry.{IsLogEntry}
 use Rattle.vs_types.specs.declared.depth.Depth.{Depth}
 use Rattle.vs_types.specs.declared.log_entry.LogEntry.{LogEntry}
-use Rattle.nr_ring.specs.History.{Log, new_log, tail, local_of, completed, MayAppend, MayFollow, MayGoOn, IsHistory, IsEnded, IsFull, after, after_all, log_after}
+use Rattle.nr_ring.specs.History.{Log, new_log, tail, local_of, completed, MayAppend, MayFollow, MayGoOn, IsHistory, IsEnded, IsFull, after, after_all}
+use Rattle.nr_ring.specs.History.{log_after}
 use Rattle.nr_ring.specs.Words.{IsWordsOf}
 use Rattle.nr_ring.specs.View.{StartsWith}
 use Rattle.nr_ring.specs.Laws.{HasGoneOn, HasSameTails, FitsTheRing}
@@ -13,7 +15,8 @@ use Rattle.nr_ring.specs.declared.event.Event.{Event}
 use Rattle.nr_ring.specs.declared.event.Event.TheVariants.{Append, Advance}
 use Rattle.nr_ring.proofs.LocalTails.{below_greatest, greatest_least, raised, still_below, le_or_lt, all_or_one}
 
-gone_on : (p q : Log) → (rest : List LogEntry) × (q.entries ≡ p.entries ++ rest) → length q.locals ≡ length p.locals → ((replica : ℕ) → local_of p replica ≤ local_of q replica) → HasGoneOn p q
+gone_on : (p q : Log) → (rest : List LogEntry) × (q.entries ≡ p.entries ++ rest) → length q.locals ≡ length p.locals
+    → ((replica : ℕ) → local_of p replica ≤ local_of q replica) → HasGoneOn p q
 gone_on p q more same higher = record {
   entries = more;
   replicas = same;
@@ -34,7 +37,8 @@ goes_on p q r a b =
 one_event : (depth : Depth) (log : Log) (event : Event) → MayFollow depth log event → HasGoneOn log (after log event)
 one_event depth log (Append batch) may = gone_on log (after log (Append batch)) (batch, refl) refl (λ r. le_refl _)
 one_event depth log (Advance replica to) may =
-    gone_on log (after log (Advance replica to)) ([], sym (append-nil log.entries)) (length-set log.locals replica to) (λ r. raised log.locals replica to r (omega (arith, may.some)))
+    gone_on log (after log (Advance replica to)) ([], sym (append-nil log.entries)) (length-set log.locals replica to)
+    (λ r. raised log.locals replica to r (omega (arith, may.some)))
 
 pub events_go_on : (depth : Depth) (log : Log) (events : List Event) → MayGoOn depth log events → HasGoneOn log (after_all log events)
 events_go_on depth log [] may = stands log
@@ -47,7 +51,8 @@ tail_rises p q on = omega (arith, length-append p.entries on.entries.0, ap (λ (
 pub no_event : (depth : Depth) (log : Log) (events : List Event) → MayGoOn depth log events → HasSameTails (after_all log events) log → events ≡ []
 no_event depth log [] may same = refl
 no_event depth log (Append batch ∷ events) may same =
-    let later = tail_rises (after log (Append batch)) (after_all (after log (Append batch)) events) (events_go_on depth (after log (Append batch)) events may.1) in
+    let later = tail_rises (after log (Append batch)) (after_all (after log (Append batch)) events)
+    (events_go_on depth (after log (Append batch)) events may.1) in
     absurd (omega (arith, later, same.tail, may.0.some, length-append log.entries batch))
 no_event depth log (Advance replica to ∷ events) may same =
     let later = (events_go_on depth (after log (Advance replica to)) events may.1).locals replica in
@@ -87,7 +92,8 @@ pub refused : (depth : Depth) (log : Log) (batch : List LogEntry) → 1 ≤ leng
     → MayAppend depth log batch ⊎ (IsEnded log (length batch) ⊎ IsFull log (length batch))
 refused depth log batch some few fit =
     ⊎_elim
-    (λ room. ⊎_elim (λ up. inl (record { some = some; few = few; entries = fit; room = room; kept_up = up })) (λ behind. inr (inr behind)) (all_or_one (tail log + length batch) log.locals))
+    (λ room. ⊎_elim (λ up. inl (record { some = some; few = few; entries = fit; room = room; kept_up = up })) (λ behind. inr (inr behind))
+    (all_or_one (tail log + length batch) log.locals))
     (λ ended. inr (inl ended))
     (le_or_lt (tail log + length batch) 65536)
 
@@ -103,7 +109,8 @@ goes_on_before : (depth : Depth) (log : Log) (seen rest : List Event) → MayGoO
 goes_on_before depth log [] rest may = tt
 goes_on_before depth log (event ∷ seen) rest may = (may.0, goes_on_before depth (after log event) seen rest may.1)
 
-pub as_many_locals : (depth : Depth) (replicas : ℕ) (events : List Event) → IsHistory depth replicas events → length (log_after replicas events).locals ≡ replicas
+pub as_many_locals : (depth : Depth) (replicas : ℕ) (events : List Event) → IsHistory depth replicas events
+    → length (log_after replicas events).locals ≡ replicas
 as_many_locals depth replicas events is = (events_go_on depth (new_log replicas) events is).replicas ∙ length-replicate replicas 0
 
 past_end : (xs : List ℕ) (i : ℕ) → length xs ≤ i → get_or xs i 0 ≡ 0
@@ -112,18 +119,22 @@ past_end (x ∷ xs) zero le = absurd (omega arith)
 past_end (x ∷ xs) (suc i) le = past_end xs i (omega arith)
 
 -- where the words are those after what was seen, all was seen
-pub seen_all : (depth : Depth) (replicas : ℕ) (history seen : List Event) (words : List ℕ) → replicas ≤ 4 → IsHistory depth replicas history → StartsWith history seen
+pub seen_all : (depth : Depth) (replicas : ℕ) (history seen : List Event) (words : List ℕ) → replicas ≤ 4 → IsHistory depth replicas history
+    → StartsWith history seen
     → IsWordsOf (log_after replicas seen) words → IsWordsOf (log_after replicas history) words → history ≡ seen
 seen_all depth replicas history seen words few is begins before now =
     let all : IsHistory depth replicas (seen ++ begins.0) = rw begins.1 at is in
     let first : IsHistory depth replicas seen = goes_on_before depth (new_log replicas) seen begins.0 all in
     let later : MayGoOn depth (log_after replicas seen) begins.0 = goes_on_after depth (new_log replicas) seen begins.0 all in
-    let log : log_after replicas history ≡ after_all (log_after replicas seen) begins.0 = ap (log_after replicas) begins.1 ∙ after_both (new_log replicas) seen begins.0 in
-    let low : (r : ℕ) → r < 4 → local_of (log_after replicas history) r ≡ local_of (log_after replicas seen) r = λ r lt. sym (now.locals_are r lt) ∙ before.locals_are r lt in
+    let log : log_after replicas history ≡ after_all (log_after replicas seen) begins.0 =
+    ap (log_after replicas) begins.1 ∙ after_both (new_log replicas) seen begins.0 in
+    let low : (r : ℕ) → r < 4 → local_of (log_after replicas history) r ≡ local_of (log_after replicas seen) r =
+    λ r lt. sym (now.locals_are r lt) ∙ before.locals_are r lt in
     let high : (r : ℕ) → 4 ≤ r → local_of (log_after replicas history) r ≡ local_of (log_after replicas seen) r = λ r le.
     past_end (log_after replicas history).locals r (omega (arith, as_many_locals depth replicas history is))
     ∙ sym (past_end (log_after replicas seen).locals r (omega (arith, as_many_locals depth replicas seen first))) in
-    let same : HasSameTails (log_after replicas history) (log_after replicas seen) = record { tail = sym now.tail_is ∙ before.tail_is; locals = λ r. ⊎_elim (high r) (low r) (le_or_lt 4 r) } in
+    let same : HasSameTails (log_after replicas history) (log_after replicas seen) =
+    record { tail = sym now.tail_is ∙ before.tail_is; locals = λ r. ⊎_elim (high r) (low r) (le_or_lt 4 r) } in
     let P : Log → Type 0 = λ l. HasSameTails l (log_after replicas seen) in
     let none : begins.0 ≡ [] = no_event depth (log_after replicas seen) begins.0 later (subst P log same) in
     begins.1 ∙ ap (λ (l : List Event). seen ++ l) none ∙ append-nil seen

@@ -11,10 +11,12 @@ use Rattle.nr_ring.proofs.Passes.{longer}
 pub cut_nothing : (owns : List ℕ) → IsCut owns owns []
 cut_nothing owns = record { kept_of = λ r has. has; given_of = λ r has. absurd (omega (arith, has.1)); apart = λ r kept given. absurd (omega (arith, given.1)) }
 
-pub met : (depth : Depth) (replicas : ℕ) (words : List ℕ) (told other after : View) → Looks depth replicas words (joined told other) after → StartsWith after.seen other.seen × StartsWith after.seen told.seen
+pub met : (depth : Depth) (replicas : ℕ) (words : List ℕ) (told other after : View) → Looks depth replicas words (joined told other) after
+    → StartsWith after.seen other.seen × StartsWith after.seen told.seen
 met depth replicas words told other after looks = (looks.looked.told 0 [] (omega arith), looks.looked.told 1 [] (omega arith))
 
-pub met_remembers : (depth : Depth) (replicas : ℕ) (words words' : List ℕ) (replica : Option ℕ) (told other after : View) → Remembers depth replicas words replica told → Looks depth replicas words' (joined told other) after
+pub met_remembers : (depth : Depth) (replicas : ℕ) (words words' : List ℕ) (replica : Option ℕ) (told other after : View)
+    → Remembers depth replicas words replica told → Looks depth replicas words' (joined told other) after
     → Remembers depth replicas words' replica after
 met_remembers depth replicas words words' replica told other after is looks = record {
   few = is.few;

@@ -1,5 +1,6 @@
 -- What a pass holds beside its view: at the start, after a look, after a split.
-use Rattle.std.proofs.Common.{◌≡◌, ℕ, zero, suc, ◌+◌, ◌-◌, ◌^◌, ◌<◌, ◌≤◌, List, [], ◌∷◌, ◌++◌, All, Contains, Option, None, Some, take, drop, length, get_or, refl, ap, sym, subst, ◌∙◌, le_trans, arith}
+use Rattle.std.proofs.Common.{◌≡◌, ℕ, zero, suc, ◌+◌, ◌-◌, ◌^◌, ◌<◌, ◌≤◌, List, [], ◌∷◌, ◌++◌, All, Contains, Option, None, Some, take, drop, length, get_or}
+use Rattle.std.proofs.Common.{refl, ap, sym, subst, ◌∙◌, le_trans, arith}
 use Rattle.std.specs.List.{range_with_len}
 use Rattle.std.specs.Prelude.{slice_index}
 use Rattle.std.proofs.lemmas.List.FromFn.{get_or-range_with_len, length-range_with_len}
@@ -17,16 +18,19 @@ use Rattle.nr_ring.proofs.LocalTails.{greatest_least}
 use Rattle.nr_ring.proofs.NewLog.{new_is}
 
 -- the tails are small
-pub small_words : (depth : Depth) (replicas : ℕ) (seen : List Event) (words : List ℕ) → IsHistory depth replicas seen → IsWordsOf (log_after replicas seen) words → (word : ℕ) → word < 6 → slice_index words word ≤ 65536
+pub small_words : (depth : Depth) (replicas : ℕ) (seen : List Event) (words : List ℕ) → IsHistory depth replicas seen
+    → IsWordsOf (log_after replicas seen) words → (word : ℕ) → word < 6 → slice_index words word ≤ 65536
 small_words depth replicas seen words is are word lt =
     let log = log_after replicas seen in
     let fits = history_fits depth replicas seen is in
     let local : (r : ℕ) → local_of log r ≤ 65536 = λ r. le_trans (fits.written r) fits.ends in
     by_word word lt log are fits.ends local where
-      by_word : (word : ℕ) → word < 6 → (log : Log) → IsWordsOf log words → tail log ≤ 65536 → ((r : ℕ) → local_of log r ≤ 65536) → slice_index words word ≤ 65536
+      by_word : (word : ℕ) → word < 6 → (log : Log) → IsWordsOf log words → tail log ≤ 65536 → ((r : ℕ) → local_of log r ≤ 65536)
+          → slice_index words word ≤ 65536
       by_word zero lt log are ends local = omega (arith, are.tail_is)
       by_word (suc zero) lt log are ends local = omega (arith, are.completed_is, greatest_least log.locals 65536 local)
-      by_word (suc (suc r)) lt log are ends local = let e : suc (suc r) ≡ 2 + r = omega arith in omega (arith, ap (slice_index words) e, are.locals_are r (omega arith), local r)
+      by_word (suc (suc r)) lt log are ends local = let e : suc (suc r) ≡ 2 + r = omega arith in
+          omega (arith, ap (slice_index words) e, are.locals_are r (omega arith), local r)
 
 pub tails_are : (log : Log) (words : List ℕ) → IsWordsOf log words → tails_of_words words ≡ tails_of log
 tails_are log words are = λ i. record {
@@ -38,7 +42,8 @@ tails_are log words are = λ i. record {
 pub longer : (after before : List Event) → StartsWith after before → length before ≤ length after
 longer after before begins = omega (arith, ap (λ (l : List Event). length l) begins.1, Rattle.std.proofs.Common.length-append before begins.0)
 
-pub look_remembers : (depth : Depth) (replicas : ℕ) (words words' : List ℕ) (replica : Option ℕ) (before after : View) → Remembers depth replicas words replica before → Looks depth replicas words' before after → Remembers depth replicas words' replica after
+pub look_remembers : (depth : Depth) (replicas : ℕ) (words words' : List ℕ) (replica : Option ℕ) (before after : View)
+    → Remembers depth replicas words replica before → Looks depth replicas words' before after → Remembers depth replicas words' replica after
 look_remembers depth replicas words words' replica before after is looks = record {
   few = is.few;
   is_history = looks.looked.is_history;
@@ -51,7 +56,8 @@ look_remembers depth replicas words words' replica before after is looks = recor
       subst P (sym looks.looked.mine) (λ k d lt. omega (arith, is.mine k d lt, more));
 }
 
-pub new_remembers : (depth : Depth) (replicas : ℕ) (replica : Option ℕ) → replicas ≤ 4 → IsBelow replicas replica → Remembers depth replicas (new_words replicas) replica (new_view (owned replica))
+pub new_remembers : (depth : Depth) (replicas : ℕ) (replica : Option ℕ) → replicas ≤ 4 → IsBelow replicas replica
+    → Remembers depth replicas (new_words replicas) replica (new_view (owned replica))
 new_remembers depth replicas replica few below = record {
   few = few;
   is_history = tt;
@@ -79,7 +85,8 @@ cut_first a (suc n) = record {
   apart = λ r kept given. absurd (omega (arith, above (a + 1) n r kept, only a r given));
 }
 
-pub cut_owned : (replicas : ℕ) (replica : Option ℕ) → IsCut (left_from replicas replica) (drop 1 (left_from replicas replica)) (take 1 (left_from replicas replica))
+pub cut_owned : (replicas : ℕ) (replica : Option ℕ)
+    → IsCut (left_from replicas replica) (drop 1 (left_from replicas replica)) (take 1 (left_from replicas replica))
 cut_owned replicas None = cut_first 0 0
 cut_owned replicas (Some r) = cut_first r (replicas - r)
 

@@ -43,7 +43,8 @@ advances place log at =
 abbrev pub round : ℕ → Log → Log
 round place log = after (after log (Append (batch_of 16))) (Advance 0 (place + 16))
 
-pub goes_round : (n place : ℕ) (log : Log) → IsAt place log → place + 16 * n ≤ 65536 → MayGoOn Four log (rounds n place) × IsAt (place + 16 * n) (after_all log (rounds n place))
+pub goes_round : (n place : ℕ) (log : Log) → IsAt place log → place + 16 * n ≤ 65536
+    → MayGoOn Four log (rounds n place) × IsAt (place + 16 * n) (after_all log (rounds n place))
 unfolding rounds
 goes_round zero place log at room = (tt, record { tail = at.tail ∙ omega arith; locals = at.locals ∙ ap (λ p. p ∷ []) (omega arith) })
 goes_round (suc n) place log at room =

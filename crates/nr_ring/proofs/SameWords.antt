@@ -44,7 +44,8 @@ same_ring log p q a b word low high =
     (λ (used : word < 7 + 2 * tail log).
     let s = last_place (tail log) word low high used in
     let e = item_of log.entries s.place s.below in
-    ap (slice_index p) s.at ∙ a.entries_are s.place e.0 s.k e.1 s.near s.two ∙ sym (b.entries_are s.place e.0 s.k e.1 s.near s.two) ∙ ap (slice_index q) (sym s.at))
+    ap (slice_index p) s.at ∙ a.entries_are s.place e.0 s.k e.1 s.near s.two ∙ sym (b.entries_are s.place e.0 s.k e.1 s.near s.two)
+    ∙ ap (slice_index q) (sym s.at))
     (le_or_lt (7 + 2 * tail log) word)
 
 same_head : (log : Log) (p q : List ℕ) → IsWordsOf log p → IsWordsOf log q → (word : ℕ) → word < 7 → slice_index p word ≡ slice_index q word
@@ -60,4 +61,5 @@ same_head log p q a b (suc (suc r)) lt =
 pub words_same : (log : Log) (p q : List ℕ) → IsWordsOf log p → IsWordsOf log q → p ≡ q
 words_same log p q a b =
     ext_get_or 0 p q (a.long ∙ sym b.long)
-    (λ word lt. ⊎_elim (λ (low : 7 ≤ word). same_ring log p q a b word low (omega (arith, lt, a.long))) (λ (head : word < 7). same_head log p q a b word head) (le_or_lt 7 word))
+    (λ word lt. ⊎_elim (λ (low : 7 ≤ word). same_ring log p q a b word low (omega (arith, lt, a.long)))
+    (λ (head : word < 7). same_head log p q a b word head) (le_or_lt 7 word))

@@ -1,5 +1,6 @@
 -- A pass is split: the new pass has seen as much, and takes some of what the other owned.
-use Rattle.std.proofs.Common.{◌≡◌, ◌≢◌, ℕ, zero, suc, ◌+◌, ◌<◌, ◌≤◌, List, [], ◌∷◌, ◌++◌, All, Contains, length, get_or, set, eqb, ◌⊎◌, inl, inr, ⊎_elim, refl, ap, sym, subst, ◌∙◌, arith}
+use Rattle.std.proofs.Common.{◌≡◌, ◌≢◌, ℕ, zero, suc, ◌+◌, ◌<◌, ◌≤◌, List, [], ◌∷◌, ◌++◌, All, Contains, length, get_or, set, eqb, ◌⊎◌, inl, inr, ⊎_elim, refl}
+use Rattle.std.proofs.Common.{ap, sym, subst, ◌∙◌, arith}
 use Rattle.std.specs.Prelude.{slice_index_or}
 use Rattle.std.proofs.Math.ListN.{length-append, length-set}
 use Rattle.std.proofs.lemmas.Bool.{ne_eqb}
@@ -33,9 +34,11 @@ holds_of P xs x all has = subst P has.2 (all has.0 x has.1)
 -- who owns a replica after the cut
 abbrev Owner : List View → ℕ → List ℕ → List ℕ → ℕ → ℕ → Type 0
 Owner views pass kept given j replica =
-    ((j ≢ pass) × ((u : View) × (get_elem? views j ≡ some u) × Contains u.owns replica)) ⊎ (((j ≡ pass) × Contains kept replica) ⊎ ((j ≡ length views) × Contains given replica))
+    ((j ≢ pass) × ((u : View) × (get_elem? views j ≡ some u) × Contains u.owns replica)) ⊎
+    (((j ≡ pass) × Contains kept replica) ⊎ ((j ≡ length views) × Contains given replica))
 
-owner : (views : List View) (pass : ℕ) (v : View) (kept given : List ℕ) (j : ℕ) (u : View) (replica : ℕ) → get_elem? (set views pass (keeping v kept) ++ copied v given ∷ []) j ≡ some u → Contains u.owns replica
+owner : (views : List View) (pass : ℕ) (v : View) (kept given : List ℕ) (j : ℕ) (u : View) (replica : ℕ)
+    → get_elem? (set views pass (keeping v kept) ++ copied v given ∷ []) j ≡ some u → Contains u.owns replica
     → Owner views pass kept given j replica
 owner views pass v kept given j u replica there has =
     let P : View → Type 0 = λ z. Contains z.owns replica in
@@ -45,29 +48,43 @@ owner views pass v kept given j u replica there has =
     (λ (t : (j ≡ pass) × (keeping v kept ≡ u)). inr (inl (t.0, subst P (sym t.1) has)))
     (λ (t : (j ≢ pass) × (get_elem? views j ≡ some u)). inl (t.0, (u, t.1, has)))
     (at_set views pass j (keeping v kept) u first))
-    (λ (last : (j ≡ length (set views pass (keeping v kept))) × (copied v given ≡ u)). inr (inr (last.0 ∙ length-set views pass (keeping v kept), subst P (sym last.1) has)))
+    (λ (last : (j ≡ length (set views pass (keeping v kept))) × (copied v given ≡ u)). inr
+    (inr (last.0 ∙ length-set views pass (keeping v kept), subst P (sym last.1) has)))
     (at_end (set views pass (keeping v kept)) (copied v given) u j there)
 
 one_each : (depth : Depth) (replicas : ℕ) (words : List ℕ) (views : List View) (pass : ℕ) (v : View) (kept given : List ℕ) (p q replica : ℕ)
-    → IsKept depth replicas words views → get_elem? views pass ≡ some v → IsCut v.owns kept given → Owner views pass kept given p replica → Owner views pass kept given q replica → p ≡ q
+    → IsKept depth replicas words views → get_elem? views pass ≡ some v → IsCut v.owns kept given → Owner views pass kept given p replica
+    → Owner views pass kept given q replica → p ≡ q
 one_each depth replicas words views pass v kept given p q replica is at cut (inl a) (inl b) = is.one_owner p q a.1.0 b.1.0 replica a.1.1 b.1.1 a.1.2 b.1.2
-one_each depth replicas words views pass v kept given p q replica is at cut (inl a) (inr (inl b)) = absurd (a.0 (is.one_owner p pass a.1.0 v replica a.1.1 at a.1.2 (cut.kept_of replica b.1)))
-one_each depth replicas words views pass v kept given p q replica is at cut (inl a) (inr (inr b)) = absurd (a.0 (is.one_owner p pass a.1.0 v replica a.1.1 at a.1.2 (cut.given_of replica b.1)))
-one_each depth replicas words views pass v kept given p q replica is at cut (inr (inl a)) (inl b) = absurd (b.0 (is.one_owner q pass b.1.0 v replica b.1.1 at b.1.2 (cut.kept_of replica a.1)))
-one_each depth replicas words views pass v kept given p q replica is at cut (inr (inr a)) (inl b) = absurd (b.0 (is.one_owner q pass b.1.0 v replica b.1.1 at b.1.2 (cut.given_of replica a.1)))
+one_each depth replicas words views pass v kept given p q replica is at cut (inl a) (inr (inl b)) =
+    absurd (a.0 (is.one_owner p pass a.1.0 v replica a.1.1 at a.1.2 (cut.kept_of replica b.1)))
+one_each depth replicas words views pass v kept given p q replica is at cut (inl a) (inr (inr b)) =
+    absurd (a.0 (is.one_owner p pass a.1.0 v replica a.1.1 at a.1.2 (cut.given_of replica b.1)))
+one_each depth replicas words views pass v kept given p q replica is at cut (inr (inl a)) (inl b) =
+    absurd (b.0 (is.one_owner q pass b.1.0 v replica b.1.1 at b.1.2 (cut.kept_of replica a.1)))
+one_each depth replicas words views pass v kept given p q replica is at cut (inr (inr a)) (inl b) =
+    absurd (b.0 (is.one_owner q pass b.1.0 v replica b.1.1 at b.1.2 (cut.given_of replica a.1)))
 one_each depth replicas words views pass v kept given p q replica is at cut (inr (inl a)) (inr (inl b)) = a.0 ∙ sym b.0
 one_each depth replicas words views pass v kept given p q replica is at cut (inr (inl a)) (inr (inr b)) = absurd (cut.apart replica a.1 b.1)
 one_each depth replicas words views pass v kept given p q replica is at cut (inr (inr a)) (inr (inl b)) = absurd (cut.apart replica b.1 a.1)
 one_each depth replicas words views pass v kept given p q replica is at cut (inr (inr a)) (inr (inr b)) = a.0 ∙ sym b.0
 
-pub split_forks : (depth : Depth) (replicas pass : ℕ) (v : View) (kept given : List ℕ) → IsCut v.owns kept given → Forks (IsKept depth replicas) pass v (keeping v kept) (copied v given)
+pub split_forks : (depth : Depth) (replicas pass : ℕ) (v : View) (kept given : List ℕ) → IsCut v.owns kept given
+    → Forks (IsKept depth replicas) pass v (keeping v kept) (copied v given)
 split_forks depth replicas pass v kept given cut words views is at =
     let old = is.each_view pass v at in
     let changed = set views pass (keeping v kept) in
     let wide : length changed ≡ length views = length-set views pass (keeping v kept) in
     let Seen : ℕ → Type 0 = λ r. HasSeenAdvances r is.history v.seen in
     let T : ℕ → View → Type 0 = λ j z. IsTrueOf is.history (made_by j is.makers) z in
-    let own : T pass (keeping v kept) = record { seen = old.seen; told = old.told; owns = λ k d lt. holds_of Seen v.owns (slice_index_or kept k d) old.owns (cut.kept_of (slice_index_or kept k d) (contains_item kept k d lt)); mine = old.mine } in
+    let own : T pass (keeping v kept) =
+    record {
+      seen = old.seen;
+      told = old.told;
+      owns =
+          λ k d lt. holds_of Seen v.owns (slice_index_or kept k d) old.owns (cut.kept_of (slice_index_or kept k d) (contains_item kept k d lt));
+      mine = old.mine;
+    } in
     let new : T (length views) (copied v given) = record {
       seen = old.seen;
       told = λ k d lt. absurd (omega arith);
@@ -85,12 +102,14 @@ split_forks depth replicas pass v kept given cut words views is at =
           ⊎_elim
           (λ (first : get_elem? changed j ≡ some u).
           ⊎_elim
-          (λ (t : (j ≡ pass) × (keeping v kept ≡ u)). let R : ℕ → Type 0 = λ i. T i (keeping v kept) in let Q : View → Type 0 = λ z. T j z in subst Q t.1 (subst R (sym t.0) own))
+          (λ (t : (j ≡ pass) × (keeping v kept ≡ u)). let R : ℕ → Type 0 = λ i. T i (keeping v kept) in let Q : View → Type 0 = λ z. T j z in
+          subst Q t.1 (subst R (sym t.0) own))
           (λ (t : (j ≢ pass) × (get_elem? views j ≡ some u)). is.each_view j u t.1)
           (at_set views pass j (keeping v kept) u first))
           (λ (last : (j ≡ length changed) × (copied v given ≡ u)).
           let R : ℕ → Type 0 = λ i. T i (copied v given) in let Q : View → Type 0 = λ z. T j z in subst Q last.1 (subst R (sym (last.0 ∙ wide)) new))
           (at_end changed (copied v given) u j there);
       one_owner = λ p q a b replica pa qb ha hb.
-          one_each depth replicas words views pass v kept given p q replica is at cut (owner views pass v kept given p a replica pa ha) (owner views pass v kept given q b replica qb hb);
+          one_each depth replicas words views pass v kept given p q replica is at cut (owner views pass v kept given p a replica pa ha)
+          (owner views pass v kept given q b replica qb hb);
     }

@@ -16,11 +16,13 @@ use Rattle.nr_ring.specs.Calls.{Looks, MayMake, with_event}
 use Rattle.nr_ring.specs.declared.event.Event.{Event}
 use Rattle.nr_ring.specs.declared.event.Event.TheVariants.{Append, Advance}
 use Rattle.nr_ring.specs.declared.view.View.{View}
-use Rattle.nr_ring.proofs.Views.{whole, nothing_since, begins_still, advances_still, goes_on_by, after_one_more, made_by_it, made_by_another, owned_before, below_end, contains_item}
+use Rattle.nr_ring.proofs.Views.{whole, nothing_since, begins_still, advances_still, goes_on_by, after_one_more, made_by_it, made_by_another, owned_before}
+use Rattle.nr_ring.proofs.Views.{below_end, contains_item}
 use Rattle.nr_ring.proofs.Histories.{seen_all}
 
 -- what holds of the views holds still where one is changed to what is true
-views_changed : (P : ℕ → View → Type 0) (views : List View) (pass : ℕ) (w : View) → P pass w → ((j : ℕ) (u : View) → j ≢ pass → get_elem? views j ≡ some u → P j u)
+views_changed : (P : ℕ → View → Type 0) (views : List View) (pass : ℕ) (w : View) → P pass w
+    → ((j : ℕ) (u : View) → j ≢ pass → get_elem? views j ≡ some u → P j u)
     → (j : ℕ) (u : View) → get_elem? (set views pass w) j ≡ some u → P j u
 views_changed P views pass w here others j u there =
     ⊎_elim
@@ -32,7 +34,8 @@ views_changed P views pass w here others j u there =
 abbrev looked : List Event → View → View
 looked history v = record { seen = history; mine = v.mine; owns = v.owns; told = v.told }
 
-pub look_turns : (depth : Depth) (replicas pass : ℕ) (v : View) → Turns (IsKept depth replicas) pass v (λ x. x) (λ before words words' after. Looks depth replicas words' before after)
+pub look_turns : (depth : Depth) (replicas pass : ℕ) (v : View)
+    → Turns (IsKept depth replicas) pass v (λ x. x) (λ before words words' after. Looks depth replicas words' before after)
 look_turns depth replicas pass v x views kept at =
     let history = kept.history in
     let w : View = looked history v in
@@ -53,7 +56,10 @@ look_turns depth replicas pass v x views kept at =
             let e = owned_before views pass v w at refl q b replica qb hb in
             kept.one_owner p q c.0 e.0 replica c.1 e.1 c.2 e.2;
       },
-      record { looked = record { is_history = kept.is_history; seen = old.seen; told = old.told; told_stays = refl; mine = refl; owns = refl }; words_are = kept.words_are },
+      record {
+        looked = record { is_history = kept.is_history; seen = old.seen; told = old.told; told_stays = refl; mine = refl; owns = refl };
+        words_are = kept.words_are;
+      },
     )
 
 only_pass : (n pass : ℕ) → pass < n → All (λ p. p < n) (pass ∷ [])
@@ -66,8 +72,10 @@ else_of (Append batch) v replica may apart = tt
 else_of (Advance other to) v replica may apart = λ (e : other ≡ replica). let P : ℕ → Type 0 = λ r. Contains v.owns r in apart (subst P e may)
 
 -- a pass that has seen all makes an event
-pub event_kept : (depth : Depth) (replicas pass : ℕ) (v : View) (event : Event) (words words' : List ℕ) (views : List View) → replicas ≤ 4 → IsKept depth replicas words views → get_elem? views pass ≡ some v
-    → IsWordsOf (log_after replicas v.seen) words → MayFollow depth (log_after replicas v.seen) event → MayMake v event → IsWordsOf (after (log_after replicas v.seen) event) words'
+pub event_kept : (depth : Depth) (replicas pass : ℕ) (v : View) (event : Event) (words words' : List ℕ) (views : List View) → replicas ≤ 4
+    → IsKept depth replicas words views → get_elem? views pass ≡ some v
+    → IsWordsOf (log_after replicas v.seen) words → MayFollow depth (log_after replicas v.seen) event → MayMake v event
+    → IsWordsOf (after (log_after replicas v.seen) event) words'
     → IsKept depth replicas words' (set views pass (with_event v event))
 event_kept depth replicas pass v event words words' views few kept at before may own now =
     let w : View = with_event v event in
@@ -76,29 +84,34 @@ event_kept depth replicas pass v event words words' views few kept at before may
     let H : List Event → Type 0 = λ h. IsHistory depth replicas h in
     let L : Log → Type 0 = λ log. IsWordsOf log words' in
     let number : length kept.makers ≡ length v.seen = kept.each_made ∙ ap (λ (h : List Event). length h) same in
-    let true_of : (j : ℕ) (u : View) → get_elem? views j ≡ some u → IsTrueOf v.seen (made_by j kept.makers) u = λ j u there. let T : List Event → Type 0 = λ h. IsTrueOf h (made_by j kept.makers) u in subst T same (kept.each_view j u there) in
+    let true_of : (j : ℕ) (u : View) → get_elem? views j ≡ some u → IsTrueOf v.seen (made_by j kept.makers) u = λ j u there. let T : List Event → Type 0 =
+    λ h. IsTrueOf h (made_by j kept.makers) u in subst T same (kept.each_view j u there) in
     let mine = true_of pass v at in
-    let one : All (λ p. p < length (set views pass w)) (pass ∷ []) = only_pass (length (set views pass w)) pass (omega (arith, below_end views pass v at, length-set views pass w)) in
+    let one : All (λ p. p < length (set views pass w)) (pass ∷ []) =
+    only_pass (length (set views pass w)) pass (omega (arith, below_end views pass v at, length-set views pass w)) in
     record {
       history = v.seen ++ event ∷ [];
       makers = kept.makers ++ pass ∷ [];
       is_history = goes_on_by depth (new_log replicas) v.seen event (subst H same kept.is_history) may;
       words_are = subst L (sym (after_one_more (new_log replicas) v.seen event)) now;
       each_made = omega (arith, number, length-append kept.makers (pass ∷ []), length-append v.seen (event ∷ []));
-      by_passes = All-append (λ p. p < length (set views pass w)) kept.makers (pass ∷ []) (λ k d lt. omega (arith, kept.by_passes k d lt, length-set views pass w)) one;
+      by_passes = All-append (λ p. p < length (set views pass w)) kept.makers (pass ∷ [])
+          (λ k d lt. omega (arith, kept.by_passes k d lt, length-set views pass w)) one;
       each_view = views_changed (λ j u. IsTrueOf (v.seen ++ event ∷ []) (made_by j (kept.makers ++ pass ∷ [])) u) views pass w
           (record {
             seen = whole (v.seen ++ event ∷ []);
             told = λ k d lt. begins_still v.seen (slice_index_or v.told k d) event (mine.told k d lt);
             owns = λ k d lt. nothing_since (slice_index_or v.owns k d) (v.seen ++ event ∷ []);
-            mine = ap (λ (l : List ℕ). l ++ length v.seen ∷ []) mine.mine ∙ ap (λ n. made_by pass kept.makers ++ n ∷ []) (sym number) ∙ sym (made_by_it pass kept.makers);
+            mine = ap (λ (l : List ℕ). l ++ length v.seen ∷ []) mine.mine ∙ ap (λ n. made_by pass kept.makers ++ n ∷ []) (sym number)
+                ∙ sym (made_by_it pass kept.makers);
           })
           (λ j u other there. let old = true_of j u there in record {
             seen = begins_still v.seen u.seen event old.seen;
             told = λ k d lt. begins_still v.seen (slice_index_or u.told k d) event (old.told k d lt);
             owns = λ k d lt.
                 advances_still (slice_index_or u.owns k d) v.seen u.seen event (old.owns k d lt)
-                (else_of event v (slice_index_or u.owns k d) own (λ has. other (kept.one_owner j pass u v (slice_index_or u.owns k d) there at (contains_item u.owns k d lt) has)));
+                (else_of event v (slice_index_or u.owns k d) own
+                (λ has. other (kept.one_owner j pass u v (slice_index_or u.owns k d) there at (contains_item u.owns k d lt) has)));
             mine = old.mine ∙ sym (made_by_another j pass kept.makers (λ e. other (sym e)));
           });
       one_owner = λ p q a b replica pa qb ha hb.

@@ -1,5 +1,6 @@
 -- A history grows by one event: what that is to the events and to the views.
-use Rattle.std.proofs.Common.{◌≡◌, ◌≢◌, ℕ, zero, suc, ◌+◌, ◌<◌, Bool, true, false, List, [], ◌∷◌, ◌++◌, All, Contains, length, get_or, set, eqb, add-zero, if◌then◌else◌, ⊎_elim, refl, ap, sym, subst, ◌∙◌, arith}
+use Rattle.std.proofs.Common.{◌≡◌, ◌≢◌, ℕ, zero, suc, ◌+◌, ◌<◌, Bool, true, false, List, [], ◌∷◌, ◌++◌, All, Contains, length, get_or, set, eqb, add-zero}
+use Rattle.std.proofs.Common.{if◌then◌else◌, ⊎_elim, refl, ap, sym, subst, ◌∙◌, arith}
 use Rattle.std.proofs.lemmas.List.{append-nil, append_assoc}
 use Rattle.std.proofs.lemmas.List.Elements.{All-append}
 use Rattle.std.proofs.lemmas.Bool.{eq-eqb, ne_eqb}
@@ -12,7 +13,8 @@ use Rattle.nr_ring.specs.View.{StartsWith, IsElse, HasSeenAdvances, made_from, m
 use Rattle.nr_ring.specs.declared.event.Event.{Event}
 use Rattle.nr_ring.specs.declared.view.View.{View}
 
-pub goes_on_by : (depth : Depth) (log : Log) (events : List Event) (event : Event) → MayGoOn depth log events → MayFollow depth (after_all log events) event → MayGoOn depth log (events ++ event ∷ [])
+pub goes_on_by : (depth : Depth) (log : Log) (events : List Event) (event : Event) → MayGoOn depth log events → MayFollow depth (after_all log events) event
+    → MayGoOn depth log (events ++ event ∷ [])
 goes_on_by depth log [] event may next = (next, tt)
 goes_on_by depth log (e ∷ es) event may next = (may.0, goes_on_by depth (after log e) es event may.1 next)
 
@@ -33,9 +35,13 @@ one_else : (replica : ℕ) (event : Event) → IsElse replica event → All (IsE
 one_else replica event is zero d lt = is
 one_else replica event is (suc k) d lt = absurd (omega arith)
 
-pub advances_still : (replica : ℕ) (events seen : List Event) (event : Event) → HasSeenAdvances replica events seen → IsElse replica event → HasSeenAdvances replica (events ++ event ∷ []) seen
-advances_still replica events seen event is no_advance =
-    (is.0 ++ event ∷ [], ap (λ (l : List Event). l ++ event ∷ []) is.1 ∙ append_assoc seen is.0 (event ∷ []), All-append (IsElse replica) is.0 (event ∷ []) is.2 (one_else replica event no_advance))
+pub advances_still : (replica : ℕ) (events seen : List Event) (event : Event) → HasSeenAdvances replica events seen → IsElse replica event
+    → HasSeenAdvances replica (events ++ event ∷ []) seen
+advances_still replica events seen event is no_advance = (
+  is.0 ++ event ∷ [],
+  ap (λ (l : List Event). l ++ event ∷ []) is.1 ∙ append_assoc seen is.0 (event ∷ []),
+  All-append (IsElse replica) is.0 (event ∷ []) is.2 (one_else replica event no_advance),
+)
 
 -- the numbers of a pass's events, with one more event by a maker
 one_more_by : (number pass maker : ℕ) (b : Bool) → eqb maker pass ≡ b → made_from number pass (maker ∷ []) ≡ (if b then number ∷ [] else [])
@@ -48,7 +54,8 @@ first_and_rest : (number pass maker m : ℕ) (ms : List ℕ) (b : Bool) → eqb 
 first_and_rest number pass maker m ms true e rest = rw e (ap (λ (l : List ℕ). number ∷ l) rest)
 first_and_rest number pass maker m ms false e rest = rw e rest
 
-made_on : (number pass maker : ℕ) (makers : List ℕ) → made_from number pass (makers ++ maker ∷ []) ≡ made_from number pass makers ++ made_from (number + length makers) pass (maker ∷ [])
+made_on : (number pass maker : ℕ) (makers : List ℕ)
+    → made_from number pass (makers ++ maker ∷ []) ≡ made_from number pass makers ++ made_from (number + length makers) pass (maker ∷ [])
 made_on number pass maker [] = ap (λ n. made_from n pass (maker ∷ [])) (sym (add-zero number))
 made_on number pass maker (m ∷ ms) =
     let places : number + 1 + length ms ≡ number + length (m ∷ ms) = omega arith in
@@ -67,7 +74,8 @@ made_by_another pass maker makers other =
     ∙ append-nil (made_by pass makers)
 
 -- where a view is changed but owns the same, each owner was one before
-pub owned_before : (views : List View) (pass : ℕ) (v w : View) → get_elem? views pass ≡ some v → w.owns ≡ v.owns → (j : ℕ) (u : View) (replica : ℕ) → get_elem? (set views pass w) j ≡ some u → Contains u.owns replica
+pub owned_before : (views : List View) (pass : ℕ) (v w : View) → get_elem? views pass ≡ some v → w.owns ≡ v.owns → (j : ℕ) (u : View) (replica : ℕ)
+    → get_elem? (set views pass w) j ≡ some u → Contains u.owns replica
     → (u' : View) × (get_elem? views j ≡ some u') × Contains u'.owns replica
 owned_before views pass v w at same j u replica there has =
     ⊎_elim

@@ -19,4 +19,5 @@ pub record IsKept (depth : Depth) (replicas : ℕ) (words : List ℕ) (views : L
   pub each_made : length makers ≡ length history
   pub by_passes : All (λ pass. pass < length views) makers
   pub each_view : (pass : ℕ) (view : View) → get_elem? views pass ≡ some view → IsTrueOf history (made_by pass makers) view
-  pub one_owner : (p q : ℕ) (v w : View) (replica : ℕ) → get_elem? views p ≡ some v → get_elem? views q ≡ some w → Contains v.owns replica → Contains w.owns replica → p ≡ q
+  pub one_owner : (p q : ℕ) (v w : View) (replica : ℕ) → get_elem? views p ≡ some v → get_elem? views q ≡ some w → Contains v.owns replica
+      → Contains w.owns replica → p ≡ q

@@ -16,7 +16,8 @@ pub record IsWordsOf (log : Log) (words : List ℕ) : Type 0 where
   pub completed_is : slice_index words 1 ≡ completed log
   pub locals_are : (replica : ℕ) → replica < 4 → slice_index words (2 + replica) ≡ local_of log replica
   pub replicas_are : slice_index words 6 ≡ length log.locals
-  pub entries_are : (place : ℕ) (entry : LogEntry) (k : ℕ) → slice_get log.entries place ≡ Some entry → tail log ≤ place + 16 → k < 2 → slice_index words (word_of place + k) ≡ slice_index (log_words entry) k
+  pub entries_are : (place : ℕ) (entry : LogEntry) (k : ℕ) → slice_get log.entries place ≡ Some entry → tail log ≤ place + 16 → k < 2
+      → slice_index words (word_of place + k) ≡ slice_index (log_words entry) k
   pub unused : (word : ℕ) → 7 + 2 * tail log ≤ word → slice_index words word ≡ 0
 
 -- the words after a replica has taken the entries up to a place
@@ -28,8 +29,10 @@ pub record IsAppended (log : Log) (batch : List LogEntry) (before after : List �
   pub long : length after ≡ 39
   pub tail_is : slice_index after 0 ≡ tail log + length batch
   pub head_stays : (word : ℕ) → 0 < word → word < 7 → slice_index after word ≡ slice_index before word
-  pub entries_are : (i : ℕ) (entry : LogEntry) (k : ℕ) → slice_get batch i ≡ Some entry → k < 2 → slice_index after (word_of (tail log + i) + k) ≡ slice_index (log_words entry) k
-  pub others_stay : (word : ℕ) → 7 ≤ word → ((i : ℕ) → i < length batch → (word < word_of (tail log + i)) ⊎ (word_of (tail log + i) + 2 ≤ word)) → slice_index after word ≡ slice_index before word
+  pub entries_are : (i : ℕ) (entry : LogEntry) (k : ℕ) → slice_get batch i ≡ Some entry → k < 2
+      → slice_index after (word_of (tail log + i) + k) ≡ slice_index (log_words entry) k
+  pub others_stay : (word : ℕ) → 7 ≤ word → ((i : ℕ) → i < length batch → (word < word_of (tail log + i)) ⊎ (word_of (tail log + i) + 2 ≤ word))
+      → slice_index after word ≡ slice_index before word
 
 -- the words of a new log of so many replicas
 abbrev pub new_words : ℕ → List ℕ

@@ -13,18 +13,21 @@ use Rattle.nr_trace.specs.declared.fields.AnswerFields.{AnswerFields}
 use Rattle.nr_trace.specs.declared.version.Version.{Version}
 use Rattle.nr_trace.specs.declared.event.Event.{Event}
 use Rattle.nr_trace.specs.declared.event.Event.TheVariants.{Call, Reply}
-use Rattle.nr_trace.proofs.LawsOfUnits.{call_bytes, CallFits, call_fits, calls_apart, request_apart, reply_bytes, ReplyFits, reply_fits, replies_apart, answer_apart}
+use Rattle.nr_trace.proofs.LawsOfUnits.{call_bytes, CallFits, call_fits, calls_apart, request_apart, reply_bytes, ReplyFits, reply_fits, replies_apart}
+use Rattle.nr_trace.proofs.LawsOfUnits.{answer_apart}
 
 -- a call that the bytes spell has those fields
 call_fields : (version : Version) (layout : Layout) (bytes : List ℕ) (replica thread unused : ℕ) (fields : RequestFields) (rest : List ℕ) → IsLayout layout
     → bytes ≡ call_bytes replica thread fields unused ++ rest → CallFits replica thread fields unused
     → (r t : ℕ) (request : Query) → SpellsEvent version layout (0 ∷ bytes) (Call r t request) → HasFields layout.depth fields request
 call_fields version layout bytes replica thread unused fields rest well parts fits r t request spells =
-    let same = calls_apart replica r thread t fields (request_fields request) unused 0 rest [] fits (call_fits version layout r t request well spells.in_range) (sym parts ∙ ap (drop 1) spells.spelled) in
+    let same = calls_apart replica r thread t fields (request_fields request) unused 0 rest [] fits (call_fits version layout r t request well spells.in_range)
+    (sym parts ∙ ap (drop 1) spells.spelled) in
     record { well_formed = spells.in_range.2; fields_are = same.fields }
 
 -- only one request has these fields, so that the version knows none where it does not know this one
-pub request_unknown : (version : Version) (depth : Depth) (fields : RequestFields) (given : Query) → HasFields depth fields given → (KnowsQuery version given → ⊥)
+pub request_unknown : (version : Version) (depth : Depth) (fields : RequestFields) (given : Query) → HasFields depth fields given
+    → (KnowsQuery version given → ⊥)
     → (request : Query) → IsRequestIn version depth fields request → ⊥
 request_unknown version depth fields given is unknown request h =
     unknown (subst (KnowsQuery version) (request_apart request given (sym h.has.fields_are ∙ is.fields_are)) h.known)
@@ -35,7 +38,11 @@ pub no_call : (version : Version) (layout : Layout) (bytes : List ℕ) (replica 
     → ((request : Query) → IsRequestIn version layout.depth fields request → ⊥)
     → (recorded : Event) → SpellsEvent version layout (0 ∷ bytes) recorded → ⊥
 no_call version layout bytes replica thread unused fields rest well parts fits none (Call r t request) spells =
-    none request (record { has = call_fields version layout bytes replica thread unused fields rest well parts fits r t request spells; known = spells.in_range.3 })
+    none request (record {
+      has = call_fields version layout bytes replica thread unused fields rest well parts fits r t request spells;
+      known =
+          spells.in_range.3;
+    })
 no_call version layout bytes replica thread unused fields rest well parts fits none (Reply call at answer) spells =
     absurd (omega (arith, ap (λ (l : List ℕ). get_or l 0 0) spells.spelled))
 
@@ -44,7 +51,8 @@ reply_has : (version : Version) (layout : Layout) (bytes : List ℕ) (call at un
     → bytes ≡ reply_bytes fields call at unused ++ rest → ReplyFits fields call at unused
     → (c a : ℕ) (answer : Answer) → SpellsEvent version layout (1 ∷ bytes) (Reply c a answer) → HasAnswerFields fields answer
 reply_has version layout bytes call at unused fields rest parts fits c a answer spells =
-    let same = replies_apart fields (answer_fields answer) call c at a unused 0 rest [] fits (reply_fits version layout c a answer spells.in_range) (sym parts ∙ ap (drop 1) spells.spelled) in
+    let same = replies_apart fields (answer_fields answer) call c at a unused 0 rest [] fits (reply_fits version layout c a answer spells.in_range) (sym parts
+    ∙ ap (drop 1) spells.spelled) in
     record { in_range = spells.in_range.2; fields_are = same.fields }
 
 -- only one answer has these fields, so that the version knows none where it does not know this one

@@ -8,8 +8,10 @@ use Rattle.vs_types.specs.declared.page.Size.TheVariants.{K4}
 use Rattle.nr_trace.specs.Calls.{Answers, IsCall}
 use Rattle.nr_trace.specs.Faults.{Holds}
 use Rattle.vs_walk.specs.Walk.{all_rights}
-use Rattle.nr_trace.specs.Examples.{map_it, resolve_it, access_it, access_refused, looks_mapped, dump_of_page, with_log, with_replies, without_first_reply, with_applied}
-use Rattle.nr_trace.specs.declared.fault.Fault.TheVariants.{ThreadOpen, NoSuchCall, AnsweredTwice, NotAnUpdate, PlacedTwice, NotPlaced, PastLog, WrongAnswer, PrefixPastLog, PrefixShort}
+use Rattle.nr_trace.specs.Examples.{map_it, resolve_it, access_it, access_refused, looks_mapped, dump_of_page, with_log, with_replies, without_first_reply}
+use Rattle.nr_trace.specs.Examples.{with_applied}
+use Rattle.nr_trace.specs.declared.fault.Fault.TheVariants.{ThreadOpen, NoSuchCall, AnsweredTwice, NotAnUpdate, PlacedTwice, NotPlaced, PastLog, WrongAnswer}
+use Rattle.nr_trace.specs.declared.fault.Fault.TheVariants.{PrefixPastLog, PrefixShort}
 use Rattle.nr_trace.proofs.ExamplesOfAnswers.{resolve_answer, access_answer}
 
 pub not_an_update : Holds (with_log (2 ∷ [])) (NotAnUpdate 0)

@@ -47,8 +47,10 @@ not_answered_before (suc (suc n)) l h = omega arith
 
 precedes : (first second : ℕ) → Either first → Either second → Precedes map_then_resolve first second → Contains (before second order) first
 precedes first second a b = both (λ first. Precedes map_then_resolve first second → Contains (before second order) first)
-    (both (λ second. Precedes map_then_resolve 0 second → Contains (before second order) 0) (λ p. absurd (none_before p.1 p.2)) (λ p. (0, grind arith, refl)) second b)
-    (both (λ second. Precedes map_then_resolve 2 second → Contains (before second order) 2) (λ p. absurd (none_before p.1 p.2)) (λ p. absurd (not_answered_before p.1 p.2 p.3)) second b)
+    (both (λ second. Precedes map_then_resolve 0 second
+    → Contains (before second order) 0) (λ p. absurd (none_before p.1 p.2)) (λ p. (0, grind arith, refl)) second b)
+    (both (λ second. Precedes map_then_resolve 2 second
+    → Contains (before second order) 2) (λ p. absurd (none_before p.1 p.2)) (λ p. absurd (not_answered_before p.1 p.2 p.3)) second b)
     first a where
       none_before : (index : ℕ) → index < 0 → ⊥
       none_before index h = omega arith

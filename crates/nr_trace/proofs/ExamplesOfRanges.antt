@@ -32,7 +32,10 @@ contents = frame_with 0 0x2007 ∷ frame_with 0 0x3007 ∷ frame_with 2 0x4007 �
 
 words_fit : All IsFrame (finite.values frames_of_page)
 words_fit = subst (λ (es : List (ℕ × List ℕ)). All IsFrame (map (λ e. e.1) es)) (sym entries_of_page)
-    (All-from_recursion IsFrame contents (frame_fits 0 0x2007 refl (lit< tt), (frame_fits 0 0x3007 refl (lit< tt), (frame_fits 2 0x4007 refl (lit< tt), (frame_fits 0 0x1007 refl (lit< tt), tt)))))
+    (All-from_recursion IsFrame contents (
+      frame_fits 0 0x2007 refl (lit< tt),
+      (frame_fits 0 0x3007 refl (lit< tt), (frame_fits 2 0x4007 refl (lit< tt), (frame_fits 0 0x1007 refl (lit< tt), tt))),
+    ))
 
 dump_fits : IsImage dump_of_page
 dump_fits = record {
@@ -45,7 +48,14 @@ dump_fits = record {
 }
 
 layout_fits : IsLayout layout
-layout_fits = record { some_replica = lit≤ tt; few_replicas = lit≤ tt; some_thread = lit≤ tt; few_threads = lit≤ tt; some_table = lit≤ tt; few_tables = lit≤ tt }
+layout_fits = record {
+  some_replica = lit≤ tt;
+  few_replicas = lit≤ tt;
+  some_thread = lit≤ tt;
+  few_threads = lit≤ tt;
+  some_table = lit≤ tt;
+  few_tables = lit≤ tt;
+}
 
 pub in_range : IsRecording map_then_resolve
 in_range = record {

@@ -1,5 +1,6 @@
 -- A feed that takes whole units one after the other.
-use Rattle.std.proofs.Common.{◌≡◌, ◌≢◌, ℕ, ◌<◌, ◌≤◌, List, [], ◌∷◌, ◌++◌, length, Option, Some, None, Ok, Err, refl, sym, ap, subst, ◌∙◌, arith, append_assoc, Vec, Global}
+use Rattle.std.proofs.Common.{◌≡◌, ◌≢◌, ℕ, ◌<◌, ◌≤◌, List, [], ◌∷◌, ◌++◌, length, Option, Some, None, Ok, Err, refl, sym, ap, subst, ◌∙◌, arith, append_assoc}
+use Rattle.std.proofs.Common.{Vec, Global}
 use Rattle.std.proofs.lemmas.List.{append-nil}
 use Rattle.vs_types.specs.Refusal.{IfRefused}
 use Rattle.vs_types.specs.declared.refusal.Fail.{Fail}
@@ -30,23 +31,28 @@ sound_from reader has = record {
   faults = λ rest fault h. subst (λ (l : List ℕ). HasFormatFault (l ++ rest) fault) (sym has.bytes_are) (has.faults rest fault h);
 }
 
-pub sound_after : (reader next : Reader) (unit : List ℕ) → IsSound reader → HasRead (said reader ++ unit) (λ more fault. Ahead reader (unit ++ more) fault) next → IsSound next
+pub sound_after : (reader next : Reader) (unit : List ℕ) → IsSound reader
+    → HasRead (said reader ++ unit) (λ more fault. Ahead reader (unit ++ more) fault) next → IsSound next
 sound_after reader next unit sound has = record {
   ready = has.ready;
-  faults = λ rest fault h. subst (λ (l : List ℕ). HasFormatFault l fault) (sym (ap (λ (l : List ℕ). l ++ rest) has.bytes_are ∙ append_assoc (said reader) unit rest)) (sound.faults (unit ++ rest) fault (has.faults rest fault h));
+  faults = λ rest fault h. subst (λ (l : List ℕ). HasFormatFault l fault)
+      (sym (ap (λ (l : List ℕ). l ++ rest) has.bytes_are ∙ append_assoc (said reader) unit rest)) (sound.faults (unit ++ rest) fault (has.faults rest fault h));
 }
 
 pub goes : (bytes : List ℕ) (reader next : Reader) (rest unit behind : List ℕ) → IsBetween bytes reader rest → rest ≡ unit ++ behind
     → HasRead (said reader ++ unit) (λ more fault. Ahead reader (unit ++ more) fault) next → IsBetween bytes next behind
 goes bytes reader next rest unit behind way cut has = record {
   sound = sound_after reader next unit way.sound has;
-  parts = way.parts ∙ ap (λ (l : List ℕ). said reader ++ l) cut ∙ sym (append_assoc (said reader) unit behind) ∙ ap (λ (l : List ℕ). l ++ behind) (sym has.bytes_are);
+  parts = way.parts ∙ ap (λ (l : List ℕ). said reader ++ l) cut ∙ sym (append_assoc (said reader) unit behind)
+      ∙ ap (λ (l : List ℕ). l ++ behind) (sym has.bytes_are);
 }
 
 -- a fault ahead of the reader, whatever comes, is settled
-settled : (bytes : List ℕ) (reader : Reader) (rest : List ℕ) (fault : Format) → IsBetween bytes reader rest → ((more : List ℕ) → Ahead reader (rest ++ more) fault) → IsSettled bytes fault
+settled : (bytes : List ℕ) (reader : Reader) (rest : List ℕ) (fault : Format) → IsBetween bytes reader rest
+    → ((more : List ℕ) → Ahead reader (rest ++ more) fault) → IsSettled bytes fault
 settled bytes reader rest fault way h = λ more.
-    subst (λ (l : List ℕ). HasFormatFault l fault) (sym (ap (λ (l : List ℕ). l ++ more) way.parts ∙ append_assoc (said reader) rest more)) (way.sound.faults (rest ++ more) fault (h more))
+    subst (λ (l : List ℕ). HasFormatFault l fault) (sym (ap (λ (l : List ℕ). l ++ more) way.parts ∙ append_assoc (said reader) rest more))
+    (way.sound.faults (rest ++ more) fault (h more))
 
 pub refuses : (bytes : List ℕ) (reader : Reader) (rest unit behind : List ℕ) (fail : Fail Format) → IsBetween bytes reader rest → rest ≡ unit ++ behind
     → IsFault (λ more fault. Ahead reader (unit ++ more) fault) fail → IfRefused (IsSettled bytes) fail
@@ -59,18 +65,22 @@ more_than_none : (rest more : List ℕ) → rest ≢ [] → rest ++ more ≢ []
 more_than_none [] more some = absurd (some refl)
 more_than_none (x ∷ xs) more some = λ e. cc
 
-pub trailing : (bytes : List ℕ) (reader : Reader) (rest : List ℕ) → IsBetween bytes reader rest → unit_bytes reader ≡ None → rest ≢ [] → IsSettled bytes Trailing
+pub trailing : (bytes : List ℕ) (reader : Reader) (rest : List ℕ) → IsBetween bytes reader rest → unit_bytes reader ≡ None → rest ≢ []
+    → IsSettled bytes Trailing
 trailing bytes reader rest way is some = settled bytes reader rest Trailing way (λ more. too_long reader (rest ++ more) is (more_than_none rest more some))
 
-pub cut_short : (bytes : List ℕ) (reader : Reader) (rest : List ℕ) (len : ℕ) → IsBetween bytes reader rest → unit_bytes reader ≡ Some len → length rest < len → IsCut bytes reader rest
+pub cut_short : (bytes : List ℕ) (reader : Reader) (rest : List ℕ) (len : ℕ) → IsBetween bytes reader rest → unit_bytes reader ≡ Some len → length rest < len
+    → IsCut bytes reader rest
 cut_short bytes reader rest len way is short = record { sound = way.sound; parts = way.parts; fewer = subst (λ o. AreFewer o rest) (sym is) short }
 
-pub cut_at_end : (bytes : List ℕ) (reader : Reader) (rest : List ℕ) → IsBetween bytes reader rest → unit_bytes reader ≡ None → rest ≡ [] → IsCut bytes reader rest
+pub cut_at_end : (bytes : List ℕ) (reader : Reader) (rest : List ℕ) → IsBetween bytes reader rest → unit_bytes reader ≡ None → rest ≡ []
+    → IsCut bytes reader rest
 cut_at_end bytes reader rest way is none = record { sound = way.sound; parts = way.parts; fewer = subst (λ o. AreFewer o rest) (sym is) none }
 
 -- ---- between two pieces
 
-pub come : (bytes : List ℕ) (reader : Reader) (rest : List ℕ) (begun : Vec ℕ Global) → IsCut bytes reader rest → begun.items ≡ rest → HasCome bytes (Open reader begun)
+pub come : (bytes : List ℕ) (reader : Reader) (rest : List ℕ) (begun : Vec ℕ Global) → IsCut bytes reader rest → begun.items ≡ rest
+    → HasCome bytes (Open reader begun)
 come bytes reader rest begun cut is = record {
   feeding = (cut.sound, subst (λ (l : List ℕ). AreFewer (unit_bytes reader) l) (sym is) cut.fewer);
   bytes_are = ap (λ (l : List ℕ). Taken (said reader ++ l)) is ∙ ap Taken (sym cut.parts);
@@ -87,7 +97,8 @@ nothing_begun reader = none_fewer (unit_bytes reader) (some_bytes reader)
 fault_ahead : (o : Option ℕ) (reader : Reader) (rest : List ℕ) → unit_bytes reader ≡ o → IsSound reader → AreFewer o rest → HasNoFaultYet (said reader ++ rest)
 fault_ahead None reader rest is sound none =
     λ fault h. let end = ready_to_end reader sound.ready is in
-    absurd (no_fault (said reader) end.0 fault end.1 (subst (λ (l : List ℕ). HasFormatFault l fault) (ap (λ (l : List ℕ). said reader ++ l) none ∙ append-nil (said reader)) h))
+    absurd (no_fault (said reader) end.0 fault end.1
+    (subst (λ (l : List ℕ). HasFormatFault l fault) (ap (λ (l : List ℕ). said reader ++ l) none ∙ append-nil (said reader)) h))
 fault_ahead (Some len) reader rest is sound short =
     λ fault h. one_fault (said reader ++ rest) fault Truncated h (sound.faults rest Truncated (too_short reader len rest sound.ready is short))
 
@@ -118,7 +129,8 @@ piece_taken self old next reader begun piece view is has =
 fewer_than : (o : Option ℕ) (len : ℕ) (bytes : List ℕ) → o ≡ Some len → AreFewer o bytes → length bytes < len
 fewer_than o len bytes is fewer = subst (λ p. AreFewer p bytes) is fewer
 
-pub ends_short : (self : Fed) (state : State) (reader : Reader) (begun : Vec ℕ Global) (len : ℕ) → fed state ≡ self → IsFeeding state → state ≡ Open reader begun
+pub ends_short : (self : Fed) (state : State) (reader : Reader) (begun : Vec ℕ Global) (len : ℕ) → fed state ≡ self → IsFeeding state
+    → state ≡ Open reader begun
     → unit_bytes reader ≡ Some len → Ends self (Err (fails.Refused Truncated))
 ends_short self state reader begun len view feeding is more =
     let here : IsFeeding (Open reader begun) = subst IsFeeding is feeding in

@@ -23,7 +23,8 @@ number_at : (frames : Memory) (k : ℕ) → k < finite.len frames → slice_inde
 number_at frames k lt = get_or-map (λ (e : ℕ × List ℕ). e.0) (finite.entries frames) k nothing 0 (omega (arith, lt, finite.len-entries frames))
 
 -- a frame is held under its number
-pub is_held : (image : Image) (k number : ℕ) → IsDump image → k < finite.len image.frames → number ≡ slice_index (finite.keys image.frames) k → finite.get image.frames number ≡ Some (frame_at image.frames k).1
+pub is_held : (image : Image) (k number : ℕ) → IsDump image → k < finite.len image.frames → number ≡ slice_index (finite.keys image.frames) k
+    → finite.get image.frames number ≡ Some (frame_at image.frames k).1
 is_held image k number parts lt is =
     finite.get-entries image.frames number
     ∙ find_at (finite.entries image.frames) number k nothing parts.rising (omega (arith, lt, finite.len-entries image.frames))
@@ -36,33 +37,41 @@ some : (found : Option (Bor (List ℕ))) (words : List ℕ) → option_copied fo
 some None words e = absurd cc
 some (Some held) words e = refl
 
-pub is_some : (image : Image) (k number : ℕ) (found : Option (Bor (List ℕ))) → IsDump image → k < finite.len image.frames → number ≡ slice_index (finite.keys image.frames) k
+pub is_some : (image : Image) (k number : ℕ) (found : Option (Bor (List ℕ))) → IsDump image → k < finite.len image.frames
+    → number ≡ slice_index (finite.keys image.frames) k
     → option_copied found ≡ finite.get image.frames number → IsSome found
 is_some image k number found parts lt is e = some found (frame_at image.frames k).1 (e ∙ is_held image k number parts lt is)
 
 -- one frame more
-pub frame_put : (image : Image) (k number : ℕ) (words old before new : List ℕ) → IsDump image → k < finite.len image.frames → number ≡ slice_index (finite.keys image.frames) k
+pub frame_put : (image : Image) (k number : ℕ) (words old before new : List ℕ) → IsDump image → k < finite.len image.frames
+    → number ≡ slice_index (finite.keys image.frames) k
     → finite.get image.frames number ≡ Some words
     → before ≡ old ++ flat_map frame (take k (finite.entries image.frames))
     → new ≡ before ++ (frame_number number ++ frame_words words)
     → new ≡ old ++ flat_map frame (take (k + 1) (finite.entries image.frames))
 frame_put image k number words old before new parts lt is found so_far put =
-    let same_words : words ≡ (frame_at image.frames k).1 = let both : Some words ≡ Some (frame_at image.frames k).1 = sym found ∙ is_held image k number parts lt is in cc in
+    let same_words : words ≡ (frame_at image.frames k).1 = let both : Some words ≡ Some (frame_at image.frames k).1 =
+    sym found ∙ is_held image k number parts lt is in cc in
     let same_number : number ≡ (frame_at image.frames k).0 = is ∙ number_at image.frames k lt in
     put ∙ ap (λ (l : List ℕ). l ++ (frame_number number ++ frame_words words)) so_far
     ∙ ap (λ (n : ℕ). (old ++ flat_map frame (take k (finite.entries image.frames))) ++ (frame_number n ++ frame_words words)) same_number
-    ∙ ap (λ (ws : List ℕ). (old ++ flat_map frame (take k (finite.entries image.frames))) ++ (frame_number (frame_at image.frames k).0 ++ frame_words ws)) same_words
+    ∙ ap (λ (ws : List ℕ). (old ++ flat_map frame (take k (finite.entries image.frames))) ++
+    (frame_number (frame_at image.frames k).0 ++ frame_words ws)) same_words
     ∙ flat_map_more frame old (take k (finite.entries image.frames)) (frame_at image.frames k)
-    ∙ ap (λ (es : List (ℕ × List ℕ)). old ++ flat_map frame es) (sym (take_more (finite.entries image.frames) k nothing (omega (arith, lt, finite.len-entries image.frames))))
+    ∙ ap (λ (es : List (ℕ × List ℕ)). old ++ flat_map frame es)
+    (sym (take_more (finite.entries image.frames) k nothing (omega (arith, lt, finite.len-entries image.frames))))
 
-pub dump_put : (image : Image) (applied count root k : ℕ) (old head new : List ℕ) → count ≡ finite.len image.frames → applied ≡ image.applied → root ≡ image.root → count ≤ k
+pub dump_put : (image : Image) (applied count root k : ℕ) (old head new : List ℕ) → count ≡ finite.len image.frames → applied ≡ image.applied
+    → root ≡ image.root → count ≤ k
     → head ≡ old ++ dump_head (record { applied = applied; frames = count; root = root }) → new ≡ head ++ flat_map frame (take k (finite.entries image.frames))
     → new ≡ old ++ dump image
 dump_put image applied count root k old head new all is_applied is_root past is_head is_new =
-    let same : record { applied = applied; frames = count; root = root } ≡ head_of image = λ i. record { applied = is_applied i; frames = all i; root = is_root i } in
+    let same : record { applied = applied; frames = count; root = root } ≡ head_of image =
+    λ i. record { applied = is_applied i; frames = all i; root = is_root i } in
     then old (dump_head (head_of image)) head (flat_map frame (finite.entries image.frames)) new
     (is_head ∙ ap (λ (head : DumpHead). old ++ dump_head head) same)
-    (is_new ∙ ap (λ (es : List (ℕ × List ℕ)). head ++ flat_map frame es) (take_all k (finite.entries image.frames) (omega (arith, past, all, finite.len-entries image.frames))))
+    (is_new ∙ ap (λ (es : List (ℕ × List ℕ)). head ++ flat_map frame es)
+    (take_all k (finite.entries image.frames) (omega (arith, past, all, finite.len-entries image.frames))))
 
 pub few_fit : (image : Image) (count : ℕ) → IsDump image → count ≡ finite.len image.frames → count ≤ 4096
 few_fit image count parts all = omega (arith, parts.few, all, finite.len-entries image.frames)

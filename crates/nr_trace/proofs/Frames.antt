@@ -1,5 +1,6 @@
 -- A reader that has taken a unit of a dump.
-use Rattle.std.proofs.Common.{◌≡◌, ◌≢◌, ℕ, zero, suc, ◌+◌, ◌-◌, ◌^◌, ◌<◌, ◌≤◌, List, [], ◌∷◌, ◌++◌, length, map, All, Option, Some, None, refl, sym, ap, subst, ◌∙◌, arith, append_assoc}
+use Rattle.std.proofs.Common.{◌≡◌, ◌≢◌, ℕ, zero, suc, ◌+◌, ◌-◌, ◌^◌, ◌<◌, ◌≤◌, List, [], ◌∷◌, ◌++◌, length, map, All, Option, Some, None, refl, sym, ap, subst}
+use Rattle.std.proofs.Common.{◌∙◌, arith, append_assoc}
 use Rattle.std.specs.Global.{Vec}
 use Rattle.std.specs.List.{flat_map}
 use Rattle.std.specs.FinMap as finite
@@ -37,44 +38,58 @@ put_last (e ∷ es) k v h =
     (nat_cmp_is k e.0 Greater (All-head (λ held. held < k) e.0 (map (λ f. f.0) es) h))
     (ap (λ fs. e ∷ fs) (put_last es k v (All-tail (λ held. held < k) e.0 (map (λ f. f.0) es) h)))
 
-pub entries_more : (memory : Memory) (k : ℕ) (v : List ℕ) → All (λ held. held < k) (finite.keys memory) → finite.entries (finite.insert memory k v) ≡ finite.entries memory ++ (k, v) ∷ []
+pub entries_more : (memory : Memory) (k : ℕ) (v : List ℕ) → All (λ held. held < k) (finite.keys memory)
+    → finite.entries (finite.insert memory k v) ≡ finite.entries memory ++ (k, v) ∷ []
 entries_more memory k v above = finite.entries-insert nat_cmp_total memory k v ∙ put_last (finite.entries memory) k v above
 
-pub len_more : (memory : Memory) (k : ℕ) (v : List ℕ) → All (λ held. held < k) (finite.keys memory) → finite.len (finite.insert memory k v) ≡ finite.len memory + 1
+pub len_more : (memory : Memory) (k : ℕ) (v : List ℕ) → All (λ held. held < k) (finite.keys memory)
+    → finite.len (finite.insert memory k v) ≡ finite.len memory + 1
 len_more memory k v above =
     finite.len-entries (finite.insert memory k v) ∙ ap length (entries_more memory k v above) ∙ length-append (finite.entries memory) ((k, v) ∷ [])
     ∙ ap (λ (n : ℕ). n + 1) (sym (finite.len-entries memory))
 
-pub keys_more : (memory : Memory) (k : ℕ) (v : List ℕ) → All (λ held. held < k) (finite.keys memory) → finite.keys (finite.insert memory k v) ≡ finite.keys memory ++ k ∷ []
-keys_more memory k v above = ap (map (λ (e : ℕ × List ℕ). e.0)) (entries_more memory k v above) ∙ map-append (λ (e : ℕ × List ℕ). e.0) (finite.entries memory) ((k, v) ∷ [])
+pub keys_more : (memory : Memory) (k : ℕ) (v : List ℕ) → All (λ held. held < k) (finite.keys memory)
+    → finite.keys (finite.insert memory k v) ≡ finite.keys memory ++ k ∷ []
+keys_more memory k v above = ap (map (λ (e : ℕ × List ℕ). e.0)) (entries_more memory k v above)
+    ∙ map-append (λ (e : ℕ × List ℕ). e.0) (finite.entries memory) ((k, v) ∷ [])
 
-pub values_more : (memory : Memory) (k : ℕ) (v : List ℕ) → All (λ held. held < k) (finite.keys memory) → finite.values (finite.insert memory k v) ≡ finite.values memory ++ v ∷ []
-values_more memory k v above = ap (map (λ (e : ℕ × List ℕ). e.1)) (entries_more memory k v above) ∙ map-append (λ (e : ℕ × List ℕ). e.1) (finite.entries memory) ((k, v) ∷ [])
+pub values_more : (memory : Memory) (k : ℕ) (v : List ℕ) → All (λ held. held < k) (finite.keys memory)
+    → finite.values (finite.insert memory k v) ≡ finite.values memory ++ v ∷ []
+values_more memory k v above =
+    ap (map (λ (e : ℕ × List ℕ). e.1)) (entries_more memory k v above) ∙ map-append (λ (e : ℕ × List ℕ). e.1) (finite.entries memory) ((k, v) ∷ [])
 
 -- ---- the number of a frame
 
-pub number_passed : (replica index frames : ℕ) (last : Option ℕ) (Behind : List ℕ → Format → Type 0) (number : ℕ) (unit rest : List ℕ) (fault : Format) → 1 ≤ frames → IsNext last number → unit ≡ frame_number number
-    → AtUnit 4096 None IsFrame frame_words (λ words. AtFrames replica (index + 1) (frames - 1) (Some number) Behind) rest fault → AtFrames replica index frames last Behind (unit ++ rest) fault
+pub number_passed : (replica index frames : ℕ) (last : Option ℕ) (Behind : List ℕ → Format → Type 0) (number : ℕ) (unit rest : List ℕ) (fault : Format)
+    → 1 ≤ frames → IsNext last number → unit ≡ frame_number number
+    → AtUnit 4096 None IsFrame frame_words (λ words. AtFrames replica (index + 1) (frames - 1) (Some number) Behind) rest fault
+    → AtFrames replica index frames last Behind (unit ++ rest) fault
 unfolding AtFrames
 number_passed replica index zero last Behind number unit rest fault some next is h = absurd (omega arith)
 number_passed replica index (suc frames) last Behind number unit rest fault some next is h =
     let down : suc frames - 1 ≡ frames = omega arith in
-    passed 8 (Some (BadFrame replica index)) (IsNext last) frame_number (λ n. AtUnit 4096 None IsFrame frame_words (λ words. AtFrames replica (index + 1) frames (Some n) Behind)) fault unit rest number next is
+    passed 8 (Some (BadFrame replica index)) (IsNext last) frame_number
+    (λ n. AtUnit 4096 None IsFrame frame_words (λ words. AtFrames replica (index + 1) frames (Some n) Behind)) fault unit rest number next is
     (subst (λ (n : ℕ). AtUnit 4096 None IsFrame frame_words (λ words. AtFrames replica (index + 1) n (Some number) Behind) rest fault) down h)
 
-pub number_refused : (replica index frames : ℕ) (last : Option ℕ) (Behind : List ℕ → Format → Type 0) (unit rest : List ℕ) → 1 ≤ frames → length unit ≡ 8 → ((number : ℕ) → IsNext last number → unit ≢ frame_number number)
+pub number_refused : (replica index frames : ℕ) (last : Option ℕ) (Behind : List ℕ → Format → Type 0) (unit rest : List ℕ) → 1 ≤ frames → length unit ≡ 8
+    → ((number : ℕ) → IsNext last number → unit ≢ frame_number number)
     → AtFrames replica index frames last Behind (unit ++ rest) (BadFrame replica index)
 unfolding AtFrames
 number_refused replica index zero last Behind unit rest some whole none = absurd (omega arith)
 number_refused replica index (suc frames) last Behind unit rest some whole none =
-    refused 8 (Some (BadFrame replica index)) (IsNext last) frame_number (λ n. AtUnit 4096 None IsFrame frame_words (λ words. AtFrames replica (index + 1) frames (Some n) Behind)) (BadFrame replica index) unit rest whole refl none
+    refused 8 (Some (BadFrame replica index)) (IsNext last) frame_number
+    (λ n. AtUnit 4096 None IsFrame frame_words (λ words. AtFrames replica (index + 1) frames (Some n) Behind))
+    (BadFrame replica index) unit rest whole refl none
 
-pub number_taken : (parts : Parts) (opened : Opened) (last : Option ℕ) (number : ℕ) (unit : List ℕ) → IsOpened parts opened → ((n : ℕ) → IsNext last n → AreBelow opened n) → IsNext last number → unit ≡ frame_number number
+pub number_taken : (parts : Parts) (opened : Opened) (last : Option ℕ) (number : ℕ) (unit : List ℕ) → IsOpened parts opened
+    → ((n : ℕ) → IsNext last n → AreBelow opened n) → IsNext last number → unit ≡ frame_number number
     → HasRead (said (Frame parts opened last) ++ unit) (λ rest fault. Ahead (Frame parts opened last) (unit ++ rest) fault) (Words parts opened number)
 number_taken parts opened last number unit is_opened below next is = record {
   ready = (is_opened, next.in_range, below number next);
   bytes_are = ap (λ (l : List ℕ). said (Frame parts opened last) ++ l) (sym is);
-  faults = λ rest fault h. number_passed (length parts.dumps.items) (finite.len opened.dump.frames) opened.left last (BehindDumps parts 1) number unit rest fault is_opened.some_left next is h;
+  faults = λ rest fault h. number_passed (length parts.dumps.items) (finite.len opened.dump.frames) opened.left last
+      (BehindDumps parts 1) number unit rest fault is_opened.some_left next is h;
 }
 
 -- ---- the words of a frame
@@ -90,17 +105,20 @@ grown opened number words = record {
 }
 
 frames_spelled : (memory : Memory) (number : ℕ) (words : List ℕ) → All (λ held. held < number) (finite.keys memory)
-    → flat_map frame_bytes (finite.entries (finite.insert memory number words)) ≡ flat_map frame_bytes (finite.entries memory) ++ (frame_number number ++ frame_words words)
+    → flat_map frame_bytes (finite.entries (finite.insert memory number words))
+    ≡ flat_map frame_bytes (finite.entries memory) ++ (frame_number number ++ frame_words words)
 frames_spelled memory number words above =
     ap (flat_map frame_bytes) (entries_more memory number words above)
     ∙ flat_map-append frame_bytes (finite.entries memory) ((number, words) ∷ [])
-    ∙ ap (λ (l : List ℕ). flat_map frame_bytes (finite.entries memory) ++ l) (flat_map-cons frame_bytes (number, words) [] ∙ append-nil (frame_bytes (number, words)))
+    ∙ ap (λ (l : List ℕ). flat_map frame_bytes (finite.entries memory) ++ l) (flat_map-cons frame_bytes (number, words) []
+    ∙ append-nil (frame_bytes (number, words)))
 
 grown_spelled : (opened : Opened) (number : ℕ) (words unit : List ℕ) → 1 ≤ opened.left → AreBelow opened number → unit ≡ frame_words words
     → opened_spelling (grown opened number words) ≡ opened_spelling opened ++ frame_number number ++ unit
 grown_spelled opened number words unit some above is =
     let memory = opened.dump.frames in
-    let count : finite.len (finite.insert memory number words) + (opened.left - 1) ≡ finite.len memory + opened.left = omega (arith, len_more memory number words above) in
+    let count : finite.len (finite.insert memory number words) + (opened.left - 1) ≡ finite.len memory + opened.left =
+    omega (arith, len_more memory number words above) in
     let head : ℕ → List ℕ = λ n. dump_head (record { applied = opened.dump.applied; frames = n; root = opened.dump.root }) in
     let all = finite.len memory + opened.left in
     ap (λ (n : ℕ). head n ++ flat_map frame_bytes (finite.entries (finite.insert memory number words))) count
@@ -110,31 +128,41 @@ grown_spelled opened number words unit some above is =
     ∙ ap (λ (l : List ℕ). opened_spelling opened ++ frame_number number ++ l) (sym is)
 
 -- the frame goes after the others, whatever the reader does then
-words_faults : (parts : Parts) (opened : Opened) (number : ℕ) (words unit rest : List ℕ) (fault : Format) → AreBelow opened number → IsFrame words → unit ≡ frame_words words
+words_faults : (parts : Parts) (opened : Opened) (number : ℕ) (words unit rest : List ℕ) (fault : Format) → AreBelow opened number → IsFrame words
+    → unit ≡ frame_words words
     → AtFrames (length parts.dumps.items) (finite.len (grown opened number words).dump.frames) (opened.left - 1) (Some number) (BehindDumps parts 1) rest fault
     → Ahead (Words parts opened number) (unit ++ rest) fault
 words_faults parts opened number words unit rest fault above are is h =
-    passed 4096 None IsFrame frame_words (λ _. AtFrames (length parts.dumps.items) (finite.len opened.dump.frames + 1) (opened.left - 1) (Some number) (BehindDumps parts 1)) fault unit rest words are is
-    (subst (λ (n : ℕ). AtFrames (length parts.dumps.items) n (opened.left - 1) (Some number) (BehindDumps parts 1) rest fault) (len_more opened.dump.frames number words above) h)
+    passed 4096 None IsFrame frame_words
+    (λ _. AtFrames (length parts.dumps.items) (finite.len opened.dump.frames + 1) (opened.left - 1) (Some number) (BehindDumps parts 1)) fault
+    unit rest words are is
+    (subst (λ (n : ℕ). AtFrames (length parts.dumps.items) n (opened.left - 1) (Some number) (BehindDumps parts 1) rest fault)
+    (len_more opened.dump.frames number words above) h)
 
-grown_numbers : (opened : Opened) (number : ℕ) (words : List ℕ) → All (λ n. n < 2 ^ 40) (finite.keys opened.dump.frames) → number < 2 ^ 40 → AreBelow opened number
+grown_numbers : (opened : Opened) (number : ℕ) (words : List ℕ) → All (λ n. n < 2 ^ 40) (finite.keys opened.dump.frames) → number < 2 ^ 40
+    → AreBelow opened number
     → All (λ n. n < 2 ^ 40) (finite.keys (grown opened number words).dump.frames)
 grown_numbers opened number words fit fits above =
-    subst (All (λ n. n < 2 ^ 40)) (sym (keys_more opened.dump.frames number words above)) (All-push (λ n. n < 2 ^ 40) (finite.keys opened.dump.frames) number fit fits)
+    subst (All (λ n. n < 2 ^ 40)) (sym (keys_more opened.dump.frames number words above))
+    (All-push (λ n. n < 2 ^ 40) (finite.keys opened.dump.frames) number fit fits)
 
 grown_words : (opened : Opened) (number : ℕ) (words : List ℕ) → All IsFrame (finite.values opened.dump.frames) → IsFrame words → AreBelow opened number
     → All IsFrame (finite.values (grown opened number words).dump.frames)
 grown_words opened number words fit fits above =
     subst (All IsFrame) (sym (values_more opened.dump.frames number words above)) (All-push IsFrame (finite.values opened.dump.frames) words fit fits)
 
-grown_below : (opened : Opened) (number : ℕ) (words : List ℕ) → AreBelow opened number → (next : ℕ) → IsNext (Some number) next → AreBelow (grown opened number words) next
+grown_below : (opened : Opened) (number : ℕ) (words : List ℕ) → AreBelow opened number → (next : ℕ) → IsNext (Some number) next
+    → AreBelow (grown opened number words) next
 grown_below opened number words above next is_next =
     subst (All (λ held. held < next)) (sym (keys_more opened.dump.frames number words above))
-    (All-push (λ held. held < next) (finite.keys opened.dump.frames) number (λ k d within. let one = above k d within in omega (arith, one, is_next.rises)) is_next.rises)
+    (All-push (λ held. held < next) (finite.keys opened.dump.frames) number (λ k d within. let one = above k d within in
+    omega (arith, one, is_next.rises)) is_next.rises)
 
 -- a frame is left
-pub words_taken : (parts : Parts) (opened : Opened) (number : ℕ) (words unit : List ℕ) → IsOpened parts opened → number < 2 ^ 40 → AreBelow opened number → IsFrame words → unit ≡ frame_words words → 1 ≤ opened.left - 1
-    → HasRead (said (Words parts opened number) ++ unit) (λ rest fault. Ahead (Words parts opened number) (unit ++ rest) fault) (Frame parts (grown opened number words) (Some number))
+pub words_taken : (parts : Parts) (opened : Opened) (number : ℕ) (words unit : List ℕ) → IsOpened parts opened → number < 2 ^ 40 → AreBelow opened number
+    → IsFrame words → unit ≡ frame_words words → 1 ≤ opened.left - 1
+    → HasRead (said (Words parts opened number) ++ unit) (λ rest fault. Ahead (Words parts opened number) (unit ++ rest) fault)
+    (Frame parts (grown opened number words) (Some number))
 words_taken parts opened number words unit is_opened fits above are is more = record {
   ready = (
     record {
@@ -155,11 +183,13 @@ words_taken parts opened number words unit is_opened fits above are is more = re
   faults = λ rest fault h. words_faults parts opened number words unit rest fault above are is h;
 }
 
-no_frame : (replica index frames : ℕ) (last : Option ℕ) (Behind : List ℕ → Format → Type 0) (rest : List ℕ) (fault : Format) → frames ≡ 0 → Behind rest fault → AtFrames replica index frames last Behind rest fault
+no_frame : (replica index frames : ℕ) (last : Option ℕ) (Behind : List ℕ → Format → Type 0) (rest : List ℕ) (fault : Format) → frames ≡ 0 → Behind rest fault
+    → AtFrames replica index frames last Behind rest fault
 unfolding AtFrames
 no_frame replica index frames last Behind rest fault none h = subst (λ (n : ℕ). AtFrames replica index n last Behind rest fault) (sym none) h
 
-grown_is_image : (parts : Parts) (opened : Opened) (number : ℕ) (words : List ℕ) → IsOpened parts opened → number < 2 ^ 40 → AreBelow opened number → IsFrame words → IsImage (grown opened number words).dump
+grown_is_image : (parts : Parts) (opened : Opened) (number : ℕ) (words : List ℕ) → IsOpened parts opened → number < 2 ^ 40 → AreBelow opened number
+    → IsFrame words → IsImage (grown opened number words).dump
 grown_is_image parts opened number words is_opened fits above are =
     let count = len_more opened.dump.frames number words above in
     record {
@@ -172,9 +202,11 @@ grown_is_image parts opened number words is_opened fits above are =
     }
 
 -- no frame is left, and the dump goes after the others
-pub dump_taken : (parts : Parts) (held : Vec Image) (opened : Opened) (number : ℕ) (words unit : List ℕ) → IsOpened parts opened → number < 2 ^ 40 → AreBelow opened number → IsFrame words → unit ≡ frame_words words
+pub dump_taken : (parts : Parts) (held : Vec Image) (opened : Opened) (number : ℕ) (words unit : List ℕ) → IsOpened parts opened → number < 2 ^ 40
+    → AreBelow opened number → IsFrame words → unit ≡ frame_words words
     → opened.left - 1 ≡ 0 → held.items ≡ parts.dumps.items ++ (grown opened number words).dump ∷ []
-    → HasRead (said (Words parts opened number) ++ unit) (λ rest fault. Ahead (Words parts opened number) (unit ++ rest) fault) (Dumps (record parts { dumps = held }))
+    → HasRead (said (Words parts opened number) ++ unit) (λ rest fault. Ahead (Words parts opened number) (unit ++ rest) fault)
+    (Dumps (record parts { dumps = held }))
 dump_taken parts held opened number words unit is_opened fits above are is none one_more =
     let image = (grown opened number words).dump in
     let count : length held.items ≡ length parts.dumps.items + 1 = ap length one_more ∙ length-append parts.dumps.items (image ∷ []) in
@@ -188,11 +220,13 @@ dump_taken parts held opened number words unit is_opened fits above are is none 
         few_events = is_opened.in_range.few_events;
         events = is_opened.in_range.events;
         few_dumps = omega (arith, count, is_opened.more_dumps);
-        dumps = subst (All IsImage) (sym one_more) (All-push IsImage parts.dumps.items image is_opened.in_range.dumps (grown_is_image parts opened number words is_opened fits above are));
+        dumps = subst (All IsImage) (sym one_more)
+            (All-push IsImage parts.dumps.items image is_opened.in_range.dumps (grown_is_image parts opened number words is_opened fits above are));
       };
       bytes_are = ap (spelling_of parts.version parts.config (length parts.log.items) (length parts.events.items) parts.log.items parts.events.items) one_more
           ∙ more_dump parts.version parts.config (length parts.log.items) (length parts.events.items) parts.log.items parts.events.items parts.dumps.items image
-          ∙ ap (λ (n : ℕ). front ++ (dump_head (record { applied = image.applied; frames = n; root = image.root }) ++ flat_map frame_bytes (finite.entries image.frames))) (let all : finite.len image.frames ≡ finite.len image.frames + (opened.left - 1) = omega (arith, none) in all)
+          ∙ ap (λ (n : ℕ). front ++ (dump_head (record { applied = image.applied; frames = n; root = image.root }) ++ flat_map frame_bytes
+          (finite.entries image.frames))) (let all : finite.len image.frames ≡ finite.len image.frames + (opened.left - 1) = omega (arith, none) in all)
           ∙ ap (λ (l : List ℕ). front ++ l) (grown_spelled opened number words unit is_opened.some_left above is)
           ∙ sym (append_assoc front (opened_spelling opened ++ frame_number number) unit)
           ∙ ap (λ (l : List ℕ). l ++ unit) (sym (append_assoc front (opened_spelling opened) (frame_number number)));
@@ -205,7 +239,8 @@ dump_taken parts held opened number words unit is_opened fits above are is none 
 
 -- ---- the head of a dump
 
-dump_passed : (replica dumps index behind left : ℕ) (head : DumpHead) (unit rest : List ℕ) (fault : Format) → index ≡ 0 → behind ≡ replica + 1 → left + 1 ≡ dumps → IsDumpHead head → unit ≡ dump_head head
+dump_passed : (replica dumps index behind left : ℕ) (head : DumpHead) (unit rest : List ℕ) (fault : Format) → index ≡ 0 → behind ≡ replica + 1
+    → left + 1 ≡ dumps → IsDumpHead head → unit ≡ dump_head head
     → AtFrames replica index head.frames None (AtDumps behind left) rest fault → AtDumps replica dumps (unit ++ rest) fault
 unfolding AtDumps
 dump_passed replica zero index behind left head unit rest fault first next one_less fits is h = absurd (omega arith)
@@ -216,31 +251,38 @@ dump_passed replica (suc dumps) index behind left head unit rest fault first nex
     (subst (λ (n : ℕ). AtFrames replica 0 head.frames None (AtDumps n left) rest fault) next
     (subst (λ (n : ℕ). AtFrames replica n head.frames None (AtDumps behind left) rest fault) first h)))
 
-dump_refused : (replica dumps : ℕ) (unit rest : List ℕ) → 1 ≤ dumps → length unit ≡ 16 → ((head : DumpHead) → IsDumpHead head → unit ≢ dump_head head) → AtDumps replica dumps (unit ++ rest) BadCount
+dump_refused : (replica dumps : ℕ) (unit rest : List ℕ) → 1 ≤ dumps → length unit ≡ 16 → ((head : DumpHead) → IsDumpHead head → unit ≢ dump_head head)
+    → AtDumps replica dumps (unit ++ rest) BadCount
 unfolding AtDumps
 dump_refused replica zero unit rest some whole none = absurd (omega arith)
 dump_refused replica (suc dumps) unit rest some whole none =
-    refused 16 (Some BadCount) IsDumpHead dump_head (λ head. AtFrames replica 0 head.frames None (AtDumps (replica + 1) dumps)) BadCount unit rest whole refl none
+    refused 16 (Some BadCount) IsDumpHead dump_head
+    (λ head. AtFrames replica 0 head.frames None (AtDumps (replica + 1) dumps)) BadCount unit rest whole refl none
 
-pub head_refused : (parts : Parts) (unit rest : List ℕ) → length parts.dumps.items < parts.config.replicas → length unit ≡ 16 → ((head : DumpHead) → SpellsHead unit head → ⊥) → Ahead (Dumps parts) (unit ++ rest) BadCount
+pub head_refused : (parts : Parts) (unit rest : List ℕ) → length parts.dumps.items < parts.config.replicas → length unit ≡ 16
+    → ((head : DumpHead) → SpellsHead unit head → ⊥) → Ahead (Dumps parts) (unit ++ rest) BadCount
 head_refused parts unit rest one_left whole none =
     dump_refused (length parts.dumps.items + 0) (parts.config.replicas - (length parts.dumps.items + 0)) unit rest (omega (arith, one_left)) whole
     (λ head fits e. none head (record { in_range = fits; spelled = e }))
 
 no_entries : finite.entries (finite.empty {X = List ℕ} {R = nat_cmp}) ≡ []
-no_entries = nil_from_length (finite.entries (finite.empty {X = List ℕ} {R = nat_cmp})) (sym (finite.len-entries (finite.empty {X = List ℕ} {R = nat_cmp})) ∙ finite.len-empty nat_cmp (List ℕ))
+no_entries = nil_from_length (finite.entries (finite.empty {X = List ℕ} {R = nat_cmp})) (sym (finite.len-entries (finite.empty {X = List ℕ} {R = nat_cmp}))
+    ∙ finite.len-empty nat_cmp (List ℕ))
 
 abbrev pub begun : DumpHead → Image
 begun head = record { applied = head.applied; root = head.root; frames = finite.empty }
 
-pub head_taken : (parts : Parts) (head : DumpHead) (image : Image) (unit : List ℕ) → image ≡ begun head → AreInRange parts → length parts.dumps.items < parts.config.replicas → SpellsHead unit head
-    → HasRead (said (Dumps parts) ++ unit) (λ rest fault. Ahead (Dumps parts) (unit ++ rest) fault) (Frame parts (record { dump = image; left = head.frames }) None)
+pub head_taken : (parts : Parts) (head : DumpHead) (image : Image) (unit : List ℕ) → image ≡ begun head → AreInRange parts
+    → length parts.dumps.items < parts.config.replicas → SpellsHead unit head
+    → HasRead (said (Dumps parts) ++ unit) (λ rest fault. Ahead (Dumps parts) (unit ++ rest) fault)
+    (Frame parts (record { dump = image; left = head.frames }) None)
 head_taken parts head image unit begins in_range one_left spells =
     let none : finite.len (finite.empty {X = List ℕ} {R = nat_cmp}) ≡ 0 = finite.len-empty nat_cmp (List ℕ) in
     let no_keys : finite.keys (finite.empty {X = List ℕ} {R = nat_cmp}) ≡ [] = ap (map (λ (e : ℕ × List ℕ). e.0)) no_entries in
     let no_values : finite.values (finite.empty {X = List ℕ} {R = nat_cmp}) ≡ [] = ap (map (λ (e : ℕ × List ℕ). e.1)) no_entries in
     let front = whole_spelling parts in
-    let made : HasRead (said (Dumps parts) ++ unit) (λ rest fault. Ahead (Dumps parts) (unit ++ rest) fault) (Frame parts (record { dump = begun head; left = head.frames }) None) = record {
+    let made : HasRead (said (Dumps parts) ++ unit) (λ rest fault. Ahead (Dumps parts) (unit ++ rest) fault)
+    (Frame parts (record { dump = begun head; left = head.frames }) None) = record {
       ready = (
         record {
           in_range = in_range;
@@ -255,7 +297,9 @@ head_taken parts head image unit begins in_range one_left spells =
         λ number next. subst (All (λ held. held < number)) (sym no_keys) (All-nil (λ held. held < number)),
       );
       bytes_are = ap (λ (l : List ℕ). front ++ l)
-          (ap (λ (n : ℕ). dump_head (record { applied = head.applied; frames = n; root = head.root }) ++ flat_map frame_bytes (finite.entries (finite.empty {X = List ℕ} {R = nat_cmp}))) (let all : finite.len (finite.empty {X = List ℕ} {R = nat_cmp}) + head.frames ≡ head.frames = omega (arith, none) in all)
+          (ap (λ (n : ℕ). dump_head (record { applied = head.applied; frames = n; root = head.root }) ++ flat_map frame_bytes
+          (finite.entries (finite.empty {X = List ℕ} {R = nat_cmp})))
+          (let all : finite.len (finite.empty {X = List ℕ} {R = nat_cmp}) + head.frames ≡ head.frames = omega (arith, none) in all)
           ∙ ap (λ (es : List (ℕ × List ℕ)). dump_head head ++ flat_map frame_bytes es) no_entries
           ∙ append-nil (dump_head head)
           ∙ sym spells.spelled);
@@ -264,7 +308,9 @@ head_taken parts head image unit begins in_range one_left spells =
           let same : replica ≡ replica + 0 = omega arith in
           let left : parts.config.replicas - (replica + 1) + 1 ≡ parts.config.replicas - replica = omega (arith, one_left) in
           subst (λ (n : ℕ). AtDumps n (parts.config.replicas - n) (unit ++ rest) fault) same
-          (dump_passed replica (parts.config.replicas - replica) (finite.len (finite.empty {X = List ℕ} {R = nat_cmp})) (replica + 1) (parts.config.replicas - (replica + 1))
+          (dump_passed replica (parts.config.replicas - replica) (finite.len (finite.empty {X = List ℕ} {R = nat_cmp})) (replica + 1)
+          (parts.config.replicas - (replica + 1))
           head unit rest fault none refl left spells.in_range spells.spelled h);
     } in
-    subst (λ (d : Image). HasRead (said (Dumps parts) ++ unit) (λ rest fault. Ahead (Dumps parts) (unit ++ rest) fault) (Frame parts (record { dump = d; left = head.frames }) None)) (sym begins) made
+    subst (λ (d : Image). HasRead (said (Dumps parts) ++ unit) (λ rest fault. Ahead (Dumps parts) (unit ++ rest) fault)
+    (Frame parts (record { dump = d; left = head.frames }) None)) (sym begins) made

@@ -20,6 +20,7 @@ image_of dump is some = record {
   words = All-map IsFrame (λ (e : ℕ × List ℕ). e.1) (finite.entries dump.frames) is.whole;
 }
 
-pub good_counts : (parts : Recording) → KnowsDepth parts.version parts.layout.depth → length parts.log ≤ LOG_PLACES → length parts.events ≤ CALLS → length parts.dumps ≡ parts.layout.replicas → HasBadCount parts → ⊥
+pub good_counts : (parts : Recording) → KnowsDepth parts.version parts.layout.depth → length parts.log ≤ LOG_PLACES → length parts.events ≤ CALLS
+    → length parts.dumps ≡ parts.layout.replicas → HasBadCount parts → ⊥
 good_counts parts known places events dumps bad =
     elim bad [ inl u ↦ u known | inr r ↦ elim r [ inl p ↦ absurd (omega arith) | inr q ↦ elim q [ inl e ↦ absurd (omega arith) | inr d ↦ d dumps ] ] ]

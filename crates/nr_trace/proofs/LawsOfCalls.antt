@@ -1,12 +1,14 @@
 -- Calls, their first replies, and the entries that they stand after, where no fault holds of the events, the log or a
 -- reply's place.
-use Rattle.std.proofs.Common.{◌≡◌, ◌≢◌, ℕ, ◌<◌, ◌≤◌, ◌⊎◌, inl, inr, Bool, true, false, ◌==◌, length, slice_get, Option, Some, None, is_some, IsSome, option_and_then, refl, ap, sym, ◌∙◌, subst, arith, eq-eqb, eqb-true, if◌then◌else◌}
+use Rattle.std.proofs.Common.{◌≡◌, ◌≢◌, ℕ, ◌<◌, ◌≤◌, ◌⊎◌, inl, inr, Bool, true, false, ◌==◌, length, slice_get, Option, Some, None, is_some, IsSome}
+use Rattle.std.proofs.Common.{option_and_then, refl, ap, sym, ◌∙◌, subst, arith, eq-eqb, eqb-true, if◌then◌else◌}
 use Rattle.std.proofs.lemmas.Bool.{both_ways, cases_eq, cases_order, cases_lt}
 use Rattle.std.proofs.lemmas.Option.{same_Some, none-some, slice_get_within}
 use Rattle.vs_types.specs.declared.request.Query.{Query}
 use Rattle.vs_types.specs.declared.request.Query.TheVariants.{Update, Resolve, Access}
 use Rattle.nr_trace.specs.Recording.{Recording}
-use Rattle.nr_trace.specs.Calls.{Invocation, made_by, call_of, operation_in, address_in, operation_of, IsCall, IsUpdate, IsRead, Response, reply_in, reply_of, reply_to, Answers}
+use Rattle.nr_trace.specs.Calls.{Invocation, made_by, call_of, operation_in, address_in, operation_of, IsCall, IsUpdate, IsRead, Response, reply_in, reply_of}
+use Rattle.nr_trace.specs.Calls.{reply_to, Answers}
 use Rattle.nr_trace.specs.Faults.{StandsAfter}
 use Rattle.nr_trace.specs.Laws.{HasCleanLog}
 use Rattle.nr_trace.specs.declared.event.Event.{Event}
@@ -27,7 +29,8 @@ some_or_none (Some x) = inl refl
 
 -- ---- kinds of calls
 
-made_kinds : (o : Option Invocation) → IsSome o → IsSome (option_and_then (λ made. operation_in made.request) o) ⊎ IsSome (option_and_then (λ made. address_in made.request) o)
+made_kinds : (o : Option Invocation) → IsSome o
+    → IsSome (option_and_then (λ made. operation_in made.request) o) ⊎ IsSome (option_and_then (λ made. address_in made.request) o)
 made_kinds None h = absurd cc
 made_kinds (Some made) h = by_kind made.request where
   by_kind : (request : Query) → IsSome (operation_in request) ⊎ IsSome (address_in request)
@@ -38,7 +41,8 @@ made_kinds (Some made) h = by_kind made.request where
 pub update_or_read : (trace : Recording) (call : ℕ) → IsCall trace call → IsUpdate trace call ⊎ IsRead trace call
 update_or_read trace call h = made_kinds (call_of trace call) h
 
-made_both : (o : Option Invocation) → IsSome (option_and_then (λ made. operation_in made.request) o) → IsSome (option_and_then (λ made. address_in made.request) o) → ⊥
+made_both : (o : Option Invocation) → IsSome (option_and_then (λ made. operation_in made.request) o)
+    → IsSome (option_and_then (λ made. address_in made.request) o) → ⊥
 made_both None h k = cc
 made_both (Some made) h k = by_kind made.request h k where
   by_kind : (request : Query) → IsSome (operation_in request) → IsSome (address_in request) → ⊥
@@ -82,20 +86,23 @@ update_from_not_not trace call h = by_case (some_or_none (operation_of trace cal
 abbrev naming : ℕ → Event → Option Response
 naming call event = option_and_then (λ (reply : Response). if reply.call == call then Some reply else None) (reply_in event)
 
-named : (call : ℕ) (o : Option Response) (reply : Response) → option_and_then (λ (r : Response). if r.call == call then Some r else None) o ≡ Some reply → (o ≡ Some reply) × (reply.call ≡ call)
+named : (call : ℕ) (o : Option Response) (reply : Response) → option_and_then (λ (r : Response). if r.call == call then Some r else None) o ≡ Some reply
+    → (o ≡ Some reply) × (reply.call ≡ call)
 named call None reply e = absurd (none-some reply e)
 named call (Some r) reply e = by_test (r.call == call) refl e where
   by_test : (b : Bool) → (r.call == call) ≡ b → (if b then Some r else None) ≡ Some reply → (Some r ≡ Some reply) × (reply.call ≡ call)
   by_test true h k = (k, ap (λ (a : Response). a.call) (sym (same_Some r reply k)) ∙ eqb-true r.call call h)
   by_test false h k = absurd (none-some reply k)
 
-naming_it : (call : ℕ) (o : Option Response) (reply : Response) → o ≡ Some reply → reply.call ≡ call → option_and_then (λ (r : Response). if r.call == call then Some r else None) o ≡ Some reply
+naming_it : (call : ℕ) (o : Option Response) (reply : Response) → o ≡ Some reply → reply.call ≡ call
+    → option_and_then (λ (r : Response). if r.call == call then Some r else None) o ≡ Some reply
 naming_it call o reply e f =
     let h = eq-eqb reply.call call f in
     rw (e, h) refl
 
 -- a first reply is the reply of some event, and names the call
-pub reply_event : (trace : Recording) (call : ℕ) (reply : Response) → reply_to trace call ≡ Some reply → (index : ℕ) × (reply_of trace index ≡ Some reply) × (reply.call ≡ call)
+pub reply_event : (trace : Recording) (call : ℕ) (reply : Response) → reply_to trace call ≡ Some reply
+    → (index : ℕ) × (reply_of trace index ≡ Some reply) × (reply.call ≡ call)
 reply_event trace call reply e =
     let (index, event, at, gives) = first_given (naming call) trace.events reply e in
     let both = named call (reply_in event) reply gives in
@@ -104,34 +111,41 @@ reply_event trace call reply e =
 pub answers_from : (trace : Recording) (index call : ℕ) (reply : Response) → reply_of trace index ≡ Some reply → reply.call ≡ call → Answers trace index call
 answers_from trace index call reply e f = is_some_from _ reply (naming_it call (reply_of trace index) reply e f)
 
-pub reply_that_answers : (trace : Recording) (index call : ℕ) → Answers trace index call → (reply : Response) × (reply_of trace index ≡ Some reply) × (reply.call ≡ call)
+pub reply_that_answers : (trace : Recording) (index call : ℕ) → Answers trace index call
+    → (reply : Response) × (reply_of trace index ≡ Some reply) × (reply.call ≡ call)
 reply_that_answers trace index call h =
     let (reply, is) = the_some _ h in
     let both = named call (reply_of trace index) reply is in
     (reply, both.0, both.1)
 
-pub reply_in_event : (o : Option Event) (reply : Response) → option_and_then reply_in o ≡ Some reply → (event : Event) × (o ≡ Some event) × (reply_in event ≡ Some reply)
+pub reply_in_event : (o : Option Event) (reply : Response) → option_and_then reply_in o ≡ Some reply
+    → (event : Event) × (o ≡ Some event) × (reply_in event ≡ Some reply)
 reply_in_event None reply e = absurd (none-some reply e)
 reply_in_event (Some event) reply e = (event, refl, e)
 
-naming_none : (call : ℕ) (o : Option Event) → (IsSome (option_and_then (λ (r : Response). if r.call == call then Some r else None) (option_and_then reply_in o)) → ⊥) → option_and_then (naming call) o ≡ None
+naming_none : (call : ℕ) (o : Option Event)
+    → (IsSome (option_and_then (λ (r : Response). if r.call == call then Some r else None) (option_and_then reply_in o)) → ⊥)
+    → option_and_then (naming call) o ≡ None
 naming_none call None h = refl
 naming_none call (Some event) h = none_from_not_some (naming call event) h
 
 -- where no call is answered twice, each reply is the first to its call
-pub reply_is_first : (trace : Recording) (index : ℕ) (reply : Response) → HasCleanLog trace → reply_of trace index ≡ Some reply → reply_to trace reply.call ≡ Some reply
+pub reply_is_first : (trace : Recording) (index : ℕ) (reply : Response) → HasCleanLog trace → reply_of trace index ≡ Some reply
+    → reply_to trace reply.call ≡ Some reply
 reply_is_first trace index reply clean e =
     let (event, at, is) = reply_in_event (slice_get trace.events index) reply e in
     given_first (naming reply.call) trace.events reply index event at (naming_it reply.call (reply_in event) reply is refl)
     (λ j l. naming_none reply.call (slice_get trace.events j) (λ h. clean.none_twice index (reply, e, (j, l, h))))
 
 -- a reply comes after its call
-pub reply_behind_call : (trace : Recording) (index : ℕ) (reply : Response) → HasCleanLog trace → reply_of trace index ≡ Some reply → (reply.call < index) × IsCall trace reply.call
+pub reply_behind_call : (trace : Recording) (index : ℕ) (reply : Response) → HasCleanLog trace → reply_of trace index ≡ Some reply
+    → (reply.call < index) × IsCall trace reply.call
 reply_behind_call trace index reply clean e = by_order (cases_lt reply.call index) (some_or_none (call_of trace reply.call)) where
   too_late : reply.call < index → index ≤ reply.call → ⊥
   too_late h l = omega arith
 
-  by_order : (reply.call < index) ⊎ (index ≤ reply.call) → IsCall trace reply.call ⊎ (call_of trace reply.call ≡ None) → (reply.call < index) × IsCall trace reply.call
+  by_order : (reply.call < index) ⊎ (index ≤ reply.call) → IsCall trace reply.call ⊎ (call_of trace reply.call ≡ None)
+      → (reply.call < index) × IsCall trace reply.call
   by_order (inl l) (inl c) = (l, c)
   by_order (inl l) (inr n) = absurd (clean.no_such_call index (reply, e, λ h. both_ways (is_some (call_of trace reply.call)) (ap is_some n) h.1))
   by_order (inr l) c = absurd (clean.no_such_call index (reply, e, λ h. too_late h.0 l))
@@ -146,7 +160,8 @@ same_option (Some m) n h = by_order (cases_eq m n) where
   by_order (inr k) = absurd (h (λ e. k (same_Some m n e)))
 
 -- an answered call stands after as many entries as its reply says
-pub answered_stands : (trace : Recording) (call : ℕ) (reply : Response) → HasCleanLog trace → reply_to trace call ≡ Some reply → StandsAfter trace call reply.at × (reply.at ≤ length trace.log)
+pub answered_stands : (trace : Recording) (call : ℕ) (reply : Response) → HasCleanLog trace → reply_to trace call ≡ Some reply
+    → StandsAfter trace call reply.at × (reply.at ≤ length trace.log)
 answered_stands trace call reply clean e = by_kind (update_or_read trace call is_call) where
   event : (index : ℕ) × (reply_of trace index ≡ Some reply) × (reply.call ≡ call)
   event = reply_event trace call reply e
@@ -156,7 +171,9 @@ answered_stands trace call reply clean e = by_kind (update_or_read trace call is
 
   by_kind : IsUpdate trace call ⊎ IsRead trace call → StandsAfter trace call reply.at × (reply.at ≤ length trace.log)
   by_kind (inl u) =
-      let placed : slice_get trace.log reply.at ≡ Some reply.call = same_option (slice_get trace.log reply.at) reply.call (λ apart. clean.all_placed event.0 (reply, event.1, (subst (IsUpdate trace) (sym event.2) u, apart))) in
+      let placed : slice_get trace.log reply.at ≡ Some reply.call =
+      same_option (slice_get trace.log reply.at) reply.call
+      (λ apart. clean.all_placed event.0 (reply, event.1, (subst (IsUpdate trace) (sym event.2) u, apart))) in
       let here : slice_get trace.log reply.at ≡ Some call = placed ∙ ap Some event.2 in
       let l : reply.at < length trace.log = slice_get_within trace.log reply.at call here in
       (inl (u, here), omega arith)

@@ -1,5 +1,6 @@
 -- Where no fault holds of a recording, each dump fits the recorded order.
-use Rattle.std.proofs.Common.{◌≡◌, ◌≢◌, ℕ, zero, suc, ◌<◌, ◌≤◌, ◌⊎◌, inl, inr, List, length, take, slice_get, Contains, Some, refl, ap, ap₂, sym, ◌∙◌, subst, arith}
+use Rattle.std.proofs.Common.{◌≡◌, ◌≢◌, ℕ, zero, suc, ◌<◌, ◌≤◌, ◌⊎◌, inl, inr, List, length, take, slice_get, Contains, Some, refl, ap, ap₂, sym, ◌∙◌, subst}
+use Rattle.std.proofs.Common.{arith}
 use Rattle.std.proofs.lemmas.Bool.{cases_eq, cases_lt, cases_order}
 use Rattle.vs_types.specs.Step.{look}
 use Rattle.vs_walk.specs.Dump.{Image}
@@ -14,7 +15,8 @@ use Rattle.nr_trace.specs.Orders.{below, before, updates, space_after, recorded_
 use Rattle.nr_trace.specs.Faults.{StandsAfter, RestsOnMore}
 use Rattle.vs_walk.specs.Differences.{IsLeast, TranslatesOtherwise}
 use Rattle.nr_trace.specs.Laws.{HasCleanLog, IsFaultless}
-use Rattle.nr_trace.specs.declared.fault.Fault.TheVariants.{ThreadOpen, NoSuchCall, AnsweredTwice, NotAnUpdate, PlacedTwice, NotPlaced, PastLog, Early, WrongAnswer, PrefixPastLog, PrefixShort, Differs}
+use Rattle.nr_trace.specs.declared.fault.Fault.TheVariants.{ThreadOpen, NoSuchCall, AnsweredTwice, NotAnUpdate, PlacedTwice, NotPlaced, PastLog, Early}
+use Rattle.nr_trace.specs.declared.fault.Fault.TheVariants.{WrongAnswer, PrefixPastLog, PrefixShort, Differs}
 use Rattle.nr_trace.proofs.LawsOfUnits.{size_from, size_back, rights_from, rights_back}
 use Rattle.nr_trace.proofs.LawsOfLists.{In, Contains-from_in, in_from_Contains, in_either, in_filter}
 use Rattle.nr_trace.proofs.LawsOfCalls.{the_some, not_both, reply_event, answered_stands}
@@ -52,7 +54,8 @@ walk_apart a b e = sym (walk_back a) ∙ ap walk_of e ∙ walk_back b
 
 pub same_walk : (a b : Walk) → ((a ≢ b) → ⊥) → a ≡ b
 same_walk a b h =
-    by_parts (cases_eq (fields_of a).code (fields_of b).code) (cases_eq (fields_of a).size (fields_of b).size) (cases_eq (fields_of a).rights (fields_of b).rights) (cases_eq (fields_of a).value (fields_of b).value) where
+    by_parts (cases_eq (fields_of a).code (fields_of b).code) (cases_eq (fields_of a).size (fields_of b).size)
+    (cases_eq (fields_of a).rights (fields_of b).rights) (cases_eq (fields_of a).value (fields_of b).value) where
       by_parts : ((fields_of a).code ≡ (fields_of b).code) ⊎ ((fields_of a).code ≡ (fields_of b).code → ⊥)
           → ((fields_of a).size ≡ (fields_of b).size) ⊎ ((fields_of a).size ≡ (fields_of b).size → ⊥)
           → ((fields_of a).rights ≡ (fields_of b).rights) ⊎ ((fields_of a).rights ≡ (fields_of b).rights → ⊥)
@@ -91,7 +94,8 @@ clean_if_faultless trace faultless = record {
 }
 
 pub legal_if_faultless : (trace : Recording) → IsFaultless trace → IsLegalOrder trace (recorded_order trace)
-legal_if_faultless trace faultless = legal trace (clean_if_faultless trace faultless) (λ call h. faultless (Early call) h) (λ call h. faultless (WrongAnswer call) h)
+legal_if_faultless trace faultless =
+    legal trace (clean_if_faultless trace faultless) (λ call h. faultless (Early call) h) (λ call h. faultless (WrongAnswer call) h)
 
 -- the dump has applied what an answer given at its replica rests on
 known_applied : (trace : Recording) (replica : ℕ) (dump : Image) (call : ℕ) (made : Invocation) (reply : Response) → (RestsOnMore trace replica dump → ⊥)
@@ -101,13 +105,17 @@ known_applied trace replica dump call made reply no_more is_made here is_reply =
   event = reply_event trace call reply is_reply
 
   by_order : (dump.applied < known_by trace reply) ⊎ (known_by trace reply ≤ dump.applied) → known_by trace reply ≤ dump.applied
-  by_order (inl l) = absurd (no_more (record { index = event.0; reply = reply; is_reply = event.1; made = made; is_made = ap (call_of trace) event.2 ∙ is_made; here = here; more = l }))
+  by_order (inl l) = absurd (no_more
+      (record { index = event.0; reply = reply; is_reply = event.1; made = made; is_made = ap (call_of trace) event.2 ∙ is_made; here = here; more = l }))
   by_order (inr l) = l
 
-pub dump_translates : (trace : Recording) (dump : Image) → ((address : ℕ) → IsLeast (TranslatesOtherwise trace.layout.depth dump.frames dump.root (space_after trace (take dump.applied trace.log))) address → ⊥) → TranslatesAs trace.layout.depth dump.frames dump.root (space_after trace (take dump.applied trace.log))
+pub dump_translates : (trace : Recording) (dump : Image)
+    → ((address : ℕ) → IsLeast (TranslatesOtherwise trace.layout.depth dump.frames dump.root (space_after trace (take dump.applied trace.log))) address → ⊥)
+    → TranslatesAs trace.layout.depth dump.frames dump.root (space_after trace (take dump.applied trace.log))
 dump_translates trace dump none_differs address canonical =
     same_walk (walk trace.layout.depth dump.frames dump.root address) (as_walk (look (space_after trace (take dump.applied trace.log)) address))
-    (λ apart. none_from_no_least (TranslatesOtherwise trace.layout.depth dump.frames dump.root (space_after trace (take dump.applied trace.log))) none_differs address (canonical, apart))
+    (λ apart. none_from_no_least (TranslatesOtherwise trace.layout.depth dump.frames dump.root (space_after trace (take dump.applied trace.log))) none_differs
+    address (canonical, apart))
 
 -- the places that a dump has applied
 abbrev Applied : Recording → Image → ℕ → Type 0
@@ -116,17 +124,20 @@ Applied trace dump call = Contains (take dump.applied trace.log) call
 applied_place : (trace : Recording) (dump : Image) (place call : ℕ) → place < dump.applied → slice_get trace.log place ≡ Some call → Applied trace dump call
 applied_place trace dump place call l e = Contains-from_in call (take dump.applied trace.log) (in_taken trace.log place dump.applied call l e)
 
-own_update : (trace : Recording) (dump : Image) (call : ℕ) (reply : Response) → IsUpdate trace call → reply.call ≡ call → known_by trace reply ≤ dump.applied → StandsAfter trace call reply.at → Applied trace dump call
+own_update : (trace : Recording) (dump : Image) (call : ℕ) (reply : Response) → IsUpdate trace call → reply.call ≡ call → known_by trace reply ≤ dump.applied
+    → StandsAfter trace call reply.at → Applied trace dump call
 own_update trace dump call reply u g l (inl (v, e)) =
     let k = known_of_update trace reply (subst (IsUpdate trace) (sym g) u) in
     applied_place trace dump reply.at call (omega arith) e
 own_update trace dump call reply u g l (inr r) = absurd (not_both trace call u r.0)
 
-earlier_update : (trace : Recording) (dump : Image) (call earlier : ℕ) (reply : Response) → HasCleanLog trace → IsRead trace call → reply_to trace call ≡ Some reply → reply.call ≡ call → known_by trace reply ≤ dump.applied → reply.at ≤ length trace.log
+earlier_update : (trace : Recording) (dump : Image) (call earlier : ℕ) (reply : Response) → HasCleanLog trace → IsRead trace call
+    → reply_to trace call ≡ Some reply → reply.call ≡ call → known_by trace reply ≤ dump.applied → reply.at ≤ length trace.log
     → IsUpdate trace earlier → In earlier (before call (recorded_order trace)) → Applied trace dump earlier
 earlier_update trace dump call earlier reply clean r is_reply g l within u i =
     let k = known_of_read trace reply (subst (IsRead trace) (sym g) r) in
-    by_side (omega arith) (in_either earlier (blocks trace reply.at) (earlier_reads trace reply.at call) (subst (In earlier) (before_read trace reply.at call clean within (r, reply, is_reply, refl)) i)) where
+    by_side (omega arith) (in_either earlier (blocks trace reply.at) (earlier_reads trace reply.at call)
+    (subst (In earlier) (before_read trace reply.at call clean within (r, reply, is_reply, refl)) i)) where
       by_stand : (m : ℕ) → m < dump.applied → StandsAfter trace earlier m → Applied trace dump earlier
       by_stand m m_less (inl (v, e)) = applied_place trace dump m earlier m_less e
       by_stand m m_less (inr s) = absurd (not_both trace earlier u s.0)
@@ -135,15 +146,18 @@ earlier_update trace dump call earlier reply clean r is_reply g l within u i =
       by_side at_most (inl j) =
           let (m, m_less, h) = in_blocks trace reply.at earlier clean j in
           by_stand m (omega arith) h
-      by_side at_most (inr j) = absurd (not_both trace earlier u (read_from_saw trace reply.at earlier (in_filter (saw trace reply.at) earlier (below call) j).1).0)
+      by_side at_most (inr j) = absurd
+          (not_both trace earlier u (read_from_saw trace reply.at earlier (in_filter (saw trace reply.at) earlier (below call) j).1).0)
 
-pub fits_if_faultless : (trace : Recording) (replica : ℕ) (dump : Image) → IsFaultless trace → slice_get trace.dumps replica ≡ Some dump → FitsOrder trace (recorded_order trace) replica dump
+pub fits_if_faultless : (trace : Recording) (replica : ℕ) (dump : Image) → IsFaultless trace → slice_get trace.dumps replica ≡ Some dump
+    → FitsOrder trace (recorded_order trace) replica dump
 fits_if_faultless trace replica dump faultless is = record {
   enough = subst (λ (log : List ℕ). dump.applied ≤ length log) (sym log_is) (by_order (cases_lt (length trace.log) dump.applied));
   translates = subst (λ (log : List ℕ). TranslatesAs trace.layout.depth dump.frames dump.root (space_after trace (take dump.applied log))) (sym log_is)
       (dump_translates trace dump (λ address h. faultless (Differs replica address) (dump, is, h)));
   own_updates = λ call made is_made here u answered. in_log call (of_update call made is_made here u (the_some (reply_to trace call) answered));
-  own_reads = λ call earlier made is_made here r answered u i. in_log earlier (of_read call earlier made is_made here r (the_some (reply_to trace call) answered) u i);
+  own_reads = λ call earlier made is_made here r answered u i. in_log earlier
+      (of_read call earlier made is_made here r (the_some (reply_to trace call) answered) u i);
 } where
   clean : HasCleanLog trace
   clean = clean_if_faultless trace faultless
@@ -161,13 +175,16 @@ fits_if_faultless trace replica dump faultless is = record {
   in_log : (call : ℕ) → Applied trace dump call → Contains (take dump.applied (updates trace (recorded_order trace))) call
   in_log call h = subst (λ (log : List ℕ). Contains (take dump.applied log) call) (sym log_is) h
 
-  of_update : (call : ℕ) (made : Invocation) → call_of trace call ≡ Some made → made.replica ≡ replica → IsUpdate trace call → (reply : Response) × (reply_to trace call ≡ Some reply) → Applied trace dump call
+  of_update : (call : ℕ) (made : Invocation) → call_of trace call ≡ Some made → made.replica ≡ replica → IsUpdate trace call
+      → (reply : Response) × (reply_to trace call ≡ Some reply) → Applied trace dump call
   of_update call made is_made here u (reply, e) =
       let known = known_applied trace replica dump call made reply no_more is_made here e in
       own_update trace dump call reply u known.1 known.0 (answered_stands trace call reply clean e).0
 
-  of_read : (call earlier : ℕ) (made : Invocation) → call_of trace call ≡ Some made → made.replica ≡ replica → IsRead trace call → (reply : Response) × (reply_to trace call ≡ Some reply) → IsUpdate trace earlier
+  of_read : (call earlier : ℕ) (made : Invocation) → call_of trace call ≡ Some made → made.replica ≡ replica → IsRead trace call
+      → (reply : Response) × (reply_to trace call ≡ Some reply) → IsUpdate trace earlier
       → Contains (before call (recorded_order trace)) earlier → Applied trace dump earlier
   of_read call earlier made is_made here r (reply, e) u i =
       let known = known_applied trace replica dump call made reply no_more is_made here e in
-      earlier_update trace dump call earlier reply clean r e known.1 known.0 (answered_stands trace call reply clean e).1 u (in_from_Contains earlier (before call (recorded_order trace)) i)
+      earlier_update trace dump call earlier reply clean r e known.1 known.0 (answered_stands trace call reply clean e).1 u
+      (in_from_Contains earlier (before call (recorded_order trace)) i)

@@ -21,7 +21,9 @@ use Rattle.nr_trace.specs.Faults.{IsReplyWith, HasPlaced, HasDump, IsWrong, Hold
 use Rattle.nr_trace.specs.Laws.{HasCleanLog, HasRank}
 use Rattle.nr_trace.specs.declared.fault.Format.{Format as FormatFault}
 use Rattle.nr_trace.specs.declared.fault.Fault.{Fault}
-use Rattle.nr_trace.specs.declared.fault.Fault.TheVariants.{Format, ThreadOpen, NoSuchCall, AnsweredTwice, NotAnUpdate, PlacedTwice, NotPlaced, PastLog, Early, WrongAnswer, PrefixPastLog, PrefixShort, MissingFrame, SharedFrame, ReservedBit, StrayFrame, Differs}
+use Rattle.nr_trace.specs.declared.fault.Fault.TheVariants.{Format, ThreadOpen, NoSuchCall, AnsweredTwice, NotAnUpdate, PlacedTwice, NotPlaced, PastLog, Early}
+use Rattle.nr_trace.specs.declared.fault.Fault.TheVariants.{WrongAnswer, PrefixPastLog, PrefixShort, MissingFrame, SharedFrame, ReservedBit, StrayFrame}
+use Rattle.nr_trace.specs.declared.fault.Fault.TheVariants.{Differs}
 use Rattle.nr_trace.proofs.LawsOfLists.{In, earlier_member, member_before, in_from_Contains, Contains-from_in, same_place}
 use Rattle.nr_trace.proofs.LawsOfCalls.{answered_stands, call_within, is_some_from, reply_in_event}
 use Rattle.nr_trace.proofs.LawsOfOrder.{standing_is_member}
@@ -44,7 +46,8 @@ one_least P m n h k = by_order (cases_order m n) where
   by_order (inr (inr l)) = absurd (h.1 n l k.0)
 
 -- what holds of a replica's dump holds of one dump
-of_one_dump : (trace : Recording) (replica other : ℕ) (P Q : Image → Type 0) {C : Type 0} → replica ≡ other → HasDump trace replica P → HasDump trace other Q → ((dump : Image) → P dump → Q dump → C) → C
+of_one_dump : (trace : Recording) (replica other : ℕ) (P Q : Image → Type 0) {C : Type 0} → replica ≡ other → HasDump trace replica P → HasDump trace other Q
+    → ((dump : Image) → P dump → Q dump → C) → C
 of_one_dump trace replica other P Q e (dump, is, h) (image, also, k) f =
     let same = same_Some dump image (sym is ∙ ap (slice_get trace.dumps) e ∙ also) in
     f dump h (subst Q (sym same) k)
@@ -70,26 +73,34 @@ same_rank trace (PlacedTwice i) (PlacedTwice j) a b h k e = ap PlacedTwice (ap s
 same_rank trace (NotPlaced i) (NotPlaced j) a b h k e = ap NotPlaced (ap second e)
 same_rank trace (PastLog i) (PastLog j) a b h k e = ap PastLog (ap second e)
 same_rank trace (Early i) (Early j) a b h k e = ap Early (ap second e)
-same_rank trace (WrongAnswer i) (WrongAnswer j) a b h k e = ap WrongAnswer (same_place i j (recorded_order trace) (in_from_Contains i (recorded_order trace) a) (in_from_Contains j (recorded_order trace) b) (ap second e))
+same_rank trace (WrongAnswer i) (WrongAnswer j) a b h k e =
+    ap WrongAnswer (same_place i j (recorded_order trace) (in_from_Contains i (recorded_order trace) a)
+    (in_from_Contains j (recorded_order trace) b) (ap second e))
 same_rank trace (PrefixPastLog i) (PrefixPastLog j) a b h k e = ap PrefixPastLog (ap second e)
 same_rank trace (PrefixShort i) (PrefixShort j) a b h k e = ap PrefixShort (ap second e)
 same_rank trace (MissingFrame i m) (MissingFrame j n) a b h k e =
-    ap₂ MissingFrame (ap second e) (of_one_dump trace i j _ _ (ap second e) h k (λ dump p q. missing_same m n (same_Some (walks.Missing m) (walks.Missing n) (sym p ∙ q))))
+    ap₂ MissingFrame (ap second e)
+    (of_one_dump trace i j _ _ (ap second e) h k (λ dump p q. missing_same m n (same_Some (walks.Missing m) (walks.Missing n) (sym p ∙ q))))
 same_rank trace (SharedFrame i m) (SharedFrame j n) a b h k e =
-    ap₂ SharedFrame (ap second e) (of_one_dump trace i j _ _ (ap second e) h k (λ dump p q. shared_same m n (same_Some (walks.Shared m) (walks.Shared n) (sym p ∙ q))))
+    ap₂ SharedFrame (ap second e)
+    (of_one_dump trace i j _ _ (ap second e) h k (λ dump p q. shared_same m n (same_Some (walks.Shared m) (walks.Shared n) (sym p ∙ q))))
 same_rank trace (ReservedBit i m x) (ReservedBit j n y) a b h k e =
-    let both = of_one_dump trace i j _ _ (ap second e) h k (λ dump p q. reserved_same m n x y (same_Some (walks.Reserved m x) (walks.Reserved n y) (sym p ∙ q))) in
+    let both = of_one_dump trace i j _ _ (ap second e) h k
+    (λ dump p q. reserved_same m n x y (same_Some (walks.Reserved m x) (walks.Reserved n y) (sym p ∙ q))) in
     let place = ap second e in
     λ t. ReservedBit (place t) (both.0 t) (both.1 t)
 same_rank trace (StrayFrame i m) (StrayFrame j n) a b h k e =
-    ap₂ StrayFrame (ap second e) (of_one_dump trace i j _ _ (ap second e) h k (λ dump p q. one_least (IsStray trace.layout.depth dump.frames dump.root) m n p q))
+    ap₂ StrayFrame (ap second e) (of_one_dump trace i j _ _ (ap second e) h k
+    (λ dump p q. one_least (IsStray trace.layout.depth dump.frames dump.root) m n p q))
 same_rank trace (Differs i m) (Differs j n) a b h k e =
-    ap₂ Differs (ap second e) (of_one_dump trace i j _ _ (ap second e) h k (λ dump p q. one_least (TranslatesOtherwise trace.layout.depth dump.frames dump.root (space_after trace (take dump.applied trace.log))) m n p q))
+    ap₂ Differs (ap second e) (of_one_dump trace i j _ _ (ap second e) h k
+    (λ dump p q. one_least (TranslatesOtherwise trace.layout.depth dump.frames dump.root (space_after trace (take dump.applied trace.log))) m n p q))
 same_rank trace f g a b h k e =
     let number = ap third e in
     absurd (omega arith)
 
-pub ordered : (trace : Recording) (f g : Fault) → HasRank trace f → HasRank trace g → Holds trace f → Holds trace g → (f ≡ g) ⊎ (Earlier trace f g ⊎ Earlier trace g f)
+pub ordered : (trace : Recording) (f g : Fault) → HasRank trace f → HasRank trace g → Holds trace f → Holds trace g
+    → (f ≡ g) ⊎ (Earlier trace f g ⊎ Earlier trace g f)
 ordered trace f g a b h k = by_order (slice_cmp nat_cmp (rank trace f) (rank trace g)) refl where
   by_order : (r : Ordering) → slice_cmp nat_cmp (rank trace f) (rank trace g) ≡ r → (f ≡ g) ⊎ (Earlier trace f g ⊎ Earlier trace g f)
   by_order Less e = inr (inl e)
@@ -142,7 +153,8 @@ rank_is trace (WrongAnswer call) = refl
 rank_is trace _ = refl
 
 -- an earlier fault is of an earlier pass, or of an earlier index in the pass, or has a lower number at one index
-pub earlier_parts : (trace : Recording) (f g : Fault) → Earlier trace f g → IsBelow (pass f) (index_of trace f) (number_of trace f) (pass g) (index_of trace g) (number_of trace g)
+pub earlier_parts : (trace : Recording) (f g : Fault) → Earlier trace f g
+    → IsBelow (pass f) (index_of trace f) (number_of trace f) (pass g) (index_of trace g) (number_of trace g)
 earlier_parts trace f g e = below_from_less _ _ _ _ _ _ (ap₂ (slice_cmp nat_cmp) (sym (rank_is trace f)) (sym (rank_is trace g)) ∙ e)
 
 -- ---- the indexes of what holds
@@ -167,11 +179,14 @@ wrong_is_member trace call clean wrong =
     Contains-from_in call (recorded_order trace) (standing_is_member trace wrong.reply.at call both.1 both.0)
 
 -- a wrong answer that is earlier than another one is of a call that stands before the other's
-pub earlier_answer : (trace : Recording) (i j : ℕ) → HasCleanLog trace → Holds trace (WrongAnswer i) → Holds trace (WrongAnswer j) → Earlier trace (WrongAnswer i) (WrongAnswer j) → In i (before j (recorded_order trace))
+pub earlier_answer : (trace : Recording) (i j : ℕ) → HasCleanLog trace → Holds trace (WrongAnswer i) → Holds trace (WrongAnswer j)
+    → Earlier trace (WrongAnswer i) (WrongAnswer j) → In i (before j (recorded_order trace))
 earlier_answer trace i j clean h k e =
-    earlier_member i j (recorded_order trace) (in_from_Contains i (recorded_order trace) (wrong_is_member trace i clean h)) (in_from_Contains j (recorded_order trace) (wrong_is_member trace j clean k))
+    earlier_member i j (recorded_order trace) (in_from_Contains i (recorded_order trace) (wrong_is_member trace i clean h))
+    (in_from_Contains j (recorded_order trace) (wrong_is_member trace j clean k))
     (by_parts (earlier_parts trace (WrongAnswer i) (WrongAnswer j) e)) where
-      by_parts : IsBelow 6 (length (before i (recorded_order trace))) 10 6 (length (before j (recorded_order trace))) 10 → length (before i (recorded_order trace)) < length (before j (recorded_order trace))
+      by_parts : IsBelow 6 (length (before i (recorded_order trace))) 10 6 (length (before j (recorded_order trace))) 10
+          → length (before i (recorded_order trace)) < length (before j (recorded_order trace))
       by_parts (inl l) = absurd (omega arith)
       by_parts (inr (inl l)) = l.1
       by_parts (inr (inr l)) =
@@ -180,7 +195,8 @@ earlier_answer trace i j clean h k e =
 
 pub answer_before : (trace : Recording) (i j : ℕ) → In i (before j (recorded_order trace)) → Earlier trace (WrongAnswer i) (WrongAnswer j)
 answer_before trace i j h =
-    less_from_below 6 (length (before i (recorded_order trace))) 10 6 (length (before j (recorded_order trace))) 10 (inr (inl (refl, member_before i j (recorded_order trace) h)))
+    less_from_below 6 (length (before i (recorded_order trace))) 10 6 (length (before j (recorded_order trace))) 10
+    (inr (inl (refl, member_before i j (recorded_order trace) h)))
 
 -- ---- the first fault
 

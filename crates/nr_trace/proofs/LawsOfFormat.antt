@@ -1,5 +1,6 @@
 -- Bytes have at most one fault of the format, and none where they spell a trace.
-use Rattle.std.proofs.Common.{◌≡◌, ℕ, zero, suc, ◌+◌, ◌<◌, ◌≤◌, ◌^◌, inl, inr, Bool, true, false, cond, ◌&&◌, T, ltb, eqb, List, [], ◌∷◌, ◌++◌, length, take, Option, Some, None, refl, ap, sym, ◌∙◌, subst, subst₂, arith}
+use Rattle.std.proofs.Common.{◌≡◌, ℕ, zero, suc, ◌+◌, ◌<◌, ◌≤◌, ◌^◌, inl, inr, Bool, true, false, cond, ◌&&◌, T, ltb, eqb, List, [], ◌∷◌, ◌++◌, length, take}
+use Rattle.std.proofs.Common.{Option, Some, None, refl, ap, sym, ◌∙◌, subst, subst₂, arith}
 use Rattle.std.specs.Prelude.{flat_map, IfSome, ⊤}
 use Rattle.std.specs.List.{AllByRecursion}
 use Rattle.std.specs.FinMap as finite
@@ -21,8 +22,10 @@ use Rattle.nr_trace.specs.declared.fault.Format.TheVariants.{BadMagic, BadVersio
 use Rattle.nr_trace.specs.declared.event.Event.{Event}
 use Rattle.nr_trace.specs.declared.version.Version.{Version}
 use Rattle.nr_trace.specs.declared.fields.Counts.{Counts}
-use Rattle.nr_trace.proofs.LawsOfSpelling.{Frame, FrameFits, frame, image_frames_fit, head_fits, frames_of, counts_fit, logs, events, dumps, numbered, versioned, spelling_behind_magic}
-use Rattle.nr_trace.proofs.LawsOfUnits.{ToldApart, versions_apart, counts_apart, length-counts, heads_apart, length-head, frame_numbers_apart, words_apart, length-frame_words, log_words_apart, events_apart, length-event}
+use Rattle.nr_trace.proofs.LawsOfSpelling.{Frame, FrameFits, frame, image_frames_fit, head_fits, frames_of, counts_fit, logs, events, dumps, numbered}
+use Rattle.nr_trace.proofs.LawsOfSpelling.{versioned, spelling_behind_magic}
+use Rattle.nr_trace.proofs.LawsOfUnits.{ToldApart, versions_apart, counts_apart, length-counts, heads_apart, length-head, frame_numbers_apart, words_apart}
+use Rattle.nr_trace.proofs.LawsOfUnits.{length-frame_words, log_words_apart, events_apart, length-event}
 
 -- ---- one unit
 
@@ -67,7 +70,8 @@ unit_none bytes own Fits spelled Behind apart v more fault long fits none rest i
     let h : length rest < bytes = x.0 in
     let k = ap length is ∙ length-append (spelled v) more in
     omega arith
-unit_none bytes own Fits spelled Behind apart v more fault long fits none rest is (inr (inl x)) = x.2 v fits (ap (take bytes) is ∙ take_at (spelled v) more bytes long)
+unit_none bytes own Fits spelled Behind apart v more fault long fits none rest is (inr (inl x)) =
+    x.2 v fits (ap (take bytes) is ∙ take_at (spelled v) more bytes long)
 unit_none bytes own Fits spelled Behind apart v more fault long fits none rest is (inr (inr (w, less, also, same, further))) =
     let r = apart w v less more also fits (sym same ∙ is) in
     none (subst₂ (λ (a : _) (ys : List ℕ). Behind a ys fault) r.0 r.1 further)
@@ -80,11 +84,13 @@ next_apart before a b us vs h k e = frame_numbers_apart a b us vs h.in_range k.i
 abbrev OneBehind : (List ℕ → Format → Type 0) → Type 0
 OneBehind Behind = (rest : List ℕ) (f g : Format) → Behind rest f → Behind rest g → f ≡ g
 
-frames_one : (replica index frames : ℕ) (before : Option ℕ) (Behind : List ℕ → Format → Type 0) → OneBehind Behind → OneBehind (AtFrames replica index frames before Behind)
+frames_one : (replica index frames : ℕ) (before : Option ℕ) (Behind : List ℕ → Format → Type 0) → OneBehind Behind
+    → OneBehind (AtFrames replica index frames before Behind)
 unfolding AtFrames
 frames_one replica index zero before Behind one rest f g x y = one rest f g x y
 frames_one replica index (suc frames) before Behind one rest f g x y =
-    unit_one 8 (Some (BadFrame replica index)) (IsNext before) frame_number (λ number. AtUnit 4096 None IsFrame frame_words (λ words. AtFrames replica (index + 1) frames (Some number) Behind))
+    unit_one 8 (Some (BadFrame replica index)) (IsNext before) frame_number
+    (λ number. AtUnit 4096 None IsFrame frame_words (λ words. AtFrames replica (index + 1) frames (Some number) Behind))
     (next_apart before) (λ n h. refl)
     (λ number rest f g h. unit_one 4096 None IsFrame frame_words (λ words. AtFrames replica (index + 1) frames (Some number) Behind)
     words_apart length-frame_words (λ words rest f g h. frames_one replica (index + 1) frames (Some number) Behind one rest f g) rest f g)
@@ -94,14 +100,16 @@ dumps_one : (replica dumps : ℕ) → OneBehind (AtDumps replica dumps)
 unfolding AtDumps
 dumps_one replica zero rest f g x y = x.1 ∙ sym y.1
 dumps_one replica (suc dumps) rest f g x y =
-    unit_one 16 (Some BadCount) IsDumpHead dump_head (λ head. AtFrames replica 0 head.frames None (AtDumps (replica + 1) dumps)) heads_apart (λ head h. length-head head)
+    unit_one 16 (Some BadCount) IsDumpHead dump_head (λ head. AtFrames replica 0 head.frames None (AtDumps (replica + 1) dumps)) heads_apart
+    (λ head h. length-head head)
     (λ head rest f g h. frames_one replica 0 head.frames None (AtDumps (replica + 1) dumps) (dumps_one (replica + 1) dumps) rest f g) rest f g x y
 
 events_one : (version : Version) (layout : Layout) (index events : ℕ) → IsLayout layout → OneBehind (AtEvents version layout index events)
 unfolding AtEvents
 events_one version layout index zero l rest f g x y = dumps_one 0 layout.replicas rest f g x y
 events_one version layout index (suc events) l rest f g x y =
-    unit_one 24 (Some (BadEvent index)) (IsEvent version layout) event (λ _. AtEvents version layout (index + 1) events) (events_apart version layout l) (λ e h. length-event e)
+    unit_one 24 (Some (BadEvent index)) (IsEvent version layout) event (λ _. AtEvents version layout (index + 1) events) (events_apart version layout l)
+    (λ e h. length-event e)
     (λ e rest f g h. events_one version layout (index + 1) events l rest f g) rest f g x y
 
 log_one : (version : Version) (layout : Layout) (places events : ℕ) → IsLayout layout → OneBehind (AtLog version layout places events)
@@ -132,10 +140,12 @@ version_one version rest f g =
     (λ numbers rest f g h. log_one version numbers.layout numbers.places numbers.events h.layout rest f g) rest f g
 
 magic_one : OneBehind BehindMagic
-magic_one rest f g = unit_one 2 (Some BadVersion) (λ version. ⊤) version_word BehindVersion versions_apart (λ _ _. refl) (λ version rest f g h. version_one version rest f g) rest f g
+magic_one rest f g = unit_one 2 (Some BadVersion) (λ version. ⊤) version_word BehindVersion versions_apart (λ _ _. refl)
+    (λ version rest f g h. version_one version rest f g) rest f g
 
 pub one_fault : (bytes : List ℕ) (f g : Format) → HasFormatFault bytes f → HasFormatFault bytes g → f ≡ g
-one_fault bytes f g = unit_one {A = Unit {0}} 4 (Some BadMagic) (λ _. ⊤) (λ _. magic) (λ _. BehindMagic) magic_apart (λ _ _. refl) (λ _ rest f g h. magic_one rest f g) bytes f g
+one_fault bytes f g = unit_one {A =
+    Unit {0}} 4 (Some BadMagic) (λ _. ⊤) (λ _. magic) (λ _. BehindMagic) magic_apart (λ _ _. refl) (λ _ rest f g h. magic_one rest f g) bytes f g
 
 -- ---- no fault of a spelling
 
@@ -175,7 +185,8 @@ frames_none : (replica index : ℕ) (frames : List Frame) (before : Option ℕ) 
 unfolding AtFrames
 frames_none replica index [] before Behind more fault fit rise none rest is x = none (subst (λ (ys : List ℕ). Behind ys fault) is x)
 frames_none replica index (f ∷ fs) before Behind more fault fit rise none rest is x =
-    unit_none 8 (Some (BadFrame replica index)) (IsNext before) frame_number (λ number. AtUnit 4096 None IsFrame frame_words (λ words. AtFrames replica (index + 1) (length fs) (Some number) Behind))
+    unit_none 8 (Some (BadFrame replica index)) (IsNext before) frame_number
+    (λ number. AtUnit 4096 None IsFrame frame_words (λ words. AtFrames replica (index + 1) (length fs) (Some number) Behind))
     (next_apart before) f.0 (frame_words f.1 ++ (flat_map frame fs ++ more)) fault refl (record { rises = rise.0; in_range = fit.0.0 })
     (unit_none 4096 None IsFrame frame_words (λ words. AtFrames replica (index + 1) (length fs) (Some f.0) Behind)
     words_apart f.1 (flat_map frame fs ++ more) fault (length-frame_words f.1 fit.0.1) fit.0.1
@@ -194,26 +205,35 @@ dumps_none replica (image ∷ images) fault fit rest is x =
     (image_frames_fit image fit.0) (rising_from_none (finite.entries image.frames) (finite.entries_sorted image.frames))
     (dumps_none (replica + 1) images fault fit.1 (flat_map dump images) refl)
     (frames_of image ++ flat_map dump images) refl
-    (subst (λ (n : ℕ). AtFrames replica 0 n None (AtDumps (replica + 1) (length images)) (frames_of image ++ flat_map dump images) fault) (finite.len-entries image.frames) y))
+    (subst (λ (n : ℕ). AtFrames replica 0 n None (AtDumps (replica + 1) (length images)) (frames_of image ++ flat_map dump images) fault)
+    (finite.len-entries image.frames) y))
     rest (is ∙ append_assoc (dump_head (head_of image)) (frames_of image) (flat_map dump images)) x
 
-events_none : (version : Version) (layout : Layout) (index : ℕ) (es : List Event) (images : List Image) (fault : Format) → IsLayout layout → AllByRecursion (IsEvent version layout) es → AllByRecursion IsImage images → length images ≡ layout.replicas
+events_none : (version : Version) (layout : Layout) (index : ℕ) (es : List Event) (images : List Image) (fault : Format) → IsLayout layout
+    → AllByRecursion (IsEvent version layout) es → AllByRecursion IsImage images → length images ≡ layout.replicas
     → (rest : List ℕ) → rest ≡ flat_map event es ++ flat_map dump images → AtEvents version layout index (length es) rest fault → ⊥
 unfolding AtEvents
 events_none version layout index [] images fault l fit images_fit each rest is x =
     dumps_none 0 images fault images_fit rest is (subst (λ (n : ℕ). AtDumps 0 n rest fault) (sym each) x)
 events_none version layout index (e ∷ es) images fault l fit images_fit each rest is x =
-    unit_none 24 (Some (BadEvent index)) (IsEvent version layout) event (λ _. AtEvents version layout (index + 1) (length es)) (events_apart version layout l) e (flat_map event es ++ flat_map dump images) fault (length-event e) fit.0
+    unit_none 24 (Some (BadEvent index)) (IsEvent version layout) event (λ _. AtEvents version layout (index + 1) (length es))
+    (events_apart version layout l) e (flat_map event es ++ flat_map dump images) fault (length-event e) fit.0
     (events_none version layout (index + 1) es images fault l fit.1 images_fit each (flat_map event es ++ flat_map dump images) refl)
     rest (is ∙ append_assoc (event e) (flat_map event es) (flat_map dump images)) x
 
-log_none : (version : Version) (layout : Layout) (calls : List ℕ) (es : List Event) (images : List Image) (fault : Format) → IsLayout layout → AllByRecursion (λ call. call < 2 ^ 32) calls → AllByRecursion (IsEvent version layout) es → AllByRecursion IsImage images → length images ≡ layout.replicas
-    → (rest : List ℕ) → rest ≡ flat_map log_word calls ++ (flat_map event es ++ flat_map dump images) → AtLog version layout (length calls) (length es) rest fault → ⊥
+log_none : (version : Version) (layout : Layout) (calls : List ℕ) (es : List Event) (images : List Image) (fault : Format) → IsLayout layout
+    → AllByRecursion (λ call. call < 2 ^ 32) calls → AllByRecursion (IsEvent version layout) es → AllByRecursion IsImage images
+    → length images ≡ layout.replicas
+    → (rest : List ℕ) → rest ≡ flat_map log_word calls ++ (flat_map event es ++ flat_map dump images)
+    → AtLog version layout (length calls) (length es) rest fault → ⊥
 unfolding AtLog
-log_none version layout [] es images fault l fit events_fit images_fit each rest is x = events_none version layout 0 es images fault l events_fit images_fit each rest is x
+log_none version layout [] es images fault l fit events_fit images_fit each rest is x =
+    events_none version layout 0 es images fault l events_fit images_fit each rest is x
 log_none version layout (call ∷ calls) es images fault l fit events_fit images_fit each rest is x =
-    unit_none 4 None (λ call. call < 2 ^ 32) log_word (λ _. AtLog version layout (length calls) (length es)) log_words_apart call (flat_map log_word calls ++ (flat_map event es ++ flat_map dump images)) fault refl fit.0
-    (log_none version layout calls es images fault l fit.1 events_fit images_fit each (flat_map log_word calls ++ (flat_map event es ++ flat_map dump images)) refl)
+    unit_none 4 None (λ call. call < 2 ^ 32) log_word (λ _. AtLog version layout (length calls) (length es)) log_words_apart call
+    (flat_map log_word calls ++ (flat_map event es ++ flat_map dump images)) fault refl fit.0
+    (log_none version layout calls es images fault l fit.1 events_fit images_fit each
+    (flat_map log_word calls ++ (flat_map event es ++ flat_map dump images)) refl)
     rest (is ∙ append_assoc (log_word call) (flat_map log_word calls) (flat_map event es ++ flat_map dump images)) x
 
 numbered_none : (trace : Recording) (fault : Format) → IsRecording trace → BehindVersion trace.version (numbered trace) fault → ⊥

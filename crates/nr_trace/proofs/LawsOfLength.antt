@@ -12,7 +12,8 @@ use Rattle.nr_trace.proofs.LawsOfUnits.{length-counts, length-head, length-event
 use Rattle.nr_trace.proofs.LawsOfSpelling.{Frame, FrameFits, frame, image_frames_fit, frames_of, logs, events, dumps, spelling_behind_version}
 
 -- units of at most so many bytes each
-length_at_most : {A : Type 0} (Fits : A → Type 0) (spelled : A → List ℕ) (n : ℕ) → ((a : A) → Fits a → length (spelled a) ≤ n) → (xs : List A) → AllByRecursion Fits xs → length (flat_map spelled xs) ≤ n * length xs
+length_at_most : {A : Type 0} (Fits : A → Type 0) (spelled : A → List ℕ) (n : ℕ) → ((a : A) → Fits a → length (spelled a) ≤ n) → (xs : List A)
+    → AllByRecursion Fits xs → length (flat_map spelled xs) ≤ n * length xs
 length_at_most Fits spelled n each [] h = omega arith
 length_at_most Fits spelled n each (x ∷ xs) h =
     let first = each x h.0 in

@@ -1,5 +1,7 @@
 -- Lists of numbers: what stands in one, that it is distinct, and what stands before a member.
-use Rattle.std.proofs.Common.{◌≡◌, ℕ, zero, suc, ◌<◌, ◌⊎◌, inl, inr, Bool, true, false, cond, nat_eq, List, [], ◌∷◌, ◌++◌, length, take, slice_get, slice_index_or, filter, Contains, Option, Some, None, option_to_list, option_and_then, refl, ap, sym, ◌∙◌, subst, arith, one-add, eq-eqb, ne_eqb}
+use Rattle.std.proofs.Common.{◌≡◌, ℕ, zero, suc, ◌<◌, ◌⊎◌, inl, inr, Bool, true, false, cond, nat_eq, List, [], ◌∷◌, ◌++◌, length, take, slice_get}
+use Rattle.std.proofs.Common.{slice_index_or, filter, Contains, Option, Some, None, option_to_list, option_and_then, refl, ap, sym, ◌∙◌, subst, arith, one-add}
+use Rattle.std.proofs.Common.{eq-eqb, ne_eqb}
 use Rattle.std.specs.Prelude.{flat_map, filter_map}
 use Rattle.std.specs.List.{AllByRecursion, IsDistinct, cons_option}
 use Rattle.std.proofs.lemmas.Bool.{eqb-false, cases_eq}
@@ -148,11 +150,13 @@ below_distinct (suc n) = distinct_append (below n) (n ∷ []) (below_distinct n)
 pub flat_map_next : {Y : Type 0} (f : ℕ → List Y) (n : ℕ) → flat_map f (below (suc n)) ≡ flat_map f (below n) ++ f n
 flat_map_next f n = flat_map-append f (below n) (n ∷ []) ∙ ap (λ ys. flat_map f (below n) ++ ys) (append-nil (f n))
 
-pub flat_map_distinct : (f : ℕ → List ℕ) (n : ℕ) → ((k : ℕ) → k < n → IsDistinct nat_eq (f k)) → ((x j k : ℕ) → j < k → k < n → In x (f j) → In x (f k) → ⊥) → IsDistinct nat_eq (flat_map f (below n))
+pub flat_map_distinct : (f : ℕ → List ℕ) (n : ℕ) → ((k : ℕ) → k < n → IsDistinct nat_eq (f k)) → ((x j k : ℕ) → j < k → k < n → In x (f j) → In x (f k) → ⊥)
+    → IsDistinct nat_eq (flat_map f (below n))
 flat_map_distinct f zero each apart = none_distinct
 flat_map_distinct f (suc n) each apart =
     rw (flat_map_next f n)
-    (distinct_append (flat_map f (below n)) (f n) (flat_map_distinct f n (λ k l. each k (omega arith)) (λ x j k l m. apart x j k l (omega arith))) (each n (omega arith)) between) where
+    (distinct_append (flat_map f (below n)) (f n) (flat_map_distinct f n (λ k l. each k (omega arith)) (λ x j k l m. apart x j k l (omega arith)))
+    (each n (omega arith)) between) where
       between : (x : ℕ) → In x (flat_map f (below n)) → In x (f n) → ⊥
       between x i h = let (j, k, l) = in_flat_map f x (below n) i in apart x j n (in_below j n k) (omega arith) l h
 
@@ -196,7 +200,8 @@ earlier_member i j (x ∷ xs) a b l = by_cases (λ c d m. earlier_member i j xs 
   further k n (inl h) = absurd (n h)
   further k n (inr h) = h
 
-  by_cases : (In i xs → In j xs → length (before i xs) < length (before j xs) → In i (before j xs)) → (x ≡ i) ⊎ (x ≡ i → ⊥) → (x ≡ j) ⊎ (x ≡ j → ⊥) → In i (before j (x ∷ xs))
+  by_cases : (In i xs → In j xs → length (before i xs) < length (before j xs) → In i (before j xs)) → (x ≡ i) ⊎ (x ≡ i → ⊥) → (x ≡ j) ⊎ (x ≡ j → ⊥)
+      → In i (before j (x ∷ xs))
   by_cases more h (inl k) =
       let none = ap length (before_here j x xs k) in
       absurd (omega arith)
@@ -213,7 +218,8 @@ member_before i j (x ∷ xs) a = by_cases (λ c. member_before i j xs c) (cases_
   further n (inl h) = absurd (n h)
   further n (inr h) = h
 
-  by_cases : (In i (before j xs) → length (before i xs) < length (before j xs)) → (x ≡ i) ⊎ (x ≡ i → ⊥) → (x ≡ j) ⊎ (x ≡ j → ⊥) → length (before i (x ∷ xs)) < length (before j (x ∷ xs))
+  by_cases : (In i (before j xs) → length (before i xs) < length (before j xs)) → (x ≡ i) ⊎ (x ≡ i → ⊥) → (x ≡ j) ⊎ (x ≡ j → ⊥)
+      → length (before i (x ∷ xs)) < length (before j (x ∷ xs))
   by_cases more h (inl k) = absurd (subst (In i) (before_here j x xs k) a)
   by_cases more (inl h) (inr n) =
       let f = ap length (before_here i x xs h) in
@@ -240,10 +246,12 @@ option_parts x None h = absurd h
 option_parts x (Some y) (inl e) = ap Some e
 option_parts x (Some y) (inr h) = absurd h
 
-pub first_given : {X Y : Type 0} (h : X → Option Y) (xs : List X) (y : Y) → slice_get (filter_map h xs) 0 ≡ Some y → (i : ℕ) × (x : X) × (slice_get xs i ≡ Some x) × (h x ≡ Some y)
+pub first_given : {X Y : Type 0} (h : X → Option Y) (xs : List X) (y : Y) → slice_get (filter_map h xs) 0 ≡ Some y
+    → (i : ℕ) × (x : X) × (slice_get xs i ≡ Some x) × (h x ≡ Some y)
 first_given h [] y e = absurd (none-some y e)
 first_given {X} {Y} h (x ∷ xs) y e = by_first (λ f. first_given h xs y f) (h x) refl e where
-  by_first : (slice_get (filter_map h xs) 0 ≡ Some y → (i : ℕ) × (z : X) × (slice_get xs i ≡ Some z) × (h z ≡ Some y)) → (o : Option Y) → h x ≡ o → slice_get (cons_option o (filter_map h xs)) 0 ≡ Some y → (i : ℕ) × (z : X) × (slice_get (x ∷ xs) i ≡ Some z) × (h z ≡ Some y)
+  by_first : (slice_get (filter_map h xs) 0 ≡ Some y → (i : ℕ) × (z : X) × (slice_get xs i ≡ Some z) × (h z ≡ Some y)) → (o : Option Y) → h x ≡ o
+      → slice_get (cons_option o (filter_map h xs)) 0 ≡ Some y → (i : ℕ) × (z : X) × (slice_get (x ∷ xs) i ≡ Some z) × (h z ≡ Some y)
   by_first more None k f = let (i, z, a, b) = more f in (suc i, z, a, b)
   by_first more (Some w) k f = (0, x, refl, k ∙ f)
 

@@ -1,5 +1,6 @@
 -- The recorded order, where no fault holds of the events, the log or a reply's place.
-use Rattle.std.proofs.Common.{◌≡◌, ◌≢◌, ℕ, zero, suc, ◌+◌, ◌<◌, ◌≤◌, ◌⊎◌, inl, inr, Bool, true, false, ◌&&◌, ◌==◌, nat_eq, List, [], ◌∷◌, ◌++◌, length, take, filter, slice_get, Contains, Option, Some, None, is_some, option_to_list, refl, ap, ap₂, sym, ◌∙◌, arith, eq-eqb, eqb-true}
+use Rattle.std.proofs.Common.{◌≡◌, ◌≢◌, ℕ, zero, suc, ◌+◌, ◌<◌, ◌≤◌, ◌⊎◌, inl, inr, Bool, true, false, ◌&&◌, ◌==◌, nat_eq, List, [], ◌∷◌, ◌++◌, length, take}
+use Rattle.std.proofs.Common.{filter, slice_get, Contains, Option, Some, None, is_some, option_to_list, refl, ap, ap₂, sym, ◌∙◌, arith, eq-eqb, eqb-true}
 use Rattle.std.specs.Prelude.{flat_map}
 use Rattle.std.specs.Option.{option_map_or}
 use Rattle.std.specs.List.{IsDistinct}
@@ -19,19 +20,24 @@ use Rattle.nr_trace.specs.Faults.{Holds, StandsAfter}
 use Rattle.nr_trace.specs.Laws.{HasCleanLog, IsSerialOrder}
 use Rattle.nr_trace.specs.declared.fault.Fault.TheVariants.{WrongAnswer}
 use Rattle.nr_trace.proofs.LawsOfUnits.{answer_apart}
-use Rattle.nr_trace.proofs.LawsOfLists.{In, Contains-from_in, in_from_Contains, in_left, in_right, in_either, in_filter, in_filtered, in_flat_map, in_flat_mapped, in_below, below_in, below_split, distinct_append, distinct_filter, option_distinct, below_distinct, flat_map_distinct, flat_map_next, before_split, option_parts, take-next}
-use Rattle.nr_trace.proofs.LawsOfCalls.{the_some, is_some_from, not_both, update_is_call, read_is_call, call_within, no_operation, answered_stands, placed_is_update, stands_once}
+use Rattle.nr_trace.proofs.LawsOfLists.{In, Contains-from_in, in_from_Contains, in_left, in_right, in_either, in_filter, in_filtered, in_flat_map}
+use Rattle.nr_trace.proofs.LawsOfLists.{in_flat_mapped, in_below, below_in, below_split, distinct_append, distinct_filter, option_distinct, below_distinct}
+use Rattle.nr_trace.proofs.LawsOfLists.{flat_map_distinct, flat_map_next, before_split, option_parts, take-next}
+use Rattle.nr_trace.proofs.LawsOfCalls.{the_some, is_some_from, not_both, update_is_call, read_is_call, call_within, no_operation, answered_stands}
+use Rattle.nr_trace.proofs.LawsOfCalls.{placed_is_update, stands_once}
 
 -- ---- the reads and the update of a place
 
 abbrev pub saw : Recording → ℕ → ℕ → Bool
 saw trace n call = is_some (address_of trace call) && option_map_or (λ reply. reply.at == n) (reply_to trace call) false
 
-at_from_test : (o : Option Response) (n : ℕ) → option_map_or (λ (reply : Response). reply.at == n) o false ≡ true → (reply : Response) × (o ≡ Some reply) × (reply.at ≡ n)
+at_from_test : (o : Option Response) (n : ℕ) → option_map_or (λ (reply : Response). reply.at == n) o false ≡ true
+    → (reply : Response) × (o ≡ Some reply) × (reply.at ≡ n)
 at_from_test None n h = absurd (false≢true h)
 at_from_test (Some reply) n h = (reply, refl, eqb-true reply.at n h)
 
-test_from_at : (o : Option Response) (n : ℕ) (reply : Response) → o ≡ Some reply → reply.at ≡ n → option_map_or (λ (reply : Response). reply.at == n) o false ≡ true
+test_from_at : (o : Option Response) (n : ℕ) (reply : Response) → o ≡ Some reply → reply.at ≡ n
+    → option_map_or (λ (reply : Response). reply.at == n) o false ≡ true
 test_from_at o n reply e f = rw e (eq-eqb reply.at n f)
 
 abbrev ReadBehind : Recording → ℕ → ℕ → Type 0
@@ -50,7 +56,8 @@ pub in_reads_at : (trace : Recording) (n call : ℕ) → In call (reads_at trace
 in_reads_at trace n call i = read_from_saw trace n call (in_filter (saw trace n) call (below (length trace.events)) i).1
 
 pub reads_at_in : (trace : Recording) (n call : ℕ) → ReadBehind trace call n → In call (reads_at trace n)
-reads_at_in trace n call h = in_filtered (saw trace n) call (below (length trace.events)) (below_in call (length trace.events) (call_within trace call (read_is_call trace call h.0))) (saw_from_read trace n call h)
+reads_at_in trace n call h = in_filtered (saw trace n) call (below (length trace.events))
+    (below_in call (length trace.events) (call_within trace call (read_is_call trace call h.0))) (saw_from_read trace n call h)
 
 abbrev pub block : Recording → ℕ → List ℕ
 block trace n = reads_at trace n ++ option_to_list (slice_get trace.log n)
@@ -82,7 +89,8 @@ pub blocks_in : (trace : Recording) (m n call : ℕ) → m < n → StandsAfter t
 blocks_in trace m n call l h = in_flat_mapped (block trace) call m (below n) (below_in m n l) (block_in trace m call h)
 
 -- a member of the order stands after some entries
-pub member_stands : (trace : Recording) (call : ℕ) → HasCleanLog trace → In call (recorded_order trace) → (n : ℕ) × (n ≤ length trace.log) × StandsAfter trace call n
+pub member_stands : (trace : Recording) (call : ℕ) → HasCleanLog trace → In call (recorded_order trace)
+    → (n : ℕ) × (n ≤ length trace.log) × StandsAfter trace call n
 member_stands trace call clean i =
     let (n, l, h) = in_blocks trace (length trace.log + 1) call clean i in
     (n, omega arith, h)
@@ -101,7 +109,8 @@ stands_answered trace call n (inr (r, reply, e, f)) = inl (is_some_from (reply_t
 
 block_distinct : (trace : Recording) (n : ℕ) → HasCleanLog trace → IsDistinct nat_eq (block trace n)
 block_distinct trace n clean =
-    distinct_append (reads_at trace n) (option_to_list (slice_get trace.log n)) (distinct_filter (saw trace n) (below (length trace.events)) (below_distinct (length trace.events))) (option_distinct (slice_get trace.log n))
+    distinct_append (reads_at trace n) (option_to_list (slice_get trace.log n))
+    (distinct_filter (saw trace n) (below (length trace.events)) (below_distinct (length trace.events))) (option_distinct (slice_get trace.log n))
     (λ call i j. not_both trace call (placed_is_update trace n call clean (option_parts call (slice_get trace.log n) j)) (in_reads_at trace n call i).0)
 
 pub order_distinct : (trace : Recording) → HasCleanLog trace → IsDistinct nat_eq (recorded_order trace)
@@ -127,11 +136,14 @@ not_in_blocks trace n call clean h i =
 intersection : (xs ys zs : List ℕ) (call : ℕ) → xs ++ ((ys ++ call ∷ []) ++ zs) ≡ (xs ++ ys) ++ call ∷ zs
 intersection xs ys zs call = ap (λ ws. xs ++ ws) (append_assoc ys (call ∷ []) zs) ∙ sym (append_assoc xs ys (call ∷ zs))
 
-pub before_update : (trace : Recording) (n call : ℕ) → HasCleanLog trace → IsUpdate trace call → slice_get trace.log n ≡ Some call → before call (recorded_order trace) ≡ blocks trace n ++ reads_at trace n
+pub before_update : (trace : Recording) (n call : ℕ) → HasCleanLog trace → IsUpdate trace call → slice_get trace.log n ≡ Some call
+    → before call (recorded_order trace) ≡ blocks trace n ++ reads_at trace n
 before_update trace n call clean u e =
     let (rest, is) = order_split trace n (within (slice_get_within trace.log n call e)) in
-    let split : recorded_order trace ≡ (blocks trace n ++ reads_at trace n) ++ call ∷ rest = is ∙ ap (λ o. blocks trace n ++ ((reads_at trace n ++ option_to_list o) ++ rest)) e ∙ intersection (blocks trace n) (reads_at trace n) rest call in
-    ap (before call) split ∙ before_split call (blocks trace n ++ reads_at trace n) rest (λ i. nowhere (in_either call (blocks trace n) (reads_at trace n) i)) where
+    let split : recorded_order trace ≡ (blocks trace n ++ reads_at trace n) ++ call ∷ rest =
+    is ∙ ap (λ o. blocks trace n ++ ((reads_at trace n ++ option_to_list o) ++ rest)) e ∙ intersection (blocks trace n) (reads_at trace n) rest call in
+    ap (before call) split ∙ before_split call (blocks trace n ++ reads_at trace n) rest
+    (λ i. nowhere (in_either call (blocks trace n) (reads_at trace n) i)) where
       within : n < length trace.log → n ≤ length trace.log
       within l = omega arith
 
@@ -147,21 +159,28 @@ reads_split : (trace : Recording) (n call : ℕ) → ReadBehind trace call n →
 reads_split trace n call h =
     let (later, is) = below_split call (length trace.events) (call_within trace call (read_is_call trace call h.0)) in
     let test = saw_from_read trace n call h in
-    let kept : filter (saw trace n) (call ∷ later) ≡ call ∷ filter (saw trace n) later = rw test refl in
-    (filter (saw trace n) later, ap (filter (saw trace n)) is ∙ filter-append (saw trace n) (below call) (call ∷ later) ∙ ap (λ ys. earlier_reads trace n call ++ ys) kept)
+    let kept : filter (saw trace n) (call ∷ later) ≡ call ∷ filter (saw trace n) later = rw test refl in (
+      filter (saw trace n) later,
+      ap (filter (saw trace n)) is ∙ filter-append (saw trace n) (below call) (call ∷ later)
+          ∙ ap (λ ys. earlier_reads trace n call ++ ys) kept,
+    )
 
 intersection_inside : (xs ys zs ws us : List ℕ) (call : ℕ) → xs ++ (((ys ++ call ∷ zs) ++ ws) ++ us) ≡ (xs ++ ys) ++ call ∷ ((zs ++ ws) ++ us)
 intersection_inside xs ys zs ws us call =
-    ap (λ vs. xs ++ (vs ++ us)) (append_assoc ys (call ∷ zs) ws) ∙ ap (λ vs. xs ++ vs) (append_assoc ys (call ∷ (zs ++ ws)) us) ∙ sym (append_assoc xs ys (call ∷ ((zs ++ ws) ++ us)))
+    ap (λ vs. xs ++ (vs ++ us)) (append_assoc ys (call ∷ zs) ws) ∙ ap (λ vs. xs ++ vs) (append_assoc ys (call ∷ (zs ++ ws)) us)
+    ∙ sym (append_assoc xs ys (call ∷ ((zs ++ ws) ++ us)))
 
-pub before_read : (trace : Recording) (n call : ℕ) → HasCleanLog trace → n ≤ length trace.log → ReadBehind trace call n → before call (recorded_order trace) ≡ blocks trace n ++ earlier_reads trace n call
+pub before_read : (trace : Recording) (n call : ℕ) → HasCleanLog trace → n ≤ length trace.log → ReadBehind trace call n
+    → before call (recorded_order trace) ≡ blocks trace n ++ earlier_reads trace n call
 before_read trace n call clean l h =
     let (rest, is) = order_split trace n l in
     let (later, reads) = reads_split trace n call h in
     let option = option_to_list (slice_get trace.log n) in
     let split : recorded_order trace ≡ (blocks trace n ++ earlier_reads trace n call) ++ call ∷ ((later ++ option) ++ rest) =
-    is ∙ ap (λ ys. blocks trace n ++ ((ys ++ option) ++ rest)) reads ∙ intersection_inside (blocks trace n) (earlier_reads trace n call) later option rest call in
-    ap (before call) split ∙ before_split call (blocks trace n ++ earlier_reads trace n call) ((later ++ option) ++ rest) (λ i. nowhere (in_either call (blocks trace n) (earlier_reads trace n call) i)) where
+    is ∙ ap (λ ys. blocks trace n ++ ((ys ++ option) ++ rest)) reads
+    ∙ intersection_inside (blocks trace n) (earlier_reads trace n call) later option rest call in
+    ap (before call) split ∙ before_split call (blocks trace n ++ earlier_reads trace n call) ((later ++ option) ++ rest)
+    (λ i. nowhere (in_either call (blocks trace n) (earlier_reads trace n call) i)) where
       not_below : In call (below call) → ⊥
       not_below i = let l = in_below call call i in omega arith
 
@@ -184,25 +203,29 @@ operations_of_blocks trace (suc n) =
     ∙ filter_map-append (operation_of trace) (blocks trace n) (block trace n)
     ∙ ap₂ ◌++◌ (operations_of_blocks trace n)
     (filter_map-append (operation_of trace) (reads_at trace n) (option_to_list (slice_get trace.log n))
-    ∙ ap (λ ys. ys ++ operations trace (option_to_list (slice_get trace.log n))) (no_operations trace (reads_at trace n) (λ call i. (in_reads_at trace n call i).0)))
+    ∙ ap (λ ys. ys ++ operations trace (option_to_list (slice_get trace.log n)))
+    (no_operations trace (reads_at trace n) (λ call i. (in_reads_at trace n call i).0)))
     ∙ sym (filter_map-append (operation_of trace) (take n trace.log) (option_to_list (slice_get trace.log n)))
     ∙ sym (ap (operations trace) (take-next n trace.log))
 
-with_reads : (trace : Recording) (n : ℕ) (reads : List ℕ) → ((call : ℕ) → In call reads → IsRead trace call) → operations trace (blocks trace n ++ reads) ≡ operations trace (take n trace.log)
+with_reads : (trace : Recording) (n : ℕ) (reads : List ℕ) → ((call : ℕ) → In call reads → IsRead trace call)
+    → operations trace (blocks trace n ++ reads) ≡ operations trace (take n trace.log)
 with_reads trace n reads h =
     filter_map-append (operation_of trace) (blocks trace n) reads
     ∙ ap₂ ◌++◌ (operations_of_blocks trace n) (no_operations trace reads h)
     ∙ append-nil (operations trace (take n trace.log))
 
 -- before a call that stands after n entries come the operations of the first n places
-pub operations_before : (trace : Recording) (n call : ℕ) → HasCleanLog trace → n ≤ length trace.log → StandsAfter trace call n → operations trace (before call (recorded_order trace)) ≡ operations trace (take n trace.log)
+pub operations_before : (trace : Recording) (n call : ℕ) → HasCleanLog trace → n ≤ length trace.log → StandsAfter trace call n
+    → operations trace (before call (recorded_order trace)) ≡ operations trace (take n trace.log)
 operations_before trace n call clean l (inl (u, e)) =
     ap (operations trace) (before_update trace n call clean u e) ∙ with_reads trace n (reads_at trace n) (λ c i. (in_reads_at trace n c i).0)
 operations_before trace n call clean l (inr h) =
     ap (operations trace) (before_read trace n call clean l h)
     ∙ with_reads trace n (earlier_reads trace n call) (λ c i. (read_from_saw trace n c (in_filter (saw trace n) c (below call) i).1).0)
 
-pub space_before : (trace : Recording) (n call : ℕ) → HasCleanLog trace → n ≤ length trace.log → StandsAfter trace call n → space_after trace (before call (recorded_order trace)) ≡ space_after trace (take n trace.log)
+pub space_before : (trace : Recording) (n call : ℕ) → HasCleanLog trace → n ≤ length trace.log → StandsAfter trace call n
+    → space_after trace (before call (recorded_order trace)) ≡ space_after trace (take n trace.log)
 space_before trace n call clean l h = ap (after_all trace.layout.depth trace.layout.tables no_pages) (operations_before trace n call clean l h)
 
 no_updates : (trace : Recording) (calls : List ℕ) → ((call : ℕ) → In call calls → IsRead trace call) → updates trace calls ≡ []
@@ -224,7 +247,8 @@ updates_of_blocks trace (suc n) clean =
     ∙ filter-append (λ call. is_some (operation_of trace call)) (blocks trace n) (block trace n)
     ∙ ap₂ ◌++◌ (updates_of_blocks trace n clean)
     (filter-append (λ call. is_some (operation_of trace call)) (reads_at trace n) (option_to_list (slice_get trace.log n))
-    ∙ ap₂ ◌++◌ (no_updates trace (reads_at trace n) (λ call i. (in_reads_at trace n call i).0)) (one_update trace (slice_get trace.log n) (λ call e. placed_is_update trace n call clean e)))
+    ∙ ap₂ ◌++◌ (no_updates trace (reads_at trace n) (λ call i. (in_reads_at trace n call i).0))
+    (one_update trace (slice_get trace.log n) (λ call e. placed_is_update trace n call clean e)))
     ∙ sym (take-next n trace.log)
 
 -- the updates of the order are the log
@@ -235,7 +259,8 @@ updates_of_order trace clean = updates_of_blocks trace (length trace.log + 1) cl
 
 pub same_or_not : (a b : Answer) → (a ≡ b) ⊎ (a ≢ b)
 same_or_not a b =
-    by_parts (cases_eq (answer_fields a).code (answer_fields b).code) (cases_eq (answer_fields a).size (answer_fields b).size) (cases_eq (answer_fields a).rights (answer_fields b).rights) (cases_eq (answer_fields a).value (answer_fields b).value) where
+    by_parts (cases_eq (answer_fields a).code (answer_fields b).code) (cases_eq (answer_fields a).size (answer_fields b).size)
+    (cases_eq (answer_fields a).rights (answer_fields b).rights) (cases_eq (answer_fields a).value (answer_fields b).value) where
       by_parts : ((answer_fields a).code ≡ (answer_fields b).code) ⊎ ((answer_fields a).code ≡ (answer_fields b).code → ⊥)
           → ((answer_fields a).size ≡ (answer_fields b).size) ⊎ ((answer_fields a).size ≡ (answer_fields b).size → ⊥)
           → ((answer_fields a).rights ≡ (answer_fields b).rights) ⊎ ((answer_fields a).rights ≡ (answer_fields b).rights → ⊥)
@@ -247,15 +272,19 @@ same_or_not a b =
       by_parts (inl c) (inl s) (inr n) v = inr (λ e. n (ap (λ x. (answer_fields x).rights) e))
       by_parts (inl c) (inl s) (inl r) (inr n) = inr (λ e. n (ap (λ x. (answer_fields x).value) e))
 
-pub right_answer : (trace : Recording) → ((call : ℕ) → Holds trace (WrongAnswer call) → ⊥) → (call : ℕ) (made : Invocation) (reply : Response) → call_of trace call ≡ Some made → reply_to trace call ≡ Some reply
+pub right_answer : (trace : Recording) → ((call : ℕ) → Holds trace (WrongAnswer call) → ⊥) → (call : ℕ) (made : Invocation) (reply : Response)
+    → call_of trace call ≡ Some made → reply_to trace call ≡ Some reply
     → reply.answer ≡ answer_in trace.layout (space_after trace (before call (recorded_order trace))) made.request
-right_answer trace right call made reply e f = by_case (same_or_not reply.answer (answer_in trace.layout (space_after trace (before call (recorded_order trace))) made.request)) where
-  by_case : (reply.answer ≡ answer_in trace.layout (space_after trace (before call (recorded_order trace))) made.request) ⊎ (reply.answer ≢ answer_in trace.layout (space_after trace (before call (recorded_order trace))) made.request)
-      → reply.answer ≡ answer_in trace.layout (space_after trace (before call (recorded_order trace))) made.request
-  by_case (inl h) = h
-  by_case (inr n) = absurd (right call (record { made = made; is_made = e; reply = reply; is_reply = f; differs = n }))
+right_answer trace right call made reply e f =
+    by_case (same_or_not reply.answer (answer_in trace.layout (space_after trace (before call (recorded_order trace))) made.request)) where
+      by_case : (reply.answer ≡ answer_in trace.layout (space_after trace (before call (recorded_order trace))) made.request) ⊎
+          (reply.answer ≢ answer_in trace.layout (space_after trace (before call (recorded_order trace))) made.request)
+          → reply.answer ≡ answer_in trace.layout (space_after trace (before call (recorded_order trace))) made.request
+      by_case (inl h) = h
+      by_case (inr n) = absurd (right call (record { made = made; is_made = e; reply = reply; is_reply = f; differs = n }))
 
-pub legal_but_precedence : (trace : Recording) → HasCleanLog trace → ((call : ℕ) → Holds trace (WrongAnswer call) → ⊥) → IsSerialOrder trace (recorded_order trace)
+pub legal_but_precedence : (trace : Recording) → HasCleanLog trace → ((call : ℕ) → Holds trace (WrongAnswer call) → ⊥)
+    → IsSerialOrder trace (recorded_order trace)
 legal_but_precedence trace clean right = record {
   members = record {
     once = order_distinct trace clean;

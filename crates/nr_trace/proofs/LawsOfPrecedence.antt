@@ -1,5 +1,6 @@
 -- Where no call stands too early, the recorded order keeps precedence.
-use Rattle.std.proofs.Common.{◌≡◌, ℕ, zero, suc, ◌+◌, ◌<◌, ◌≤◌, ◌⊎◌, inl, inr, max, List, [], ◌∷◌, length, take, map, fold, slice_get, Contains, Option, Some, None, refl, ap, sym, ◌∙◌, subst, arith}
+use Rattle.std.proofs.Common.{◌≡◌, ℕ, zero, suc, ◌+◌, ◌<◌, ◌≤◌, ◌⊎◌, inl, inr, max, List, [], ◌∷◌, length, take, map, fold, slice_get, Contains, Option, Some}
+use Rattle.std.proofs.Common.{None, refl, ap, sym, ◌∙◌, subst, arith}
 use Rattle.std.specs.Prelude.{filter_map}
 use Rattle.std.specs.List.{cons_option}
 use Rattle.std.proofs.lemmas.Bool.{cases_order, cases_lt}
@@ -11,8 +12,10 @@ use Rattle.nr_trace.specs.Faults.{Holds, StandsAfter}
 use Rattle.nr_trace.specs.Laws.{HasCleanLog}
 use Rattle.nr_trace.specs.declared.fault.Fault.TheVariants.{Early, WrongAnswer}
 use Rattle.nr_trace.proofs.LawsOfLists.{In, Contains-from_in, in_from_Contains, in_left, in_right, in_filtered, below_in}
-use Rattle.nr_trace.proofs.LawsOfCalls.{update_or_read, reply_in_event, reply_that_answers, reply_is_first, reply_behind_call, answered_stands, no_operation, the_some}
-use Rattle.nr_trace.proofs.LawsOfOrder.{saw, saw_from_read, reads_at_in, blocks, blocks_in, earlier_reads, before_update, before_read, member_stands, legal_but_precedence}
+use Rattle.nr_trace.proofs.LawsOfCalls.{update_or_read, reply_in_event, reply_that_answers, reply_is_first, reply_behind_call, answered_stands, no_operation}
+use Rattle.nr_trace.proofs.LawsOfCalls.{the_some}
+use Rattle.nr_trace.proofs.LawsOfOrder.{saw, saw_from_read, reads_at_in, blocks, blocks_in, earlier_reads, before_update, before_read, member_stands}
+use Rattle.nr_trace.proofs.LawsOfOrder.{legal_but_precedence}
 
 -- ---- floors
 
@@ -47,11 +50,13 @@ max_reaches a n (x ∷ xs) (inl e) = let h = max_grows (max a x) xs in omega ari
 max_reaches a n (x ∷ xs) (inr i) = max_reaches (max a x) n xs i
 
 -- what is known by a reply before a call was made is no more than its floor
-pub known_below_floor : (trace : Recording) (index call : ℕ) (reply : Response) → index < call → reply_of trace index ≡ Some reply → known_by trace reply ≤ floor trace call
+pub known_below_floor : (trace : Recording) (index call : ℕ) (reply : Response) → index < call → reply_of trace index ≡ Some reply
+    → known_by trace reply ≤ floor trace call
 known_below_floor trace index call reply l e =
     let (event, at, is) = reply_in_event (slice_get trace.events index) reply e in
     max_reaches 0 (known_by trace reply) (map (known_by trace) (filter_map reply_in (take call trace.events)))
-    (in_map (known_by trace) (filter_map reply_in (take call trace.events)) reply (in_filter_map reply_in (take call trace.events) event reply (in_taken trace.events index call event l at) is))
+    (in_map (known_by trace) (filter_map reply_in (take call trace.events)) reply
+    (in_filter_map reply_in (take call trace.events) event reply (in_taken trace.events index call event l at) is))
 
 pub known_of_update : (trace : Recording) (reply : Response) → IsUpdate trace reply.call → known_by trace reply ≡ reply.at + 1
 known_of_update trace reply u =
@@ -65,23 +70,28 @@ known_of_read trace reply r =
 
 -- ---- precedence
 
-in_front_of : (trace : Recording) (m n first second : ℕ) → HasCleanLog trace → m < n → n ≤ length trace.log → StandsAfter trace first m → StandsAfter trace second n → In first (before second (recorded_order trace))
+in_front_of : (trace : Recording) (m n first second : ℕ) → HasCleanLog trace → m < n → n ≤ length trace.log → StandsAfter trace first m
+    → StandsAfter trace second n → In first (before second (recorded_order trace))
 in_front_of trace m n first second clean l k h (inl (u, e)) =
     rw (before_update trace n second clean u e) (in_left first (blocks trace n) (reads_at trace n) (blocks_in trace m n first l h))
 in_front_of trace m n first second clean l k h (inr r) =
     rw (before_read trace n second clean k r) (in_left first (blocks trace n) (earlier_reads trace n second) (blocks_in trace m n first l h))
 
-read_in_front : (trace : Recording) (n first second : ℕ) (reply : Response) → HasCleanLog trace → n ≤ length trace.log → first < second → IsRead trace first → reply_to trace first ≡ Some reply → reply.at ≡ n → StandsAfter trace second n
+read_in_front : (trace : Recording) (n first second : ℕ) (reply : Response) → HasCleanLog trace → n ≤ length trace.log → first < second → IsRead trace first
+    → reply_to trace first ≡ Some reply → reply.at ≡ n → StandsAfter trace second n
     → In first (before second (recorded_order trace))
 read_in_front trace n first second reply clean k l r f g (inl (u, e)) =
     rw (before_update trace n second clean u e) (in_right first (blocks trace n) (reads_at trace n) (reads_at_in trace n first (r, reply, f, g)))
 read_in_front trace n first second reply clean k l r f g (inr s) =
     rw (before_read trace n second clean k s)
-    (in_right first (blocks trace n) (earlier_reads trace n second) (in_filtered (saw trace n) first (below second) (below_in first second l) (saw_from_read trace n first (r, reply, f, g))))
+    (in_right first (blocks trace n) (earlier_reads trace n second)
+    (in_filtered (saw trace n) first (below second) (below_in first second l) (saw_from_read trace n first (r, reply, f, g))))
 
 -- a reply known before the second call was made, to a first call that stands after `reply.at` entries
-first_in_front : (trace : Recording) (first second n : ℕ) (reply : Response) → HasCleanLog trace → n ≤ length trace.log → StandsAfter trace second n → first < second
-    → reply_to trace first ≡ Some reply → reply.call ≡ first → known_by trace reply ≤ n → IsUpdate trace first ⊎ IsRead trace first → In first (before second (recorded_order trace))
+first_in_front : (trace : Recording) (first second n : ℕ) (reply : Response) → HasCleanLog trace → n ≤ length trace.log
+    → StandsAfter trace second n → first < second
+    → reply_to trace first ≡ Some reply → reply.call ≡ first → known_by trace reply ≤ n → IsUpdate trace first ⊎ IsRead trace first
+    → In first (before second (recorded_order trace))
 first_in_front trace first second n reply clean k h l f g known (inl u) =
     let is = known_of_update trace reply (subst (IsUpdate trace) (sym g) u) in
     in_front_of trace reply.at n first second clean (omega arith) k (answered_stands trace first reply clean f).0 h
@@ -100,7 +110,8 @@ floor_kept trace in_time call n h = by_order (cases_lt n (floor trace call)) whe
   by_order (inl l) = absurd (in_time call (n, h, l))
   by_order (inr l) = l
 
-pub keeps_precedence : (trace : Recording) → HasCleanLog trace → ((call : ℕ) → Holds trace (Early call) → ⊥) → (first second n : ℕ) → n ≤ length trace.log → StandsAfter trace second n → Precedes trace first second
+pub keeps_precedence : (trace : Recording) → HasCleanLog trace → ((call : ℕ) → Holds trace (Early call) → ⊥) → (first second n : ℕ) → n ≤ length trace.log
+    → StandsAfter trace second n → Precedes trace first second
     → In first (before second (recorded_order trace))
 keeps_precedence trace clean in_time first second n k h precedes =
     let (reply, e, g) = reply_that_answers trace precedes.1 first precedes.3 in
@@ -114,7 +125,8 @@ keeps_precedence trace clean in_time first second n k h precedes =
     let f : reply_to trace first ≡ Some reply = ap (reply_to trace) (sym g) ∙ reply_is_first trace precedes.1 reply clean e in
     first_in_front trace first second n reply clean k h l f g (omega arith) (update_or_read trace first made)
 
-pub legal : (trace : Recording) → HasCleanLog trace → ((call : ℕ) → Holds trace (Early call) → ⊥) → ((call : ℕ) → Holds trace (WrongAnswer call) → ⊥) → IsLegalOrder trace (recorded_order trace)
+pub legal : (trace : Recording) → HasCleanLog trace → ((call : ℕ) → Holds trace (Early call) → ⊥) → ((call : ℕ) → Holds trace (WrongAnswer call) → ⊥)
+    → IsLegalOrder trace (recorded_order trace)
 legal trace clean in_time right =
     let but = legal_but_precedence trace clean right in
     record {
@@ -122,5 +134,7 @@ legal trace clean in_time right =
       precedence = λ first second a b p. in_front first second (member_stands trace second clean (in_from_Contains second (recorded_order trace) b)) p;
       answers = but.answers;
     } where
-      in_front : (first second : ℕ) → (n : ℕ) × (n ≤ length trace.log) × StandsAfter trace second n → Precedes trace first second → Contains (before second (recorded_order trace)) first
-      in_front first second (n, l, h) p = Contains-from_in first (before second (recorded_order trace)) (keeps_precedence trace clean in_time first second n l h p)
+      in_front : (first second : ℕ) → (n : ℕ) × (n ≤ length trace.log) × StandsAfter trace second n → Precedes trace first second
+          → Contains (before second (recorded_order trace)) first
+      in_front first second (n, l, h) p =
+          Contains-from_in first (before second (recorded_order trace)) (keeps_precedence trace clean in_time first second n l h p)

@@ -14,7 +14,8 @@ use Rattle.nr_trace.specs.FirstFault.{IsCounts, IsDumpHead}
 use Rattle.nr_trace.specs.declared.fields.Counts.{Counts}
 use Rattle.nr_trace.specs.declared.fields.DumpHead.{DumpHead}
 use Rattle.nr_trace.specs.declared.version.Version.{Version}
-use Rattle.nr_trace.proofs.LawsOfUnits.{ToldApart, versions_apart, counts_apart, heads_apart, frame_numbers_apart, words_apart, lists_apart, log_words_apart, events_apart}
+use Rattle.nr_trace.proofs.LawsOfUnits.{ToldApart, versions_apart, counts_apart, heads_apart, frame_numbers_apart, words_apart, lists_apart, log_words_apart}
+use Rattle.nr_trace.proofs.LawsOfUnits.{events_apart}
 
 abbrev pub Frame : Type 0
 Frame = ℕ × List ℕ
@@ -38,7 +39,8 @@ both_parts P Q [] h k = tt
 both_parts P Q (f ∷ fs) h k = ((h.0, k.0), both_parts P Q fs h.1 k.1)
 
 pub image_frames_fit : (image : Image) → IsImage image → AllByRecursion FrameFits (finite.entries image.frames)
-image_frames_fit image h = both_parts (λ n. n < 2 ^ 40) IsFrame (finite.entries image.frames) (recursion_from_All _ _ h.numbers) (recursion_from_All _ _ h.words)
+image_frames_fit image h = both_parts (λ n. n < 2 ^ 40) IsFrame (finite.entries image.frames) (recursion_from_All _ _ h.numbers)
+    (recursion_from_All _ _ h.words)
 
 pub head_fits : (image : Image) → IsImage image → IsDumpHead (head_of image)
 head_fits image h = record { applied = h.applied; some_frame = h.some_frame; few_frames = h.few_frames; root = h.root }
@@ -51,7 +53,8 @@ images_apart a b us vs h k e =
     let f = sym (append_assoc (dump_head (head_of a)) (frames_of a) us) ∙ e ∙ append_assoc (dump_head (head_of b)) (frames_of b) vs in
     let heads = heads_apart (head_of a) (head_of b) (frames_of a ++ us) (frames_of b ++ vs) (head_fits a h) (head_fits b k) f in
     let lengths = sym (finite.len-entries a.frames) ∙ ap (λ (head : DumpHead). head.frames) heads.0 ∙ finite.len-entries b.frames in
-    let entries = lists_apart FrameFits frame frames_apart (finite.entries a.frames) (finite.entries b.frames) us vs (image_frames_fit a h) (image_frames_fit b k) lengths heads.1 in
+    let entries = lists_apart FrameFits frame frames_apart (finite.entries a.frames) (finite.entries b.frames) us vs (image_frames_fit a h)
+    (image_frames_fit b k) lengths heads.1 in
     let frames = finite.same_entries_map a.frames b.frames entries.0 in
     (λ i. record { applied = (heads.0 i).applied; root = (heads.0 i).root; frames = frames i }, entries.1)
 
@@ -88,12 +91,16 @@ recordings_apart s t h k e =
     let also = subst (λ (v : Version). IsCounts v (counts_of t)) (sym version) (counts_fit t k) in
     let numbers = counts_apart s.version (counts_of s) (counts_of t) _ _ (counts_fit s h) also g in
     let layout = ap (λ (c : Counts). c.layout) numbers.0 in
-    let log = lists_apart (λ call. call < 2 ^ 32) log_word log_words_apart s.log t.log _ _ (recursion_from_All _ _ h.log) (recursion_from_All _ _ k.log) (ap (λ (c : Counts). c.places) numbers.0) numbers.1 in
+    let log = lists_apart (λ call. call < 2 ^ 32) log_word log_words_apart s.log t.log _ _ (recursion_from_All _ _ h.log) (recursion_from_All _ _ k.log)
+    (ap (λ (c : Counts). c.places) numbers.0) numbers.1 in
     let in_one : AllByRecursion (IsEvent s.version s.layout) t.events =
-    subst₂ (λ (v : Version) (l : Layout). AllByRecursion (IsEvent v l) t.events) (sym version) (sym layout) (recursion_from_All (IsEvent t.version t.layout) t.events k.events) in
-    let calls = lists_apart (IsEvent s.version s.layout) event (events_apart s.version s.layout h.layout) s.events t.events _ _ (recursion_from_All _ _ h.events) in_one (ap (λ (c : Counts). c.events) numbers.0) log.1 in
+    subst₂ (λ (v : Version) (l : Layout). AllByRecursion (IsEvent v l) t.events) (sym version) (sym layout)
+    (recursion_from_All (IsEvent t.version t.layout) t.events k.events) in
+    let calls = lists_apart (IsEvent s.version s.layout) event (events_apart s.version s.layout h.layout) s.events t.events _ _
+    (recursion_from_All _ _ h.events) in_one (ap (λ (c : Counts). c.events) numbers.0) log.1 in
     let lengths = h.one_dump_each ∙ ap (λ (c : Counts). c.layout.replicas) numbers.0 ∙ sym k.one_dump_each in
-    let images = lists_apart IsImage dump images_apart s.dumps t.dumps [] [] (recursion_from_All _ _ h.dumps) (recursion_from_All _ _ k.dumps) lengths (ap (λ rest. rest ++ []) calls.1) in
+    let images = lists_apart IsImage dump images_apart s.dumps t.dumps [] [] (recursion_from_All _ _ h.dumps) (recursion_from_All _ _ k.dumps) lengths
+    (ap (λ rest. rest ++ []) calls.1) in
     λ i. record { version = version i; layout = layout i; log = log.0 i; events = calls.0 i; dumps = images.0 i }
 
 pub one_trace : (bytes : List ℕ) (s t : Recording) → Spells bytes s → Spells bytes t → s ≡ t

@@ -1,5 +1,6 @@
 -- One event or one place more: how the floor and the space go on.
-use Rattle.std.proofs.Common.{◌≡◌, ℕ, suc, ◌+◌, max, List, [], ◌∷◌, ◌++◌, take, map, fold, slice_get, Option, Some, None, option_to_list, option_and_then, refl, ap, ◌∙◌, add-one}
+use Rattle.std.proofs.Common.{◌≡◌, ℕ, suc, ◌+◌, max, List, [], ◌∷◌, ◌++◌, take, map, fold, slice_get, Option, Some, None, option_to_list, option_and_then, refl}
+use Rattle.std.proofs.Common.{ap, ◌∙◌, add-one}
 use Rattle.std.specs.Prelude.{filter_map}
 use Rattle.std.proofs.lemmas.List.{map-append}
 use Rattle.std.proofs.lemmas.List.Elements.{filter_map-append}
@@ -21,11 +22,14 @@ known_in trace o = map (known_by trace) (filter_map reply_in (option_to_list o))
 floor_next : (trace : Recording) (index : ℕ) → floor trace (suc index) ≡ fold max (floor trace index) (known_in trace (slice_get trace.events index))
 floor_next trace index =
     ap (λ (es : List Event). fold max 0 (map (known_by trace) (filter_map reply_in es))) (take-next index trace.events)
-    ∙ ap (λ (rs : List Response). fold max 0 (map (known_by trace) rs)) (filter_map-append reply_in (take index trace.events) (option_to_list (slice_get trace.events index)))
-    ∙ ap (fold max 0) (map-append (known_by trace) (filter_map reply_in (take index trace.events)) (filter_map reply_in (option_to_list (slice_get trace.events index))))
+    ∙ ap (λ (rs : List Response). fold max 0 (map (known_by trace) rs))
+    (filter_map-append reply_in (take index trace.events) (option_to_list (slice_get trace.events index)))
+    ∙ ap (fold max 0) (map-append (known_by trace) (filter_map reply_in (take index trace.events))
+    (filter_map reply_in (option_to_list (slice_get trace.events index))))
     ∙ fold-append max 0 (map (known_by trace) (filter_map reply_in (take index trace.events))) (known_in trace (slice_get trace.events index))
 
-known_of_reply : (trace : Recording) (o : Option Event) (reply : Response) (n : ℕ) → option_and_then reply_in o ≡ Some reply → fold max n (known_in trace o) ≡ max n (known_by trace reply)
+known_of_reply : (trace : Recording) (o : Option Event) (reply : Response) (n : ℕ) → option_and_then reply_in o ≡ Some reply
+    → fold max n (known_in trace o) ≡ max n (known_by trace reply)
 known_of_reply trace None reply n e = absurd cc
 known_of_reply trace (Some event) reply n e = rw e refl
 
@@ -34,21 +38,26 @@ known_of_other trace None n e = refl
 known_of_other trace (Some event) n e = rw e refl
 
 -- a reply raises the floor of what is made after it to what is known by it
-pub floor_after_reply : (trace : Recording) (index : ℕ) (reply : Response) → reply_of trace index ≡ Some reply → floor trace (index + 1) ≡ max (floor trace index) (known_by trace reply)
-floor_after_reply trace index reply e = ap (floor trace) (add-one index) ∙ floor_next trace index ∙ known_of_reply trace (slice_get trace.events index) reply (floor trace index) e
+pub floor_after_reply : (trace : Recording) (index : ℕ) (reply : Response) → reply_of trace index ≡ Some reply
+    → floor trace (index + 1) ≡ max (floor trace index) (known_by trace reply)
+floor_after_reply trace index reply e =
+    ap (floor trace) (add-one index) ∙ floor_next trace index ∙ known_of_reply trace (slice_get trace.events index) reply (floor trace index) e
 
 -- and an event that is no reply leaves it
 pub floor_after_other : (trace : Recording) (index : ℕ) → reply_of trace index ≡ None → floor trace (index + 1) ≡ floor trace index
-floor_after_other trace index e = ap (floor trace) (add-one index) ∙ floor_next trace index ∙ known_of_other trace (slice_get trace.events index) (floor trace index) e
+floor_after_other trace index e =
+    ap (floor trace) (add-one index) ∙ floor_next trace index ∙ known_of_other trace (slice_get trace.events index) (floor trace index) e
 
 pub floor_at_start : (trace : Recording) → floor trace 0 ≡ 0
 floor_at_start trace = refl
 
-after_append : (depth : Depth) (limit : ℕ) (space : Space) (first then : List Action) → after_all depth limit space (first ++ then) ≡ after_all depth limit (after_all depth limit space first) then
+after_append : (depth : Depth) (limit : ℕ) (space : Space) (first then : List Action)
+    → after_all depth limit space (first ++ then) ≡ after_all depth limit (after_all depth limit space first) then
 after_append depth limit space [] then = refl
 after_append depth limit space (action ∷ first) then = after_append depth limit (step depth limit space action).space first then
 
-one_operation : (trace : Recording) (o : Option ℕ) (call : ℕ) (action : Action) → o ≡ Some call → operation_of trace call ≡ Some action → operations trace (option_to_list o) ≡ action ∷ []
+one_operation : (trace : Recording) (o : Option ℕ) (call : ℕ) (action : Action) → o ≡ Some call → operation_of trace call ≡ Some action
+    → operations trace (option_to_list o) ≡ action ∷ []
 one_operation trace o call action e f = rw (e, f) refl
 
 -- the space after one place more
@@ -58,6 +67,8 @@ space_next trace place call action e f =
     let more = one_operation trace (slice_get trace.log place) call action e f in
     ap (λ n. space_after trace (take n trace.log)) (add-one place)
     ∙ ap (space_after trace) (take-next place trace.log)
-    ∙ ap (after_all trace.layout.depth trace.layout.tables no_pages) (filter_map-append (operation_of trace) (take place trace.log) (option_to_list (slice_get trace.log place)))
-    ∙ after_append trace.layout.depth trace.layout.tables no_pages (operations trace (take place trace.log)) (operations trace (option_to_list (slice_get trace.log place)))
+    ∙ ap (after_all trace.layout.depth trace.layout.tables no_pages)
+    (filter_map-append (operation_of trace) (take place trace.log) (option_to_list (slice_get trace.log place)))
+    ∙ after_append trace.layout.depth trace.layout.tables no_pages (operations trace (take place trace.log))
+    (operations trace (option_to_list (slice_get trace.log place)))
     ∙ ap (after_all trace.layout.depth trace.layout.tables (space_after trace (take place trace.log))) more

@@ -99,7 +99,8 @@ rights_from (suc (suc (suc (suc (suc zero))))) = record { write = true; user = f
 rights_from (suc (suc (suc (suc (suc (suc zero)))))) = record { write = false; user = true; exec = true }
 rights_from (suc (suc (suc (suc (suc (suc (suc n))))))) = record { write = true; user = true; exec = true }
 
-rights_back_by : (write user exec : Bool) → rights_from (rights_code (record { write = write; user = user; exec = exec })) ≡ record { write = write; user = user; exec = exec }
+rights_back_by : (write user exec : Bool)
+    → rights_from (rights_code (record { write = write; user = user; exec = exec })) ≡ record { write = write; user = user; exec = exec }
 rights_back_by false false false = refl
 rights_back_by true false false = refl
 rights_back_by false true false = refl
@@ -150,7 +151,9 @@ abbrev request_from : RequestFields → Query
 request_from f = request_of_kind f.kind f
 
 request_back : (request : Query) → request_from (request_fields request) ≡ request
-request_back (Update (Map page)) = ap₂ (λ (size : Size) (rights : Rights). Update (Map (record { base = page.base; size = size; phys = page.phys; rights = rights }))) (size_back page.size) (rights_back page.rights)
+request_back (Update (Map page)) =
+    ap₂ (λ (size : Size) (rights : Rights). Update (Map (record { base = page.base; size = size; phys = page.phys; rights = rights }))) (size_back page.size)
+    (rights_back page.rights)
 request_back (Update (Unmap base)) = refl
 request_back (Update (Protect base rights)) = ap (λ (rights : Rights). Update (Protect base rights)) (rights_back rights)
 request_back (Resolve address) = refl
@@ -337,7 +340,8 @@ replies_apart c d e f g h u v us vs x y is =
       rest = r7.1;
     }
 
-pub call_fits : (version : Version) (layout : Layout) (replica thread : ℕ) (request : Query) → IsLayout layout → IsEvent version layout (Call replica thread request)
+pub call_fits : (version : Version) (layout : Layout) (replica thread : ℕ) (request : Query) → IsLayout layout
+    → IsEvent version layout (Call replica thread request)
     → CallFits replica thread (request_fields request) 0
 call_fits version layout replica thread request l h =
     let r : replica < layout.replicas = h.0 in
@@ -354,7 +358,8 @@ call_fits version layout replica thread request l h =
       physical = fits.physical;
     }
 
-pub reply_fits : (version : Version) (layout : Layout) (call at : ℕ) (answer : Answer) → IsEvent version layout (Reply call at answer) → ReplyFits (answer_fields answer) call at 0
+pub reply_fits : (version : Version) (layout : Layout) (call at : ℕ) (answer : Answer) → IsEvent version layout (Reply call at answer)
+    → ReplyFits (answer_fields answer) call at 0
 reply_fits version layout call at answer h =
     let fits = answer_fits answer h.2 in
     record {
@@ -380,14 +385,16 @@ length-event (Reply call at answer) = refl
 pub events_apart : (version : Version) (layout : Layout) → IsLayout layout → ToldApart (IsEvent version layout) event
 events_apart version layout l (Call r t q) (Call s u p) us vs h k e =
     let rest = number_8 0 0 (call_bytes r t (request_fields q) 0 ++ us) (call_bytes s u (request_fields p) 0 ++ vs) (omega arith) (omega arith) e in
-    let same = calls_apart r s t u (request_fields q) (request_fields p) 0 0 us vs (call_fits version layout r t q l h) (call_fits version layout s u p l k) rest.1 in
+    let same = calls_apart r s t u (request_fields q) (request_fields p) 0 0 us vs (call_fits version layout r t q l h)
+    (call_fits version layout s u p l k) rest.1 in
     let request = request_apart q p same.fields in
     (λ i. Call (same.replica i) (same.thread i) (request i), same.rest)
 events_apart version layout l (Call r t q) (Reply d b y) us vs h k e = absurd (tags_differ _ _ e)
 events_apart version layout l (Reply c a x) (Call s u p) us vs h k e = absurd (tags_differ _ _ (sym e))
 events_apart version layout l (Reply c a x) (Reply d b y) us vs h k e =
     let rest = number_8 1 1 (reply_bytes (answer_fields x) c a 0 ++ us) (reply_bytes (answer_fields y) d b 0 ++ vs) (omega arith) (omega arith) e in
-    let same = replies_apart (answer_fields x) (answer_fields y) c d a b 0 0 us vs (reply_fits version layout c a x h) (reply_fits version layout d b y k) rest.1 in
+    let same = replies_apart (answer_fields x) (answer_fields y) c d a b 0 0 us vs (reply_fits version layout c a x h)
+    (reply_fits version layout d b y k) rest.1 in
     let answer = answer_apart x y same.fields in
     (λ i. Reply (same.call i) (same.at i) (answer i), same.rest)
 
@@ -452,7 +459,8 @@ lists_apart Fits spelled apart (x ∷ xs) (y ∷ ys) us vs h k l e =
     let rest = lists_apart Fits spelled apart xs ys us vs h.1 k.1 (omega arith) first.1 in
     (ap₂ ◌∷◌ first.0 rest.0, rest.1)
 
-pub length_of_units : {A : Type 0} (spelled : A → List ℕ) (n : ℕ) → ((a : A) → length (spelled a) ≡ n) → (xs : List A) → length (flat_map spelled xs) ≡ n * length xs
+pub length_of_units : {A : Type 0} (spelled : A → List ℕ) (n : ℕ) → ((a : A) → length (spelled a) ≡ n) → (xs : List A)
+    → length (flat_map spelled xs) ≡ n * length xs
 length_of_units spelled n each [] = omega arith
 length_of_units spelled n each (x ∷ xs) =
     let h = each x in

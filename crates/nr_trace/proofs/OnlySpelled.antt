@@ -20,7 +20,8 @@ settled_now bytes Memory h = tt
 settled_now bytes (Refused fault) h = subst (λ (l : List ℕ). HasFormatFault l fault) (append-nil bytes) (h [])
 
 -- a first piece that is refused
-pub first_refused : (bytes : List ℕ) (old new : Fed) (fail : Fail Format) → old ≡ Taken [] → Feeds old bytes new (Err fail) → IfRefused (HasFormatFault bytes) fail
+pub first_refused : (bytes : List ℕ) (old new : Fed) (fail : Fail Format) → old ≡ Taken [] → Feeds old bytes new (Err fail)
+    → IfRefused (HasFormatFault bytes) fail
 first_refused bytes old new fail first h =
     let here : Feeds (Taken []) bytes new (Err fail) = subst (λ f. Feeds f bytes new (Err fail)) first h in
     settled_now bytes fail here.1
@@ -35,6 +36,7 @@ first_taken bytes old new first h =
     let here : Feeds (Taken []) bytes new (Ok tt) = subst (λ f. Feeds f bytes new (Ok tt)) first h in
     here.0
 
-pub only_spelled : (bytes : List ℕ) (result : Result Recording (Fail Format)) (trace : Recording) → Ends (Taken bytes) result → Spells bytes trace → MatchResult result (λ given. given ≡ trace) (λ fail. fail ≡ Memory)
+pub only_spelled : (bytes : List ℕ) (result : Result Recording (Fail Format)) (trace : Recording) → Ends (Taken bytes) result → Spells bytes trace
+    → MatchResult result (λ given. given ≡ trace) (λ fail. fail ≡ Memory)
 only_spelled bytes (Ok given) trace h spells = one_trace bytes given trace h spells
 only_spelled bytes (Err fail) trace h spells = absurd (no_fault bytes trace Truncated spells h.1)

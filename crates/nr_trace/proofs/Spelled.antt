@@ -18,18 +18,23 @@ behind_nothing f xs l e = ap (λ ys. l ++ flat_map f ys) e ∙ append-nil l
 
 abbrev pub spelling_of : Version → Layout → ℕ → ℕ → List ℕ → List Event → List Image → List ℕ
 spelling_of version layout places events log recorded dumps =
-    magic ++ version_word version ++ counts (record { layout = layout; places = places; events = events }) ++ flat_map log_word log ++ flat_map event recorded ++ flat_map dump dumps
+    magic ++ version_word version ++ counts (record { layout = layout; places = places; events = events }) ++ flat_map log_word log ++ flat_map event recorded
+    ++ flat_map dump dumps
 
-pub more_place : (version : Version) (layout : Layout) (places events : ℕ) (log : List ℕ) (call : ℕ) (recorded : List Event) (dumps : List Image) → recorded ≡ [] → dumps ≡ []
+pub more_place : (version : Version) (layout : Layout) (places events : ℕ) (log : List ℕ) (call : ℕ) (recorded : List Event) (dumps : List Image)
+    → recorded ≡ [] → dumps ≡ []
     → spelling_of version layout places events (log ++ call ∷ []) recorded dumps ≡ spelling_of version layout places events log recorded dumps ++ log_word call
 more_place version layout places events log call recorded dumps no_events no_dumps =
     let front = magic ++ version_word version ++ counts (record { layout = layout; places = places; events = events }) in
     behind_nothing dump dumps (front ++ flat_map log_word (log ++ call ∷ []) ++ flat_map event recorded) no_dumps
     ∙ behind_nothing event recorded (front ++ flat_map log_word (log ++ call ∷ [])) no_events
     ∙ sym (flat_map_more log_word front log call)
-    ∙ ap (λ (l : List ℕ). l ++ log_word call) (sym (behind_nothing dump dumps (front ++ flat_map log_word log ++ flat_map event recorded) no_dumps ∙ behind_nothing event recorded (front ++ flat_map log_word log) no_events))
+    ∙ ap (λ (l : List ℕ). l ++ log_word call)
+    (sym (behind_nothing dump dumps (front ++ flat_map log_word log ++ flat_map event recorded) no_dumps
+    ∙ behind_nothing event recorded (front ++ flat_map log_word log) no_events))
 
-pub more_event : (version : Version) (layout : Layout) (places events : ℕ) (log : List ℕ) (recorded : List Event) (one : Event) (dumps : List Image) → dumps ≡ []
+pub more_event : (version : Version) (layout : Layout) (places events : ℕ) (log : List ℕ) (recorded : List Event) (one : Event) (dumps : List Image)
+    → dumps ≡ []
     → spelling_of version layout places events log (recorded ++ one ∷ []) dumps ≡ spelling_of version layout places events log recorded dumps ++ event one
 more_event version layout places events log recorded one dumps no_dumps =
     let front = magic ++ version_word version ++ counts (record { layout = layout; places = places; events = events }) ++ flat_map log_word log in
@@ -40,20 +45,24 @@ more_event version layout places events log recorded one dumps no_dumps =
 pub more_dump : (version : Version) (layout : Layout) (places events : ℕ) (log : List ℕ) (recorded : List Event) (dumps : List Image) (one : Image)
     → spelling_of version layout places events log recorded (dumps ++ one ∷ []) ≡ spelling_of version layout places events log recorded dumps ++ dump one
 more_dump version layout places events log recorded dumps one =
-    sym (flat_map_more dump (magic ++ version_word version ++ counts (record { layout = layout; places = places; events = events }) ++ flat_map log_word log ++ flat_map event recorded) dumps one)
+    sym (flat_map_more dump (magic ++ version_word version ++ counts (record { layout = layout; places = places; events = events }) ++ flat_map log_word log
+    ++ flat_map event recorded) dumps one)
 
 -- no place is left
-pub no_place : (version : Version) (layout : Layout) (places events : ℕ) (rest : List ℕ) (fault : Format) → places ≡ 0 → AtEvents version layout 0 events rest fault → AtLog version layout places events rest fault
+pub no_place : (version : Version) (layout : Layout) (places events : ℕ) (rest : List ℕ) (fault : Format) → places ≡ 0
+    → AtEvents version layout 0 events rest fault → AtLog version layout places events rest fault
 unfolding AtLog
 no_place version layout places events rest fault none h = subst (λ n. AtLog version layout n events rest fault) (sym none) h
 
 -- no event is left
-no_event : (version : Version) (layout : Layout) (index events : ℕ) (rest : List ℕ) (fault : Format) → events ≡ 0 → AtDumps 0 layout.replicas rest fault → AtEvents version layout index events rest fault
+no_event : (version : Version) (layout : Layout) (index events : ℕ) (rest : List ℕ) (fault : Format) → events ≡ 0 → AtDumps 0 layout.replicas rest fault
+    → AtEvents version layout index events rest fault
 unfolding AtEvents
 no_event version layout index events rest fault none h = subst (λ n. AtEvents version layout index n rest fault) (sym none) h
 
 pub events_end : (parts : Parts) (events : ℕ) → events ≡ 0 → AreInRange parts → parts.dumps.items ≡ []
-    → HasRead (parts_spelling (length parts.log.items) (length parts.events.items + events) parts) (AtEvents parts.version parts.config (length parts.events.items) events) (Dumps parts)
+    → HasRead (parts_spelling (length parts.log.items) (length parts.events.items + events) parts)
+    (AtEvents parts.version parts.config (length parts.events.items) events) (Dumps parts)
 events_end parts events none in_range no_dumps = record {
   ready = in_range;
   bytes_are = ap (λ (n : ℕ). parts_spelling (length parts.log.items) n parts) (omega arith);
@@ -62,5 +71,6 @@ events_end parts events none in_range no_dumps = record {
       let first : length parts.dumps.items + 0 ≡ 0 = omega arith in
       let all : parts.config.replicas - (length parts.dumps.items + 0) ≡ parts.config.replicas = omega arith in
       no_event parts.version parts.config (length parts.events.items) events rest fault none
-      (subst (λ (n : ℕ). AtDumps 0 n rest fault) all (subst (λ (n : ℕ). AtDumps n (parts.config.replicas - (length parts.dumps.items + 0)) rest fault) first h));
+      (subst (λ (n : ℕ). AtDumps 0 n rest fault) all
+      (subst (λ (n : ℕ). AtDumps n (parts.config.replicas - (length parts.dumps.items + 0)) rest fault) first h));
 }

@@ -19,10 +19,12 @@ only_front unit front rest e whole =
     let none : rest ≡ [] = nil_from_length rest (omega (arith, ap length e, whole, length-append front rest)) in
     e ∙ ap (λ (l : List ℕ). front ++ l) none ∙ append-nil front
 
-pub place_taken : (version : Version) (layout : Layout) (places events call : ℕ) (log more : List ℕ) (recorded : List Event) (dumps : List Image) (unit : List ℕ) (reader : Reader)
+pub place_taken : (version : Version) (layout : Layout) (places events call : ℕ) (log more : List ℕ) (recorded : List Event) (dumps : List Image)
+    (unit : List ℕ) (reader : Reader)
     → 1 ≤ places → recorded ≡ [] → dumps ≡ [] → more ≡ log ++ call ∷ [] → call < 2 ^ 32 → unit ≡ log_word call
     → HasRead (spelling_of version layout (length more + (places - 1)) events more recorded dumps) (AtLog version layout (places - 1) events) reader
-    → HasRead (spelling_of version layout (length log + places) events log recorded dumps ++ unit) (λ rest fault. AtLog version layout places events (unit ++ rest) fault) reader
+    → HasRead (spelling_of version layout (length log + places) events log recorded dumps ++ unit)
+    (λ rest fault. AtLog version layout places events (unit ++ rest) fault) reader
 place_taken version layout places events call log more recorded dumps unit reader some no_events no_dumps grown fits is has =
     let long : length more + (places - 1) ≡ length log + places = omega (arith, ap length grown, length-append log (call ∷ [])) in
     goes_on reader _ _ _ _ has
@@ -32,10 +34,12 @@ place_taken version layout places events call log more recorded dumps unit reade
     ∙ ap (λ (l : List ℕ). spelling_of version layout (length log + places) events log recorded dumps ++ l) (sym is))
     (λ rest fault h. place_passed version layout places events call unit rest fault some fits is h)
 
-pub event_taken : (version : Version) (layout : Layout) (events : ℕ) (log : List ℕ) (recorded more : List Event) (one : Event) (dumps : List Image) (unit : List ℕ) (reader : Reader)
+pub event_taken : (version : Version) (layout : Layout) (events : ℕ) (log : List ℕ) (recorded more : List Event) (one : Event) (dumps : List Image)
+    (unit : List ℕ) (reader : Reader)
     → 1 ≤ events → dumps ≡ [] → more ≡ recorded ++ one ∷ [] → SpellsEvent version layout unit one
     → HasRead (spelling_of version layout (length log) (length more + (events - 1)) log more dumps) (AtEvents version layout (length more) (events - 1)) reader
-    → HasRead (spelling_of version layout (length log) (length recorded + events) log recorded dumps ++ unit) (λ rest fault. AtEvents version layout (length recorded) events (unit ++ rest) fault) reader
+    → HasRead (spelling_of version layout (length log) (length recorded + events) log recorded dumps ++ unit)
+    (λ rest fault. AtEvents version layout (length recorded) events (unit ++ rest) fault) reader
 event_taken version layout events log recorded more one dumps unit reader some no_dumps grown spells has =
     let long : length more ≡ length recorded + 1 = ap length grown ∙ length-append recorded (one ∷ []) in
     let all : length more + (events - 1) ≡ length recorded + events = omega arith in

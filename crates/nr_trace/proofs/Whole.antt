@@ -1,5 +1,6 @@
 -- A reader where bytes are missing, or stand after the end.
-use Rattle.std.proofs.Common.{◌≡◌, ◌≢◌, ℕ, zero, suc, ◌+◌, ◌-◌, ◌<◌, ◌≤◌, Bool, true, false, List, [], ◌++◌, length, Option, Some, None, refl, sym, ap, subst, ◌∙◌, arith, inl, append_assoc}
+use Rattle.std.proofs.Common.{◌≡◌, ◌≢◌, ℕ, zero, suc, ◌+◌, ◌-◌, ◌<◌, ◌≤◌, Bool, true, false, List, [], ◌++◌, length, Option, Some, None, refl, sym, ap, subst}
+use Rattle.std.proofs.Common.{◌∙◌, arith, inl, append_assoc}
 use Rattle.std.specs.Prelude.{nat_lt, if◌then◌else◌}
 use Rattle.std.proofs.lemmas.Bool.{ltb-true, ltb-false}
 use Rattle.std.proofs.lemmas.List.{append-nil}
@@ -30,12 +31,14 @@ not_chosen : (b : Bool) (m : ℕ) → (if b then Some m else None) ≡ None → 
 not_chosen true m e = absurd cc
 not_chosen false m e = refl
 
-short_log : (version : versions.Version) (layout : Layout) (places events : ℕ) (rest : List ℕ) → 1 ≤ places → length rest < 4 → AtLog version layout places events rest Truncated
+short_log : (version : versions.Version) (layout : Layout) (places events : ℕ) (rest : List ℕ) → 1 ≤ places → length rest < 4
+    → AtLog version layout places events rest Truncated
 unfolding AtLog
 short_log version layout zero events rest some short = absurd (omega arith)
 short_log version layout (suc places) events rest some short = inl (short, refl)
 
-short_event : (version : versions.Version) (layout : Layout) (index events : ℕ) (rest : List ℕ) → 1 ≤ events → length rest < 24 → AtEvents version layout index events rest Truncated
+short_event : (version : versions.Version) (layout : Layout) (index events : ℕ) (rest : List ℕ) → 1 ≤ events → length rest < 24
+    → AtEvents version layout index events rest Truncated
 unfolding AtEvents
 short_event version layout index zero rest some short = absurd (omega arith)
 short_event version layout index (suc events) rest some short = inl (short, refl)
@@ -45,7 +48,8 @@ unfolding AtDumps
 short_head replica zero rest some short = absurd (omega arith)
 short_head replica (suc dumps) rest some short = inl (short, refl)
 
-short_frame : (replica index frames : ℕ) (last : Option ℕ) (Behind : List ℕ → Format → Type 0) (rest : List ℕ) → 1 ≤ frames → length rest < 8 → AtFrames replica index frames last Behind rest Truncated
+short_frame : (replica index frames : ℕ) (last : Option ℕ) (Behind : List ℕ → Format → Type 0) (rest : List ℕ) → 1 ≤ frames → length rest < 8
+    → AtFrames replica index frames last Behind rest Truncated
 unfolding AtFrames
 short_frame replica index zero last Behind rest some short = absurd (omega arith)
 short_frame replica index (suc frames) last Behind rest some short = inl (short, refl)
@@ -55,12 +59,14 @@ too_short (Magic alloc) len rest ready is short = inl (omega (arith, some_is 4 l
 too_short (Version alloc) len rest ready is short = inl (omega (arith, some_is 2 len is), refl)
 too_short (Header alloc version) len rest ready is short = inl (omega (arith, some_is 14 len is), refl)
 too_short (Log parts places events) len rest ready is short = short_log parts.version parts.config places events rest ready.1 (omega (arith, some_is 4 len is))
-too_short (Events parts events) len rest ready is short = short_event parts.version parts.config (length parts.events.items) events rest ready.1 (omega (arith, some_is 24 len is))
+too_short (Events parts events) len rest ready is short =
+    short_event parts.version parts.config (length parts.events.items) events rest ready.1 (omega (arith, some_is 24 len is))
 too_short (Dumps parts) len rest ready is short =
     let given = chosen (nat_lt (length parts.dumps.items) parts.config.replicas) 16 len is in
     let one_left : length parts.dumps.items < parts.config.replicas = ltb-true _ _ given.0 in
     short_head (length parts.dumps.items + 0) (parts.config.replicas - (length parts.dumps.items + 0)) rest (omega arith) (omega (arith, given.1))
-too_short (Frame parts opened last) len rest ready is short = short_frame (length parts.dumps.items) _ opened.left last _ rest ready.0.some_left (omega (arith, some_is 8 len is))
+too_short (Frame parts opened last) len rest ready is short =
+    short_frame (length parts.dumps.items) _ opened.left last _ rest ready.0.some_left (omega (arith, some_is 8 len is))
 too_short (Words parts opened number) len rest ready is short = inl (omega (arith, some_is 4096 len is), refl)
 
 -- ---- no unit is left

@@ -15,12 +15,15 @@ pub record IsRead (unit words : List ℕ) (k : ℕ) (rest : List ℕ) : Type 0 w
   pub parts : unit ≡ flat_map (to_be_bytes w64) (take k words) ++ rest
   pub left : length rest + 8 * k ≡ 4096
 
-pub one_more : (unit words : List ℕ) (k : ℕ) (rest : List ℕ) (word : ℕ) (behind : List ℕ) → IsRead unit words k rest → k < 512 → word < 2 ^ 64 → rest ≡ to_be_bytes w64 word ++ behind → IsRead unit (set words k word) (k + 1) behind
+pub one_more : (unit words : List ℕ) (k : ℕ) (rest : List ℕ) (word : ℕ) (behind : List ℕ) → IsRead unit words k rest → k < 512 → word < 2 ^ 64
+    → rest ≡ to_be_bytes w64 word ++ behind → IsRead unit (set words k word) (k + 1) behind
 one_more unit words k rest word behind read lt below e = record {
   all_there = length-set words k word ∙ read.all_there;
   fits = All-set (λ w. w < 2 ^ 64) words k word below read.fits;
-  parts = read.parts ∙ ap (λ (l : List ℕ). flat_map (to_be_bytes w64) (take k words) ++ l) e ∙ sym (append_assoc (flat_map (to_be_bytes w64) (take k words)) (to_be_bytes w64 word) behind)
-      ∙ ap (λ (l : List ℕ). l ++ behind) (flat_map_more (to_be_bytes w64) [] (take k words) word ∙ ap (flat_map (to_be_bytes w64)) (sym (take_more_set words k word (omega (arith, read.all_there)))));
+  parts = read.parts ∙ ap (λ (l : List ℕ). flat_map (to_be_bytes w64) (take k words) ++ l) e
+      ∙ sym (append_assoc (flat_map (to_be_bytes w64) (take k words)) (to_be_bytes w64 word) behind)
+      ∙ ap (λ (l : List ℕ). l ++ behind) (flat_map_more (to_be_bytes w64) [] (take k words) word
+      ∙ ap (flat_map (to_be_bytes w64)) (sym (take_more_set words k word (omega (arith, read.all_there)))));
   left = omega (arith, ap length e, length-append (to_be_bytes w64 word) behind);
 }
 

@@ -19,7 +19,8 @@ pub eight : (old a b c d e f g h p q r s t u v w : List ℕ)
     → a ≡ old ++ p → b ≡ a ++ q → c ≡ b ++ r → d ≡ c ++ s → e ≡ d ++ t → f ≡ e ++ u → g ≡ f ++ v → h ≡ g ++ w
     → h ≡ old ++ (p ++ q ++ r ++ s ++ t ++ u ++ v ++ w)
 eight old a b c d e f g h p q r s t u v w is_a is_b is_c is_d is_e is_f is_g is_h =
-    then old _ g w h (then old _ f v g (then old _ e u f (then old _ d t e (then old _ c s d (then old _ b r c (then old p a q b is_a is_b) is_c) is_d) is_e) is_f) is_g) is_h
+    then old _ g w h (then old _ f v g
+    (then old _ e u f (then old _ d t e (then old _ c s d (then old _ b r c (then old p a q b is_a is_b) is_c) is_d) is_e) is_f) is_g) is_h
 
 abbrev reply_bytes : AnswerFields → ℕ → ℕ → List ℕ
 reply_bytes fields call at =
@@ -41,7 +42,8 @@ call_bytes replica thread fields =
 
 pub call_put : (old a b c d e f g h new : List ℕ) (request : Query) (replica thread : ℕ) (fields : RequestFields) → fields ≡ request_fields request
     → a ≡ old ++ to_be_bytes w8 0 → b ≡ a ++ to_be_bytes w8 replica → c ≡ b ++ to_be_bytes w16 thread → d ≡ c ++ to_be_bytes w8 fields.kind
-    → e ≡ d ++ to_be_bytes w8 fields.size → f ≡ e ++ to_be_bytes w8 fields.rights → g ≡ f ++ to_be_bytes w8 0 → h ≡ g ++ to_be_bytes w64 fields.address → new ≡ h ++ to_be_bytes w64 fields.physical
+    → e ≡ d ++ to_be_bytes w8 fields.size → f ≡ e ++ to_be_bytes w8 fields.rights → g ≡ f ++ to_be_bytes w8 0 → h ≡ g ++ to_be_bytes w64 fields.address
+    → new ≡ h ++ to_be_bytes w64 fields.physical
     → new ≡ old ++ event (Call replica thread request)
 call_put old a b c d e f g h new request replica thread fields are_fields is_a is_b is_c is_d is_e is_f is_g is_h is_new =
     then old _ h _ new (eight old a b c d e f g h _ _ _ _ _ _ _ _ is_a is_b is_c is_d is_e is_f is_g is_h) is_new

@@ -11,7 +11,9 @@ use Rattle.nr_trace.specs.FirstFault.{HasFormatFault}
 use Rattle.nr_trace.specs.Calls.{Invocation, call_of, Response, reply_of, reply_to, Answers, IsCall, IsUpdate, IsRead}
 use Rattle.nr_trace.specs.Orders.{before, space_after, answer_in, recorded_order, floor, known_by}
 use Rattle.nr_trace.specs.declared.fault.Fault.{Fault}
-use Rattle.nr_trace.specs.declared.fault.Fault.TheVariants.{Format, ThreadOpen, NoSuchCall, AnsweredTwice, NotAnUpdate, PlacedTwice, NotPlaced, PastLog, Early, WrongAnswer, PrefixPastLog, PrefixShort, MissingFrame, SharedFrame, ReservedBit, StrayFrame, Differs}
+use Rattle.nr_trace.specs.declared.fault.Fault.TheVariants.{Format, ThreadOpen, NoSuchCall, AnsweredTwice, NotAnUpdate, PlacedTwice, NotPlaced, PastLog, Early}
+use Rattle.nr_trace.specs.declared.fault.Fault.TheVariants.{WrongAnswer, PrefixPastLog, PrefixShort, MissingFrame, SharedFrame, ReservedBit, StrayFrame}
+use Rattle.nr_trace.specs.declared.fault.Fault.TheVariants.{Differs}
 
 -- the event is a call of a thread that has an earlier call with no reply before the event
 pub record OpensTwice (trace : Recording) (index : ℕ) : Type 0 where
@@ -78,7 +80,8 @@ Holds trace (MissingFrame replica number) = HasDump trace replica (λ dump. HasM
 Holds trace (SharedFrame replica number) = HasDump trace replica (λ dump. HasSharedFrame trace.layout.depth dump number)
 Holds trace (ReservedBit replica number index) = HasDump trace replica (λ dump. HasReservedBit trace.layout.depth dump number index)
 Holds trace (StrayFrame replica number) = HasDump trace replica (λ dump. HasStrayFrame trace.layout.depth dump number)
-Holds trace (Differs replica address) = HasDump trace replica (λ dump. HasDifference trace.layout.depth dump (space_after trace (take dump.applied trace.log)) address)
+Holds trace (Differs replica address) =
+    HasDump trace replica (λ dump. HasDifference trace.layout.depth dump (space_after trace (take dump.applied trace.log)) address)
 
 -- where a fault stands: its pass, then its index in that pass, then its number. Answers are compared in the recorded order
 abbrev pub rank : Recording → Fault → List ℕ

@@ -1,5 +1,6 @@
 -- Orders of the calls of a trace: which are legal, which a dump fits, and the one that the trace records.
-use Rattle.std.specs.Prelude.{◌≡◌, ℕ, zero, suc, ◌+◌, ◌≤◌, ◌==◌, ◌&&◌, ◌⊎◌, List, [], ◌∷◌, ◌++◌, length, take, slice_get, filter, filter_map, flat_map, map, Contains, Some, option_to_list, is_some, false, max, nat_eq}
+use Rattle.std.specs.Prelude.{◌≡◌, ℕ, zero, suc, ◌+◌, ◌≤◌, ◌==◌, ◌&&◌, ◌⊎◌, List, [], ◌∷◌, ◌++◌, length, take, slice_get, filter, filter_map, flat_map, map}
+use Rattle.std.specs.Prelude.{Contains, Some, option_to_list, is_some, false, max, nat_eq}
 use Rattle.std.specs.Option.{option_map_or}
 use Rattle.std.specs.List.{IsDistinct, before_first, fold}
 use Rattle.vs_types.specs.Config.{Layout}
@@ -44,7 +45,8 @@ pub record HasItsCalls (trace : Recording) (order : List ℕ) : Type 0 where
 
 -- of two members, one that was answered before the other was made comes first
 abbrev pub KeepsPrecedence : Recording → List ℕ → Type 0
-KeepsPrecedence trace order = (first second : ℕ) → Contains order first → Contains order second → Precedes trace first second → Contains (before second order) first
+KeepsPrecedence trace order = (first second : ℕ) → Contains order first → Contains order second → Precedes trace first second
+    → Contains (before second order) first
 
 -- each answer is what the space gives after the updates that stand before
 abbrev pub HasTheAnswers : Recording → List ℕ → Type 0
@@ -74,7 +76,8 @@ below (suc n) = below n ++ n ∷ []
 
 -- the answered reads that saw just this many entries, by call number
 abbrev pub reads_at : Recording → ℕ → List ℕ
-reads_at trace n = filter (λ call. is_some (address_of trace call) && option_map_or (λ reply. reply.at == n) (reply_to trace call) false) (below (length trace.events))
+reads_at trace n = filter (λ call. is_some (address_of trace call) && option_map_or (λ reply. reply.at == n) (reply_to trace call) false)
+    (below (length trace.events))
 
 -- the recorded order: updates by place, and each answered read after the entries that it saw
 abbrev pub recorded_order : Recording → List ℕ

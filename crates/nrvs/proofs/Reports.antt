@@ -6,7 +6,8 @@ use Rattle.nr_trace.specs.Recording.{Recording}
 use Rattle.nr_trace.specs.declared.fault.Format.{Format}
 use Rattle.nrvs.specs.Answers.{HasRead, WritesReport}
 
-pub writes : (IsReport : List ℕ → List ℕ → ℕ → Type 0) (known : Option (List ℕ)) (read : Result Recording (Fail Format)) (text : List ℕ) (old new : Option (List ℕ)) (status exit : ℕ)
+pub writes : (IsReport : List ℕ → List ℕ → ℕ
+    → Type 0) (known : Option (List ℕ)) (read : Result Recording (Fail Format)) (text : List ℕ) (old new : Option (List ℕ)) (status exit : ℕ)
     → (has : HasRead known read) → IsReport has.input text status → exit ≡ status → Appends old new text → WritesReport IsReport known old new exit
 writes IsReport known read text old new status exit has is_report is_status appends = record {
   input = has.input;

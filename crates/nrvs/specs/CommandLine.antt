@@ -13,7 +13,11 @@ address_option = record (new_rule (codes "address")) { long = Some (codes "addre
 
 -- --replica NUMBER, from 0 to 255, and 0 where it is not given
 abbrev pub replica_option : Rule
-replica_option = record (new_rule (codes "replica")) { long = Some (codes "replica"); parser = Some (parsers.Signed (pos 0) (pos 255)); defaults = codes "0" ∷ [] }
+replica_option = record (new_rule (codes "replica")) {
+  long = Some (codes "replica");
+  parser = Some (parsers.Signed (pos 0) (pos 255));
+  defaults = codes "0" ∷ [];
+}
 
 abbrev pub audit_app : App
 audit_app = new_app (codes "audit")

@@ -22,7 +22,8 @@ shown_status true = 0
 shown_status false = 2
 
 -- the command's answer was written, or there is none, for a reason that is its own
-pub record RunsCommand {W : Type 0} (command : Command) (known : Option (List ℕ)) (contents : W → Option (List ℕ)) (old new : W) (outcome : Result ℕ ProgFault) : Type 0 where
+pub record RunsCommand {W : Type 0} (command : Command) (known : Option (List ℕ)) (contents : W
+    → Option (List ℕ)) (old new : W) (outcome : Result ℕ ProgFault) : Type 0 where
   pub ends : MatchResult outcome (WritesReport (IsAnswer command) known (contents old) (contents new)) (IsRefusal command known)
   pub alone : WritesAnswersAlone old new outcome
 
@@ -37,7 +38,8 @@ Runs (Ok command) known contents old new outcome = RunsCommand command known con
 Runs (Err error) known contents old new outcome = TellsRefusal (kind_of error) old new outcome
 
 -- the program ended with the status of a run of what was asked for
-pub record EndsWith {W : Type 0} (asked : Result Command Error) (known : Option (List ℕ)) (contents : W → Option (List ℕ)) (old new : W) (status : ℕ) : Type 0 where
+pub record EndsWith {W : Type 0} (asked : Result Command Error) (known : Option (List ℕ)) (contents : W
+    → Option (List ℕ)) (old new : W) (status : ℕ) : Type 0 where
   pub outcome : Result ℕ ProgFault
   pub runs : Runs asked known contents old new outcome
   pub status_is : status ≡ exit_status outcome

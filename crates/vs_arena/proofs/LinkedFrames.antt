@@ -1,5 +1,6 @@
 -- The places of an arena in one region while it is made: frames that are linked, and then places without one.
-use Rattle.std.proofs.Common.{◌≡◌, ℕ, ◌+◌, ◌-◌, ◌<◌, ◌≤◌, List, [], ◌∷◌, ◌++◌, map, length, get_or, set, replicate, suc, refl, sym, ap, subst, ◌∙◌, inl, inr, arith, ◌^◌}
+use Rattle.std.proofs.Common.{◌≡◌, ℕ, ◌+◌, ◌-◌, ◌<◌, ◌≤◌, List, [], ◌∷◌, ◌++◌, map, length, get_or, set, replicate, suc, refl, sym, ap, subst, ◌∙◌, inl, inr}
+use Rattle.std.proofs.Common.{arith, ◌^◌}
 use Rattle.std.specs.Prelude.{Option, Some, None}
 use Rattle.std.proofs.lemmas.List.{length-replicate, get_or_push, get_or_append_left, get_or-set_same, append-nil}
 use Rattle.std.proofs.lemmas.Bool.{cases_eq}

@@ -1,5 +1,6 @@
 -- The frames of an arena: what there is at an index, and how a change of marks and words changes them.
-use Rattle.std.proofs.Common.{◌≡◌, ℕ, zero, suc, ◌+◌, ◌<◌, ◌≤◌, ◌≢◌, Bool, true, false, cond, eqb, ltb, List, [], length, get_or, set, replicate, refl, sym, ap, subst, ◌^◌, ◌∙◌, inl, inr, lit<, arith, rules}
+use Rattle.std.proofs.Common.{◌≡◌, ℕ, zero, suc, ◌+◌, ◌<◌, ◌≤◌, ◌≢◌, Bool, true, false, cond, eqb, ltb, List, [], length, get_or, set, replicate, refl, sym, ap}
+use Rattle.std.proofs.Common.{subst, ◌^◌, ◌∙◌, inl, inr, lit<, arith, rules}
 use Rattle.std.specs.Prelude.{Option, Some, None, IsSome, IfSome, IfNone, All}
 use Rattle.std.specs.FinMap as finite
 use Rattle.std.specs.Ordering.{nat_cmp}
@@ -19,7 +20,8 @@ use Rattle.std.specs.FinMap.{nat_cmp-IsAntisymmetric}
 use Rattle.vs_arena.proofs.Stores.{get-insert, get-remove, len-insert_free, len-insert_used, len-remove_used, get_in_use}
 
 -- one more index below which the frames are those that are given
-get-with_frame : (store : Store) (n q : ℕ) (own given : Option (List ℕ)) → (q ≡ n → given ≡ own) → finite.get store q ≡ cond (ltb q n) given None → finite.get (with_frame store n own) q ≡ cond (ltb q (suc n)) given None
+get-with_frame : (store : Store) (n q : ℕ) (own given : Option (List ℕ)) → (q ≡ n → given ≡ own) → finite.get store q ≡ cond (ltb q n) given None
+    → finite.get (with_frame store n own) q ≡ cond (ltb q (suc n)) given None
 get-with_frame store n q None given here below = grind (arith, nat_tests)
 get-with_frame store n q (Some words) given here below = grind (arith, nat_tests, get-insert)
 
@@ -34,7 +36,8 @@ get-marked_frames marks words q =
     get-frames_below (length marks) (marked marks words) q
     ∙ elim (cases_lt q (length marks)) as (λ _. cond (ltb q (length marks)) (marked marks words q) None ≡ marked marks words q) [
       | inl lt ↦ ap (λ b. cond b (marked marks words q) None) (lt-ltb q (length marks) lt)
-      | inr le ↦ ap (λ b. cond b (marked marks words q) None) (le-ltb q (length marks) le) ∙ sym (ap (λ b. cond b (Some (get_or words q [])) None) (get_or_past marks q false le))
+      | inr le ↦ ap (λ b. cond b (marked marks words q) None) (le-ltb q (length marks) le)
+          ∙ sym (ap (λ b. cond b (Some (get_or words q [])) None) (get_or_past marks q false le))
     ]
 
 same_at : (m n : Store) → ((q : ℕ) → finite.get m q ≡ finite.get n q) → m ≡ n
@@ -45,25 +48,32 @@ same_where true a b x here there = here refl
 same_where false a b x here there = there refl
 
 -- what is written and marked at an index is inserted there
-pub marked_frames-mark : (marks : List Bool) (words : List (List ℕ)) (index : ℕ) (own : List ℕ) → index < length marks → index < length words → marked_frames (set marks index true) (set words index own) ≡ finite.insert (marked_frames marks words) index own
+pub marked_frames-mark : (marks : List Bool) (words : List (List ℕ)) (index : ℕ) (own : List ℕ) → index < length marks → index < length words
+    → marked_frames (set marks index true) (set words index own) ≡ finite.insert (marked_frames marks words) index own
 marked_frames-mark marks words index own in_marks in_words =
-    same_at _ _ (λ q. get-marked_frames _ _ q ∙ here q ∙ sym (get-insert _ index own q ∙ ap (cond (eqb q index) (Some own)) (get-marked_frames marks words q))) where
+    same_at _ _ (λ q. get-marked_frames _ _ q ∙ here q
+    ∙ sym (get-insert _ index own q ∙ ap (cond (eqb q index) (Some own)) (get-marked_frames marks words q))) where
       here : (q : ℕ) → marked (set marks index true) (set words index own) q ≡ cond (eqb q index) (Some own) (marked marks words q)
       here q = same_where (eqb q index) _ _ _
-          (λ is. let at : q ≡ index = eqb-true q index is in rw (get_or-set_at marks index q true false at in_marks, get_or-set_at words index q own [] at in_words) refl)
-          (λ isnt. let other : q ≢ index = eqb-false q index isnt in rw (get_or-set_other marks index q true false other, get_or-set_other words index q own [] other) refl)
+          (λ is. let at : q ≡ index = eqb-true q index is in
+          rw (get_or-set_at marks index q true false at in_marks, get_or-set_at words index q own [] at in_words) refl)
+          (λ isnt. let other : q ≢ index = eqb-false q index isnt in
+          rw (get_or-set_other marks index q true false other, get_or-set_other words index q own [] other) refl)
 
 -- what is written at a marked index is inserted there
-pub marked_frames-write : (marks : List Bool) (words : List (List ℕ)) (index : ℕ) (own : List ℕ) → get_or marks index false ≡ true → index < length words → marked_frames marks (set words index own) ≡ finite.insert (marked_frames marks words) index own
+pub marked_frames-write : (marks : List Bool) (words : List (List ℕ)) (index : ℕ) (own : List ℕ) → get_or marks index false ≡ true → index < length words
+    → marked_frames marks (set words index own) ≡ finite.insert (marked_frames marks words) index own
 marked_frames-write marks words index own is_marked in_words =
-    same_at _ _ (λ q. get-marked_frames _ _ q ∙ here q ∙ sym (get-insert _ index own q ∙ ap (cond (eqb q index) (Some own)) (get-marked_frames marks words q))) where
+    same_at _ _ (λ q. get-marked_frames _ _ q ∙ here q
+    ∙ sym (get-insert _ index own q ∙ ap (cond (eqb q index) (Some own)) (get-marked_frames marks words q))) where
       here : (q : ℕ) → marked marks (set words index own) q ≡ cond (eqb q index) (Some own) (marked marks words q)
       here q = same_where (eqb q index) _ _ _
           (λ is. let at : q ≡ index = eqb-true q index is in rw (get_or-set_at words index q own [] at in_words, at, is_marked) refl)
           (λ isnt. let other : q ≢ index = eqb-false q index isnt in rw (get_or-set_other words index q own [] other) refl)
 
 -- an index whose mark is taken away is removed
-pub marked_frames-unmark : (marks : List Bool) (words : List (List ℕ)) (index : ℕ) → index < length marks → marked_frames (set marks index false) words ≡ finite.remove (marked_frames marks words) index
+pub marked_frames-unmark : (marks : List Bool) (words : List (List ℕ)) (index : ℕ) → index < length marks
+    → marked_frames (set marks index false) words ≡ finite.remove (marked_frames marks words) index
 marked_frames-unmark marks words index in_marks =
     same_at _ _ (λ q. get-marked_frames _ _ q ∙ here q ∙ sym (get-remove _ index q ∙ ap (cond (eqb q index) None) (get-marked_frames marks words q))) where
       here : (q : ℕ) → marked (set marks index false) words q ≡ cond (eqb q index) None (marked marks words q)
@@ -98,7 +108,8 @@ pub record IsMarked (marks : List Bool) (words : List (List ℕ)) (index : ℕ) 
 pub IsMarked-from_use : (marks : List Bool) (words : List (List ℕ)) (index : ℕ) → IsInUse (marked_frames marks words) index → IsMarked marks words index
 IsMarked-from_use marks words index used =
     let got = get_in_use (marked_frames marks words) index used in
-    let parts = cond_some (get_or marks index false) (get_or words index []) (words_of (marked_frames marks words) index) (sym (get-marked_frames marks words index) ∙ got) in
+    let parts = cond_some (get_or marks index false) (get_or words index []) (words_of (marked_frames marks words) index)
+    (sym (get-marked_frames marks words index) ∙ got) in
     record {
       mark = parts.0;
       in_marks = marked_within marks index parts.0;
@@ -119,7 +130,8 @@ pub record IsUnmarked (marks : List Bool) (words : List (List ℕ)) (index : ℕ
   pub none : IsFree (marked_frames marks words) index
 
 -- the last number that counts on the list of an arena
-pub IsUnmarked-from_top : (base : ℕ) (words : List (List ℕ)) (marks : List Bool) (free : List ℕ) (count rest index : ℕ) → IsArena base words marks free count → count ≡ rest + 1 → index ≡ get_or free rest 0 → IsUnmarked marks words index
+pub IsUnmarked-from_top : (base : ℕ) (words : List (List ℕ)) (marks : List Bool) (free : List ℕ) (count rest index : ℕ) → IsArena base words marks free count
+    → count ≡ rest + 1 → index ≡ get_or free rest 0 → IsUnmarked marks words index
 IsUnmarked-from_top base words marks free count rest index arena one_less top =
     let unmarked : get_or marks index false ≡ false = rw top (arena.free_unmarked rest (omega arith)) in
     record {
@@ -128,7 +140,8 @@ IsUnmarked-from_top base words marks free count rest index arena one_less top =
       none = get-marked_frames marks words index ∙ ap (λ b. cond b (Some (get_or words index [])) None) unmarked;
     }
 
-pub IsArena-take : (base : ℕ) (words : List (List ℕ)) (marks : List Bool) (free : List ℕ) (count rest index : ℕ) (own : List ℕ) → IsFrame own → IsArena base words marks free count → count ≡ rest + 1 → index ≡ get_or free rest 0 → IsArena base (set words index own) (set marks index true) free rest
+pub IsArena-take : (base : ℕ) (words : List (List ℕ)) (marks : List Bool) (free : List ℕ) (count rest index : ℕ) (own : List ℕ) → IsFrame own
+    → IsArena base words marks free count → count ≡ rest + 1 → index ≡ get_or free rest 0 → IsArena base (set words index own) (set marks index true) free rest
 IsArena-take base words marks free count rest index own own_frame arena one_less top =
     let unmarked = IsUnmarked-from_top base words marks free count rest index arena one_less top in
     let in_marks : index < length marks = unmarked.in_marks in
@@ -149,13 +162,16 @@ IsArena-take base words marks free count rest index own own_frame arena one_less
     }
 
 -- one more number on a list of which the first ones count
-each_pushed : (free : List ℕ) (count index : ℕ) (P : ℕ → Type 0) → count < length free → P index → ((k : ℕ) → k < count → P (get_or free k 0)) → (k : ℕ) → k < count + 1 → P (get_or (set free count index) k 0)
+each_pushed : (free : List ℕ) (count index : ℕ) (P : ℕ → Type 0) → count < length free → P index → ((k : ℕ) → k < count → P (get_or free k 0)) → (k : ℕ)
+    → k < count + 1 → P (get_or (set free count index) k 0)
 each_pushed free count index P room here below k k_below = elim (cases_eq k count) as (λ _. P (get_or (set free count index) k 0)) [
   | inl top ↦ subst P (sym (get_or-set_at free count k index 0 top room)) here
   | inr other ↦ subst P (sym (get_or-set_other free count k index 0 other)) (below k (omega arith))
 ]
 
-once_pushed : (free : List ℕ) (count index : ℕ) → count < length free → ((j k : ℕ) → j < count → k < count → get_or free j 0 ≡ get_or free k 0 → j ≡ k) → ((k : ℕ) → k < count → get_or free k 0 ≢ index) → (j k : ℕ) → j < count + 1 → k < count + 1 → get_or (set free count index) j 0 ≡ get_or (set free count index) k 0 → j ≡ k
+once_pushed : (free : List ℕ) (count index : ℕ) → count < length free → ((j k : ℕ) → j < count → k < count → get_or free j 0 ≡ get_or free k 0 → j ≡ k)
+    → ((k : ℕ) → k < count → get_or free k 0 ≢ index) → (j k : ℕ) → j < count + 1 → k < count + 1
+    → get_or (set free count index) j 0 ≡ get_or (set free count index) k 0 → j ≡ k
 once_pushed free count index room once apart j k j_below k_below same =
     let at = λ (i : ℕ) (top : i ≡ count). get_or-set_at free count i index 0 top room in
     let off = λ (i : ℕ) (other : i ≢ count). get_or-set_other free count i index 0 other in
@@ -176,7 +192,8 @@ stays_unmarked marks index i in_marks unmarked = elim (cases_eq i index) as (λ 
   | inr other ↦ get_or-set_other marks index i false false other ∙ unmarked
 ]
 
-pub IsArena-give : (base : ℕ) (words : List (List ℕ)) (marks : List Bool) (free : List ℕ) (count index : ℕ) → IsArena base words marks free count → IsMarked marks words index → IsArena base words (set marks index false) (set free count index) (count + 1)
+pub IsArena-give : (base : ℕ) (words : List (List ℕ)) (marks : List Bool) (free : List ℕ) (count index : ℕ) → IsArena base words marks free count
+    → IsMarked marks words index → IsArena base words (set marks index false) (set free count index) (count + 1)
 IsArena-give base words marks free count index arena is_marked =
     let one_less = len-remove_used (marked_frames marks words) index _ is_marked.got in
     let room : count < length free = omega (arith, arena.counted, arena.room_for_each) in
@@ -187,13 +204,17 @@ IsArena-give base words marks free count index arena is_marked =
       words_for_each = rw length-set arena.words_for_each;
       whole_frames = arena.whole_frames;
       room_for_each = length-set free count index ∙ arena.room_for_each ∙ sym (length-set marks index false);
-      free_within = each_pushed free count index (λ i. i < length (set marks index false)) room (rw length-set in_marks) (λ k below. rw length-set (arena.free_within k below));
-      free_unmarked = each_pushed free count index (λ i. get_or (set marks index false) i false ≡ false) room (get_or-set_same marks index false false in_marks) (λ k below. stays_unmarked marks index (get_or free k 0) in_marks (arena.free_unmarked k below));
-      free_once = once_pushed free count index room arena.free_once (λ k below same. true≢false (sym is_marked.mark ∙ sym (ap (λ i. get_or marks i false) same) ∙ arena.free_unmarked k below));
+      free_within = each_pushed free count index (λ i. i < length (set marks index false)) room (rw length-set in_marks)
+          (λ k below. rw length-set (arena.free_within k below));
+      free_unmarked = each_pushed free count index (λ i. get_or (set marks index false) i false ≡ false) room
+          (get_or-set_same marks index false false in_marks) (λ k below. stays_unmarked marks index (get_or free k 0) in_marks (arena.free_unmarked k below));
+      free_once = once_pushed free count index room arena.free_once
+          (λ k below same. true≢false (sym is_marked.mark ∙ sym (ap (λ i. get_or marks i false) same) ∙ arena.free_unmarked k below));
       counted = rw (marked_frames-unmark marks words index in_marks, length-set marks index false) (omega (arith, one_less, arena.counted));
     }
 
-pub IsArena-write : (base : ℕ) (words : List (List ℕ)) (marks : List Bool) (free : List ℕ) (count index : ℕ) (own : List ℕ) → IsFrame own → IsArena base words marks free count → IsMarked marks words index → IsArena base (set words index own) marks free count
+pub IsArena-write : (base : ℕ) (words : List (List ℕ)) (marks : List Bool) (free : List ℕ) (count index : ℕ) (own : List ℕ) → IsFrame own
+    → IsArena base words marks free count → IsMarked marks words index → IsArena base (set words index own) marks free count
 IsArena-write base words marks free count index own own_frame arena is_marked =
     let same_count = len-insert_used (marked_frames marks words) index own _ is_marked.got in
     let in_words : index < length words = omega (arith, arena.words_for_each, is_marked.in_marks) in
@@ -209,7 +230,8 @@ IsArena-write base words marks free count index own own_frame arena is_marked =
       counted = rw (marked_frames-write marks words index own is_marked.mark in_words) (omega (arith, same_count, arena.counted));
     }
 
-pub IsStore-from_arena : (base : ℕ) (words : List (List ℕ)) (marks : List Bool) (free : List ℕ) (count : ℕ) → IsArena base words marks free count → IsStore base (length marks) (marked_frames marks words)
+pub IsStore-from_arena : (base : ℕ) (words : List (List ℕ)) (marks : List Bool) (free : List ℕ) (count : ℕ) → IsArena base words marks free count
+    → IsStore base (length marks) (marked_frames marks words)
 IsStore-from_arena base words marks free count arena = record {
   few_frames = arena.few_frames;
   numbers_fit = arena.numbers_fit;
@@ -223,14 +245,16 @@ IsStore-from_arena base words marks free count arena = record {
 
 -- no frame is marked
 pub marked_frames-none : (n : ℕ) (words : List (List ℕ)) → marked_frames (replicate n false) words ≡ finite.empty
-marked_frames-none n words = same_at _ _ (λ q. get-marked_frames (replicate n false) words q ∙ ap (λ b. cond b (Some (get_or words q [])) None) (none q) ∙ sym (finite.get-empty nat_cmp q)) where
-  none : (q : ℕ) → get_or (replicate n false) q false ≡ false
-  none q = elim (cases_lt q n) as (λ _. get_or (replicate n false) q false ≡ false) [
-    | inl lt ↦ get_or-replicate n q false false lt
-    | inr le ↦ get_or_past (replicate n false) q false (omega (arith, length-replicate n false))
-  ]
+marked_frames-none n words = same_at _ _ (λ q. get-marked_frames (replicate n false) words q ∙ ap (λ b. cond b (Some (get_or words q [])) None) (none q)
+    ∙ sym (finite.get-empty nat_cmp q)) where
+      none : (q : ℕ) → get_or (replicate n false) q false ≡ false
+      none q = elim (cases_lt q n) as (λ _. get_or (replicate n false) q false ≡ false) [
+        | inl lt ↦ get_or-replicate n q false false lt
+        | inr le ↦ get_or_past (replicate n false) q false (omega (arith, length-replicate n false))
+      ]
 
-pub IsArena-new : (base n : ℕ) (words : List (List ℕ)) (free : List ℕ) → n ≤ TABLES → base + n ≤ 2 ^ 40 → length words ≡ n → All IsFrame words → length free ≡ n → ((k : ℕ) → k < n → get_or free k 0 ≡ k) → IsArena base words (replicate n false) free n
+pub IsArena-new : (base n : ℕ) (words : List (List ℕ)) (free : List ℕ) → n ≤ TABLES → base + n ≤ 2 ^ 40 → length words ≡ n → All IsFrame words
+    → length free ≡ n → ((k : ℕ) → k < n → get_or free k 0 ≡ k) → IsArena base words (replicate n false) free n
 IsArena-new base n words free few fit words_long whole free_long itself =
     let long = length-replicate n false in
     record {
@@ -254,11 +278,13 @@ pub IsFree-from_mark : (marks : List Bool) (words : List (List ℕ)) (index : �
 IsFree-from_mark marks words index unmarked = get-marked_frames marks words index ∙ ap (λ b. cond b (Some (get_or words index [])) None) unmarked
 
 -- what is found by its mark is in use, and what isn't is free
-pub used_if_marked : (marks : List Bool) (words : List (List ℕ)) (found : Option ℕ) → IfSome found (λ f. get_or marks f false ≡ true) → IfSome found (IsInUse (marked_frames marks words))
+pub used_if_marked : (marks : List Bool) (words : List (List ℕ)) (found : Option ℕ) → IfSome found (λ f. get_or marks f false ≡ true)
+    → IfSome found (IsInUse (marked_frames marks words))
 used_if_marked marks words None marked = tt
 used_if_marked marks words (Some f) marked = IsInUse-from_mark marks words f marked
 
-pub free_if_unmarked : (marks : List Bool) (words : List (List ℕ)) (base number : ℕ) (found : Option ℕ) → IfNone found ((f : ℕ) → base + f ≡ number → get_or marks f false ≡ false)
+pub free_if_unmarked : (marks : List Bool) (words : List (List ℕ)) (base number : ℕ) (found : Option ℕ)
+    → IfNone found ((f : ℕ) → base + f ≡ number → get_or marks f false ≡ false)
     → IfNone found ((f : ℕ) → base + f ≡ number → IsFree (marked_frames marks words) f)
 free_if_unmarked marks words base number None unmarked = λ f named. IsFree-from_mark marks words f (unmarked f named)
 free_if_unmarked marks words base number (Some f) unmarked = tt

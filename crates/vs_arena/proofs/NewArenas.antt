@@ -21,7 +21,8 @@ HasMade-none = record {
   free_itself = λ k below. absurd (omega arith);
 }
 
-pub HasMade-push : (words : List (List ℕ)) (free : List ℕ) (n : ℕ) (own : List ℕ) → IsFrame own → HasMade words free n → HasMade (words ++ own ∷ []) (free ++ n ∷ []) (n + 1)
+pub HasMade-push : (words : List (List ℕ)) (free : List ℕ) (n : ℕ) (own : List ℕ) → IsFrame own → HasMade words free n
+    → HasMade (words ++ own ∷ []) (free ++ n ∷ []) (n + 1)
 HasMade-push words free n own own_frame made = record {
   words_for_each = length_push words own ∙ ap (λ k. k + 1) made.words_for_each;
   whole_frames = All-push IsFrame words own made.whole_frames own_frame;

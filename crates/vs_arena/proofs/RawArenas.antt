@@ -1,5 +1,6 @@
 -- Arenas in one region: what there is at a place, and how the links change with the frames in use.
-use Rattle.std.proofs.Common.{◌≡◌, ◌≢◌, ℕ, zero, suc, ◌+◌, ◌-◌, ◌<◌, ◌≤◌, ◌^◌, Bool, true, false, List, [], ◌∷◌, map, length, get_or, set, replicate, refl, sym, ap, ◌∙◌, inl, inr, arith}
+use Rattle.std.proofs.Common.{◌≡◌, ◌≢◌, ℕ, zero, suc, ◌+◌, ◌-◌, ◌<◌, ◌≤◌, ◌^◌, Bool, true, false, List, [], ◌∷◌, map, length, get_or, set, replicate, refl, sym}
+use Rattle.std.proofs.Common.{ap, ◌∙◌, inl, inr, arith}
 use Rattle.std.specs.Prelude.{Option, Some, None, All}
 use Rattle.std.proofs.lemmas.Grind.{get_or-set_at}
 use Rattle.std.proofs.lemmas.List.{get_or-set_same, get_or-set_other}
@@ -9,7 +10,8 @@ use Rattle.vs_types.specs.Frame.{IsFrame}
 use Rattle.vs_arena.specs.inside.Arena.{marked_frames}
 use Rattle.vs_arena.specs.inside.Region.{IsFilled}
 use Rattle.vs_arena.specs.inside.RawArena.{values, IsLinked, IsRawArena}
-use Rattle.vs_arena.proofs.MarkedFrames.{IsMarked, IsMarked-from_use, IsUnmarked, IsUnmarked-from_top, IsInUse-from_mark, IsArena-take, IsArena-give, IsArena-write, IsArena-new}
+use Rattle.vs_arena.proofs.MarkedFrames.{IsMarked, IsMarked-from_use, IsUnmarked, IsUnmarked-from_top, IsInUse-from_mark, IsArena-take, IsArena-give}
+use Rattle.vs_arena.proofs.MarkedFrames.{IsArena-write, IsArena-new}
 use Rattle.vs_arena.proofs.Stores.{len-remove_used}
 
 module _ {X : Type 0} where

@@ -16,7 +16,8 @@ use mir.Val.{Val, vstruct, vcons, vnil, of_list}
 use base.Logic.{SProp, ent, sep, emp, ex, guard, via, snd∗, id⊢}
 use base.Fml.{Fml, Lft, ftrue, fsep, fat, froom, fhide}
 use types.Logic.{Logic, sem}
-use types.Kit.{Item, Goal, Seq, Step, step, ‵, some, given, ◌⊛◌, ◌$◌, ◌∵◌, !, qed, by, move, keep, drop as skip, use1, use2, pick, split, learn, check, show, frame, fsplit, fjoin, fpick, fpack, feq_i, feq_l, rewrite, done}
+use types.Kit.{Item, Goal, Seq, Step, step, ‵, some, given, ◌⊛◌, ◌$◌, ◌∵◌, !, qed, by, move, keep, drop as skip, use1, use2, pick, split, learn, check, show}
+use types.Kit.{frame, fsplit, fjoin, fpick, fpack, feq_i, feq_l, rewrite, done}
 use denote.RattleType.{RattleType, Valss}
 use denote.Memory.{part_at, hidden_shr}
 use denote.RawPtr.{Ptr, RawPtr, ptr_val}

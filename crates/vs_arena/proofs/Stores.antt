@@ -8,8 +8,10 @@ use Rattle.std.proofs.lemmas.Bool.{eq-eqb, ne_eqb}
 use Rattle.std.proofs.lemmas.Option.{none-some}
 use Rattle.vs_arena.specs.Store.{Store, IsInUse, IsFree, words_of}
 
-pub get-insert : (store : Store) (index : ℕ) (words : List ℕ) (q : ℕ) → finite.get (finite.insert store index words) q ≡ cond (eqb q index) (Some words) (finite.get store q)
-get-insert store index words q = finite.get-insert nat_cmp_total store index words q ∙ ap (λ b. cond b (Some words) (finite.get store q)) (unsigned_tied q index)
+pub get-insert : (store : Store) (index : ℕ) (words : List ℕ) (q : ℕ)
+    → finite.get (finite.insert store index words) q ≡ cond (eqb q index) (Some words) (finite.get store q)
+get-insert store index words q =
+    finite.get-insert nat_cmp_total store index words q ∙ ap (λ b. cond b (Some words) (finite.get store q)) (unsigned_tied q index)
 
 pub get-remove : (store : Store) (index q : ℕ) → finite.get (finite.remove store index) q ≡ cond (eqb q index) None (finite.get store q)
 get-remove store index q = finite.get-remove nat_cmp_total store index q ∙ ap (λ b. cond b None (finite.get store q)) (unsigned_tied q index)
@@ -17,19 +19,24 @@ get-remove store index q = finite.get-remove nat_cmp_total store index q ∙ ap 
 pub get-insert_same : (store : Store) (index : ℕ) (words : List ℕ) → finite.get (finite.insert store index words) index ≡ Some words
 get-insert_same store index words = get-insert store index words index ∙ ap (λ b. cond b (Some words) (finite.get store index)) (eq-eqb index index refl)
 
-pub get-insert_other : (store : Store) (index : ℕ) (words : List ℕ) (q : ℕ) → (q ≡ index → ⊥) → finite.get (finite.insert store index words) q ≡ finite.get store q
+pub get-insert_other : (store : Store) (index : ℕ) (words : List ℕ) (q : ℕ) → (q ≡ index → ⊥)
+    → finite.get (finite.insert store index words) q ≡ finite.get store q
 get-insert_other store index words q h = get-insert store index words q ∙ ap (λ b. cond b (Some words) (finite.get store q)) (ne_eqb q index h)
 
 pub len-insert_free : (store : Store) (index : ℕ) (words : List ℕ) → IsFree store index → finite.len (finite.insert store index words) ≡ finite.len store + 1
 len-insert_free store index words h = finite.len-insert nat_cmp_total store index words ∙ ap (λ o. cond (is_some o) (finite.len store) (finite.len store + 1)) h
 
-pub len-insert_used : (store : Store) (index : ℕ) (words own : List ℕ) → finite.get store index ≡ Some own → finite.len (finite.insert store index words) ≡ finite.len store
-len-insert_used store index words own h = finite.len-insert nat_cmp_total store index words ∙ ap (λ o. cond (is_some o) (finite.len store) (finite.len store + 1)) h
+pub len-insert_used : (store : Store) (index : ℕ) (words own : List ℕ) → finite.get store index ≡ Some own
+    → finite.len (finite.insert store index words) ≡ finite.len store
+len-insert_used store index words own h =
+    finite.len-insert nat_cmp_total store index words ∙ ap (λ o. cond (is_some o) (finite.len store) (finite.len store + 1)) h
 
-pub len-remove_used : (store : Store) (index : ℕ) (own : List ℕ) → finite.get store index ≡ Some own → finite.len (finite.remove store index) + 1 ≡ finite.len store
+pub len-remove_used : (store : Store) (index : ℕ) (own : List ℕ) → finite.get store index ≡ Some own
+    → finite.len (finite.remove store index) + 1 ≡ finite.len store
 len-remove_used store index own h =
     let fewer = finite.len-remove nat_cmp_total store index ∙ ap (λ o. cond (is_some o) (finite.len store - 1) (finite.len store)) h in
-    let some : finite.len store ≡ 0 → ⊥ = λ none. none-some own (sym (ap (λ m. finite.get m index) (finite.empty_of_len store none) ∙ finite.get-empty nat_cmp index) ∙ h) in
+    let some : finite.len store ≡ 0 → ⊥ =
+    λ none. none-some own (sym (ap (λ m. finite.get m index) (finite.empty_of_len store none) ∙ finite.get-empty nat_cmp index) ∙ h) in
     omega arith
 
 -- what is in use has words
@@ -55,6 +62,7 @@ IsInUse-insert store index words q used = some_is _ _ (get-insert store index wo
 
 -- a frame in use stays in use when another is taken away
 pub IsInUse-remove : (store : Store) (index q : ℕ) → (q ≡ index → ⊥) → IsInUse store q → IsInUse (finite.remove store index) q
-IsInUse-remove store index q other used = some_is _ _ (get-remove store index q ∙ ap (λ b. cond b None (finite.get store q)) (ne_eqb q index other) ∙ get_in_use store q used)
+IsInUse-remove store index q other used =
+    some_is _ _ (get-remove store index q ∙ ap (λ b. cond b None (finite.get store q)) (ne_eqb q index other) ∙ get_in_use store q used)
 
 pub ruleset in_use = (IsInUse-insert_same, IsInUse-insert, IsInUse-remove)

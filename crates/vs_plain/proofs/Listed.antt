@@ -1,5 +1,6 @@
 -- Spaces by ordered lists of their pages, as a map keeps them.
-use Rattle.std.proofs.Common.{◌≡◌, ℕ, ◌≤◌, Bool, true, false, cond, T, ◌&&◌, List, [], ◌∷◌, ◌++◌, map, Some, None, refl, sym, ap, ◌∙◌, subst, arith, nat_cmp, is_eq, is_lt, is_gt, is_some, IsSome, IfSome, slice_get, ⊎_elim, Less, BTreeMap}
+use Rattle.std.proofs.Common.{◌≡◌, ℕ, ◌≤◌, Bool, true, false, cond, T, ◌&&◌, List, [], ◌∷◌, ◌++◌, map, Some, None, refl, sym, ap, ◌∙◌, subst, arith, nat_cmp}
+use Rattle.std.proofs.Common.{is_eq, is_lt, is_gt, is_some, IsSome, IfSome, slice_get, ⊎_elim, Less, BTreeMap}
 use Rattle.std.specs.Cmp.{nat_cmp_total, eq_by_cmp_equiv}
 use Rattle.std.specs.Ordering.{eq_by_cmp}
 use Rattle.std.specs.FinMap as finite
@@ -116,8 +117,10 @@ pub by_base_put : (es fs : List (ℕ × Page)) (page : Page) → IsByBase es →
 by_base_put es fs page h t is = record { rising = t; under_base = under } where
   under : (base : ℕ) (p : Page) → finite.get (listed_space fs) base ≡ Some p → p.base ≡ base
   under base p got =
-      let found : cond (is_at (nat_cmp page.base) base) (Some page) (lookup (is_at (nat_cmp base)) es) ≡ Some p = sym (is base) ∙ sym (get_listed fs base t) ∙ got in
-      elim (is_at (nat_cmp page.base) base) as (λ b. is_at (nat_cmp page.base) base ≡ b → cond b (Some page) (lookup (is_at (nat_cmp base)) es) ≡ Some p → p.base ≡ base) [
+      let found : cond (is_at (nat_cmp page.base) base) (Some page) (lookup (is_at (nat_cmp base)) es) ≡ Some p =
+      sym (is base) ∙ sym (get_listed fs base t) ∙ got in
+      elim (is_at (nat_cmp page.base) base) as (λ b. is_at (nat_cmp page.base) base ≡ b
+      → cond b (Some page) (lookup (is_at (nat_cmp base)) es) ≡ Some p → p.base ≡ base) [
         | true ↦ λ e same. let here : page.base ≡ base = same_number page.base base e in let it : page ≡ p = cc in sym (ap (λ x. x.base) it) ∙ here
         | false ↦ λ e there. h.under_base base p (get_listed es base h.rising ∙ there)
       ] refl found
@@ -141,7 +144,8 @@ pub listed_again : (es fs : List (ℕ × Page)) (base : ℕ) (page new : Page) �
     → IsByBase fs × (listed_space fs ≡ finite.insert (listed_space es) base new)
 listed_again es fs base page new h t same there is =
     let begins : new.base ≡ base = same ∙ h.under_base base page (get_listed es base h.rising ∙ sym there) in (
-      by_base_put es fs new h t (subst (λ b. (q : ℕ) → lookup (is_at (nat_cmp q)) fs ≡ cond (is_at (nat_cmp b) q) (Some new) (lookup (is_at (nat_cmp q)) es)) (sym begins) is),
+      by_base_put es fs new h t (subst (λ b. (q : ℕ)
+          → lookup (is_at (nat_cmp q)) fs ≡ cond (is_at (nat_cmp b) q) (Some new) (lookup (is_at (nat_cmp q)) es)) (sym begins) is),
       put_listed es fs base new h.rising t is,
     )
 
@@ -163,13 +167,18 @@ module _ (m : BTreeMap ℕ Page) (h : IsByBase m.entries) (address : ℕ) (r : L
   is_there : (q : Page) → Holds (listed_space m.entries) q → IsSome (get nat_cmp m q.base)
   is_there q holds = ap is_some (looks_up q holds)
 
-  pub last_from_range : IsRangeOf nat_cmp Unbounded (Included address) m r → (e : ℕ × Page) (t : List (ℕ × Page)) → r ≡ t ++ e ∷ [] → IsLastUpTo (listed_space m.entries) address (Some e.1)
+  pub last_from_range : IsRangeOf nat_cmp Unbounded (Included address) m r → (e : ℕ × Page) (t : List (ℕ × Page)) → r ≡ t ++ e ∷ []
+      → IsLastUpTo (listed_space m.entries) address (Some e.1)
   last_from_range range e t is =
       let entry = range.3 e t is in
       let here = has e entry.1 in
       let base : e.1.base ≡ e.0 = here.1 in
-      let low : e.0 ≤ address = le_from_not_gt e.0 address entry.0.1 in
-      (here.0, omega arith, λ q holds l. let most = ge_from_not_lt e.0 q.base (range.4 e t is q.base (tt, up_to q.base address l) (is_there q holds)) in omega (arith, most, base))
+      let low : e.0 ≤ address = le_from_not_gt e.0 address entry.0.1 in (
+        here.0,
+        omega arith,
+        λ q holds l. let most = ge_from_not_lt e.0 q.base (range.4 e t is q.base (tt, up_to q.base address l) (is_there q holds)) in
+            omega (arith, most, base),
+      )
 
   absent : (q : Page) → Holds (listed_space m.entries) q → get nat_cmp m q.base ≡ None → ⊥
   absent q holds none = let there = looks_up q holds in cc
@@ -178,17 +187,20 @@ module _ (m : BTreeMap ℕ Page) (h : IsByBase m.entries) (address : ℕ) (r : L
   no_last_from_range range is q holds =
       ⊎_elim (λ l. l) (λ l. absurd (absent q holds (range.5 is q.base (tt, up_to q.base address l)))) (cases_lt address q.base)
 
-  pub first_from_range : IsRangeOf nat_cmp (Included address) Unbounded m r → (e : ℕ × Page) (t : List (ℕ × Page)) → r ≡ e ∷ t → IsFirstFrom (listed_space m.entries) address (Some e.1)
+  pub first_from_range : IsRangeOf nat_cmp (Included address) Unbounded m r → (e : ℕ × Page) (t : List (ℕ × Page)) → r ≡ e ∷ t
+      → IsFirstFrom (listed_space m.entries) address (Some e.1)
   first_from_range range e t is =
       let first : slice_get r 0 ≡ Some e = ap (λ x. slice_get x 0) is in
-      let entry : IsEntryInRange nat_cmp (Included address) Unbounded m e = subst (λ o. IfSome o (IsEntryInRange nat_cmp (Included address) Unbounded m)) first range.1 in
+      let entry : IsEntryInRange nat_cmp (Included address) Unbounded m e =
+      subst (λ o. IfSome o (IsEntryInRange nat_cmp (Included address) Unbounded m)) first range.1 in
       let here = has e entry.1 in
       let base : e.1.base ≡ e.0 = here.1 in
       let high : address ≤ e.0 = le_from_not_gt address e.0 entry.0.0 in (
         here.0,
         omega arith,
         λ q holds l.
-            let least : is_gt (nat_cmp e.0 q.base) ≡ false = subst (λ o. IfSome o (λ e. IsLeBy nat_cmp e.0 q.base)) first (range.2 q.base (up_to address q.base l, tt) (is_there q holds)) in
+            let least : is_gt (nat_cmp e.0 q.base) ≡ false =
+            subst (λ o. IfSome o (λ e. IsLeBy nat_cmp e.0 q.base)) first (range.2 q.base (up_to address q.base l, tt) (is_there q holds)) in
             omega (arith, le_from_not_gt e.0 q.base least, base),
       )
 

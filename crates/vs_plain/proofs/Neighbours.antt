@@ -60,13 +60,15 @@ module _ {depth : Depth} {space : Space} (is : IsSpace depth space) where
       let before : q.base ≤ p.base = last.2 q holds at.0 in
       ⊎_elim
       (λ l. omega (arith, ends_before q p holds last.0 l, last.1))
-      (λ l. let same : q ≡ p = one_page q p holds last.0 (omega (arith, before)) in let there : covers p address ≡ true = subst (λ x. IsTrue (covers x address)) same covered in cc)
+      (λ l. let same : q ≡ p = one_page q p holds last.0 (omega (arith, before)) in
+      let there : covers p address ≡ true = subst (λ x. IsTrue (covers x address)) same covered in cc)
       (cases_lt q.base p.base)) in
       (sym none, last)
 
   pub free_by_none : (address : ℕ) → IsLastUpTo space address None → IsPlaceOf depth space address (Free None)
   free_by_none address last =
-      let none : None ≡ page_at space address = nothing_at address (λ q holds covered. let at = (covers_means q address).0 covered in omega (arith, last q holds)) in
+      let none : None ≡ page_at space address =
+      nothing_at address (λ q holds covered. let at = (covers_means q address).0 covered in omega (arith, last q holds)) in
       (sym none, last)
 
   -- the page that begins at an address covers it
@@ -113,7 +115,8 @@ module _ {depth : Depth} {space : Space} (is : IsSpace depth space) where
       → step depth limit space (Protect base rights) ≡ record { space = finite.insert space base (record p { rights = rights }); answer = Changed p.rights }
   protect_of_page limit base rights p there =
       let here = begins_at base p there in
-      protect_cases (λ s. s ≡ record { space = finite.insert space base (record p { rights = rights }); answer = Changed p.rights }) depth limit space base rights
+      protect_cases (λ s. s ≡ record { space = finite.insert space base (record p { rights = rights }); answer = Changed p.rights }) depth
+      limit space base rights
       (λ at. cc)
       (λ q at same.
       let one : q ≡ p = cc in
@@ -145,14 +148,16 @@ module _ {depth : Depth} {space : Space} (is : IsSpace depth space) (page : Page
       (λ l. let at : page_at space page.base ≡ Some r = (page_at_means is page.base r).1 (h, (covers_means r page.base).1 (l, meet.0)) in cc)
       (cases_lt page.base r.base)
 
-  pub overlapped_above : (a : Page) → None ≡ page_at space page.base → IsFirstFrom space page.base (Some a) → covers page a.base ≡ true → Some a.base ≡ least_overlapped space page
+  pub overlapped_above : (a : Page) → None ≡ page_at space page.base → IsFirstFrom space page.base (Some a) → covers page a.base ≡ true
+      → Some a.base ≡ least_overlapped space page
   overlapped_above a none first near =
       let reached = ((covers_means page a.base).0 near).1 in
       sym (overlapped_first is page a first.0 ((overlaps_means page a).1 (omega (arith, first.1, bytes_positive a.size), reached))
       (λ r h o. let behind = begins_behind none r h o in first.2 r h (omega arith)))
 
   -- where the first page from the base on is not reached, no page is overlapped
-  pub not_overlapped_far : (a : Page) → None ≡ page_at space page.base → IsFirstFrom space page.base (Some a) → covers page a.base ≡ false → None ≡ least_overlapped space page
+  pub not_overlapped_far : (a : Page) → None ≡ page_at space page.base → IsFirstFrom space page.base (Some a) → covers page a.base ≡ false
+      → None ≡ least_overlapped space page
   not_overlapped_far a none first far =
       sym (none_overlapped is page (λ r h o.
       let behind = begins_behind none r h o in
@@ -179,7 +184,8 @@ module _ {depth : Depth} {space : Space} (is : IsSpace depth space) (page : Page
 -- ---- a page that is taken out
 
 -- a page that is taken out overlaps nothing that is left
-pub removed_free : {depth : Depth} {space : Space} → IsSpace depth space → (page : Page) → Holds space page → least_overlapped (finite.remove space page.base) page ≡ None
+pub removed_free : {depth : Depth} {space : Space} → IsSpace depth space → (page : Page) → Holds space page
+    → least_overlapped (finite.remove space page.base) page ≡ None
 removed_free {depth} {space} is page holds =
     none_overlapped (remove_space is page.base) page (λ r h o.
     let was = remove_cases space page.base r.base r h in
@@ -187,7 +193,8 @@ removed_free {depth} {space} is page holds =
     was.0 (ap (λ (p : Page). p.base) (is.apart r page meet.0 was.1 holds meet.2 meet.1)))
 
 -- what is left where the page that begins at an address is taken out
-pub taken_out : {depth : Depth} {space : Space} → IsSpace depth space → (page : Page) (base : ℕ) (left : Space) → Some page ≡ finite.get space base → left ≡ finite.remove space base
+pub taken_out : {depth : Depth} {space : Space} → IsSpace depth space → (page : Page) (base : ℕ) (left : Space) → Some page ≡ finite.get space base
+    → left ≡ finite.remove space base
     → IsSpace depth left × (least_overlapped left page ≡ None) × (finite.insert left page.base page ≡ space)
 taken_out {depth} {space} is page base left there e =
     let begins : page.base ≡ base = is.under_base base page (sym there) in

@@ -1,5 +1,6 @@
 -- How the table count changes with one page, by the pages next to it.
-use Rattle.std.proofs.Common.{◌≡◌, ◌≢◌, ℕ, zero, suc, ◌+◌, ◌-◌, ◌*◌, ◌/◌, ◌%◌, ◌^◌, ◌<◌, ◌≤◌, true, false, cond, ◌||◌, nat_eq, nat_lt, List, Option, Some, None, IsTrue, ⊎_elim, refl, sym, ap, ◌∙◌, subst, mod-lt, mod-eq_of_lt, arith}
+use Rattle.std.proofs.Common.{◌≡◌, ◌≢◌, ℕ, zero, suc, ◌+◌, ◌-◌, ◌*◌, ◌/◌, ◌%◌, ◌^◌, ◌<◌, ◌≤◌, true, false, cond, ◌||◌, nat_eq, nat_lt, List, Option, Some, None}
+use Rattle.std.proofs.Common.{IsTrue, ⊎_elim, refl, sym, ap, ◌∙◌, subst, mod-lt, mod-eq_of_lt, arith}
 use lib.Pow.{pow_pos, pow_mono, shr_mono, shr-shr, split, mod-mod-pow}
 use Rattle.std.specs.FinMap as finite
 use Rattle.std.specs.Cmp.{both_ways}
@@ -42,7 +43,8 @@ coarser low high address (Some q) l b =
 
 -- ---- the stretch of the new page, by the pages next to it
 
-module _ {depth : Depth} {space : Space} (is : IsSpace depth space) (page : Page) (apart : (q : Page) → Holds space q → overlaps page q ≡ false) (level : ℕ) (own : level_of page.size ≤ level) where
+module _ {depth : Depth} {space : Space} (is : IsSpace depth space) (page : Page) (apart : (q : Page) → Holds space q
+    → overlaps page q ≡ false) (level : ℕ) (own : level_of page.size ≤ level) where
   -- a page that begins in the stretch of a smaller page apart from it has a table there
   small : (q : Page) → Holds space q → q.base / table_bytes level ≡ page.base / table_bytes level → nat_lt (bytes_of q.size) (table_bytes level) ≡ true
   small q h e =
@@ -57,40 +59,49 @@ module _ {depth : Depth} {space : Space} (is : IsSpace depth space) (page : Page
       (λ l. has_table q level l)
       (cases_lt level (level_of q.size))
 
-  next_to : (low high : ℕ) (p : Page) → low ≤ p.base → p.base ≤ high → low / table_bytes level ≡ page.base / table_bytes level → high / table_bytes level ≡ page.base / table_bytes level → begins_in_stretch level page.base (Some p) ≡ true
+  next_to : (low high : ℕ) (p : Page) → low ≤ p.base → p.base ≤ high → low / table_bytes level ≡ page.base / table_bytes level
+      → high / table_bytes level ≡ page.base / table_bytes level → begins_in_stretch level page.base (Some p) ≡ true
   next_to low high p a b e f =
       let more = shr_mono (12 + 9 * level) a in
       let less = shr_mono (12 + 9 * level) b in
       eq-eqb (p.base / table_bytes level) (page.base / table_bytes level) (omega arith)
 
-  found_below : (below : Option Page) → IsLastUpTo space page.base below → (r : Page) → Holds space r → r.base / table_bytes level ≡ page.base / table_bytes level → r.base ≤ page.base → begins_in_stretch level page.base below ≡ true
+  found_below : (below : Option Page) → IsLastUpTo space page.base below → (r : Page) → Holds space r
+      → r.base / table_bytes level ≡ page.base / table_bytes level → r.base ≤ page.base → begins_in_stretch level page.base below ≡ true
   found_below None last r h e l = absurd (omega (arith, last r h))
   found_below (Some b) last r h e l = next_to r.base page.base b (last.2 r h l) last.1 e refl
 
-  found_above : (above : Option Page) → IsFirstFrom space page.base above → (r : Page) → Holds space r → r.base / table_bytes level ≡ page.base / table_bytes level → page.base ≤ r.base → begins_in_stretch level page.base above ≡ true
+  found_above : (above : Option Page) → IsFirstFrom space page.base above → (r : Page) → Holds space r
+      → r.base / table_bytes level ≡ page.base / table_bytes level → page.base ≤ r.base → begins_in_stretch level page.base above ≡ true
   found_above None first r h e l = absurd (omega (arith, first r h))
   found_above (Some a) first r h e l = next_to page.base r.base a first.1 (first.2 r h l) refl e
 
-  held_there : (q : Page) → Holds space q → begins_in_stretch level page.base (Some q) ≡ true → is_member nat_eq (stretches level space) (page.base / table_bytes level) ≡ true
+  held_there : (q : Page) → Holds space q → begins_in_stretch level page.base (Some q) ≡ true
+      → is_member nat_eq (stretches level space) (page.base / table_bytes level) ≡ true
   held_there q h b =
       let e : q.base / table_bytes level ≡ page.base / table_bytes level = eqb-true _ _ b in
       subst (λ n. is_member nat_eq (stretches level space) n ≡ true) e
-      (member_goes (λ (p : Page). p.base / table_bytes level) (λ p. nat_lt (bytes_of p.size) (table_bytes level)) (pages space) q ((holds_listed is q).1 h) (small q h e))
+      (member_goes (λ (p : Page). p.base / table_bytes level) (λ p. nat_lt (bytes_of p.size) (table_bytes level)) (pages space) q
+      ((holds_listed is q).1 h) (small q h e))
 
-  pub below_there : (below : Option Page) → IsLastUpTo space page.base below → begins_in_stretch level page.base below ≡ true → is_member nat_eq (stretches level space) (page.base / table_bytes level) ≡ true
+  pub below_there : (below : Option Page) → IsLastUpTo space page.base below → begins_in_stretch level page.base below ≡ true
+      → is_member nat_eq (stretches level space) (page.base / table_bytes level) ≡ true
   below_there None last b = cc
   below_there (Some q) last b = held_there q last.0 b
 
-  above_there : (above : Option Page) → IsFirstFrom space page.base above → begins_in_stretch level page.base above ≡ true → is_member nat_eq (stretches level space) (page.base / table_bytes level) ≡ true
+  above_there : (above : Option Page) → IsFirstFrom space page.base above → begins_in_stretch level page.base above ≡ true
+      → is_member nat_eq (stretches level space) (page.base / table_bytes level) ≡ true
   above_there None first b = cc
   above_there (Some q) first b = held_there q first.0 b
 
   pub shared : (below above : Option Page) → IsLastUpTo space page.base below → IsFirstFrom space page.base above
-      → is_member nat_eq (stretches level space) (page.base / table_bytes level) ≡ (begins_in_stretch level page.base below || begins_in_stretch level page.base above)
+      → is_member nat_eq (stretches level space) (page.base / table_bytes level)
+      ≡ (begins_in_stretch level page.base below || begins_in_stretch level page.base above)
   shared below above last first =
       both_ways _ _
       (λ m.
-      let found = member_comes (λ (p : Page). p.base / table_bytes level) (λ p. nat_lt (bytes_of p.size) (table_bytes level)) (pages space) (page.base / table_bytes level) m in
+      let found = member_comes (λ (p : Page). p.base / table_bytes level) (λ p. nat_lt (bytes_of p.size) (table_bytes level)) (pages space)
+      (page.base / table_bytes level) m in
       let held = (holds_listed is found.0).0 found.1 in
       ⊎_elim
       (λ l. or_right _ _ (found_above above first found.0 held found.3 (omega arith)))
@@ -128,9 +139,11 @@ module _ {depth : Depth} {space : Space} (is : IsSpace depth space) (page : Page
       omega arith
 
   at_level : (level : ℕ) (below above : Option Page) → IsLastUpTo space page.base below → IsFirstFrom space page.base above → level_of page.size ≤ level
-      → tables_of_level level (pages (finite.insert space page.base page)) ≡ cond (begins_in_stretch level page.base below || begins_in_stretch level page.base above) 0 1 + tables_of_level level (pages space)
+      → tables_of_level level (pages (finite.insert space page.base page))
+      ≡ cond (begins_in_stretch level page.base below || begins_in_stretch level page.base above) 0 1 + tables_of_level level (pages space)
   at_level level below above last first own =
-      tables_with is page is_with absent level own ∙ ap (λ b. cond b 0 1 + tables_of_level level (pages space)) (shared is page apart level own below above last first)
+      tables_with is page is_with absent level own
+      ∙ ap (λ b. cond b 0 1 + tables_of_level level (pages space)) (shared is page apart level own below above last first)
 
   -- where the page before is in its own table, it needs no other
   pub no_new : (below : Option Page) → IsLastUpTo space page.base below → begins_in_stretch (level_of page.size) page.base below ≡ true
@@ -146,7 +159,8 @@ module _ {depth : Depth} {space : Space} (is : IsSpace depth space) (page : Page
       omega arith)
       (cases_lt (suc n) (level_of page.size))
 
-  level_done : (level count there : ℕ) → 0 < level → tables_of_level level (pages (finite.insert space page.base page)) ≡ there + tables_of_level level (pages space)
+  level_done : (level count there : ℕ) → 0 < level
+      → tables_of_level level (pages (finite.insert space page.base page)) ≡ there + tables_of_level level (pages space)
       → count + tables_of_levels (level - 1) (pages space) ≡ tables_of_levels (level - 1) (pages (finite.insert space page.base page))
       → (count + there) + tables_of_levels level (pages space) ≡ tables_of_levels level (pages (finite.insert space page.base page))
   level_done level count there some e before =
@@ -155,17 +169,21 @@ module _ {depth : Depth} {space : Space} (is : IsSpace depth space) (page : Page
       omega arith
 
   -- the count after a level
-  pub one_more : (level next count : ℕ) (below above : Option Page) → IsLastUpTo space page.base below → IsFirstFrom space page.base above → 0 < level → level_of page.size ≤ level → next ≡ level
+  pub one_more : (level next count : ℕ) (below above : Option Page) → IsLastUpTo space page.base below → IsFirstFrom space page.base above → 0 < level
+      → level_of page.size ≤ level → next ≡ level
       → (begins_in_stretch level page.base below || begins_in_stretch level page.base above) ≡ false
       → count + tables_of_levels (level - 1) (pages space) ≡ tables_of_levels (level - 1) (pages (finite.insert space page.base page))
       → (count + 1) + tables_of_levels next (pages space) ≡ tables_of_levels next (pages (finite.insert space page.base page))
   one_more level next count below above last first some own e neither before =
-      rw e (level_done level count 1 some (at_level level below above last first own ∙ ap (λ b. cond b 0 1 + tables_of_level level (pages space)) neither) before)
+      rw e (level_done level count 1 some (at_level level below above last first own
+      ∙ ap (λ b. cond b 0 1 + tables_of_level level (pages space)) neither) before)
 
-  pub no_more : (level next count : ℕ) (below above : Option Page) → IsLastUpTo space page.base below → IsFirstFrom space page.base above → 0 < level → level_of page.size ≤ level → next ≡ level
+  pub no_more : (level next count : ℕ) (below above : Option Page) → IsLastUpTo space page.base below → IsFirstFrom space page.base above → 0 < level
+      → level_of page.size ≤ level → next ≡ level
       → (begins_in_stretch level page.base below || begins_in_stretch level page.base above) ≡ true
       → count + tables_of_levels (level - 1) (pages space) ≡ tables_of_levels (level - 1) (pages (finite.insert space page.base page))
       → count + tables_of_levels next (pages space) ≡ tables_of_levels next (pages (finite.insert space page.base page))
   no_more level next count below above last first some own e one before =
-      let done = level_done level count 0 some (at_level level below above last first own ∙ ap (λ b. cond b 0 1 + tables_of_level level (pages space)) one) before in
+      let done = level_done level count 0 some (at_level level below above last first own
+      ∙ ap (λ b. cond b 0 1 + tables_of_level level (pages space)) one) before in
       rw e (omega arith)

@@ -13,4 +13,5 @@ pub record BoundedSpace : Type 0 where
 
 -- one step of what is kept, and its answer
 abbrev pub IsPlainStep : BoundedSpace → Action → Answer → BoundedSpace → Type 0
-IsPlainStep old action answer new = let after = step old.depth old.limit old.space action in (answer ≡ after.answer) × (new ≡ record old { space = after.space })
+IsPlainStep old action answer new = let after = step old.depth old.limit old.space action in
+    (answer ≡ after.answer) × (new ≡ record old { space = after.space })

@@ -17,7 +17,8 @@ use Rattle.vs_space.specs.inside.Grow.{IsOpen, IsExtended}
 use Rattle.vs_space.proofs.Numbered.{get-insert_same, len-insert_free}
 use Rattle.vs_space.proofs.Writes.{len_written}
 use Rattle.vs_space.proofs.Trees.{but_alike}
-use Rattle.vs_space.proofs.Links.{found_in_zeros, still_clear, linked, old_or_new, tree_link, walk_link, table_take, walk_take, tree_take, new_unreached, found_take}
+use Rattle.vs_space.proofs.Links.{found_in_zeros, still_clear, linked, old_or_new, tree_link, walk_link, table_take, walk_take, tree_take, new_unreached}
+use Rattle.vs_space.proofs.Links.{found_take}
 use Rattle.vs_space.proofs.Reached.{reached_link}
 use Rattle.vs_space.proofs.Written.{written_table}
 

@@ -17,7 +17,8 @@ use Rattle.vs_space.specs.Path.{found_at, table_in, table_at, SamePath}
 use Rattle.vs_space.specs.inside.Tree.{IsTree}
 use Rattle.vs_space.proofs.Numbered.{get-insert_other, get-remove_other}
 use Rattle.vs_space.proofs.Paths.{reached_within, table_below, none_past, same_table, walk_absent, found_same}
-use Rattle.vs_space.proofs.Writes.{off_path, above, table_off_path, table_above, walk_off_path, table_here, found_on_path, same_or_not, found_alike, written_in_use, used_some, get_written_other}
+use Rattle.vs_space.proofs.Writes.{off_path, above, table_off_path, table_above, walk_off_path, table_here, found_on_path, same_or_not, found_alike}
+use Rattle.vs_space.proofs.Writes.{written_in_use, used_some, get_written_other}
 use Rattle.vs_space.proofs.Trees.{one_some, one_meaning, unreached_table, unreached_walk, unreached_tree, none_here, fewer, tree_write}
 
 -- the word 0 is absent at each level

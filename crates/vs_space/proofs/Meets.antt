@@ -25,7 +25,8 @@ use Rattle.vs_space.specs.Table.{IsTableStep}
 use Rattle.vs_space.specs.inside.Invariant.{IsSpaceOf, IsPageTable}
 use Rattle.vs_space.proofs.Paths.{words_found}
 use Rattle.vs_space.proofs.Regions.{IsLeafPage}
-use Rattle.vs_space.proofs.Protects.{IsMet, page_table, own_space, space_of, absent_none, never_reserved, page_here, unmap_none, protect_none, unmap_inside, protect_inside, stays, answer_is, space_is, table_new}
+use Rattle.vs_space.proofs.Protects.{IsMet, page_table, own_space, space_of, absent_none, never_reserved, page_here, unmap_none, protect_none, unmap_inside}
+use Rattle.vs_space.proofs.Protects.{protect_inside, stays, answer_is, space_is, table_new}
 
 pub met_of : (depth : Depth) (m : Memory) (root a lowest level : ℕ) (path : List ℕ) (e : Meaning) → 1 ≤ lowest → IsDescent depth m root a lowest level path e
     → IsMet depth m root a level (slice_index path level) e

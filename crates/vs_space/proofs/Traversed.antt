@@ -1,6 +1,7 @@
 -- The path through all tables of a tree: it reaches each frame in use once, and no other, and it meets no fault where the
 -- memory translates as a space.
-use Rattle.std.proofs.Common.{◌≡◌, ◌≢◌, ℕ, zero, suc, ◌+◌, ◌-◌, ◌*◌, ◌/◌, ◌%◌, ◌^◌, ◌==◌, ◌<◌, ◌≤◌, List, [], ◌∷◌, ◌++◌, Option, Some, None, Bool, true, false, not, if◌then◌else◌, length, get_or, flat_map, Contains, IsTrue, ⊎_elim, refl, sym, ap, subst, ◌∙◌, arith, mod-lt}
+use Rattle.std.proofs.Common.{◌≡◌, ◌≢◌, ℕ, zero, suc, ◌+◌, ◌-◌, ◌*◌, ◌/◌, ◌%◌, ◌^◌, ◌==◌, ◌<◌, ◌≤◌, List, [], ◌∷◌, ◌++◌, Option, Some, None, Bool, true, false}
+use Rattle.std.proofs.Common.{not, if◌then◌else◌, length, get_or, flat_map, Contains, IsTrue, ⊎_elim, refl, sym, ap, subst, ◌∙◌, arith, mod-lt}
 use Rattle.std.specs.Prelude.{⊤, IsSome, option_map, slice_index}
 use Rattle.std.specs.List.{enumerate_from}
 use Rattle.std.proofs.lemmas.Nat.{div-mul-add}

@@ -16,7 +16,8 @@ use Rattle.vs_space.specs.Path.{found_at, table_in, table_at, SamePath}
 use Rattle.vs_space.specs.inside.Tree.{IsTree, IsFilled, NothingUnder}
 use Rattle.vs_space.specs.inside.Prune.{IsFilledBut}
 use Rattle.vs_space.proofs.Paths.{reached_within, table_below, none_past, same_table, agree_table, agree_walk}
-use Rattle.vs_space.proofs.Writes.{off_path, above, table_off_path, table_above, walk_off_path, table_here, found_on_path, same_or_not, found_alike, written_in_use}
+use Rattle.vs_space.proofs.Writes.{off_path, above, table_off_path, table_above, walk_off_path, table_here, found_on_path, same_or_not, found_alike}
+use Rattle.vs_space.proofs.Writes.{written_in_use}
 
 pub one_some : (x y : ℕ) → Some x ≡ Some y → x ≡ y
 one_some x y e = cc

@@ -1,5 +1,6 @@
 -- What a step does, case by case.
-use Rattle.std.proofs.Common.{◌≡◌, ℕ, Bool, true, false, cond, if◌then◌else◌, nat_le, List, [], ◌∷◌, map, Some, None, Contains, IsTrue, ◌≢◌, ⊎_elim, refl, sym, ap, subst, filter}
+use Rattle.std.proofs.Common.{◌≡◌, ℕ, Bool, true, false, cond, if◌then◌else◌, nat_le, List, [], ◌∷◌, map, Some, None, Contains, IsTrue, ◌≢◌, ⊎_elim, refl, sym}
+use Rattle.std.proofs.Common.{ap, subst, filter}
 use Rattle.std.proofs.lemmas.Bool.{cases_Bool, cases_eq, eq-eqb, ne_eqb}
 use Rattle.std.specs.FinMap as finite
 use Rattle.vs_types.specs.declared.depth.Depth.{Depth}

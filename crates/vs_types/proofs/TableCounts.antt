@@ -1,5 +1,6 @@
 -- How the table count changes with one page.
-use Rattle.std.proofs.Common.{◌≡◌, ◌≢◌, ℕ, zero, suc, ◌+◌, ◌-◌, ◌/◌, ◌<◌, ◌≤◌, true, false, cond, nat_eq, nat_lt, List, [], ◌∷◌, map, filter, Contains, ◌⊎◌, inl, inr, ⊎_elim, refl, sym, ap, ◌∙◌, subst, arith}
+use Rattle.std.proofs.Common.{◌≡◌, ◌≢◌, ℕ, zero, suc, ◌+◌, ◌-◌, ◌/◌, ◌<◌, ◌≤◌, true, false, cond, nat_eq, nat_lt, List, [], ◌∷◌, map, filter, Contains, ◌⊎◌}
+use Rattle.std.proofs.Common.{inl, inr, ⊎_elim, refl, sym, ap, ◌∙◌, subst, arith}
 use lib.Pow.{pow-lt, pow_mono}
 use Rattle.std.specs.FinMap as finite
 use Rattle.std.specs.Set.{is_member}
@@ -43,7 +44,8 @@ has_table_from page level t = ⊎_elim (λ l. let no = has_no_table page level l
 abbrev pub stretches : ℕ → Space → List ℕ
 stretches level space = map (λ p. p.base / table_bytes level) (filter (λ p. nat_lt (bytes_of p.size) (table_bytes level)) (pages space))
 
-module _ {depth : Depth} {space : Space} (is : IsSpace depth space) (page : Page) (is_new : IsSpace depth (finite.insert space page.base page)) (absent : (q : Page) → Holds space q → q.base ≢ page.base) (level : ℕ) where
+module _ {depth : Depth} {space : Space} (is : IsSpace depth space) (page : Page) (is_new : IsSpace depth (finite.insert space page.base page))
+    (absent : (q : Page) → Holds space q → q.base ≢ page.base) (level : ℕ) where
   still : (q : Page) → Holds space q → Holds (finite.insert space page.base page) q
   still q h = get_insert_other space page.base page q.base (absent q h) ∙ h
 

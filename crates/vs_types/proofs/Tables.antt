@@ -1,5 +1,6 @@
 -- How many tables a space needs.
-use Rattle.std.proofs.Common.{◌≡◌, ℕ, zero, suc, ◌-◌, ◌/◌, ◌≤◌, true, nat_lt, leb-true, le_trans, le_refl, le_antisymm, map, filter, List, Some, Contains, ⊎_elim, refl, sym, ap, ◌∙◌, subst, arith}
+use Rattle.std.proofs.Common.{◌≡◌, ℕ, zero, suc, ◌-◌, ◌/◌, ◌≤◌, true, nat_lt, leb-true, le_trans, le_refl, le_antisymm, map, filter, List, Some, Contains}
+use Rattle.std.proofs.Common.{⊎_elim, refl, sym, ap, ◌∙◌, subst, arith}
 use Rattle.std.proofs.lemmas.Bool.{cases_eq}
 use Rattle.std.specs.FinMap as finite
 use Rattle.vs_types.specs.declared.depth.Depth.{Depth}

@@ -1,10 +1,12 @@
 -- Lists that are put together of parts: what all their elements are, each two of them, and the first that passes a test.
-use Rattle.std.proofs.Common.{◌≡◌, ◌≢◌, ℕ, zero, suc, ◌+◌, ◌-◌, ◌<◌, ◌≤◌, Bool, true, false, cond, List, [], ◌∷◌, ◌++◌, Option, Some, None, length, get_or, flat_map, find, refl, sym, ap, subst, ◌∙◌, ⊎_elim, arith, Contains}
+use Rattle.std.proofs.Common.{◌≡◌, ◌≢◌, ℕ, zero, suc, ◌+◌, ◌-◌, ◌<◌, ◌≤◌, Bool, true, false, cond, List, [], ◌∷◌, ◌++◌, Option, Some, None, length, get_or}
+use Rattle.std.proofs.Common.{flat_map, find, refl, sym, ap, subst, ◌∙◌, ⊎_elim, arith, Contains}
 use Rattle.std.specs.Prelude.{All}
 use Rattle.std.specs.List.{AllPairs, enumerate_from, filter_map}
 use Rattle.std.proofs.lemmas.Bool.{cases_lt}
 use Rattle.std.proofs.lemmas.List.{get_or_append_left, get_or-append_right, length-append}
-use Rattle.std.proofs.lemmas.List.Elements.{All-nil, All-append, All-head, All-tail, Contains-append_left, Contains-append_right, Contains-append_cases, filter_map-append}
+use Rattle.std.proofs.lemmas.List.Elements.{All-nil, All-append, All-head, All-tail, Contains-append_left, Contains-append_right, Contains-append_cases}
+use Rattle.std.proofs.lemmas.List.Elements.{filter_map-append}
 use Rattle.vs_types.proofs.Lists.{not_in_nil}
 
 module _ {X : Type 0} where

@@ -1,5 +1,6 @@
 -- Walks meet what the traversal meets: where no visit is wrong no walk goes wrong, and where a visit is wrong some walk is.
-use Rattle.std.proofs.Common.{◌≡◌, ◌≢◌, ℕ, zero, suc, ◌+◌, ◌*◌, ◌/◌, ◌%◌, ◌<◌, true, false, List, [], Some, None, length, get_or, flat_map, refl, sym, ap, subst, ◌∙◌, ⊎_elim, arith, Contains, IsTrue, slice_index}
+use Rattle.std.proofs.Common.{◌≡◌, ◌≢◌, ℕ, zero, suc, ◌+◌, ◌*◌, ◌/◌, ◌%◌, ◌<◌, true, false, List, [], Some, None, length, get_or, flat_map, refl, sym, ap}
+use Rattle.std.proofs.Common.{subst, ◌∙◌, ⊎_elim, arith, Contains, IsTrue, slice_index}
 use Rattle.std.specs.Prelude.{All}
 use Rattle.std.specs.FinMap as finite
 use Rattle.std.specs.List.{enumerate_from}

@@ -1,5 +1,6 @@
 -- What the traversal says: of walks, of the frames that are reached, and of its fault.
-use Rattle.std.proofs.Common.{◌≡◌, ◌≢◌, ℕ, zero, suc, ◌+◌, ◌*◌, ◌<◌, true, false, List, [], ◌∷◌, ◌++◌, Option, Some, None, length, get_or, nat_eq, flat_map, refl, sym, ap, subst, ◌∙◌, ◌⊎◌, ⊎_elim, arith, Contains, IsTrue, slice_index}
+use Rattle.std.proofs.Common.{◌≡◌, ◌≢◌, ℕ, zero, suc, ◌+◌, ◌*◌, ◌<◌, true, false, List, [], ◌∷◌, ◌++◌, Option, Some, None, length, get_or, nat_eq, flat_map}
+use Rattle.std.proofs.Common.{refl, sym, ap, subst, ◌∙◌, ◌⊎◌, ⊎_elim, arith, Contains, IsTrue, slice_index}
 use Rattle.std.specs.Prelude.{All}
 use Rattle.std.specs.FinMap as finite
 use Rattle.std.specs.List.{enumerate_from, IsDistinct}
@@ -16,7 +17,8 @@ use Rattle.vs_types.specs.declared.entry.Meaning.TheVariants as entry
 use Rattle.vs_types.proofs.Lists.{Contains-head, Contains-cases, not_in_nil}
 use Rattle.vs_walk.specs.Memory.{Memory, AreWhole}
 use Rattle.vs_walk.specs.Walk.{all_rights, walk}
-use Rattle.vs_walk.specs.Traversal.{Visit, OfFrame, OfLeaf, OfReservedBit, ReachedTable, entry_visits, table_visits, traversal, reached_by, reached, found, walk_fault}
+use Rattle.vs_walk.specs.Traversal.{Visit, OfFrame, OfLeaf, OfReservedBit, ReachedTable, entry_visits, table_visits, traversal, reached_by, reached, found}
+use Rattle.vs_walk.specs.Traversal.{walk_fault}
 use Rattle.vs_walk.specs.Laws.{covering, as_found, LeadsTo, IsTableAt, IsRoot, IsBelow, IsReservedWord}
 use Rattle.vs_walk.specs.declared.walk.Walk.{Walk}
 use Rattle.vs_walk.specs.declared.walk.Walk.TheVariants.{NotMapped, Reserved, Missing, Mapped}

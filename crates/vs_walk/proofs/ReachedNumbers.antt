@@ -1,5 +1,6 @@
 -- The frames that are marked, as an ordered set and an ordered list keep them.
-use Rattle.std.proofs.Common.{◌≡◌, ℕ, ◌<◌, ◌↔◌, Bool, true, false, cond, not, ◌⊎◌, List, ◌∷◌, Result, Ok, Err, refl, sym, ap, subst, ◌∙◌, inl, inr, ⊎_elim, arith, IsTrue, Contains, nat_cmp, Less, Equal, Greater, Ordering, is_eq, BTreeSet, is_ok}
+use Rattle.std.proofs.Common.{◌≡◌, ℕ, ◌<◌, ◌↔◌, Bool, true, false, cond, not, ◌⊎◌, List, ◌∷◌, Result, Ok, Err, refl, sym, ap, subst, ◌∙◌, inl, inr, ⊎_elim}
+use Rattle.std.proofs.Common.{arith, IsTrue, Contains, nat_cmp, Less, Equal, Greater, Ordering, is_eq, BTreeSet, is_ok}
 use Rattle.std.specs.BTreeSet as sorted
 use Rattle.std.specs.BTreeMap.{is_at}
 use Rattle.std.specs.Cmp.{nat_cmp_total}

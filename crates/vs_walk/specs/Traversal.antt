@@ -1,6 +1,7 @@
 -- The traversal of a memory's tables, from the root on: each table's words by index, the table below an entry before
 -- the next entry. Its first fault, the frames that it reaches and the pages that it finds.
-use Rattle.std.specs.Prelude.{ℕ, zero, suc, ◌+◌, ◌-◌, ◌*◌, ◌^◌, not, nat_lt, nat_eq, List, [], ◌∷◌, ◌++◌, flat_map, filter_map, Option, Some, None, if◌then◌else◌}
+use Rattle.std.specs.Prelude.{ℕ, zero, suc, ◌+◌, ◌-◌, ◌*◌, ◌^◌, not, nat_lt, nat_eq, List, [], ◌∷◌, ◌++◌, flat_map, filter_map, Option, Some, None}
+use Rattle.std.specs.Prelude.{if◌then◌else◌}
 use Rattle.std.specs.List.{list_any, enumerate_from}
 use Rattle.std.specs.FinMap as finite
 use Rattle.vs_types.specs.Depth.{levels, entry_bytes, half_bytes}

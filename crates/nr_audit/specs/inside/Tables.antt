@@ -17,7 +17,8 @@ pub record AreReplies (trace : Recording) (table : List (Option ℕ)) : Type 0 w
 -- of the places below an end, the only one that has the call, or none where no place has it
 abbrev pub IsPlaceBelow : Recording → ℕ → ℕ → Option ℕ → Type 0
 IsPlaceBelow trace end call None = (place : ℕ) → place < end → slice_get trace.log place ≡ Some call → ⊥
-IsPlaceBelow trace end call (Some own) = (own < end) × (slice_get trace.log own ≡ Some call) × ((place : ℕ) → place < end → slice_get trace.log place ≡ Some call → place ≡ own)
+IsPlaceBelow trace end call (Some own) =
+    (own < end) × (slice_get trace.log own ≡ Some call) × ((place : ℕ) → place < end → slice_get trace.log place ≡ Some call → place ≡ own)
 
 -- for each event of the trace the only place that has it
 pub record ArePlaces (trace : Recording) (table : List (Option ℕ)) : Type 0 where

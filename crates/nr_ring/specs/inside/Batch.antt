@@ -25,8 +25,10 @@ Explains log n (Moved tails) = (tails ≡ tails_of log) × HasRoom log n × AllK
 pub record IsWritten (place n : ℕ) (batch : List LogEntry) (before after : List ℕ) : Type 0 where
   pub long : length after ≡ 39
   pub head_stays : (word : ℕ) → word < 7 → slice_index after word ≡ slice_index before word
-  pub entries_are : (i : ℕ) (entry : LogEntry) (k : ℕ) → i < n → slice_get batch i ≡ Some entry → k < 2 → slice_index after (word_of (place + i) + k) ≡ slice_index (log_words entry) k
-  pub others_stay : (word : ℕ) → 7 ≤ word → ((i : ℕ) → i < n → (word < word_of (place + i)) ⊎ (word_of (place + i) + 2 ≤ word)) → slice_index after word ≡ slice_index before word
+  pub entries_are : (i : ℕ) (entry : LogEntry) (k : ℕ) → i < n → slice_get batch i ≡ Some entry → k < 2
+      → slice_index after (word_of (place + i) + k) ≡ slice_index (log_words entry) k
+  pub others_stay : (word : ℕ) → 7 ≤ word → ((i : ℕ) → i < n → (word < word_of (place + i)) ⊎ (word_of (place + i) + 2 ≤ word))
+      → slice_index after word ≡ slice_index before word
 
 -- the tails that words have are small
 pub record AreSmall (words : List ℕ) : Type 0 where

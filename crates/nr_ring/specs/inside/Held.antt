@@ -28,7 +28,12 @@ pub record Remembers (depth : Depth) (replicas : ℕ) (words : List ℕ) (replic
   pub mine : All (λ number. number < length view.seen) view.mine
 
 abbrev pub tails_of_words : List ℕ → Tails
-tails_of_words words = record { tail = slice_index words 0; completed = slice_index words 1; local = slice_index words 2 ∷ slice_index words 3 ∷ slice_index words 4 ∷ slice_index words 5 ∷ [] }
+tails_of_words words = record {
+  tail = slice_index words 0;
+  completed = slice_index words 1;
+  local =
+      slice_index words 2 ∷ slice_index words 3 ∷ slice_index words 4 ∷ slice_index words 5 ∷ [];
+}
 
 -- the view of a pass that has seen and made nothing
 abbrev pub new_view : List ℕ → View

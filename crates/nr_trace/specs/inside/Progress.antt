@@ -1,5 +1,6 @@
 -- How far a reader has come: what it has read, and what would be wrong with the bytes ahead.
-use Rattle.std.specs.Prelude.{◌≡◌, ℕ, ◌+◌, ◌-◌, ◌<◌, ◌≤◌, ◌^◌, ◌++◌, nat_lt, List, [], length, flat_map, All, Option, Some, None, Result, MatchResult, ⊤, if◌then◌else◌}
+use Rattle.std.specs.Prelude.{◌≡◌, ℕ, ◌+◌, ◌-◌, ◌<◌, ◌≤◌, ◌^◌, ◌++◌, nat_lt, List, [], length, flat_map, All, Option, Some, None, Result, MatchResult, ⊤}
+use Rattle.std.specs.Prelude.{if◌then◌else◌}
 use Rattle.std.specs.FinMap as finite
 use Rattle.vs_types.specs.Config.{IsLayout}
 use Rattle.vs_types.specs.declared.limits.TheConstants.{LOG_PLACES, CALLS, TABLES}
@@ -124,4 +125,5 @@ IsFault Behind (Refused fault) = (rest : List ℕ) → Behind rest fault
 -- a reader took a unit, or refused it
 abbrev pub Takes : Reader → List ℕ → Result Reader (Fail Format) → Type 0
 Takes reader unit result =
-    MatchResult result (HasRead (said reader ++ unit) (λ rest fault. Ahead reader (unit ++ rest) fault)) (IsFault (λ rest fault. Ahead reader (unit ++ rest) fault))
+    MatchResult result (HasRead (said reader ++ unit) (λ rest fault. Ahead reader (unit ++ rest) fault))
+    (IsFault (λ rest fault. Ahead reader (unit ++ rest) fault))

@@ -1,5 +1,6 @@
 -- How an arena's frames are laid out, each with a mark that says whether it is in use.
-use Rattle.std.specs.Prelude.{◌≡◌, ℕ, suc, zero, ◌+◌, ◌^◌, ◌<◌, ◌≤◌, Bool, false, List, [], length, slice_index, slice_index_or, All, Option, Some, None, refl, if◌then◌else◌}
+use Rattle.std.specs.Prelude.{◌≡◌, ℕ, suc, zero, ◌+◌, ◌^◌, ◌<◌, ◌≤◌, Bool, false, List, [], length, slice_index, slice_index_or, All, Option, Some, None, refl}
+use Rattle.std.specs.Prelude.{if◌then◌else◌}
 use Rattle.std.specs.Coded.{Coded, code_by, coded×, coded_ℕ, coded_list}
 use Rattle.std.specs.FinMap as finite
 use Rattle.std.specs.Ordering.{nat_cmp}
@@ -9,7 +10,8 @@ use Rattle.vs_arena.specs.Store.{Store}
 use Rattle.vs_arena.specs.Arena.{Arena}
 
 abbrev pub arena_code : Coded Arena
-arena_code = code_by (ℕ × (ℕ × Store)) (coded× coded_ℕ (coded× coded_ℕ (finite.code {R = nat_cmp} coded_ℕ (coded_list coded_ℕ)))) (λ a. (a.base, (a.size, a.frames))) (λ p. record { base = p.0; size = p.1.0; frames = p.1.1 }) (λ _. refl)
+arena_code = code_by (ℕ × (ℕ × Store)) (coded× coded_ℕ (coded× coded_ℕ (finite.code {R = nat_cmp} coded_ℕ (coded_list coded_ℕ))))
+    (λ a. (a.base, (a.size, a.frames))) (λ p. record { base = p.0; size = p.1.0; frames = p.1.1 }) (λ _. refl)
 
 -- the frame at an index, where there is one
 abbrev pub with_frame : Store → ℕ → Option (List ℕ) → Store

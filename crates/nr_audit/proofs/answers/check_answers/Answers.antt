@@ -6,7 +6,8 @@ use Rattle.vs_plain.specs.Plain.{BoundedSpace}
 use Rattle.nr_trace.specs.Orders.{space_after}
 use Rattle.nr_trace.specs.Faults.{IsWrong}
 use Rattle.nr_audit.specs.inside.Steps.{Serves}
-use Rattle.nr_audit.proofs.AnswerFaults.{kept, space_visits, space_stays, none_wrong, first_wrong, wrong_here, right_here, no_call_is_right, answered, left, space_of_order, right_more}
+use Rattle.nr_audit.proofs.AnswerFaults.{kept, space_visits, space_stays, none_wrong, first_wrong, wrong_here, right_here, no_call_is_right, answered, left}
+use Rattle.nr_audit.proofs.AnswerFaults.{space_of_order, right_more}
 use Rattle.nr_audit.proofs.answers.check_answers.Goals as goal
 
 -- src/answers.rt:60:5
@@ -31,10 +32,12 @@ returns-then-not-agrees-clause-first c =
     let trace = c.args.history.now in
     let order = c.args.order.now in
     let k = c.loop-call.call-index in
-    let serves = subst (λ (s : BoundedSpace). Serves s c.in-Some.query c.in_ok-answer.answer c.serve.new.space) c.loop-call.invariant.space c.in_ok-answer.ensures in
+    let serves = subst (λ (s : BoundedSpace). Serves s c.in-Some.query c.in_ok-answer.answer c.serve.new.space) c.loop-call.invariant.space
+    c.in_ok-answer.ensures in
     let gives = answered trace.layout (space_after trace (take k order)) c.in-Some.query c.in_ok-answer.answer c.serve.new.space serves in
     first_wrong trace order c.requires.listed c.requires.clean k c.loop-call-test.true c.loop-call.invariant.right
-    (wrong_here trace order c.requires.listed c.requires.clean k c.in-Some.query c.in_ok-answer.answer c.reply.result c.loop-call-test.true (sym c.in-Some.is ∙ c.request.ensures.asks) gives c.reply.ensures
+    (wrong_here trace order c.requires.listed c.requires.clean k c.in-Some.query c.in_ok-answer.answer c.reply.result c.loop-call-test.true (sym c.in-Some.is
+    ∙ c.request.ensures.asks) gives c.reply.ensures
     (iff_false c.agrees.ensures c.if-not-agrees.true))
 
 -- src/answers.rt:60:5
@@ -44,13 +47,15 @@ loop-call-preserved c =
     let order = c.args.order.now in
     let k = c.loop-call.call-index in
     let asks = sym c.in-Some.is ∙ c.request.ensures.asks in
-    let serves = subst (λ (s : BoundedSpace). Serves s c.in-Some.query c.in_ok-answer.answer c.serve.new.space) c.loop-call.invariant.space c.in_ok-answer.ensures in
+    let serves = subst (λ (s : BoundedSpace). Serves s c.in-Some.query c.in_ok-answer.answer c.serve.new.space) c.loop-call.invariant.space
+    c.in_ok-answer.ensures in
     let gives = answered trace.layout (space_after trace (take k order)) c.in-Some.query c.in_ok-answer.answer c.serve.new.space serves in
     record {
       space = left trace.layout (space_after trace (take k order)) c.in-Some.query c.in_ok-answer.answer c.serve.new.space serves
           ∙ ap (λ s. kept trace.layout s) (space_visits trace order k 0 c.in-Some.query c.loop-call-test.true asks);
       right = right_more trace order k c.loop-call.invariant.right
-          (right_here trace order c.requires.listed c.requires.clean k c.in-Some.query c.in_ok-answer.answer c.reply.result c.loop-call-test.true asks gives c.reply.ensures (c.agrees.ensures.0 c.if-not-agrees.false));
+          (right_here trace order c.requires.listed c.requires.clean k c.in-Some.query c.in_ok-answer.answer c.reply.result c.loop-call-test.true asks gives
+          c.reply.ensures (c.agrees.ensures.0 c.if-not-agrees.false));
     }
 
 -- src/answers.rt:46:1

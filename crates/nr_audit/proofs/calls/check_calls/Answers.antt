@@ -7,9 +7,11 @@ use Rattle.nr_audit.specs.inside.Search.{HasNone}
 use Rattle.nr_audit.specs.inside.Passes.{IsCallFaultAt}
 use Rattle.nr_audit.proofs.CallsAndReplies.{read_event, read_gone, read_some, thread_in_layout, told_call, if_some, open_call, no_open_call}
 use Rattle.nr_audit.proofs.Ranks.{more_of}
-use Rattle.nr_audit.proofs.CallFaults.{HasFound, known_at_start, known_after_call, none_at_call, first_open, first_no_call, first_twice, none_at_reply, known_after_reply, first_call_fault, no_call_fault, table_at_end}
+use Rattle.nr_audit.proofs.CallFaults.{HasFound, known_at_start, known_after_call, none_at_call, first_open, first_no_call, first_twice, none_at_reply}
+use Rattle.nr_audit.proofs.CallFaults.{known_after_reply, first_call_fault, no_call_fault, table_at_end}
 use Rattle.nr_audit.proofs.calls.check_calls.Goals as goal
-use Rattle.nr_audit.proofs.calls.check_calls.Goals.{in-Call+else-is_open, in-Reply+else-call-index+else-not-is_call+else-is_some, then-call-index-via-then-call-index, then-call-index-via-else-call-index+then-not-is_call}
+use Rattle.nr_audit.proofs.calls.check_calls.Goals.{in-Call+else-is_open, in-Reply+else-call-index+else-not-is_call+else-is_some}
+use Rattle.nr_audit.proofs.calls.check_calls.Goals.{then-call-index-via-then-call-index, then-call-index-via-else-call-index+then-not-is_call}
 
 -- src/calls.rt:28:5
 pub loop-index-init : goal.loop-index-init
@@ -24,7 +26,8 @@ loop-index-init c = record {
 pub is_open-requires : goal.is_open-requires
 is_open-requires c =
     let known = c.loop-index.invariant.known in
-    let few = thread_in_layout c.args.trace.now c.events-events.result.now c.loop-index.index _ _ _ _ c.events-events.ensures.in_range c.events-events.ensures.reads c.loop-index-test.true c.index-events-index.is c.in-Call.is in
+    let few = thread_in_layout c.args.trace.now c.events-events.result.now c.loop-index.index _ _ _ _ c.events-events.ensures.in_range
+    c.events-events.ensures.reads c.loop-index-test.true c.index-events-index.is c.in-Call.is in
     let read = get_or_read c.loop-index.last.items c.in-Call.thread c.index.result.now (omega (arith, known.threads)) c.index.ensures None in
     if_some c.index.result.now (λ call. call < length c.deref.result.now) (λ call is.
     let earlier = (known.last_made c.in-Call.thread call (sym read ∙ is)).1 in
@@ -34,12 +37,15 @@ is_open-requires c =
 pub returns-then-is_open-clause-first : goal.returns-then-is_open-clause-first
 returns-then-is_open-clause-first c =
     let known = c.loop-index.invariant.known in
-    let few = thread_in_layout c.args.trace.now c.events-events.result.now c.loop-index.index _ _ _ _ c.events-events.ensures.in_range c.events-events.ensures.reads c.loop-index-test.true c.index-events-index.is c.in-Call.is in
+    let few = thread_in_layout c.args.trace.now c.events-events.result.now c.loop-index.index _ _ _ _ c.events-events.ensures.in_range
+    c.events-events.ensures.reads c.loop-index-test.true c.index-events-index.is c.in-Call.is in
     let read = get_or_read c.loop-index.last.items c.in-Call.thread c.index.result.now (omega (arith, known.threads)) c.index.ensures None in
     let it = open_call c.index.result.now _ c.deref.result.now c.loop-index.replies.items read c.deref.ensures.value (c.is_open.ensures.0 c.if-is_open.true) in
     first_call_fault c.args.trace.now c.loop-index.index (ThreadOpen c.loop-index.index) c.loop-index.invariant.none
-    (first_open c.args.trace.now c.loop-index.index c.loop-index.last.items c.loop-index.replies.items known (omega (arith, ap length c.events-events.ensures.reads)) _ c.in-Call.thread _
-    (read_event c.args.trace.now c.events-events.result.now c.loop-index.index _ _ c.events-events.ensures.reads c.loop-index-test.true c.index-events-index.is c.in-Call.is)
+    (first_open c.args.trace.now c.loop-index.index c.loop-index.last.items c.loop-index.replies.items known
+    (omega (arith, ap length c.events-events.ensures.reads)) _ c.in-Call.thread _
+    (read_event c.args.trace.now c.events-events.result.now c.loop-index.index _ _ c.events-events.ensures.reads c.loop-index-test.true
+    c.index-events-index.is c.in-Call.is)
     it.0 it.1 it.2)
 
 -- src/calls.rt:40:21
@@ -47,12 +53,15 @@ pub returns-then-call-index-clause-first : goal.returns-then-call-index-clause-f
 returns-then-call-index-clause-first c =
     let known = c.loop-index.invariant.known in
     first_call_fault c.args.trace.now c.loop-index.index (NoSuchCall c.loop-index.index) c.loop-index.invariant.none
-    (first_no_call c.args.trace.now c.loop-index.index c.loop-index.last.items c.loop-index.replies.items known (omega (arith, ap length c.events-events.ensures.reads)) _ _ _
-    (read_event c.args.trace.now c.events-events.result.now c.loop-index.index _ _ c.events-events.ensures.reads c.loop-index-test.true c.index-events-index.is c.in-Reply.is)
+    (first_no_call c.args.trace.now c.loop-index.index c.loop-index.last.items c.loop-index.replies.items known
+    (omega (arith, ap length c.events-events.ensures.reads)) _ _ _
+    (read_event c.args.trace.now c.events-events.result.now c.loop-index.index _ _ c.events-events.ensures.reads c.loop-index-test.true
+    c.index-events-index.is c.in-Reply.is)
     (λ such. elim c.then-call-index.branch [
       | then-call-index-via-then-call-index w ↦ (let below = such.0 in let above = w.if-call-index.true in omega arith)
       | then-call-index-via-else-call-index+then-not-is_call w ↦
-          (let told = told_call c.args.trace.now c.events-events.result.now c.in-Reply.call _ w.is_call.result c.events-events.ensures.reads (let below = such.0 in let here = c.loop-index-test.true in omega arith) w.index-events-call.is w.is_call.ensures in
+          (let told = told_call c.args.trace.now c.events-events.result.now c.in-Reply.call _ w.is_call.result c.events-events.ensures.reads (let below =
+          such.0 in let here = c.loop-index-test.true in omega arith) w.index-events-call.is w.is_call.ensures in
           let answer = w.if-not-is_call.true in
           let called = such.1 in true≢false (sym called ∙ sym told ∙ answer))
     ]))
@@ -62,11 +71,15 @@ pub returns-then-is_some-clause-first : goal.returns-then-is_some-clause-first
 returns-then-is_some-clause-first c =
     let known = c.loop-index.invariant.known in
     let low : c.in-Reply.call < c.loop-index.index = c.if-call-index.false in
-    let told = told_call c.args.trace.now c.events-events.result.now c.in-Reply.call _ c.is_call.result c.events-events.ensures.reads (let here = c.loop-index-test.true in omega arith) c.index-events-call.is c.is_call.ensures in
-    let read = get_or_read c.loop-index.replies.items c.in-Reply.call c.index-in-Reply.result.now (omega (arith, known.one_each, ap length c.events-events.ensures.reads)) c.index-in-Reply.ensures None in
+    let told = told_call c.args.trace.now c.events-events.result.now c.in-Reply.call _ c.is_call.result c.events-events.ensures.reads (let here =
+    c.loop-index-test.true in omega arith) c.index-events-call.is c.is_call.ensures in
+    let read = get_or_read c.loop-index.replies.items c.in-Reply.call c.index-in-Reply.result.now
+    (omega (arith, known.one_each, ap length c.events-events.ensures.reads)) c.index-in-Reply.ensures None in
     first_call_fault c.args.trace.now c.loop-index.index (AnsweredTwice c.loop-index.index) c.loop-index.invariant.none
-    (first_twice c.args.trace.now c.loop-index.index c.loop-index.last.items c.loop-index.replies.items known (omega (arith, ap length c.events-events.ensures.reads)) _ _ _
-    (read_event c.args.trace.now c.events-events.result.now c.loop-index.index _ _ c.events-events.ensures.reads c.loop-index-test.true c.index-events-index.is c.in-Reply.is)
+    (first_twice c.args.trace.now c.loop-index.index c.loop-index.last.items c.loop-index.replies.items known
+    (omega (arith, ap length c.events-events.ensures.reads)) _ _ _
+    (read_event c.args.trace.now c.events-events.result.now c.loop-index.index _ _ c.events-events.ensures.reads c.loop-index-test.true
+    c.index-events-index.is c.in-Reply.is)
     low (sym told ∙ c.if-not-is_call.false) (read_some _ _ _ (c.get.ensures ∙ read) (sym c.is_some.ensures) c.if-is_some.true))
 
 -- src/calls.rt:28:5
@@ -76,30 +89,44 @@ loop-index-preserved c =
     let within : c.loop-index.index < length c.args.trace.now.events = omega (arith, ap length c.events-events.ensures.reads) in
     elim c.match-event.branch [
       | in-Call+else-is_open w ↦
-          let few = thread_in_layout c.args.trace.now c.events-events.result.now c.loop-index.index _ _ _ _ c.events-events.ensures.in_range c.events-events.ensures.reads c.loop-index-test.true c.index-events-index.is w.in-Call.is in
+          let few = thread_in_layout c.args.trace.now c.events-events.result.now c.loop-index.index _ _ _ _ c.events-events.ensures.in_range
+          c.events-events.ensures.reads c.loop-index-test.true c.index-events-index.is w.in-Call.is in
           let read = get_or_read c.loop-index.last.items w.in-Call.thread w.index.result.now (omega (arith, known.threads)) w.index.ensures None in
-          let is = read_event c.args.trace.now c.events-events.result.now c.loop-index.index _ _ c.events-events.ensures.reads c.loop-index-test.true c.index-events-index.is w.in-Call.is in
-          let idle = no_open_call w.index.result.now _ w.deref.result.now c.loop-index.replies.items read w.deref.ensures.value (iff_false w.is_open.ensures w.if-is_open.false) in
+          let is = read_event c.args.trace.now c.events-events.result.now c.loop-index.index _ _ c.events-events.ensures.reads c.loop-index-test.true
+          c.index-events-index.is w.in-Call.is in
+          let idle = no_open_call w.index.result.now _ w.deref.result.now c.loop-index.replies.items read w.deref.ensures.value
+          (iff_false w.is_open.ensures w.if-is_open.false) in
           record {
-            known = subst (λ (v : Vec (Option ℕ) Global). HasFound c.args.trace.now (c.loop-index.index + 1) v.items c.match-event.replies.items) (sym w.last-is)
-                (subst (λ (v : Vec (Option ℕ) Global). HasFound c.args.trace.now (c.loop-index.index + 1) (set c.loop-index.last.items w.in-Call.thread w.of.result) v.items) (sym w.replies-is)
-                (subst (λ o. HasFound c.args.trace.now (c.loop-index.index + 1) (set c.loop-index.last.items w.in-Call.thread o) c.loop-index.replies.items) (sym w.of.ensures)
-                (known_after_call c.args.trace.now c.loop-index.index c.loop-index.last.items c.loop-index.replies.items known within _ w.in-Call.thread _ is few idle)));
-            none = more_of IsCallFaultAt c.args.trace.now c.loop-index.index c.loop-index.invariant.none (none_at_call c.args.trace.now c.loop-index.index c.loop-index.last.items c.loop-index.replies.items known within _ w.in-Call.thread _ is idle);
+            known = subst (λ (v : Vec (Option ℕ) Global). HasFound c.args.trace.now
+                (c.loop-index.index + 1) v.items c.match-event.replies.items) (sym w.last-is)
+                (subst (λ (v : Vec (Option ℕ) Global). HasFound c.args.trace.now (c.loop-index.index + 1)
+                (set c.loop-index.last.items w.in-Call.thread w.of.result) v.items) (sym w.replies-is)
+                (subst (λ o. HasFound c.args.trace.now (c.loop-index.index + 1)
+                (set c.loop-index.last.items w.in-Call.thread o) c.loop-index.replies.items) (sym w.of.ensures)
+                (known_after_call c.args.trace.now c.loop-index.index c.loop-index.last.items c.loop-index.replies.items known within _
+                w.in-Call.thread _ is few idle)));
+            none = more_of IsCallFaultAt c.args.trace.now c.loop-index.index c.loop-index.invariant.none
+                (none_at_call c.args.trace.now c.loop-index.index c.loop-index.last.items c.loop-index.replies.items known within _ w.in-Call.thread _ is idle);
           }
       | in-Reply+else-call-index+else-not-is_call+else-is_some w ↦
           let low : w.in-Reply.call < c.loop-index.index = w.if-call-index.false in
-          let told = told_call c.args.trace.now c.events-events.result.now w.in-Reply.call _ w.is_call.result c.events-events.ensures.reads (let here = c.loop-index-test.true in omega arith) w.index-events-call.is w.is_call.ensures in
+          let told = told_call c.args.trace.now c.events-events.result.now w.in-Reply.call _ w.is_call.result c.events-events.ensures.reads (let here =
+          c.loop-index-test.true in omega arith) w.index-events-call.is w.is_call.ensures in
           let called = sym told ∙ w.if-not-is_call.false in
-          let read = get_or_read c.loop-index.replies.items w.in-Reply.call w.index-in-Reply.result.now (omega (arith, known.one_each)) w.index-in-Reply.ensures None in
+          let read = get_or_read c.loop-index.replies.items w.in-Reply.call w.index-in-Reply.result.now
+          (omega (arith, known.one_each)) w.index-in-Reply.ensures None in
           let none = read_gone _ _ _ (w.get.ensures ∙ read) (sym w.is_some.ensures) w.if-is_some.false in
-          let is = read_event c.args.trace.now c.events-events.result.now c.loop-index.index _ _ c.events-events.ensures.reads c.loop-index-test.true c.index-events-index.is w.in-Reply.is in
+          let is = read_event c.args.trace.now c.events-events.result.now c.loop-index.index _ _ c.events-events.ensures.reads c.loop-index-test.true
+          c.index-events-index.is w.in-Reply.is in
           record {
-            known = subst (λ (v : Vec (Option ℕ) Global). HasFound c.args.trace.now (c.loop-index.index + 1) v.items c.match-event.replies.items) (sym w.last-is)
+            known = subst (λ (v : Vec (Option ℕ) Global). HasFound c.args.trace.now
+                (c.loop-index.index + 1) v.items c.match-event.replies.items) (sym w.last-is)
                 (subst (λ (v : Vec (Option ℕ) Global). HasFound c.args.trace.now (c.loop-index.index + 1) c.loop-index.last.items v.items) (sym w.replies-is)
-                (subst (λ o. HasFound c.args.trace.now (c.loop-index.index + 1) c.loop-index.last.items (set c.loop-index.replies.items w.in-Reply.call o)) (sym w.of-in-Reply.ensures)
+                (subst (λ o. HasFound c.args.trace.now (c.loop-index.index + 1) c.loop-index.last.items (set c.loop-index.replies.items w.in-Reply.call o))
+                (sym w.of-in-Reply.ensures)
                 (known_after_reply c.args.trace.now c.loop-index.index c.loop-index.last.items c.loop-index.replies.items known within _ _ _ is low none)));
-            none = more_of IsCallFaultAt c.args.trace.now c.loop-index.index c.loop-index.invariant.none (none_at_reply c.args.trace.now c.loop-index.index c.loop-index.last.items c.loop-index.replies.items known within _ _ _ is low called none);
+            none = more_of IsCallFaultAt c.args.trace.now c.loop-index.index c.loop-index.invariant.none
+                (none_at_reply c.args.trace.now c.loop-index.index c.loop-index.last.items c.loop-index.replies.items known within _ _ _ is low called none);
           }
     ]
 
@@ -108,7 +135,8 @@ pub of-requires-2 : goal.of-requires-2
 of-requires-2 c =
     let at_end : c.loop-index.index ≡ length c.args.trace.now.events = omega (arith, ap length c.events-events.ensures.reads) in
     table_at_end c.args.trace.now c.loop-index.last.items c.loop-index.replies.items
-    (no_call_fault c.args.trace.now (subst (λ n. (lower : ℕ) → lower < n → HasNone (IsCallFaultAt lower) c.args.trace.now) at_end c.loop-index.invariant.none)) (subst (λ n. HasFound c.args.trace.now n c.loop-index.last.items c.loop-index.replies.items) at_end c.loop-index.invariant.known)
+    (no_call_fault c.args.trace.now (subst (λ n. (lower : ℕ) → lower < n → HasNone (IsCallFaultAt lower) c.args.trace.now) at_end c.loop-index.invariant.none))
+    (subst (λ n. HasFound c.args.trace.now n c.loop-index.last.items c.loop-index.replies.items) at_end c.loop-index.invariant.known)
 
 -- src/calls.rt:20:1
 pub returns-clause-clean : goal.returns-clause-clean

@@ -17,7 +17,8 @@ pub returns-in_ok-serve : goal.returns-in_ok-serve
 returns-in_ok-serve c =
     let trace = c.args.history.now in
     let log = trace.log in
-    let asks = c.request.ensures.asks ∙ ap (λ (xs : List ℕ). option_map (λ (made : Invocation). made.request) (call_of trace (get_or xs c.args.place 0))) c.log-log.ensures.reads in
+    let asks = c.request.ensures.asks
+    ∙ ap (λ (xs : List ℕ). option_map (λ (made : Invocation). made.request) (call_of trace (get_or xs c.args.place 0))) c.log-log.ensures.reads in
     let serves = subst (λ (s : BoundedSpace). Serves s c.in-Some.query c.in_ok-serve.field-0 c.serve.new.space) c.requires.before c.in_ok-serve.ensures in
     left trace.layout (space_after trace (take c.args.place log)) c.in-Some.query _ c.serve.new.space serves
     ∙ ap (λ s. kept trace.layout s) (space_visits trace log c.args.place 0 c.in-Some.query c.requires.within (sym c.in-Some.is ∙ asks))
@@ -26,5 +27,6 @@ returns-in_ok-serve c =
 pub returns-in_default : goal.returns-in_default
 returns-in_default c =
     let trace = c.args.history.now in
-    let asks = c.request.ensures.asks ∙ ap (λ (xs : List ℕ). option_map (λ (made : Invocation). made.request) (call_of trace (get_or xs c.args.place 0))) c.log-log.ensures.reads in
+    let asks = c.request.ensures.asks
+    ∙ ap (λ (xs : List ℕ). option_map (λ (made : Invocation). made.request) (call_of trace (get_or xs c.args.place 0))) c.log-log.ensures.reads in
     c.requires.before ∙ ap (λ s. kept trace.layout s) (space_stays trace trace.log c.args.place 0 c.requires.within (sym asks ∙ c.in_default.is))

@@ -9,14 +9,18 @@ use Rattle.nr_audit.proofs.dumps.check_dump.Goals as goal
 -- src/dumps.rt:78:9
 pub returns-then-applied-log-clause-first : goal.returns-then-applied-log-clause-first
 returns-then-applied-log-clause-first c =
-    let is = read_dump c.dumps.result.now c.args.history.now.dumps c.args.replica c.index-dumps-replica.result c.dumps.ensures.reads c.requires.replica c.index-dumps-replica.is in
-    first_past_log c.args.history.now c.args.replica c.index-dumps-replica.result is (omega (arith, c.if-applied-log.true, c.applied-applied.ensures, ap length c.log.ensures.reads))
+    let is = read_dump c.dumps.result.now c.args.history.now.dumps c.args.replica c.index-dumps-replica.result c.dumps.ensures.reads c.requires.replica
+    c.index-dumps-replica.is in
+    first_past_log c.args.history.now c.args.replica c.index-dumps-replica.result is
+    (omega (arith, c.if-applied-log.true, c.applied-applied.ensures, ap length c.log.ensures.reads))
 
 -- src/dumps.rt:81:9
 pub returns-then-applied-needed-clause-first : goal.returns-then-applied-needed-clause-first
 returns-then-applied-needed-clause-first c =
-    let is = read_dump c.dumps.result.now c.args.history.now.dumps c.args.replica c.index-dumps-replica.result c.dumps.ensures.reads c.requires.replica c.index-dumps-replica.is in
-    first_short c.args.history.now c.args.replica c.index-dumps-replica.result is (omega (arith, c.if-applied-log.false, c.applied-applied.ensures, ap length c.log.ensures.reads))
+    let is = read_dump c.dumps.result.now c.args.history.now.dumps c.args.replica c.index-dumps-replica.result c.dumps.ensures.reads c.requires.replica
+    c.index-dumps-replica.is in
+    first_short c.args.history.now c.args.replica c.index-dumps-replica.result is
+    (omega (arith, c.if-applied-log.false, c.applied-applied.ensures, ap length c.log.ensures.reads))
     c.args.needed.now c.requires.needed (omega (arith, c.if-applied-needed.true, c.applied-applied.ensures))
 
 -- src/dumps.rt:85:9
@@ -27,7 +31,8 @@ returns-in-None-clause-clean c =
     let is = read_dump c.dumps.result.now trace.dumps c.args.replica dump c.dumps.ensures.reads c.requires.replica c.index-dumps-replica.is in
     let within : dump.applied ≤ length trace.log = omega (arith, c.if-applied-log.false, c.applied-applied.ensures, ap length c.log.ensures.reads) in
     let found = found_at trace c.args.replica dump c.args.faults.now c.requires.found is within in
-    none_of_replica trace c.args.replica dump is within c.args.needed.now c.requires.needed (omega (arith, c.if-applied-needed.false, c.applied-applied.ensures))
+    none_of_replica trace c.args.replica dump is within c.args.needed.now c.requires.needed
+    (omega (arith, c.if-applied-needed.false, c.applied-applied.ensures))
     (subst (λ o. IsFoundIn trace dump o) c.in-None.is found)
 
 -- src/dumps.rt:87:48
@@ -39,5 +44,6 @@ returns-in-Some-clause-first c =
     let within : dump.applied ≤ length trace.log = omega (arith, c.if-applied-log.false, c.applied-applied.ensures, ap length c.log.ensures.reads) in
     let found = found_at trace c.args.replica dump c.args.faults.now c.requires.found is within in
     subst (λ fault. IsFirstAmong (IsDumpFaultAt c.args.replica) trace fault) (sym c.fault_at.ensures)
-    (first_of_replica trace c.args.replica dump is within c.args.needed.now c.requires.needed (omega (arith, c.if-applied-needed.false, c.applied-applied.ensures)) c.in-Some.fault
+    (first_of_replica trace c.args.replica dump is within c.args.needed.now c.requires.needed
+    (omega (arith, c.if-applied-needed.false, c.applied-applied.ensures)) c.in-Some.fault
     (subst (λ o. IsFoundIn trace dump o) c.in-Some.is found))

@@ -29,5 +29,6 @@ loop-replica-preserved c =
           (c.requires ∙ ap (λ n. space_of trace.layout (space_after trace (take n trace.log))) (sym same)) w.in_ok-found.ensures))
       | else-applied w ↦
           subst (λ (faults : List (Option DumpFault)). AreCompared trace c.args.applied (replica + 1) c.args.faults.now faults) (sym w.faults-is)
-          (compared_without trace c.args.applied replica c.args.faults.now c.loop-replica.faults dump is are (λ same. w.if-applied.false (c.applied.ensures ∙ same)))
+          (compared_without trace c.args.applied replica c.args.faults.now c.loop-replica.faults dump is are
+          (λ same. w.if-applied.false (c.applied.ensures ∙ same)))
     ]

@@ -7,7 +7,8 @@ use Rattle.nr_audit.proofs.dumps.compare_shorter.Goals as goal
 pub loop-place-preserved : goal.loop-place-preserved
 loop-place-preserved c = record {
   space = c.in_ok-apply_place.ensures;
-  found = found_more c.args.history.now c.loop-place.place c.loop-place.faults c.compare_dumps.new.faults c.loop-place.invariant.found c.in_ok-compare_dumps.ensures;
+  found = found_more c.args.history.now c.loop-place.place c.loop-place.faults c.compare_dumps.new.faults c.loop-place.invariant.found
+      c.in_ok-compare_dumps.ensures;
 }
 
 -- src/dumps.rt:110:1

@@ -13,7 +13,8 @@ use Rattle.nr_audit.proofs.floors.check_floors.Goals.{in-Call+in-Some+else-entri
 -- src/floors.rt:65:25
 pub returns-then-entries-floor-clause-first : goal.returns-then-entries-floor-clause-first
 returns-then-entries-floor-clause-first c =
-    first_early c.args.history.now c.loop-index.index c.entries_before.result c.in-Some.entries c.loop-index.invariant.none c.entries_before.ensures c.in-Some.is
+    first_early c.args.history.now c.loop-index.index c.entries_before.result c.in-Some.entries c.loop-index.invariant.none
+    c.entries_before.ensures c.in-Some.is
     (subst (λ n. c.in-Some.entries < n) c.loop-index.invariant.floor c.if-entries-floor.true)
 
 -- src/floors.rt:60:5
@@ -23,10 +24,12 @@ loop-index-preserved c =
     let index = c.loop-index.index in
     elim c.match-event.branch [
       | in-Call+in-Some+else-entries-floor w ↦
-          let is = read_event trace c.events-events.result.now index _ _ c.events-events.ensures.reads c.loop-index-test.true c.index-events-index.is w.in-Call.is in
+          let is = read_event trace c.events-events.result.now index _ _ c.events-events.ensures.reads c.loop-index-test.true
+          c.index-events-index.is w.in-Call.is in
           record {
             floor = w.floor-is ∙ c.loop-index.invariant.floor ∙ sym (floor_after_other trace index (no_reply_at_call trace index _ _ _ is));
-            none = more_of IsFloorFaultAt trace index c.loop-index.invariant.none (none_at_call trace index w.entries_before.result c.requires.clean w.entries_before.ensures
+            none = more_of IsFloorFaultAt trace index c.loop-index.invariant.none
+                (none_at_call trace index w.entries_before.result c.requires.clean w.entries_before.ensures
                 (λ entries there.
                 let own = w.in-Some.is in
                 let same : w.in-Some.entries ≡ entries = cc in
@@ -35,18 +38,22 @@ loop-index-preserved c =
                 omega arith));
           }
       | in-Call+in_default w ↦
-          let is = read_event trace c.events-events.result.now index _ _ c.events-events.ensures.reads c.loop-index-test.true c.index-events-index.is w.in-Call.is in
+          let is = read_event trace c.events-events.result.now index _ _ c.events-events.ensures.reads c.loop-index-test.true
+          c.index-events-index.is w.in-Call.is in
           record {
             floor = w.floor-is ∙ c.loop-index.invariant.floor ∙ sym (floor_after_other trace index (no_reply_at_call trace index _ _ _ is));
-            none = more_of IsFloorFaultAt trace index c.loop-index.invariant.none (none_at_call trace index w.entries_before.result c.requires.clean w.entries_before.ensures
+            none = more_of IsFloorFaultAt trace index c.loop-index.invariant.none
+                (none_at_call trace index w.entries_before.result c.requires.clean w.entries_before.ensures
                 (λ entries there. absurd (w.in_default.not-Some entries there)));
           }
       | in-Reply w ↦
-          let is = read_event trace c.events-events.result.now index _ _ c.events-events.ensures.reads c.loop-index-test.true c.index-events-index.is w.in-Reply.is in
+          let is = read_event trace c.events-events.result.now index _ _ c.events-events.ensures.reads c.loop-index-test.true
+          c.index-events-index.is w.in-Reply.is in
           let reply : Response = record { call = w.in-Reply.call; at = w.in-Reply.at; answer = w.in-Reply.answer } in
           let known = w.entries_known.ensures w.in-Reply.answer in
           record {
-            floor = w.floor-is ∙ w.max-floor.ensures ∙ ap (λ n. max n w.entries_known.result) c.loop-index.invariant.floor ∙ ap (λ n. max (floor trace index) n) known
+            floor = w.floor-is ∙ w.max-floor.ensures ∙ ap (λ n. max n w.entries_known.result) c.loop-index.invariant.floor
+                ∙ ap (λ n. max (floor trace index) n) known
                 ∙ sym (floor_after_reply trace index reply (reply_here trace index _ _ _ is));
             none = more_of IsFloorFaultAt trace index c.loop-index.invariant.none (none_at_other trace index (no_call_at_reply trace index _ _ _ is));
           }
@@ -56,4 +63,5 @@ loop-index-preserved c =
 pub returns-clause-clean : goal.returns-clause-clean
 returns-clause-clean c =
     let at_end : c.loop-index.index ≡ length c.args.history.now.events = omega (arith, ap length c.events-events.ensures.reads) in
-    no_floor_fault c.args.history.now (subst (λ n. (lower : ℕ) → lower < n → HasNone (IsFloorFaultAt lower) c.args.history.now) at_end c.loop-index.invariant.none)
+    no_floor_fault c.args.history.now
+    (subst (λ n. (lower : ℕ) → lower < n → HasNone (IsFloorFaultAt lower) c.args.history.now) at_end c.loop-index.invariant.none)

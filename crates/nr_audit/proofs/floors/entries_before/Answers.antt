@@ -13,7 +13,8 @@ returns-then-is_update c =
     let within : c.args.call < length c.args.places.now = omega (arith, c.requires.table.one_each, c.requires.within) in
     let read = get_or_read c.args.places.now c.args.call c.index-places-call.result within c.index-places-call.is None in
     subst (λ o. Finds (StandsAfter trace c.args.call) o) (sym (c.get.ensures ∙ read))
-    (by_place trace c.args.call (get_or c.args.places.now c.args.call None) (sym c.is_update.ensures ∙ c.if-is_update.true) (c.requires.table.each c.args.call within))
+    (by_place trace c.args.call (get_or c.args.places.now c.args.call None) (sym c.is_update.ensures ∙ c.if-is_update.true)
+    (c.requires.table.each c.args.call within))
 
 -- src/floors.rt:41:21
 pub returns-in_err-reply : goal.returns-in_err-reply

@@ -17,7 +17,8 @@ returns-in-Ok-clause-verdict c =
 pub returns-in-Ok-clause-no : goal.returns-in-Ok-clause-no
 returns-in-Ok-clause-no c = λ fault first.
     IfOk-weaker c.judge.result (IsVerdictOn c.in-Ok.trace) (λ verdict. verdict ≡ No fault)
-    (λ verdict is. no_of c.args.bytes.now verdict fault (of_spelled c.args.bytes.now c.in-Ok.trace verdict c.in-Ok.ensures.spelled is) first) c.judge.ensures.verdict
+    (λ verdict is. no_of c.args.bytes.now verdict fault (of_spelled c.args.bytes.now c.in-Ok.trace verdict c.in-Ok.ensures.spelled is) first)
+    c.judge.ensures.verdict
 
 -- src/judging.rt:78:38
 pub returns-in-Err-Refused-clause-verdict : goal.returns-in-Err-Refused-clause-verdict
@@ -28,4 +29,5 @@ returns-in-Err-Refused-clause-verdict c =
 pub returns-in-Err-Refused-clause-no : goal.returns-in-Err-Refused-clause-no
 returns-in-Err-Refused-clause-no c = λ fault first.
     no_of c.args.bytes.now (No (Format _)) fault
-    (subst (λ found. HasFormatFault c.args.bytes.now found) (sym c.in-Err-Refused.fault-is) (rw c.in-Err-Refused.field-0-is at c.in-Err-Refused.ensures.refused)) first
+    (subst (λ found. HasFormatFault c.args.bytes.now found) (sym c.in-Err-Refused.fault-is)
+    (rw c.in-Err-Refused.field-0-is at c.in-Err-Refused.ensures.refused)) first

@@ -17,7 +17,8 @@ pub loop-index-preserved-in_default : goal.loop-index-preserved-in_default
 loop-index-preserved-in_default c =
     let trace = c.args.history.now in
     let index = c.loop-index.index in
-    let is = read_event trace c.events-event-items.result.now index _ _ c.events-event-items.ensures.reads c.loop-index-test.true c.event-item.is c.in_default.is in
+    let is = read_event trace c.events-event-items.result.now index _ _ c.events-event-items.ensures.reads c.loop-index-test.true
+    c.event-item.is c.in_default.is in
     more_of IsPositionFaultAt trace index c.loop-index.invariant (none_without_reply trace index (no_reply_at_call trace index _ _ _ is))
 
 -- src/positions.rt:40:21
@@ -25,7 +26,8 @@ pub returns-then-is_misplaced-clause-first : goal.returns-then-is_misplaced-clau
 returns-then-is_misplaced-clause-first c =
     let trace = c.args.history.now in
     let index = c.loop-index.index in
-    let is = read_event trace c.events-event-items.result.now index _ _ c.events-event-items.ensures.reads c.loop-index-test.true c.event-item.is c.in-Reply.is in
+    let is = read_event trace c.events-event-items.result.now index _ _ c.events-event-items.ensures.reads c.loop-index-test.true
+    c.event-item.is c.in-Reply.is in
     first_position_fault trace index (NotPlaced index) c.loop-index.invariant
     (first_not_placed trace index c.in-Reply.call c.in-Reply.at c.in-Reply.answer is (c.is_misplaced.ensures.0 c.if-is_misplaced.true))
 
@@ -34,7 +36,8 @@ pub returns-then-is_past_log-clause-first : goal.returns-then-is_past_log-clause
 returns-then-is_past_log-clause-first c =
     let trace = c.args.history.now in
     let index = c.loop-index.index in
-    let is = read_event trace c.events-event-items.result.now index _ _ c.events-event-items.ensures.reads c.loop-index-test.true c.event-item.is c.in-Reply.is in
+    let is = read_event trace c.events-event-items.result.now index _ _ c.events-event-items.ensures.reads c.loop-index-test.true
+    c.event-item.is c.in-Reply.is in
     first_position_fault trace index (PastLog index) c.loop-index.invariant
     (first_past_log trace index c.in-Reply.call c.in-Reply.at c.in-Reply.answer is (iff_false c.is_misplaced.ensures c.if-is_misplaced.false)
     (c.is_past_log.ensures.0 c.if-is_past_log.true))
@@ -44,7 +47,8 @@ pub loop-index-preserved : goal.loop-index-preserved
 loop-index-preserved c =
     let trace = c.args.history.now in
     let index = c.loop-index.index in
-    let is = read_event trace c.events-event-items.result.now index _ _ c.events-event-items.ensures.reads c.loop-index-test.true c.event-item.is c.in-Reply.is in
+    let is = read_event trace c.events-event-items.result.now index _ _ c.events-event-items.ensures.reads c.loop-index-test.true
+    c.event-item.is c.in-Reply.is in
     more_of IsPositionFaultAt trace index c.loop-index.invariant
     (none_at_reply trace index c.in-Reply.call c.in-Reply.at c.in-Reply.answer is (iff_false c.is_misplaced.ensures c.if-is_misplaced.false)
     (iff_false c.is_past_log.ensures c.if-is_past_log.false))
@@ -53,4 +57,5 @@ loop-index-preserved c =
 pub returns-clause-clean : goal.returns-clause-clean
 returns-clause-clean c =
     let at_end : c.loop-index.index ≡ length c.args.history.now.events = omega (arith, ap length c.events-event-items.ensures.reads) in
-    no_position_fault c.args.history.now (subst (λ n. (lower : ℕ) → lower < n → HasNone (IsPositionFaultAt lower) c.args.history.now) at_end c.loop-index.invariant)
+    no_position_fault c.args.history.now
+    (subst (λ n. (lower : ℕ) → lower < n → HasNone (IsPositionFaultAt lower) c.args.history.now) at_end c.loop-index.invariant)

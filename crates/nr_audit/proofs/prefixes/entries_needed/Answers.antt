@@ -21,7 +21,9 @@ loop-index-preserved c =
           let made = made_at (call_of trace w.in-Reply.call) w.in-Some.replica (sym w.in-Some.is ∙ w.replica.ensures.made) in
           let within = subst (λ o. IfSome o (λ replica. replica < 4)) w.in-Some.is w.replica.ensures.in_range in
           subst (λ (needs : List ℕ). AreNeeds trace (index + 1) needs)
-          (sym (w.needed-is ∙ ap (λ n. set c.loop-index.needed w.in-Some.replica n) (w.max.ensures ∙ greater_is (get_or c.loop-index.needed w.in-Some.replica 0) w.entries_known-known.result ∙ ap (λ n. max (get_or c.loop-index.needed w.in-Some.replica 0) n) (w.entries_known-known.ensures w.in-Reply.answer))
+          (sym (w.needed-is ∙ ap (λ n. set c.loop-index.needed w.in-Some.replica n) (w.max.ensures
+          ∙ greater_is (get_or c.loop-index.needed w.in-Some.replica 0) w.entries_known-known.result
+          ∙ ap (λ n. max (get_or c.loop-index.needed w.in-Some.replica 0) n) (w.entries_known-known.ensures w.in-Reply.answer))
           ∙ ap (λ r. set c.loop-index.needed r (max (get_or c.loop-index.needed r 0) (known_by trace reply))) (sym made.2)))
           (needs_grow trace index c.loop-index.needed reply made.0 (reply_here trace index _ _ _ is) made.1 (omega (arith, made.2)) c.loop-index.invariant)
       | in-Reply+in_default-replica w ↦
@@ -33,5 +35,6 @@ loop-index-preserved c =
       | in_default w ↦
           let is = read_event trace events index _ _ c.events-event-items.ensures.reads c.loop-index-test.true c.event-item.is w.in_default.is in
           subst (λ (needs : List ℕ). AreNeeds trace (index + 1) needs) (sym w.needed-is)
-          (needs_stay trace index c.loop-index.needed (λ replica other. no_reply_at trace index replica other (no_reply_at_call trace index _ _ _ is)) c.loop-index.invariant)
+          (needs_stay trace index c.loop-index.needed
+          (λ replica other. no_reply_at trace index replica other (no_reply_at_call trace index _ _ _ is)) c.loop-index.invariant)
     ]

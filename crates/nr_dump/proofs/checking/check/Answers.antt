@@ -5,7 +5,8 @@ use Rattle.vs_walk.proofs.LawsOfDumps.{dump_is_whole}
 use Rattle.nr_dump.specs.declared.comparison.Comparison.{Comparison}
 use Rattle.nr_dump.specs.inside.Comparing.{IsCompared}
 use Rattle.nr_dump.proofs.Taking.{compared}
-use Rattle.nr_dump.proofs.Fitting.{AreReached, reached_are_held, none_are_stray, least_stray, moved, unmarked, fits_by_pages, fits_faultless, stray_first, difference_first}
+use Rattle.nr_dump.proofs.Fitting.{AreReached, reached_are_held, none_are_stray, least_stray, moved, unmarked, fits_by_pages, fits_faultless, stray_first}
+use Rattle.nr_dump.proofs.Fitting.{difference_first}
 use Rattle.nr_dump.proofs.checking.check.Goals as goal
 
 pub least_outside-requires : goal.least_outside-requires

@@ -26,5 +26,6 @@ loop-n-preserved c =
           let near : tail log ≤ place + 16 = omega (arith, are.tail_is, w.are.tail_is, w.near) in
           c.push.ensures.items
           ∙ ap (λ (l : List LogEntry). l ++ entry ∷ []) (is.are log are fit)
-          ∙ sym (take_one_more log.entries c.args.from c.loop-n.n place entry refl (found_at c.args.depth log c.args.words.now place entry are fit near lt c.in-Some.ensures));
+          ∙ sym (take_one_more log.entries c.args.from c.loop-n.n place entry refl
+          (found_at c.args.depth log c.args.words.now place entry are fit near lt c.in-Some.ensures));
     }

@@ -18,8 +18,12 @@ loop-entry-preserved c =
     let is = c.loop-entry.invariant in
     let there = slice_get-get_or batch n c.entry-item.result c.loop-entry-test.true ∙ ap Rattle.std.proofs.Common.Some (sym c.entry-item.is) in
     let At : ℕ → Type 0 = λ place. IsWritten first (n + 1) batch words (with_two (7 + 2 * (place % 16)) c.pack.result c.loop-entry.next) in
-    let Two : List ℕ → Type 0 = λ two. IsWritten first (n + 1) batch words (with_two (word_of (first + n)) two c.loop-entry.next) in
-    (omega (arith, is.0), subst At (sym is.0) (subst Two (sym c.pack.ensures) (one_more_written first n batch c.entry-item.result words c.loop-entry.next is.1 (omega (arith, c.loop-entry-test.true, c.requires.small.1)) there)))
+    let Two : List ℕ → Type 0 = λ two. IsWritten first (n + 1) batch words (with_two (word_of (first + n)) two c.loop-entry.next) in (
+      omega (arith, is.0),
+      subst At (sym is.0)
+          (subst Two (sym c.pack.ensures)
+          (one_more_written first n batch c.entry-item.result words c.loop-entry.next is.1 (omega (arith, c.loop-entry-test.true, c.requires.small.1)) there)),
+    )
 
 pub returns : goal.returns
 returns c =
@@ -28,4 +32,5 @@ returns c =
     let is = c.loop-entry.invariant in
     let whole : c.loop-entry.entry-index ≡ length batch = omega (arith, c.loop-entry-test.false, c.loop-entry.auto.entry-index-end) in
     let Up : ℕ → Type 0 = λ n. IsWritten (slice_index words 0) n batch words c.loop-entry.next in
-    λ log are. all_written log batch words c.loop-entry.next (slice_index words 0) c.loop-entry.place are.tail_is (is.0 ∙ ap (λ n. slice_index words 0 + n) whole ∙ ap (λ t. t + length batch) are.tail_is) are (subst Up whole is.1)
+    λ log are. all_written log batch words c.loop-entry.next (slice_index words 0) c.loop-entry.place are.tail_is (is.0
+    ∙ ap (λ n. slice_index words 0 + n) whole ∙ ap (λ t. t + length batch) are.tail_is) are (subst Up whole is.1)

@@ -1,4 +1,5 @@
-use Rattle.nr_trace.proofs.ExamplesOfFaults.{not_an_update, placed_twice, not_placed, past_log, no_such_call, answered_twice, thread_open, wrong_answer, prefix_past_log, prefix_short}
+use Rattle.nr_trace.proofs.ExamplesOfFaults.{not_an_update, placed_twice, not_placed, past_log, no_such_call, answered_twice, thread_open, wrong_answer}
+use Rattle.nr_trace.proofs.ExamplesOfFaults.{prefix_past_log, prefix_short}
 use Rattle.nr_trace.proofs.examples.one_fault_each.Goals as goal
 
 pub returns-clause-not_an_update : goal.returns-clause-not_an_update

@@ -14,5 +14,6 @@ returns-then-not-is_in_range c = record {
 
 pub loop-index-preserved : goal.loop-index-preserved
 loop-index-preserved c =
-    All-more (IsEvent c.args.version c.args.config) c.args.events.now c.loop-index.index c.index-events-index.result c.loop-index-test.true c.loop-index.invariant
+    All-more (IsEvent c.args.version c.args.config) c.args.events.now c.loop-index.index c.index-events-index.result c.loop-index-test.true
+    c.loop-index.invariant
     (subst (IsEvent c.args.version c.args.config) c.index-events-index.is (c.is_in_range.ensures.0 c.if-not-is_in_range.false))

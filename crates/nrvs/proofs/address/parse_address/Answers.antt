@@ -11,4 +11,5 @@ returns c =
     let stripped = c.in_ok-digits.ensures.cases in
     let few : length digits ≤ 16 = omega arith in
     subst (λ (o : Option ℕ). MatchOption o ((address : ℕ) → SpellsAddress text address → ⊥) (SpellsAddress text)) (sym c.ok.ensures.value)
-    (parsed text digits c.from_str_radix.result (stripped.1.1 ∙ ap (λ ds. 48 ∷ 120 ∷ ds) (sym stripped.2)) few c.if-starts_with.ensures.cases c.from_str_radix.ensures.value)
+    (parsed text digits c.from_str_radix.result (stripped.1.1
+    ∙ ap (λ ds. 48 ∷ 120 ∷ ds) (sym stripped.2)) few c.if-starts_with.ensures.cases c.from_str_radix.ensures.value)

@@ -11,7 +11,8 @@ returns-clause-ok g c =
     let has = c.in_ok-read.ensures.ok in
     let text = c.args.address.now in
     let spelled : SpellsAddress text c.in_ok-address.address =
-    subst (λ (o : Option ℕ). MatchOption o ((address : ℕ) → SpellsAddress text address → ⊥) (SpellsAddress text)) c.in_ok-address.ensures.ok_part c.parse_address.ensures in
+    subst (λ (o : Option ℕ). MatchOption o ((address : ℕ) → SpellsAddress text address → ⊥) (SpellsAddress text)) c.in_ok-address.ensures.ok_part
+    c.parse_address.ensures in
     IfOk-weaker c.write_report.result _ _
     (λ status h. writes (IsResolve c.args.address.now c.args.replica) (g.R.Read.remaining c.args.reader) c.in_ok-read.read report.text.bytes.items
     (g.W.Write.contents c.args.writer.now) (g.W.Write.contents c.write_report.new.writer) report.status status has

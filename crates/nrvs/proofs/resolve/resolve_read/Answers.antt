@@ -17,7 +17,8 @@ returns-in_ok-text-in-Ok c = λ bytes h.
       spelled = trace_read bytes c.args.read c.in-Ok.trace c.in-Ok.is h;
       canonical = subst (λ d. IsCanonical d c.args.address) depth_is (sym c.is_canonical.ensures ∙ c.if-not-is_canonical.false);
       dump = c.in-Some.dump.now;
-      is_dump = ap (λ xs. slice_get xs c.args.replica) (sym c.dumps.ensures.reads) ∙ slice_get-get_or c.dumps.result.now c.args.replica c.in-Some.dump.now c.in-Some.ensures.lookup.3.0 ∙ ap Some (sym c.in-Some.ensures.lookup.1);
+      is_dump = ap (λ xs. slice_get xs c.args.replica) (sym c.dumps.ensures.reads)
+          ∙ slice_get-get_or c.dumps.result.now c.args.replica c.in-Some.dump.now c.in-Some.ensures.lookup.3.0 ∙ ap Some (sym c.in-Some.ensures.lookup.1);
       text_is = c.in_ok-text-in-Ok.ensures ∙ ap walk_text walk_is;
       status_is = refl;
     }

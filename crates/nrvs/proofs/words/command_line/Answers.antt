@@ -22,14 +22,18 @@ returns c =
     let given = c.value_parser-2.ensures.given in
     let parser_is : c.value_parser-2.result.value_parser ≡ Some (parsers.Signed (pos 0) (pos 255)) = given.1 ∙ ap Some (given.2 ∙ c.value_parser.ensures) in
     let long_is = ap rule_of c.long.ensures ∙ ap (λ (r : Rule). record r { long = Some (codes "address") }) c.new-2.ensures.rule in
-    let address_is : rule_of c.help-address.result ≡ address_option = ap rule_of c.help-address.ensures ∙ ap rule_of c.required.ensures ∙ ap (λ (r : Rule). record r { required = true }) long_is in
+    let address_is : rule_of c.help-address.result ≡ address_option =
+    ap rule_of c.help-address.ensures ∙ ap rule_of c.required.ensures ∙ ap (λ (r : Rule). record r { required = true }) long_is in
     let long_2_is = ap rule_of c.long-2.ensures ∙ ap (λ (r : Rule). record r { long = Some (codes "replica") }) c.new-3.ensures.rule in
     let parsed_is = ap rule_of c.value_parser-2.ensures.others ∙ ap₂ (λ (r : Rule) p. record r { parser = p }) long_2_is parser_is in
-    let replica_is : rule_of c.help-replica.result ≡ replica_option = ap rule_of c.help-replica.ensures ∙ ap rule_of c.default_value.ensures ∙ ap (λ (r : Rule). record r { defaults = codes "0" ∷ [] }) parsed_is in
+    let replica_is : rule_of c.help-replica.result ≡ replica_option =
+    ap rule_of c.help-replica.ensures ∙ ap rule_of c.default_value.ensures ∙ ap (λ (r : Rule). record r { defaults = codes "0" ∷ [] }) parsed_is in
     let global = λ (a : Arg). a.global in
-    let address_local : c.help-address.result.global ≡ false = ap global c.help-address.ensures ∙ ap global c.required.ensures ∙ ap global c.long.ensures ∙ c.new-2.ensures.optional.1 in
+    let address_local : c.help-address.result.global ≡ false =
+    ap global c.help-address.ensures ∙ ap global c.required.ensures ∙ ap global c.long.ensures ∙ c.new-2.ensures.optional.1 in
     let replica_local : c.help-replica.result.global ≡ false =
-    ap global c.help-replica.ensures ∙ ap global c.default_value.ensures ∙ ap global c.value_parser-2.ensures.others ∙ ap global c.long-2.ensures ∙ c.new-3.ensures.optional.1 in
+    ap global c.help-replica.ensures ∙ ap global c.default_value.ensures ∙ ap global c.value_parser-2.ensures.others ∙ ap global c.long-2.ensures
+    ∙ c.new-3.ensures.optional.1 in
     let globals = λ (f : Command-F Command). f.has_globals in
     let audit_is : app_of c.about-audit.result ≡ audit_app = ap app_of_fields c.about-audit.ensures ∙ c.new.ensures.app in
     let audit_local : (out-Command c.about-audit.result).has_globals ≡ false = ap globals c.about-audit.ensures ∙ c.new.ensures.local in
@@ -43,5 +47,6 @@ returns c =
     ∙ ap no_help (ap app_of_fields c.subcommand_required.ensures ∙ ap needs (ap app_of_fields c.about-2.ensures ∙ c.new-5.ensures.app)) in
     let one_is = c.in_ok-subcommand.ensures.shape audit_local ∙ ap₂ with_subcommand program_is (ap (λ (a : App). a.top) audit_is) in
     record {
-      app = IfOk-weaker c.subcommand-2.result _ _ (λ command h. h.shape resolve_local ∙ ap₂ with_subcommand one_is (ap (λ (a : App). a.top) resolve_is)) c.subcommand-2.ensures;
+      app = IfOk-weaker c.subcommand-2.result _ _ (λ command h. h.shape resolve_local
+          ∙ ap₂ with_subcommand one_is (ap (λ (a : App). a.top) resolve_is)) c.subcommand-2.ensures;
     }

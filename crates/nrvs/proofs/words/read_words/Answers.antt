@@ -14,18 +14,21 @@ returns-in_err-matches-clause-fault c =
     let kinds = c.in_err-matches.ensures.kinds (ap is_simple_and_free app_is) in
     let texts = map (λ word. string_bytes word) c.args.words.now in
     let known = subst (λ (a : App). HasKind (fault_of a texts) c.in_err-matches.field-0.0) app_is kinds in
-    same_error c.from_residual-in_err-matches.result c.in_err-matches.field-0.0 (MissingSubcommand ∷ fault_of command_line texts) c.from_residual-in_err-matches.ensures.1
+    same_error c.from_residual-in_err-matches.result c.in_err-matches.field-0.0
+    (MissingSubcommand ∷ fault_of command_line texts) c.from_residual-in_err-matches.ensures.1
     (one_more MissingSubcommand (fault_of command_line texts) c.in_err-matches.field-0.0 known)
 
 pub returns-in-Some-audit-default-clause-faultless : goal.returns-in-Some-audit-default-clause-faultless
 returns-in-Some-audit-default-clause-faultless c =
     let app_is : app_of c.in_ok-line.line ≡ command_line = c.in_ok-line.ensures.app in
-    subst (λ (a : App). fault_of a (map (λ word. string_bytes word) c.args.words.now) ≡ []) app_is (c.in_ok-matches.ensures.kinds (ap is_simple_and_free app_is))
+    subst (λ (a : App). fault_of a (map (λ word. string_bytes word) c.args.words.now) ≡ []) app_is
+    (c.in_ok-matches.ensures.kinds (ap is_simple_and_free app_is))
 
 pub returns-in-Some-resolve-default-clause-faultless : goal.returns-in-Some-resolve-default-clause-faultless
 returns-in-Some-resolve-default-clause-faultless c =
     let app_is : app_of c.in_ok-line.line ≡ command_line = c.in_ok-line.ensures.app in
-    subst (λ (a : App). fault_of a (map (λ word. string_bytes word) c.args.words.now) ≡ []) app_is (c.in_ok-matches.ensures.kinds (ap is_simple_and_free app_is))
+    subst (λ (a : App). fault_of a (map (λ word. string_bytes word) c.args.words.now) ≡ []) app_is
+    (c.in_ok-matches.ensures.kinds (ap is_simple_and_free app_is))
 
 pub returns-in-Some-resolve-default-clause-asks : goal.returns-in-Some-resolve-default-clause-asks
 returns-in-Some-resolve-default-clause-asks c =
@@ -37,8 +40,11 @@ returns-in-Some-resolve-default-clause-asks c =
     (c.in_ok-matches.ensures.ok.2 (ap is_simple app_is)).1 ∙ ap (λ (a : App). subcommand_of a texts) app_is in
     let name_is = ap Some (sym arm.is-resolve) ∙ arm.ensures.name in
     let sub_is = sym parsed ∙ entered _ (codes "resolve") (rows_of found) name_is arm.ensures.rows in
-    let address_is = text_or_none c.get_str.result _ (first_of (codes "address") (rows_of found)) (c.get_str.ensures ∙ first_value-rows found (codes "address")) refl
+    let address_is = text_or_none c.get_str.result _ (first_of (codes "address") (rows_of found)) (c.get_str.ensures
+    ∙ first_value-rows found (codes "address")) refl
     ∙ ap (λ (s : Bor (List ℕ)). s.now) (sym c.unwrap_or-address.ensures) in
-    let replica_is = replica_read (λ text r. ParsesUnsigned 8 10 text r × ExplainsUnsignedError 10 text r × HasUnsignedDigitsIfOk text r) (λ text r h. h.0) (one_text found (codes "replica")) c.get_one.result c.get_one.ensures.none c.get_one.ensures.value in
+    let replica_is = replica_read (λ text r. ParsesUnsigned 8 10 text r × ExplainsUnsignedError 10 text r × HasUnsignedDigitsIfOk text r) (λ text r h. h.0)
+    (one_text found (codes "replica")) c.get_one.result c.get_one.ensures.none c.get_one.ensures.value in
     asks_resolve _ (rows_of found) c.unwrap_or-address.result c.unwrap_or-replica.result sub_is address_is
-    (subst (λ t. IsReplica t c.unwrap_or-replica.result) (one_text-rows found (codes "replica")) (subst (IsReplica (one_text found (codes "replica"))) (sym c.unwrap_or-replica.ensures) replica_is))
+    (subst (λ t. IsReplica t c.unwrap_or-replica.result) (one_text-rows found (codes "replica"))
+    (subst (IsReplica (one_text found (codes "replica"))) (sym c.unwrap_or-replica.ensures) replica_is))

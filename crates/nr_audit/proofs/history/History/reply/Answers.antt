@@ -12,14 +12,16 @@ pub returns-then-call-len : goal.returns-then-call-len
 returns-then-call-len c =
     let table = c.self.inside.replies.items in
     let are = subst (λ t. AreReplies t table) c.self.view_is c.self.invariant in
-    sym (reply_by_table c.args.self.now table c.args.call None are (sym (get_or_past table c.args.call None (omega (arith, c.len.ensures, c.self.inside.replies.ok.0, c.if-call-len.true)))))
+    sym (reply_by_table c.args.self.now table c.args.call None are
+    (sym (get_or_past table c.args.call None (omega (arith, c.len.ensures, c.self.inside.replies.ok.0, c.if-call-len.true)))))
 
 -- src/history.rt:113:21
 pub returns-in_err-index : goal.returns-in_err-index
 returns-in_err-index c =
     let table = c.self.inside.replies.items in
     let are = subst (λ t. AreReplies t table) c.self.view_is c.self.invariant in
-    let read = get_or_read table c.args.call c.index.result.now (omega (arith, c.len.ensures, c.self.inside.replies.ok.0, c.if-call-len.false)) c.index.ensures None in
+    let read = get_or_read table c.args.call c.index.result.now
+    (omega (arith, c.len.ensures, c.self.inside.replies.ok.0, c.if-call-len.false)) c.index.ensures None in
     c.from_residual.ensures ∙ sym (reply_by_table c.args.self.now table c.args.call None are (sym c.in_err-index.was ∙ c.get.ensures ∙ read))
 
 -- src/history.rt:110:5

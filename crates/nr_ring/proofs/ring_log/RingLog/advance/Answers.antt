@@ -15,7 +15,8 @@ try_advance-requires-clause-may g c =
     let Seen : View → Type 0 = λ v. Remembers depth replicas words c.pass.inside.replica v in
     let Owns : Option ℕ → Type 0 = λ o. Remembers depth replicas words o c.args.pass.now.view in
     let is = subst Owns c.in-Some.is (subst Seen (ap (λ (k : Known). k.view) c.pass.view_is) c.pass.invariant) in
-    let other : slice_index words (2 + r) ≡ c.args.to → ⊥ = λ e. c.if-words-local.false (ap (λ n. slice_index words (2 + n)) c.from-local.ensures ∙ e ∙ sym c.from-place.ensures) in
+    let other : slice_index words (2 + r) ≡ c.args.to → ⊥ =
+    λ e. c.if-words-local.false (ap (λ n. slice_index words (2 + n)) c.from-local.ensures ∙ e ∙ sym c.from-place.ensures) in
     let may = may_advance depth replicas words r c.args.pass.now.view c.args.to is c.requires.to other in
     (low_replica depth replicas words r c.args.pass.now.view is, may.0, may.1)
 
@@ -28,5 +29,6 @@ returns-then-try_advance-clause-taken g c =
     let Seen : View → Type 0 = λ v. Remembers depth replicas words c.pass.inside.replica v in
     let Owns : Option ℕ → Type 0 = λ o. Remembers depth replicas words o c.args.pass.now.view in
     let is = subst Owns c.in-Some.is (subst Seen (ap (λ (k : Known). k.view) c.pass.view_is) c.pass.invariant) in
-    let other : slice_index words (2 + r) ≡ c.args.to → ⊥ = λ e. c.if-words-local.false (ap (λ n. slice_index words (2 + n)) c.from-local.ensures ∙ e ∙ sym c.from-place.ensures) in
+    let other : slice_index words (2 + r) ≡ c.args.to → ⊥ =
+    λ e. c.if-words-local.false (ap (λ n. slice_index words (2 + n)) c.from-local.ensures ∙ e ∙ sym c.from-place.ensures) in
     taken_now depth replicas words r c.args.pass.now.view _ c.args.to is other c.if-try_advance.ensures.view

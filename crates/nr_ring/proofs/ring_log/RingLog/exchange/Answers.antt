@@ -18,8 +18,18 @@ compare_exchange_as-found-requires g c =
     let back = sym (ap (λ (k : Known). k.view) c.pass.view_is) in
     let May : View → Type 0 = λ v. MayFollow depth (log_after replicas v.seen) event × MayMake v event in
     let Next : View → Type 0 = λ v. IsWordsOf (after (log_after replicas v.seen) event) c.args.next in
-    let may = subst May back c.requires.event in
-    (search rules, (search rules, (search rules, exchange_turns depth replicas _ (cell_view c.pass.inside.pass) event c.pass.inside.words c.args.next c.pass.invariant.few c.pass.invariant.words_are may.0 may.1 (subst Next back c.requires.next))))
+    let may = subst May back c.requires.event in (
+      search rules,
+      (
+        search rules,
+        (
+          search rules,
+          exchange_turns depth replicas _
+              (cell_view c.pass.inside.pass) event c.pass.inside.words c.args.next c.pass.invariant.few c.pass.invariant.words_are may.0 may.1
+              (subst Next back c.requires.next),
+        ),
+      ),
+    )
 
 pub invariant_of-pass : goal.invariant_of-pass
 invariant_of-pass g c =
@@ -33,21 +43,24 @@ invariant_of-pass g c =
     let rule = c.in-Ok.ensures.rule in
     let made = exchanged depth replicas event _ c.pass.inside.words c.args.next c.pass.inside.replica view _ rule.0 c.pass.invariant rule.1 in
     let Is : View → Type 0 = λ w. Remembers depth replicas c.args.next c.pass.inside.replica w in
-    subst Is (sym made) (event_remembers depth replicas c.pass.inside.words c.args.next c.pass.inside.replica view event c.pass.invariant (subst May back c.requires.event.0) (subst Next back c.requires.next))
+    subst Is (sym made) (event_remembers depth replicas c.pass.inside.words c.args.next c.pass.inside.replica view event c.pass.invariant
+    (subst May back c.requires.event.0) (subst Next back c.requires.next))
 
 pub invariant_of-pass-in-Err : goal.invariant_of-pass-in-Err
 invariant_of-pass-in-Err g c =
     let depth = g.J.LogName.depth in
     let replicas = g.J.LogName.replicas in
     let rule = c.in-Err.ensures.rule in
-    let looks = not_exchanged depth replicas g.E.Happening.event c.in-Err.found c.pass.inside.words c.pass.inside.replica (cell_view c.pass.inside.pass) _ rule.0 c.pass.invariant rule.1 in
+    let looks = not_exchanged depth replicas g.E.Happening.event c.in-Err.found c.pass.inside.words c.pass.inside.replica
+    (cell_view c.pass.inside.pass) _ rule.0 c.pass.invariant rule.1 in
     look_remembers depth replicas c.pass.inside.words c.in-Err.found c.pass.inside.replica (cell_view c.pass.inside.pass) _ c.pass.invariant looks.0
 
 pub returns-in-Ok-clause-view : goal.returns-in-Ok-clause-view
 returns-in-Ok-clause-view g c =
     let event = g.E.Happening.event in
     let rule = c.in-Ok.ensures.rule in
-    exchanged g.J.LogName.depth g.J.LogName.replicas event _ c.pass.inside.words c.args.next c.pass.inside.replica (cell_view c.pass.inside.pass) _ rule.0 c.pass.invariant rule.1
+    exchanged g.J.LogName.depth g.J.LogName.replicas event _ c.pass.inside.words c.args.next c.pass.inside.replica
+    (cell_view c.pass.inside.pass) _ rule.0 c.pass.invariant rule.1
     ∙ ap (λ (k : Known). with_event k.view event) c.pass.view_is
 
 pub returns-in-Ok-clause-history : goal.returns-in-Ok-clause-history
@@ -58,8 +71,10 @@ returns-in-Err-clause-view g c =
     let depth = g.J.LogName.depth in
     let replicas = g.J.LogName.replicas in
     let rule = c.in-Err.ensures.rule in
-    let looks = not_exchanged depth replicas g.E.Happening.event c.in-Err.found c.pass.inside.words c.pass.inside.replica (cell_view c.pass.inside.pass) _ rule.0 c.pass.invariant rule.1 in
-    let P : View → Type 0 = λ v. HasLooked depth replicas v (cell_view c.compare_exchange_as-found.new.pass) × HasMoved v (cell_view c.compare_exchange_as-found.new.pass) in
+    let looks = not_exchanged depth replicas g.E.Happening.event c.in-Err.found c.pass.inside.words c.pass.inside.replica
+    (cell_view c.pass.inside.pass) _ rule.0 c.pass.invariant rule.1 in
+    let P : View → Type 0 = λ v. HasLooked depth replicas v (cell_view c.compare_exchange_as-found.new.pass)
+    × HasMoved v (cell_view c.compare_exchange_as-found.new.pass) in
     subst P (ap (λ (k : Known). k.view) c.pass.view_is) (looks.0.looked, looks.1)
 
 pub returns-in-Err-clause-history : goal.returns-in-Err-clause-history

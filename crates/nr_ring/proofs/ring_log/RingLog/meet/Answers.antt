@@ -30,12 +30,15 @@ invariant_of-told g c =
     let told = cell_view c.told.inside.pass in
     let before = c.join_pass.ensures.1 ∙ ap (λ (w : View). joined told w) c.split_pass-copy.ensures.given.1 in
     let Is : View → Type 0 = λ v. Looks g.J.LogName.depth g.J.LogName.replicas c.load_as-words.result v (cell_view c.load_as-words.new.pass) in
-    met_remembers g.J.LogName.depth g.J.LogName.replicas c.told.inside.words c.load_as-words.result c.told.inside.replica told (cell_view c.pass.inside.pass) (cell_view c.load_as-words.new.pass) c.told.invariant (subst Is before c.load_as-words.ensures.rule)
+    met_remembers g.J.LogName.depth g.J.LogName.replicas c.told.inside.words c.load_as-words.result c.told.inside.replica told (cell_view c.pass.inside.pass)
+    (cell_view c.load_as-words.new.pass) c.told.invariant (subst Is before c.load_as-words.ensures.rule)
 
 pub returns-clause-met : goal.returns-clause-met
 returns-clause-met g c =
     let told = cell_view c.told.inside.pass in
-    let views : joined told (cell_view c.pass.inside.pass) ≡ joined c.args.told.now.view c.args.pass.now.view = λ i. joined (c.told.view_is i).view (c.pass.view_is i).view in
+    let views : joined told (cell_view c.pass.inside.pass) ≡ joined c.args.told.now.view c.args.pass.now.view =
+    λ i. joined (c.told.view_is i).view (c.pass.view_is i).view in
     let before = c.join_pass.ensures.1 ∙ ap (λ (w : View). joined told w) c.split_pass-copy.ensures.given.1 ∙ views in
     let Is : View → Type 0 = λ v. Looks g.J.LogName.depth g.J.LogName.replicas c.load_as-words.result v (cell_view c.load_as-words.new.pass) in
-    met g.J.LogName.depth g.J.LogName.replicas c.load_as-words.result c.args.told.now.view c.args.pass.now.view (cell_view c.load_as-words.new.pass) (subst Is before c.load_as-words.ensures.rule)
+    met g.J.LogName.depth g.J.LogName.replicas c.load_as-words.result c.args.told.now.view c.args.pass.now.view (cell_view c.load_as-words.new.pass)
+    (subst Is before c.load_as-words.ensures.rule)

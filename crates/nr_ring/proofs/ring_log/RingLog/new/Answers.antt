@@ -11,8 +11,13 @@ use Rattle.nr_ring.proofs.ring_log.RingLog.new.Goals as goal
 pub ruled-requires : goal.ruled-requires
 ruled-requires g c =
     let replicas = g.J.LogName.replicas in
-    let P : ℕ → Type 0 = λ n. IsKept g.J.LogName.depth replicas (new_words n) (new_view (range_with_len 0 replicas) ∷ []) in
-    (search rules, (search rules, subst P (sym (c.from.ensures ∙ c.requires.replicas.0)) (new_kept g.J.LogName.depth replicas (new_view (range_with_len 0 replicas)) refl refl refl)))
+    let P : ℕ → Type 0 = λ n. IsKept g.J.LogName.depth replicas (new_words n) (new_view (range_with_len 0 replicas) ∷ []) in (
+      search rules,
+      (
+        search rules,
+        subst P (sym (c.from.ensures ∙ c.requires.replicas.0)) (new_kept g.J.LogName.depth replicas (new_view (range_with_len 0 replicas)) refl refl refl),
+      ),
+    )
 
 pub loop-replica-preserved : goal.loop-replica-preserved
 loop-replica-preserved g c =

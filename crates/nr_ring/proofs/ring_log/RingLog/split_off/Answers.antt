@@ -10,21 +10,31 @@ use Rattle.nr_ring.proofs.ring_log.RingLog.split_off.Goals as goal
 pub split_pass-pass-requires : goal.split_pass-pass-requires
 split_pass-pass-requires g c =
     let replicas = g.J.LogName.replicas in
-    let P : View → Type 0 = λ v. IsCut v.owns (drop 1 v.owns) (take 1 v.owns) in
-    (search rules, (search rules, (c.requires.first.0 ∙ sym c.self.view_is, split_forks _ _ _ _ _ _ (subst P (sym c.requires.first.1) (cut_owned replicas c.args.replica)))))
+    let P : View → Type 0 = λ v. IsCut v.owns (drop 1 v.owns) (take 1 v.owns) in (
+      search rules,
+      (
+        search rules,
+        (c.requires.first.0 ∙ sym c.self.view_is, split_forks _ _ _ _ _ _ (subst P (sym c.requires.first.1) (cut_owned replicas c.args.replica))),
+      ),
+    )
 
 pub invariant_of-result : goal.invariant_of-result
 invariant_of-result g c =
     let replicas = g.J.LogName.replicas in
-    let view = c.split_pass-pass.ensures.given.1 ∙ ap (λ (v : View). copied v (take 1 v.owns)) c.requires.first.1 ∙ ap new_view (gives_first replicas c.args.replica c.requires.few.1) in
+    let view = c.split_pass-pass.ensures.given.1 ∙ ap (λ (v : View). copied v (take 1 v.owns)) c.requires.first.1
+    ∙ ap new_view (gives_first replicas c.args.replica c.requires.few.1) in
     let P : View → Type 0 = λ v. Remembers g.J.LogName.depth replicas (new_words replicas) c.args.replica v in
-    let Q : List ℕ → Type 0 = λ ws. Remembers g.J.LogName.depth replicas ws c.args.replica (Rattle.crossbeam_utils.specs.Seq.cell_view c.split_pass-pass.result) in
+    let Q : List ℕ → Type 0 = λ ws. Remembers g.J.LogName.depth replicas ws c.args.replica
+    (Rattle.crossbeam_utils.specs.Seq.cell_view c.split_pass-pass.result) in
     subst Q (sym c.requires.words) (subst P (sym view) (new_remembers g.J.LogName.depth replicas c.args.replica c.requires.few.0 c.requires.few.1))
 
 pub returns-clause-first : goal.returns-clause-first
 returns-clause-first g c =
-    let replicas = g.J.LogName.replicas in
-    (c.split_pass-pass.ensures.kept.0, c.split_pass-pass.ensures.kept.1 ∙ ap (λ (v : View). keeping v (drop 1 v.owns)) c.requires.first.1 ∙ ap new_view (keeps_rest replicas c.args.replica c.requires.few.1))
+    let replicas = g.J.LogName.replicas in (
+      c.split_pass-pass.ensures.kept.0,
+      c.split_pass-pass.ensures.kept.1 ∙ ap (λ (v : View). keeping v (drop 1 v.owns)) c.requires.first.1
+          ∙ ap new_view (keeps_rest replicas c.args.replica c.requires.few.1),
+    )
 
 pub returns-clause-pass : goal.returns-clause-pass
 returns-clause-pass g c =

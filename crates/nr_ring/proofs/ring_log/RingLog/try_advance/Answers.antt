@@ -27,7 +27,8 @@ exchange-requires-clause-next g c =
     let local = c.from-local.ensures in
     let raised : c.max.result ≡ max (slice_index words 1) c.args.to = c.max.ensures ∙ ap (λ n. max (slice_index words 1) n) place in
     let before : List ℕ = set (set words 1 c.max.result) (2 + c.from-local.result) c.from-place.result in
-    let next : before ≡ set (set words 1 (max (slice_index words 1) c.args.to)) (2 + c.args.replica) c.args.to = λ i. set (set words 1 (raised i)) (2 + local i) (place i) in
+    let next : before ≡ set (set words 1 (max (slice_index words 1) c.args.to)) (2 + c.args.replica) c.args.to =
+    λ i. set (set words 1 (raised i)) (2 + local i) (place i) in
     let Next : List ℕ → Type 0 = λ ws. IsWordsOf (after log (Advance c.args.replica c.args.to)) ws in
     let After : Event → Type 0 = λ event. IsWordsOf (after log event) before in
     subst After (sym c.requires.event) (subst Next (sym next) advanced)

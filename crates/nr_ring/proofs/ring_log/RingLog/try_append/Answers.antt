@@ -14,4 +14,5 @@ exchange-requires-clause-next g c =
     let Is : View → Type 0 = λ v. IsWordsOf (log_after g.J.LogName.replicas v.seen) words in
     let are = subst Is (ap (λ (k : Known). k.view) c.pass.view_is) c.pass.invariant.words_are in
     let After : Event → Type 0 = λ event. IsWordsOf (after log event) c.with_batch-next.result in
-    subst After (sym c.requires.event) (append_words g.J.LogName.depth log c.args.batch.now words c.with_batch-next.result are c.requires.may (c.with_batch-next.ensures log are))
+    subst After (sym c.requires.event)
+    (append_words g.J.LogName.depth log c.args.batch.now words c.with_batch-next.result are c.requires.may (c.with_batch-next.ensures log are))

@@ -11,7 +11,8 @@ use Rattle.nr_trace.proofs.reading.dumps.take_frame_number.Goals as goal
 
 pub returns-then-is_next : goal.returns-then-is_next
 returns-then-is_next c =
-    number_taken c.args.parts c.args.opened c.args.last c.take_u64-number.result.0 c.args.unit.now c.requires.ready.0 c.requires.ready.1 (c.is_next.ensures.0 c.if-is_next.true)
+    number_taken c.args.parts c.args.opened c.args.last c.take_u64-number.result.0 c.args.unit.now c.requires.ready.0 c.requires.ready.1
+    (c.is_next.ensures.0 c.if-is_next.true)
     (only_front c.args.unit.now _ _ c.take_u64-number.ensures c.requires.whole)
 
 pub returns : goal.returns
@@ -23,6 +24,9 @@ returns c = λ rest.
     let same = number_64 c.take_u64-number.result.0 number [] [] (omega arith) (omega (arith, next.in_range)) (sym is ∙ e) in
     let yes : c.is_next.result ≡ true = c.is_next.ensures.1 (subst (IsNext c.args.last) (sym same.0) next) in
     absurd cc in
-    subst (λ i. AtFrames (length parts.dumps.items) index c.args.opened.left c.args.last (BehindDumps parts 1) (c.args.unit.now ++ rest) (BadFrame i c.count-index.result)) (sym (c.len-replica.ensures ∙ parts.dumps.ok.0))
-    (subst (λ i. AtFrames (length parts.dumps.items) index c.args.opened.left c.args.last (BehindDumps parts 1) (c.args.unit.now ++ rest) (BadFrame (length parts.dumps.items) i)) (sym c.count-index.ensures.reads)
-    (number_refused (length parts.dumps.items) index c.args.opened.left c.args.last (BehindDumps parts 1) c.args.unit.now rest c.requires.ready.0.some_left c.requires.whole none))
+    subst (λ i. AtFrames (length parts.dumps.items) index c.args.opened.left c.args.last (BehindDumps parts 1) (c.args.unit.now ++ rest)
+    (BadFrame i c.count-index.result)) (sym (c.len-replica.ensures ∙ parts.dumps.ok.0))
+    (subst (λ i. AtFrames (length parts.dumps.items) index c.args.opened.left c.args.last (BehindDumps parts 1) (c.args.unit.now ++ rest)
+    (BadFrame (length parts.dumps.items) i)) (sym c.count-index.ensures.reads)
+    (number_refused (length parts.dumps.items) index c.args.opened.left c.args.last
+    (BehindDumps parts 1) c.args.unit.now rest c.requires.ready.0.some_left c.requires.whole none))

@@ -16,7 +16,8 @@ returns-in_err-request c =
       address = c.take_u64-address.result.0;
       physical = c.take_u64-physical.result.0;
     } in
-    let parts : c.args.bytes.now ≡ call_bytes c.take_u8-replica.result.0 c.take_u16-thread.result.0 fields c.take_u8-unused.result.0 ++ c.take_u64-physical.result.1.now = cc in
+    let parts : c.args.bytes.now ≡ call_bytes c.take_u8-replica.result.0 c.take_u16-thread.result.0 fields c.take_u8-unused.result.0
+    ++ c.take_u64-physical.result.1.now = cc in
     let fits : CallFits c.take_u8-replica.result.0 c.take_u16-thread.result.0 fields c.take_u8-unused.result.0 = record {
       replica_fits = omega arith;
       thread_fits = omega arith;

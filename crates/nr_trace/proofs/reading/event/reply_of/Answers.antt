@@ -14,7 +14,8 @@ returns-in_err-answer c =
       rights = c.take_u8-rights.result.0;
       value = c.take_u64-value.result.0;
     } in
-    let parts : c.args.bytes.now ≡ reply_bytes fields c.take_u32-call.result.0 c.take_u32-at.result.0 c.take_u32-unused.result.0 ++ c.take_u64-value.result.1.now = cc in
+    let parts : c.args.bytes.now ≡ reply_bytes fields c.take_u32-call.result.0 c.take_u32-at.result.0 c.take_u32-unused.result.0
+    ++ c.take_u64-value.result.1.now = cc in
     let fits : ReplyFits fields c.take_u32-call.result.0 c.take_u32-at.result.0 c.take_u32-unused.result.0 = record {
       code = omega arith;
       size = omega arith;

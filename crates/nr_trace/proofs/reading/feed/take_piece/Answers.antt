@@ -12,7 +12,8 @@ returns-in_err-reader-in-Some c =
     let refused : IfRefused (IsSettled bytes) c.in_err-reader-in-Some.field-0.0 =
     refuses bytes c.args.reader (begun ++ c.args.piece.now) c.deref.result.now c.split_at.result.1.now c.in_err-reader-in-Some.field-0.0
     record { sound = c.requires.sound; parts = append_assoc (said c.args.reader) begun c.args.piece.now }
-    (unit_completed begun c.args.piece.now c.split_at.result.0.now c.split_at.result.1.now c.deref.result.now (search rules) (c.deref.ensures.value ∙ c.in_ok-extend_from_slice-in-Some-2.ensures.items))
+    (unit_completed begun c.args.piece.now c.split_at.result.0.now c.split_at.result.1.now c.deref.result.now (search rules) (c.deref.ensures.value
+    ∙ c.in_ok-extend_from_slice-in-Some-2.ensures.items))
     c.in_err-reader-in-Some.ensures in
     search rules
 

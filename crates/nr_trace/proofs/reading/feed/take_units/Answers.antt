@@ -10,13 +10,15 @@ pub returns-in_err-reader : goal.returns-in_err-reader
 returns-in_err-reader c =
     let bytes = said c.args.reader ++ c.args.bytes.now in
     let refused : IfRefused (IsSettled bytes) c.in_err-reader.field-0.0 =
-    refuses bytes c.loop-len.reader c.loop-len.rest.now c.split_at.result.0.now c.split_at.result.1.now c.in_err-reader.field-0.0 c.loop-len.invariant (search rules) c.in_err-reader.ensures in
+    refuses bytes c.loop-len.reader c.loop-len.rest.now c.split_at.result.0.now c.split_at.result.1.now c.in_err-reader.field-0.0 c.loop-len.invariant
+    (search rules) c.in_err-reader.ensures in
     search rules
 
 pub loop-len-preserved : goal.loop-len-preserved
 loop-len-preserved c =
     let bytes = said c.args.reader ++ c.args.bytes.now in
-    goes bytes c.loop-len.reader c.in_ok-reader.reader c.loop-len.rest.now c.split_at.result.0.now c.split_at.result.1.now c.loop-len.invariant (search rules) c.in_ok-reader.ensures
+    goes bytes c.loop-len.reader c.in_ok-reader.reader c.loop-len.rest.now c.split_at.result.0.now c.split_at.result.1.now c.loop-len.invariant
+    (search rules) c.in_ok-reader.ensures
 
 pub returns-then-not-is_empty : goal.returns-then-not-is_empty
 returns-then-not-is_empty c =

@@ -10,11 +10,19 @@ use Rattle.nr_trace.proofs.trace.Trace.new.Goals as goal
 
 pub returns-then-not-all_have_frames : goal.returns-then-not-all_have_frames
 returns-then-not-all_have_frames c =
-    let parts : Recording = record { version = c.args.version; layout = c.args.config; log = c.args.log.items; events = c.args.events.items; dumps = c.args.dumps.items } in
+    let parts : Recording = record {
+      version = c.args.version;
+      layout = c.args.config;
+      log = c.args.log.items;
+      events = c.args.events.items;
+      dumps =
+          c.args.dumps.items;
+    } in
     let known = subst (λ depth. KnowsDepth c.args.version depth) c.depth.ensures (c.knows_depth.ensures.0 c.if-not-knows_depth.false) in
     let places : length parts.log ≤ LOG_PLACES = omega (arith, c.args.log.ok.0, c.len.ensures, c.if-len.false) in
     let events : length parts.events ≤ CALLS = omega (arith, c.args.events.ok.0, c.len-2.ensures, c.if-len-2.false) in
-    let dumps : length parts.dumps ≡ parts.layout.replicas = omega (arith, c.args.dumps.ok.0, c.len-3.ensures, c.replicas.ensures.reads, c.if-len-replicas.false) in
+    let dumps : length parts.dumps ≡ parts.layout.replicas =
+    omega (arith, c.args.dumps.ok.0, c.len-3.ensures, c.replicas.ensures.reads, c.if-len-replicas.false) in
     inr (
       good_counts parts known places events dumps,
       subst (All (IsEvent c.args.version c.args.config)) c.deref.ensures.value c.in_default.ensures,

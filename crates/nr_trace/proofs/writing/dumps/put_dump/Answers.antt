@@ -19,5 +19,6 @@ loop-k-preserved c =
 
 pub returns : goal.returns
 returns c =
-    dump_put c.args.held.now c.applied.result c.count-frames.result c.root.result c.loop-k.k c.args.out.now.items c.put_dump_head.new.out.items c.loop-k.out.items
+    dump_put c.args.held.now c.applied.result c.count-frames.result c.root.result c.loop-k.k c.args.out.now.items
+    c.put_dump_head.new.out.items c.loop-k.out.items
     c.count-frames.ensures.reads c.applied.ensures c.root.ensures c.loop-k-test.false c.in_ok-put_dump_head.ensures c.loop-k.invariant

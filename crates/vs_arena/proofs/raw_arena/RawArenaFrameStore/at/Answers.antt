@@ -14,9 +14,12 @@ returns-clause-numbered c = subst (λ (a : Arena). IfSome c.marked_at.result (λ
 pub returns-clause-in_use : goal.returns-clause-in_use
 returns-clause-in_use c =
     let marked = subst (λ (marks : List Bool). IfSome c.marked_at.result (λ f. get_or marks f false ≡ true)) c.deref.ensures.value c.marked_at.ensures.marked in
-    subst (λ (a : Arena). IfSome c.marked_at.result (IsInUse a.frames)) c.self.view_is (used_if_marked c.self.inside.marks.items (values c.self.inside.region.places) c.marked_at.result marked)
+    subst (λ (a : Arena). IfSome c.marked_at.result (IsInUse a.frames)) c.self.view_is
+    (used_if_marked c.self.inside.marks.items (values c.self.inside.region.places) c.marked_at.result marked)
 
 pub returns-clause-unknown : goal.returns-clause-unknown
 returns-clause-unknown c =
-    let unmarked = subst (λ (marks : List Bool). IfNone c.marked_at.result ((f : ℕ) → c.self.inside.base + f ≡ c.args.number → get_or marks f false ≡ false)) c.deref.ensures.value c.marked_at.ensures.unmarked in
-    subst (λ (a : Arena). IfNone c.marked_at.result ((f : ℕ) → a.base + f ≡ c.args.number → IsFree a.frames f)) c.self.view_is (free_if_unmarked c.self.inside.marks.items (values c.self.inside.region.places) c.self.inside.base c.args.number c.marked_at.result unmarked)
+    let unmarked = subst (λ (marks : List Bool). IfNone c.marked_at.result ((f : ℕ) → c.self.inside.base + f ≡ c.args.number → get_or marks f false ≡ false))
+    c.deref.ensures.value c.marked_at.ensures.unmarked in
+    subst (λ (a : Arena). IfNone c.marked_at.result ((f : ℕ) → a.base + f ≡ c.args.number → IsFree a.frames f)) c.self.view_is
+    (free_if_unmarked c.self.inside.marks.items (values c.self.inside.region.places) c.self.inside.base c.args.number c.marked_at.result unmarked)

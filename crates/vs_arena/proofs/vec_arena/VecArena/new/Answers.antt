@@ -11,7 +11,8 @@ pub loop-index-init : goal.loop-index-init
 loop-index-init c = rw (c.in_ok-words.ensures.items, c.in_ok-free.ensures.items) HasMade-none
 
 pub loop-index-preserved : goal.loop-index-preserved
-loop-index-preserved c = rw (c.in_ok-push.ensures.items, c.in_ok-push-2.ensures.items) (HasMade-push _ _ _ _ (rw c.cleared_words.ensures IsFrame-zeros) c.loop-index.invariant)
+loop-index-preserved c = rw (c.in_ok-push.ensures.items, c.in_ok-push-2.ensures.items)
+    (HasMade-push _ _ _ _ (rw c.cleared_words.ensures IsFrame-zeros) c.loop-index.invariant)
 
 marks_are : (c : goal.After-loop-index) → c.in_ok-marks.marks.items ≡ replicate c.args.n false
 marks_are c = c.in_ok-marks.ensures.items_if_clones_equal (λ y clone. search rules)
@@ -23,7 +24,9 @@ invariant_of-result c =
     rw (marks_are c) (IsArena-new _ _ _ _ c.requires.few c.requires.in_range made.words_for_each made.whole_frames made.room_for_each made.free_itself)
 
 -- an arena of which no frame is in use
-empty_arena : (base n : ℕ) (words : List (List ℕ)) (marks : List Bool) → marks ≡ replicate n false → ◌≡◌ {A = Arena} (record { base = base; size = length marks; frames = marked_frames marks words }) (record { base = base; size = n; frames = finite.empty })
+empty_arena : (base n : ℕ) (words : List (List ℕ)) (marks : List Bool) → marks ≡ replicate n false
+    → ◌≡◌ {A = Arena} (record { base = base; size = length marks; frames = marked_frames marks words })
+    (record { base = base; size = n; frames = finite.empty })
 empty_arena base n words marks none =
     ap (λ m. record { base = base; size = length m; frames = marked_frames m words }) none
     ∙ (λ i. record { base = base; size = length-replicate n false i; frames = marked_frames-none n words i })

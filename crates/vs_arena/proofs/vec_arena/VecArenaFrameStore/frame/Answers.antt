@@ -16,7 +16,8 @@ returns c =
     let words = c.self.inside.words.items in
     let in_use = subst (λ (a : Arena). IsInUse a.frames c.args.frame) (sym c.self.view_is) c.requires in
     let marked = IsMarked-from_use c.self.inside.marks.items words c.args.frame in_use in
-    get_or_read words c.index.result c.index-2.result.now (omega (arith, marked.in_marks, c.self.invariant.words_for_each, c.index.ensures.reads)) c.index-2.ensures []
+    get_or_read words c.index.result c.index-2.result.now
+    (omega (arith, marked.in_marks, c.self.invariant.words_for_each, c.index.ensures.reads)) c.index-2.ensures []
     ∙ ap (λ i. get_or words i []) c.index.ensures.reads
     ∙ sym marked.own
     ∙ ap (λ (a : Arena). words_of a.frames c.args.frame) c.self.view_is

@@ -23,7 +23,8 @@ pub invariant_of-self : goal.invariant_of-self
 invariant_of-self c =
     let words = c.self.inside.words.items in
     let in_use = subst (λ (a : Arena). IsInUse a.frames c.args.frame) (sym c.self.view_is) c.requires in
-    let here = subst (λ i. IsMarked c.self.inside.marks.items words i) (sym c.index-index.ensures.reads) (IsMarked-from_use c.self.inside.marks.items words c.args.frame in_use) in
+    let here = subst (λ i. IsMarked c.self.inside.marks.items words i) (sym c.index-index.ensures.reads)
+    (IsMarked-from_use c.self.inside.marks.items words c.args.frame in_use) in
     IsArena-give _ _ _ _ _ c.index-index.result c.self.invariant here
 
 pub returns-clause-removed : goal.returns-clause-removed

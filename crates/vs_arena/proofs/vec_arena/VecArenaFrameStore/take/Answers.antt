@@ -31,5 +31,7 @@ returns-clause-within c =
 pub returns-clause-cleared : goal.returns-clause-cleared
 returns-clause-cleared c =
     let in_marks = (unmarked c).in_marks in
-    rw (c.cleared_words.ensures, c.at_index.ensures) (marked_frames-mark c.self.inside.marks.items c.self.inside.words.items c.index-index.result.now zeros in_marks (omega (arith, c.self.invariant.words_for_each)))
+    rw (c.cleared_words.ensures, c.at_index.ensures)
+    (marked_frames-mark c.self.inside.marks.items c.self.inside.words.items c.index-index.result.now zeros in_marks
+    (omega (arith, c.self.invariant.words_for_each)))
     ∙ ap (λ (a : Arena). finite.insert a.frames c.at_index.result zeros) c.self.view_is

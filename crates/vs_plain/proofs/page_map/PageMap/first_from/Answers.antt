@@ -8,7 +8,10 @@ pub returns : goal.returns
 returns c =
     let m = c.self.inside.by_base in
     subst (λ s. IsFirstFrom s c.args.address (Some c.in_ok-page.page.now)) c.self.view_is
-    (first_from_range m c.self.invariant c.args.address c.range.result (c.range.ensures.in_range tt) (c.in_ok-page.field-0-0.now, c.in_ok-page.page.now) _ c.in_ok-page.ensures.steps)
+    (first_from_range m c.self.invariant c.args.address c.range.result (c.range.ensures.in_range tt) (
+      c.in_ok-page.field-0-0.now,
+      c.in_ok-page.page.now,
+    ) _ c.in_ok-page.ensures.steps)
 
 pub returns-in_err-page : goal.returns-in_err-page
 returns-in_err-page c =

@@ -10,4 +10,5 @@ invariant_of-self-2 c = by_base_put c.self.inside.by_base.entries _ c.args.page 
 
 pub returns-clause-ok : goal.returns-clause-ok
 returns-clause-ok c =
-    rw (← c.self.view_is) (put_listed c.self.inside.by_base.entries _ c.args.page.base c.args.page c.self.invariant.rising c.insert.ensures.ordered c.in_ok-insert.ensures.updates.0)
+    rw (← c.self.view_is) (put_listed c.self.inside.by_base.entries _ c.args.page.base c.args.page c.self.invariant.rising c.insert.ensures.ordered
+    c.in_ok-insert.ensures.updates.0)

@@ -8,7 +8,8 @@ use Rattle.vs_plain.proofs.plain.PlainSpace.map.Goals as goal
 
 pub invariant_of-self-2 : goal.invariant_of-self-2
 invariant_of-self-2 c =
-    let free : None ≡ least_overlapped c.self.inside.page_map c.args.page = subst (λ (k : BoundedSpace). None ≡ least_overlapped k.space c.args.page) (sym c.self.view_is) c.in_default.ensures in
+    let free : None ≡ least_overlapped c.self.inside.page_map c.args.page =
+    subst (λ (k : BoundedSpace). None ≡ least_overlapped k.space c.args.page) (sym c.self.view_is) c.in_default.ensures in
     let good : IsPage c.self.inside.depth c.args.page = subst (λ (k : BoundedSpace). IsPage k.depth c.args.page) (sym c.self.view_is) c.requires in
     rw c.in_ok-insert.ensures.ok record {
       is_space = is_with c.self.invariant.is_space c.args.page good (sym free);

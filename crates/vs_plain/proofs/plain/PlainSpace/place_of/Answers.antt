@@ -7,7 +7,8 @@ returns-in_default-clause-is c = rw (← c.self.view_is) (free_by_none c.self.in
 
 pub returns-then-reaches-clause-is : goal.returns-then-reaches-clause-is
 returns-then-reaches-clause-is c =
-    rw (← c.self.view_is) (covered_by_last c.self.invariant.is_space c.args.address c.in-Some.page c.in-Some.ensures (sym c.reaches.ensures ∙ c.if-reaches.true))
+    rw (← c.self.view_is) (covered_by_last c.self.invariant.is_space c.args.address c.in-Some.page c.in-Some.ensures (sym c.reaches.ensures
+    ∙ c.if-reaches.true))
 
 pub returns-else-reaches-clause-is : goal.returns-else-reaches-clause-is
 returns-else-reaches-clause-is c =

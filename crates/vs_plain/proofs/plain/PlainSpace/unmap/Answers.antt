@@ -8,10 +8,12 @@ use Rattle.vs_plain.proofs.Neighbours.{taken_out, unmap_of_none, unmap_of_page, 
 use Rattle.vs_plain.proofs.plain.PlainSpace.unmap.Goals as goal
 
 pub new_tables-requires-clause-is_space : goal.new_tables-requires-clause-is_space
-new_tables-requires-clause-is_space c = (taken_out c.self.invariant.is_space c.in-Some.page c.args.base c.remove.new.self c.in-Some.ensures.was c.remove.ensures.removed).0
+new_tables-requires-clause-is_space c =
+    (taken_out c.self.invariant.is_space c.in-Some.page c.args.base c.remove.new.self c.in-Some.ensures.was c.remove.ensures.removed).0
 
 pub new_tables-requires-clause-free : goal.new_tables-requires-clause-free
-new_tables-requires-clause-free c = (taken_out c.self.invariant.is_space c.in-Some.page c.args.base c.remove.new.self c.in-Some.ensures.was c.remove.ensures.removed).1
+new_tables-requires-clause-free c =
+    (taken_out c.self.invariant.is_space c.in-Some.page c.args.base c.remove.new.self c.in-Some.ensures.was c.remove.ensures.removed).1
 
 pub overflow_sub-self : goal.overflow_sub-self
 overflow_sub-self c =

@@ -5,7 +5,8 @@ use Rattle.vs_space.proofs.Numbered.{some_at}
 use Rattle.vs_space.proofs.Written.{entry_zero, entry_other}
 use Rattle.vs_space.proofs.Zeros.{eight_more}
 use Rattle.vs_space.proofs.tables.Tables.is_empty.Goals as goal
-use Rattle.vs_space.proofs.tables.Tables.is_empty.Goals.{then-words-near-ne0-via-then-words-near-ne0, then-words-near-ne0-via-else-words-near-ne0+then-words-near-ne0-2}
+use Rattle.vs_space.proofs.tables.Tables.is_empty.Goals.{then-words-near-ne0-via-then-words-near-ne0}
+use Rattle.vs_space.proofs.tables.Tables.is_empty.Goals.{then-words-near-ne0-via-else-words-near-ne0+then-words-near-ne0-2}
 
 pub returns-then-words-near-ne0-clause-present : goal.returns-then-words-near-ne0-clause-present
 returns-then-words-near-ne0-clause-present g c = λ _.

@@ -11,7 +11,8 @@ pub returns-in-Ok : goal.returns-in-Ok
 returns-in-Ok c = elim c.match-state.branch [
   | in-Open w ↦
       let bytes = said w.in-Open.reader ++ w.in-Open.begun.items ++ c.args.piece.now in
-      let come : HasCome bytes c.in-Ok.state = subst (λ r. MatchResult r (HasCome bytes) (IfRefused (IsSettled bytes))) (sym w.next-is ∙ c.in-Ok.is) w.take_piece-next.ensures in
+      let come : HasCome bytes c.in-Ok.state =
+      subst (λ r. MatchResult r (HasCome bytes) (IfRefused (IsSettled bytes))) (sym w.next-is ∙ c.in-Ok.is) w.take_piece-next.ensures in
       piece_taken c.args.self.now c.replace-state.result c.in-Ok.state w.in-Open.reader w.in-Open.begun c.args.piece.now
       (ap fed c.replace-state.ensures.value ∙ c.self.view_is) w.in-Open.is come
   | in-Stopped w ↦ absurd cc

@@ -5,5 +5,7 @@ use Rattle.nr_trace.proofs.Feeding.{sound_from, nothing_begun}
 use Rattle.nr_trace.proofs.reading.feed.Feed.new.Goals as goal
 
 pub invariant_of-result : goal.invariant_of-result
-invariant_of-result c =
-    (sound_from c.new.result c.new.ensures, subst (λ (l : List ℕ). AreFewer (unit_bytes c.new.result) l) (sym c.new-2.ensures.items) (nothing_begun c.new.result))
+invariant_of-result c = (
+  sound_from c.new.result c.new.ensures,
+  subst (λ (l : List ℕ). AreFewer (unit_bytes c.new.result) l) (sym c.new-2.ensures.items) (nothing_begun c.new.result),
+)
