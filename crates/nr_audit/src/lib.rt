@@ -24,5 +24,3 @@ pub use judging::{audit, judge};
 pub use laws::one_verdict;
 pub use verdict::{Order, Verdict};
 
-#[cfg(test)]
-mod tests;

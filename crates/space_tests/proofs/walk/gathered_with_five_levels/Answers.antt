@@ -1,6 +1,6 @@
 use Rattle.vs_types.specs.declared.depth.Depth.TheVariants.{Four, Five}
 use Rattle.vs_walk.proofs.Gathered.{dump_few, dump_in_range}
-use Rattle.public_calls.proofs.walk.gathered_with_five_levels.Goals as goal
+use Rattle.space_tests.proofs.walk.gathered_with_five_levels.Goals as goal
 
 pub gather-requires-clause-few : goal.gather-requires-clause-few
 gather-requires-clause-few g c = dump_few c.in_ok-dump.dump Five 1 c.in_ok-dump.ensures

@@ -1,6 +1,6 @@
 use Rattle.vs_types.specs.declared.depth.Depth.TheVariants.{Four}
 use Rattle.vs_walk.proofs.Gathered.{dump_few, dump_in_range}
-use Rattle.public_calls.proofs.walk.gathered.Goals as goal
+use Rattle.space_tests.proofs.walk.gathered.Goals as goal
 
 pub gather-requires-clause-few : goal.gather-requires-clause-few
 gather-requires-clause-few g c = dump_few c.push-5.new.self Four 1 c.count.ensures.is_dump

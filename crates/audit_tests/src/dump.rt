@@ -1,13 +1,14 @@
 ghost use Rattle.std.specs.Prelude.{◌<◌, All, IsTrue};
 ghost use Rattle.std.specs.FinMap as finite;
 
-use crate::values::DEPTHS;
 use nr_dump::{DumpFault, check};
 use std::alloc::Global;
 use std::process::Abort;
 use vs_plain::PlainSpace;
 use vs_types::{Answer, Depth, FRAME_WORDS, Fail, Op, Rights, Size};
 use vs_walk::Dump;
+
+const DEPTHS: [Depth; 2] = [Depth::Four, Depth::Five];
 
 /// 512 words, 0 but for these at their indexes.
 fn words(entries: &[(usize, u64)]) -> [u64; FRAME_WORDS] {

@@ -3,7 +3,7 @@ use Rattle.std.specs.Prelude.{slice_index}
 use Rattle.std.specs.FinMap as finite
 use Rattle.std.proofs.lemmas.Bool.{ltb-true}
 use Rattle.nr_dump.proofs.Outside.{last_below_all, none_below_all}
-use Rattle.public_calls.proofs.dump.is_above.Goals as goal
+use Rattle.audit_tests.proofs.dump.is_above.Goals as goal
 
 pub returns-then-count-eq0 : goal.returns-then-count-eq0
 returns-then-count-eq0 c = λ _. none_below_all c.args.dump.now.frames c.args.number (sym c.count-count.ensures.reads ∙ c.if-count-eq0.true)

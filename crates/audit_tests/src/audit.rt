@@ -1,6 +1,6 @@
 ghost use Rattle.std.specs.Prelude.{◌<◌};
 
-use super::*;
+use nr_audit::{Verdict, audit};
 use nr_trace::{Fault, Format};
 use std::alloc::{AllocError, Global};
 use std::test::*;

@@ -1,0 +1,14 @@
+//! Worked examples of the public calls of traces, dumps and the auditor, with values from elsewhere: each call once with ample
+//! memory. No crate stands on this one, so that each library is proved once.
+#![tactic(auto)]
+
+#[cfg(test)]
+mod audit;
+#[cfg(test)]
+mod dump;
+#[cfg(test)]
+mod pieces;
+#[cfg(test)]
+mod trace;
+#[cfg(test)]
+mod writing;

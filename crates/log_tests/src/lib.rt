@@ -1,0 +1,8 @@
+//! Worked examples of the public calls of the shared log and the slots, with values from elsewhere: each call once with ample
+//! memory. No crate stands on this one, so that each library is proved once.
+#![tactic(auto)]
+
+#[cfg(test)]
+mod log_words;
+#[cfg(test)]
+mod slots;

@@ -1,0 +1,20 @@
+//! Worked examples of the page table's public calls, with values from elsewhere: each call once with ample memory, and each generic
+//! at a concrete type. No crate stands on this one, so that each library is proved once.
+#![tactic(auto)]
+
+#[cfg(test)]
+mod alike;
+#[cfg(test)]
+mod alike_cases;
+#[cfg(test)]
+mod arena;
+#[cfg(test)]
+mod plain;
+#[cfg(test)]
+mod space;
+#[cfg(test)]
+mod types;
+#[cfg(test)]
+mod values;
+#[cfg(test)]
+mod walk;
