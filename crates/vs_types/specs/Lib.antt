@@ -16,3 +16,4 @@ pub mod Frame
 pub mod Examples
 pub mod Laws
 pub mod Refusal
+pub mod inside

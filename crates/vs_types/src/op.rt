@@ -99,6 +99,14 @@ impl Op {
         })
     }
 
+    /// The operation that does this.
+    pub(crate) fn of(action: Action) -> Op
+        requires { IsSomeAction action }
+        ensures { result ≡ action }
+    {
+        Op { action }
+    }
+
     /// What it does.
     pub fn action(self) -> Action
         ensures reads { result ≡ self }

@@ -27,9 +27,9 @@ pub struct Rights {
 pub struct Page {
     /// The first address.
     pub base: u64,
-    pub size: Size,
     /// The physical address to which the first address is translated.
     pub phys: u64,
+    pub size: Size,
     pub rights: Rights,
 }
 

@@ -2,7 +2,8 @@ ghost use Rattle.std.specs.Prelude.{◌≡◌, ◌↔◌, IsTrue};
 
 use crate::access::{Access, Mode};
 use crate::depth::Depth;
-use crate::op::{BadOp, Op};
+use crate::op::{Action, BadOp, Op};
+use crate::page::{Page, Rights};
 use std::marker::Model;
 
 /// What is asked of a service.
@@ -16,23 +17,36 @@ pub enum Query {
     Access(u64, Mode, Access),
 }
 
+/// A query with one tag, so that a request has 32 bytes.
+#[derive(Clone, Copy, Debug, PartialEq, Eq)]
+enum Asked {
+    Map(Page),
+    Unmap(u64),
+    Protect(u64, Rights),
+    Resolve(u64),
+    Access(u64, Mode, Access),
+}
+
 /// A request that is well formed at some depth. Contracts see its query.
 #[derive(Clone, Copy, Debug, PartialEq, Eq)]
 pub struct Request {
-    query: Query,
+    asked: Asked,
 }
 
 impl Model for Request {
     ghost use Rattle.vs_types.specs.declared.request.Query.{Query};
     ghost use Rattle.vs_types.specs.Query.{IsSomeQuery};
+    ghost use Rattle.vs_types.specs.inside.Asked.{asked_by, query_of, same_asked};
 
     ghost Value = { Query };
 
-    ghost view = { λ r. r.query };
+    ghost view = { λ r. query_of r.asked };
 
-    ghost invariant = { λ r. IsSomeQuery r.query };
+    ghost invariant = { λ r. IsSomeQuery (query_of r.asked) };
 
-    ghost inverse = { λ q. record { query = q } };
+    ghost inverse = { λ q. record { asked = asked_by q } };
+
+    ghost inverse_ok = { λ r h. same_asked r };
 }
 
 impl Request {
@@ -47,7 +61,7 @@ impl Request {
             return Err(BadOp::NotCanonical);
         }
         Ok(Request {
-            query: Query::Resolve(address),
+            asked: Asked::Resolve(address),
         })
     }
 
@@ -59,7 +73,7 @@ impl Request {
             return Err(BadOp::NotCanonical);
         }
         Ok(Request {
-            query: Query::Access(address, mode, access),
+            asked: Asked::Access(address, mode, access),
         })
     }
 
@@ -67,9 +81,12 @@ impl Request {
     pub fn update(op: Op) -> Request
         ensures { result ≡ Query.Update op }
     {
-        Request {
-            query: Query::Update(op),
-        }
+        let asked = match op.action() {
+            Action::Map(page) => Asked::Map(page),
+            Action::Unmap(base) => Asked::Unmap(base),
+            Action::Protect(base, rights) => Asked::Protect(base, rights),
+        };
+        Request { asked }
     }
 
     /// What it asks.
@@ -77,7 +94,16 @@ impl Request {
         ensures reads { result ≡ self }
         ensures well_formed { IsSomeQuery self }
     {
-        self.query
+        let action = match self.asked {
+            Asked::Map(page) => Action::Map(page),
+            Asked::Unmap(base) => Action::Unmap(base),
+            Asked::Protect(base, rights) => Action::Protect(base, rights),
+            Asked::Resolve(address) => return Query::Resolve(address),
+            Asked::Access(address, mode, access) => {
+                return Query::Access(address, mode, access);
+            }
+        };
+        Query::Update(Op::of(action))
     }
 
     /// Whether it is well formed at this depth, and not only at another.

@@ -1,0 +1,2 @@
+-- The insides of models: no public clause cites them.
+pub mod Asked
