@@ -17,7 +17,7 @@ use Rattle.vs_types.specs.declared.request.Query.TheVariants.{Update, Resolve, A
 use Rattle.vs_types.specs.declared.answer.Answer.{Answer}
 use Rattle.vs_plain.specs.Plain.{BoundedSpace}
 use Rattle.nr_trace.specs.Recording.{Recording}
-use Rattle.nr_trace.specs.Calls.{Invocation, call_of, operation_in, operation_of, Response, reply_to}
+use Rattle.nr_trace.specs.Calls.{Invocation, call_of, operation_in, operation_of, reply_to}
 use Rattle.nr_trace.specs.Orders.{before, updates, operations, space_after, answer_in, recorded_order}
 use Rattle.nr_trace.specs.Faults.{Holds, Earlier, IsWrong}
 use Rattle.nr_trace.specs.Laws.{HasCleanLog}

@@ -6,6 +6,7 @@ pub mod PositionFaults
 pub mod RepliesByTable
 pub mod Standing
 pub mod FloorFaults
+pub mod Chains
 pub mod RecordedOrder
 pub mod AnswerFaults
 pub mod AnswerEquality

@@ -1,4 +1,5 @@
 -- Loop invariants and the insides of models: no public clause cites them.
+pub mod Chains
 pub mod Dumps
 pub mod Indexes
 pub mod Passes

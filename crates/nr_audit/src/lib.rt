@@ -23,4 +23,3 @@ mod verdict;
 pub use judging::{audit, judge};
 pub use laws::one_verdict;
 pub use verdict::{Order, Verdict};
-

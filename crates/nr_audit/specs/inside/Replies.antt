@@ -1,8 +1,8 @@
 -- What the calls of a trace are answered, by number. No public clause cites this file.
-use Rattle.std.specs.Prelude.{ℕ, ◌+◌, ◌<◌, ◌≡◌, List, [], length, slice_index_or, Option, option_map, option_and_then}
+use Rattle.std.specs.Prelude.{ℕ, ◌==◌, ◌&&◌, Bool, false, Option, is_some, option_map, option_and_then}
+use Rattle.std.specs.Option.{option_map_or}
 use Rattle.nr_trace.specs.Recording.{Recording}
 use Rattle.nr_trace.specs.Calls.{Response, reply_to, address_of}
-use Rattle.nr_trace.specs.Orders.{reads_at}
 use Rattle.nr_audit.specs.declared.history.Reply.{Reply}
 
 -- a reply without the number of its call
@@ -17,7 +17,6 @@ replied_to trace call = option_map without_call (reply_to trace call)
 abbrev pub entries_seen : Recording → ℕ → Option ℕ
 entries_seen trace call = option_and_then (λ address. option_map (λ reply. reply.at) (reply_to trace call)) (address_of trace call)
 
--- for each number of entries up to all of the log the answered reads that saw just so many
-pub record AreReads (trace : Recording) (lists : List (List ℕ)) : Type 0 where
-  pub one_each : length lists ≡ length trace.log + 1
-  pub each : (entries : ℕ) → entries < length lists → slice_index_or lists entries [] ≡ reads_at trace entries
+-- whether a call is a read that saw just so many entries
+abbrev pub saw : Recording → ℕ → ℕ → Bool
+saw trace n call = is_some (address_of trace call) && option_map_or (λ reply. reply.at == n) (reply_to trace call) false

@@ -1,4 +1,4 @@
-use Rattle.std.proofs.Common.{◌≡◌, ◌+◌, ◌<◌, List, Option, length, take, set, sym, ap, subst, ◌∙◌, arith}
+use Rattle.std.proofs.Common.{◌≡◌, ◌+◌, ◌<◌, List, Option, length, take, sym, ap, subst, ◌∙◌, arith}
 use Rattle.vs_plain.specs.Plain.{BoundedSpace}
 use Rattle.nr_dump.specs.declared.fault.DumpFault.{DumpFault}
 use Rattle.nr_trace.specs.Orders.{space_after}
