@@ -35,9 +35,8 @@ fn least_outside(dump: &Dump, numbers: &Reached) -> Option<u64>
 /// Checks that a dump fits a space, at the space's depth: that it translates each canonical address as the space does,
 /// that its tables lead to no frame twice, and that they lead to each of its frames.
 ///
-/// It goes once through the tables, by index, and compares each page as it is found with the next page of the space;
-/// so it takes memory for the pages of the space and for the numbers of the frames that are reached, and none for the
-/// pages of the dump.
+/// It goes once through the tables, by index, and compares each page as it is found with the next page of the space. It
+/// takes memory for the numbers of the frames that are reached, and none for pages.
 ///
 /// # Errors
 ///
@@ -49,7 +48,7 @@ pub fn check(alloc: Global, dump: &Dump, space: &PlainSpace) -> Result<(), Fail<
     ensures faultless { OnOk result (HasNoFault space.now.depth dump.now space.now.space) }
     ensures first { IfErr result (IfRefused (IsFirstOfDump space.now.depth dump.now space.now.space)) }
 {
-    let mut comparison = Comparison::new(space.pages()?);
+    let mut comparison = Comparison::new(space.iter());
     let reached = match traverse(alloc, dump, dump.root(), space.depth(), &mut comparison) {
         Ok(reached) => reached,
         Err(Fail::Memory) => return Err(Fail::Memory),

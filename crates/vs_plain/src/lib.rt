@@ -3,8 +3,11 @@
 //! Numbers are bytes unless a name says otherwise. `PlainSpace::apply` and `PlainSpace::pages` take memory.
 #![tactic(auto)]
 
+mod mapping;
 mod page_map;
+mod pages;
 mod place;
 mod plain;
 
+pub use pages::Pages;
 pub use plain::PlainSpace;

@@ -7,6 +7,8 @@ ghost use Rattle.vs_types.specs.Page.{IsPage};
 ghost use Rattle.vs_plain.specs.inside.Tables.{begins_in_stretch};
 ghost use Rattle.vs_plain.specs.inside.PageMap.{IsLastUpTo, IsFirstFrom};
 
+use crate::mapping::Mapping;
+use crate::pages::Pages;
 use std::alloc::Global;
 use std::collections::BTreeMap;
 use std::marker::Model;
@@ -16,7 +18,7 @@ use vs_types::{Depth, Memory, Page, Rights};
 #[derive(Debug, Drop)]
 pub(crate) struct PageMap {
     alloc: Global,
-    by_base: BTreeMap<u64, Page>,
+    by_base: BTreeMap<u64, Mapping>,
 }
 
 impl Model for PageMap {
@@ -25,7 +27,9 @@ impl Model for PageMap {
     ghost use Rattle.std.specs.Ordering.{nat_cmp};
     ghost use Rattle.vs_types.specs.contracts.page.Page as page_contract;
     ghost use Rattle.vs_types.specs.Space.{Space};
-    ghost use Rattle.vs_plain.specs.inside.Listed.{IsByBase, listed_space};
+    ghost use Rattle.std.specs.Map.{keys_of};
+    ghost use Rattle.std.specs.List.Sorted.{IsStrictlySortedBy};
+    ghost use Rattle.vs_plain.specs.inside.Listed.{listed_space};
 
     ghost Value = { Space };
 
@@ -33,7 +37,7 @@ impl Model for PageMap {
 
     ghost view = { λ m. listed_space m.by_base.entries };
 
-    ghost invariant = { λ m. IsByBase m.by_base.entries };
+    ghost invariant = { λ m. IsStrictlySortedBy nat_cmp (keys_of m.by_base.entries) };
 }
 
 /// Whether the page begins in the stretch that the address's table of this level covers.
@@ -70,16 +74,16 @@ impl PageMap {
     pub(crate) fn last_up_to(&self, address: u64) -> Option<Page>
         ensures { IsLastUpTo self.now address result }
     {
-        let (_, page) = self.by_base.range(..=address).next_back()?;
-        Some(*page)
+        let (base, mapping) = self.by_base.range(..=address).next_back()?;
+        Some(mapping.page_from(*base))
     }
 
     /// The page with the least base from the address on.
     pub(crate) fn first_from(&self, address: u64) -> Option<Page>
         ensures { IsFirstFrom self.now address result }
     {
-        let (_, page) = self.by_base.range(address..).next()?;
-        Some(*page)
+        let (base, mapping) = self.by_base.range(address..).next()?;
+        Some(mapping.page_from(*base))
     }
 
     /// Puts the page under its base, where none begins.
@@ -87,7 +91,7 @@ impl PageMap {
         ensures ok { OnOk result (self.new ≡ finite.insert self.old page.base page) }
         ensures err { OnErr result (self.new ≡ self.old) }
     {
-        self.by_base.insert(page.base, page)?;
+        self.by_base.insert(page.base, Mapping::of(page))?;
         Ok(())
     }
 
@@ -97,7 +101,8 @@ impl PageMap {
         ensures removed { self.new ≡ finite.remove self.old base }
         ensures unchanged { IfNone result (self.new ≡ self.old) }
     {
-        self.by_base.remove(&base)
+        let mapping = self.by_base.remove(&base)?;
+        Some(mapping.page_from(base))
     }
 
     /// Gives the page that begins at `base`, if one does, these rights. The page as it was.
@@ -106,9 +111,9 @@ impl PageMap {
         ensures changed { IfSome result (λ page. self.new ≡ finite.insert self.old base (record page { rights = rights })) }
         ensures unchanged { IfNone result (self.new ≡ self.old) }
     {
-        let page = self.by_base.get_mut(&base)?;
-        let was = *page;
-        page.rights = rights;
+        let mapping = self.by_base.get_mut(&base)?;
+        let was = mapping.page_from(base);
+        mapping.rights = rights;
         Some(was)
     }
 
@@ -135,11 +140,19 @@ impl PageMap {
         count
     }
 
-    /// All pages, by rising base.
+    /// The pages, by rising base.
+    pub(crate) fn iter(&self) -> Pages<'_>
+        ensures lists { result ≡ pages self.now }
+        ensures rising { IsStrictlyIncreasing (map (λ page. page.base) result) }
+    {
+        Pages::new(self.by_base.iter())
+    }
+
+    /// A list of the pages, by rising base.
     pub(crate) fn list(&self) -> Result<Vec<Page>, Memory>
         ensures lists { IfOk result (λ v. v.items ≡ pages self.now) }
         ensures rising { IfOk result (λ v. IsStrictlyIncreasing (map (λ page. page.base) v.items)) }
     {
-        Ok(self.by_base.values().copied().collect(self.alloc)?)
+        Ok(self.iter().collect(self.alloc)?)
     }
 }

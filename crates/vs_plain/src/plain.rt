@@ -9,6 +9,7 @@ ghost use Rattle.vs_plain.specs.Plain.{BoundedSpace, IsPlainStep};
 ghost use Rattle.vs_plain.specs.inside.Place.{IsPlaceOf, no_page};
 
 use crate::page_map::PageMap;
+use crate::pages::Pages;
 use crate::place::{Place, reaches};
 use std::alloc::Global;
 use std::marker::Model;
@@ -69,7 +70,16 @@ impl PlainSpace {
         self.tables
     }
 
-    /// The pages, by rising base. Takes memory.
+    /// The pages, by rising base, one after another. Takes no memory.
+    pub fn iter(&self) -> Pages<'_>
+        ensures lists { result ≡ pages self.now.space }
+        ensures rising { IsStrictlyIncreasing (map (λ page. page.base) result) }
+        ensures apart { IsSpace self.now.depth self.now.space }
+    {
+        self.page_map.iter()
+    }
+
+    /// A list of the pages, by rising base. Takes memory.
     pub fn pages(&self) -> Result<Vec<Page>, Memory>
         ensures lists { IfOk result (λ v. v.items ≡ pages self.now.space) }
         ensures rising { IfOk result (λ v. IsStrictlyIncreasing (map (λ page. page.base) v.items)) }

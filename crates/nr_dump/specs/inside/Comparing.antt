@@ -1,5 +1,5 @@
 -- Inside the comparison of a dump's pages with those of a space. No public clause cites this.
-use Rattle.std.specs.Prelude.{◌≡◌, ◌≢◌, ℕ, List, [], ◌∷◌, ◌++◌, length, Option, Some, None, Contains, min}
+use Rattle.std.specs.Prelude.{◌≡◌, ◌≢◌, ℕ, List, [], ◌∷◌, ◌++◌, Option, Some, None, Contains, min}
 use Rattle.vs_types.specs.Entry.{all_rights}
 use Rattle.vs_types.specs.declared.page.Page.{Page}
 use Rattle.vs_types.specs.declared.page.Size.TheVariants.{K4}
@@ -16,10 +16,10 @@ abbrev pub IsCompared : List Page → List Page → Option ℕ → Type 0
 IsCompared ps qs None = ps ≡ qs
 IsCompared ps qs (Some base) = (common left right : List Page) × (ps ≡ common ++ left) × (qs ≡ common ++ right) × HeadsDiffer left right base
 
--- the pages that were taken are the first ones of the space, this many; or the first difference is known
-abbrev pub AreTaken : List Page → ℕ → Option ℕ → List Page → Type 0
-AreTaken pages met None taken = (later : List Page) × (pages ≡ taken ++ later) × (met ≡ length taken)
-AreTaken pages met (Some base) taken =
+-- the pages that were taken and those that are left are the pages of the space; or the first difference is known
+abbrev pub AreTaken : List Page → List Page → Option ℕ → List Page → Type 0
+AreTaken pages left None taken = pages ≡ taken ++ left
+AreTaken pages left (Some base) taken =
     (common rest right : List Page) × (first : Page) × (taken ≡ common ++ first ∷ rest) × (pages ≡ common ++ right) × HeadsDiffer (first ∷ rest) right base
 
 -- no page of a space: its base is no multiple of 4,096
@@ -28,5 +28,6 @@ mark = record { base = 1; size = K4; phys = 0; rights = all_rights }
 
 -- a visitor is told what it has taken, and not with which space it compares: so the list begins with the pages of the
 -- space, up to the mark, and those that were taken stand after it
-abbrev pub HasCompared : List Page → ℕ → Option ℕ → List Page → Type 0
-HasCompared pages met difference told = (taken : List Page) × (told ≡ pages ++ mark ∷ taken) × (Contains pages mark → ⊥) × AreTaken pages met difference taken
+abbrev pub HasCompared : List Page → Option ℕ → List Page → Type 0
+HasCompared left difference told =
+    (pages taken : List Page) × (told ≡ pages ++ mark ∷ taken) × (Contains pages mark → ⊥) × AreTaken pages left difference taken

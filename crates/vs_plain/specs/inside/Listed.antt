@@ -1,17 +1,18 @@
--- Spaces by lists of their pages.
-use Rattle.std.specs.Prelude.{◌≡◌, ℕ, List, Some}
+-- Spaces by the entries of a map, which have the base of each page once.
+use Rattle.std.specs.Prelude.{ℕ, List, map}
 use Rattle.std.specs.FinMap as finite
-use Rattle.std.specs.Ordering.{nat_cmp}
-use Rattle.std.specs.Map.{keys_of}
-use Rattle.std.specs.List.Sorted.{IsStrictlySortedBy}
 use Rattle.vs_types.specs.Space.{Space}
 use Rattle.vs_types.specs.declared.page.Page.{Page}
+use Rattle.vs_plain.specs.declared.mapping.Mapping.{Mapping}
 
--- the space of these pages, which stand under their bases in rising order
-abbrev pub listed_space : List (ℕ × Page) → Space
-listed_space entries = finite.from_sorted entries
+-- the page that is so mapped from a base on
+abbrev pub page_from : ℕ → Mapping → Page
+page_from base mapping = record { base = base; phys = mapping.phys; size = mapping.size; rights = mapping.rights }
 
--- pages stand in rising order, each under its base
-pub record IsByBase (entries : List (ℕ × Page)) : Type 0 where
-  pub rising : IsStrictlySortedBy nat_cmp (keys_of entries)
-  pub under_base : (base : ℕ) (page : Page) → finite.get (listed_space entries) base ≡ Some page → page.base ≡ base
+-- the page of an entry
+abbrev pub page_of : ℕ × Mapping → Page
+page_of entry = page_from entry.0 entry.1
+
+-- the space of the pages of these entries, whose bases rise
+abbrev pub listed_space : List (ℕ × Mapping) → Space
+listed_space entries = finite.from_sorted (map (λ entry. (entry.0, page_of entry)) entries)

@@ -26,11 +26,10 @@ returns-in-None-clause-fits c =
     let frames = c.args.dump.now.frames in
     let way = moved (λ depth root. walk_fault depth frames root ≡ None) c.depth.ensures c.root.ensures c.in-Ok.ensures.faultless in
     let are = moved (λ depth root. AreReached depth frames root c.in-Ok.reached) c.depth.ensures c.root.ensures c.in-Ok.ensures.reached in
-    let same = compared (pages c.args.space.now.space) c.new-comparison.result.pages.items c.traverse.new.visitor.pages.items
-    c.new-comparison.result.met c.traverse.new.visitor.met c.new-comparison.result.difference c.traverse.new.visitor.difference
-    (found (traversal c.depth.result frames c.root.result)) None (unmarked c.in_ok-pages.ensures.apart)
-    (ap (λ (x : Comparison). x.pages.items) c.new-comparison.ensures ∙ c.in_ok-pages.ensures.lists)
-    (ap (λ (x : Comparison). x.met) c.new-comparison.ensures) (ap (λ (x : Comparison). x.difference) c.new-comparison.ensures)
+    let same = compared (pages c.args.space.now.space) c.new-comparison.result.pages c.traverse.new.visitor.pages
+    c.new-comparison.result.difference c.traverse.new.visitor.difference
+    (found (traversal c.depth.result frames c.root.result)) None (unmarked c.iter.ensures.apart)
+    (ap (λ (x : Comparison). x.pages) c.new-comparison.ensures ∙ c.iter.ensures.lists) (ap (λ (x : Comparison). x.difference) c.new-comparison.ensures)
     c.in-Ok.ensures.pages c.in-None.ensures in
     fits_by_pages c.args.space.now.depth c.args.dump.now c.args.space.now.space (dump_is_whole c.args.dump.now c.in_default.ensures.is_dump)
     way (none_are_stray c.args.space.now.depth c.args.dump.now c.in-Ok.reached are c.in_default.ensures.none)
@@ -47,13 +46,12 @@ returns-clause-first c =
     let depth = c.args.space.now.depth in
     let way = moved (λ depth root. walk_fault depth frames root ≡ None) c.depth.ensures c.root.ensures c.in-Ok.ensures.faultless in
     let are = moved (λ depth root. AreReached depth frames root c.in-Ok.reached) c.depth.ensures c.root.ensures c.in-Ok.ensures.reached in
-    let same = compared (pages c.args.space.now.space) c.new-comparison.result.pages.items c.traverse.new.visitor.pages.items
-    c.new-comparison.result.met c.traverse.new.visitor.met c.new-comparison.result.difference c.traverse.new.visitor.difference
-    (found (traversal c.depth.result frames c.root.result)) (Some c.in-Some-difference.address) (unmarked c.in_ok-pages.ensures.apart)
-    (ap (λ (x : Comparison). x.pages.items) c.new-comparison.ensures ∙ c.in_ok-pages.ensures.lists)
-    (ap (λ (x : Comparison). x.met) c.new-comparison.ensures) (ap (λ (x : Comparison). x.difference) c.new-comparison.ensures)
+    let same = compared (pages c.args.space.now.space) c.new-comparison.result.pages c.traverse.new.visitor.pages
+    c.new-comparison.result.difference c.traverse.new.visitor.difference
+    (found (traversal c.depth.result frames c.root.result)) (Some c.in-Some-difference.address) (unmarked c.iter.ensures.apart)
+    (ap (λ (x : Comparison). x.pages) c.new-comparison.ensures ∙ c.iter.ensures.lists) (ap (λ (x : Comparison). x.difference) c.new-comparison.ensures)
     c.in-Ok.ensures.pages c.in-Some-difference.ensures in
     difference_first depth c.args.dump.now c.args.space.now.space c.in-Some-difference.address (dump_is_whole c.args.dump.now c.in_default.ensures.is_dump)
-    c.in_ok-pages.ensures.apart way (none_are_stray depth c.args.dump.now c.in-Ok.reached are c.in_default.ensures.none)
+    c.iter.ensures.apart way (none_are_stray depth c.args.dump.now c.in-Ok.reached are c.in_default.ensures.none)
     (moved (λ depth root. IsCompared (found (traversal depth frames root)) (pages c.args.space.now.space) (Some c.in-Some-difference.address)) c.depth.ensures
     c.root.ensures same)

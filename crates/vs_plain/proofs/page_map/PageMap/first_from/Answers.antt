@@ -7,15 +7,16 @@ use Rattle.vs_plain.proofs.page_map.PageMap.first_from.Goals as goal
 pub returns : goal.returns
 returns c =
     let m = c.self.inside.by_base in
-    subst (λ s. IsFirstFrom s c.args.address (Some c.in_ok-page.page.now)) c.self.view_is
+    subst (λ s. IsFirstFrom s c.args.address (Some c.page_from.result)) c.self.view_is
+    (subst (λ p. IsFirstFrom (listed_space m.entries) c.args.address (Some p)) (sym c.page_from.ensures)
     (first_from_range m c.self.invariant c.args.address c.range.result (c.range.ensures.in_range tt) (
-      c.in_ok-page.field-0-0.now,
-      c.in_ok-page.page.now,
-    ) _ c.in_ok-page.ensures.steps)
+      c.in_ok-base.base.now,
+      c.in_ok-base.mapping.now,
+    ) _ c.in_ok-base.ensures.steps))
 
-pub returns-in_err-page : goal.returns-in_err-page
-returns-in_err-page c =
+pub returns-in_err-base : goal.returns-in_err-base
+returns-in_err-base c =
     let m = c.self.inside.by_base in
     subst (λ s. IsFirstFrom s c.args.address c.from_residual.result) c.self.view_is
     (subst (λ o. IsFirstFrom (listed_space m.entries) c.args.address o) (sym c.from_residual.ensures)
-    (no_first_from_range m c.self.invariant c.args.address c.range.result (c.range.ensures.in_range tt) c.in_err-page.ensures.steps.0))
+    (no_first_from_range m c.self.invariant c.args.address c.range.result (c.range.ensures.in_range tt) c.in_err-base.ensures.steps.0))

@@ -1,0 +1,54 @@
+//! The pages of a space, one after another.
+ghost use Rattle.std.specs.Prelude.{◌≡◌, map};
+ghost use Rattle.std.specs.Iterator.{YieldsFirst, item_count};
+ghost use Rattle.vs_plain.specs.inside.Listed.{page_of};
+
+use crate::mapping::Mapping;
+use std::collections::btree_map::Iter;
+use std::marker::Model;
+use vs_types::Page;
+
+/// The pages of a space by rising base. It takes no memory. Contracts see the list of those that are left.
+#[derive(Drop)]
+pub struct Pages<'a> {
+    entries: Iter<'a, u64, Mapping>,
+}
+
+impl<'a> Model for Pages<'a> {
+    ghost use Rattle.std.specs.Prelude.{List, map};
+    ghost use Rattle.std.specs.Coded.{coded_list};
+    ghost use Rattle.vs_types.specs.contracts.page.Page as page_contract;
+    ghost use Rattle.vs_types.specs.declared.page.Page.{Page};
+    ghost use Rattle.vs_plain.specs.inside.Listed.{page_of};
+
+    ghost Value = { List Page };
+
+    ghost coded = { coded_list page_contract.the_row.coded };
+
+    ghost view = { λ p. map page_of p.entries };
+}
+
+impl<'a> Pages<'a> {
+    pub(crate) fn new(entries: Iter<'a, u64, Mapping>) -> Pages<'a>
+        ensures { result ≡ map page_of entries.entry }
+    {
+        Pages { entries }
+    }
+}
+
+impl<'a> Iterator for Pages<'a> {
+    type Item = Page;
+
+    ghost next_gives = { YieldsFirst (λ left. left) };
+
+    ghost remaining = { item_count (λ left. left) };
+
+    fn next(&mut self) -> Option<Page> {
+        let (base, mapping) = self.entries.next()?;
+        Some(mapping.page_from(*base))
+    }
+
+    fn size_hint(&self) -> (usize, Option<usize>) {
+        self.entries.size_hint()
+    }
+}
