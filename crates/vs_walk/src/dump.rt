@@ -1,6 +1,7 @@
 ghost use Rattle.std.specs.Prelude.{◌≡◌, ◌+◌, ◌<◌, ◌^◌, [], ◌∷◌, ◌++◌, All, OnOk, OnErr, slice_index};
 ghost use Rattle.std.specs.FinMap as finite;
 ghost use Rattle.vs_types.specs.declared.limits.TheConstants.{TABLES};
+ghost use Rattle.vs_types.specs.Frame.{IsFrame};
 ghost use Rattle.vs_walk.specs.Dump.{IsDump};
 
 use crate::frames::Frames;
@@ -12,6 +13,13 @@ use vs_types::{FRAME_WORDS, Memory};
 struct DumpFrame {
     number: u64,
     words: Box<[u64; FRAME_WORDS]>,
+}
+
+/// That words of this type are a frame's, as many and of 64 bits each. It does nothing: a call that lends the words tells it.
+fn are_whole(words: &[u64; FRAME_WORDS])
+    ensures { IsFrame words.now }
+{
+    let _lent = words.iter();
 }
 
 /// The page table of a replica as it was after some entries of the log. It keeps its frames by rising number.
@@ -64,7 +72,31 @@ impl Dump {
         ensures err { OnErr result (self.new ≡ self.old) }
     {
         let words = Box::new(self.alloc, *words)?;
+        self.push_box(number, words)
+    }
+
+    /// Adds a frame as `push` does, and keeps its words where they are. It may take memory for the list of frames.
+    pub fn push_box(&mut self, number: u64, words: Box<[u64; FRAME_WORDS]>) -> Result<(), Memory>
+        requires above { All (λ held. held < number) (finite.keys self.old.frames) }
+        requires in_range { number < 2 ^ 40 }
+        requires room { finite.len self.old.frames < TABLES }
+        ensures ok { OnOk result (self.new ≡ record self.old { frames = finite.insert self.old.frames number words.value }) }
+        ensures numbers { OnOk result (finite.keys self.new.frames ≡ finite.keys self.old.frames ++ number ∷ []) }
+        ensures count { OnOk result (finite.len self.new.frames ≡ finite.len self.old.frames + 1) }
+        ensures err { OnErr result (self.new ≡ self.old) }
+    {
+        are_whole(&words);
         self.frames.push(DumpFrame { number, words })?;
+        Ok(())
+    }
+
+    /// Makes room for exactly so many more frames, where its list of frames is full. It takes memory for that list.
+    pub fn make_room(&mut self, frames: usize) -> Result<(), Memory>
+        ensures { self.new ≡ self.old }
+    {
+        if self.frames.len() == self.frames.capacity() {
+            self.frames.reserve_exact(frames)?;
+        }
         Ok(())
     }
 
