@@ -9,6 +9,8 @@ mod fault;
 mod program;
 mod report;
 mod resolve;
+#[cfg(test)]
+mod tests;
 mod text;
 mod words;
 
