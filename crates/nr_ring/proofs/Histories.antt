@@ -5,6 +5,7 @@ use Rattle.std.proofs.Math.ListN.{length-append, length-set, length-replicate}
 use Rattle.std.proofs.lemmas.List.{append-nil, append_assoc, get_or-set_other, get_or-set_same}
 use Rattle.vs_types.specs.LogEntry.{IsLogEntry}
 use Rattle.vs_types.specs.declared.depth.Depth.{Depth}
+use Rattle.vs_types.specs.declared.limits.TheConstants.{LOG_PLACES}
 use Rattle.vs_types.specs.declared.log_entry.LogEntry.{LogEntry}
 use Rattle.nr_ring.specs.History.{Log, new_log, tail, local_of, completed, MayAppend, MayFollow, MayGoOn, IsHistory, IsEnded, IsFull, after, after_all}
 use Rattle.nr_ring.specs.History.{log_after}
@@ -95,7 +96,7 @@ refused depth log batch some few fit =
     (λ room. ⊎_elim (λ up. inl (record { some = some; few = few; entries = fit; room = room; kept_up = up })) (λ behind. inr (inr behind))
     (all_or_one (tail log + length batch) log.locals))
     (λ ended. inr (inl ended))
-    (le_or_lt (tail log + length batch) 65536)
+    (le_or_lt (tail log + length batch) LOG_PLACES)
 
 pub goes_on_after : (depth : Depth) (log : Log) (seen rest : List Event) → MayGoOn depth log (seen ++ rest) → MayGoOn depth (after_all log seen) rest
 goes_on_after depth log [] rest may = may
