@@ -5,4 +5,8 @@
 #[cfg(test)]
 mod log_words;
 #[cfg(test)]
+mod ring;
+#[cfg(test)]
+mod ring_threads;
+#[cfg(test)]
 mod slots;

@@ -1,20 +1,7 @@
-ghost use Rattle.std.specs.Prelude.{◌≡◌};
-
 use arrayvec::ArrayVec;
 use nr_slots::{Answered, NotTaken, Occupied, Slot, Slots, Waiting};
-use std::alloc::Global;
-use std::process::Abort;
+use std::test::Fail;
 use vs_types::{Answer, Depth, Op};
-
-/// New slots; where one growth of memory is refused, those of a second try.
-fn new_slots(rt: &impl Abort, alloc: Global, n: u16) -> Slots
-    ensures { result ≡ n }
-{
-    match Slots::new(alloc, n) {
-        Ok(slots) => slots,
-        Err(_) => Slots::new(alloc, n).expect(rt, "memory"),
-    }
-}
 
 fn not_mapped(thread: u16, call: u32, op: Op) -> Answered {
     Answered {
@@ -27,9 +14,9 @@ fn not_mapped(thread: u16, call: u32, op: Op) -> Answered {
 }
 
 #[test]
-fn collected_by_rising_thread(rt: HostRuntime) {
+fn collected_by_rising_thread(rt: HostRuntime) -> Result<(), Fail> {
     let op = Op::unmap(Depth::Four, 0x400000).expect(&rt, "a well-formed unmap");
-    let slots = new_slots(&rt, rt.alloc(), 20);
+    let slots = Slots::new(rt.alloc(), 20)?;
     for thread in 0..20 {
         assert_eq!(rt; slots.post(&rt, 19 - thread, 100, op), Ok(()));
     }
@@ -42,12 +29,13 @@ fn collected_by_rising_thread(rt: HostRuntime) {
     let mut rest = ArrayVec::new();
     slots.collect(&rt, &mut rest);
     assert_eq!(rt; rest.len(), 4);
+    Ok(())
 }
 
 #[test]
-fn slot_round_trip(rt: HostRuntime) {
+fn slot_round_trip(rt: HostRuntime) -> Result<(), Fail> {
     let op = Op::unmap(Depth::Five, 0x800000000000).expect(&rt, "a well-formed unmap");
-    let slots = new_slots(&rt, rt.alloc(), 2);
+    let slots = Slots::new(rt.alloc(), 2)?;
     assert_eq!(rt; slots.post(&rt, 1, 7, op), Ok(()));
     assert_eq!(rt; slots.post(&rt, 1, 7, op), Err(Occupied));
     assert_eq!(rt; slots.poll(&rt, 1), None);
@@ -70,4 +58,5 @@ fn slot_round_trip(rt: HostRuntime) {
     assert_eq!(rt; slots.poll(&rt, 1), Some(not_mapped(1, 7, op)));
     assert_eq!(rt; slots.poll(&rt, 1), None);
     assert_eq!(rt; slots.post(&rt, 1, 9, op), Ok(()));
+    Ok(())
 }

@@ -1,12 +1,13 @@
 -- The room for a batch, and what an append tells.
 use Rattle.std.proofs.Common.{◌≡◌, ℕ, ◌+◌, ◌<◌, ◌≤◌, List, [], ◌∷◌, ◌++◌, All, Contains, Option, Some, length, length-append, ap, sym, subst, ◌∙◌, le_trans}
 use Rattle.std.proofs.Common.{arith}
-use Rattle.std.specs.Prelude.{slice_index}
+use Rattle.std.specs.Prelude.{slice_index, slice_index_or}
 use Rattle.std.proofs.lemmas.List.{append_assoc}
+use Rattle.std.proofs.lemmas.List.Elements.{All-append}
 use Rattle.vs_types.specs.declared.depth.Depth.{Depth}
 use Rattle.nr_ring.specs.History.{Log, AllKeepUp, log_after}
 use Rattle.nr_ring.specs.Calls.{HasLooked, HasMoved}
-use Rattle.nr_ring.specs.View.{StartsWith}
+use Rattle.nr_ring.specs.View.{HasSeenAdvances, IsElse, StartsWith}
 use Rattle.nr_ring.specs.Words.{IsWordsOf}
 use Rattle.nr_ring.specs.declared.event.Event.{Event}
 use Rattle.nr_ring.specs.declared.view.View.{View}
@@ -35,14 +36,23 @@ keeps_up log words count are room few r lt =
 begins : (a b c : List Event) → StartsWith b a → StartsWith c b → StartsWith c a
 begins a b c first second = (first.0 ++ second.0, second.1 ∙ ap (λ (l : List Event). l ++ second.0) first.1 ∙ append_assoc a first.0 second.0)
 
+no_advances : (replica : ℕ) (a b c : List Event) → HasSeenAdvances replica b a → HasSeenAdvances replica c b → HasSeenAdvances replica c a
+unfolding begins
+no_advances replica a b c first second =
+    let all = begins a b c (first.0, first.1) (second.0, second.1) in
+    (all.0, all.1, All-append (IsElse replica) first.0 second.0 first.2 second.2)
+
 -- two looks are a look
 pub looked_twice : (depth : Depth) (replicas : ℕ) (u v w : View) → HasLooked depth replicas u v → HasLooked depth replicas v w → HasLooked depth replicas u w
 looked_twice depth replicas u v w a b =
     let P : List (List Event) → Type 0 = λ l. All (StartsWith w.seen) l in
+    let Q : List ℕ → Type 0 = λ l. All (λ replica. HasSeenAdvances replica w.seen v.seen) l in
+    let later = subst Q a.owns b.advances in
     record {
       is_history = b.is_history;
       seen = begins u.seen v.seen w.seen a.seen b.seen;
       told = subst P a.told_stays b.told;
+      advances = λ k d lt. no_advances (slice_index_or u.owns k d) u.seen v.seen w.seen (a.advances k d lt) (later k d lt);
       told_stays = b.told_stays ∙ a.told_stays;
       mine = b.mine ∙ a.mine;
       owns = b.owns ∙ a.owns;

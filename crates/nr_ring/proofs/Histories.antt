@@ -2,14 +2,15 @@
 use Rattle.std.proofs.Common.{◌≡◌, ℕ, zero, suc, ◌+◌, ◌<◌, ◌≤◌, List, [], ◌∷◌, ◌++◌, All, length, get_or, replicate, subst, ◌⊎◌, inl, inr, ⊎_elim, refl, ap}
 use Rattle.std.proofs.Common.{sym, ◌∙◌, le_refl, le_trans, arith}
 use Rattle.std.proofs.Math.ListN.{length-append, length-set, length-replicate}
-use Rattle.std.proofs.lemmas.List.{append-nil, append_assoc, get_or-set_same}
+use Rattle.std.proofs.lemmas.List.{append-nil, append_assoc, get_or-set_other, get_or-set_same}
 use Rattle.vs_types.specs.LogEntry.{IsLogEntry}
 use Rattle.vs_types.specs.declared.depth.Depth.{Depth}
+use Rattle.vs_types.specs.declared.limits.TheConstants.{LOG_PLACES}
 use Rattle.vs_types.specs.declared.log_entry.LogEntry.{LogEntry}
 use Rattle.nr_ring.specs.History.{Log, new_log, tail, local_of, completed, MayAppend, MayFollow, MayGoOn, IsHistory, IsEnded, IsFull, after, after_all}
 use Rattle.nr_ring.specs.History.{log_after}
 use Rattle.nr_ring.specs.Words.{IsWordsOf}
-use Rattle.nr_ring.specs.View.{StartsWith}
+use Rattle.nr_ring.specs.View.{HasSeenAdvances, IsElse, StartsWith}
 use Rattle.nr_ring.specs.Laws.{HasGoneOn, HasSameTails, FitsTheRing}
 use Rattle.nr_ring.specs.declared.event.Event.{Event}
 use Rattle.nr_ring.specs.declared.event.Event.TheVariants.{Append, Advance}
@@ -95,7 +96,7 @@ refused depth log batch some few fit =
     (λ room. ⊎_elim (λ up. inl (record { some = some; few = few; entries = fit; room = room; kept_up = up })) (λ behind. inr (inr behind))
     (all_or_one (tail log + length batch) log.locals))
     (λ ended. inr (inl ended))
-    (le_or_lt (tail log + length batch) 65536)
+    (le_or_lt (tail log + length batch) LOG_PLACES)
 
 pub goes_on_after : (depth : Depth) (log : Log) (seen rest : List Event) → MayGoOn depth log (seen ++ rest) → MayGoOn depth (after_all log seen) rest
 goes_on_after depth log [] rest may = may
@@ -104,6 +105,22 @@ goes_on_after depth log (event ∷ seen) rest may = goes_on_after depth (after l
 pub after_both : (log : Log) (seen rest : List Event) → after_all log (seen ++ rest) ≡ after_all (after_all log seen) rest
 after_both log [] rest = refl
 after_both log (event ∷ seen) rest = after_both (after log event) seen rest
+
+-- events that are no advance of a replica leave its local tail
+local_stays : (replica : ℕ) (log : Log) (events : List Event) → All (IsElse replica) events → local_of (after_all log events) replica ≡ local_of log replica
+local_stays replica log [] all = refl
+local_stays replica log (Append batch ∷ events) all = local_stays replica (after log (Append batch)) events (λ k d lt. all (suc k) d (omega arith))
+local_stays replica log (Advance other to ∷ events) all =
+    let differ : other ≡ replica → ⊥ = all 0 (Advance other to) (omega arith) in
+    local_stays replica (after log (Advance other to)) events (λ k d lt. all (suc k) d (omega arith))
+    ∙ get_or-set_other log.locals other replica to 0 (λ e. differ (sym e))
+
+pub local_since : (replicas replica : ℕ) (events seen : List Event) → HasSeenAdvances replica events seen
+    → local_of (log_after replicas events) replica ≡ local_of (log_after replicas seen) replica
+local_since replicas replica events seen is =
+    ap (λ (l : List Event). local_of (log_after replicas l) replica) is.1
+    ∙ ap (λ (log : Log). local_of log replica) (after_both (new_log replicas) seen is.0)
+    ∙ local_stays replica (log_after replicas seen) is.0 is.2
 
 goes_on_before : (depth : Depth) (log : Log) (seen rest : List Event) → MayGoOn depth log (seen ++ rest) → MayGoOn depth log seen
 goes_on_before depth log [] rest may = tt

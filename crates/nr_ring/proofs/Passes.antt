@@ -5,6 +5,7 @@ use Rattle.std.specs.List.{range_with_len}
 use Rattle.std.specs.Prelude.{slice_index}
 use Rattle.std.proofs.lemmas.List.FromFn.{get_or-range_with_len, length-range_with_len}
 use Rattle.vs_types.specs.declared.depth.Depth.{Depth}
+use Rattle.vs_types.specs.declared.limits.TheConstants.{LOG_PLACES}
 use Rattle.nr_ring.specs.History.{Log, tail, local_of, IsHistory, log_after}
 use Rattle.nr_ring.specs.Words.{IsWordsOf, new_words}
 use Rattle.nr_ring.specs.View.{StartsWith}
@@ -19,16 +20,16 @@ use Rattle.nr_ring.proofs.NewLog.{new_is}
 
 -- the tails are small
 pub small_words : (depth : Depth) (replicas : ℕ) (seen : List Event) (words : List ℕ) → IsHistory depth replicas seen
-    → IsWordsOf (log_after replicas seen) words → (word : ℕ) → word < 6 → slice_index words word ≤ 65536
+    → IsWordsOf (log_after replicas seen) words → (word : ℕ) → word < 6 → slice_index words word ≤ LOG_PLACES
 small_words depth replicas seen words is are word lt =
     let log = log_after replicas seen in
     let fits = history_fits depth replicas seen is in
-    let local : (r : ℕ) → local_of log r ≤ 65536 = λ r. le_trans (fits.written r) fits.ends in
+    let local : (r : ℕ) → local_of log r ≤ LOG_PLACES = λ r. le_trans (fits.written r) fits.ends in
     by_word word lt log are fits.ends local where
-      by_word : (word : ℕ) → word < 6 → (log : Log) → IsWordsOf log words → tail log ≤ 65536 → ((r : ℕ) → local_of log r ≤ 65536)
-          → slice_index words word ≤ 65536
+      by_word : (word : ℕ) → word < 6 → (log : Log) → IsWordsOf log words → tail log ≤ LOG_PLACES → ((r : ℕ) → local_of log r ≤ LOG_PLACES)
+          → slice_index words word ≤ LOG_PLACES
       by_word zero lt log are ends local = omega (arith, are.tail_is)
-      by_word (suc zero) lt log are ends local = omega (arith, are.completed_is, greatest_least log.locals 65536 local)
+      by_word (suc zero) lt log are ends local = omega (arith, are.completed_is, greatest_least log.locals LOG_PLACES local)
       by_word (suc (suc r)) lt log are ends local = let e : suc (suc r) ≡ 2 + r = omega arith in
           omega (arith, ap (slice_index words) e, are.locals_are r (omega arith), local r)
 

@@ -57,7 +57,7 @@ look_turns depth replicas pass v x views kept at =
             kept.one_owner p q c.0 e.0 replica c.1 e.1 c.2 e.2;
       },
       record {
-        looked = record { is_history = kept.is_history; seen = old.seen; told = old.told; told_stays = refl; mine = refl; owns = refl };
+        looked = record { is_history = kept.is_history; seen = old.seen; told = old.told; advances = old.owns; told_stays = refl; mine = refl; owns = refl };
         words_are = kept.words_are;
       },
     )

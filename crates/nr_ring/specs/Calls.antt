@@ -3,16 +3,18 @@ use Rattle.std.specs.Prelude.{◌≡◌, ◌≢◌, ℕ, ◌<◌, ◌≤◌, Lis
 use Rattle.vs_types.specs.declared.depth.Depth.{Depth}
 use Rattle.nr_ring.specs.History.{IsHistory, local_of, log_after, tail}
 use Rattle.nr_ring.specs.Words.{IsWordsOf}
-use Rattle.nr_ring.specs.View.{StartsWith}
+use Rattle.nr_ring.specs.View.{HasSeenAdvances, StartsWith}
 use Rattle.nr_ring.specs.declared.event.Event.{Event}
 use Rattle.nr_ring.specs.declared.event.Event.TheVariants.{Append, Advance}
 use Rattle.nr_ring.specs.declared.view.View.{View}
 
--- after a look: the pass has seen a history that begins with all that it had seen and was told; it made no event
+-- after a look: the pass has seen a history that begins with all that it had seen and was told; it made no event, and nobody advanced a
+-- replica that it owns
 pub record HasLooked (depth : Depth) (replicas : ℕ) (before after : View) : Type 0 where
   pub is_history : IsHistory depth replicas after.seen
   pub seen : StartsWith after.seen before.seen
   pub told : All (StartsWith after.seen) before.told
+  pub advances : All (λ replica. HasSeenAdvances replica after.seen before.seen) before.owns
   pub told_stays : after.told ≡ before.told
   pub mine : after.mine ≡ before.mine
   pub owns : after.owns ≡ before.owns

@@ -2,6 +2,7 @@
 use Rattle.std.specs.Prelude.{ℕ, ◌+◌, ◌<◌, ◌≤◌, max, List, [], ◌∷◌, ◌++◌, All, length, replicate, slice_index, slice_set, ⊤}
 use Rattle.vs_types.specs.LogEntry.{IsLogEntry}
 use Rattle.vs_types.specs.declared.depth.Depth.{Depth}
+use Rattle.vs_types.specs.declared.limits.TheConstants.{LOG_PLACES}
 use Rattle.vs_types.specs.declared.log_entry.LogEntry.{LogEntry}
 use Rattle.nr_ring.specs.declared.event.Event.{Event}
 use Rattle.nr_ring.specs.declared.event.Event.TheVariants.{Append, Advance}
@@ -32,7 +33,7 @@ completed log = greatest log.locals
 
 -- the log ends at 65,536 entries
 abbrev pub HasRoom : Log → ℕ → Type 0
-HasRoom log n = tail log + n ≤ 65536
+HasRoom log n = tail log + n ≤ LOG_PLACES
 
 -- no replica has more than 16 entries to take
 abbrev pub AllKeepUp : Log → ℕ → Type 0
@@ -81,7 +82,7 @@ log_after replicas events = after_all (new_log replicas) events
 -- why a batch of so many entries is refused: the log would go past its end, or some replica has still to take an entry whose
 -- place in the ring the batch needs
 abbrev pub IsEnded : Log → ℕ → Type 0
-IsEnded log n = 65536 < tail log + n
+IsEnded log n = LOG_PLACES < tail log + n
 
 abbrev pub IsFull : Log → ℕ → Type 0
 IsFull log n = (replica : ℕ) × (replica < length log.locals) × (local_of log replica + 16 < tail log + n)

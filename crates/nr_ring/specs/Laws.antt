@@ -1,5 +1,6 @@
 -- What the laws of `src/laws.rt` say of two logs.
 use Rattle.std.specs.Prelude.{◌≡◌, ℕ, ◌≤◌, ◌<◌, ◌+◌, List, ◌++◌, length}
+use Rattle.vs_types.specs.declared.limits.TheConstants.{LOG_PLACES}
 use Rattle.vs_types.specs.declared.log_entry.LogEntry.{LogEntry}
 use Rattle.nr_ring.specs.History.{Log, tail, local_of, completed}
 
@@ -19,4 +20,4 @@ pub record HasSameTails (p q : Log) : Type 0 where
 pub record FitsTheRing (log : Log) : Type 0 where
   pub written : (replica : ℕ) → local_of log replica ≤ tail log
   pub kept_up : (replica : ℕ) → replica < length log.locals → tail log ≤ local_of log replica + 16
-  pub ends : tail log ≤ 65536
+  pub ends : tail log ≤ LOG_PLACES

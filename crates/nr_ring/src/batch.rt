@@ -1,13 +1,14 @@
 //! Batches of entries and the words of the cell.
 ghost use Rattle.std.specs.Prelude.{◌≡◌, ◌<◌, ◌≤◌, ℕ, All, MatchResult, [], drop, length, slice_index};
 ghost use Rattle.vs_types.specs.LogEntry.{IsLogEntry};
+ghost use Rattle.vs_types.specs.declared.limits.TheConstants.{CALLS, LOG_PLACES};
 ghost use Rattle.nr_ring.specs.History.{AllKeepUp, HasRoom, Log};
 ghost use Rattle.nr_ring.specs.Words.{IsAppended, IsWordsOf};
 ghost use Rattle.nr_ring.specs.inside.Batch.{AreSmall, Bars, CanBeRead, Explains};
 
 use crate::tails::{AppendFault, tails_in};
 use arrayvec::ArrayVec;
-use vs_types::{Depth, LogEntry, pack, unpack};
+use vs_types::{Depth, LOG_PLACES, LogEntry, pack, unpack};
 
 /// Tests that so many entries may be appended: the log does not end before, and each replica has the room.
 pub(crate) fn test_room(words: &[u64; 39], count: u64) -> Result<(), AppendFault>
@@ -15,7 +16,7 @@ pub(crate) fn test_room(words: &[u64; 39], count: u64) -> Result<(), AppendFault
     ensures { (log : Log) → IsWordsOf log words.now → MatchResult result (λ _. HasRoom log count × AllKeepUp log count) (Bars log count) }
 {
     let end = words[0] + count;
-    if end > 65_536 {
+    if end > u64::from(LOG_PLACES) {
         return Err(AppendFault::LogEnded);
     }
     for replica in 0..words[6] as usize {
@@ -39,8 +40,8 @@ pub(crate) fn why_not(words: &[u64; 39], count: u64) -> AppendFault
 
 /// The words after a batch: each entry stands at its place in the ring, and the tail has risen.
 pub(crate) fn with_batch(words: &[u64; 39], batch: &[LogEntry]) -> [u64; 39]
-    requires small { (slice_index words.now 0 ≤ 65536) × (length batch.now ≤ 16) }
-    requires calls { All (λ entry. entry.call < 131072) batch.now }
+    requires small { (slice_index words.now 0 ≤ LOG_PLACES) × (length batch.now ≤ 16) }
+    requires calls { All (λ entry. entry.call < CALLS) batch.now }
     ensures { (log : Log) → IsWordsOf log words.now → IsAppended log batch.now words.now result }
 {
     let mut next = *words;

@@ -5,6 +5,7 @@ ghost use Rattle.vs_types.specs.declared.depth.Depth.{Depth};
 ghost use Rattle.vs_types.specs.declared.log_entry.LogEntry.{LogEntry};
 ghost use Rattle.nr_ring.specs.History.{Log, MayGoOn, MayAppend, IsHistory, IsEnded, IsFull, after_all, log_after, local_of, completed};
 ghost use Rattle.nr_ring.specs.Laws.{HasGoneOn, HasSameTails, FitsTheRing};
+ghost use Rattle.nr_ring.specs.View.{HasSeenAdvances};
 ghost use Rattle.nr_ring.specs.declared.event.Event.{Event};
 
 /// Events only add entries at the end, and no tail falls.
@@ -15,6 +16,11 @@ pub fn tails_never_fall()
 /// Each event raises a tail, so that where the tails are as before nothing has happened.
 pub fn equal_tails_mean_no_event()
     ensures { (depth : Depth) (log : Log) (events : List Event) → MayGoOn depth log events → HasSameTails (after_all log events) log → events ≡ [] }
+{}
+
+/// Where there was no advance of a replica, its local tail is as it was.
+pub fn local_tails_rise_by_advances()
+    ensures { (replicas replica : ℕ) (events seen : List Event) → HasSeenAdvances replica events seen → local_of (log_after replicas events) replica ≡ local_of (log_after replicas seen) replica }
 {}
 
 /// The entries that a replica has still to take are the last 16 at most.

@@ -22,8 +22,8 @@ pub use cell_words::{
 };
 pub use event::Event;
 pub use laws::{
-    completed_is_a_local_tail, equal_tails_mean_no_event, needed_entries_fit_the_ring,
-    refused_for_a_reason, tails_never_fall,
+    completed_is_a_local_tail, equal_tails_mean_no_event, local_tails_rise_by_advances,
+    needed_entries_fit_the_ring, refused_for_a_reason, tails_never_fall,
 };
 pub use name::LogName;
 pub use pass::LogPass;

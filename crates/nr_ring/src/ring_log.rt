@@ -126,6 +126,7 @@ impl<J: LogName> RingLog<J> {
         requires log { pass.old.log ≡ self.now }
         requires to { MayTake J.replicas pass.old.view to }
         ensures log { pass.new.log ≡ pass.old.log }
+        ensures owns { pass.new.view.owns ≡ pass.old.view.owns }
         ensures taken { OnOk result (HasTaken J.replicas pass.old.view to pass.new.view) }
         ensures moved { OnErr result (HasLooked J.depth J.replicas pass.old.view pass.new.view × HasMoved pass.old.view pass.new.view) }
         ensures history { IsHistory J.depth J.replicas pass.new.view.seen }
@@ -183,6 +184,7 @@ impl<J: LogName> RingLog<J> {
         requires count { (1 ≤ length batch.now) × (length batch.now ≤ 16) }
         requires entries { All (IsLogEntry J.depth) batch.now }
         ensures log { pass.new.log ≡ pass.old.log }
+        ensures owns { pass.new.view.owns ≡ pass.old.view.owns }
         ensures appended { IfOk result (λ place. HasAppended J.depth J.replicas pass.old.view batch.now place pass.new.view) }
         ensures refused { IfErr result (λ fault. HasLooked J.depth J.replicas pass.old.view pass.new.view × IsReason (log_after J.replicas pass.new.view.seen) (length batch.now) pass.old.view pass.new.view fault) }
         ensures history { IsHistory J.depth J.replicas pass.new.view.seen }

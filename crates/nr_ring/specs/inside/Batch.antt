@@ -2,6 +2,7 @@
 use Rattle.std.specs.Prelude.{◌≡◌, ◌⊎◌, ℕ, ◌+◌, ◌<◌, ◌≤◌, All, List, Some, drop, length, take, slice_get, slice_index}
 use Rattle.vs_types.specs.LogEntry.{IsLogEntry, log_words}
 use Rattle.vs_types.specs.declared.depth.Depth.{Depth}
+use Rattle.vs_types.specs.declared.limits.TheConstants.{LOG_PLACES}
 use Rattle.vs_types.specs.declared.log_entry.LogEntry.{LogEntry}
 use Rattle.nr_ring.specs.History.{Log, AllKeepUp, HasRoom, IsEnded, IsFull, tail}
 use Rattle.nr_ring.specs.Pass.{tails_of}
@@ -32,7 +33,7 @@ pub record IsWritten (place n : ℕ) (batch : List LogEntry) (before after : Lis
 
 -- the tails that words have are small
 pub record AreSmall (words : List ℕ) : Type 0 where
-  pub tails : (word : ℕ) → word < 6 → slice_index words word ≤ 65536
+  pub tails : (word : ℕ) → word < 6 → slice_index words word ≤ LOG_PLACES
   pub replicas : slice_index words 6 ≤ 4
 
 -- the words are those of a log at this depth whose entries from a place on are in the ring
@@ -42,7 +43,7 @@ pub record CanBeRead (depth : Depth) (words : List ℕ) (from : ℕ) : Type 0 wh
   pub fit : All (IsLogEntry depth) log.entries
   pub low : from ≤ tail log
   pub near : tail log ≤ from + 16
-  pub ends : tail log ≤ 65536
+  pub ends : tail log ≤ LOG_PLACES
 
 -- so many entries from a place on were read
 pub record IsRead (depth : Depth) (words : List ℕ) (from n : ℕ) (entries : List LogEntry) : Type 0 where

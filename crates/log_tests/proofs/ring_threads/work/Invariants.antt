@@ -1,0 +1,14 @@
+use Rattle.std.proofs.Common.{◌≡◌, ◌∷◌, []}
+use Rattle.log_tests.proofs.ring_threads.work.Given as goal
+
+-- the pass is of the log, and owns the replica
+abbrev pub invariant-loop-round : goal.invariant-loop-round
+invariant-loop-round g l = record { of_log : l.pass.log ≡ l.log; owner : l.pass.view.owns ≡ l.replica ∷ [] }
+
+abbrev pub invariant-loop : goal.invariant-loop
+invariant-loop g l = record {
+  goes_on : (goal.iterator-loop g).can_next l.iterator';
+  ends : (goal.iterator-loop g).is_finite l.iterator';
+  of_log : l.pass.log ≡ l.log;
+  owner : l.pass.view.owns ≡ l.replica ∷ [];
+}
