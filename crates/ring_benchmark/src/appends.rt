@@ -1,0 +1,161 @@
+//! Appends: each thread owns a replica, appends entries, and takes all that there are.
+ghost use Rattle.std.specs.Prelude.{◌≡◌, ◌≤◌, ◌∷◌, ℕ, [], All, length};
+ghost use Rattle.vs_types.specs.LogEntry.{IsLogEntry};
+ghost use Rattle.vs_types.specs.declared.depth.Depth.TheVariants.{Four};
+
+use crate::entry::entry_of;
+use crate::fault::ProgFault;
+use arrayvec::ArrayVec;
+use crossbeam_utils::Backoff;
+use nr_ring::{AppendFault, LogName, LogPass, RingLog, Tails, needed_entries_fit_the_ring};
+use std::alloc::Global;
+use std::rt::Clock;
+use std::sync::Wait;
+use std::thread;
+use std::thread::Threads;
+use std::time::{Duration, Instant};
+use vs_types::{Depth, LogEntry};
+
+/// How often a thread tries what waits for the others.
+const TRIES: u32 = 1 << 26;
+
+/// What a replica has taken.
+#[derive(Clone, Copy, Debug)]
+pub struct Taken {
+    /// How many entries.
+    pub entries: u32,
+    /// The sum of the numbers of their calls.
+    pub calls: u64,
+}
+
+/// The log when all threads have ended, what its replicas have taken, and the time that it took.
+#[derive(Debug, Drop)]
+pub struct Appends {
+    pub tails: Tails,
+    pub taken: Vec<Taken>,
+    pub time: Duration,
+}
+
+/// So many threads, each of which owns a replica of a new log, append so many entries each, and take all of them.
+pub fn append<J: LogName + Send + Sync, R: Threads + Wait + Clock + Sync>(
+    rt: &R,
+    alloc: Global,
+    threads: u8,
+    calls: u32,
+) -> Result<Appends, ProgFault>
+    requires depth { J.depth ≡ Four }
+    requires threads { (threads ≡ J.replicas) × (1 ≤ threads) × (threads ≤ 4) }
+    requires calls { calls ≤ 65536 }
+{
+    let (log, mut passes) = RingLog::<J>::new(alloc, Depth::Four, threads, 1)?;
+    let Some(mut own) = passes.pop() else {
+        unreachable!()
+    };
+    let all = calls * u32::from(threads);
+    let start = Instant::now(rt).map_err(|_| ProgFault::NoClock)?;
+    let replicas = thread::map_vec(
+        rt,
+        passes,
+        &|pass: LogPass<J>| -> Result<Taken, ProgFault>
+            requires depth { J.depth ≡ Four }
+            requires log { pass.log ≡ log }
+            requires owner { (replica : ℕ) × (pass.view.owns ≡ replica ∷ []) }
+            requires calls { calls ≤ 65536 }
+        { append_and_take(rt, &log, pass, calls, all) },
+    )?;
+    let end = Instant::now(rt).map_err(|_| ProgFault::NoClock)?;
+    let mut taken = Vec::new(alloc);
+    for replica in replicas {
+        taken.push(replica?)?;
+    }
+    Ok(Appends {
+        tails: log.look(rt, &mut own),
+        taken,
+        time: end.duration_since(start),
+    })
+}
+
+/// Appends so many entries, and takes entries until the replica has all that the threads append.
+fn append_and_take<J: LogName, R: Wait>(
+    rt: &R,
+    log: &RingLog<J>,
+    mut pass: LogPass<J>,
+    calls: u32,
+    all: u32,
+) -> Result<Taken, ProgFault>
+    requires depth { J.depth ≡ Four }
+    requires log { pass.log ≡ log.now }
+    requires owner { (replica : ℕ) × (pass.view.owns ≡ replica ∷ []) }
+    requires calls { calls ≤ 65536 }
+{
+    let mut taken = Taken {
+        entries: 0,
+        calls: 0,
+    };
+    for call in 0..calls {
+        append_all(rt, log, &mut pass, &[entry_of(call)], &mut taken)?;
+    }
+    let backoff = Backoff::new();
+    for _ in 0..TRIES {
+        if taken.entries == all {
+            return Ok(taken);
+        }
+        take(rt, log, &mut pass, &mut taken);
+        backoff.snooze();
+    }
+    Err(ProgFault::Stuck)
+}
+
+/// Appends a batch; where the log is full, the replica takes what it has still to take.
+fn append_all<J: LogName, R: Wait>(
+    rt: &R,
+    log: &RingLog<J>,
+    pass: &mut LogPass<J>,
+    batch: &[LogEntry],
+    taken: &mut Taken,
+) -> Result<(), ProgFault>
+    requires log { pass.old.log ≡ log.now }
+    requires owner { (replica : ℕ) × (pass.old.view.owns ≡ replica ∷ []) }
+    requires count { (1 ≤ length batch.now) × (length batch.now ≤ 16) }
+    requires entries { All (IsLogEntry J.depth) batch.now }
+    ensures log { pass.new.log ≡ pass.old.log }
+    ensures owner { pass.new.view.owns ≡ pass.old.view.owns }
+{
+    let backoff = Backoff::new();
+    for _ in 0..TRIES {
+        match log.append(rt, pass, batch) {
+            Ok(_) => return Ok(()),
+            Err(AppendFault::Full(_)) => {
+                take(rt, log, pass, taken);
+                backoff.snooze();
+            }
+            Err(AppendFault::Moved(_)) => backoff.spin(),
+            Err(AppendFault::LogEnded) => return Err(ProgFault::Stuck),
+        }
+    }
+    Err(ProgFault::Stuck)
+}
+
+/// Takes all entries that the replica has still to take, or none where another thread's event comes between.
+fn take<J: LogName, R: Wait>(rt: &R, log: &RingLog<J>, pass: &mut LogPass<J>, taken: &mut Taken)
+    requires log { pass.old.log ≡ log.now }
+    requires owner { (replica : ℕ) × (pass.old.view.owns ≡ replica ∷ []) }
+    ensures log { pass.new.log ≡ pass.old.log }
+    ensures owner { pass.new.view.owns ≡ pass.old.view.owns }
+{
+    let mut entries = ArrayVec::new();
+    log.fetch(rt, pass, &mut entries);
+    let tails = log.look(rt, pass);
+    let count = entries.len() as u32;
+    if taken.entries.saturating_add(count) != tails.tail {
+        return;
+    }
+    needed_entries_fit_the_ring();
+    if log.advance(rt, pass, tails.tail).is_err() {
+        return;
+    }
+    taken.entries = tails.tail;
+    for entry in &entries {
+        taken.calls = taken.calls.wrapping_add(u64::from(entry.call));
+    }
+}

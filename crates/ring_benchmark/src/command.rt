@@ -1,0 +1,132 @@
+use crate::appends::{Appends, Taken, append};
+use crate::fault::ProgFault;
+use crate::looks::{Looks, look};
+use std::alloc::Global;
+use std::env;
+use std::marker::Brand;
+use std::rt::{Clock, Env};
+use std::sync::Wait;
+use std::thread::Threads;
+use std::time::Duration;
+
+/// Runs the program on its words, and gives the exit status.
+pub fn run<R: Env + AllocGlobal + Print + Eprint + Clock + Threads + Wait + Sync>(rt: &R) -> u8 {
+    match try_run(rt) {
+        Ok(()) => 0,
+        Err(fault) => {
+            let _ = eprintln!(rt; "{fault}");
+            fault.status()
+        }
+    }
+}
+
+/// What is timed.
+#[derive(Clone, Copy)]
+enum Call {
+    Look,
+    Append,
+}
+
+/// What the program's words ask for.
+#[derive(Clone, Copy)]
+struct Wanted {
+    call: Call,
+    /// 1 to 4.
+    threads: u8,
+    /// How many calls each thread makes; those that append make 65,536 at most in all.
+    calls: u32,
+}
+
+/// The words are what is timed, the number of threads and the number of calls.
+fn read_words<R: Env + AllocGlobal>(rt: &R) -> Result<Wanted, ProgFault> {
+    let words: Vec<String> = env::args(rt)
+        .map_err(|_| ProgFault::Memory)?
+        .collect(rt.alloc())?;
+    let [_, call, threads, calls] = words.as_slice() else {
+        return Err(ProgFault::BadWords);
+    };
+    let call = match call.as_str() {
+        "looks" => Call::Look,
+        "appends" => Call::Append,
+        _ => return Err(ProgFault::BadWords),
+    };
+    let threads = threads.parse::<u8>().map_err(|_| ProgFault::BadWords)?;
+    let calls = calls.parse::<u32>().map_err(|_| ProgFault::BadWords)?;
+    Ok(Wanted {
+        call,
+        threads,
+        calls,
+    })
+}
+
+/// Makes the calls, and prints what they found and how many there were in a second.
+fn try_run<R: Env + AllocGlobal + Print + Eprint + Clock + Threads + Wait + Sync>(
+    rt: &R,
+) -> Result<(), ProgFault> {
+    let Wanted {
+        call,
+        threads,
+        calls,
+    } = read_words(rt)?;
+    if threads < 1 || threads > 4 {
+        return Err(ProgFault::BadWords);
+    }
+    let all = u64::from(threads) * u64::from(calls);
+    match call {
+        Call::Look => {
+            let looks = look::<Brand, R>(rt, rt.alloc(), threads, calls)?;
+            print_looks(rt, all, &looks)?;
+            print_rate(rt, "look", threads, all, looks.time)
+        }
+        Call::Append => {
+            if all > 65_536 {
+                return Err(ProgFault::BadWords);
+            }
+            let appends = append::<Brand, R>(rt, rt.alloc(), threads, calls)?;
+            print_appends(rt, &appends)?;
+            print_rate(rt, "append", threads, all, appends.time)
+        }
+    }
+}
+
+/// How many looks there were, and the sum of the tails that they found.
+fn print_looks<R: Print>(rt: &R, all: u64, looks: &Looks) -> Result<(), ProgFault> {
+    let tails = looks.tails;
+    println!(rt; "looks {all}").map_err(|_| ProgFault::CannotWrite)?;
+    println!(rt; "tails {tails}").map_err(|_| ProgFault::CannotWrite)
+}
+
+/// The tails, and what each replica has taken.
+fn print_appends<R: Print>(rt: &R, appends: &Appends) -> Result<(), ProgFault> {
+    let tail = appends.tails.tail;
+    let completed = appends.tails.completed;
+    println!(rt; "tail {tail}").map_err(|_| ProgFault::CannotWrite)?;
+    println!(rt; "completed {completed}").map_err(|_| ProgFault::CannotWrite)?;
+    for taken in &appends.taken {
+        let Taken { entries, calls } = *taken;
+        println!(rt; "taken {entries} calls {calls}").map_err(|_| ProgFault::CannotWrite)?;
+    }
+    Ok(())
+}
+
+/// Operations a second of all threads together.
+fn print_rate<R: Eprint>(
+    rt: &R,
+    name: &str,
+    threads: u8,
+    all: u64,
+    time: Duration,
+) -> Result<(), ProgFault> {
+    let rate = rate(all, time);
+    eprintln!(rt; "operations a second  {name:>12}").map_err(|_| ProgFault::CannotWrite)?;
+    eprintln!(rt; "{threads}_threads            {rate:>12}").map_err(|_| ProgFault::CannotWrite)
+}
+
+/// How many operations fit into a second, where this many took this time.
+fn rate(operations: u64, time: Duration) -> u64 {
+    let nanos = time
+        .as_secs()
+        .saturating_mul(1_000_000_000)
+        .saturating_add(u64::from(time.subsec_nanos()));
+    operations.saturating_mul(1_000_000_000) / nanos.max(1)
+}

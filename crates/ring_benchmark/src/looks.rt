@@ -1,0 +1,70 @@
+//! Looks: each thread looks at a log to which nothing is appended meanwhile.
+ghost use Rattle.std.specs.Prelude.{◌≡◌, ◌≤◌};
+ghost use Rattle.vs_types.specs.declared.depth.Depth.TheVariants.{Four};
+
+use crate::entry::entry_of;
+use crate::fault::ProgFault;
+use nr_ring::{LogName, LogPass, RingLog};
+use std::alloc::Global;
+use std::rt::Clock;
+use std::sync::Wait;
+use std::thread;
+use std::thread::Threads;
+use std::time::{Duration, Instant};
+use vs_types::Depth;
+
+/// What the looks of all threads found, and the time that they took.
+#[derive(Clone, Copy, Debug)]
+pub struct Looks {
+    /// The sum of the tails that were found.
+    pub tails: u64,
+    pub time: Duration,
+}
+
+/// So many threads look at a log of 16 entries, so many times each.
+pub fn look<J: LogName + Send + Sync, R: Threads + Wait + Clock + Sync>(
+    rt: &R,
+    alloc: Global,
+    threads: u8,
+    calls: u32,
+) -> Result<Looks, ProgFault>
+    requires depth { J.depth ≡ Four }
+    requires threads { (threads ≡ J.replicas) × (1 ≤ threads) × (threads ≤ 4) }
+{
+    let (log, mut passes) = RingLog::<J>::new(alloc, Depth::Four, threads, 1)?;
+    let Some(mut own) = passes.pop() else {
+        unreachable!()
+    };
+    if log.append(rt, &mut own, &[entry_of(0); 16]).is_err() {
+        return Err(ProgFault::Stuck);
+    }
+    let start = Instant::now(rt).map_err(|_| ProgFault::NoClock)?;
+    let sums = thread::map_vec(
+        rt,
+        passes,
+        &|pass: LogPass<J>| -> u64
+            requires { pass.log ≡ log }
+        { look_often(rt, &log, pass, calls) },
+    )?;
+    let end = Instant::now(rt).map_err(|_| ProgFault::NoClock)?;
+    Ok(Looks {
+        tails: sums.iter().fold(0, |all: u64, sum| all.wrapping_add(*sum)),
+        time: end.duration_since(start),
+    })
+}
+
+/// Looks so many times, and adds up the tails that it finds.
+fn look_often<J: LogName, R: Wait>(
+    rt: &R,
+    log: &RingLog<J>,
+    mut pass: LogPass<J>,
+    calls: u32,
+) -> u64
+    requires { pass.log ≡ log.now }
+{
+    let mut tails = 0u64;
+    for _ in 0..calls {
+        tails = tails.wrapping_add(u64::from(log.look(rt, &mut pass).tail));
+    }
+    tails
+}
