@@ -1,6 +1,8 @@
 //! The units of a dump: its head, and each frame's number and words.
 
-ghost use Rattle.std.specs.Prelude.{◌≡◌, ◌<◌, ◌-◌, ◌^◌, ◌++◌, ◌↔◌, IsTrue, IfOk, length};
+ghost use Rattle.std.specs.Prelude.{◌≡◌, ◌<◌, ◌-◌, ◌^◌, ◌++◌, ◌↔◌, All, IsTrue, IfOk, length};
+ghost use Rattle.std.specs.FinMap as finite;
+ghost use Rattle.vs_types.specs.declared.limits.TheConstants.{TABLES};
 ghost use Rattle.vs_types.specs.Frame.{IsFrame};
 ghost use Rattle.nr_trace.specs.FirstFault.{IsNext};
 ghost use Rattle.nr_trace.specs.Spelling.{frame_words};
@@ -10,6 +12,7 @@ use crate::fault::Format;
 use crate::reading::fields::take_u64;
 use crate::reading::header::dump_head_of;
 use crate::reading::parts::{OpenFrame, Opened, Parts, Reader};
+use crate::reading::room::{make_room, room_step};
 use crate::reading::words::{fill_words, room_for_words};
 use vs_types::{FRAME_WORDS, Fail, Memory};
 use vs_walk::Dump;
@@ -66,6 +69,23 @@ pub(crate) fn take_frame_number(
     Err(Fail::Refused(Format::BadFrame(replica, index)))
 }
 
+/// The dump with this frame, where so many frames are left. It takes memory for the list of its frames.
+fn with_frame(
+    mut dump: Dump,
+    left: u32,
+    number: u64,
+    words: Box<[u64; FRAME_WORDS]>,
+) -> Result<Dump, Memory>
+    requires above { All (λ held. held < number) (finite.keys dump.frames) }
+    requires in_range { number < 2 ^ 40 }
+    requires room { finite.len dump.frames < TABLES }
+    ensures { IfOk result (λ more. more ≡ record dump { frames = finite.insert dump.frames number words.value }) }
+{
+    dump.make_room(room_step(dump.count(), 1, left as usize))?;
+    dump.push_box(number, words)?;
+    Ok(dump)
+}
+
 /// The frame goes to its dump, and the dump to the others where it was the last one. It takes memory for the lists.
 fn add_frame(
     mut parts: Parts,
@@ -80,10 +100,12 @@ fn add_frame(
     ensures { IfOk result (HasRead (frame_begun parts opened number ++ frame_words words.value)
         (λ rest fault. AtWords parts opened number (frame_words words.value ++ rest) fault)) }
 {
-    let Opened { mut dump, left } = opened;
-    dump.push_box(number, words)?;
+    let Opened { dump, left } = opened;
+    let dump = with_frame(dump, left, number, words)?;
     let left = left - 1;
     if left == 0 {
+        let replicas = parts.config.replicas() as usize;
+        make_room(&mut parts.dumps, 1, replicas)?;
         parts.dumps.push(dump)?;
         return Ok(Reader::Dumps(parts));
     }
