@@ -126,7 +126,7 @@ piece_taken self old next reader begun piece view is has =
 
 -- ---- the end
 
-fewer_than : (o : Option ℕ) (len : ℕ) (bytes : List ℕ) → o ≡ Some len → AreFewer o bytes → length bytes < len
+pub fewer_than : (o : Option ℕ) (len : ℕ) (bytes : List ℕ) → o ≡ Some len → AreFewer o bytes → length bytes < len
 fewer_than o len bytes is fewer = subst (λ p. AreFewer p bytes) is fewer
 
 pub ends_short : (self : Fed) (state : State) (reader : Reader) (begun : Vec ℕ Global) (len : ℕ) → fed state ≡ self → IsFeeding state

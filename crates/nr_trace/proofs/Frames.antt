@@ -1,5 +1,5 @@
 -- A reader that has taken a unit of a dump.
-use Rattle.std.proofs.Common.{◌≡◌, ◌≢◌, ℕ, zero, suc, ◌+◌, ◌-◌, ◌^◌, ◌<◌, ◌≤◌, List, [], ◌∷◌, ◌++◌, length, map, All, Option, Some, None, refl, sym, ap, subst}
+use Rattle.std.proofs.Common.{◌≡◌, ◌≢◌, ℕ, zero, suc, ◌+◌, ◌-◌, ◌^◌, ◌<◌, ◌≤◌, List, [], ◌∷◌, ◌++◌, length, take, map, All, Option, Some, None, refl, sym, ap, subst}
 use Rattle.std.proofs.Common.{◌∙◌, arith, append_assoc}
 use Rattle.std.specs.Global.{Vec}
 use Rattle.std.specs.List.{flat_map}
@@ -8,7 +8,7 @@ use Rattle.std.specs.FinMap.Entries.{put, by_order}
 use Rattle.std.specs.Ordering.{nat_cmp}
 use Rattle.std.specs.Cmp.{nat_cmp_total, nat_cmp_is}
 use Rattle.std.specs.declared.cmp.Ordering.TheVariants.{Greater}
-use Rattle.std.proofs.lemmas.List.{append-nil, nil_from_length, length-append, map-append}
+use Rattle.std.proofs.lemmas.List.{append-nil, nil_from_length, length-append, map-append, take_all}
 use Rattle.std.proofs.lemmas.List.Concat.{flat_map-cons}
 use Rattle.std.proofs.lemmas.Grind.{flat_map-append}
 use Rattle.std.proofs.lemmas.List.Elements.{All-head, All-tail, All-push, All-nil}
@@ -20,14 +20,16 @@ use Rattle.nr_trace.specs.Spelling.{dump_head, frame_number, frame_words, dump}
 use Rattle.nr_trace.specs.inside.Reading.{SpellsHead}
 use Rattle.nr_trace.specs.declared.fields.DumpHead.{DumpHead}
 use Rattle.nr_trace.specs.FirstFault.{AtUnit, AtFrames, AtDumps, IsNext, IsDumpHead}
-use Rattle.nr_trace.specs.inside.Progress.{HasRead, AreInRange, IsOpened, AreBelow, BehindDumps, Ahead, said, whole_spelling, opened_spelling}
+use Rattle.nr_trace.specs.inside.Progress.{HasRead, AreInRange, IsOpened, IsReady, AreBelow, AreUnits, BehindDumps, AtWords, Ahead, said, whole_spelling, opened_spelling, frame_begun, words_begun}
 use Rattle.nr_trace.specs.declared.fault.Format.{Format}
 use Rattle.nr_trace.specs.declared.fault.Format.TheVariants.{BadCount, BadFrame}
 use Rattle.nr_trace.specs.declared.reading.parts.Parts.{Parts}
 use Rattle.nr_trace.specs.declared.reading.parts.Opened.{Opened}
+use Rattle.nr_trace.specs.declared.reading.parts.OpenFrame.{OpenFrame}
+use Rattle.nr_trace.specs.declared.reading.parts.Reader.{Reader}
 use Rattle.nr_trace.specs.declared.reading.parts.Reader.TheVariants.{Dumps, Frame, Words}
 use Rattle.nr_trace.proofs.Spelled.{spelling_of, more_dump}
-use Rattle.nr_trace.proofs.Units.{refused, passed}
+use Rattle.nr_trace.proofs.Units.{refused, passed, goes_on}
 
 -- ---- memories that grow by a frame above all others
 
@@ -82,15 +84,21 @@ number_refused replica index (suc frames) last Behind unit rest some whole none 
     (λ n. AtUnit 4096 None IsFrame frame_words (λ words. AtFrames replica (index + 1) frames (Some n) Behind))
     (BadFrame replica index) unit rest whole refl none
 
-pub number_taken : (parts : Parts) (opened : Opened) (last : Option ℕ) (number : ℕ) (unit : List ℕ) → IsOpened parts opened
-    → ((n : ℕ) → IsNext last n → AreBelow opened n) → IsNext last number → unit ≡ frame_number number
-    → HasRead (said (Frame parts opened last) ++ unit) (λ rest fault. Ahead (Frame parts opened last) (unit ++ rest) fault) (Words parts opened number)
-number_taken parts opened last number unit is_opened below next is = record {
-  ready = (is_opened, next.in_range, below number next);
-  bytes_are = ap (λ (l : List ℕ). said (Frame parts opened last) ++ l) (sym is);
-  faults = λ rest fault h. number_passed (length parts.dumps.items) (finite.len opened.dump.frames) opened.left last
-      (BehindDumps parts 1) number unit rest fault is_opened.some_left next is h;
-}
+pub number_taken : (parts : Parts) (opened : Opened) (last : Option ℕ) (frame : OpenFrame) (unit : List ℕ) → IsOpened parts opened
+    → ((n : ℕ) → IsNext last n → AreBelow opened n) → IsNext last frame.number → unit ≡ frame_number frame.number
+    → frame.filled ≡ 0 → IsFrame frame.words.value
+    → HasRead (said (Frame parts opened last) ++ unit) (λ rest fault. Ahead (Frame parts opened last) (unit ++ rest) fault)
+    (Words parts opened frame)
+number_taken parts opened last frame unit is_opened below next is none whole =
+    let nothing : words_begun frame ≡ [] = ap (λ (n : ℕ). frame_words (take n frame.words.value)) none in
+    record {
+      ready = (is_opened, next.in_range, below frame.number next, whole, omega (arith, none));
+      bytes_are = ap (λ (l : List ℕ). frame_begun parts opened frame.number ++ l) nothing ∙ append-nil (frame_begun parts opened frame.number)
+          ∙ ap (λ (l : List ℕ). said (Frame parts opened last) ++ l) (sym is);
+      faults = λ rest fault h. number_passed (length parts.dumps.items) (finite.len opened.dump.frames) opened.left last
+          (BehindDumps parts 1) frame.number unit rest fault is_opened.some_left next is
+          (subst (λ (l : List ℕ). AtWords parts opened frame.number (l ++ rest) fault) nothing h);
+    }
 
 -- ---- the words of a frame
 
@@ -131,7 +139,7 @@ grown_spelled opened number words unit some above is =
 words_faults : (parts : Parts) (opened : Opened) (number : ℕ) (words unit rest : List ℕ) (fault : Format) → AreBelow opened number → IsFrame words
     → unit ≡ frame_words words
     → AtFrames (length parts.dumps.items) (finite.len (grown opened number words).dump.frames) (opened.left - 1) (Some number) (BehindDumps parts 1) rest fault
-    → Ahead (Words parts opened number) (unit ++ rest) fault
+    → AtWords parts opened number (unit ++ rest) fault
 words_faults parts opened number words unit rest fault above are is h =
     passed 4096 None IsFrame frame_words
     (λ _. AtFrames (length parts.dumps.items) (finite.len opened.dump.frames + 1) (opened.left - 1) (Some number) (BehindDumps parts 1)) fault
@@ -161,7 +169,7 @@ grown_below opened number words above next is_next =
 -- a frame is left
 pub words_taken : (parts : Parts) (opened : Opened) (number : ℕ) (words unit : List ℕ) → IsOpened parts opened → number < 2 ^ 40 → AreBelow opened number
     → IsFrame words → unit ≡ frame_words words → 1 ≤ opened.left - 1
-    → HasRead (said (Words parts opened number) ++ unit) (λ rest fault. Ahead (Words parts opened number) (unit ++ rest) fault)
+    → HasRead (frame_begun parts opened number ++ unit) (λ rest fault. AtWords parts opened number (unit ++ rest) fault)
     (Frame parts (grown opened number words) (Some number))
 words_taken parts opened number words unit is_opened fits above are is more = record {
   ready = (
@@ -205,7 +213,7 @@ grown_is_image parts opened number words is_opened fits above are =
 pub dump_taken : (parts : Parts) (held : Vec Image) (opened : Opened) (number : ℕ) (words unit : List ℕ) → IsOpened parts opened → number < 2 ^ 40
     → AreBelow opened number → IsFrame words → unit ≡ frame_words words
     → opened.left - 1 ≡ 0 → held.items ≡ parts.dumps.items ++ (grown opened number words).dump ∷ []
-    → HasRead (said (Words parts opened number) ++ unit) (λ rest fault. Ahead (Words parts opened number) (unit ++ rest) fault)
+    → HasRead (frame_begun parts opened number ++ unit) (λ rest fault. AtWords parts opened number (unit ++ rest) fault)
     (Dumps (record parts { dumps = held }))
 dump_taken parts held opened number words unit is_opened fits above are is none one_more =
     let image = (grown opened number words).dump in
@@ -236,6 +244,54 @@ dump_taken parts held opened number words unit is_opened fits above are is none 
           (no_frame (length parts.dumps.items) (finite.len image.frames) (opened.left - 1) (Some number) (BehindDumps parts 1) rest fault none
           (subst (λ (n : ℕ). AtDumps n (parts.config.replicas - n) rest fault) place h));
     }
+
+-- ---- some words of a frame
+
+pub words_come : (frame : OpenFrame) (old come run : List ℕ) → old ≡ frame.words.value → come ≡ frame_words (take frame.filled old) ++ run
+    → come ≡ words_begun frame ++ run
+words_come frame old come run is e = e ∙ ap (λ (words : List ℕ). frame_words (take frame.filled words) ++ run) is
+
+-- what is ahead of some words is ahead of the frame that they go into
+run_faults : (parts : Parts) (opened : Opened) (frame : OpenFrame) (run words rest : List ℕ) (fault : Format) → words ≡ words_begun frame ++ run
+    → AtWords parts opened frame.number (words ++ rest) fault → Ahead (Words parts opened frame) (run ++ rest) fault
+run_faults parts opened frame run words rest fault is h =
+    subst (λ (l : List ℕ). AtWords parts opened frame.number l fault)
+    (ap (λ (l : List ℕ). l ++ rest) is ∙ append_assoc (words_begun frame) run rest) h
+
+run_said : (parts : Parts) (opened : Opened) (frame : OpenFrame) (run words : List ℕ) → words ≡ words_begun frame ++ run
+    → frame_begun parts opened frame.number ++ words ≡ said (Words parts opened frame) ++ run
+run_said parts opened frame run words is =
+    ap (λ (l : List ℕ). frame_begun parts opened frame.number ++ l) is
+    ∙ sym (append_assoc (frame_begun parts opened frame.number) (words_begun frame) run)
+
+-- words are left
+pub run_taken : (parts : Parts) (opened : Opened) (frame next : OpenFrame) (run : List ℕ) → IsReady (Words parts opened frame)
+    → next.number ≡ frame.number → IsFrame next.words.value → next.filled < 512 → words_begun next ≡ words_begun frame ++ run
+    → HasRead (said (Words parts opened frame) ++ run) (λ rest fault. Ahead (Words parts opened frame) (run ++ rest) fault) (Words parts opened next)
+run_taken parts opened frame next run ready same whole few is = record {
+  ready = (
+    ready.0,
+    omega (arith, same, ready.1),
+    subst (AreBelow opened) (sym same) ready.2,
+    whole,
+    few,
+  );
+  bytes_are = ap (λ (n : ℕ). frame_begun parts opened n ++ words_begun next) same ∙ run_said parts opened frame run (words_begun next) is;
+  faults = λ rest fault h. run_faults parts opened frame run (words_begun next) rest fault is
+      (subst (λ (n : ℕ). AtWords parts opened n (words_begun next ++ rest) fault) same h);
+}
+
+-- no word is left
+pub frame_taken : (parts : Parts) (opened : Opened) (frame : OpenFrame) (words run : List ℕ) (filled : ℕ) (reader : Reader) → IsFrame words → filled ≡ 512
+    → frame_words (take filled words) ≡ words_begun frame ++ run
+    → HasRead (frame_begun parts opened frame.number ++ frame_words words)
+    (λ rest fault. AtWords parts opened frame.number (frame_words words ++ rest) fault) reader
+    → HasRead (said (Words parts opened frame) ++ run) (λ rest fault. Ahead (Words parts opened frame) (run ++ rest) fault) reader
+frame_taken parts opened frame words run filled reader whole full is has =
+    let all : frame_words words ≡ words_begun frame ++ run =
+    ap frame_words (sym (take_all filled words (omega (arith, full, whole.whole)))) ∙ is in
+    goes_on reader _ _ _ _ has (run_said parts opened frame run (frame_words words) all)
+    (λ rest fault h. run_faults parts opened frame run (frame_words words) rest fault all h)
 
 -- ---- the head of a dump
 

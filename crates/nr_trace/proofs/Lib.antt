@@ -23,6 +23,7 @@ pub mod LawsOfFaults
 pub mod LawsOfDumps
 pub mod LawsOfSteps
 pub mod OnlySpelled
+pub mod LawsOfPieces
 pub mod Images
 pub mod Written
 pub mod Framed

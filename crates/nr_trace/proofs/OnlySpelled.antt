@@ -15,7 +15,7 @@ use Rattle.nr_trace.proofs.LawsOfFormat.{no_fault}
 use Rattle.nr_trace.proofs.LawsOfSpelling.{one_trace}
 
 -- what is settled is so where nothing comes after
-settled_now : (bytes : List ℕ) (fail : Fail Format) → IfRefused (IsSettled bytes) fail → IfRefused (HasFormatFault bytes) fail
+pub settled_now : (bytes : List ℕ) (fail : Fail Format) → IfRefused (IsSettled bytes) fail → IfRefused (HasFormatFault bytes) fail
 settled_now bytes Memory h = tt
 settled_now bytes (Refused fault) h = subst (λ (l : List ℕ). HasFormatFault l fault) (append-nil bytes) (h [])
 

@@ -1,22 +1,26 @@
 -- A reader where bytes are missing, or stand after the end.
-use Rattle.std.proofs.Common.{◌≡◌, ◌≢◌, ℕ, zero, suc, ◌+◌, ◌-◌, ◌<◌, ◌≤◌, Bool, true, false, List, [], ◌++◌, length, Option, Some, None, refl, sym, ap, subst}
+use Rattle.std.proofs.Common.{◌≡◌, ◌≢◌, ℕ, zero, suc, ◌+◌, ◌*◌, ◌-◌, ◌<◌, ◌≤◌, Bool, true, false, List, [], ◌++◌, length, take, Option, Some, None, refl, sym, ap, subst}
 use Rattle.std.proofs.Common.{◌∙◌, arith, inl, append_assoc}
-use Rattle.std.specs.Prelude.{nat_lt, if◌then◌else◌}
+use Rattle.std.specs.Prelude.{nat_lt, if◌then◌else◌, MatchOption}
 use Rattle.std.proofs.lemmas.Bool.{ltb-true, ltb-false}
-use Rattle.std.proofs.lemmas.List.{append-nil}
+use Rattle.std.proofs.lemmas.List.{append-nil, length-append, length-take-le}
+use Rattle.std.specs.Int.{w64, to_be_bytes}
 use Rattle.vs_types.specs.Config.{Layout}
+use Rattle.vs_types.specs.Frame.{IsFrame}
 use Rattle.vs_types.specs.declared.refusal.Fail.{Fail}
 use Rattle.vs_types.specs.declared.refusal.Fail.TheVariants as fails
 use Rattle.nr_trace.specs.Recording.{Recording}
 use Rattle.nr_trace.specs.Spelling.{Spells}
 use Rattle.nr_trace.specs.FirstFault.{AtFrames, AtDumps, AtEvents, AtLog, HasFormatFault}
-use Rattle.nr_trace.specs.inside.Progress.{unit_bytes, said, Ahead, IsReady, HasRead, IsFault}
+use Rattle.nr_trace.specs.inside.Progress.{unit_bytes, said, words_begun, Ahead, IsReady, IsRun, HasRead, IsFault}
 use Rattle.vs_types.specs.Refusal.{IfRefused}
 use Rattle.nr_trace.specs.declared.fault.Format.{Format}
 use Rattle.nr_trace.specs.declared.fault.Format.TheVariants.{Truncated, Trailing}
+use Rattle.nr_trace.specs.declared.reading.parts.OpenFrame.{OpenFrame}
 use Rattle.nr_trace.specs.declared.reading.parts.Reader.{Reader}
 use Rattle.nr_trace.specs.declared.reading.parts.Reader.TheVariants.{Magic, Version, Header, Log, Events, Dumps, Frame, Words}
 use Rattle.nr_trace.specs.declared.version.Version as versions
+use Rattle.nr_trace.proofs.LawsOfUnits.{length_of_units}
 
 -- ---- the rest is shorter than the next unit
 
@@ -54,6 +58,9 @@ unfolding AtFrames
 short_frame replica index zero last Behind rest some short = absurd (omega arith)
 short_frame replica index (suc frames) last Behind rest some short = inl (short, refl)
 
+length_begun : (frame : OpenFrame) → IsFrame frame.words.value → frame.filled < 512 → length (words_begun frame) ≡ 8 * frame.filled
+length_begun frame whole few = length_of_units (to_be_bytes w64) 8 (λ n. refl) (take frame.filled frame.words.value) ∙ ap (λ n. 8 * n) (length-take-le frame.filled frame.words.value (omega (arith, whole.whole)))
+
 pub too_short : (reader : Reader) (len : ℕ) (rest : List ℕ) → IsReady reader → unit_bytes reader ≡ Some len → length rest < len → Ahead reader rest Truncated
 too_short (Magic alloc) len rest ready is short = inl (omega (arith, some_is 4 len is), refl)
 too_short (Version alloc) len rest ready is short = inl (omega (arith, some_is 2 len is), refl)
@@ -67,7 +74,8 @@ too_short (Dumps parts) len rest ready is short =
     short_head (length parts.dumps.items + 0) (parts.config.replicas - (length parts.dumps.items + 0)) rest (omega arith) (omega (arith, given.1))
 too_short (Frame parts opened last) len rest ready is short =
     short_frame (length parts.dumps.items) _ opened.left last _ rest ready.0.some_left (omega (arith, some_is 8 len is))
-too_short (Words parts opened number) len rest ready is short = inl (omega (arith, some_is 4096 len is), refl)
+too_short (Words parts opened frame) len rest ready is short =
+    inl (omega (arith, some_is 8 len is, ready.4, length-append (words_begun frame) rest, length_begun frame ready.3 ready.4), refl)
 
 -- ---- no unit is left
 
@@ -85,7 +93,7 @@ too_long (Dumps parts) rest is more =
     let all : parts.config.replicas ≤ length parts.dumps.items = ltb-false _ _ (not_chosen (nat_lt (length parts.dumps.items) parts.config.replicas) 16 is) in
     at_end (length parts.dumps.items + 0) (parts.config.replicas - (length parts.dumps.items + 0)) rest (omega arith) more
 too_long (Frame parts opened last) rest is more = absurd cc
-too_long (Words parts opened number) rest is more = absurd cc
+too_long (Words parts opened frame) rest is more = absurd cc
 
 pub some_bytes : (reader : Reader) (len : ℕ) → unit_bytes reader ≡ Some len → 1 ≤ len
 some_bytes (Magic alloc) len is = omega (arith, some_is 4 len is)
@@ -95,7 +103,7 @@ some_bytes (Log parts places events) len is = omega (arith, some_is 4 len is)
 some_bytes (Events parts events) len is = omega (arith, some_is 24 len is)
 some_bytes (Dumps parts) len is = omega (arith, (chosen (nat_lt (length parts.dumps.items) parts.config.replicas) 16 len is).1)
 some_bytes (Frame parts opened last) len is = omega (arith, some_is 8 len is)
-some_bytes (Words parts opened number) len is = omega (arith, some_is 4096 len is)
+some_bytes (Words parts opened frame) len is = omega (arith, some_is 8 len is)
 
 -- a reader of which no unit is left has read a trace
 pub ready_to_end : (reader : Reader) → IsReady reader → unit_bytes reader ≡ None → (trace : Recording) × Spells (said reader) trace
@@ -122,4 +130,29 @@ ready_to_end (Dumps parts) ready is =
       },
     )
 ready_to_end (Frame parts opened last) ready is = absurd cc
-ready_to_end (Words parts opened number) ready is = absurd cc
+ready_to_end (Words parts opened frame) ready is = absurd cc
+
+-- ---- runs
+
+-- one unit is a run
+pub one_unit : (reader : Reader) (len : ℕ) → IsReady reader → unit_bytes reader ≡ Some len → IsRun reader len
+one_unit (Magic alloc) len ready is = sym (some_is 4 len is)
+one_unit (Version alloc) len ready is = sym (some_is 2 len is)
+one_unit (Header alloc version) len ready is = sym (some_is 14 len is)
+one_unit (Log parts places events) len ready is = sym (some_is 4 len is)
+one_unit (Events parts events) len ready is = sym (some_is 24 len is)
+one_unit (Dumps parts) len ready is =
+    let given = chosen (nat_lt (length parts.dumps.items) parts.config.replicas) 16 len is in
+    (ltb-true _ _ given.0, sym given.1)
+one_unit (Frame parts opened last) len ready is = sym (some_is 8 len is)
+one_unit (Words parts opened frame) len ready is = record {
+  count = 1;
+  some = omega arith;
+  few = omega (arith, ready.4);
+  all = omega (arith, some_is 8 len is);
+}
+
+pub alone : (reader : Reader) (have : ℕ) (next : Option ℕ) → IsReady reader → next ≡ unit_bytes reader
+    → MatchOption next (unit_bytes reader ≡ None) (λ len. IsRun reader len × (have < len → unit_bytes reader ≡ Some len))
+alone reader have None ready is = sym is
+alone reader have (Some len) ready is = (one_unit reader len ready (sym is), λ _. sym is)

@@ -1,5 +1,5 @@
 -- A trace that comes in pieces: what a feed has come to, and what a piece and the end make of it.
-use Rattle.std.specs.Prelude.{◌≡◌, ◌++◌, ℕ, List, Result, Ok, Err, MatchResult}
+use Rattle.std.specs.Prelude.{◌≡◌, ◌++◌, ℕ, List, [], ◌∷◌, Result, Ok, Err, MatchResult}
 use Rattle.vs_types.specs.Refusal.{IfRefused}
 use Rattle.vs_types.specs.declared.refusal.Fail.{Fail}
 use Rattle.vs_types.specs.declared.refusal.Fail.TheVariants.{Refused}
@@ -32,3 +32,12 @@ Feeds (Stopped fail) piece new result = (new ≡ Stopped fail) × (result ≡ Er
 abbrev pub Ends : Fed → Result Recording (Fail Format) → Type 0
 Ends (Taken bytes) result = MatchResult result (Spells bytes) (λ fail. (fail ≡ Refused Truncated) × HasFormatFault bytes Truncated)
 Ends (Stopped fail) result = result ≡ Err fail
+
+-- what a feed comes to after these pieces, one after the other
+abbrev pub FeedsAll : Fed → List (List ℕ) → Fed → Type 0
+FeedsAll old [] new = new ≡ old
+FeedsAll old (piece ∷ more) new = (next : Fed) × (result : Result (Unit {0}) (Fail Format)) × Feeds old piece next result × FeedsAll next more new
+
+-- what a reading of the bytes may give: a trace that they spell, a fault that they have, or out of memory
+abbrev pub Reads : List ℕ → Result Recording (Fail Format) → Type 0
+Reads bytes result = MatchResult result (Spells bytes) (IfRefused (HasFormatFault bytes))

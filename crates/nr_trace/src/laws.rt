@@ -1,13 +1,18 @@
 //! Laws of the definitions in `specs/`. Each function does nothing: its clauses say what holds of all bytes and all
 //! recordings.
 
-ghost use Rattle.std.specs.Prelude.{◌≡◌, ◌≤◌, ◌+◌, ℕ, max, ◌⊎◌, ◌↔◌, length, slice_get, take, Contains, List, None, Some};
+ghost use Rattle.std.specs.Prelude.{◌≡◌, ◌≢◌, ◌≤◌, ◌+◌, ℕ, max, ◌⊎◌, ◌↔◌, length, slice_get, take, Contains, List, [], None, Some, Result, Err};
+ghost use Rattle.std.specs.List.{concat};
 ghost use Rattle.vs_walk.specs.Dump.{Image};
+ghost use Rattle.vs_types.specs.declared.refusal.Fail.{Fail};
+ghost use Rattle.vs_types.specs.declared.refusal.Fail.TheVariants.{Memory};
 ghost use Rattle.vs_types.specs.Space.{no_pages};
 ghost use Rattle.vs_types.specs.Step.{step};
 ghost use Rattle.vs_types.specs.declared.op.Action.{Action};
 ghost use Rattle.nr_trace.specs.Calls.{operation_of, reply_of, reply_to, Response};
 ghost use Rattle.nr_trace.specs.FirstFault.{HasFormatFault};
+ghost use Rattle.nr_trace.specs.Feed.{Ends, Fed, FeedsAll, Reads};
+ghost use Rattle.nr_trace.specs.Feed.Fed.{Taken};
 ghost use Rattle.nr_trace.specs.Faults.{Earlier, Holds, IsFirst, IsFirstOf, StandsAfter};
 ghost use Rattle.nr_trace.specs.Laws.{HasCleanLog, HasRank, IsFaultless, IsSerialOrder, Stands};
 ghost use Rattle.nr_trace.specs.Orders.{before, floor, known_by, recorded_order, space_after, updates, FitsOrder, IsLegalOrder};
@@ -36,6 +41,15 @@ pub fn one_format_fault()
 /// Bytes that spell a trace have no fault of the format.
 pub fn no_fault_of_a_spelling()
     ensures { (bytes : List ℕ) (trace : Recording) (fault : Format) → Spells bytes trace → HasFormatFault bytes fault → ⊥ }
+{}
+
+/// A feed that starts with nothing and is fed some pieces one after another ends as a reading of their bytes joined; and two
+/// readings of the same bytes give the same trace or the same fault, but for those that run out of memory.
+pub fn pieces_are_read_as_one()
+    ensures joined { (pieces : List (List ℕ)) (fed : Fed) (result : Result Recording (Fail Format)) → FeedsAll (Taken []) pieces fed → Ends fed result
+        → Reads (concat pieces) result }
+    ensures one { (bytes : List ℕ) (first second : Result Recording (Fail Format)) → Reads bytes first → Reads bytes second
+        → first ≢ Err Memory → second ≢ Err Memory → first ≡ second }
 {}
 
 /// Where no fault holds of the events, the log and the replies' places, and no answer is wrong, the recorded order is

@@ -7,6 +7,7 @@ mod fields;
 mod header;
 mod parts;
 mod places;
+mod room;
 mod whole;
 mod words;
 

@@ -1,5 +1,5 @@
 -- How far a reader has come: what it has read, and what would be wrong with the bytes ahead.
-use Rattle.std.specs.Prelude.{◌≡◌, ℕ, ◌+◌, ◌-◌, ◌<◌, ◌≤◌, ◌^◌, ◌++◌, nat_lt, List, [], length, flat_map, All, Option, Some, None, Result, MatchResult, ⊤}
+use Rattle.std.specs.Prelude.{◌≡◌, ℕ, ◌+◌, ◌*◌, ◌-◌, ◌<◌, ◌≤◌, ◌^◌, ◌++◌, nat_lt, List, [], length, take, flat_map, All, Option, Some, None, Result, MatchResult, ⊤}
 use Rattle.std.specs.Prelude.{if◌then◌else◌}
 use Rattle.std.specs.FinMap as finite
 use Rattle.vs_types.specs.Config.{IsLayout}
@@ -14,6 +14,7 @@ use Rattle.nr_trace.specs.FirstFault.{AtUnit, AtVersion, AtCounts, AtLog, AtEven
 use Rattle.nr_trace.specs.declared.fault.Format.{Format}
 use Rattle.nr_trace.specs.declared.reading.parts.Parts.{Parts}
 use Rattle.nr_trace.specs.declared.reading.parts.Opened.{Opened}
+use Rattle.nr_trace.specs.declared.reading.parts.OpenFrame.{OpenFrame}
 use Rattle.nr_trace.specs.declared.reading.parts.Reader.{Reader}
 use Rattle.nr_trace.specs.declared.reading.parts.Reader.TheVariants.{Magic, Version, Header, Log, Events, Dumps, Frame, Words}
 
@@ -26,7 +27,25 @@ unit_bytes (Log parts places events) = Some 4
 unit_bytes (Events parts events) = Some 24
 unit_bytes (Dumps parts) = if nat_lt (length parts.dumps.items) parts.config.replicas then Some 16 else None
 unit_bytes (Frame parts opened last) = Some 8
-unit_bytes (Words parts opened number) = Some 4096
+unit_bytes (Words parts opened frame) = Some 8
+
+-- at least one unit of this many bytes, and at most so many
+pub record AreUnits (unit most bytes : ℕ) : Type 0 where
+  pub count : ℕ
+  pub some : 1 ≤ count
+  pub few : count ≤ most
+  pub all : bytes ≡ unit * count
+
+-- so many bytes are a run
+abbrev pub IsRun : Reader → ℕ → Type 0
+IsRun (Magic alloc) bytes = bytes ≡ 4
+IsRun (Version alloc) bytes = bytes ≡ 2
+IsRun (Header alloc version) bytes = bytes ≡ 14
+IsRun (Log parts places events) bytes = bytes ≡ 4
+IsRun (Events parts events) bytes = bytes ≡ 24
+IsRun (Dumps parts) bytes = (length parts.dumps.items < parts.config.replicas) × (bytes ≡ 16)
+IsRun (Frame parts opened last) bytes = bytes ≡ 8
+IsRun (Words parts opened frame) bytes = AreUnits 8 (512 - frame.filled) bytes
 
 -- the spelling of the parts, where there are so many places and events in all
 abbrev pub parts_spelling : ℕ → ℕ → Parts → List ℕ
@@ -43,6 +62,13 @@ opened_spelling opened =
     dump_head (record { applied = opened.dump.applied; frames = finite.len opened.dump.frames + opened.left; root = opened.dump.root })
     ++ flat_map (λ frame. frame_number frame.0 ++ frame_words frame.1) (finite.entries opened.dump.frames)
 
+-- the same up to the words of the next frame, and the words of it that have come
+abbrev pub frame_begun : Parts → Opened → ℕ → List ℕ
+frame_begun parts opened number = whole_spelling parts ++ opened_spelling opened ++ frame_number number
+
+abbrev pub words_begun : OpenFrame → List ℕ
+words_begun frame = frame_words (take frame.filled frame.words.value)
+
 -- the bytes that were read
 abbrev pub said : Reader → List ℕ
 said (Magic alloc) = []
@@ -52,11 +78,18 @@ said (Log parts places events) = parts_spelling (length parts.log.items + places
 said (Events parts events) = parts_spelling (length parts.log.items) (length parts.events.items + events) parts
 said (Dumps parts) = whole_spelling parts
 said (Frame parts opened last) = whole_spelling parts ++ opened_spelling opened
-said (Words parts opened number) = whole_spelling parts ++ opened_spelling opened ++ frame_number number
+said (Words parts opened frame) = frame_begun parts opened frame.number ++ words_begun frame
 
 -- the faults of the bytes after the dumps that there are
 abbrev pub BehindDumps : Parts → ℕ → List ℕ → Format → Type 0
 BehindDumps parts more = AtDumps (length parts.dumps.items + more) (parts.config.replicas - (length parts.dumps.items + more))
+
+-- the faults of the bytes after the number of a frame
+abbrev pub AtWords : Parts → Opened → ℕ → List ℕ → Format → Type 0
+AtWords parts opened number rest fault =
+    AtUnit 4096 None IsFrame frame_words (λ words.
+    AtFrames (length parts.dumps.items) (finite.len opened.dump.frames + 1) (opened.left - 1) (Some number) (BehindDumps parts 1))
+    rest fault
 
 -- the fault of the bytes ahead
 abbrev pub Ahead : Reader → List ℕ → Format → Type 0
@@ -68,10 +101,7 @@ Ahead (Events parts events) rest fault = AtEvents parts.version parts.config (le
 Ahead (Dumps parts) rest fault = BehindDumps parts 0 rest fault
 Ahead (Frame parts opened last) rest fault =
     AtFrames (length parts.dumps.items) (finite.len opened.dump.frames) opened.left last (BehindDumps parts 1) rest fault
-Ahead (Words parts opened number) rest fault =
-    AtUnit 4096 None IsFrame frame_words (λ words.
-    AtFrames (length parts.dumps.items) (finite.len opened.dump.frames + 1) (opened.left - 1) (Some number) (BehindDumps parts 1))
-    rest fault
+Ahead (Words parts opened frame) rest fault = AtWords parts opened frame.number (words_begun frame ++ rest) fault
 
 -- parts in their ranges
 pub record AreInRange (parts : Parts) : Type 0 where
@@ -109,7 +139,8 @@ IsReady (Log parts places events) =
 IsReady (Events parts events) = AreInRange parts × (1 ≤ events) × (length parts.events.items + events ≤ CALLS) × (parts.dumps.items ≡ [])
 IsReady (Dumps parts) = AreInRange parts
 IsReady (Frame parts opened last) = IsOpened parts opened × ((number : ℕ) → IsNext last number → AreBelow opened number)
-IsReady (Words parts opened number) = IsOpened parts opened × (number < 2 ^ 40) × AreBelow opened number
+IsReady (Words parts opened frame) =
+    IsOpened parts opened × (frame.number < 2 ^ 40) × AreBelow opened frame.number × IsFrame frame.words.value × (frame.filled < 512)
 
 -- the reader has read these bytes, and a fault of the bytes ahead is one by this relation
 pub record HasRead (bytes : List ℕ) (Behind : List ℕ → Format → Type 0) (reader : Reader) : Type 0 where
@@ -122,8 +153,8 @@ abbrev pub IsFault : (List ℕ → Format → Type 0) → Fail Format → Type 0
 IsFault Behind Memory = ⊤
 IsFault Behind (Refused fault) = (rest : List ℕ) → Behind rest fault
 
--- a reader took a unit, or refused it
+-- a reader took a run, or refused it
 abbrev pub Takes : Reader → List ℕ → Result Reader (Fail Format) → Type 0
-Takes reader unit result =
-    MatchResult result (HasRead (said reader ++ unit) (λ rest fault. Ahead reader (unit ++ rest) fault))
-    (IsFault (λ rest fault. Ahead reader (unit ++ rest) fault))
+Takes reader run result =
+    MatchResult result (HasRead (said reader ++ run) (λ rest fault. Ahead reader (run ++ rest) fault))
+    (IsFault (λ rest fault. Ahead reader (run ++ rest) fault))

@@ -30,12 +30,12 @@ fn take_units(reader: Reader, bytes: &[u8]) -> Result<(Reader, &[u8]), Fail<Form
 {
     let mut reader = reader;
     let mut rest = bytes;
-    while let Some(len) = reader.unit_len() {
+    while let Some(len) = reader.run_len(rest.len()) {
         if rest.len() < len {
             return Ok((reader, rest));
         }
-        let (unit, behind) = rest.split_at(len);
-        reader = reader.take_unit(unit)?;
+        let (run, behind) = rest.split_at(len);
+        reader = reader.take_run(run)?;
         rest = behind;
     }
     if !rest.is_empty() {
@@ -70,7 +70,7 @@ fn take_piece(reader: Reader, mut begun: Vec<u8>, piece: &[u8]) -> Result<State,
             }
             let (front, behind) = piece.split_at(missing);
             begun.extend_from_slice(front)?;
-            let reader = reader.take_unit(&begun)?;
+            let reader = reader.take_run(&begun)?;
             begun.clear();
             take_bytes(reader, begun, behind)
         }

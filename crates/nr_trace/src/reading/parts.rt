@@ -1,6 +1,6 @@
 //! How far a trace is read.
 
-ghost use Rattle.std.specs.Prelude.{◌≡◌, ◌++◌, [], length};
+ghost use Rattle.std.specs.Prelude.{◌≡◌, ◌≤◌, ◌<◌, ◌++◌, [], length, None, Some, MatchOption};
 
 use crate::event::Event;
 use crate::fault::Format;
@@ -9,7 +9,8 @@ use crate::reading::places::{take_event, take_header, take_magic, take_place, ta
 use crate::trace::Trace;
 use crate::version::Version;
 use std::alloc::Global;
-use vs_types::{Config, Fail};
+use std::cmp::{max, min};
+use vs_types::{Config, FRAME_WORDS, Fail};
 use vs_walk::Dump;
 
 /// What is read of a trace after its header.
@@ -30,7 +31,26 @@ pub(crate) struct Opened {
     pub(crate) left: u32,
 }
 
-/// A reader of a trace that takes one whole unit at a time, named by the unit that comes next.
+/// A frame that lacks its last words: its number, its words with zeros for those, and how many have come.
+#[derive(Drop)]
+pub(crate) struct OpenFrame {
+    pub(crate) number: u64,
+    pub(crate) words: Box<[u64; FRAME_WORDS]>,
+    pub(crate) filled: usize,
+}
+
+/// How many units a run has, where this many are whole and there are at most so many: all of these, but at least one.
+fn units_of(whole: usize, most: usize) -> usize
+    requires { 1 ≤ most }
+    ensures some { 1 ≤ result }
+    ensures few { result ≤ most }
+    ensures whole { (1 ≤ whole → result ≤ whole) × (whole ≡ 0 → result ≡ 1) }
+{
+    max(1, min(whole, most))
+}
+
+/// A reader of a trace that takes whole units, named by the unit that comes next. What it takes at a time is a run: one
+/// unit, or some words of a frame, a unit each.
 #[derive(Drop)]
 pub(crate) enum Reader {
     Magic(Global),
@@ -44,14 +64,14 @@ pub(crate) enum Reader {
     Dumps(Parts),
     /// The number of a frame; the one before it.
     Frame(Parts, Opened, Option<u64>),
-    /// The words of the frame of this number.
-    Words(Parts, Opened, u64),
+    /// The next words of a frame.
+    Words(Parts, Opened, OpenFrame),
 }
 
 impl Reader {
     ghost use Rattle.nr_trace.specs.Spelling.{Spells};
     ghost use Rattle.nr_trace.specs.FirstFault.{HasFormatFault};
-    ghost use Rattle.nr_trace.specs.inside.Progress.{unit_bytes, said, HasRead, IsReady, Takes};
+    ghost use Rattle.nr_trace.specs.inside.Progress.{unit_bytes, said, HasRead, IsReady, IsRun, Takes};
 
     /// A reader at the beginning of a trace. It takes no memory.
     pub(crate) fn new(alloc: Global) -> Reader
@@ -78,26 +98,40 @@ impl Reader {
                 }
             }
             Reader::Frame(_, _, _) => Some(8),
-            Reader::Words(_, _, _) => Some(4096),
+            Reader::Words(_, _, _) => Some(8),
         }
     }
 
-    /// Takes the next unit, which has to have its length. It takes memory for what the unit says. A refusal is the
-    /// fault of any bytes that begin with what was taken so far and this unit.
-    pub(crate) fn take_unit(self, unit: &[u8]) -> Result<Reader, Fail<Format>>
-        requires ready { IsReady self }
-        requires whole { unit_bytes self ≡ Some (length unit.now) }
-        ensures { Takes self unit.now result }
+    /// How many bytes the next run has, of so many that there are: those of its whole units, else those of one unit;
+    /// `None` at the end.
+    pub(crate) fn run_len(&self, have: usize) -> Option<usize>
+        requires { IsReady self.now }
+        ensures { MatchOption result (unit_bytes self.now ≡ None) (λ len. IsRun self.now len × (have < len → unit_bytes self.now ≡ Some len)) }
     {
         match self {
-            Reader::Magic(alloc) => take_magic(alloc, unit),
-            Reader::Version(alloc) => take_version(alloc, unit),
-            Reader::Header(alloc, version) => take_header(alloc, version, unit),
-            Reader::Log(parts, places, events) => take_place(parts, places, events, unit),
-            Reader::Events(parts, events) => take_event(parts, events, unit),
-            Reader::Dumps(parts) => take_dump_head(parts, unit),
-            Reader::Frame(parts, opened, last) => take_frame_number(parts, opened, last, unit),
-            Reader::Words(parts, opened, number) => take_words(parts, opened, number, unit),
+            Reader::Words(_, _, frame) => {
+                Some(8 * units_of(have / 8, FRAME_WORDS - frame.filled))
+            }
+            _ => self.unit_len(),
+        }
+    }
+
+    /// Takes the next run. It takes memory for what it says. A refusal is the fault of any bytes that begin with what
+    /// was taken so far and this run.
+    pub(crate) fn take_run(self, run: &[u8]) -> Result<Reader, Fail<Format>>
+        requires ready { IsReady self }
+        requires run { IsRun self (length run.now) }
+        ensures { Takes self run.now result }
+    {
+        match self {
+            Reader::Magic(alloc) => take_magic(alloc, run),
+            Reader::Version(alloc) => take_version(alloc, run),
+            Reader::Header(alloc, version) => take_header(alloc, version, run),
+            Reader::Log(parts, places, events) => take_place(parts, places, events, run),
+            Reader::Events(parts, events) => take_event(parts, events, run),
+            Reader::Dumps(parts) => take_dump_head(parts, run),
+            Reader::Frame(parts, opened, last) => take_frame_number(parts, opened, last, run),
+            Reader::Words(parts, opened, frame) => take_words(parts, opened, frame, run),
         }
     }
 

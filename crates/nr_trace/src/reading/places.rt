@@ -10,6 +10,7 @@ use crate::reading::event::event_of;
 use crate::reading::fields::{take_u16, take_u32};
 use crate::reading::header::counts_of;
 use crate::reading::parts::{Parts, Reader};
+use crate::reading::room::make_room;
 use crate::version::Version;
 use std::alloc::Global;
 use vs_types::Fail;
@@ -101,6 +102,7 @@ pub(crate) fn take_place(
     ensures { Takes (Reader.Log parts places events) unit.now result }
 {
     let (call, _) = take_u32(unit);
+    make_room(&mut parts.log, 1, places as usize)?;
     parts.log.push(call)?;
     Ok(at_log(parts, places - 1, events))
 }
@@ -112,6 +114,7 @@ pub(crate) fn take_event(mut parts: Parts, events: u32, unit: &[u8]) -> Result<R
 {
     match event_of(parts.version, parts.config, unit) {
         Some(event) => {
+            make_room(&mut parts.events, 1, events as usize)?;
             parts.events.push(event)?;
             Ok(at_events(parts, events - 1))
         }

@@ -1,4 +1,4 @@
-use Rattle.std.proofs.Common.{◌≡◌, ℕ, ◌++◌, [], length, true, sym, subst, ◌∙◌, arith}
+use Rattle.std.proofs.Common.{◌≡◌, ℕ, ◌++◌, [], length, true, refl, sym, subst, ◌∙◌, arith}
 use Rattle.std.specs.FinMap as finite
 use Rattle.nr_trace.specs.FirstFault.{AtFrames, IsNext}
 use Rattle.nr_trace.specs.Spelling.{frame_number}
@@ -11,9 +11,10 @@ use Rattle.nr_trace.proofs.reading.dumps.take_frame_number.Goals as goal
 
 pub returns-then-is_next : goal.returns-then-is_next
 returns-then-is_next c =
-    number_taken c.args.parts c.args.opened c.args.last c.take_u64-number.result.0 c.args.unit.now c.requires.ready.0 c.requires.ready.1
+    number_taken c.args.parts c.args.opened c.args.last
+    record { number = c.take_u64-number.result.0; words = c.in_ok-words.words; filled = 0 } c.args.unit.now c.requires.ready.0 c.requires.ready.1
     (c.is_next.ensures.0 c.if-is_next.true)
-    (only_front c.args.unit.now _ _ c.take_u64-number.ensures c.requires.whole)
+    (only_front c.args.unit.now _ _ c.take_u64-number.ensures c.requires.whole) refl c.in_ok-words.ensures
 
 pub returns : goal.returns
 returns c = λ rest.

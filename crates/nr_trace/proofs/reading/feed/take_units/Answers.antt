@@ -22,5 +22,5 @@ loop-len-preserved c =
 
 pub returns-then-not-is_empty : goal.returns-then-not-is_empty
 returns-then-not-is_empty c =
-    trailing (said c.args.reader ++ c.args.bytes.now) c.loop-len.reader c.loop-len.rest.now c.loop-len.invariant (sym c.in_default.ensures)
+    trailing (said c.args.reader ++ c.args.bytes.now) c.loop-len.reader c.loop-len.rest.now c.loop-len.invariant c.in_default.ensures
     (λ none. let same : false ≡ true = c.if-not-is_empty.ensures ∙ ap (λ (l : List ℕ). length l == 0) none in absurd cc)

@@ -1,5 +1,6 @@
-use Rattle.std.proofs.Common.{length, ◌++◌, ◌∙◌, sym, subst}
+use Rattle.std.proofs.Common.{List, [], ◌∷◌, length, ◌++◌, ◌∙◌, ap, sym, subst}
 use Rattle.nr_trace.specs.FirstFault.{AtEvents}
+use Rattle.nr_trace.specs.declared.event.Event.{Event}
 use Rattle.nr_trace.specs.declared.fault.Format.TheVariants.{BadEvent}
 use Rattle.nr_trace.proofs.Taken.{event_taken}
 use Rattle.nr_trace.proofs.Units.{event_refused}
@@ -10,7 +11,8 @@ returns-in_ok-push-in-Some c =
     let parts = c.args.parts in
     event_taken parts.version parts.config c.args.events parts.log.items parts.events.items c.push.new.self.items c.in-Some.event parts.dumps.items
     c.args.unit.now c.at_events.result
-    c.requires.ready.1 c.requires.ready.3 c.in_ok-push-in-Some.ensures.items c.in-Some.ensures c.at_events.ensures
+    c.requires.ready.1 c.requires.ready.3
+    (c.in_ok-push-in-Some.ensures.items ∙ ap (λ (l : List Event). l ++ c.in-Some.event ∷ []) c.make_room.ensures.same) c.in-Some.ensures c.at_events.ensures
 
 pub returns-in-None : goal.returns-in-None
 returns-in-None c = λ rest.
