@@ -22,7 +22,9 @@ pub fn resolve_read(
     address: u64,
     replica: u8,
 ) -> Result<Report, ProgFault>
-    ensures { (bytes : List ℕ) → IsReadFrom bytes read → MatchResult result (λ report. IsWalk address replica bytes (string_bytes report.text) report.status) (IsWalkFault bytes address replica) }
+    ensures { (bytes : List ℕ) → IsReadFrom bytes read → MatchResult result
+        (λ report. IsWalk address replica bytes (string_bytes report.text) report.status)
+        (IsWalkFault bytes address replica) }
 {
     match read {
         Ok(trace) => {
@@ -47,8 +49,8 @@ pub fn resolve_read(
 
 /// Reads a trace, and writes where the walk of an address ends in a replica's dump. It tests the spelling of the
 /// address, then reads, then tests whether the address is canonical at the trace's depth, then the replica. The status is 0,
-/// or 1 where the input spells no trace. It reads in blocks, and stops where the input can't become a trace any more. Where it gives no answer
-/// some input may have been read, and nothing was written but where that failed.
+/// or 1 where the input spells no trace. It reads in blocks, and stops where the input can't become a trace any more. Where
+/// it gives no answer some input may have been read, and nothing was written but where that failed.
 pub fn resolve_io<R: Read + Drop, W: Write>(
     alloc: Global,
     reader: R,

@@ -89,52 +89,61 @@ fn run<S: FrameStore + Drop>(
     Ok(())
 }
 
+/// Runs each case over both stores.
+fn run_all(rt: &impl Abort, alloc: Global, cases: &[Case]) -> Result<(), Fail> {
+    for case in cases {
+        let limit = usize::from(case.limit);
+        assert!(rt; limit <= 4096, "{}", case.name);
+        run(rt, alloc, VecArena::new(alloc, 1 << 39, limit)?, case)?;
+        run(rt, alloc, RawArena::new(alloc, 1 << 39, limit)?, case)?;
+    }
+    Ok(())
+}
+
 #[test]
 fn worked_examples(rt: HostRuntime) -> Result<(), Fail> {
-    let four = |name, limit, rows| Case {
+    let case = |name, limit, rows| Case {
         name,
         depth: Depth::Four,
         limit,
         more: 0,
         rows,
     };
-    // the same calls at five levels: one table more, below the root
-    let deeper = |name, rows| Case {
-        name,
-        depth: Depth::Five,
-        limit: 4096,
-        more: 1,
-        rows,
-    };
-    let five = |name, limit, rows| Case {
+    let cases = [
+        case("both halves", 4096, BOTH_HALVES.as_slice()),
+        case("overlap names the least base", 4096, OVERLAP.as_slice()),
+        case("gigabyte page", 4096, GIGABYTE.as_slice()),
+        case("full names its need", 3, FULL.as_slice()),
+        case("unmap frees tables", 4096, UNMAP.as_slice()),
+        case("protect changes rights", 4096, PROTECT.as_slice()),
+        case("accesses by rights", 4096, ACCESS.as_slice()),
+    ];
+    run_all(&rt, rt.alloc(), cases.as_slice())
+}
+
+// The same calls as at four levels take one table more, below the root.
+#[test]
+fn worked_examples_at_five_levels(rt: HostRuntime) -> Result<(), Fail> {
+    let case = |name, limit, more, rows| Case {
         name,
         depth: Depth::Five,
         limit,
-        more: 0,
+        more,
         rows,
     };
     let cases = [
-        four("both halves", 4096, BOTH_HALVES.as_slice()),
-        four("overlap names the least base", 4096, OVERLAP.as_slice()),
-        four("gigabyte page", 4096, GIGABYTE.as_slice()),
-        four("full names its need", 3, FULL.as_slice()),
-        four("unmap frees tables", 4096, UNMAP.as_slice()),
-        four("protect changes rights", 4096, PROTECT.as_slice()),
-        four("accesses by rights", 4096, ACCESS.as_slice()),
-        deeper("overlap at five levels", OVERLAP.as_slice()),
-        deeper("gigabyte page at five levels", GIGABYTE.as_slice()),
-        deeper("unmap at five levels", UNMAP.as_slice()),
-        deeper("protect at five levels", PROTECT.as_slice()),
-        deeper("accesses at five levels", ACCESS.as_slice()),
-        five("both halves of five", 4096, BOTH_HALVES_OF_FIVE.as_slice()),
-        five("full at five levels", 4, FULL_OF_FIVE.as_slice()),
+        case("overlap at five levels", 4096, 1, OVERLAP.as_slice()),
+        case("gigabyte page at five levels", 4096, 1, GIGABYTE.as_slice()),
+        case("unmap at five levels", 4096, 1, UNMAP.as_slice()),
+        case("protect at five levels", 4096, 1, PROTECT.as_slice()),
+        case("accesses at five levels", 4096, 1, ACCESS.as_slice()),
+        case(
+            "both halves of five",
+            4096,
+            0,
+            BOTH_HALVES_OF_FIVE.as_slice(),
+        ),
+        case("full at five levels", 4, 0, FULL_OF_FIVE.as_slice()),
     ];
-    let alloc = rt.alloc();
-    for case in &cases {
-        let limit = usize::from(case.limit);
-        assert!(rt; limit <= 4096, "{}", case.name);
-        run(&rt, alloc, VecArena::new(alloc, 1 << 39, limit)?, case)?;
-        run(&rt, alloc, RawArena::new(alloc, 1 << 39, limit)?, case)?;
-    }
-    Ok(())
+    run_all(&rt, rt.alloc(), cases.as_slice())
 }

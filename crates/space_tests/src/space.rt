@@ -29,6 +29,11 @@ fn map(
     apply(rt, space, op)
 }
 
+// Maps a page of 4 KiB with all rights.
+fn map_small(rt: &impl Abort, space: &mut Table, base: u64, phys: u64) -> Answer {
+    map(rt, space, base, Size::K4, phys, Rights::ALL)
+}
+
 fn unmap(rt: &impl Abort, space: &mut Table, base: u64) -> Answer {
     let op = Op::unmap(space.depth(), base);
     apply(rt, space, op)
@@ -67,22 +72,8 @@ fn both_halves_of_the_address_space(rt: HostRuntime) -> Result<(), Fail> {
     let mut space = Space::new(VecArena::new(rt.alloc(), BASE, 16)?, Depth::Four)?;
     assert_eq!(rt; space.depth(), Depth::Four);
     assert_eq!(rt; space.tables(), 1);
-    let low = map(
-        &rt,
-        &mut space,
-        0x7FFFFFFFF000,
-        Size::K4,
-        0x2000,
-        Rights::ALL,
-    );
-    let high = map(
-        &rt,
-        &mut space,
-        0xFFFF800000000000,
-        Size::K4,
-        0x3000,
-        Rights::ALL,
-    );
+    let low = map_small(&rt, &mut space, 0x7FFFFFFFF000, 0x2000);
+    let high = map_small(&rt, &mut space, 0xFFFF800000000000, 0x3000);
     assert_eq!(rt; low, Answer::Done);
     assert_eq!(rt; high, Answer::Done);
     assert_eq!(rt; space.tables(), 7);
@@ -101,34 +92,13 @@ fn both_halves_of_the_address_space(rt: HostRuntime) -> Result<(), Fail> {
 fn both_halves_at_five_levels(rt: HostRuntime) -> Result<(), Fail> {
     let mut space = Space::new(VecArena::new(rt.alloc(), BASE, 16)?, Depth::Five)?;
     assert_eq!(rt; space.depth(), Depth::Five);
-    let middle = map(
-        &rt,
-        &mut space,
-        0x800000000000,
-        Size::K4,
-        0x1000,
-        Rights::ALL,
-    );
+    let middle = map_small(&rt, &mut space, 0x800000000000, 0x1000);
     assert_eq!(rt; middle, Answer::Done);
     assert_eq!(rt; space.tables(), 5);
-    let low = map(
-        &rt,
-        &mut space,
-        0xFFFFFFFFFFF000,
-        Size::K4,
-        0x2000,
-        Rights::ALL,
-    );
+    let low = map_small(&rt, &mut space, 0xFFFFFFFFFFF000, 0x2000);
     assert_eq!(rt; low, Answer::Done);
     assert_eq!(rt; space.tables(), 9);
-    let high = map(
-        &rt,
-        &mut space,
-        0xFF00000000000000,
-        Size::K4,
-        0x3000,
-        Rights::ALL,
-    );
+    let high = map_small(&rt, &mut space, 0xFF00000000000000, 0x3000);
     assert_eq!(rt; high, Answer::Done);
     assert_eq!(rt; space.tables(), 13);
     assert_eq!(rt; leads_to(&rt, &space, &[0, 256, 0, 0, 0]), 0x1007);
@@ -174,7 +144,7 @@ fn gigabyte_page_at_five_levels(rt: HostRuntime) -> Result<(), Fail> {
 #[test]
 fn unmap_frees_tables(rt: HostRuntime) -> Result<(), Fail> {
     let mut space = Space::new(VecArena::new(rt.alloc(), BASE, 16)?, Depth::Four)?;
-    let small = map(&rt, &mut space, 0x400000, Size::K4, 0x1000, Rights::ALL);
+    let small = map_small(&rt, &mut space, 0x400000, 0x1000);
     assert_eq!(rt; small, Answer::Done);
     assert_eq!(rt; space.tables(), 4);
     let removed = unmap(&rt, &mut space, 0x400000);
@@ -202,7 +172,7 @@ fn arena_of_two(rt: HostRuntime) -> Result<(), Fail> {
     let arena = VecArena::new(rt.alloc(), BASE, 0)?;
     assert_eq!(rt; Space::new(arena, Depth::Four).err(), Some(NoRoot));
     let mut space = Space::new(VecArena::new(rt.alloc(), BASE, 2)?, Depth::Four)?;
-    let page = map(&rt, &mut space, 0x1000, Size::K4, 0x5000, Rights::ALL);
+    let page = map_small(&rt, &mut space, 0x1000, 0x5000);
     assert_eq!(rt; page, Answer::Full(4));
     assert_eq!(rt; space.tables(), 1);
     Ok(())
@@ -214,14 +184,7 @@ fn two_thousand_tables(rt: HostRuntime) -> Result<(), Fail> {
     for (depth, tables) in [(Depth::Four, 2003), (Depth::Five, 2004)] {
         let mut space = Space::new(VecArena::new(rt.alloc(), BASE, 2004)?, depth)?;
         for number in 0..1000u64 {
-            let done = map(
-                &rt,
-                &mut space,
-                number << 30,
-                Size::K4,
-                number << 12,
-                Rights::ALL,
-            );
+            let done = map_small(&rt, &mut space, number << 30, number << 12);
             assert_eq!(rt; done, Answer::Done);
         }
         assert_eq!(rt; space.tables(), tables);

@@ -1,4 +1,4 @@
-use crate::values::WRITE;
+use crate::values::{EXEC, WRITE};
 use std::alloc::{AllocError, AllocFailed};
 use vs_types::{
     Access, Action, Answer, BadConfig, BadOp, Config, Depth, Entry, Fail, Meaning, Memory, Mode,
@@ -98,50 +98,20 @@ fn requests(rt: HostRuntime) {
 #[test]
 fn accesses(rt: HostRuntime) {
     let written = Answer::Mapped(0x1123, Size::K4, WRITE);
-    let run = Answer::Mapped(
-        0x1123,
-        Size::K4,
-        Rights {
-            exec: true,
-            ..Rights::NONE
-        },
-    );
+    let run = Answer::Mapped(0x1123, Size::K4, EXEC);
+    let none = Answer::NotMapped;
+    let allowed = Answer::Allowed(0x1123);
     let cases = [
-        (
-            written,
-            Mode::Supervisor,
-            Access::Write,
-            Answer::Allowed(0x1123),
-        ),
+        (written, Mode::Supervisor, Access::Write, allowed),
         (written, Mode::User, Access::Read, Answer::Fault(5)),
         (written, Mode::User, Access::Write, Answer::Fault(7)),
         (written, Mode::Supervisor, Access::Fetch, Answer::Fault(17)),
         (written, Mode::User, Access::Fetch, Answer::Fault(21)),
-        (
-            Answer::NotMapped,
-            Mode::Supervisor,
-            Access::Read,
-            Answer::Fault(0),
-        ),
-        (
-            Answer::NotMapped,
-            Mode::User,
-            Access::Write,
-            Answer::Fault(6),
-        ),
-        (
-            Answer::NotMapped,
-            Mode::User,
-            Access::Fetch,
-            Answer::Fault(20),
-        ),
+        (none, Mode::Supervisor, Access::Read, Answer::Fault(0)),
+        (none, Mode::User, Access::Write, Answer::Fault(6)),
+        (none, Mode::User, Access::Fetch, Answer::Fault(20)),
         (run, Mode::Supervisor, Access::Write, Answer::Fault(3)),
-        (
-            run,
-            Mode::Supervisor,
-            Access::Fetch,
-            Answer::Allowed(0x1123),
-        ),
+        (run, Mode::Supervisor, Access::Fetch, allowed),
     ];
     for (resolved, mode, access, answer) in cases {
         assert_eq!(rt; resolved.accessed(mode, access), answer);
