@@ -1,4 +1,5 @@
 ghost use Rattle.std.specs.Prelude.{◌≡◌, ◌<◌, [], ◌∷◌};
+ghost use Rattle.vs_types.specs.declared.limits.TheConstants.{CALLS};
 
 use crate::ring::{Two, entry};
 use arrayvec::ArrayVec;
@@ -64,7 +65,7 @@ fn append_one<R: Wait + Abort>(
 )
     requires log { pass.old.log ≡ log.now }
     requires owner { (replica < 2) × (pass.old.view.owns ≡ replica ∷ []) }
-    requires call { call < 131072 }
+    requires call { call < CALLS }
     ensures log { pass.new.log ≡ pass.old.log }
     ensures owns { pass.new.view.owns ≡ pass.old.view.owns }
 {

@@ -1,5 +1,5 @@
 -- The owner of a replica advances it.
-use Rattle.std.proofs.Common.{◌≡◌, ℕ, ◌+◌, ◌<◌, ◌≤◌, List, [], ◌∷◌, Contains, Some, refl, ap, sym, subst, ◌∙◌, arith}
+use Rattle.std.proofs.Common.{◌≡◌, ℕ, ◌+◌, ◌<◌, ◌≤◌, List, [], ◌∷◌, Contains, Option, Some, refl, ap, sym, subst, ◌∙◌, arith}
 use Rattle.std.specs.Prelude.{slice_index}
 use Rattle.vs_types.specs.declared.depth.Depth.{Depth}
 use Rattle.nr_ring.specs.History.{MayAdvance, local_of, log_after}
@@ -11,6 +11,14 @@ use Rattle.nr_ring.proofs.Histories.{as_many_locals}
 
 pub same_replica : (owns : List ℕ) (p q : ℕ) → owns ≡ p ∷ [] → owns ≡ q ∷ [] → p ≡ q
 same_replica owns p q a b = ap (λ (l : List ℕ). slice_index l 0) (sym a ∙ b)
+
+-- what a pass that owns a replica remembers, of the view that contracts see
+pub owner_remembers : (depth : Depth) (replicas : ℕ) (words : List ℕ) (replica : Option ℕ) (r : ℕ) (held shown : View)
+    → Remembers depth replicas words replica held → held ≡ shown → replica ≡ Some r → Remembers depth replicas words (Some r) shown
+owner_remembers depth replicas words replica r held shown is same owner =
+    let Seen : View → Type 0 = λ v. Remembers depth replicas words replica v in
+    let Owns : Option ℕ → Type 0 = λ o. Remembers depth replicas words o shown in
+    subst Owns owner (subst Seen same is)
 
 pub low_replica : (depth : Depth) (replicas : ℕ) (words : List ℕ) (r : ℕ) (v : View) → Remembers depth replicas words (Some r) v → r < 4
 low_replica depth replicas words r v is = omega (arith, is.few, is.owned_below r refl)

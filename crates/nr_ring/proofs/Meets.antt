@@ -1,7 +1,7 @@
 -- A pass that was told of another looks.
-use Rattle.std.proofs.Common.{◌≡◌, ℕ, ◌+◌, ◌<◌, ◌≤◌, List, [], ◌∷◌, All, Contains, Option, length, sym, subst, arith}
+use Rattle.std.proofs.Common.{◌≡◌, ℕ, ◌<◌, List, [], All, Option, length, ap, sym, subst, ◌∙◌, arith}
 use Rattle.vs_types.specs.declared.depth.Depth.{Depth}
-use Rattle.nr_ring.specs.Calls.{IsCut, Looks, joined}
+use Rattle.nr_ring.specs.Calls.{IsCut, Looks, copied, joined}
 use Rattle.nr_ring.specs.View.{StartsWith}
 use Rattle.nr_ring.specs.declared.view.View.{View}
 use Rattle.nr_ring.specs.inside.Held.{Remembers}
@@ -10,6 +10,14 @@ use Rattle.nr_ring.proofs.Passes.{longer}
 -- a copy owns nothing
 pub cut_nothing : (owns : List ℕ) → IsCut owns owns []
 cut_nothing owns = record { kept_of = λ r has. has; given_of = λ r has. absurd (omega (arith, has.1)); apart = λ r kept given. absurd (omega (arith, given.1)) }
+
+-- what the look after a join tells, of the views that contracts see
+pub told_looks : (depth : Depth) (replicas : ℕ) (words : List ℕ) (held pass copy between told other after : View) → between ≡ joined held copy
+    → copy ≡ copied pass [] → held ≡ told → pass ≡ other → Looks depth replicas words between after
+    → Looks depth replicas words (joined told other) after
+told_looks depth replicas words held pass copy between told other after first second own its looks =
+    let Is : View → Type 0 = λ v. Looks depth replicas words v after in
+    subst Is (first ∙ ap (joined held) second ∙ ap (λ (w : View). joined w pass) own ∙ ap (joined told) its) looks
 
 pub met : (depth : Depth) (replicas : ℕ) (words : List ℕ) (told other after : View) → Looks depth replicas words (joined told other) after
     → StartsWith after.seen other.seen × StartsWith after.seen told.seen
@@ -22,7 +30,7 @@ met_remembers depth replicas words words' replica told other after is looks = re
   few = is.few;
   is_history = looks.looked.is_history;
   words_are = looks.words_are;
-  owns = Rattle.std.proofs.Common.◌∙◌ looks.looked.owns is.owns;
+  owns = looks.looked.owns ∙ is.owns;
   owned_below = is.owned_below;
   mine =
       let P : List ℕ → Type 0 = λ l. All (λ number. number < length after.seen) l in

@@ -20,7 +20,8 @@ pub fn equal_tails_mean_no_event()
 
 /// Where there was no advance of a replica, its local tail is as it was.
 pub fn local_tails_rise_by_advances()
-    ensures { (replicas replica : ℕ) (events seen : List Event) → HasSeenAdvances replica events seen → local_of (log_after replicas events) replica ≡ local_of (log_after replicas seen) replica }
+    ensures { (replicas replica : ℕ) (events seen : List Event) → HasSeenAdvances replica events seen
+        → local_of (log_after replicas events) replica ≡ local_of (log_after replicas seen) replica }
 {}
 
 /// The entries that a replica has still to take are the last 16 at most.
@@ -36,7 +37,8 @@ pub fn completed_is_a_local_tail()
 
 /// A batch of 1 to 16 entries at the log's depth may be appended, unless the log would end or is full.
 pub fn refused_for_a_reason()
-    ensures one { (depth : Depth) (log : Log) (batch : List LogEntry) → 1 ≤ length batch → length batch ≤ 16 → All (IsLogEntry depth) batch → MayAppend depth log batch ⊎ (IsEnded log (length batch) ⊎ IsFull log (length batch)) }
+    ensures one { (depth : Depth) (log : Log) (batch : List LogEntry) → 1 ≤ length batch → length batch ≤ 16 → All (IsLogEntry depth) batch
+        → MayAppend depth log batch ⊎ (IsEnded log (length batch) ⊎ IsFull log (length batch)) }
     ensures ended { (depth : Depth) (log : Log) (batch : List LogEntry) → MayAppend depth log batch → IsEnded log (length batch) → ⊥ }
     ensures full { (depth : Depth) (log : Log) (batch : List LogEntry) → MayAppend depth log batch → IsFull log (length batch) → ⊥ }
 {}

@@ -1,5 +1,5 @@
 //! The log: one cell of 39 words that its threads share.
-ghost use Rattle.std.specs.Prelude.{◌≡◌, ◌≤◌, ◌-◌, ◌<◌, ℕ, All, Contains, IfErr, IfOk, MatchBool, OnErr, OnOk, [], ◌∷◌, length};
+ghost use Rattle.std.specs.Prelude.{◌≡◌, ◌≤◌, ◌-◌, ◌<◌, ℕ, All, Contains, IfErr, IfOk, OnErr, OnOk, [], ◌∷◌, length};
 ghost use Rattle.std.specs.List.{range_with_len};
 ghost use Rattle.vs_types.specs.LogEntry.{IsLogEntry};
 ghost use Rattle.crossbeam_utils.specs.Seq.{cell_view, IsSamePass};
@@ -10,7 +10,7 @@ ghost use Rattle.nr_ring.specs.Entries.{HasAppended, IsReason, to_take};
 ghost use Rattle.nr_ring.specs.Pass.{new_pass, new_passes, tails_of};
 ghost use Rattle.nr_ring.specs.View.{StartsWith};
 ghost use Rattle.nr_ring.specs.Words.{IsWordsOf, new_words};
-ghost use Rattle.nr_ring.specs.inside.Held.{IsBelow, left_from, new_view, owned, rest_of};
+ghost use Rattle.nr_ring.specs.inside.Held.{IsBelow, MadeOrMoved, left_from, new_view, owned, rest_of};
 
 use crate::batch::{read_entries, test_room, why_not, with_batch};
 use crate::name::LogName;
@@ -158,7 +158,7 @@ impl<J: LogName> RingLog<J> {
         requires event { E.event ≡ Advance replica to }
         requires may { (replica < 4) × MayAdvance (log_after J.replicas pass.old.view.seen) replica to × Contains pass.old.view.owns replica }
         ensures log { pass.new.log ≡ pass.old.log }
-        ensures view { MatchBool result (pass.new.view ≡ with_event pass.old.view E.event) (HasLooked J.depth J.replicas pass.old.view pass.new.view × HasMoved pass.old.view pass.new.view) }
+        ensures view { MadeOrMoved J.depth J.replicas E.event pass.old.view pass.new.view result }
         ensures history { IsHistory J.depth J.replicas pass.new.view.seen }
     {
         let local = 2 + usize::from(replica);
@@ -186,7 +186,8 @@ impl<J: LogName> RingLog<J> {
         ensures log { pass.new.log ≡ pass.old.log }
         ensures owns { pass.new.view.owns ≡ pass.old.view.owns }
         ensures appended { IfOk result (λ place. HasAppended J.depth J.replicas pass.old.view batch.now place pass.new.view) }
-        ensures refused { IfErr result (λ fault. HasLooked J.depth J.replicas pass.old.view pass.new.view × IsReason (log_after J.replicas pass.new.view.seen) (length batch.now) pass.old.view pass.new.view fault) }
+        ensures refused { IfErr result (λ fault. HasLooked J.depth J.replicas pass.old.view pass.new.view
+            × IsReason (log_after J.replicas pass.new.view.seen) (length batch.now) pass.old.view pass.new.view fault) }
         ensures history { IsHistory J.depth J.replicas pass.new.view.seen }
     {
         let count = batch.len() as u64;
@@ -208,7 +209,7 @@ impl<J: LogName> RingLog<J> {
         requires event { E.event ≡ Append batch.now }
         requires may { MayAppend J.depth (log_after J.replicas pass.old.view.seen) batch.now }
         ensures log { pass.new.log ≡ pass.old.log }
-        ensures view { MatchBool result (pass.new.view ≡ with_event pass.old.view E.event) (HasLooked J.depth J.replicas pass.old.view pass.new.view × HasMoved pass.old.view pass.new.view) }
+        ensures view { MadeOrMoved J.depth J.replicas E.event pass.old.view pass.new.view result }
         ensures history { IsHistory J.depth J.replicas pass.new.view.seen }
     {
         let next = with_batch(&pass.words, batch);
@@ -230,7 +231,8 @@ impl<J: LogName> RingLog<J> {
         requires empty { entries.old.items ≡ [] }
         ensures log { pass.new.log ≡ pass.old.log }
         ensures looked { HasLooked J.depth J.replicas pass.old.view pass.new.view }
-        ensures fetched { (replica : ℕ) → pass.old.view.owns ≡ replica ∷ [] → entries.new.items ≡ to_take (log_after J.replicas pass.new.view.seen) replica }
+        ensures fetched { (replica : ℕ) → pass.old.view.owns ≡ replica ∷ []
+            → entries.new.items ≡ to_take (log_after J.replicas pass.new.view.seen) replica }
     {
         self.look(rt, pass);
         let Some(replica) = pass.replica else {
@@ -251,7 +253,7 @@ impl<J: LogName> RingLog<J> {
         requires event { MayFollow J.depth (log_after J.replicas pass.old.view.seen) E.event × MayMake pass.old.view E.event }
         requires next { IsWordsOf (after (log_after J.replicas pass.old.view.seen) E.event) next }
         ensures log { pass.new.log ≡ pass.old.log }
-        ensures view { MatchBool result (pass.new.view ≡ with_event pass.old.view E.event) (HasLooked J.depth J.replicas pass.old.view pass.new.view × HasMoved pass.old.view pass.new.view) }
+        ensures view { MadeOrMoved J.depth J.replicas E.event pass.old.view pass.new.view result }
         ensures history { IsHistory J.depth J.replicas pass.new.view.seen }
     {
         let words = pass.words;

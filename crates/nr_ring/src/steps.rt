@@ -14,26 +14,30 @@ ghost use Rattle.nr_ring.specs.declared.view.View.{View};
 
 /// A load of the cell keeps the rule, and is a look.
 pub fn looks_keep_the_rule()
-    ensures { (depth : Depth) (replicas pass : ℕ) (v : View) → Turns (IsKept depth replicas) pass v (λ words. words) (λ before words words' after. Looks depth replicas words' before after) }
+    ensures { (depth : Depth) (replicas pass : ℕ) (v : View)
+        → Turns (IsKept depth replicas) pass v (λ words. words) (λ before words words' after. Looks depth replicas words' before after) }
 {}
 
 /// Where the words are those after what a pass has seen, it has seen the whole history.
 pub fn own_words_mean_all_seen()
-    ensures { (depth : Depth) (replicas : ℕ) (history seen : List Event) (words : List ℕ) → replicas ≤ 4 → IsHistory depth replicas history → StartsWith history seen → IsWordsOf (log_after replicas seen) words → IsWordsOf (log_after replicas history) words → history ≡ seen }
+    ensures { (depth : Depth) (replicas : ℕ) (history seen : List Event) (words : List ℕ) → replicas ≤ 4 → IsHistory depth replicas history
+        → StartsWith history seen → IsWordsOf (log_after replicas seen) words → IsWordsOf (log_after replicas history) words → history ≡ seen }
 {}
 
 /// An exchange of the words after what a pass has seen, by the words after one event more, keeps the rule: the event may follow,
 /// and where it is an advance the pass owns the replica.
 pub fn events_keep_the_rule()
-    ensures { (depth : Depth) (replicas pass : ℕ) (v : View) (event : Event) (words words' : List ℕ) (views : List View) → replicas ≤ 4 → IsKept depth replicas words views → get_elem? views pass ≡ some v
-        → IsWordsOf (log_after replicas v.seen) words → MayFollow depth (log_after replicas v.seen) event → MayMake v event → IsWordsOf (after (log_after replicas v.seen) event) words'
+    ensures { (depth : Depth) (replicas pass : ℕ) (v : View) (event : Event) (words words' : List ℕ) (views : List View) → replicas ≤ 4
+        → IsKept depth replicas words views → get_elem? views pass ≡ some v → IsWordsOf (log_after replicas v.seen) words
+        → MayFollow depth (log_after replicas v.seen) event → MayMake v event → IsWordsOf (after (log_after replicas v.seen) event) words'
         → IsKept depth replicas words' (slice_set views pass (with_event v event)) }
 {}
 
 /// Splitting a pass keeps the rule: the new pass has seen as much, has made nothing, and takes some of the replicas that the
 /// other owned.
 pub fn splits_keep_the_rule()
-    ensures { (depth : Depth) (replicas pass : ℕ) (v : View) (kept given : List ℕ) → IsCut v.owns kept given → Forks (IsKept depth replicas) pass v (keeping v kept) (copied v given) }
+    ensures { (depth : Depth) (replicas pass : ℕ) (v : View) (kept given : List ℕ) → IsCut v.owns kept given
+        → Forks (IsKept depth replicas) pass v (keeping v kept) (copied v given) }
 {}
 
 /// Joining a pass that has made nothing keeps the rule. It tells nothing of how the two lists that were seen compare; the next
@@ -44,5 +48,6 @@ pub fn joins_keep_the_rule()
 
 /// The rule holds of a new log, whose first pass has seen and made nothing, whatever it owns.
 pub fn new_logs_keep_the_rule()
-    ensures { (depth : Depth) (replicas : ℕ) (v : View) → v.seen ≡ [] → v.mine ≡ [] → v.told ≡ [] → IsKept depth replicas (new_words replicas) (v ∷ []) }
+    ensures { (depth : Depth) (replicas : ℕ) (v : View) → v.seen ≡ [] → v.mine ≡ [] → v.told ≡ []
+        → IsKept depth replicas (new_words replicas) (v ∷ []) }
 {}

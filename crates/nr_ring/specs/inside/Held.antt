@@ -1,10 +1,10 @@
 -- What a pass holds beside its view.
 use Rattle.std.specs.List.{range_with_len}
-use Rattle.std.specs.Prelude.{◌≡◌, ℕ, ◌+◌, ◌-◌, ◌<◌, ◌≤◌, List, [], ◌∷◌, All, Option, None, Some, length, slice_index}
+use Rattle.std.specs.Prelude.{◌≡◌, ℕ, ◌+◌, ◌-◌, ◌<◌, ◌≤◌, Bool, MatchBool, List, [], ◌∷◌, All, Option, None, Some, length, slice_index}
 use Rattle.vs_types.specs.declared.depth.Depth.{Depth}
 use Rattle.nr_ring.specs.History.{IsHistory, log_after}
 use Rattle.nr_ring.specs.Words.{IsWordsOf}
-use Rattle.nr_ring.specs.Calls.{Looks, with_event}
+use Rattle.nr_ring.specs.Calls.{HasLooked, HasMoved, Looks, with_event}
 use Rattle.nr_ring.specs.declared.event.Event.{Event}
 use Rattle.nr_ring.specs.declared.view.View.{View}
 use Rattle.nr_ring.specs.declared.tails.Tails.{Tails}
@@ -47,6 +47,11 @@ left_from replicas (Some replica) = range_with_len replica (replicas - replica)
 abbrev pub rest_of : ℕ → Option ℕ → List ℕ
 rest_of replicas None = []
 rest_of replicas (Some replica) = range_with_len (replica + 1) (replicas - (replica + 1))
+
+-- what a try to make an event tells: the pass made it, or it looked and another pass's event has come
+abbrev pub MadeOrMoved : Depth → ℕ → Event → View → View → Bool → Type 0
+MadeOrMoved depth replicas event before after made =
+    MatchBool made (after ≡ with_event before event) (HasLooked depth replicas before after × HasMoved before after)
 
 -- what an exchange of the words that a pass knows tells: where they were those of the cell, it made the event; else it looked
 pub record Exchanges (depth : Depth) (replicas : ℕ) (event : Event) (words words' : List ℕ) (before after : View) : Type 0 where

@@ -1,13 +1,11 @@
-use Rattle.std.proofs.Common.{◌≡◌, ℕ, ◌+◌, drop, Option, All, ap, sym, subst, ◌∙◌}
+use Rattle.std.proofs.Common.{◌≡◌, ℕ, ◌+◌, drop, All, ap, sym, subst, ◌∙◌}
 use Rattle.std.specs.Prelude.{slice_index}
 use Rattle.vs_types.specs.LogEntry.{IsLogEntry}
 use Rattle.vs_types.specs.declared.depth.Depth.{Depth}
 use Rattle.nr_ring.specs.History.{local_of, log_after}
 use Rattle.nr_ring.specs.Pass.{Known}
-use Rattle.nr_ring.specs.declared.view.View.{View}
 use Rattle.nr_ring.specs.inside.Batch.{CanBeRead}
-use Rattle.nr_ring.specs.inside.Held.{Remembers}
-use Rattle.nr_ring.proofs.Advances.{local_word, same_replica}
+use Rattle.nr_ring.proofs.Advances.{local_word, owner_remembers, same_replica}
 use Rattle.nr_ring.proofs.Appends.{can_be_read}
 use Rattle.nr_ring.proofs.Fetches.{history_entries}
 use Rattle.nr_ring.proofs.ring_log.RingLog.fetch.Goals as goal
@@ -17,9 +15,7 @@ read_entries-requires-clause-words g c =
     let words = c.pass.inside.words in
     let r = c.in-Some.replica in
     let view = c.look.new.pass.view in
-    let Seen : View → Type 0 = λ v. Remembers g.J.LogName.depth g.J.LogName.replicas words c.pass.inside.replica v in
-    let Owns : Option ℕ → Type 0 = λ o. Remembers g.J.LogName.depth g.J.LogName.replicas words o view in
-    let is = subst Owns c.in-Some.is (subst Seen (ap (λ (k : Known). k.view) c.pass.view_is) c.pass.invariant) in
+    let is = owner_remembers _ _ words _ r _ view c.pass.invariant (ap (λ (k : Known). k.view) c.pass.view_is) c.in-Some.is in
     let Deep : Depth → Type 0 = λ depth. CanBeRead depth words (slice_index words (2 + c.from.result)) in
     let At : ℕ → Type 0 = λ n. CanBeRead g.J.LogName.depth words (slice_index words (2 + n)) in
     subst Deep (sym c.self.invariant) (subst At (sym c.from.ensures) (can_be_read g.J.LogName.depth g.J.LogName.replicas words r view is))
@@ -32,9 +28,7 @@ returns-clause-fetched g c =
     let r = c.in-Some.replica in
     let view = c.look.new.pass.view in
     let log = log_after replicas view.seen in
-    let Seen : View → Type 0 = λ v. Remembers depth replicas words c.pass.inside.replica v in
-    let Owns : Option ℕ → Type 0 = λ o. Remembers depth replicas words o view in
-    let is = subst Owns c.in-Some.is (subst Seen (ap (λ (k : Known). k.view) c.pass.view_is) c.pass.invariant) in
+    let is = owner_remembers _ _ words _ r _ view c.pass.invariant (ap (λ (k : Known). k.view) c.pass.view_is) c.in-Some.is in
     let Fit : Depth → Type 0 = λ d. All (IsLogEntry d) log.entries in
     let fit = subst Fit (sym c.self.invariant) (history_entries depth replicas view.seen is.is_history) in
     let word = ap (λ n. slice_index words (2 + n)) c.from.ensures ∙ local_word depth replicas words r view is in

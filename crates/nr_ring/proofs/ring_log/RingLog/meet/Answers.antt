@@ -1,12 +1,12 @@
-use Rattle.std.proofs.Common.{rules, ◌≡◌, ap, ◌∙◌, sym, subst}
+use Rattle.std.proofs.Common.{rules, refl, ap, ◌∙◌, sym, subst}
 use Rattle.crossbeam_utils.specs.Seq.{cell_view}
-use Rattle.nr_ring.specs.Calls.{Looks, joined}
 use Rattle.nr_ring.specs.declared.view.View.{View}
+use Rattle.nr_ring.specs.Pass.{Known}
 use Rattle.nr_ring.specs.inside.Held.{Remembers}
 use Rattle.nr_ring.proofs.Turns.{look_turns}
 use Rattle.nr_ring.proofs.Splits.{split_forks}
 use Rattle.nr_ring.proofs.Joins.{join_merges}
-use Rattle.nr_ring.proofs.Meets.{cut_nothing, met, met_remembers}
+use Rattle.nr_ring.proofs.Meets.{cut_nothing, met, met_remembers, told_looks}
 use Rattle.nr_ring.proofs.ring_log.RingLog.meet.Goals as goal
 
 pub split_pass-copy-requires : goal.split_pass-copy-requires
@@ -27,18 +27,28 @@ invariant_of-pass g c =
 
 pub invariant_of-told : goal.invariant_of-told
 invariant_of-told g c =
-    let told = cell_view c.told.inside.pass in
-    let before = c.join_pass.ensures.1 ∙ ap (λ (w : View). joined told w) c.split_pass-copy.ensures.given.1 in
-    let Is : View → Type 0 = λ v. Looks g.J.LogName.depth g.J.LogName.replicas c.load_as-words.result v (cell_view c.load_as-words.new.pass) in
-    met_remembers g.J.LogName.depth g.J.LogName.replicas c.told.inside.words c.load_as-words.result c.told.inside.replica told (cell_view c.pass.inside.pass)
-    (cell_view c.load_as-words.new.pass) c.told.invariant (subst Is before c.load_as-words.ensures.rule)
+    let held = cell_view c.told.inside.pass in
+    let pass = cell_view c.pass.inside.pass in
+    let looks = told_looks _ _ _ held pass _ _ held pass _ c.join_pass.ensures.1 c.split_pass-copy.ensures.given.1 refl refl c.load_as-words.ensures.rule in
+    met_remembers _ _ _ _ _ held pass _ c.told.invariant looks
+
+pub returns-clause-pass : goal.returns-clause-pass
+returns-clause-pass g c =
+    let kept = c.split_pass-copy.ensures.kept in
+    (λ i. record { log = kept.0.0 i; view = kept.1 i }) ∙ c.pass.view_is
+
+pub returns-clause-looked : goal.returns-clause-looked
+returns-clause-looked g c =
+    let own = ap (λ (k : Known). k.view) c.told.view_is in
+    let its = ap (λ (k : Known). k.view) c.pass.view_is in
+    let looks = told_looks _ _ _ (cell_view c.told.inside.pass) (cell_view c.pass.inside.pass) _ _ c.args.told.now.view c.args.pass.now.view _
+    c.join_pass.ensures.1 c.split_pass-copy.ensures.given.1 own its c.load_as-words.ensures.rule in
+    looks.looked
 
 pub returns-clause-met : goal.returns-clause-met
 returns-clause-met g c =
-    let told = cell_view c.told.inside.pass in
-    let views : joined told (cell_view c.pass.inside.pass) ≡ joined c.args.told.now.view c.args.pass.now.view =
-    λ i. joined (c.told.view_is i).view (c.pass.view_is i).view in
-    let before = c.join_pass.ensures.1 ∙ ap (λ (w : View). joined told w) c.split_pass-copy.ensures.given.1 ∙ views in
-    let Is : View → Type 0 = λ v. Looks g.J.LogName.depth g.J.LogName.replicas c.load_as-words.result v (cell_view c.load_as-words.new.pass) in
-    met g.J.LogName.depth g.J.LogName.replicas c.load_as-words.result c.args.told.now.view c.args.pass.now.view (cell_view c.load_as-words.new.pass)
-    (subst Is before c.load_as-words.ensures.rule)
+    let own = ap (λ (k : Known). k.view) c.told.view_is in
+    let its = ap (λ (k : Known). k.view) c.pass.view_is in
+    met _ _ _ c.args.told.now.view c.args.pass.now.view _
+    (told_looks _ _ _ (cell_view c.told.inside.pass) (cell_view c.pass.inside.pass) _ _ c.args.told.now.view c.args.pass.now.view _
+    c.join_pass.ensures.1 c.split_pass-copy.ensures.given.1 own its c.load_as-words.ensures.rule)
