@@ -125,13 +125,13 @@ fixed_apart bytes = ToldApart {A = Unit {0}} (λ _. ⊤) (λ _. bytes)
 pub magic_apart : fixed_apart magic
 magic_apart a b us vs h k e = (refl, append_cancel_left magic us vs e)
 
-abbrev BehindCounts : Version → Counts → List ℕ → Format → Type 0
+abbrev pub BehindCounts : Version → Counts → List ℕ → Format → Type 0
 BehindCounts version numbers = AtLog version numbers.layout numbers.places numbers.events
 
-abbrev BehindVersion : Version → List ℕ → Format → Type 0
+abbrev pub BehindVersion : Version → List ℕ → Format → Type 0
 BehindVersion version = AtUnit 14 (Some BadCount) (IsCounts version) counts (BehindCounts version)
 
-abbrev BehindMagic : List ℕ → Format → Type 0
+abbrev pub BehindMagic : List ℕ → Format → Type 0
 BehindMagic = AtUnit 2 (Some BadVersion) (λ version. ⊤) version_word BehindVersion
 
 version_one : (version : Version) → OneBehind (BehindVersion version)

@@ -15,6 +15,9 @@ pub mod LawsOfUnits
 pub mod LawsOfSpelling
 pub mod LawsOfLength
 pub mod LawsOfFormat
+pub mod LawsOfFronts
+pub mod Assembled
+pub mod LawsOfTrailing
 pub mod LawsOfLists
 pub mod LawsOfCalls
 pub mod LawsOfOrder

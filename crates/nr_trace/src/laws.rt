@@ -1,7 +1,7 @@
 //! Laws of the definitions in `specs/`. Each function does nothing: its clauses say what holds of all bytes and all
 //! recordings.
 
-ghost use Rattle.std.specs.Prelude.{◌≡◌, ◌≢◌, ◌≤◌, ◌+◌, ℕ, max, ◌⊎◌, ◌↔◌, length, slice_get, take, Contains, List, [], None, Some, Result, Err};
+ghost use Rattle.std.specs.Prelude.{◌≡◌, ◌≢◌, ◌≤◌, ◌++◌, ◌+◌, ℕ, max, ◌⊎◌, ◌↔◌, length, slice_get, take, Contains, List, [], None, Some, Result, Err};
 ghost use Rattle.std.specs.List.{concat};
 ghost use Rattle.vs_walk.specs.Dump.{Image};
 ghost use Rattle.vs_types.specs.declared.refusal.Fail.{Fail};
@@ -21,6 +21,7 @@ ghost use Rattle.nr_trace.specs.Spelling.{Spells};
 ghost use Rattle.nr_trace.specs.declared.fault.Fault.{Fault};
 ghost use Rattle.nr_trace.specs.declared.fault.Fault.TheVariants.{Early, WrongAnswer};
 ghost use Rattle.nr_trace.specs.declared.fault.Format.{Format};
+ghost use Rattle.nr_trace.specs.declared.fault.Format.TheVariants.{Trailing, Truncated};
 
 /// Bytes spell at most one trace.
 pub fn bytes_spell_one_trace()
@@ -112,4 +113,15 @@ pub fn spaces_go_on_by_places()
     ensures start { (trace : Recording) → space_after trace (take 0 trace.log) ≡ no_pages }
     ensures next { (trace : Recording) (place call : ℕ) (action : Action) → slice_get trace.log place ≡ Some call → operation_of trace call ≡ Some action
         → space_after trace (take (place + 1) trace.log) ≡ (step trace.layout.depth trace.layout.tables (space_after trace (take place trace.log)) action).space }
+{}
+
+/// Bytes have the fault `Trailing` exactly where a front of them spells a trace, and more bytes come after it.
+pub fn trailing_bytes_follow_a_trace()
+    ensures { (bytes : List ℕ) → HasFormatFault bytes Trailing
+        ↔ ((front : List ℕ) × (more : List ℕ) × (trace : Recording) × (bytes ≡ front ++ more) × (more ≢ []) × Spells front trace) }
+{}
+
+/// Where bytes spell a trace, each front of them that lacks some has the fault `Truncated`.
+pub fn fronts_of_a_spelling_are_truncated()
+    ensures { (front more : List ℕ) (trace : Recording) → Spells (front ++ more) trace → more ≢ [] → HasFormatFault front Truncated }
 {}

@@ -7,7 +7,7 @@ mod event;
 pub mod examples;
 mod fault;
 mod fields;
-mod laws;
+pub mod laws;
 mod ranges;
 mod reading;
 mod trace;
@@ -16,13 +16,6 @@ mod writing;
 
 pub use event::Event;
 pub use fault::{Fault, Format};
-pub use laws::{
-    bytes_spell_one_trace, earlier_wrong_answer, faultless_recordings_have_an_order,
-    faults_are_ordered, floors_rise_by_replies, no_fault_of_a_spelling, no_longer_trace,
-    one_first_fault, one_first_fault_of_bytes, one_format_fault, pieces_are_read_as_one,
-    recorded_order_by_entries, recorded_order_is_legal, recorded_order_is_serial,
-    spaces_go_on_by_places,
-};
 pub use reading::{Feed, read};
 pub use trace::Trace;
 pub use version::Version;

@@ -1,0 +1,189 @@
+-- A trace that is put together from the units at the front of bytes.
+use Rattle.std.proofs.Common.{◌≡◌, ℕ, suc, ◌^◌, ◌<◌, Bool, true, false, ◌&&◌, T, List, [], ◌∷◌, ◌++◌, length, map, All, Option, Some, None, refl, ap}
+use Rattle.std.proofs.Common.{ap₂, sym, ◌∙◌, subst, arith}
+use Rattle.std.specs.Prelude.{flat_map}
+use Rattle.std.specs.List.{AllByRecursion}
+use Rattle.std.specs.FinMap as finite
+use Rattle.std.specs.FinMap.Entries as kept
+use Rattle.std.specs.Ordering.{nat_cmp, is_lt}
+use Rattle.std.specs.Cmp.{nat_cmp_is}
+use Rattle.std.specs.declared.cmp.Ordering.TheVariants.{Less}
+use Rattle.std.proofs.lemmas.List.{append_assoc}
+use Rattle.std.proofs.lemmas.List.Elements.{All-from_recursion}
+use Rattle.vs_types.specs.Config.{Layout}
+use Rattle.vs_types.specs.Frame.{IsFrame}
+use Rattle.vs_walk.specs.Dump.{Image}
+use Rattle.nr_trace.specs.Recording.{Recording, IsRecording, IsImage, IsEvent}
+use Rattle.nr_trace.specs.Spelling.{magic, version_word, counts, counts_of, dump_head, spelling, Spells, log_word, event, dump, frame_number, frame_words}
+use Rattle.nr_trace.specs.FirstFault.{IsCounts, IsDumpHead, IsNext}
+use Rattle.nr_trace.specs.declared.version.Version.{Version}
+use Rattle.nr_trace.specs.declared.fields.Counts.{Counts}
+use Rattle.nr_trace.specs.declared.fields.DumpHead.{DumpHead}
+use Rattle.nr_trace.proofs.LawsOfSpelling.{Frame, FrameFits, frame}
+use Rattle.nr_trace.proofs.LawsOfFormat.{RisesFrom}
+
+-- the units of so many values stand at the front, and what comes after has the property
+pub record HasUnits {A : Type 0} (Fit : List A → Type 0) (spelled : A → List ℕ) (many : ℕ) (Then : List ℕ → Type 0) (rest : List ℕ) : Type 0 where
+  pub values : List A
+  pub fit : Fit values
+  pub count : length values ≡ many
+  pub more : List ℕ
+  pub parts : rest ≡ flat_map spelled values ++ more
+  pub then : Then more
+
+pub no_unit : {A : Type 0} (Fit : List A → Type 0) (spelled : A → List ℕ) (Then : List ℕ → Type 0) (rest : List ℕ) → Fit [] → Then rest
+    → HasUnits Fit spelled 0 Then rest
+no_unit Fit spelled Then rest none then = record { values = []; fit = none; count = refl; more = rest; parts = refl; then = then }
+
+pub one_unit : {A : Type 0} (Fit Grown : List A → Type 0) (spelled : A → List ℕ) (many : ℕ) (Then : List ℕ → Type 0) (value : A) (rest behind : List ℕ)
+    → ((values : List A) → Fit values → Grown (value ∷ values)) → rest ≡ spelled value ++ behind → HasUnits Fit spelled many Then behind
+    → HasUnits Grown spelled (suc many) Then rest
+one_unit Fit Grown spelled many Then value rest behind grow is has = record {
+  values = value ∷ has.values;
+  fit = grow has.values has.fit;
+  count = ap suc has.count;
+  more = has.more;
+  parts = is ∙ ap (λ (l : List ℕ). spelled value ++ l) has.parts ∙ sym (append_assoc (spelled value) (flat_map spelled has.values) has.more);
+  then = has.then;
+}
+
+-- ---- a dump
+
+-- frames that fit, with numbers that rise from above this one on
+abbrev pub FramesFit : Option ℕ → List Frame → Type 0
+FramesFit before frames = AllByRecursion FrameFits frames × RisesFrom before frames
+
+pub one_frame : (before : Option ℕ) (many : ℕ) (Then : List ℕ → Type 0) (number : ℕ) (words rest middle behind : List ℕ) → IsNext before number → IsFrame words
+    → rest ≡ frame_number number ++ middle → middle ≡ frame_words words ++ behind → HasUnits (FramesFit (Some number)) frame many Then behind
+    → HasUnits (FramesFit before) frame (suc many) Then rest
+one_frame before many Then number words rest middle behind next fits is also has =
+    one_unit (FramesFit (Some number)) (FramesFit before) frame many Then (number, words) rest behind
+    (λ frames fit. (((next.in_range, fits), fit.0), (next.rises, fit.1)))
+    (is ∙ ap (λ (l : List ℕ). frame_number number ++ l) also ∙ sym (append_assoc (frame_number number) (frame_words words) behind)) has
+
+both_true : (a b : Bool) → T a → T b → T (a && b)
+both_true true b h k = k
+both_true false b h k = absurd h
+
+is_less : (x y : ℕ) → x < y → T (is_lt (nat_cmp x y))
+is_less x y l = subst (λ r. T (is_lt r)) (nat_cmp_is x y Less l) tt
+
+lower : (low high : ℕ) (frames : List Frame) → low < high → RisesFrom (Some high) frames → RisesFrom (Some low) frames
+lower low high [] l rise = tt
+lower low high (f ∷ fs) l rise = let above : high < f.0 = rise.0 in (omega arith, rise.1)
+
+all_above : (low : ℕ) (frames : List Frame) → RisesFrom (Some low) frames → T (kept.below_all nat_cmp low frames)
+all_above low [] rise = tt
+all_above low (f ∷ fs) rise = both_true _ _ (is_less low f.0 rise.0) (all_above low fs (lower low f.0 fs rise.0 rise.1))
+
+sorted : (before : Option ℕ) (frames : List Frame) → RisesFrom before frames → T (kept.is_sorted nat_cmp frames)
+sorted before [] rise = tt
+sorted before (f ∷ fs) rise = both_true _ _ (all_above f.0 fs rise.1) (sorted (Some f.0) fs rise.1)
+
+numbers_fit : (frames : List Frame) → AllByRecursion FrameFits frames → AllByRecursion (λ n. n < 2 ^ 40) (map (λ f. f.0) frames)
+numbers_fit [] h = tt
+numbers_fit (f ∷ fs) h = (h.0.0, numbers_fit fs h.1)
+
+words_fit : (frames : List Frame) → AllByRecursion FrameFits frames → AllByRecursion IsFrame (map (λ f. f.1) frames)
+words_fit [] h = tt
+words_fit (f ∷ fs) h = (h.0.1, words_fit fs h.1)
+
+-- the dump with this head and these frames
+abbrev image_from : DumpHead → List Frame → Image
+image_from head frames = record { applied = head.applied; root = head.root; frames = finite.from_sorted frames }
+
+held : (head : DumpHead) (frames : List Frame) → FramesFit None frames → finite.entries (image_from head frames).frames ≡ frames
+held head frames fit = finite.entries-from_sorted nat_cmp frames (sorted None frames fit.1)
+
+as_many : (head : DumpHead) (frames : List Frame) → FramesFit None frames → length frames ≡ head.frames
+    → finite.len (image_from head frames).frames ≡ head.frames
+as_many head frames fit count = finite.len-entries (image_from head frames).frames ∙ ap length (held head frames fit) ∙ count
+
+image_fits : (head : DumpHead) (frames : List Frame) → IsDumpHead head → FramesFit None frames → length frames ≡ head.frames
+    → IsImage (image_from head frames)
+image_fits head frames fits fit count =
+    let many = as_many head frames fit count in
+    let all = sym (held head frames fit) in
+    record {
+      applied = fits.applied;
+      root = fits.root;
+      some_frame = omega (arith, fits.some_frame);
+      few_frames = omega (arith, fits.few_frames);
+      numbers = subst (λ (es : List Frame). All (λ n. n < 2 ^ 40) (map (λ e. e.0) es)) all (All-from_recursion (λ n. n < 2 ^ 40) _ (numbers_fit frames fit.0));
+      words = subst (λ (es : List Frame). All IsFrame (map (λ e. e.1) es)) all (All-from_recursion IsFrame _ (words_fit frames fit.0));
+    }
+
+dump_is : (head : DumpHead) (frames : List Frame) → FramesFit None frames → length frames ≡ head.frames
+    → dump (image_from head frames) ≡ dump_head head ++ flat_map frame frames
+dump_is head frames fit count =
+    ap₂ (λ (n : ℕ) (es : List Frame). dump_head (record { applied = head.applied; frames = n; root = head.root }) ++ flat_map frame es)
+    (as_many head frames fit count) (held head frames fit)
+
+-- this many dumps stand at the front
+abbrev pub HasDumps : ℕ → (List ℕ → Type 0) → List ℕ → Type 0
+HasDumps = HasUnits (AllByRecursion IsImage) dump
+
+pub one_dump : (many : ℕ) (Then : List ℕ → Type 0) (head : DumpHead) (rest behind : List ℕ) → IsDumpHead head → rest ≡ dump_head head ++ behind
+    → HasUnits (FramesFit None) frame head.frames (HasDumps many Then) behind → HasDumps (suc many) Then rest
+one_dump many Then head rest behind fits is has =
+    one_unit (AllByRecursion IsImage) (AllByRecursion IsImage) dump many Then (image_from head has.values) rest has.more
+    (λ images all. (image_fits head has.values fits has.fit has.count, all))
+    (is ∙ ap (λ (l : List ℕ). dump_head head ++ l) has.parts ∙ sym (append_assoc (dump_head head) (flat_map frame has.values) has.more)
+    ∙ ap (λ (l : List ℕ). l ++ has.more) (sym (dump_is head has.values has.fit has.count))) has.then
+
+-- ---- a trace
+
+abbrev pub HasEvents : Version → Layout → ℕ → (List ℕ → Type 0) → List ℕ → Type 0
+HasEvents version layout many Then = HasUnits (AllByRecursion (IsEvent version layout)) event many (HasDumps layout.replicas Then)
+
+abbrev pub HasLog : Version → Layout → ℕ → ℕ → (List ℕ → Type 0) → List ℕ → Type 0
+HasLog version layout places many Then = HasUnits (AllByRecursion (λ call. call < 2 ^ 32)) log_word places (HasEvents version layout many Then)
+
+-- a front of the bytes spells a trace, and what comes after has the property
+abbrev pub HasTrace : (List ℕ → Type 0) → List ℕ → Type 0
+HasTrace Then bytes = (front : List ℕ) × (more : List ℕ) × (trace : Recording) × (bytes ≡ front ++ more) × Then more × Spells front trace
+
+four_parts : (front a b c more : List ℕ) → front ++ (a ++ (b ++ (c ++ more))) ≡ (front ++ a ++ b ++ c) ++ more
+four_parts front a b c more =
+    sym (append_assoc (front ++ a ++ b) c more ∙ append_assoc (front ++ a) b (c ++ more) ∙ append_assoc front a (b ++ (c ++ more)))
+
+abbrev trace_of : (Then : List ℕ → Type 0) (version : Version) (numbers : Counts) (rest : List ℕ)
+    → HasLog version numbers.layout numbers.places numbers.events Then rest
+    → Recording
+trace_of Then version numbers rest has =
+    record { version = version; layout = numbers.layout; log = has.values; events = has.then.values; dumps = has.then.then.values }
+
+trace_fits : (Then : List ℕ → Type 0) (version : Version) (numbers : Counts) (rest : List ℕ) → IsCounts version numbers
+    → (has : HasLog version numbers.layout numbers.places numbers.events Then rest) → IsRecording (trace_of Then version numbers rest has)
+trace_fits Then version numbers rest fits has = record {
+  layout = fits.layout;
+  depth = fits.depth;
+  few_places = omega (arith, has.count, fits.few_places);
+  log = All-from_recursion (λ call. call < 2 ^ 32) has.values has.fit;
+  few_events = omega (arith, has.then.count, fits.few_events);
+  events = All-from_recursion (IsEvent version numbers.layout) has.then.values has.then.fit;
+  one_dump_each = has.then.then.count;
+  dumps = All-from_recursion IsImage has.then.then.values has.then.then.fit;
+}
+
+pub one_trace : (Then : List ℕ → Type 0) (version : Version) (numbers : Counts) (bytes middle behind rest : List ℕ) → IsCounts version numbers
+    → bytes ≡ magic ++ middle → middle ≡ version_word version ++ behind → behind ≡ counts numbers ++ rest
+    → HasLog version numbers.layout numbers.places numbers.events Then rest → HasTrace Then bytes
+one_trace Then version numbers bytes middle behind rest fits is_bytes is_middle is_behind has =
+    let trace = trace_of Then version numbers rest has in
+    let log = flat_map log_word has.values in
+    let calls = flat_map event has.then.values in
+    let images = flat_map dump has.then.then.values in
+    let more = has.then.then.more in
+    let same : numbers ≡ counts_of trace = λ i. record { layout = numbers.layout; places = sym has.count i; events = sym has.then.count i } in (
+      spelling trace,
+      more,
+      trace,
+      is_bytes ∙ ap (λ (l : List ℕ). magic ++ l) (is_middle ∙ ap (λ (l : List ℕ). version_word version ++ l) (is_behind
+          ∙ ap (λ (l : List ℕ). counts numbers ++ l) (has.parts ∙ ap (λ (l : List ℕ). log ++ l) (has.then.parts
+          ∙ ap (λ (l : List ℕ). calls ++ l) has.then.then.parts))))
+          ∙ four_parts (magic ++ version_word version ++ counts numbers) log calls images more
+          ∙ ap (λ (c : Counts). (magic ++ version_word version ++ counts c ++ log ++ calls ++ images) ++ more) same,
+      has.then.then.then,
+      record { in_range = trace_fits Then version numbers rest fits has; spelled = refl },
+    )
