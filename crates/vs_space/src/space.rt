@@ -38,7 +38,7 @@ impl<S: FrameStore> Model for Space<S> {
     ghost use Rattle.std.specs.Ordering.{nat_cmp};
     ghost use Rattle.vs_space.specs.Held.{AreNumbered};
     ghost use Rattle.vs_space.specs.Table.{PageTable};
-    ghost use Rattle.vs_space.specs.inside.Invariant.{IsPageTable};
+    ghost use Rattle.vs_space.specs.inside.Invariant.{IsPageTable, table_in_store};
 
     ghost Value = { PageTable };
 
@@ -46,7 +46,7 @@ impl<S: FrameStore> Model for Space<S> {
 
     ghost view = { λ s. record { depth = s.depth; base = s.tables.base; limit = s.tables.limit; root = s.root; memory = s.tables.memory } };
 
-    ghost invariant = { λ s. IsPageTable s.depth s.tables.memory s.root × AreNumbered s.tables.base s.tables.limit s.tables.memory };
+    ghost invariant = { λ s. IsPageTable (table_in_store s.depth s.tables s.root) × AreNumbered s.tables.base s.tables.limit s.tables.memory };
 }
 
 impl<S: FrameStore> Frames for Space<S> {

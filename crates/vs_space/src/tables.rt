@@ -1,6 +1,7 @@
 ghost use Rattle.std.specs.Prelude.{ℕ, ◌≢◌, Some, slice_index, ◌≡◌, ◌<◌, ◌≤◌, ◌^◌, ◌+◌, ◌-◌, ◌%◌, IfSome, IfNone, IsSome, IsTrue, IsFalse, option_copied};
 ghost use Rattle.std.specs.FinMap as finite;
 ghost use Rattle.vs_arena.specs.Store.{zeros, IsInUse};
+ghost use Rattle.vs_types.specs.declared.limits.TheConstants.{TABLES};
 ghost use Rattle.vs_types.specs.Depth.{levels, index_at, table_bytes, IsCanonical};
 ghost use Rattle.vs_walk.specs.Walk.{walk};
 ghost use Rattle.vs_walk.specs.declared.walk.Walk.{Walk};
@@ -51,7 +52,7 @@ impl<S: FrameStore> Tables<S> {
     /// How many frames there can be in use.
     pub(crate) fn limit(&self) -> usize
         ensures reads { result ≡ self.now.limit }
-        ensures few { result ≤ 4096 }
+        ensures few { result ≤ TABLES }
     {
         self.store.capacity()
     }

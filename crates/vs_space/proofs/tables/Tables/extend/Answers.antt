@@ -12,8 +12,7 @@ use Rattle.vs_space.proofs.tables.Tables.extend.Goals as goal
 pub write-requires-clause-in_use : goal.write-requires-clause-in_use
 write-requires-clause-in_use g c =
     subst (λ (h : Held). IsSome (finite.get h.memory c.loop-level.number)) (sym c.in-Some.ensures.taken)
-    (taken_used c.args.depth c.loop-level.self.memory c.args.root c.args.address c.loop-level.level c.loop-level.number c.in-Some.next
-    c.loop-level.invariant.extended.open_at)
+    (taken_used c.in-Some.next c.loop-level.invariant.extended.open_at)
 
 pub loop-level-preserved : goal.loop-level-preserved
 loop-level-preserved g c =
@@ -24,12 +23,10 @@ loop-level-preserved g c =
     record {
       extended = subst (λ (h : Held). IsExtended c.args.depth c.args.self.now.memory h.memory c.args.root c.args.address c.args.from
           (c.loop-level.level - 1) c.in-Some.next) (sym after)
-          (extended_on c.args.depth c.loop-level.self.memory c.args.root c.args.address c.loop-level.level c.loop-level.number
-          c.loop-level.invariant.extended.open_at (omega (arith, c.requires.some_level, deep)) c.in-Some.next c.in-Some.ensures.was_free
-          (subst (λ (h : Held). AreWhole h.memory) c.in-Some.ensures.taken c.write.ensures.whole) c.word.result
+          (extended_on c.loop-level.invariant.extended.open_at (omega (arith, c.requires.some_level, deep)) c.in-Some.ensures.was_free
+          (subst (λ (h : Held). AreWhole h.memory) c.in-Some.ensures.taken c.write.ensures.whole)
           (ap (meaning c.loop-level.level) c.word.ensures ∙ c.table.ensures.read_back c.loop-level.level (omega (arith, c.requires.some_level, deep)))
-          (c.word.ensures ∙ c.table.ensures.written)
-          c.index_at.result c.index_at.ensures.is c.args.self.now.memory c.args.from c.loop-level.invariant.within c.loop-level.invariant.extended);
+          (c.word.ensures ∙ c.table.ensures.written) c.index_at.ensures.is c.loop-level.invariant.within c.loop-level.invariant.extended);
       above = omega (arith, deep);
       within = omega (arith, c.loop-level.invariant.within);
       same = same_but_memory c.args.self.now c.loop-level.self c.write.new.self _ after c.loop-level.invariant.same;
