@@ -15,17 +15,13 @@ use Rattle.vs_space.specs.Path.{found_at, table_in, table_at, SamePath}
 use Rattle.vs_space.specs.inside.Tree.{IsTree}
 use Rattle.vs_space.specs.inside.Grow.{IsOpen, IsExtended}
 use Rattle.vs_space.proofs.Numbered.{get-insert_same, len-insert_free}
-use Rattle.vs_space.proofs.Writes.{len_write}
+use Rattle.vs_space.proofs.Writes.{used_some, written_in_use, len_written}
 use Rattle.vs_space.proofs.Trees.{but_alike}
 use Rattle.vs_space.proofs.Links.{IsLink, found_in_zeros, still_clear, linked, old_or_new, tree_link, walk_link, table_take, walk_take, tree_take}
 use Rattle.vs_space.proofs.Links.{new_unreached}
 use Rattle.vs_space.proofs.Links.{found_take}
 use Rattle.vs_space.proofs.Reached.{reached_link}
 use Rattle.vs_space.proofs.Written.{written_table}
-
-pub extended_start : {depth : Depth} {m : Memory} {root base from number : ℕ} → IsOpen depth m root base from number
-    → IsExtended depth m m root base from from number
-extended_start opened = record { open_at = opened; walks = λ b. refl; more = omega arith }
 
 module _ {depth : Depth} {m : Memory} {root base level number : ℕ} (opened : IsOpen depth m root base level number) (deep : 1 < level) {f : ℕ}
     (free : finite.get m f ≡ None) (whole : AreWhole (finite.insert m f zeros)) {w : ℕ} (leads : meaning level w ≡ entry.Table f all_rights)
@@ -65,16 +61,26 @@ module _ {depth : Depth} {m : Memory} {root base level number : ℕ} (opened : I
     absent = found_in_zeros (level - 1) new f base (still_clear link);
   }
 
-  pub extended_on : {index : ℕ} → index ≡ index_at level base → {old : Memory} {from : ℕ} → level ≤ from → IsExtended depth old m root base from level number
-      → IsExtended depth old (with_word (finite.insert m f zeros) number index w) root base from (level - 1) f
-  extended_on is_index {old} {from} le extended =
-      subst (λ i. IsExtended depth old (with_word (finite.insert m f zeros) number i w) root base from (level - 1) f) (sym is_index) (record {
-        open_at = open_new;
-        walks = λ b. walks_new b ∙ extended.walks b;
-        more = omega (arith, len_write link.here w, len-insert_free m f zeros free, extended.more, le, deep);
-      })
+-- ---- the tables that are linked, one by one
 
-pub taken_used : {depth : Depth} {m : Memory} {root base level number : ℕ} (f : ℕ) → IsOpen depth m root base level number
-    → IsSome (finite.get (finite.insert m f zeros) number)
-taken_used {m = m} {base = base} {level = level} {number = number} f opened =
-    IsInUse-insert m f zeros number (opened.tree.in_use level base number opened.reached)
+pub extended_start : {m : Memory} {base from number : ℕ} → IsSome (finite.get m number) → IsExtended m m base number from from number
+extended_start used = record { in_use = used; more = omega arith; open_at = λ depth root opened. opened; walks = λ depth root opened b. refl }
+
+pub extended_on : {old m : Memory} {base last from level number : ℕ} → IsExtended old m base last from level number → 1 < level → level ≤ from → (f : ℕ)
+    → finite.get m f ≡ None → AreWhole (finite.insert m f zeros) → {w index : ℕ} → meaning level w ≡ entry.Table f all_rights → w ≡ table_word f
+    → index ≡ index_at level base → IsExtended old (with_word (finite.insert m f zeros) number index w) base last from (level - 1) f
+extended_on {old} {m} {base} {last} {from} {level} {number} extended deep le f free whole {w} {index} leads is_word is_index = record {
+  in_use = written_in_use (finite.insert m f zeros) number index w f (used_some _ f zeros (get-insert_same m f zeros));
+  more = omega (
+    arith,
+    len_written (finite.insert m f zeros) number index w (IsInUse-insert m f zeros number extended.in_use),
+    len-insert_free m f zeros free,
+    extended.more,
+    le,
+    deep,
+  );
+  open_at = λ depth root opened. subst (λ i. IsOpen depth (with_word (finite.insert m f zeros) number i w) root base (level - 1) f) (sym is_index)
+      (open_new (extended.open_at depth root opened) deep free whole leads is_word);
+  walks = λ depth root opened b. subst (λ i. walk depth (with_word (finite.insert m f zeros) number i w) root b ≡ walk depth old root b) (sym is_index)
+      (walks_new (extended.open_at depth root opened) deep free whole leads is_word b ∙ extended.walks depth root opened b);
+}

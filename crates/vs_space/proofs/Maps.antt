@@ -178,7 +178,7 @@ module _ {t : PageTable} (table : IsPageTable t) {page : Page} (good : IsPage t.
         map_is_full t.depth t.limit space page (none_overlapped of) (omega (arith, need_is of, is_need, above))
         ∙ ap (λ n. let s : Stepped = record { space = space; answer = answers.Full n } in s) (need_is of ∙ sym is_need))
 
-    pub is_open : IsOpen t.depth t.memory t.root page.base level (slice_index path level)
+    is_open : IsOpen t.depth t.memory t.root page.base level (slice_index path level)
     is_open = record {
       tree = table.tree;
       filled = but_none page.base table.filled;
@@ -189,10 +189,14 @@ module _ {t : PageTable} (table : IsPageTable t) {page : Page} (good : IsPage t.
     }
 
     -- the leaf is written in the last table
-    module _ {m' : Memory} {number : ℕ} (extended : IsExtended t.depth t.memory m' t.root page.base level (level_of page.size) number) (whole : AreWhole m')
-        {w : ℕ} (leads : meaning (level_of page.size) w ≡ entry.Leaf page.phys page.rights) (is_word : w ≡ leaf_word page.size page.phys page.rights) where
+    module _ {m' : Memory} {number : ℕ} (extended : IsExtended t.memory m' page.base (slice_index path level) level (level_of page.size) number)
+        (whole : AreWhole m') {w : ℕ} (leads : meaning (level_of page.size) w ≡ entry.Leaf page.phys page.rights)
+        (is_word : w ≡ leaf_word page.size page.phys page.rights) where
+      opened : IsOpen t.depth m' t.root page.base (level_of page.size) number
+      opened = extended.open_at t.depth t.root is_open
+
       here : IsTreeAt (levels t.depth) m' t.root (level_of page.size) page.base number
-      here = record { tree = extended.open_at.tree; whole = whole; at = extended.open_at.reached }
+      here = record { tree = opened.tree; whole = whole; at = opened.reached }
 
       ends : table_in (Some (meaning (level_of page.size) w)) ≡ None
       ends = ap (λ e. table_in (Some e)) leads
@@ -232,7 +236,7 @@ module _ {t : PageTable} (table : IsPageTable t) {page : Page} (good : IsPage t.
             is_of = record {
               is_space = step_space limit of.is_of.is_space (Map page) good;
               translates = translates_changed new.memory of.is_of good (done_looks limit of.is_of.is_space page good answer_is) inside_is
-                  (λ b is_b apart. walk_off_path here w b apart ∙ extended.walks b);
+                  (λ b is_b apart. walk_off_path here w b apart ∙ extended.walks t.depth t.root is_open b);
             };
             counted =
                 let count : table_count t.depth after ≡ table_count t.depth (finite.insert space page.base page) =
@@ -243,11 +247,11 @@ module _ {t : PageTable} (table : IsPageTable t) {page : Page} (good : IsPage t.
         table_new : IsPageTable new
         table_new = record {
           tree = tree_write here w ends;
-          filled = filled_by (but_write extended.open_at.filled here w ends) good.canonical
+          filled = filled_by (but_write opened.filled here w ends) good.canonical
               (λ none. let walked = walk_on page.base (λ i from to. refl) in cc);
-          reached = reached_write here w (ap table_in extended.open_at.absent)
+          reached = reached_write here w (ap table_in opened.absent)
               (written_leaf (level_of page.size) w page.phys page.rights leads (leaf_at_level page.size w page.phys page.rights is_word))
-              extended.open_at.all_reached;
+              opened.all_reached;
           whole = whole_write here w;
           root_fits = table.root_fits;
           some_space = ((step t.depth limit table.some_space.0 (Map page)).space, space_is table.some_space.1);

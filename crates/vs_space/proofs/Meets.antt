@@ -1,6 +1,7 @@
 -- What a descent meets, as the code reads it, and the steps of a page table that follow.
 use Rattle.std.proofs.Common.{◌≡◌, ◌≢◌, ℕ, ◌+◌, ◌-◌, ◌%◌, ◌^◌, ◌<◌, ◌≤◌, List, Some, None, ⊎_elim, refl, sym, ap, subst, ◌∙◌, arith}
-use Rattle.std.specs.Prelude.{slice_index}
+use Rattle.std.specs.Prelude.{IsSome, slice_index}
+use Rattle.std.specs.FinMap as finite
 use Rattle.std.proofs.lemmas.Bool.{cases_lt}
 use Rattle.vs_types.specs.Depth.{entry_bytes, index_at, IsCanonical}
 use Rattle.vs_types.specs.Entry.{meaning, size_at, leaf_word}
@@ -44,6 +45,12 @@ met_of {level = level} some descent = record {
   at = descent.reached level (omega arith) descent.below;
   found = descent.is;
 }
+
+-- the last table on the path is in use
+pub used_met : {t : PageTable} → IsPageTable t → {a lowest level n : ℕ} {path : List ℕ} {e : Meaning} → IsDescent t.depth t.memory t.root a lowest level path e
+    → n ≡ slice_index path level → IsSome (finite.get t.memory n)
+used_met {t} table {a} {level = level} descent is =
+    subst (λ q. IsSome (finite.get t.memory q)) (sym is) (table.tree.in_use level a _ (descent.reached level (omega arith) descent.below))
 
 -- an entry of the lowest level leads to no table
 pub never_table : (word n : ℕ) (own : Rights) → meaning 1 word ≡ entry.Table n own → ⊥

@@ -46,7 +46,7 @@ written_in_use m n i w q used = ⊎_elim
     (λ (other : q ≢ n). subst IsSome (sym (get_written_other m n i w q other)) used)
     (cases_eq q n)
 
-len_written : (m : Memory) (n i w : ℕ) → IsSome (finite.get m n) → finite.len (with_word m n i w) ≡ finite.len m
+pub len_written : (m : Memory) (n i w : ℕ) → IsSome (finite.get m n) → finite.len (with_word m n i w) ≡ finite.len m
 unfolding with_word
 len_written m n i w used = len-insert_used m n _ _ (words_in m n used)
 

@@ -108,9 +108,12 @@ impl<S: FrameStore> Space<S> {
         ensures reads { result ≡ self.now.root }
         ensures some_space { (space : spaces.Space) × IsTableOf self.now space }
         ensures faultless { walk_fault self.now.depth self.now.memory self.now.root ≡ None }
-        ensures in_use { (number : ℕ) → Contains (reached (traversal self.now.depth self.now.memory self.now.root)) number → IsTrue (finite.contains_key self.now.memory number) }
-        ensures each { (number : ℕ) → IsTrue (finite.contains_key self.now.memory number) → Contains (reached (traversal self.now.depth self.now.memory self.now.root)) number }
-        ensures written { (number : ℕ) → IsTrue (finite.contains_key self.now.memory number) → IsWrittenTable self.now.depth self.now.memory self.now.root number }
+        ensures in_use { (number : ℕ) → Contains (reached (traversal self.now.depth self.now.memory self.now.root)) number
+            → IsTrue (finite.contains_key self.now.memory number) }
+        ensures each { (number : ℕ) → IsTrue (finite.contains_key self.now.memory number)
+            → Contains (reached (traversal self.now.depth self.now.memory self.now.root)) number }
+        ensures written { (number : ℕ) → IsTrue (finite.contains_key self.now.memory number)
+            → IsWrittenTable self.now.depth self.now.memory self.now.root number }
         ensures from_base { (number : ℕ) → IsTrue (finite.contains_key self.now.memory number) → self.now.base ≤ number }
         ensures below_limit { (number : ℕ) → IsTrue (finite.contains_key self.now.memory number) → number < self.now.base + self.now.limit }
         ensures in_range { (number : ℕ) → IsTrue (finite.contains_key self.now.memory number) → number < 2 ^ 40 }
@@ -184,14 +187,7 @@ impl<S: FrameStore> Space<S> {
         if need > limit {
             return Answer::Full(need as u64);
         }
-        let number = self.tables.extend(
-            self.depth,
-            self.root,
-            page.base,
-            descent.number,
-            level,
-            lowest,
-        );
+        let number = self.tables.extend(page.base, descent.number, level, lowest);
         let leaf = Entry::leaf(page.size, page.phys, page.rights);
         self.tables
             .write(number, index_at(lowest, page.base), leaf.word());

@@ -13,7 +13,7 @@ ghost use Rattle.vs_walk.specs.Memory.{AreWhole};
 ghost use Rattle.vs_space.specs.Path.{found_at, table_at, entry_in, IsFirstPresent, HasPresent};
 ghost use Rattle.vs_space.specs.inside.Tree.{IsTree, IsFilled, IsReached, AreWritten};
 ghost use Rattle.vs_space.specs.Written.{IsWritten};
-ghost use Rattle.vs_space.specs.inside.Grow.{IsOpen, IsExtended, IsLeastBase};
+ghost use Rattle.vs_space.specs.inside.Grow.{IsExtended, IsLeastBase};
 ghost use Rattle.vs_space.specs.inside.Descent.{IsDescent};
 
 use crate::descent::{Descent, PATH_LENGTH};
@@ -241,21 +241,13 @@ impl<S: FrameStore> Tables<S> {
 
     /// Links new tables on the path of an address below its last table, which has this frame number and level, down to
     /// the lowest level. Answers the last one's number.
-    pub(crate) fn extend(
-        &mut self,
-        depth: Depth,
-        root: u64,
-        address: u64,
-        last: u64,
-        from: u8,
-        lowest: u8,
-    ) -> u64
-        requires open_at { IsOpen depth self.old.memory root address from last }
+    pub(crate) fn extend(&mut self, address: u64, last: u64, from: u8, lowest: u8) -> u64
+        requires in_use { IsSome (finite.get self.old.memory last) }
         requires some_level { 1 ≤ lowest }
         requires within { lowest ≤ from }
         requires few_levels { from ≤ 5 }
         requires room { finite.len self.old.memory + (from - lowest) ≤ self.old.limit }
-        ensures extended { IsExtended depth self.old.memory self.new.memory root address from lowest result }
+        ensures extended { IsExtended self.old.memory self.new.memory address last from lowest result }
         ensures same { self.new ≡ record self.old { memory = self.new.memory } }
     {
         let mut level = from;

@@ -1,4 +1,5 @@
 use Rattle.std.proofs.Common.{◌≡◌, ℕ, ◌+◌, ◌-◌, ◌%◌, ◌≤◌, List, Some, sym, ap, subst, ◌∙◌, arith}
+use Rattle.std.specs.Prelude.{slice_index}
 use Rattle.std.specs.FinMap as finite
 use Rattle.vs_types.specs.Depth.{levels, index_at}
 use Rattle.vs_types.specs.Entry.{meaning, leaf_word}
@@ -12,23 +13,25 @@ use Rattle.vs_space.specs.Held.{Held, with_word}
 use Rattle.vs_space.specs.Path.{table_at}
 use Rattle.vs_space.specs.Table.{PageTable, IsTableStep}
 use Rattle.vs_space.specs.inside.Descent.{IsDescent}
-use Rattle.vs_space.specs.inside.Grow.{IsOpen, IsExtended, IsLeastBase}
+use Rattle.vs_space.specs.inside.Grow.{IsExtended, IsLeastBase}
 use Rattle.vs_space.specs.inside.Invariant.{IsPageTable, table_in_store}
-use Rattle.vs_space.proofs.Meets.{descended, seen}
-use Rattle.vs_space.proofs.Maps.{reserved_never, leaf_overlaps, not_lowest, table_reached, table_overlaps, full_step, is_open, mapped}
+use Rattle.vs_space.proofs.Meets.{descended, used_met, seen}
+use Rattle.vs_space.proofs.Maps.{reserved_never, leaf_overlaps, not_lowest, table_reached, table_overlaps, full_step, mapped}
 use Rattle.vs_space.proofs.space.Space.map.Goals as goal
 
 -- the page is mapped, where the level of its tables and how many are added have names of their own
 added : {t : PageTable} → IsPageTable t → {page : Page} → IsPage t.depth page → {level : ℕ} {path : List ℕ}
     → IsDescent t.depth t.memory t.root page.base (level_of page.size) level path entry.Absent
-    → {lowest : ℕ} → lowest ≡ level_of page.size → {m : Memory} {number : ℕ} → IsExtended t.depth t.memory m t.root page.base level lowest number → AreWhole m
+    → {last lowest : ℕ} → last ≡ slice_index path level → lowest ≡ level_of page.size → {m : Memory} {number : ℕ}
+    → IsExtended t.memory m page.base last level lowest number → AreWhole m
     → {word index more : ℕ} → meaning (level_of page.size) word ≡ entry.Leaf page.phys page.rights → word ≡ leaf_word page.size page.phys page.rights
     → index ≡ index_at lowest page.base → more ≡ level - lowest → finite.len t.memory + more ≤ t.limit
     → IsPageTable (record t { memory = with_word m number index word })
     × IsTableStep t (Map page) answers.Done (record t { memory = with_word m number index word })
-added {t} table {page} good {level} descent lowest_is {m} {number} extended whole {index = index} leads is_word at more_is few =
+added {t} table {page} good {level} descent {last} last_is lowest_is {m} {number} extended whole {index = index} leads is_word at more_is few =
     let below = ap (λ l. level - l) lowest_is in
-    mapped table good descent (subst (λ l. IsExtended t.depth t.memory m t.root page.base level l number) lowest_is extended) whole leads is_word
+    mapped table good descent (subst (λ n. IsExtended t.memory m page.base n level (level_of page.size) number) last_is
+    (subst (λ l. IsExtended t.memory m page.base last level l number) lowest_is extended)) whole leads is_word
     (subst (λ l. index ≡ index_at l page.base) lowest_is at) (omega (arith, below, more_is, few))
 
 pub least_base-base-requires-clause-some_level : goal.least_base-base-requires-clause-some_level
@@ -79,13 +82,8 @@ returns-then-need-limit g c =
     subst (λ (t : PageTable). IsTableStep t (Map c.args.page) (answers.Full (c.used.result + c.from.result)) t) c.self.view_is
     (full_step c.self.invariant.0 good descent need (omega (arith, c.if-need-limit.true, c.limit-limit.ensures.reads)))
 
-pub extend-number-requires-clause-open_at : goal.extend-number-requires-clause-open_at
-extend-number-requires-clause-open_at g c =
-    let inside = c.self.inside in
-    let good = subst (λ (t : PageTable). IsPage t.depth c.args.page) (sym c.self.view_is) c.requires in
-    let descent = descended c.level-lowest.ensures (sym c.in-Absent.ensures) c.descend-descent.ensures.descent in
-    subst (λ n. IsOpen inside.depth inside.tables.memory inside.root c.args.page.base c.descend-descent.result.level n) (sym c.descend-descent.ensures.last)
-    (is_open c.self.invariant.0 good descent)
+pub extend-number-requires-clause-in_use : goal.extend-number-requires-clause-in_use
+extend-number-requires-clause-in_use g c = used_met c.self.invariant.0 c.descend-descent.ensures.descent c.descend-descent.ensures.last
 
 pub invariant_of-self : goal.invariant_of-self
 invariant_of-self g c =
@@ -95,7 +93,7 @@ invariant_of-self g c =
     record { base = h.base; limit = h.limit; memory = with_word c.extend-number.new.self.memory c.extend-number.result c.index_at.result c.word.result }
     in r) c.extend-number.ensures.same in (
       subst (λ (h : Held). IsPageTable (table_in_store c.self.inside.depth h c.self.inside.root)) (sym written)
-          (added c.self.invariant.0 good descent c.level-lowest.ensures c.extend-number.ensures.extended c.write.ensures.whole
+          (added c.self.invariant.0 good descent c.descend-descent.ensures.last c.level-lowest.ensures c.extend-number.ensures.extended c.write.ensures.whole
           (ap (meaning (level_of c.args.page.size)) c.word.ensures ∙ c.leaf-leaf.ensures.read_back) (c.word.ensures ∙ c.leaf-leaf.ensures.written)
           c.index_at.ensures.is c.from.ensures (omega (arith, c.used.ensures.counts, c.if-need-limit.false, c.limit-limit.ensures.reads))).0,
       c.write.ensures.numbers,
@@ -109,6 +107,6 @@ returns g c =
     record { base = h.base; limit = h.limit; memory = with_word c.extend-number.new.self.memory c.extend-number.result c.index_at.result c.word.result }
     in r) c.extend-number.ensures.same in
     seen c.self.view_is written
-    (added c.self.invariant.0 good descent c.level-lowest.ensures c.extend-number.ensures.extended c.write.ensures.whole
+    (added c.self.invariant.0 good descent c.descend-descent.ensures.last c.level-lowest.ensures c.extend-number.ensures.extended c.write.ensures.whole
     (ap (meaning (level_of c.args.page.size)) c.word.ensures ∙ c.leaf-leaf.ensures.read_back) (c.word.ensures ∙ c.leaf-leaf.ensures.written)
     c.index_at.ensures.is c.from.ensures (omega (arith, c.used.ensures.counts, c.if-need-limit.false, c.limit-limit.ensures.reads))).1

@@ -1,6 +1,4 @@
-use Rattle.std.proofs.Common.{◌-◌, ◌%◌, refl, sym, ap, subst, ◌∙◌, arith}
-use Rattle.std.specs.Prelude.{IsSome}
-use Rattle.std.specs.FinMap as finite
+use Rattle.std.proofs.Common.{◌-◌, ◌%◌, refl, sym, ap, subst, ◌∙◌}
 use Rattle.vs_types.specs.Depth.{IsCanonical}
 use Rattle.vs_types.specs.Entry.{meaning}
 use Rattle.vs_types.specs.Page.{level_of}
@@ -10,7 +8,7 @@ use Rattle.vs_space.specs.Held.{Held, with_word}
 use Rattle.vs_space.specs.Table.{PageTable, IsTableStep}
 use Rattle.vs_space.specs.inside.Invariant.{IsPageTable, table_in_store}
 use Rattle.vs_space.proofs.Numbered.{held}
-use Rattle.vs_space.proofs.Meets.{descended, leaf_again, protect_absent, protect_in, protected, seen}
+use Rattle.vs_space.proofs.Meets.{descended, used_met, leaf_again, protect_absent, protect_in, protected, seen}
 use Rattle.vs_space.proofs.space.Space.protect.Goals as goal
 
 pub returns-in_default : goal.returns-in_default
@@ -40,11 +38,7 @@ leaf-leaf-requires-clause-in_range g c =
     (leaf_again c.self.invariant.0 canonical descent c.at_level-size.ensures).2
 
 pub write-requires-clause-in_use : goal.write-requires-clause-in_use
-write-requires-clause-in_use g c =
-    let inside = c.self.inside in
-    let descent = c.descend-descent.ensures.descent in
-    subst (λ n. IsSome (finite.get inside.tables.memory n)) (sym c.descend-descent.ensures.last)
-    (c.self.invariant.0.tree.in_use _ c.args.base _ (descent.reached c.descend-descent.result.level (omega arith) descent.below))
+write-requires-clause-in_use g c = used_met c.self.invariant.0 c.descend-descent.ensures.descent c.descend-descent.ensures.last
 
 pub invariant_of-self : goal.invariant_of-self
 invariant_of-self g c =

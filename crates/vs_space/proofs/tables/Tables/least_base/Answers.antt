@@ -2,7 +2,7 @@ use Rattle.std.proofs.Common.{◌≡◌, ◌+◌, ◌*◌, ◌%◌, ◌^◌, Som
 use Rattle.vs_space.specs.Path.{found_at}
 use Rattle.vs_types.specs.declared.entry.Meaning.TheVariants as entry
 use Rattle.vs_space.proofs.Written.{written_at}
-use Rattle.vs_space.proofs.Canonical.{canonical_fits}
+use Rattle.vs_types.proofs.Pages.{canonical_fits}
 use Rattle.vs_space.proofs.Searches.{not_empty, offset_of, next_canonical, present_ends, search_on, deep_table}
 use Rattle.vs_space.proofs.tables.Tables.least_base.Goals as goal
 
