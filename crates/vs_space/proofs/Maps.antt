@@ -30,7 +30,7 @@ use Rattle.vs_walk.specs.declared.walk.Walk.TheVariants.{Mapped}
 use Rattle.vs_space.specs.Held.{with_word}
 use Rattle.vs_space.specs.Path.{found_at, table_at, table_in, SamePath}
 use Rattle.vs_space.specs.inside.Tree.{NothingUnder}
-use Rattle.vs_space.specs.inside.Grow.{IsOpen, IsExtended, IsLeastBase}
+use Rattle.vs_space.specs.inside.Grow.{IsOpen, IsExtended, IsBelowRoot, IsLeastBase}
 use Rattle.vs_space.specs.inside.Descent.{IsDescent}
 use Rattle.vs_space.specs.Table.{PageTable, IsTableStep}
 use Rattle.vs_space.specs.inside.Invariant.{IsSpaceOf, IsPageTable}
@@ -39,7 +39,7 @@ use Rattle.vs_space.proofs.Writes.{IsTreeAt, walk_off_path, len_write}
 use Rattle.vs_space.proofs.Trees.{tree_write, walk_to_leaf, but_none, but_write, filled_by}
 use Rattle.vs_space.proofs.Reached.{reached_write, whole_write}
 use Rattle.vs_space.proofs.Regions.{walk_in, leaf_page, nothing_at, translates_changed, covers_path, path_covers}
-use Rattle.vs_space.proofs.Protects.{IsMet, own_space, space_of, never_reserved, page_here, stays}
+use Rattle.vs_space.proofs.Protects.{IsMet, faultless, own_space, space_of, never_reserved, page_here, stays}
 use Rattle.vs_space.proofs.Meets.{met_of, never_table}
 use Rattle.vs_space.proofs.Prunes.{absent_under}
 use Rattle.vs_space.proofs.Written.{written_leaf, leaf_at_level}
@@ -108,17 +108,21 @@ module _ {t : PageTable} (table : IsPageTable t) {page : Page} (good : IsPage t.
         absurd (never_table (slice_index words.0 (index_at 1 page.base)) next rights words.2))
         (cases_lt 1 (level_of page.size))
 
-    pub within_root : level_of page.size - 1 < levels t.depth
-    within_root = omega (arith, own_level, descent.below, not_lowest)
-
-    pub base_aligned : page.base % table_bytes (level_of page.size - 1) ≡ 0
-    base_aligned = let e : 12 + 9 * (level_of page.size - 1) ≡ 3 + 9 * level_of page.size = omega (arith, not_lowest) in
-        subst (λ n. page.base % 2 ^ n ≡ 0) (sym e) good.aligned
-
-    pub table_reached : table_at (levels t.depth) t.memory t.root (level_of page.size - 1) page.base ≡ Some next
-    table_reached =
-        table_below (levels t.depth) t.root t.memory level (level_of page.size - 1) page.base (slice_index path level) (omega (arith, own_level, not_lowest))
-        (descent.reached level (omega arith) descent.below) ∙ ap table_in descent.is
+    -- the table begins where the page would
+    pub below_root : IsBelowRoot t.depth t.memory t.root page.base (level_of page.size - 1) next
+    below_root = record {
+      tree = table.tree;
+      all_reached = table.reached;
+      filled = table.filled;
+      faultless = faultless table;
+      canonical = good.canonical;
+      some = omega (arith, not_lowest);
+      below = omega (arith, own_level, descent.below, not_lowest);
+      aligned = let e : 12 + 9 * (level_of page.size - 1) ≡ 3 + 9 * level_of page.size = omega (arith, not_lowest) in
+          subst (λ n. page.base % 2 ^ n ≡ 0) (sym e) good.aligned;
+      reached = table_below (levels t.depth) t.root t.memory level (level_of page.size - 1) page.base (slice_index path level)
+          (omega (arith, own_level, not_lowest)) (descent.reached level (omega arith) descent.below) ∙ ap table_in descent.is;
+    }
 
     pub table_overlaps : {base : ℕ} → IsLeastBase t.depth t.memory t.root page.base (level_of page.size - 1) base
         → IsTableStep t (Map page) (answers.Overlap base) t

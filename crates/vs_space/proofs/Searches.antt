@@ -17,7 +17,7 @@ use Rattle.vs_walk.specs.Walk.{walk}
 use Rattle.vs_walk.specs.declared.walk.Walk.TheVariants.{NotMapped, Reserved}
 use Rattle.vs_space.specs.Path.{found_at, entry_in, IsFirstPresent, table_in, table_at, SamePath}
 use Rattle.vs_space.specs.inside.Tree.{IsTree, IsFilled}
-use Rattle.vs_space.specs.inside.Grow.{IsLeastBase}
+use Rattle.vs_space.specs.inside.Grow.{IsBelowRoot, IsLeastBase}
 use Rattle.vs_space.proofs.Paths.{table_below, same_table, walk_absent, walk_reserved, words_found}
 use Rattle.vs_space.proofs.Meets.{never_table}
 use Rattle.vs_space.proofs.Regions.{stretch_same, in_block}
@@ -35,18 +35,18 @@ pub record IsSearching (depth : Depth) (m : Memory) (root start from level numbe
   pub aligned : base % table_bytes level ≡ 0
   pub reached : table_at (levels depth) m root level base ≡ Some number
 
-pub searching_start : {depth : Depth} {m : Memory} {root start from number : ℕ} → IsCanonical depth start → 1 ≤ from → from < levels depth
-    → start % table_bytes from ≡ 0 → table_at (levels depth) m root from start ≡ Some number → IsSearching depth m root start from from number start
-searching_start canonical some below aligned reached = record {
-  canonical = canonical;
+pub searching_start : {depth : Depth} {m : Memory} {root start from number : ℕ} → IsBelowRoot depth m root start from number
+    → IsSearching depth m root start from from number start
+searching_start start = record {
+  canonical = start.canonical;
   from_start = omega arith;
   same_path = λ i over under. refl;
   before = λ b is_b lo hi. absurd (omega arith);
-  some = some;
+  some = start.some;
   within = omega arith;
-  below = below;
-  aligned = aligned;
-  reached = reached;
+  below = start.below;
+  aligned = start.aligned;
+  reached = start.reached;
 }
 
 -- an address of an aligned stretch of 512 parts, by its part

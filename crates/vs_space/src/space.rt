@@ -171,9 +171,7 @@ impl<S: FrameStore> Space<S> {
         match read_written(level, descent.word) {
             Meaning::Absent => {}
             Meaning::Table(table, _) => {
-                let base = self
-                    .tables
-                    .least_base(self.depth, self.root, page.base, table, lowest - 1);
+                let base = self.tables.least_base(page.base, table, lowest - 1);
                 return Answer::Overlap(base);
             }
             Meaning::Leaf(_, _) => {

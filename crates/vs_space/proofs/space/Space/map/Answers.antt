@@ -10,13 +10,12 @@ use Rattle.vs_types.specs.declared.op.Action.TheVariants.{Map}
 use Rattle.vs_types.specs.declared.answer.Answer.TheVariants as answers
 use Rattle.vs_walk.specs.Memory.{Memory, AreWhole}
 use Rattle.vs_space.specs.Held.{Held, with_word}
-use Rattle.vs_space.specs.Path.{table_at}
 use Rattle.vs_space.specs.Table.{PageTable, IsTableStep}
 use Rattle.vs_space.specs.inside.Descent.{IsDescent}
-use Rattle.vs_space.specs.inside.Grow.{IsExtended, IsLeastBase}
+use Rattle.vs_space.specs.inside.Grow.{IsExtended, IsBelowRoot, IsLeastBase}
 use Rattle.vs_space.specs.inside.Invariant.{IsPageTable, table_in_store}
 use Rattle.vs_space.proofs.Meets.{descended, used_met, seen}
-use Rattle.vs_space.proofs.Maps.{reserved_never, leaf_overlaps, not_lowest, table_reached, table_overlaps, full_step, mapped}
+use Rattle.vs_space.proofs.Maps.{reserved_never, leaf_overlaps, below_root, table_overlaps, full_step, mapped}
 use Rattle.vs_space.proofs.space.Space.map.Goals as goal
 
 -- the page is mapped, where the level of its tables and how many are added have names of their own
@@ -34,29 +33,27 @@ added {t} table {page} good {level} descent {last} last_is lowest_is {m} {number
     (subst (λ l. IsExtended t.memory m page.base last level l number) lowest_is extended)) whole leads is_word
     (subst (λ l. index ≡ index_at l page.base) lowest_is at) (omega (arith, below, more_is, few))
 
-pub least_base-base-requires-clause-some_level : goal.least_base-base-requires-clause-some_level
-least_base-base-requires-clause-some_level g c =
-    let good = subst (λ (t : PageTable). IsPage t.depth c.args.page) (sym c.self.view_is) c.requires in
-    let descent = descended c.level-lowest.ensures (sym c.in-Table.ensures) c.descend-descent.ensures.descent in
-    omega (arith, not_lowest c.self.invariant.0 good descent, c.level-lowest.ensures)
-
-pub least_base-base-requires-clause-reached : goal.least_base-base-requires-clause-reached
-least_base-base-requires-clause-reached g c =
+pub least_base-base-requires : goal.least_base-base-requires
+least_base-base-requires g c =
     let inside = c.self.inside in
     let good = subst (λ (t : PageTable). IsPage t.depth c.args.page) (sym c.self.view_is) c.requires in
-    let descent = descended c.level-lowest.ensures (sym c.in-Table.ensures) c.descend-descent.ensures.descent in
-    subst (λ l. table_at (levels inside.depth) inside.tables.memory inside.root (l - 1) c.args.page.base ≡ Some c.in-Table.table) (sym c.level-lowest.ensures)
-    (table_reached c.self.invariant.0 good descent)
+    let descent = descended c.level-lowest.ensures (sym c.in-Table.ensures) c.descend-descent.ensures.descent in (
+      inside.depth,
+      inside.root,
+      subst (λ l. IsBelowRoot inside.depth inside.tables.memory inside.root c.args.page.base (l - 1) c.in-Table.table) (sym c.level-lowest.ensures)
+          (below_root c.self.invariant.0 good descent),
+    )
 
 pub returns-in-Table : goal.returns-in-Table
 returns-in-Table g c =
     let inside = c.self.inside in
     let good = subst (λ (t : PageTable). IsPage t.depth c.args.page) (sym c.self.view_is) c.requires in
     let descent = descended c.level-lowest.ensures (sym c.in-Table.ensures) c.descend-descent.ensures.descent in
-    let first = subst (λ l. IsLeastBase inside.depth inside.tables.memory inside.root c.args.page.base (l - 1) c.least_base-base.result)
-    c.level-lowest.ensures c.least_base-base.ensures in
+    let first = subst (λ l. IsBelowRoot inside.depth inside.tables.memory inside.root c.args.page.base (l - 1) c.in-Table.table
+    → IsLeastBase inside.depth inside.tables.memory inside.root c.args.page.base (l - 1) c.least_base-base.result)
+    c.level-lowest.ensures (c.least_base-base.ensures inside.depth inside.root) in
     subst (λ (t : PageTable). IsTableStep t (Map c.args.page) (answers.Overlap c.least_base-base.result) t) c.self.view_is
-    (table_overlaps c.self.invariant.0 good descent first)
+    (table_overlaps c.self.invariant.0 good descent (first (below_root c.self.invariant.0 good descent)))
 
 pub returns-in-Leaf : goal.returns-in-Leaf
 returns-in-Leaf g c =
