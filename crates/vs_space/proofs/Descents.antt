@@ -58,9 +58,6 @@ module _ {depth : Depth} {m : Memory} {root a lowest level number : ℕ} {path :
   at : table_at (levels depth) m root level a ≡ Some number
   at = on.reached level (omega arith) on.below ∙ ap Some (sym on.last)
 
-  pub used_here : IsTree (levels depth) m root → IsSome (finite.get m number)
-  used_here tree = tree.in_use level a number at
-
   -- its words are as written
   pub written_on_path : IsTree (levels depth) m root → IsReached (levels depth) m root → AreWritten level m number
   written_on_path tree all = written_at tree all level a number at

@@ -63,9 +63,6 @@ module _ {depth : Depth} {m : Memory} {root base level number : ℕ} (opened : I
 
 -- ---- the tables that are linked, one by one
 
-pub extended_start : {m : Memory} {base from number : ℕ} → IsSome (finite.get m number) → IsExtended m m base number from from number
-extended_start used = record { in_use = used; more = omega arith; open_at = λ depth root opened. opened; walks = λ depth root opened b. refl }
-
 pub extended_on : {old m : Memory} {base last from level number : ℕ} → IsExtended old m base last from level number → 1 < level → level ≤ from → (f : ℕ)
     → finite.get m f ≡ None → AreWhole (finite.insert m f zeros) → {w index : ℕ} → meaning level w ≡ entry.Table f all_rights → w ≡ table_word f
     → index ≡ index_at level base → IsExtended old (with_word (finite.insert m f zeros) number index w) base last from (level - 1) f

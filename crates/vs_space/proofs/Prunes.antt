@@ -106,10 +106,6 @@ pub record IsPruning (depth : Depth) (old m : Memory) (root base from level : �
   pub above : from ≤ level
   pub fewer : finite.len m + (level - from) ≡ finite.len old
 
-pub pruning_start : {depth : Depth} {m : Memory} {root base from : ℕ} {path : List ℕ} → IsCut depth m root base from path
-    → IsPruning depth m m root base from from path
-pruning_start cut = record { cut = cut; walks = λ b canonical. refl; above = omega arith; fewer = omega arith }
-
 module _ {depth : Depth} {m : Memory} {root base level : ℕ} {path : List ℕ} (cut : IsCut depth m root base level path) where
   here : IsTreeAt (levels depth) m root level base (slice_index path level)
   here = record { tree = cut.tree; whole = cut.whole; at = cut.reached level (omega arith) cut.below }

@@ -267,7 +267,8 @@ impl<S: FrameStore> Tables<S> {
     /// The base of the first page below a table of this level, which begins at the address.
     pub(crate) fn least_base(&self, address: u64, table: u64, from: u8) -> u64
         requires { (depth : Depth) × (root : ℕ) × IsBelowRoot depth self.now.memory root address from table }
-        ensures { (depth : Depth) (root : ℕ) → IsBelowRoot depth self.now.memory root address from table → IsLeastBase depth self.now.memory root address from result }
+        ensures { (depth : Depth) (root : ℕ) → IsBelowRoot depth self.now.memory root address from table
+            → IsLeastBase depth self.now.memory root address from result }
     {
         let mut level = from;
         let mut number = table;
