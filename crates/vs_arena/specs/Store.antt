@@ -2,6 +2,7 @@
 use Rattle.std.specs.Prelude.{◌≡◌, ℕ, ◌+◌, ◌^◌, ◌<◌, ◌≤◌, List, [], replicate, unwrap_or, Some, None, IsSome}
 use Rattle.std.specs.FinMap as finite
 use Rattle.std.specs.Ordering.{nat_cmp}
+use Rattle.vs_types.specs.declared.frame.TheConstants.{FRAME_WORDS}
 use Rattle.vs_types.specs.declared.limits.TheConstants.{TABLES}
 use Rattle.vs_types.specs.Frame.{IsFrame}
 
@@ -22,7 +23,7 @@ words_of store index = unwrap_or (finite.get store index) []
 
 -- a frame of zeros
 abbrev pub zeros : List ℕ
-zeros = replicate 512 0
+zeros = replicate FRAME_WORDS 0
 
 -- the frames in use of a store with this base frame number and this capacity
 pub record IsStore (base size : ℕ) (store : Store) : Type 0 where

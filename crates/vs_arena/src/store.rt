@@ -1,5 +1,6 @@
 ghost use Rattle.std.specs.Prelude.{◌≡◌, ℕ, ◌+◌, ◌^◌, ◌<◌, ◌≤◌, IfSome, IfNone, slice_index, slice_set};
 ghost use Rattle.std.specs.FinMap as finite;
+ghost use Rattle.vs_types.specs.declared.frame.TheConstants.{FRAME_WORDS};
 ghost use Rattle.vs_arena.specs.Store.{Store, IsInUse, IsFree, words_of, zeros, IsStore};
 
 use crate::frame::Frame;
@@ -50,13 +51,13 @@ pub trait FrameStore {
     /// The word of a frame in use at an index below 512.
     fn get(&self, frame: Frame, index: usize) -> u64
         requires in_use { IsInUse (frames self.now) frame }
-        requires in_frame { index < 512 }
+        requires in_frame { index < FRAME_WORDS }
         ensures { result ≡ slice_index (words_of (frames self.now) frame) index };
 
     /// Writes one word of a frame in use, at an index below 512.
     fn set(&mut self, frame: Frame, index: usize, word: u64)
         requires in_use { IsInUse (frames self.old) frame }
-        requires in_frame { index < 512 }
+        requires in_frame { index < FRAME_WORDS }
         ensures written { frames self.new
             ≡ finite.insert (frames self.old) frame (slice_set (words_of (frames self.old) frame) index word) }
         ensures same_base { base self.new ≡ base self.old }

@@ -70,12 +70,6 @@ canonical_halves depth a = (
       ↔ ((a / half_bytes depth ≡ 0) ⊎ (a / half_bytes depth ≡ 2 * odd_bits depth - 1))
   stretches = first_or_last (half_bytes depth) (2 * odd_bits depth - 1) a (pow_pos (12 + 9 * levels depth - 1))
 
-pub canonical_fits : (depth : Depth) (a : ℕ) → IsCanonical depth a → a < 2 ^ 64
-canonical_fits depth a is = ⊎_elim
-    (λ low. omega (arith, halves depth, low))
-    (λ high. high.1)
-    ((canonical_means depth a).0 is)
-
 -- addresses with the same bits from the highest translated one on are canonical together
 pub half_same : (depth : Depth) (a b : ℕ) → IsCanonical depth a → a / half_bytes depth ≡ b / half_bytes depth → IsCanonical depth b
 half_same depth a b is same = (canonical_halves depth b).1

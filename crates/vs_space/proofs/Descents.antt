@@ -17,12 +17,13 @@ use Rattle.vs_space.specs.Path.{found_at, table_at, table_in}
 use Rattle.vs_space.specs.inside.Tree.{IsTree, IsReached, AreWritten}
 use Rattle.vs_space.specs.inside.Descent.{IsDescent}
 use Rattle.vs_space.proofs.Paths.{table_first, table_below}
+use Rattle.vs_space.proofs.Trees.{one_some}
 use Rattle.vs_space.proofs.Written.{written_at}
 
-pub entry_read : (level : ℕ) (m : Memory) (n a index word : ℕ) (e : Meaning) → word_at m n index ≡ Some word → index ≡ index_at level a
+pub entry_read : (level : ℕ) (m : Memory) (n a : ℕ) {index word : ℕ} {e : Meaning} → word_at m n index ≡ Some word → index ≡ index_at level a
     → e ≡ meaning level word → found_at level m n a ≡ Some e
 unfolding found_at
-entry_read level m n a index word e got is reads = ap (λ i. option_map (meaning level) (word_at m n i)) (sym is) ∙ ap (option_map (meaning level)) got
+entry_read level m n a got is reads = ap (λ i. option_map (meaning level) (word_at m n i)) (sym is) ∙ ap (option_map (meaning level)) got
     ∙ ap Some (sym reads)
 
 -- the tables on the path of an address, from the root down to this level
@@ -33,9 +34,9 @@ pub record IsOnPath (depth : Depth) (memory : Memory) (root address lowest level
   pub last : number ≡ slice_index path level
   pub reached : (j : ℕ) → level ≤ j → j ≤ levels depth → table_at (levels depth) memory root j address ≡ Some (slice_index path j)
 
-pub at_root : (depth : Depth) (m : Memory) (root a lowest level : ℕ) (path : List ℕ) → level ≡ levels depth → lowest ≤ levels depth → length path ≡ 6
+pub at_root : {depth : Depth} {m : Memory} {root a lowest level : ℕ} {path : List ℕ} → level ≡ levels depth → lowest ≤ levels depth → length path ≡ 6
     → ((j : ℕ) → j < 6 → slice_index path j ≡ root) → IsOnPath depth m root a lowest level root path
-at_root depth m root a lowest level path top low long same = record {
+at_root {depth} {m} {root} {a} {level = level} {path = path} top low long same = record {
   above = omega arith;
   below = omega arith;
   long = long;
@@ -46,10 +47,6 @@ at_root depth m root a lowest level path top low long same = record {
       (table_first (levels depth) root m a ∙ ap Some (sym (same j (omega (arith, few_levels depth)))));
 }
 
-pub used_here : (depth : Depth) (m : Memory) (root a lowest level number : ℕ) (path : List ℕ) → IsTree (levels depth) m root
-    → IsOnPath depth m root a lowest level number path → IsSome (finite.get m number)
-used_here depth m root a lowest level number path tree on = tree.in_use level a number (on.reached level (omega arith) on.below ∙ ap Some (sym on.last))
-
 -- what is no table leads to none
 pub no_table : (e : Meaning) → ((n : ℕ) (own : Rights) → e ≢ entry.Table n own) → table_in (Some e) ≡ None
 no_table entry.Absent other = refl
@@ -57,44 +54,42 @@ no_table entry.Reserved other = refl
 no_table (entry.Leaf phys own) other = refl
 no_table (entry.Table n own) other = absurd (other n own refl)
 
--- and its words are as written
-pub written_on_path : (depth : Depth) (m : Memory) (root a lowest level number : ℕ) (path : List ℕ) → IsTree (levels depth) m root
-    → IsReached (levels depth) m root → IsOnPath depth m root a lowest level number path → AreWritten level m number
-written_on_path depth m root a lowest level number path tree all on =
-    written_at (levels depth) root m tree all level a number (on.reached level (omega arith) on.below ∙ ap Some (sym on.last))
+module _ {depth : Depth} {m : Memory} {root a lowest level number : ℕ} {path : List ℕ} (on : IsOnPath depth m root a lowest level number path) where
+  at : table_at (levels depth) m root level a ≡ Some number
+  at = on.reached level (omega arith) on.below ∙ ap Some (sym on.last)
 
-pub stops : (depth : Depth) (m : Memory) (root a lowest level number : ℕ) (path : List ℕ) (e : Meaning) → IsOnPath depth m root a lowest level number path
-    → found_at level m number a ≡ Some e → (lowest < level → table_in (Some e) ≡ None) → IsDescent depth m root a lowest level path e
-stops depth m root a lowest level number path e on found ends = record {
-  above = on.above;
-  below = on.below;
-  reached = on.reached;
-  is = subst (λ n. found_at level m n a ≡ Some e) on.last found;
-  ends = ends;
-}
+  -- its words are as written
+  pub written_on_path : IsTree (levels depth) m root → IsReached (levels depth) m root → AreWritten level m number
+  written_on_path tree all = written_at tree all level a number at
 
-pub goes_down : (depth : Depth) (m : Memory) (root a lowest level number next : ℕ) (own : Rights) (path : List ℕ) → 1 ≤ lowest
-    → IsOnPath depth m root a lowest level number path → found_at level m number a ≡ Some (entry.Table next own) → lowest ≢ level
-    → IsOnPath depth m root a lowest (level - 1) next (slice_set path (level - 1) next)
-goes_down depth m root a lowest level number next own path some on found other = record {
-  above = omega (arith, on.above);
-  below = omega (arith, on.below);
-  long = length-set path (level - 1) next ∙ on.long;
-  last = sym here;
-  reached = λ j from to. ⊎_elim
-      (λ (same : j ≡ level - 1).
-      subst (λ i. table_at (levels depth) m root i a ≡ Some (slice_index (slice_set path (level - 1) next) i)) (sym same) (reaches ∙ ap Some (sym here)))
-      (λ (apart : j ≢ level - 1).
-      on.reached j (omega (arith, on.above)) to ∙ ap Some (sym (get_or-set_other path (level - 1) j next 0 apart)))
-      (cases_eq j (level - 1));
-} where
-  here : slice_index (slice_set path (level - 1) next) (level - 1) ≡ next
-  here = get_or-set_same path (level - 1) next 0 (omega (arith, on.long, on.below, few_levels depth, on.above))
+  pub stops : {e : Meaning} → found_at level m number a ≡ Some e → (lowest < level → table_in (Some e) ≡ None) → IsDescent depth m root a lowest level path e
+  stops {e} found ends = record {
+    above = on.above;
+    below = on.below;
+    reached = on.reached;
+    is = subst (λ n. found_at level m n a ≡ Some e) on.last found;
+    ends = ends;
+  }
 
-  reaches : table_at (levels depth) m root (level - 1) a ≡ Some next
-  reaches =
-      table_below (levels depth) root m level (level - 1) a number (omega (arith, on.above)) (on.reached level (omega arith) on.below ∙ ap Some (sym on.last))
-      ∙ ap table_in found
+  pub goes_down : {next : ℕ} {own : Rights} → 1 ≤ lowest → found_at level m number a ≡ Some (entry.Table next own) → lowest ≢ level
+      → IsOnPath depth m root a lowest (level - 1) next (slice_set path (level - 1) next)
+  goes_down {next} some found other = record {
+    above = omega (arith, on.above);
+    below = omega (arith, on.below);
+    long = length-set path (level - 1) next ∙ on.long;
+    last = sym here;
+    reached = λ j from to. ⊎_elim
+        (λ (same : j ≡ level - 1).
+        subst (λ i. table_at (levels depth) m root i a ≡ Some (slice_index (slice_set path (level - 1) next) i)) (sym same) (reaches ∙ ap Some (sym here)))
+        (λ (apart : j ≢ level - 1).
+        on.reached j (omega (arith, on.above)) to ∙ ap Some (sym (get_or-set_other path (level - 1) j next 0 apart)))
+        (cases_eq j (level - 1));
+  } where
+    here : slice_index (slice_set path (level - 1) next) (level - 1) ≡ next
+    here = get_or-set_same path (level - 1) next 0 (omega (arith, on.long, on.below, few_levels depth, on.above))
+
+    reaches : table_at (levels depth) m root (level - 1) a ≡ Some next
+    reaches = table_below (levels depth) root m level (level - 1) a number (omega (arith, on.above)) at ∙ ap table_in found
 
 pub all_root : (root j : ℕ) → j < 6 → slice_index (root ∷ root ∷ root ∷ root ∷ root ∷ root ∷ []) j ≡ root
 all_root root zero lt = refl
@@ -106,10 +101,7 @@ all_root root (suc (suc (suc (suc (suc zero))))) lt = refl
 all_root root (suc (suc (suc (suc (suc (suc j)))))) lt = absurd (omega arith)
 
 -- the highest table on the path is the root
-pub path_root : (depth : Depth) (m : Memory) (root a lowest level : ℕ) (path : List ℕ) (e : Meaning) → IsDescent depth m root a lowest level path e
+pub path_root : {depth : Depth} {m : Memory} {root a lowest level : ℕ} {path : List ℕ} {e : Meaning} → IsDescent depth m root a lowest level path e
     → slice_index path (levels depth) ≡ root
-path_root depth m root a lowest level path e descent =
-    same _ _ (sym (descent.reached (levels depth) descent.below (omega arith)) ∙ table_first (levels depth) root m a)
-  where
-    same : (x y : ℕ) → Some x ≡ Some y → x ≡ y
-    same x y e = cc
+path_root {depth} {m} {root} {a} descent =
+    one_some _ _ (sym (descent.reached (levels depth) descent.below (omega arith)) ∙ table_first (levels depth) root m a)

@@ -15,91 +15,69 @@ use Rattle.vs_space.specs.Path.{found_at, table_in, table_at, SamePath}
 use Rattle.vs_space.specs.inside.Tree.{IsTree}
 use Rattle.vs_space.specs.inside.Grow.{IsOpen, IsExtended}
 use Rattle.vs_space.proofs.Numbered.{get-insert_same, len-insert_free}
-use Rattle.vs_space.proofs.Writes.{len_written}
+use Rattle.vs_space.proofs.Writes.{used_some, written_in_use, len_written}
 use Rattle.vs_space.proofs.Trees.{but_alike}
-use Rattle.vs_space.proofs.Links.{found_in_zeros, still_clear, linked, old_or_new, tree_link, walk_link, table_take, walk_take, tree_take, new_unreached}
+use Rattle.vs_space.proofs.Links.{IsLink, found_in_zeros, still_clear, linked, old_or_new, tree_link, walk_link, table_take, walk_take, tree_take}
+use Rattle.vs_space.proofs.Links.{new_unreached}
 use Rattle.vs_space.proofs.Links.{found_take}
 use Rattle.vs_space.proofs.Reached.{reached_link}
 use Rattle.vs_space.proofs.Written.{written_table}
 
-pub extended_start : (depth : Depth) (m : Memory) (root base from number : ℕ) → IsOpen depth m root base from number
-    → IsExtended depth m m root base from from number
-extended_start depth m root base from number here = record { open_at = here; walks = λ b. refl; more = omega arith }
-
-module _ (depth : Depth) (m : Memory) (root base level number : ℕ) (here : IsOpen depth m root base level number) (deep : 1 < level) (f : ℕ)
-    (free : finite.get m f ≡ None)
-    (whole : AreWhole (finite.insert m f zeros)) (w : ℕ) (leads : meaning level w ≡ entry.Table f all_rights) (is_word : w ≡ table_word f) where
-  abbrev taken : Memory
-  taken = finite.insert m f zeros
-
+module _ {depth : Depth} {m : Memory} {root base level number : ℕ} (opened : IsOpen depth m root base level number) (deep : 1 < level) {f : ℕ}
+    (free : finite.get m f ≡ None) (whole : AreWhole (finite.insert m f zeros)) {w : ℕ} (leads : meaning level w ≡ entry.Table f all_rights)
+    (is_word : w ≡ table_word f) where
   abbrev new : Memory
   new = with_word (finite.insert m f zeros) number (index_at level base) w
 
-  tree_taken : IsTree (levels depth) taken root
-  tree_taken = tree_take (levels depth) root m here.tree f free
-
-  at_taken : table_at (levels depth) taken root level base ≡ Some number
-  at_taken = table_take (levels depth) root m here.tree f free level base ∙ here.reached
-
-  absent_taken : found_at level taken number base ≡ Some entry.Absent
-  absent_taken = found_take (levels depth) root m here.tree f free level base number here.reached ∙ here.absent
-
-  clear : finite.get taken f ≡ Some zeros
-  clear = get-insert_same m f zeros
-
-  unreached : (j b : ℕ) → table_at (levels depth) taken root j b ≢ Some f
-  unreached = new_unreached (levels depth) root m here.tree f free
-
-  one : level ≡ suc (level - 1)
-  one = omega arith
-
-  some : 1 ≤ level - 1
-  some = omega arith
-
-  tree_new : IsTree (levels depth) new root
-  tree_new = tree_link (levels depth) root taken tree_taken whole level base number at_taken w f leads clear unreached absent_taken (level - 1) one some
+  -- the frame is taken, to be linked
+  link : IsLink (levels depth) (finite.insert m f zeros) root level base number w f (level - 1)
+  link = record {
+    here = record { tree = tree_take opened.tree f free; whole = whole; at = table_take opened.tree f free level base ∙ opened.reached };
+    leads = leads;
+    clear = get-insert_same m f zeros;
+    unreached = new_unreached opened.tree f free;
+    absent = found_take opened.tree f free level base number opened.reached ∙ opened.absent;
+    one = omega arith;
+    some = omega arith;
+  }
 
   walks_new : (b : ℕ) → walk depth new root b ≡ walk depth m root b
-  walks_new b =
-      walk_link (levels depth) root taken tree_taken whole level base number at_taken w f leads clear unreached absent_taken (level - 1) one some b
-      ∙ walk_take (levels depth) root m here.tree f free b
+  walks_new b = walk_link link b ∙ walk_take opened.tree f free b
 
   was_there : (j b q : ℕ) → table_at (levels depth) new root j b ≡ Some q → (SamePath (levels depth) (suc j) base b → ⊥)
       → table_at (levels depth) m root j b ≡ Some q
   was_there j b q r off = ⊎_elim
-      (λ old. sym (table_take (levels depth) root m here.tree f free j b) ∙ old)
+      (λ old. sym (table_take opened.tree f free j b) ∙ old)
       (λ fresh. absurd (off (λ i from to. fresh.1 i (omega (arith, fresh.0, from)) to)))
-      (old_or_new (levels depth) root taken tree_taken whole level base number at_taken w f leads clear unreached absent_taken (level - 1) one some j b q r)
-
-  linked_new : table_at (levels depth) new root (level - 1) base ≡ Some f
-  linked_new =
-      linked (levels depth) root taken tree_taken whole level base number at_taken w f leads clear unreached absent_taken (level - 1) one some base
-      (λ i from to. refl)
+      (old_or_new link j b q r)
 
   open_new : IsOpen depth new root base (level - 1) f
   open_new = record {
-    tree = tree_new;
-    filled = but_alike depth m new root base was_there (λ b canonical. walks_new b) here.filled;
-    all_reached = reached_link (levels depth) root m here.tree f free whole level base number at_taken w (level - 1) (ap table_in absent_taken) linked_new
-        (written_table level w f leads is_word) here.all_reached;
-    below = omega (arith, here.below);
-    reached = linked_new;
-    absent = found_in_zeros (level - 1) new f base
-        (still_clear (levels depth) root taken tree_taken whole level base number at_taken w f leads clear unreached absent_taken (level - 1) one some);
+    tree = tree_link link;
+    filled = but_alike opened.filled was_there (λ b canonical. walks_new b);
+    all_reached = reached_link opened.tree free link (written_table level w f leads is_word) opened.all_reached;
+    below = omega (arith, opened.below);
+    reached = linked link base (λ i from to. refl);
+    absent = found_in_zeros (level - 1) new f base (still_clear link);
   }
 
-  one_more : finite.len new ≡ finite.len m + 1
-  one_more = len_written taken number (index_at level base) w (tree_taken.in_use level base number at_taken) ∙ len-insert_free m f zeros free
+-- ---- the tables that are linked, one by one
 
-  pub extended_on : (index : ℕ) → index ≡ index_at level base → (old : Memory) (from : ℕ) → level ≤ from → IsExtended depth old m root base from level number
-      → IsExtended depth old (with_word (finite.insert m f zeros) number index w) root base from (level - 1) f
-  extended_on index is_index old from le extended =
-      subst (λ i. IsExtended depth old (with_word (finite.insert m f zeros) number i w) root base from (level - 1) f) (sym is_index) (record {
-        open_at = open_new;
-        walks = λ b. walks_new b ∙ extended.walks b;
-        more = omega (arith, one_more, extended.more, le, deep);
-      })
-
-pub taken_used : (depth : Depth) (m : Memory) (root base level number f : ℕ) → IsOpen depth m root base level number
-    → IsSome (finite.get (finite.insert m f zeros) number)
-taken_used depth m root base level number f here = IsInUse-insert m f zeros number (here.tree.in_use level base number here.reached)
+pub extended_on : {old m : Memory} {base last from level number : ℕ} → IsExtended old m base last from level number → 1 < level → level ≤ from → (f : ℕ)
+    → finite.get m f ≡ None → AreWhole (finite.insert m f zeros) → {w index : ℕ} → meaning level w ≡ entry.Table f all_rights → w ≡ table_word f
+    → index ≡ index_at level base → IsExtended old (with_word (finite.insert m f zeros) number index w) base last from (level - 1) f
+extended_on {old} {m} {base} {last} {from} {level} {number} extended deep le f free whole {w} {index} leads is_word is_index = record {
+  in_use = written_in_use (finite.insert m f zeros) number index w f (used_some _ f zeros (get-insert_same m f zeros));
+  more = omega (
+    arith,
+    len_written (finite.insert m f zeros) number index w (IsInUse-insert m f zeros number extended.in_use),
+    len-insert_free m f zeros free,
+    extended.more,
+    le,
+    deep,
+  );
+  open_at = λ depth root opened. subst (λ i. IsOpen depth (with_word (finite.insert m f zeros) number i w) root base (level - 1) f) (sym is_index)
+      (open_new (extended.open_at depth root opened) deep free whole leads is_word);
+  walks = λ depth root opened b. subst (λ i. walk depth (with_word (finite.insert m f zeros) number i w) root b ≡ walk depth old root b) (sym is_index)
+      (walks_new (extended.open_at depth root opened) deep free whole leads is_word b ∙ extended.walks depth root opened b);
+}

@@ -14,7 +14,7 @@ use Rattle.vs_walk.specs.Memory.{Memory}
 use Rattle.vs_walk.specs.Walk.{as_walk, TranslatesAs}
 use Rattle.vs_space.specs.Path.{found_at, table_at, table_in}
 use Rattle.vs_space.specs.inside.Tree.{IsTree, IsReached, AreWritten}
-use Rattle.vs_space.specs.Table.{IsTableOf}
+use Rattle.vs_space.specs.Table.{PageTable, IsTableOf}
 use Rattle.vs_space.specs.inside.Invariant.{IsPageTable}
 use Rattle.vs_space.proofs.Numbered.{get-insert_same, get-insert_other, len-insert_free, whole-empty, whole-zeros}
 use Rattle.vs_space.proofs.Paths.{reached_within, table_first, table_below, none_past, walk_absent}
@@ -82,28 +82,30 @@ module _ (depth : Depth) (root : ℕ) where
 
   translates_alone : TranslatesAs depth alone root no_pages
   translates_alone = λ a canonical.
-      walk_absent (levels depth) root alone tree_alone.allows a (levels depth) root (some_levels) (table_first (levels depth) root alone a)
+      walk_absent tree_alone a (levels depth) root some_levels (table_first (levels depth) root alone a)
       (found_in_zeros (levels depth) alone root a clear)
       ∙ ap as_walk (sym (look_of_nothing a))
 
-  pub new_table : root < 2 ^ 40 → IsPageTable depth (finite.insert finite.empty root zeros) root
-  new_table fits = record {
-    tree = tree_alone;
-    filled = record { filled = λ level a n low r nothing. absurd (omega (arith, low, (only_root level a n r).0)) };
-    reached = reached_alone;
-    whole = whole-zeros finite.empty root (whole-empty finite.empty refl);
-    root_fits = fits;
-    some_space = (
-      no_pages,
-      record {
-        is_space = no_pages_space depth;
-        translates = translates_alone;
-        counted = len-insert_free finite.empty root zeros (finite.get-empty nat_cmp root) ∙ ap (λ n. n + 1) (finite.len-empty nat_cmp (List ℕ))
-            ∙ sym (tables_of_nothing depth);
-      },
-    );
-  }
+  module _ (first limit : ℕ) where
+    abbrev new : PageTable
+    new = record { depth = depth; base = first; limit = limit; root = root; memory = finite.insert finite.empty root zeros }
 
-  pub new_is_empty : (first limit : ℕ) → IsTableOf
-      (record { depth = depth; base = first; limit = limit; root = root; memory = finite.insert finite.empty root zeros }) no_pages
-  new_is_empty first limit = record { is_space = no_pages_space depth; translates = translates_alone }
+    pub new_is_empty : IsTableOf new no_pages
+    new_is_empty = record { is_space = no_pages_space depth; translates = translates_alone }
+
+    pub new_table : root < 2 ^ 40 → IsPageTable new
+    new_table fits = record {
+      tree = tree_alone;
+      filled = record { filled = λ level a n low r nothing. absurd (omega (arith, low, (only_root level a n r).0)) };
+      reached = reached_alone;
+      whole = whole-zeros finite.empty root (whole-empty finite.empty refl);
+      root_fits = fits;
+      some_space = (
+        no_pages,
+        record {
+          is_of = new_is_empty;
+          counted = len-insert_free finite.empty root zeros (finite.get-empty nat_cmp root) ∙ ap (λ n. n + 1) (finite.len-empty nat_cmp (List ℕ))
+              ∙ sym (tables_of_nothing depth);
+        },
+      );
+    }

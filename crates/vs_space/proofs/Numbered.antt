@@ -145,9 +145,6 @@ pub some_at : (base : ℕ) (store : Store) (number f : ℕ) → base + f ≡ num
 some_at base store number f at used = subst (λ q. finite.get (numbered base store) q ≡ Some (words_of store f)) at
     (get_numbered base store f ∙ get_in_use store f used)
 
-pub not_unused : (base : ℕ) (store : Store) (number : ℕ) → IsSome (finite.get (numbered base store) number) → ((f : ℕ) → base + f ≡ number → IsFree store f) → ⊥
-not_unused base store number used free = let none : IsSome {T = List ℕ} None = subst IsSome (none_at base store number free) used in cc
-
 -- the frame of the store with the number of a frame in use
 pub named : (base : ℕ) (store : Store) (number : ℕ) → IsSome (finite.get (numbered base store) number) → (f : ℕ) × (base + f ≡ number) × IsInUse store f
 named base store number used = ⊎_elim

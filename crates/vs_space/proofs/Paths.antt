@@ -15,6 +15,7 @@ use Rattle.vs_walk.specs.declared.walk.Walk.TheVariants.{Missing, NotMapped, Res
 use Rattle.vs_walk.proofs.Walks.{walk_nowhere, walk_missing, walk_at}
 use Rattle.vs_space.specs.Held.{word_at}
 use Rattle.vs_space.specs.Path.{found_at, table_in, table_at, SamePath}
+use Rattle.vs_space.specs.inside.Tree.{IsTree}
 
 -- ---- an entry on a walk
 
@@ -235,41 +236,35 @@ module _ (top : ℕ) (root : ℕ) where
   pub agree_walk : (m m' : Memory) (b : ℕ) → AreAlike m m' b 0 → walk_from m' top root all_rights b ≡ walk_from m top root all_rights b
   agree_walk m m' b alike = agree_from m m' b alike top root all_rights (table_first m b)
 
-  -- ---- a walk from a table on its path
+-- ---- a walk from a table on its path, in a tree
 
-  -- entries that lead to tables allow everything
-  abbrev pub AllowsAll : Memory → Type 0
-  AllowsAll m = (level a n next : ℕ) (own : Rights) → table_at top m root level a ≡ Some n → found_at level m n a ≡ Some (entry.Table next own)
-      → own ≡ all_rights
-
-  pub walk_reaches : (m : Memory) → AllowsAll m → (b level n : ℕ) → table_at top m root level b ≡ Some n
-      → walk_from m top root all_rights b ≡ walk_from m level n all_rights b
-  walk_reaches m allows b level n at =
-      from_root (λ l. (n : ℕ) → table_at top m root l b ≡ Some n → walk_from m top root all_rights b ≡ walk_from m l n all_rights b)
-      (λ n at. ap (λ x. walk_from m top x all_rights b) (some_same root n (sym (table_first m b) ∙ at)))
+module _ {top : ℕ} {m : Memory} {root : ℕ} (tree : IsTree top m root) (b : ℕ) where
+  walk_reaches : (level n : ℕ) → table_at top m root level b ≡ Some n → walk_from m top root all_rights b ≡ walk_from m level n all_rights b
+  walk_reaches level n at =
+      from_root top root (λ l. (n : ℕ) → table_at top m root l b ≡ Some n → walk_from m top root all_rights b ≡ walk_from m l n all_rights b)
+      (λ n at. ap (λ x. walk_from m top x all_rights b) (some_same root n (sym (table_first top root m b) ∙ at)))
       (λ l low before n at.
-      let above = table_before m l b n low at in
-      let all : above.1 ≡ all_rights = allows (suc l) b above.0 n above.1 above.2 above.3 in
+      let above = table_before top root m l b n low at in
+      let all : above.1 ≡ all_rights = tree.allows (suc l) b above.0 n above.1 above.2 above.3 in
       let found : found_at (suc l) m above.0 b ≡ Some (entry.Table n all_rights) = above.3 ∙ ap (λ own. Some (entry.Table n own)) all in
       before above.0 above.2 ∙ walk_found m l above.0 all_rights b (entry.Table n all_rights) found)
-      level (reached_within m level b n at) n at
+      level (reached_within top root m level b n at) n at
     where
       some_same : (x y : ℕ) → Some x ≡ Some y → x ≡ y
       some_same x y e = cc
 
   -- the end of a walk, by the entry that leads no further
-  pub walk_absent : (m : Memory) → AllowsAll m → (b level n : ℕ) → 1 ≤ level → table_at top m root level b ≡ Some n → found_at level m n b ≡ Some entry.Absent
+  pub walk_absent : (level n : ℕ) → 1 ≤ level → table_at top m root level b ≡ Some n → found_at level m n b ≡ Some entry.Absent
       → walk_from m top root all_rights b ≡ NotMapped
-  walk_absent m allows b zero n some at is = absurd (omega arith)
-  walk_absent m allows b (suc level) n some at is = walk_reaches m allows b (suc level) n at ∙ walk_found m level n all_rights b entry.Absent is
+  walk_absent zero n some at is = absurd (omega arith)
+  walk_absent (suc level) n some at is = walk_reaches (suc level) n at ∙ walk_found m level n all_rights b entry.Absent is
 
-  pub walk_reserved : (m : Memory) → AllowsAll m → (b level n : ℕ) → 1 ≤ level → table_at top m root level b ≡ Some n
-      → found_at level m n b ≡ Some entry.Reserved
+  pub walk_reserved : (level n : ℕ) → 1 ≤ level → table_at top m root level b ≡ Some n → found_at level m n b ≡ Some entry.Reserved
       → walk_from m top root all_rights b ≡ Reserved
-  walk_reserved m allows b zero n some at is = absurd (omega arith)
-  walk_reserved m allows b (suc level) n some at is = walk_reaches m allows b (suc level) n at ∙ walk_found m level n all_rights b entry.Reserved is
+  walk_reserved zero n some at is = absurd (omega arith)
+  walk_reserved (suc level) n some at is = walk_reaches (suc level) n at ∙ walk_found m level n all_rights b entry.Reserved is
 
-  pub walk_leaf : (m : Memory) → AllowsAll m → (b level n phys : ℕ) (own : Rights) → 1 ≤ level → table_at top m root level b ≡ Some n
-      → found_at level m n b ≡ Some (entry.Leaf phys own) → walk_from m top root all_rights b ≡ Mapped (phys + b % entry_bytes level) (size_at level) own
-  walk_leaf m allows b zero n phys own some at is = absurd (omega arith)
-  walk_leaf m allows b (suc level) n phys own some at is = walk_reaches m allows b (suc level) n at ∙ walk_found m level n all_rights b (entry.Leaf phys own) is
+  pub walk_leaf : (level n phys : ℕ) (own : Rights) → 1 ≤ level → table_at top m root level b ≡ Some n → found_at level m n b ≡ Some (entry.Leaf phys own)
+      → walk_from m top root all_rights b ≡ Mapped (phys + b % entry_bytes level) (size_at level) own
+  walk_leaf zero n phys own some at is = absurd (omega arith)
+  walk_leaf (suc level) n phys own some at is = walk_reaches (suc level) n at ∙ walk_found m level n all_rights b (entry.Leaf phys own) is

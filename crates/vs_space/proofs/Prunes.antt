@@ -21,10 +21,10 @@ use Rattle.vs_space.specs.inside.Prune.{IsCut, IsPruned}
 use Rattle.vs_space.proofs.Canonical.{half_same}
 use Rattle.vs_space.proofs.Numbered.{len-remove_used, whole-remove}
 use Rattle.vs_space.proofs.Paths.{reached_within, table_below, none_past, same_table, found_same, walk_absent, walk_reserved, walk_leaf}
-use Rattle.vs_space.proofs.Writes.{len_written, written_in_use, same_or_not, words_in}
+use Rattle.vs_space.proofs.Writes.{IsTreeAt, used_at, len_write, written_in_use, same_or_not, words_in}
 use Rattle.vs_space.proofs.Trees.{but_alike, filled_up}
 use Rattle.vs_space.proofs.Links.{tree_unlink, table_unlink, table_kept, walk_unlink_off, walk_unlink_on, found_unlinked}
-use Rattle.vs_space.proofs.Reached.{reached_unlink, whole_written}
+use Rattle.vs_space.proofs.Reached.{reached_unlink, whole_write}
 use Rattle.vs_space.proofs.Written.{written_at}
 use Rattle.vs_space.proofs.Regions.{stretch_same}
 
@@ -88,15 +88,15 @@ address_with depth base level index canonical below low =
 
 -- ---- where the path of an address ends
 
-pub absent_under : (depth : Depth) (m : Memory) (root base level n : ℕ) → IsTree (levels depth) m root → 1 ≤ level
+pub absent_under : (depth : Depth) {m : Memory} {root : ℕ} → IsTree (levels depth) m root → (base level n : ℕ) → 1 ≤ level
     → table_at (levels depth) m root level base ≡ Some n → found_at level m n base ≡ Some entry.Absent → NothingUnder depth m root level base
-absent_under depth m root base level n tree some at absent = λ b canonical same.
+absent_under depth {m} {root} tree base level n some at absent = λ b canonical same.
     let le = reached_within (levels depth) root m level base n at in
-    walk_absent (levels depth) root m tree.allows b level n some
+    walk_absent tree b level n some
     (sym (same_table (levels depth) root m level base b (λ i from to. same i (omega arith) to)) ∙ at)
     (sym (found_same level m n base b (same level (omega arith) le)) ∙ absent)
 
-pub under_longer : (depth : Depth) (m : Memory) (root base j level : ℕ) → level ≤ j → NothingUnder depth m root j base → NothingUnder depth m root level base
+under_longer : (depth : Depth) (m : Memory) (root base j level : ℕ) → level ≤ j → NothingUnder depth m root j base → NothingUnder depth m root level base
 under_longer depth m root base j level le nothing = λ b canonical same. nothing b canonical (λ i from to. same i (omega arith) to)
 
 -- the tables on the path of the address, while they are given back
@@ -106,35 +106,30 @@ pub record IsPruning (depth : Depth) (old m : Memory) (root base from level : �
   pub above : from ≤ level
   pub fewer : finite.len m + (level - from) ≡ finite.len old
 
-pub pruning_start : (depth : Depth) (m : Memory) (root base from : ℕ) (path : List ℕ) → IsCut depth m root base from path
-    → IsPruning depth m m root base from from path
-pruning_start depth m root base from path cut = record { cut = cut; walks = λ b canonical. refl; above = omega arith; fewer = omega arith }
+module _ {depth : Depth} {m : Memory} {root base level : ℕ} {path : List ℕ} (cut : IsCut depth m root base level path) where
+  here : IsTreeAt (levels depth) m root level base (slice_index path level)
+  here = record { tree = cut.tree; whole = cut.whole; at = cut.reached level (omega arith) cut.below }
 
-module _ (depth : Depth) (m : Memory) (root base level : ℕ) (path : List ℕ) (canonical : IsCanonical depth base)
-    (cut : IsCut depth m root base level path) where
-  at : table_at (levels depth) m root level base ≡ Some (slice_index path level)
-  at = cut.reached level (omega arith) cut.below
+  nothing_past : NothingUnder depth m root level base
+  nothing_past = absent_under depth cut.tree base level (slice_index path level) cut.some here.at cut.absent
 
-  pub nothing_past : NothingUnder depth m root level base
-  nothing_past = absent_under depth m root base level (slice_index path level) cut.tree cut.some at cut.absent
-
-  pub none_past_here : (j : ℕ) → j < level → table_at (levels depth) m root j base ≡ None
+  none_past_here : (j : ℕ) → j < level → table_at (levels depth) m root j base ≡ None
   none_past_here j lt =
       none_past (levels depth) root m (level - 1) j base (omega (arith, cut.below)) (omega arith)
-      (table_below (levels depth) root m level (level - 1) base (slice_index path level) (omega (arith, cut.some)) at ∙ ap table_in cut.absent)
+      (table_below (levels depth) root m level (level - 1) base (slice_index path level) (omega (arith, cut.some)) here.at ∙ ap table_in cut.absent)
 
   -- a present entry has something mapped under its table
-  pub something_here : ((b : ℕ) → IsCanonical depth b → walk depth m root b ≢ Reserved) → level < levels depth → HasPresent level m (slice_index path level)
-      → NothingUnder depth m root (suc level) base → ⊥
-  something_here faultless below first nothing = by e.0 refl where
+  pub something_here : IsCanonical depth base → ((b : ℕ) → IsCanonical depth b → walk depth m root b ≢ Reserved) → level < levels depth
+      → HasPresent level m (slice_index path level) → NothingUnder depth m root (suc level) base → ⊥
+  something_here canonical faultless below first nothing = by e.0 refl where
     b : (b : ℕ) × IsCanonical depth b × SamePath (levels depth) (suc level) base b × (index_at level b ≡ first.index)
     b = address_with depth base level first.index canonical below first.within
 
     there : table_at (levels depth) m root level b.0 ≡ Some (slice_index path level)
-    there = sym (same_table (levels depth) root m level base b.0 b.2) ∙ at
+    there = sym (same_table (levels depth) root m level base b.0 b.2) ∙ here.at
 
     e : (e : Meaning) × (entry_in level m (slice_index path level) first.index ≡ Some e)
-    e = entry_some level m (slice_index path level) first.index (cut.tree.in_use level base (slice_index path level) at)
+    e = entry_some level m (slice_index path level) first.index (used_at here)
 
     found : (x : Meaning) → e.0 ≡ x → found_at level m (slice_index path level) b.0 ≡ Some x
     found x is = found_entry level m (slice_index path level) b.0 ∙ ap (entry_in level m (slice_index path level)) b.3 ∙ e.1 ∙ ap Some is
@@ -144,12 +139,9 @@ module _ (depth : Depth) (m : Memory) (root base level : ℕ) (path : List ℕ) 
 
     by : (x : Meaning) → e.0 ≡ x → ⊥
     by entry.Absent is = first.present (e.1 ∙ ap Some is)
-    by entry.Reserved is = faultless b.0 b.1
-        (walk_reserved (levels depth) root m cut.tree.allows b.0 level (slice_index path level) cut.some there (found entry.Reserved is))
+    by entry.Reserved is = faultless b.0 b.1 (walk_reserved cut.tree b.0 level (slice_index path level) cut.some there (found entry.Reserved is))
     by (entry.Leaf phys own) is =
-        let walked = walk_leaf (levels depth) root m cut.tree.allows b.0 level (slice_index path level) phys own cut.some there
-        (found (entry.Leaf phys own) is) in
-        mapped_apart _ _ _ (sym quiet ∙ walked)
+        mapped_apart _ _ _ (sym quiet ∙ walk_leaf cut.tree b.0 level (slice_index path level) phys own cut.some there (found (entry.Leaf phys own) is))
     by (entry.Table next own) is =
         let up : level ≡ suc (level - 1) = omega (arith, cut.some) in
         cut.filled.filled (level - 1) b.0 next (omega (arith, cut.below, cut.some))
@@ -160,12 +152,12 @@ module _ (depth : Depth) (m : Memory) (root base level : ℕ) (path : List ℕ) 
         cc)
         (λ c is_c same. nothing c is_c (λ i from to. b.2 i from to ∙ same i (omega arith) to))
 
-  pub pruned_by : (old : Memory) (from : ℕ) → IsPruning depth old m root base from level path
+  pub pruned_by : {old : Memory} {from : ℕ} → IsPruning depth old m root base from level path
       → (level < levels depth → NothingUnder depth m root (suc level) base → ⊥)
       → IsPruned depth old m root base from level
-  pruned_by old from pruning something = record {
+  pruned_by pruning something = record {
     tree = cut.tree;
-    filled = filled_up depth m root base level cut.filled none_past_here something;
+    filled = filled_up cut.filled level none_past_here something;
     all_reached = cut.all_reached;
     whole = cut.whole;
     walks = pruning.walks;
@@ -176,14 +168,21 @@ module _ (depth : Depth) (m : Memory) (root base level : ℕ) (path : List ℕ) 
     something = λ j over le nothing. something (omega arith) (under_longer depth m root base j (suc level) (omega arith) nothing);
   }
 
+  -- the words of the table are as written
+  pub emptied_written : AreWritten level m (slice_index path level)
+  emptied_written = written_at cut.tree cut.all_reached level base (slice_index path level) here.at
+
+  pub emptied_used : (n index : ℕ) → IsSome (finite.get (with_word m n index 0) (slice_index path level))
+  emptied_used n index = written_in_use m n index 0 (slice_index path level) (used_at here)
+
   -- ---- a table whose entries are all absent is given back
 
   module _ (below : level < levels depth) (empty : (i : ℕ) → i < 512 → entry_in level m (slice_index path level) i ≡ Some entry.Absent) where
     one : level + 1 ≡ suc level
     one = omega arith
 
-    at_parent : table_at (levels depth) m root (level + 1) base ≡ Some (slice_index path (level + 1))
-    at_parent = cut.reached (level + 1) (omega arith) (omega arith)
+    parent : IsTreeAt (levels depth) m root (level + 1) base (slice_index path (level + 1))
+    parent = record { tree = cut.tree; whole = cut.whole; at = cut.reached (level + 1) (omega arith) (omega arith) }
 
     absent_here : (b : ℕ) → found_at level m (slice_index path level) b ≡ Some entry.Absent
     absent_here b = found_entry level m (slice_index path level) b ∙ empty (index_at level b) (index_low b) where
@@ -191,11 +190,7 @@ module _ (depth : Depth) (m : Memory) (root base level : ℕ) (path : List ℕ) 
       index_low b = omega arith
 
     reaches_here : (b : ℕ) → SamePath (levels depth) (level + 1) base b → table_at (levels depth) m root level b ≡ Some (slice_index path level)
-    reaches_here b same = sym (same_table (levels depth) root m level base b (λ i from to. same i (omega arith) to)) ∙ at
-
-    nothing_here : NothingUnder depth m root (level + 1) base
-    nothing_here = λ b is_b same.
-        walk_absent (levels depth) root m cut.tree.allows b level (slice_index path level) cut.some (reaches_here b same) (absent_here b)
+    reaches_here b same = sym (same_table (levels depth) root m level base b (λ i from to. same i (omega arith) to)) ∙ here.at
 
     none_below : (b j : ℕ) → SamePath (levels depth) (level + 1) base b → j < level → table_at (levels depth) m root j b ≡ None
     none_below b j same lt =
@@ -208,49 +203,30 @@ module _ (depth : Depth) (m : Memory) (root base level : ℕ) (path : List ℕ) 
 
     walks_same : (b : ℕ) → IsCanonical depth b → walk depth cleared root b ≡ walk depth m root b
     walks_same b is_b = ⊎_elim
-        (λ same.
-        walk_unlink_on (levels depth) root m cut.tree cut.whole (level + 1) base (slice_index path (level + 1)) level
-        (slice_index path level) at_parent one at b same
-        ∙ sym (nothing_here b is_b same))
-        (λ apart. walk_unlink_off (levels depth) root m cut.tree cut.whole (level + 1) base (slice_index path (level + 1)) level
-        (slice_index path level) at_parent one at b apart)
+        (λ same. walk_unlink_on parent one here.at b same
+        ∙ sym (walk_absent cut.tree b level (slice_index path level) cut.some (reaches_here b same) (absent_here b)))
+        (λ apart. walk_unlink_off parent one here.at b apart)
         (same_or_not (levels depth) (level + 1) base b)
 
     cut_after : IsCut depth cleared root base (level + 1) path
     cut_after = record {
-      tree = tree_unlink (levels depth) root m cut.tree cut.whole (level + 1) base (slice_index path (level + 1)) level
-          (slice_index path level) at_parent one at;
-      filled = but_alike depth m cleared root base
-          (λ j b q r off.
-          table_unlink (levels depth) root m cut.tree cut.whole (level + 1) base (slice_index path (level + 1)) level
-          (slice_index path level) at_parent one at j b q r)
-          walks_same cut.filled;
-      all_reached = reached_unlink (levels depth) root m cut.tree cut.whole (level + 1) base (slice_index path (level + 1)) level
-          (slice_index path level) at_parent one at
-          none_below cut.all_reached;
-      whole = whole-remove _ (slice_index path level)
-          (whole_written m (slice_index path (level + 1)) (index_at (level + 1) base) 0
-          (cut.tree.in_use (level + 1) base (slice_index path (level + 1)) at_parent) cut.whole);
+      tree = tree_unlink parent one here.at;
+      filled = but_alike cut.filled (λ j b q r off. table_unlink parent one here.at j b q r) walks_same;
+      all_reached = reached_unlink parent one here.at none_below cut.all_reached;
+      whole = whole-remove _ (slice_index path level) (whole_write parent 0);
       some = omega arith;
       below = omega arith;
-      reached = λ j from to.
-          table_kept (levels depth) root m cut.tree cut.whole (level + 1) base (slice_index path (level + 1)) level
-          (slice_index path level) at_parent one at j base from
-          ∙ cut.reached j (omega arith) to;
-      absent = found_unlinked (levels depth) root m cut.tree cut.whole (level + 1) base (slice_index path (level + 1)) level
-          (slice_index path level) at_parent one at base (λ i from to. refl);
+      reached = λ j from to. table_kept parent one here.at j base from ∙ cut.reached j (omega arith) to;
+      absent = found_unlinked parent one here.at base (λ i from to. refl);
     }
 
     one_fewer : finite.len cleared + 1 ≡ finite.len m
-    one_fewer =
-        let used = cut.tree.in_use level base (slice_index path level) at in
-        let still = words_in _ _ (written_in_use m (slice_index path (level + 1)) (index_at (level + 1) base) 0 (slice_index path level) used) in
-        len-remove_used _ (slice_index path level) _ still
-        ∙ len_written m (slice_index path (level + 1)) (index_at (level + 1) base) 0 (cut.tree.in_use (level + 1) base (slice_index path (level + 1)) at_parent)
+    one_fewer = len-remove_used _ (slice_index path level) _ (words_in _ _ (emptied_used (slice_index path (level + 1)) (index_at (level + 1) base)))
+        ∙ len_write parent 0
 
-    pub pruning_on : (index : ℕ) → index ≡ index_at (level + 1) base → (old : Memory) (from : ℕ) → IsPruning depth old m root base from level path
+    pub pruning_on : {index : ℕ} → index ≡ index_at (level + 1) base → {old : Memory} {from : ℕ} → IsPruning depth old m root base from level path
         → IsPruning depth old (finite.remove (with_word m (slice_index path (level + 1)) index 0) (slice_index path level)) root base from (level + 1) path
-    pruning_on index is_index old from pruning =
+    pruning_on is_index {old} {from} pruning =
         subst (λ i. IsPruning depth old (finite.remove (with_word m (slice_index path (level + 1)) i 0) (slice_index path level)) root base from
         (level + 1) path) (sym is_index) (record {
           cut = cut_after;
@@ -258,14 +234,3 @@ module _ (depth : Depth) (m : Memory) (root base level : ℕ) (path : List ℕ) 
           above = omega (arith, pruning.above);
           fewer = omega (arith, one_fewer, pruning.fewer, pruning.above);
         })
-
--- the words of the table are as written
-pub emptied_written : (depth : Depth) (m : Memory) (root base level : ℕ) (path : List ℕ) → IsCut depth m root base level path
-    → AreWritten level m (slice_index path level)
-emptied_written depth m root base level path cut =
-    written_at (levels depth) root m cut.tree cut.all_reached level base (slice_index path level) (cut.reached level (omega arith) cut.below)
-
-pub emptied_used : (depth : Depth) (m : Memory) (root base level : ℕ) (path : List ℕ) (n index : ℕ) → IsCut depth m root base level path
-    → IsSome (finite.get (with_word m n index 0) (slice_index path level))
-emptied_used depth m root base level path n index cut =
-    written_in_use m n index 0 (slice_index path level) (cut.tree.in_use level base (slice_index path level) (cut.reached level (omega arith) cut.below))

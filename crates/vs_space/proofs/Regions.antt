@@ -21,9 +21,11 @@ use Rattle.vs_types.proofs.Pages.{three_levels, level_at_most, covers_means, lev
 use Rattle.vs_types.proofs.Spaces.{page_at_means, look_of_none}
 use Rattle.vs_walk.specs.Memory.{Memory}
 use Rattle.vs_walk.specs.Walk.{walk, as_walk, TranslatesAs}
+use Rattle.vs_walk.specs.declared.walk.Walk.{Walk}
 use Rattle.vs_walk.specs.declared.walk.Walk.TheVariants.{NotMapped, Mapped}
 use Rattle.vs_walk.proofs.Walks.{leaf_level}
 use Rattle.vs_space.specs.Path.{found_at, table_at, SamePath}
+use Rattle.vs_space.specs.Table.{PageTable, IsTableOf}
 use Rattle.vs_space.specs.inside.Tree.{IsTree}
 use Rattle.vs_space.proofs.Canonical.{top_same}
 use Rattle.vs_space.proofs.Paths.{words_found, walk_leaf}
@@ -111,39 +113,41 @@ level_back (suc (suc zero)) some few = refl
 level_back (suc (suc (suc zero))) some few = refl
 level_back (suc (suc (suc (suc level)))) some few = absurd (omega arith)
 
--- where an address is walked to nothing, no page is there
-pub nothing_at : (depth : Depth) (m : Memory) (root : ℕ) (space : Space) (a : ℕ) → TranslatesAs depth m root space → IsCanonical depth a
-    → walk depth m root a ≡ NotMapped → page_at space a ≡ None
-nothing_at depth m root space a translates canonical is =
-    elim (page_at space a) as (λ o. page_at space a ≡ o → o ≡ None) [
-      | None ↦ λ e. refl
-      | Some q ↦ λ e. let looks : look space a ≡ answers.Mapped (q.phys + (a - q.base)) q.size q.rights = rw e refl in
-          let walked : NotMapped ≡ Mapped (q.phys + (a - q.base)) q.size q.rights = sym is ∙ translates a canonical ∙ ap as_walk looks in cc
-    ] refl
+-- how a page table walks an address
+abbrev pub walk_in : PageTable → ℕ → Walk
+walk_in t a = walk t.depth t.memory t.root a
 
--- where no page is, an address is walked to nothing
-pub walked_to_nothing : (depth : Depth) (m : Memory) (root : ℕ) (space : Space) (a : ℕ) → TranslatesAs depth m root space → IsCanonical depth a
-    → page_at space a ≡ None → walk depth m root a ≡ NotMapped
-walked_to_nothing depth m root space a translates canonical e = translates a canonical ∙ ap as_walk (look_of_none space a e)
+module _ {t : PageTable} {space : Space} (of : IsTableOf t space) (a : ℕ) (canonical : IsCanonical t.depth a) where
+  -- where an address is walked to nothing, no page is there
+  pub nothing_at : walk_in t a ≡ NotMapped → page_at space a ≡ None
+  nothing_at is =
+      elim (page_at space a) as (λ o. page_at space a ≡ o → o ≡ None) [
+        | None ↦ λ e. refl
+        | Some q ↦ λ e. let looks : look space a ≡ answers.Mapped (q.phys + (a - q.base)) q.size q.rights = rw e refl in
+            let walked : NotMapped ≡ Mapped (q.phys + (a - q.base)) q.size q.rights = sym is ∙ of.translates a canonical ∙ ap as_walk looks in cc
+      ] refl
 
--- where a page is, an address is mapped
-pub walked_to_page : (depth : Depth) (m : Memory) (root : ℕ) (space : Space) (a : ℕ) (q : Page) → TranslatesAs depth m root space → IsCanonical depth a
-    → page_at space a ≡ Some q → walk depth m root a ≢ NotMapped
-walked_to_page depth m root space a q translates canonical e is = let none = nothing_at depth m root space a translates canonical is in cc
+  -- where no page is, an address is walked to nothing
+  pub walked_to_nothing : page_at space a ≡ None → walk_in t a ≡ NotMapped
+  walked_to_nothing e = of.translates a canonical ∙ ap as_walk (look_of_none space a e)
 
--- the page at an address that is mapped
-pub page_walked : (depth : Depth) (m : Memory) (root : ℕ) (space : Space) (a phys : ℕ) (size : Size) (rights : Rights) → TranslatesAs depth m root space
-    → IsCanonical depth a → walk depth m root a ≡ Mapped phys size rights
-    → (q : Page) × (page_at space a ≡ Some q) × (q.phys + (a - q.base) ≡ phys) × (q.size ≡ size) × (q.rights ≡ rights)
-page_walked depth m root space a phys size rights translates canonical is =
-    elim (page_at space a) as (λ o. page_at space a ≡ o
-    → (q : Page) × (page_at space a ≡ Some q) × (q.phys + (a - q.base) ≡ phys) × (q.size ≡ size) × (q.rights ≡ rights)) [
-      | None ↦ λ e. let nothing = walked_to_nothing depth m root space a translates canonical e in cc
-      | Some q ↦ λ e.
-          let looks : look space a ≡ answers.Mapped (q.phys + (a - q.base)) q.size q.rights = rw e refl in
-          let walked : Mapped (q.phys + (a - q.base)) q.size q.rights ≡ Mapped phys size rights = sym (ap as_walk looks) ∙ sym (translates a canonical) ∙ is in
-          (q, e, cc, cc, cc)
-    ] refl
+  -- where a page is, an address is mapped
+  pub walked_to_page : (q : Page) → page_at space a ≡ Some q → walk_in t a ≢ NotMapped
+  walked_to_page q e is = let none = nothing_at is in cc
+
+  -- the page at an address that is mapped
+  page_walked : (phys : ℕ) (size : Size) (rights : Rights) → walk_in t a ≡ Mapped phys size rights
+      → (q : Page) × (page_at space a ≡ Some q) × (q.phys + (a - q.base) ≡ phys) × (q.size ≡ size) × (q.rights ≡ rights)
+  page_walked phys size rights is =
+      elim (page_at space a) as (λ o. page_at space a ≡ o
+      → (q : Page) × (page_at space a ≡ Some q) × (q.phys + (a - q.base) ≡ phys) × (q.size ≡ size) × (q.rights ≡ rights)) [
+        | None ↦ λ e. let nothing = walked_to_nothing e in cc
+        | Some q ↦ λ e.
+            let looks : look space a ≡ answers.Mapped (q.phys + (a - q.base)) q.size q.rights = rw e refl in
+            let walked : Mapped (q.phys + (a - q.base)) q.size q.rights ≡ Mapped phys size rights =
+            sym (ap as_walk looks) ∙ sym (of.translates a canonical) ∙ is in
+            (q, e, cc, cc, cc)
+      ] refl
 
 -- the page whose leaf is met in the table of a level on the path of an address
 pub record IsLeafPage (depth : Depth) (space : Space) (a level phys : ℕ) (own : Rights) (q : Page) : Type 0 where
@@ -157,18 +161,16 @@ pub record IsLeafPage (depth : Depth) (space : Space) (a level phys : ℕ) (own 
   pub phys_is : q.phys ≡ phys
   pub rights : q.rights ≡ own
 
-pub leaf_page : (depth : Depth) (m : Memory) (root : ℕ) (space : Space) → IsSpace depth space → TranslatesAs depth m root space → IsTree (levels depth) m root
-    → (a level n phys : ℕ) (own : Rights) → IsCanonical depth a → 1 ≤ level → table_at (levels depth) m root level a ≡ Some n
-    → found_at level m n a ≡ Some (entry.Leaf phys own) → (q : Page) × IsLeafPage depth space a level phys own q
-leaf_page depth m root space is translates tree a level n phys own canonical some at found =
-    let words = words_found level m n a (entry.Leaf phys own) found in
+pub leaf_page : {t : PageTable} {space : Space} → IsTree (levels t.depth) t.memory t.root → IsTableOf t space → (a level n phys : ℕ) (own : Rights)
+    → IsCanonical t.depth a → 1 ≤ level → table_at (levels t.depth) t.memory t.root level a ≡ Some n
+    → found_at level t.memory n a ≡ Some (entry.Leaf phys own) → (q : Page) × IsLeafPage t.depth space a level phys own q
+leaf_page {t} {space} tree of a level n phys own canonical some at found =
+    let words = words_found level t.memory n a (entry.Leaf phys own) found in
     let few = (leaf_level level (slice_index words.0 (index_at level a)) phys own words.2).0 in
-    let walked : walk depth m root a ≡ Mapped (phys + a % entry_bytes level) (size_at level) own =
-    walk_leaf (levels depth) root m tree.allows a level n phys own some at found in
-    let page = page_walked depth m root space a (phys + a % entry_bytes level) (size_at level) own translates canonical walked in
+    let page = page_walked of a canonical (phys + a % entry_bytes level) (size_at level) own (walk_leaf tree a level n phys own some at found) in
     let q = page.0 in
-    let there = (page_at_means is a q).0 page.1 in
-    let good = is.well_formed q there.0 in
+    let there = (page_at_means of.is_space a q).0 page.1 in
+    let good = of.is_space.well_formed q there.0 in
     let same : level_of q.size ≡ level = ap level_of page.3 ∙ level_back level (omega arith) few in
     let bytes : entry_bytes level ≡ bytes_of q.size = ap entry_bytes (sym same) in
     let spans = (covers_means q a).0 there.1 in
@@ -190,15 +192,15 @@ leaf_page depth m root space is translates tree a level n phys own canonical som
 
 -- ---- a space with another look at the addresses of a page
 
-pub translates_changed : (depth : Depth) (m m' : Memory) (root : ℕ) (before after : Space) (q : Page) (inside : ℕ → Answer) → LooksChanged q inside before after
-    → TranslatesAs depth m root before → IsPage depth q
-    → ((b : ℕ) → IsCanonical depth b → SamePath (levels depth) (level_of q.size) q.base b → walk depth m' root b ≡ as_walk (inside b))
-    → ((b : ℕ) → IsCanonical depth b → (SamePath (levels depth) (level_of q.size) q.base b → ⊥) → walk depth m' root b ≡ walk depth m root b)
-    → TranslatesAs depth m' root after
-translates_changed depth m m' root before after q inside looks translates good there elsewhere = λ b canonical.
-    elim (covers q b) as (λ c. covers q b ≡ c → walk depth m' root b ≡ as_walk (look after b)) [
-      | true ↦ λ covered. there b canonical (covers_path depth q good b covered) ∙ ap as_walk (sym (looks.there b covered))
+pub translates_changed : {t : PageTable} (m' : Memory) {before after : Space} {q : Page} {inside : ℕ → Answer} → IsTableOf t before → IsPage t.depth q
+    → LooksChanged q inside before after
+    → ((b : ℕ) → IsCanonical t.depth b → SamePath (levels t.depth) (level_of q.size) q.base b → walk t.depth m' t.root b ≡ as_walk (inside b))
+    → ((b : ℕ) → IsCanonical t.depth b → (SamePath (levels t.depth) (level_of q.size) q.base b → ⊥) → walk t.depth m' t.root b ≡ walk_in t b)
+    → TranslatesAs t.depth m' t.root after
+translates_changed {t} m' {before} {after} {q} {inside} of good looks there elsewhere = λ b canonical.
+    elim (covers q b) as (λ c. covers q b ≡ c → walk t.depth m' t.root b ≡ as_walk (look after b)) [
+      | true ↦ λ covered. there b canonical (covers_path t.depth q good b covered) ∙ ap as_walk (sym (looks.there b covered))
       | false ↦ λ uncovered.
-          elsewhere b canonical (λ same. let covered = (path_covers depth q good b canonical same).0 in cc)
-          ∙ translates b canonical ∙ ap as_walk (sym (looks.elsewhere b uncovered))
+          elsewhere b canonical (λ same. let covered = (path_covers t.depth q good b canonical same).0 in cc)
+          ∙ of.translates b canonical ∙ ap as_walk (sym (looks.elsewhere b uncovered))
     ] refl

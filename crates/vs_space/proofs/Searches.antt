@@ -17,7 +17,7 @@ use Rattle.vs_walk.specs.Walk.{walk}
 use Rattle.vs_walk.specs.declared.walk.Walk.TheVariants.{NotMapped, Reserved}
 use Rattle.vs_space.specs.Path.{found_at, entry_in, IsFirstPresent, table_in, table_at, SamePath}
 use Rattle.vs_space.specs.inside.Tree.{IsTree, IsFilled}
-use Rattle.vs_space.specs.inside.Grow.{IsLeastBase}
+use Rattle.vs_space.specs.inside.Grow.{IsBelowRoot, IsLeastBase}
 use Rattle.vs_space.proofs.Paths.{table_below, same_table, walk_absent, walk_reserved, words_found}
 use Rattle.vs_space.proofs.Meets.{never_table}
 use Rattle.vs_space.proofs.Regions.{stretch_same, in_block}
@@ -35,18 +35,18 @@ pub record IsSearching (depth : Depth) (m : Memory) (root start from level numbe
   pub aligned : base % table_bytes level ≡ 0
   pub reached : table_at (levels depth) m root level base ≡ Some number
 
-pub searching_start : (depth : Depth) (m : Memory) (root start from number : ℕ) → IsCanonical depth start → 1 ≤ from → from < levels depth
-    → start % table_bytes from ≡ 0 → table_at (levels depth) m root from start ≡ Some number → IsSearching depth m root start from from number start
-searching_start depth m root start from number canonical some below aligned reached = record {
-  canonical = canonical;
+pub searching_start : {depth : Depth} {m : Memory} {root start from number : ℕ} → IsBelowRoot depth m root start from number
+    → IsSearching depth m root start from from number start
+searching_start start = record {
+  canonical = start.canonical;
   from_start = omega arith;
   same_path = λ i over under. refl;
   before = λ b is_b lo hi. absurd (omega arith);
-  some = some;
+  some = start.some;
   within = omega arith;
-  below = below;
-  aligned = aligned;
-  reached = reached;
+  below = start.below;
+  aligned = start.aligned;
+  reached = start.reached;
 }
 
 -- an address of an aligned stretch of 512 parts, by its part
@@ -78,7 +78,7 @@ part e base b at low high =
         let all : b ≡ (q * 512 + i) * u + r = t ∙ ap (λ y. y * u + r) s in
         (omega arith, omega arith)
 
-module _ (depth : Depth) (m : Memory) (root start from level number base : ℕ) (tree : IsTree (levels depth) m root)
+module _ {depth : Depth} {m : Memory} {root start from level number base : ℕ} (tree : IsTree (levels depth) m root)
     (search : IsSearching depth m root start from level number base) where
   wide : 12 + 9 * level ≡ 3 + 9 * level + 9
   wide = omega arith
@@ -90,7 +90,7 @@ module _ (depth : Depth) (m : Memory) (root start from level number base : ℕ) 
   quiet : (b : ℕ) → SamePath (levels depth) (suc level) base b → entry_in level m number (index_at level b) ≡ Some entry.Absent
       → walk depth m root b ≡ NotMapped
   quiet b same absent =
-      walk_absent (levels depth) root m tree.allows b level number search.some
+      walk_absent tree b level number search.some
       (sym (same_table (levels depth) root m level base b same) ∙ search.reached) (found_entry level m number b ∙ absent)
 
   -- the table has an entry that is present
@@ -100,7 +100,7 @@ module _ (depth : Depth) (m : Memory) (root start from level number base : ℕ) 
         index_low : (b : ℕ) → index_at level b < 512
         index_low b = omega arith
 
-  module _ (index : ℕ) (first : IsFirstPresent level m number index) (next : ℕ) (next_is : next ≡ base + index * 2 ^ (3 + 9 * level)) where
+  module _ {index : ℕ} (first : IsFirstPresent level m number index) {next : ℕ} (next_is : next ≡ base + index * 2 ^ (3 + 9 * level)) where
     aligned_wide : base % 2 ^ (3 + 9 * level + 9) ≡ 0
     aligned_wide = subst (λ n. base % 2 ^ n ≡ 0) wide search.aligned
 
@@ -168,9 +168,9 @@ module _ (depth : Depth) (m : Memory) (root start from level number base : ℕ) 
         less u base b i index some lo hi = ⊎_elim (λ (lt : i < index). lt)
             (λ (le : index ≤ i). let more : index * u ≤ i * u = grind arith in absurd (omega arith)) (cases_lt i index)
 
-    pub search_on : (found : ℕ) (own : Rights) → found_at level m number next ≡ Some (entry.Table found own) → 1 < level
+    pub search_on : {found : ℕ} {own : Rights} → found_at level m number next ≡ Some (entry.Table found own) → 1 < level
         → IsSearching depth m root start from (level - 1) found next
-    search_on found own is deep = record {
+    search_on is deep = record {
       canonical = next_canonical;
       from_start = omega (arith, search.from_start, from_base);
       same_path = λ i over under. search.same_path i over under ∙ next_path i (omega (arith, over, search.within)) under;
@@ -182,8 +182,8 @@ module _ (depth : Depth) (m : Memory) (root start from level number base : ℕ) 
       reached = table_below (levels depth) root m level (level - 1) next number (omega (arith, search.some)) next_reached ∙ ap table_in is;
     }
 
-    pub search_ends : (phys : ℕ) (own : Rights) → found_at level m number next ≡ Some (entry.Leaf phys own) → IsLeastBase depth m root start from next
-    search_ends phys own is = record {
+    search_ends : {phys : ℕ} {own : Rights} → found_at level m number next ≡ Some (entry.Leaf phys own) → IsLeastBase depth m root start from next
+    search_ends {phys} {own} is = record {
       canonical = next_canonical;
       from_start = omega (arith, search.from_start, from_base);
       same_path = λ i over under. search.same_path i over under ∙ next_path i (omega (arith, over, search.within)) under;
@@ -207,8 +207,8 @@ module _ (depth : Depth) (m : Memory) (root start from level number base : ℕ) 
     present_ends faultless entry.Absent is other =
         absurd (first.present (subst (λ i. entry_in level m number i ≡ Some entry.Absent) next_index (sym (found_entry level m number next) ∙ is)))
     present_ends faultless entry.Reserved is other =
-        absurd (faultless next next_canonical (walk_reserved (levels depth) root m tree.allows next level number search.some next_reached is))
-    present_ends faultless (entry.Leaf phys own) is other = search_ends phys own is
+        absurd (faultless next next_canonical (walk_reserved tree next level number search.some next_reached is))
+    present_ends faultless (entry.Leaf phys own) is other = search_ends is
     present_ends faultless (entry.Table n own) is other = absurd (other n own refl)
 
 under : (x y : ℕ) → x ≤ y → y ≤ 2 ^ 60 → x < 18446744073709551616

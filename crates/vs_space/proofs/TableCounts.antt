@@ -18,7 +18,8 @@ use Rattle.vs_walk.specs.Memory.{Memory}
 use Rattle.vs_walk.specs.Walk.{walk, TranslatesAs}
 use Rattle.vs_walk.specs.declared.walk.Walk.TheVariants.{NotMapped}
 use Rattle.vs_space.specs.inside.Tree.{NothingUnder}
-use Rattle.vs_space.proofs.Regions.{same_stretch, stretch_same, block, in_block, walked_to_page, walked_to_nothing}
+use Rattle.vs_space.specs.Table.{PageTable, IsTableOf}
+use Rattle.vs_space.proofs.Regions.{walk_in, same_stretch, stretch_same, block, in_block, walked_to_page, walked_to_nothing}
 
 -- ---- the tables that a page needs, by the levels at which a smaller page begins in its stretch
 
@@ -57,22 +58,22 @@ module _ {depth : Depth} {space : Space} (is : IsSpace depth space) (page : Page
 
 -- ---- whether a smaller page begins in the stretch of an address, by the walks
 
-module _ (depth : Depth) (m : Memory) (root : ℕ) (space : Space) (is : IsSpace depth space) (translates : TranslatesAs depth m root space) (base : ℕ)
-    (canonical : IsCanonical depth base) (level : ℕ) (below : level < levels depth) where
+module _ {t : PageTable} {space : Space} (of : IsTableOf t space) (base : ℕ) (canonical : IsCanonical t.depth base) (level : ℕ)
+    (below : level < levels t.depth) where
   -- where nothing is mapped, no page begins
-  pub none_begins : NothingUnder depth m root (suc level) base → is_member nat_eq (stretches level space) (base / table_bytes level) ≡ false
+  pub none_begins : NothingUnder t.depth t.memory t.root (suc level) base → is_member nat_eq (stretches level space) (base / table_bytes level) ≡ false
   none_begins nothing =
       elim (is_member nat_eq (stretches level space) (base / table_bytes level))
-      as (λ t. is_member nat_eq (stretches level space) (base / table_bytes level) ≡ t → t ≡ false) [
-        | true ↦ λ t.
+      as (λ v. is_member nat_eq (stretches level space) (base / table_bytes level) ≡ v → v ≡ false) [
+        | true ↦ λ v.
             let found = member_comes (λ (p : Page). p.base / table_bytes level) (λ p. nat_lt (bytes_of p.size) (table_bytes level)) (pages space)
-            (base / table_bytes level) t in
-            let held = (holds_listed is found.0).0 found.1 in
-            let good = is.well_formed found.0 held in
-            absurd (walked_to_page depth m root space found.0.base found.0 translates good.canonical
-            ((page_at_means is found.0.base found.0).1 (held, covers_base found.0))
-            (nothing found.0.base good.canonical (stretch_same (levels depth) level base found.0.base (sym found.3))))
-        | false ↦ λ t. refl
+            (base / table_bytes level) v in
+            let held = (holds_listed of.is_space found.0).0 found.1 in
+            let good = of.is_space.well_formed found.0 held in
+            absurd (walked_to_page of found.0.base good.canonical found.0
+            ((page_at_means of.is_space found.0.base found.0).1 (held, covers_base found.0))
+            (nothing found.0.base good.canonical (stretch_same (levels t.depth) level base found.0.base (sym found.3))))
+        | false ↦ λ v. refl
       ] refl
 
   -- two quotients by a higher power
@@ -89,51 +90,49 @@ module _ (depth : Depth) (m : Memory) (root : ℕ) (space : Space) (is : IsSpace
       let up = coarser base b (12 + 9 * level) (3 + 9 * level_of q.size) (omega arith) same in
       let here = block (3 + 9 * level_of q.size) q.base base good.aligned (own ∙ sym up) in
       let covered = (covers_means q base).1 (here.0, here.1) in
-      let page = (page_at_means is base q).1 (held.0, covered) in
+      let page = (page_at_means of.is_space base q).1 (held.0, covered) in
       absurd (cc))
       (λ (small : level_of q.size ≤ level).
       let up = coarser q.base b (3 + 9 * level_of q.size) (12 + 9 * level) (omega arith) own in
       subst (λ n. is_member nat_eq (stretches level space) n ≡ true) (up ∙ sym same)
       (member_goes (λ (p : Page). p.base / table_bytes level) (λ p. nat_lt (bytes_of p.size) (table_bytes level)) (pages space) q
-      ((holds_listed is q).1 held.0) (has_table q level small)))
+      ((holds_listed of.is_space q).1 held.0) (has_table q level small)))
       (cases_lt level (level_of q.size))
     where
       held : Holds space q × IsTrue (covers q b)
-      held = (page_at_means is b q).0 at
+      held = (page_at_means of.is_space b q).0 at
 
-      good : IsPage depth q
-      good = is.well_formed q held.0
+      good : IsPage t.depth q
+      good = of.is_space.well_formed q held.0
 
       own : q.base / 2 ^ (3 + 9 * level_of q.size) ≡ b / 2 ^ (3 + 9 * level_of q.size)
       own = let spans = (covers_means q b).0 held.1 in in_block (3 + 9 * level_of q.size) q.base b good.aligned spans.0 spans.1
 
   -- where something is mapped, and no page has the base, a smaller page begins
-  pub some_begins : (NothingUnder depth m root (suc level) base → ⊥) → page_at space base ≡ None
+  pub some_begins : (NothingUnder t.depth t.memory t.root (suc level) base → ⊥) → page_at space base ≡ None
       → is_member nat_eq (stretches level space) (base / table_bytes level) ≡ true
   some_begins something none =
       elim (is_member nat_eq (stretches level space) (base / table_bytes level))
-      as (λ t. is_member nat_eq (stretches level space) (base / table_bytes level) ≡ t → t ≡ true) [
-        | true ↦ λ t. refl
-        | false ↦ λ t. absurd (something (λ b is_b same.
-            elim (page_at space b) as (λ o. page_at space b ≡ o → walk depth m root b ≡ NotMapped) [
-              | None ↦ λ e. walked_to_nothing depth m root space b translates is_b e
-              | Some q ↦ λ e. let yes = begins_there none b q e (same_stretch depth level base b canonical is_b below same) in absurd (cc)
+      as (λ v. is_member nat_eq (stretches level space) (base / table_bytes level) ≡ v → v ≡ true) [
+        | true ↦ λ v. refl
+        | false ↦ λ v. absurd (something (λ b is_b same.
+            elim (page_at space b) as (λ o. page_at space b ≡ o → walk_in t b ≡ NotMapped) [
+              | None ↦ λ e. walked_to_nothing of b is_b e
+              | Some q ↦ λ e. let yes = begins_there none b q e (same_stretch t.depth level base b canonical is_b below same) in absurd (cc)
             ] refl))
       ] refl
 
 -- what a page adds to the table count, where the path of its base ends at the table of this level
-pub count_added : (depth : Depth) (m : Memory) (root : ℕ) (space : Space) (page : Page) (level : ℕ) → IsSpace depth space → TranslatesAs depth m root space
-    → IsPage depth page → IsSpace depth (finite.insert space page.base page) → ((q : Page) → Holds space q → q.base ≢ page.base)
-    → page_at space page.base ≡ None
-    → level_of page.size ≤ level → level ≤ levels depth → NothingUnder depth m root level page.base
-    → ((j : ℕ) → level < j → j ≤ levels depth → NothingUnder depth m root j page.base → ⊥)
-    → table_count depth (finite.insert space page.base page) ≡ (level - level_of page.size) + table_count depth space
-count_added depth m root space page level is translates good is_new absent none own below nothing something =
-    let added = levels_added is page is_new absent level own
-    (λ l from to. none_begins depth m root space is translates page.base good.canonical l (omega arith)
-    (λ b is_b same. nothing b is_b (λ i over under. same i (omega arith) under)))
-    (levels depth - 1)
-    (λ l from to. some_begins depth m root space is translates page.base good.canonical l (omega (arith, level_some page.size))
+pub count_added : {t : PageTable} {space : Space} → IsTableOf t space → (page : Page) (level : ℕ) → IsPage t.depth page
+    → IsSpace t.depth (finite.insert space page.base page) → ((q : Page) → Holds space q → q.base ≢ page.base)
+    → page_at space page.base ≡ None → level_of page.size ≤ level → level ≤ levels t.depth → NothingUnder t.depth t.memory t.root level page.base
+    → ((j : ℕ) → level < j → j ≤ levels t.depth → NothingUnder t.depth t.memory t.root j page.base → ⊥)
+    → table_count t.depth (finite.insert space page.base page) ≡ (level - level_of page.size) + table_count t.depth space
+count_added {t} of page level good is_new absent none own below nothing something =
+    let added = levels_added of.is_space page is_new absent level own
+    (λ l from to. none_begins of page.base good.canonical l (omega arith) (λ b is_b same. nothing b is_b (λ i over under. same i (omega arith) under)))
+    (levels t.depth - 1)
+    (λ l from to. some_begins of page.base good.canonical l (omega (arith, level_some page.size))
     (something (suc l) (omega arith) (omega (arith, level_some page.size))) none)
     (omega (arith, level_some page.size)) in
     omega arith

@@ -32,6 +32,7 @@ use Rattle.vs_walk.proofs.LawsOfSpaces.{translates_shared}
 use Rattle.vs_space.specs.Held.{word_at}
 use Rattle.vs_space.specs.Path.{found_at, table_in, table_at, SamePath}
 use Rattle.vs_space.specs.inside.Tree.{IsTree, IsReached}
+use Rattle.vs_space.specs.Table.{PageTable}
 use Rattle.vs_space.specs.inside.Invariant.{IsPageTable}
 use Rattle.vs_space.proofs.Paths.{words_found, reached_within, table_first, table_next, none_past, table_before, same_table}
 use Rattle.vs_space.proofs.Writes.{same_longer}
@@ -319,48 +320,6 @@ module _ (depth : Depth) (top : ℕ) (root : ℕ) (m : Memory) (whole : AreWhole
       (entry_index level table on words.0 words.1 index within))
       at)
 
--- ---- from the root on
-
-module _ (depth : Depth) (memory : Memory) (root : ℕ) (whole : AreWhole memory) where
-  -- each frame that is reached is in use
-  pub in_use : IsTree (levels depth) memory root → (n : ℕ) → Contains (reached (traversal depth memory root)) n → IsSome (finite.get memory n)
-  in_use tree n is =
-      let under = table_reaches depth (levels depth) root memory whole (levels depth) _ (root_on_path depth (levels depth) root memory whole) n
-      (reached_is_met (traversal depth memory root) n is) in
-      tree.in_use under.lower under.address n under.at
-
-  -- and each frame in use is reached
-  pub each : IsReached (levels depth) memory root → (n : ℕ) → IsSome (finite.get memory n) → Contains (reached (traversal depth memory root)) n
-  each paths n used =
-      let path = paths.path n used in
-      met_is_reached (traversal depth memory root) n
-      (path_reached depth (levels depth) root memory whole (levels depth - path.0) (levels depth) path.0 _
-      (omega (arith, reached_within (levels depth) root memory path.0 path.1 n path.2)) (some_levels depth)
-      (root_on_path depth (levels depth) root memory whole) path.1 n
-      (λ i over to. absurd (omega arith)) path.2)
-
-  -- and there is no fault
-  pub faultless : IsTree (levels depth) memory root → (space : Space) → TranslatesAs depth memory root space → walk_fault depth memory root ≡ None
-  faultless tree space translates = ⊎_elim
-      (λ none. none)
-      (λ shared.
-      let twice = shared_reached depth memory root shared.0 shared.1 in
-      absurd (not_twice shared.0 twice.0 twice.1
-      (subst Once twice.2 (table_once depth (levels depth) root memory whole tree (levels depth) _ (root_on_path depth (levels depth) root memory whole)))
-      twice.3))
-      (translates_shared depth memory root space whole translates)
-
--- a page table's traversal meets no fault, and reaches just the frames in use
-pub traversed : (depth : Depth) (memory : Memory) (root : ℕ) → IsPageTable depth memory root
-    → (walk_fault depth memory root ≡ None)
-    × ((number : ℕ) → Contains (reached (traversal depth memory root)) number → IsTrue (finite.contains_key memory number))
-    × ((number : ℕ) → IsTrue (finite.contains_key memory number) → Contains (reached (traversal depth memory root)) number)
-traversed depth memory root table = (
-  faultless depth memory root table.whole table.tree table.some_space.0 table.some_space.1.translates,
-  in_use depth memory root table.whole table.tree,
-  each depth memory root table.whole table.reached,
-)
-
 -- ---- frame numbers
 
 -- what a word leads to, where it leads to a table
@@ -377,17 +336,50 @@ table_fits level word n own is =
     let same : word % 2 ^ 52 / 2 ^ 12 ≡ n = leads_to (bit_at word 0 == 1) (has_reserved level word) (is_leaf level word) _ _ n _ own is in
     omega (arith, same)
 
--- a frame in use is the root, or an entry leads to it
-pub numbers_fit : (depth : Depth) (memory : Memory) (root : ℕ) → IsPageTable depth memory root → (n : ℕ) → IsSome (finite.get memory n) → n < 2 ^ 40
-numbers_fit depth memory root table n used =
-    let path = table.reached.path n used in
-    ⊎_elim
-    (λ (same : path.0 ≡ levels depth).
-    let first : root ≡ n = one_some root n (sym (table_first (levels depth) root memory path.1)
-    ∙ subst (λ l. table_at (levels depth) memory root l path.1 ≡ Some n) same path.2) in
-    subst (λ number. number < 2 ^ 40) first table.root_fits)
-    (λ (other : path.0 ≢ levels depth).
-    let before = table_before (levels depth) root memory path.0 path.1 n
-    (omega (arith, other, reached_within (levels depth) root memory path.0 path.1 n path.2)) path.2 in
-    table_fits (suc path.0) _ n before.1 (words_found (suc path.0) memory before.0 path.1 (entry.Table n before.1) before.3).2)
-    (cases_eq path.0 (levels depth))
+-- ---- from the root of a page table on
+
+module _ {t : PageTable} (table : IsPageTable t) where
+  abbrev top : ℕ
+  top = levels t.depth
+
+  -- each frame that is reached is in use
+  pub in_use : (n : ℕ) → Contains (reached (traversal t.depth t.memory t.root)) n → IsSome (finite.get t.memory n)
+  in_use n is =
+      let under = table_reaches t.depth top t.root t.memory table.whole top _ (root_on_path t.depth top t.root t.memory table.whole) n
+      (reached_is_met (traversal t.depth t.memory t.root) n is) in
+      table.tree.in_use under.lower under.address n under.at
+
+  -- and each frame in use is reached
+  pub each : (n : ℕ) → IsSome (finite.get t.memory n) → Contains (reached (traversal t.depth t.memory t.root)) n
+  each n used =
+      let path = table.reached.path n used in
+      met_is_reached (traversal t.depth t.memory t.root) n
+      (path_reached t.depth top t.root t.memory table.whole (top - path.0) top path.0 _
+      (omega (arith, reached_within top t.root t.memory path.0 path.1 n path.2)) (some_levels t.depth)
+      (root_on_path t.depth top t.root t.memory table.whole) path.1 n (λ i over to. absurd (omega arith)) path.2)
+
+  -- and there is no fault
+  pub no_fault : walk_fault t.depth t.memory t.root ≡ None
+  no_fault = ⊎_elim
+      (λ none. none)
+      (λ shared.
+      let twice = shared_reached t.depth t.memory t.root shared.0 shared.1 in
+      absurd (not_twice shared.0 twice.0 twice.1
+      (subst Once twice.2
+      (table_once t.depth top t.root t.memory table.whole table.tree top _ (root_on_path t.depth top t.root t.memory table.whole)))
+      twice.3))
+      (translates_shared t.depth t.memory t.root table.some_space.0 table.whole table.some_space.1.is_of.translates)
+
+  -- a frame in use is the root, or an entry leads to it
+  pub numbers_fit : (n : ℕ) → IsSome (finite.get t.memory n) → n < 2 ^ 40
+  numbers_fit n used =
+      let path = table.reached.path n used in
+      ⊎_elim
+      (λ (same : path.0 ≡ top).
+      let first : t.root ≡ n = one_some t.root n (sym (table_first top t.root t.memory path.1)
+      ∙ subst (λ l. table_at top t.memory t.root l path.1 ≡ Some n) same path.2) in
+      subst (λ number. number < 2 ^ 40) first table.root_fits)
+      (λ (other : path.0 ≢ top).
+      let before = table_before top t.root t.memory path.0 path.1 n (omega (arith, other, reached_within top t.root t.memory path.0 path.1 n path.2)) path.2 in
+      table_fits (suc path.0) _ n before.1 (words_found (suc path.0) t.memory before.0 path.1 (entry.Table n before.1) before.3).2)
+      (cases_eq path.0 top)

@@ -1,23 +1,24 @@
 -- Trees of tables stay trees: an entry that leads to no table is written, a table is linked, a table is taken out.
-use Rattle.std.proofs.Common.{◌≡◌, ◌≢◌, ℕ, suc, ◌-◌, ◌<◌, ◌≤◌, Some, None, ⊎_elim, sym, ap, subst, ◌∙◌, arith}
+use Rattle.std.proofs.Common.{◌≡◌, ◌≢◌, ℕ, suc, ◌+◌, ◌-◌, ◌%◌, ◌<◌, ◌≤◌, Some, None, ⊎_elim, sym, ap, subst, ◌∙◌, arith}
 use Rattle.std.specs.Prelude.{IsSome}
 use Rattle.std.proofs.lemmas.Bool.{cases_eq, cases_lt}
 use Rattle.std.specs.FinMap as finite
-use Rattle.vs_types.specs.Depth.{levels, index_at, IsCanonical}
-use Rattle.vs_types.specs.Entry.{meaning}
+use Rattle.vs_types.specs.Depth.{levels, entry_bytes, index_at, IsCanonical}
+use Rattle.vs_types.specs.Entry.{meaning, size_at}
+use Rattle.vs_types.specs.declared.page.Rights.{Rights}
 use Rattle.vs_types.specs.declared.depth.Depth.{Depth}
 use Rattle.vs_types.specs.declared.entry.Meaning.{Meaning}
 use Rattle.vs_types.specs.declared.entry.Meaning.TheVariants as entry
 use Rattle.vs_walk.specs.Memory.{Memory, AreWhole}
 use Rattle.vs_walk.specs.Walk.{all_rights, walk, walk_from}
-use Rattle.vs_walk.specs.declared.walk.Walk.TheVariants.{NotMapped}
+use Rattle.vs_walk.specs.declared.walk.Walk.TheVariants.{NotMapped, Mapped}
 use Rattle.vs_space.specs.Held.{with_word}
 use Rattle.vs_space.specs.Path.{found_at, table_in, table_at, SamePath}
 use Rattle.vs_space.specs.inside.Tree.{IsTree, IsFilled, NothingUnder}
 use Rattle.vs_space.specs.inside.Prune.{IsFilledBut}
-use Rattle.vs_space.proofs.Paths.{reached_within, table_below, none_past, same_table, agree_table, agree_walk}
-use Rattle.vs_space.proofs.Writes.{off_path, above, table_off_path, table_above, walk_off_path, table_here, found_on_path, same_or_not, found_alike}
-use Rattle.vs_space.proofs.Writes.{written_in_use}
+use Rattle.vs_space.proofs.Paths.{table_below, none_past, same_table, agree_table, agree_walk, walk_absent, walk_leaf}
+use Rattle.vs_space.proofs.Writes.{IsTreeAt, within, after_write, off_path, above, table_off_path, table_above, walk_off_path, table_here, found_on_path}
+use Rattle.vs_space.proofs.Writes.{same_or_not, found_alike, written_in_use}
 
 pub one_some : (x y : ℕ) → Some x ≡ Some y → x ≡ y
 one_some x y e = cc
@@ -45,95 +46,103 @@ module _ (top : ℕ) (root : ℕ) (m m' : Memory) (alike : (j b q : ℕ) → tab
 
 -- ---- an entry that leads to no table
 
-module _ (top : ℕ) (root : ℕ) (m : Memory) (tree : IsTree top m root) (whole : AreWhole m) (level a n : ℕ) (at : table_at top m root level a ≡ Some n) (w : ℕ)
-    (ends : table_in (Some (meaning level w)) ≡ None) where
+module _ {top : ℕ} {m : Memory} {root level a n : ℕ} (here : IsTreeAt top m root level a n) (w : ℕ) (ends : table_in (Some (meaning level w)) ≡ None) where
   abbrev new : Memory
   new = with_word m n (index_at level a) w
 
   -- below it the path ends
   pub none_here : (b j : ℕ) → j < level → SamePath top level a b → table_at top new root j b ≡ None
-  none_here b j lt same =
-      none_past top root new (level - 1) j b (omega (arith, reached_within top root m level a n at)) (omega arith)
-      (table_below top root new level (level - 1) b n (omega arith) (table_here top root m tree whole level a n at w b same)
-      ∙ ap table_in (found_on_path top root m tree whole level a n at w b same) ∙ ends)
+  none_here b j lt same = none_past top root new (level - 1) j b (omega (arith, within here)) (omega arith)
+      (table_below top root new level (level - 1) b n (omega arith) (table_here here w b same) ∙ ap table_in (found_on_path here w b same) ∙ ends)
 
   pub fewer : (j b q : ℕ) → table_at top new root j b ≡ Some q → table_at top m root j b ≡ Some q
   fewer j b q r = ⊎_elim
       (λ same. ⊎_elim
       (λ (past : j < level). let nothing = none_here b j past same in cc)
-      (λ (le : level ≤ j). sym (table_above top root m tree whole level a n at w b j le) ∙ r)
+      (λ (le : level ≤ j). sym (table_above here w b j le) ∙ r)
       (cases_lt j level))
-      (λ apart. sym (table_off_path top root m tree whole level a n at w b j apart) ∙ r)
+      (λ apart. sym (table_off_path here w b j apart) ∙ r)
       (same_or_not top level a b)
 
   pub tree_write : IsTree top new root
   tree_write = record {
-    in_use = λ j b q r. written_in_use m n (index_at level a) w q (tree.in_use j b q (fewer j b q r));
-    once = λ j l b c q r s. tree.once j l b c q (fewer j b q r) (fewer l c q s);
+    in_use = λ j b q r. written_in_use m n (index_at level a) w q (here.tree.in_use j b q (fewer j b q r));
+    once = λ j l b c q r s. here.tree.once j l b c q (fewer j b q r) (fewer l c q s);
     allows = λ j b q next own r f. ⊎_elim
         (λ same. ⊎_elim
-        (λ (here : j ≡ level).
-        let there = table_here top root m tree whole level a n at w b same in
-        let q_is : q ≡ n = one_some q n (sym r ∙ ap (λ i. table_at top new root i b) here ∙ there) in
+        (λ (at : j ≡ level).
+        let q_is : q ≡ n = one_some q n (sym r ∙ ap (λ i. table_at top new root i b) at ∙ table_here here w b same) in
         let found : found_at level new n b ≡ Some (entry.Table next own) =
-        subst (λ i. found_at i new n b ≡ Some (entry.Table next own)) here (subst (λ x. found_at j new x b ≡ Some (entry.Table next own)) q_is f) in
-        let is_table : table_in (Some (entry.Table next own)) ≡ None = ap table_in (sym found ∙ found_on_path top root m tree whole level a n at w b same)
-        ∙ ends in
+        subst (λ i. found_at i new n b ≡ Some (entry.Table next own)) at (subst (λ x. found_at j new x b ≡ Some (entry.Table next own)) q_is f) in
+        let is_table : table_in (Some (entry.Table next own)) ≡ None = ap table_in (sym found ∙ found_on_path here w b same) ∙ ends in
         cc)
-        (λ (other : j ≢ level). tree.allows j b q next own (fewer j b q r) (sym (above top root m tree whole level a n at w b j q other (fewer j b q r)) ∙ f))
+        (λ (other : j ≢ level). here.tree.allows j b q next own (fewer j b q r) (sym (above here w b j q other (fewer j b q r)) ∙ f))
         (cases_eq j level))
-        (λ apart. tree.allows j b q next own (fewer j b q r) (sym (off_path top root m tree whole level a n at w b apart j q (fewer j b q r)) ∙ f))
+        (λ apart. here.tree.allows j b q next own (fewer j b q r) (sym (off_path here w b apart j q (fewer j b q r)) ∙ f))
         (same_or_not top level a b);
   }
+
+-- how an address is walked whose path goes to an entry that was written
+pub walk_to_leaf : {top : ℕ} {m : Memory} {root level a n phys : ℕ} {own : Rights} (here : IsTreeAt top m root level a n) (w : ℕ)
+    → meaning level w ≡ entry.Leaf phys own → 1 ≤ level → (b : ℕ) → SamePath top level a b
+    → walk_from (after_write here w) top root all_rights b ≡ Mapped (phys + b % entry_bytes level) (size_at level) own
+walk_to_leaf {level = level} {n = n} {phys = phys} {own = own} here w leads some b same =
+    walk_leaf (tree_write here w (ap (λ e. table_in (Some e)) leads)) b level n phys own some (table_here here w b same)
+    (found_on_path here w b same ∙ ap Some leads)
+
+pub walk_to_absent : {top : ℕ} {m : Memory} {root level a n : ℕ} (here : IsTreeAt top m root level a n) (w : ℕ)
+    → meaning level w ≡ entry.Absent → 1 ≤ level → (b : ℕ) → SamePath top level a b → walk_from (after_write here w) top root all_rights b ≡ NotMapped
+walk_to_absent {level = level} {n = n} here w says some b same =
+    walk_absent (tree_write here w (ap (λ e. table_in (Some e)) says)) b level n some (table_here here w b same)
+    (found_on_path here w b same ∙ ap Some says)
 
 -- ---- tables that have something mapped, but for those on the path of an address
 
 pub but_none : {depth : Depth} {memory : Memory} {root : ℕ} (base : ℕ) → IsFilled depth memory root → IsFilledBut depth memory root base
 but_none base is = record { filled = λ level a n low r off. is.filled level a n low r }
 
--- where the address itself is mapped, so is something under each table on its path
-pub filled_by : (depth : Depth) (memory : Memory) (root base : ℕ) → IsFilledBut depth memory root base → IsCanonical depth base
-    → (walk depth memory root base ≢ NotMapped) → IsFilled depth memory root
-filled_by depth memory root base is canonical mapped = record {
-  filled = λ level a n low r nothing. ⊎_elim
-      (λ same. mapped (nothing base canonical (λ i from to. sym (same i from to))))
-      (λ apart. is.filled level a n low r apart nothing)
-      (same_or_not (levels depth) (suc level) base a);
-}
+module _ {depth : Depth} {m : Memory} {root base : ℕ} (is : IsFilledBut depth m root base) where
+  -- where the address itself is mapped, so is something under each table on its path
+  pub filled_by : IsCanonical depth base → (walk depth m root base ≢ NotMapped) → IsFilled depth m root
+  filled_by canonical mapped = record {
+    filled = λ level a n low r nothing. ⊎_elim
+        (λ same. mapped (nothing base canonical (λ i from to. sym (same i from to))))
+        (λ apart. is.filled level a n low r apart nothing)
+        (same_or_not (levels depth) (suc level) base a);
+  }
 
--- where the path ends below the table of a level, and something is mapped under that table, if it isn't the root
-pub filled_up : (depth : Depth) (memory : Memory) (root base level : ℕ) → IsFilledBut depth memory root base
-    → ((j : ℕ) → j < level → table_at (levels depth) memory root j base ≡ None)
-    → (level < levels depth → NothingUnder depth memory root (suc level) base → ⊥) → IsFilled depth memory root
-filled_up depth memory root base level is none something = record {
-  filled = λ j a n low r nothing. ⊎_elim
-      (λ same. ⊎_elim
+  -- where the path ends below the table of a level, and something is mapped under that table, if it isn't the root
+  pub filled_up : (level : ℕ) → ((j : ℕ) → j < level → table_at (levels depth) m root j base ≡ None)
+      → (level < levels depth → NothingUnder depth m root (suc level) base → ⊥) → IsFilled depth m root
+  filled_up level none something = record {
+    filled = λ j a n low r nothing. ⊎_elim
+        (λ same. ⊎_elim
+        (λ (past : j < level).
+        let there : table_at (levels depth) m root j base ≡ Some n = same_table (levels depth) root m j base a same ∙ r in
+        let nowhere = none j past in
+        cc)
+        (λ (le : level ≤ j). something (omega arith) (λ b canonical path. nothing b canonical (λ i from to. sym (same i from to) ∙ path i (omega arith) to)))
+        (cases_lt j level))
+        (λ apart. is.filled j a n low r apart nothing)
+        (same_or_not (levels depth) (suc j) base a);
+  }
+
+  -- the same tables and walks keep what is mapped under them
+  pub but_alike : {m' : Memory}
+      → ((j b q : ℕ) → table_at (levels depth) m' root j b ≡ Some q → (SamePath (levels depth) (suc j) base b → ⊥)
+      → table_at (levels depth) m root j b ≡ Some q)
+      → ((b : ℕ) → IsCanonical depth b → walk depth m' root b ≡ walk depth m root b) → IsFilledBut depth m' root base
+  but_alike tables walks = record {
+    filled = λ j b q low r off nothing. is.filled j b q low (tables j b q r off) off (λ c canonical same. sym (walks c canonical) ∙ nothing c canonical same);
+  }
+
+pub but_write : {depth : Depth} {m : Memory} {root level a n : ℕ} → IsFilledBut depth m root a → (here : IsTreeAt (levels depth) m root level a n) (w : ℕ)
+    → table_in (Some (meaning level w)) ≡ None → IsFilledBut depth (after_write here w) root a
+but_write {depth} {level = level} is here w ends = record {
+  filled = λ j b q low r off nothing. is.filled j b q low (fewer here w ends j b q r) off (λ c canonical same.
+      sym (walk_off_path here w c (λ on. ⊎_elim
       (λ (past : j < level).
-      let there : table_at (levels depth) memory root j base ≡ Some n = same_table (levels depth) root memory j base a same ∙ r in
-      let nowhere = none j past in
-      cc)
-      (λ (le : level ≤ j). something (omega arith) (λ b canonical path. nothing b canonical (λ i from to. sym (same i from to) ∙ path i (omega arith) to)))
-      (cases_lt j level))
-      (λ apart. is.filled j a n low r apart nothing)
-      (same_or_not (levels depth) (suc j) base a);
-}
-
--- the same tables and walks keep what is mapped under them
-pub but_alike : (depth : Depth) (m m' : Memory) (root base : ℕ)
-    → ((j b q : ℕ) → table_at (levels depth) m' root j b ≡ Some q → (SamePath (levels depth) (suc j) base b → ⊥) → table_at (levels depth) m root j b ≡ Some q)
-    → ((b : ℕ) → IsCanonical depth b → walk depth m' root b ≡ walk depth m root b) → IsFilledBut depth m root base → IsFilledBut depth m' root base
-but_alike depth m m' root base tables walks is = record {
-  filled = λ j b q low r off nothing. is.filled j b q low (tables j b q r off) off (λ c canonical same. sym (walks c canonical) ∙ nothing c canonical same);
-}
-
-pub but_write : (depth : Depth) (root : ℕ) (m : Memory) (tree : IsTree (levels depth) m root) (whole : AreWhole m) (level a n : ℕ)
-    (at : table_at (levels depth) m root level a ≡ Some n) (w : ℕ) → table_in (Some (meaning level w)) ≡ None
-    → IsFilledBut depth m root a → IsFilledBut depth (with_word m n (index_at level a) w) root a
-but_write depth root m tree whole level a n at w ends is = record {
-  filled = λ j b q low r off nothing. is.filled j b q low (fewer (levels depth) root m tree whole level a n at w ends j b q r) off (λ c canonical same.
-      sym (walk_off_path (levels depth) root m tree whole level a n at w c (λ on. ⊎_elim
-      (λ (past : j < level).
-      let nowhere = none_here (levels depth) root m tree whole level a n at w ends b j past (λ i from to. on i from to ∙ sym (same i (omega arith) to)) in
+      let nowhere = none_here here w ends b j past (λ i from to. on i from to ∙ sym (same i (omega arith) to)) in
       absurd (cc))
       (λ (le : level ≤ j). off (λ i from to. on i (omega arith) to ∙ sym (same i from to)))
       (cases_lt j level)))

@@ -92,39 +92,53 @@ same_or_not top level a b = by (top + 1 - level) level (omega arith) where
       (λ apart. inr (λ same. apart (λ i from to. same i (omega arith) to)))
       (by d (suc level) (omega arith))
 
--- ---- the entry for an address a is written in the table of a level on its path
+-- a tree of tables, and its table of this level on the path of an address
+pub record IsTreeAt (top : ℕ) (m : Memory) (root level a n : ℕ) : Type 0 where
+  pub tree : IsTree top m root
+  pub whole : AreWhole m
+  pub at : table_at top m root level a ≡ Some n
 
-module _ (top : ℕ) (root : ℕ) (m : Memory) (tree : IsTree top m root) (whole : AreWhole m) (level a n : ℕ) (at : table_at top m root level a ≡ Some n)
-    (w : ℕ) where
-  abbrev pub after_write : Memory
-  after_write = with_word m n (index_at level a) w
+-- ---- its entry for the address is written
 
-  used : IsSome (finite.get m n)
-  used = tree.in_use level a n at
+module _ {top : ℕ} {m : Memory} {root level a n : ℕ} (here : IsTreeAt top m root level a n) where
+  pub used_at : IsSome (finite.get m n)
+  used_at = here.tree.in_use level a n here.at
 
-  -- off the path of a, all is found as before
-  pub off_path : (b : ℕ) → (SamePath top level a b → ⊥) → (j q : ℕ) → table_at top m root j b ≡ Some q → found_at j after_write q b ≡ found_at j m q b
-  off_path b apart j q reached = found_elsewhere j m n (index_at level a) w q b used (λ same here.
-      let both = tree.once level j a b n at (subst (λ x. table_at top m root j b ≡ Some x) same reached) in
-      apart (same_longer top level a b both.1 (subst (λ x. index_at level a ≡ index_at x b) (sym both.0) (sym here))))
+  pub within : level ≤ top
+  within = reached_within top root m level a n here.at
 
-  -- in tables of other levels, all is found as before
-  pub above : (b j q : ℕ) → j ≢ level → table_at top m root j b ≡ Some q → found_at j after_write q b ≡ found_at j m q b
-  above b j q other reached = found_elsewhere j m n (index_at level a) w q b used (λ same here.
-      absurd (other (tree.once j level b a n (subst (λ x. table_at top m root j b ≡ Some x) same reached) at).0))
+  pub at_same : (b : ℕ) → SamePath top level a b → table_at top m root level b ≡ Some n
+  at_same b same = sym (same_table top root m level a b (λ i from to. same i (omega arith) to)) ∙ here.at
 
-  pub table_off_path : (b j : ℕ) → (SamePath top level a b → ⊥) → table_at top after_write root j b ≡ table_at top m root j b
-  table_off_path b j apart = agree_table top root m after_write b j (λ i q over reached. off_path b apart i q reached)
+  module _ (w : ℕ) where
+    abbrev pub after_write : Memory
+    after_write = with_word m n (index_at level a) w
 
-  pub table_above : (b j : ℕ) → level ≤ j → table_at top after_write root j b ≡ table_at top m root j b
-  table_above b j le = agree_table top root m after_write b j (λ i q over reached. above b i q (λ e. omega arith) reached)
+    pub len_write : finite.len after_write ≡ finite.len m
+    len_write = len_written m n (index_at level a) w used_at
 
-  pub walk_off_path : (b : ℕ) → (SamePath top level a b → ⊥) → walk_from after_write top root all_rights b ≡ walk_from m top root all_rights b
-  walk_off_path b apart = agree_walk top root m after_write b (λ i q over reached. off_path b apart i q reached)
+    -- off the path of a, all is found as before
+    pub off_path : (b : ℕ) → (SamePath top level a b → ⊥) → (j q : ℕ) → table_at top m root j b ≡ Some q → found_at j after_write q b ≡ found_at j m q b
+    off_path b apart j q reached = found_elsewhere j m n (index_at level a) w q b used_at (λ same turn.
+        let both = here.tree.once level j a b n here.at (subst (λ x. table_at top m root j b ≡ Some x) same reached) in
+        apart (same_longer top level a b both.1 (subst (λ x. index_at level a ≡ index_at x b) (sym both.0) (sym turn))))
 
-  pub table_here : (b : ℕ) → SamePath top level a b → table_at top after_write root level b ≡ Some n
-  table_here b same = table_above b level (omega arith) ∙ sym (same_table top root m level a b (λ i from to. same i (omega arith) to)) ∙ at
+    -- in tables of other levels, all is found as before
+    pub above : (b j q : ℕ) → j ≢ level → table_at top m root j b ≡ Some q → found_at j after_write q b ≡ found_at j m q b
+    above b j q other reached = found_elsewhere j m n (index_at level a) w q b used_at (λ same turn.
+        absurd (other (here.tree.once j level b a n (subst (λ x. table_at top m root j b ≡ Some x) same reached) here.at).0))
 
-  pub found_on_path : (b : ℕ) → SamePath top level a b → found_at level after_write n b ≡ Some (meaning level w)
-  found_on_path b same = found_here level m n (index_at level a) w b whole used (omega arith)
-      (sym (same level (omega arith) (reached_within top root m level a n at)))
+    pub table_off_path : (b j : ℕ) → (SamePath top level a b → ⊥) → table_at top after_write root j b ≡ table_at top m root j b
+    table_off_path b j apart = agree_table top root m after_write b j (λ i q over reached. off_path b apart i q reached)
+
+    pub table_above : (b j : ℕ) → level ≤ j → table_at top after_write root j b ≡ table_at top m root j b
+    table_above b j le = agree_table top root m after_write b j (λ i q over reached. above b i q (λ e. omega arith) reached)
+
+    pub walk_off_path : (b : ℕ) → (SamePath top level a b → ⊥) → walk_from after_write top root all_rights b ≡ walk_from m top root all_rights b
+    walk_off_path b apart = agree_walk top root m after_write b (λ i q over reached. off_path b apart i q reached)
+
+    pub table_here : (b : ℕ) → SamePath top level a b → table_at top after_write root level b ≡ Some n
+    table_here b same = table_above b level (omega arith) ∙ at_same b same
+
+    pub found_on_path : (b : ℕ) → SamePath top level a b → found_at level after_write n b ≡ Some (meaning level w)
+    found_on_path b same = found_here level m n (index_at level a) w b here.whole used_at (omega arith) (sym (same level (omega arith) within))

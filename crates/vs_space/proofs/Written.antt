@@ -19,7 +19,7 @@ use Rattle.vs_space.specs.Held.{word_at, with_word}
 use Rattle.vs_space.specs.Path.{table_at, entry_in, HasPresent}
 use Rattle.vs_space.specs.inside.Tree.{IsTree, IsReached, AreWritten}
 use Rattle.vs_space.specs.Written.{word_for, IsWritten}
-use Rattle.vs_space.proofs.Writes.{words_in, get_written, get_written_other}
+use Rattle.vs_space.proofs.Writes.{IsTreeAt, used_at, after_write, words_in, get_written, get_written_other}
 use Rattle.vs_space.proofs.Trees.{one_meaning}
 use Rattle.vs_space.proofs.Links.{zeros_are}
 
@@ -83,23 +83,21 @@ written_set level m n i w whole used low is are = λ j word got. ⊎_elim
 
 -- ---- the entry for an address a is written in the table of a level on its path
 
-pub written_on : (top root : ℕ) (m : Memory) → IsTree top m root → AreWhole m → (level a n : ℕ) → table_at top m root level a ≡ Some n → (w : ℕ)
-    → IsWritten level w
-    → (j b q : ℕ) → table_at top m root j b ≡ Some q → AreWritten j m q → AreWritten j (with_word m n (index_at level a) w) q
-written_on top root m tree whole level a n at w is j b q reached are = ⊎_elim
+pub written_on : {top : ℕ} {m : Memory} {root level a n : ℕ} (here : IsTreeAt top m root level a n) (w : ℕ) → IsWritten level w
+    → (j b q : ℕ) → table_at top m root j b ≡ Some q → AreWritten j m q → AreWritten j (after_write here w) q
+written_on {m = m} {level = level} {a = a} {n = n} here w is j b q reached are = ⊎_elim
     (λ (same : q ≡ n).
-    let one : j ≡ level = (tree.once j level b a n (reached ∙ ap Some same) at).0 in
-    let here : AreWritten level m n = subst (λ x. AreWritten level m x) same (subst (λ l. AreWritten l m q) one are) in
-    let after = written_set level m n (index_at level a) w whole (tree.in_use level a n at) (omega arith) is here in
-    subst (λ l. AreWritten l (with_word m n (index_at level a) w) q) (sym one)
-    (subst (λ x. AreWritten level (with_word m n (index_at level a) w) x) (sym same) after))
+    let one : j ≡ level = (here.tree.once j level b a n (reached ∙ ap Some same) here.at).0 in
+    let own : AreWritten level m n = subst (λ x. AreWritten level m x) same (subst (λ l. AreWritten l m q) one are) in
+    let after = written_set level m n (index_at level a) w here.whole (used_at here) (omega arith) is own in
+    subst (λ l. AreWritten l (after_write here w) q) (sym one) (subst (λ x. AreWritten level (after_write here w) x) (sym same) after))
     (λ (other : q ≢ n). written_alike j m _ q (get_written_other m n (index_at level a) w q other) are)
     (cases_eq q n)
 
 -- the words of a table that is reached are as written at its level
-pub written_at : (top root : ℕ) (m : Memory) → IsTree top m root → IsReached top m root → (level a n : ℕ) → table_at top m root level a ≡ Some n
+pub written_at : {top : ℕ} {m : Memory} {root : ℕ} → IsTree top m root → IsReached top m root → (level a n : ℕ) → table_at top m root level a ≡ Some n
     → AreWritten level m n
-written_at top root m tree is level a n at =
+written_at {m = m} tree is level a n at =
     let own = is.path n (tree.in_use level a n at) in
     subst (λ l. AreWritten l m n) (tree.once own.0 level own.1 a n own.2 at).0 own.3
 

@@ -38,7 +38,7 @@ impl<S: FrameStore> Model for Space<S> {
     ghost use Rattle.std.specs.Ordering.{nat_cmp};
     ghost use Rattle.vs_space.specs.Held.{AreNumbered};
     ghost use Rattle.vs_space.specs.Table.{PageTable};
-    ghost use Rattle.vs_space.specs.inside.Invariant.{IsPageTable};
+    ghost use Rattle.vs_space.specs.inside.Invariant.{IsPageTable, table_in_store};
 
     ghost Value = { PageTable };
 
@@ -46,7 +46,7 @@ impl<S: FrameStore> Model for Space<S> {
 
     ghost view = { λ s. record { depth = s.depth; base = s.tables.base; limit = s.tables.limit; root = s.root; memory = s.tables.memory } };
 
-    ghost invariant = { λ s. IsPageTable s.depth s.tables.memory s.root × AreNumbered s.tables.base s.tables.limit s.tables.memory };
+    ghost invariant = { λ s. IsPageTable (table_in_store s.depth s.tables s.root) × AreNumbered s.tables.base s.tables.limit s.tables.memory };
 }
 
 impl<S: FrameStore> Frames for Space<S> {
@@ -108,9 +108,12 @@ impl<S: FrameStore> Space<S> {
         ensures reads { result ≡ self.now.root }
         ensures some_space { (space : spaces.Space) × IsTableOf self.now space }
         ensures faultless { walk_fault self.now.depth self.now.memory self.now.root ≡ None }
-        ensures in_use { (number : ℕ) → Contains (reached (traversal self.now.depth self.now.memory self.now.root)) number → IsTrue (finite.contains_key self.now.memory number) }
-        ensures each { (number : ℕ) → IsTrue (finite.contains_key self.now.memory number) → Contains (reached (traversal self.now.depth self.now.memory self.now.root)) number }
-        ensures written { (number : ℕ) → IsTrue (finite.contains_key self.now.memory number) → IsWrittenTable self.now.depth self.now.memory self.now.root number }
+        ensures in_use { (number : ℕ) → Contains (reached (traversal self.now.depth self.now.memory self.now.root)) number
+            → IsTrue (finite.contains_key self.now.memory number) }
+        ensures each { (number : ℕ) → IsTrue (finite.contains_key self.now.memory number)
+            → Contains (reached (traversal self.now.depth self.now.memory self.now.root)) number }
+        ensures written { (number : ℕ) → IsTrue (finite.contains_key self.now.memory number)
+            → IsWrittenTable self.now.depth self.now.memory self.now.root number }
         ensures from_base { (number : ℕ) → IsTrue (finite.contains_key self.now.memory number) → self.now.base ≤ number }
         ensures below_limit { (number : ℕ) → IsTrue (finite.contains_key self.now.memory number) → number < self.now.base + self.now.limit }
         ensures in_range { (number : ℕ) → IsTrue (finite.contains_key self.now.memory number) → number < 2 ^ 40 }
@@ -168,9 +171,7 @@ impl<S: FrameStore> Space<S> {
         match read_written(level, descent.word) {
             Meaning::Absent => {}
             Meaning::Table(table, _) => {
-                let base = self
-                    .tables
-                    .least_base(self.depth, self.root, page.base, table, lowest - 1);
+                let base = self.tables.least_base(page.base, table, lowest - 1);
                 return Answer::Overlap(base);
             }
             Meaning::Leaf(_, _) => {
@@ -184,14 +185,7 @@ impl<S: FrameStore> Space<S> {
         if need > limit {
             return Answer::Full(need as u64);
         }
-        let number = self.tables.extend(
-            self.depth,
-            self.root,
-            page.base,
-            descent.number,
-            level,
-            lowest,
-        );
+        let number = self.tables.extend(page.base, descent.number, level, lowest);
         let leaf = Entry::leaf(page.size, page.phys, page.rights);
         self.tables
             .write(number, index_at(lowest, page.base), leaf.word());

@@ -1,7 +1,9 @@
-ghost use Rattle.std.specs.Prelude.{ℕ, ◌≢◌, Some, slice_index, ◌≡◌, ◌<◌, ◌≤◌, ◌^◌, ◌+◌, ◌-◌, ◌%◌, IfSome, IfNone, IsSome, IsTrue, IsFalse, option_copied};
+ghost use Rattle.std.specs.Prelude.{ℕ, ◌≢◌, Some, slice_index, ◌≡◌, ◌<◌, ◌≤◌, ◌^◌, ◌+◌, ◌-◌, IfSome, IfNone, IsSome, IsTrue, IsFalse, option_copied};
 ghost use Rattle.std.specs.FinMap as finite;
 ghost use Rattle.vs_arena.specs.Store.{zeros, IsInUse};
-ghost use Rattle.vs_types.specs.Depth.{levels, index_at, table_bytes, IsCanonical};
+ghost use Rattle.vs_types.specs.declared.depth.Depth.{Depth};
+ghost use Rattle.vs_types.specs.declared.limits.TheConstants.{TABLES};
+ghost use Rattle.vs_types.specs.Depth.{levels, index_at, IsCanonical};
 ghost use Rattle.vs_walk.specs.Walk.{walk};
 ghost use Rattle.vs_walk.specs.declared.walk.Walk.{Walk};
 ghost use Rattle.vs_types.specs.Entry.{meaning};
@@ -9,10 +11,10 @@ ghost use Rattle.vs_types.specs.declared.entry.Meaning.{Meaning};
 ghost use Rattle.vs_space.specs.inside.Prune.{IsCut, IsPruned};
 ghost use Rattle.vs_space.specs.Held.{numbered, word_at, with_word, AreNumbered};
 ghost use Rattle.vs_walk.specs.Memory.{AreWhole};
-ghost use Rattle.vs_space.specs.Path.{found_at, table_at, entry_in, IsFirstPresent, HasPresent};
-ghost use Rattle.vs_space.specs.inside.Tree.{IsTree, IsFilled, IsReached, AreWritten};
+ghost use Rattle.vs_space.specs.Path.{found_at, entry_in, IsFirstPresent, HasPresent};
+ghost use Rattle.vs_space.specs.inside.Tree.{IsTree, IsReached, AreWritten};
 ghost use Rattle.vs_space.specs.Written.{IsWritten};
-ghost use Rattle.vs_space.specs.inside.Grow.{IsOpen, IsExtended, IsLeastBase};
+ghost use Rattle.vs_space.specs.inside.Grow.{IsExtended, IsBelowRoot, IsLeastBase};
 ghost use Rattle.vs_space.specs.inside.Descent.{IsDescent};
 
 use crate::descent::{Descent, PATH_LENGTH};
@@ -51,7 +53,7 @@ impl<S: FrameStore> Tables<S> {
     /// How many frames there can be in use.
     pub(crate) fn limit(&self) -> usize
         ensures reads { result ≡ self.now.limit }
-        ensures few { result ≤ 4096 }
+        ensures few { result ≤ TABLES }
     {
         self.store.capacity()
     }
@@ -240,21 +242,13 @@ impl<S: FrameStore> Tables<S> {
 
     /// Links new tables on the path of an address below its last table, which has this frame number and level, down to
     /// the lowest level. Answers the last one's number.
-    pub(crate) fn extend(
-        &mut self,
-        depth: Depth,
-        root: u64,
-        address: u64,
-        last: u64,
-        from: u8,
-        lowest: u8,
-    ) -> u64
-        requires open_at { IsOpen depth self.old.memory root address from last }
+    pub(crate) fn extend(&mut self, address: u64, last: u64, from: u8, lowest: u8) -> u64
+        requires in_use { IsSome (finite.get self.old.memory last) }
         requires some_level { 1 ≤ lowest }
         requires within { lowest ≤ from }
         requires few_levels { from ≤ 5 }
         requires room { finite.len self.old.memory + (from - lowest) ≤ self.old.limit }
-        ensures extended { IsExtended depth self.old.memory self.new.memory root address from lowest result }
+        ensures extended { IsExtended self.old.memory self.new.memory address last from lowest result }
         ensures same { self.new ≡ record self.old { memory = self.new.memory } }
     {
         let mut level = from;
@@ -271,24 +265,10 @@ impl<S: FrameStore> Tables<S> {
     }
 
     /// The base of the first page below a table of this level, which begins at the address.
-    pub(crate) fn least_base(
-        &self,
-        depth: Depth,
-        root: u64,
-        address: u64,
-        table: u64,
-        from: u8,
-    ) -> u64
-        requires tree { IsTree (levels depth) self.now.memory root }
-        requires all_reached { IsReached (levels depth) self.now.memory root }
-        requires filled { IsFilled depth self.now.memory root }
-        requires faultless { (b : ℕ) → IsCanonical depth b → walk depth self.now.memory root b ≢ Walk.Reserved }
-        requires canonical { IsCanonical depth address }
-        requires some_level { 1 ≤ from }
-        requires below { from < levels depth }
-        requires aligned { address % table_bytes from ≡ 0 }
-        requires reached { table_at (levels depth) self.now.memory root from address ≡ Some table }
-        ensures { IsLeastBase depth self.now.memory root address from result }
+    pub(crate) fn least_base(&self, address: u64, table: u64, from: u8) -> u64
+        requires { (depth : Depth) × (root : ℕ) × IsBelowRoot depth self.now.memory root address from table }
+        ensures { (depth : Depth) (root : ℕ) → IsBelowRoot depth self.now.memory root address from table
+            → IsLeastBase depth self.now.memory root address from result }
     {
         let mut level = from;
         let mut number = table;

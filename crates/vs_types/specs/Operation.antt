@@ -4,6 +4,7 @@ use Rattle.vs_types.specs.Depth.{is_canonical, IsCanonical}
 use Rattle.vs_types.specs.Page.{bytes_of, IsPage}
 use Rattle.vs_types.specs.declared.depth.Depth.{Depth}
 use Rattle.vs_types.specs.declared.page.Page.{Page}
+use Rattle.vs_types.specs.declared.page.TheConstants.Page.{PHYS_END}
 use Rattle.vs_types.specs.declared.op.Action.{Action}
 use Rattle.vs_types.specs.declared.op.Action.TheVariants.{Map, Unmap, Protect}
 use Rattle.vs_types.specs.declared.op.BadOp.{BadOp}
@@ -30,7 +31,7 @@ page_fault depth page =
     if not (is_canonical depth page.base) then Some NotCanonical
     else if not (page.base % bytes_of page.size == 0) then Some Unaligned
     else if not (page.phys % bytes_of page.size == 0) then Some PhysUnaligned
-    else if nat_lt (2 ^ 51) (page.phys + bytes_of page.size) then Some PhysRange
+    else if nat_lt PHYS_END (page.phys + bytes_of page.size) then Some PhysRange
     else None
 
 -- the first thing that is wrong with the base of a page that is there

@@ -3,6 +3,7 @@ use Rattle.std.specs.Prelude.{◌≡◌, ℕ, ◌+◌, ◌%◌, ◌^◌, ◌≤�
 use Rattle.vs_types.specs.Depth.{entry_bytes, IsCanonical}
 use Rattle.vs_types.specs.declared.depth.Depth.{Depth}
 use Rattle.vs_types.specs.declared.page.Page.{Page}
+use Rattle.vs_types.specs.declared.page.TheConstants.Page.{PHYS_END}
 use Rattle.vs_types.specs.declared.page.Rights.{Rights}
 use Rattle.vs_types.specs.declared.page.Size.{Size}
 use Rattle.vs_types.specs.declared.page.Size.TheVariants.{K4, M2, G1}
@@ -35,9 +36,9 @@ pub record IsPageBelow (limit : ℕ) (depth : Depth) (page : Page) : Type 0 wher
   pub phys_aligned : page.phys % bytes_of page.size ≡ 0
   pub phys_range : page.phys + bytes_of page.size ≤ limit
 
--- mapped pages lie wholly below physical 2 ^ 51; the tables of a store whose frames begin there, or above, are not mapped
+-- mapped pages lie wholly below physical 2 ^ 51, `Page::PHYS_END`; the tables of a store whose frames begin there, or above, are not mapped
 abbrev pub IsPage : Depth → Page → Type 0
-IsPage = IsPageBelow (2 ^ 51)
+IsPage = IsPageBelow PHYS_END
 
 -- what both allow
 abbrev pub intersection : Rights → Rights → Rights

@@ -1,15 +1,15 @@
 -- New tables on the path of an address, and the first page that is found from an address on. No public clause cites it.
-use Rattle.std.specs.Prelude.{◌≡◌, ℕ, suc, ◌+◌, ◌-◌, ◌%◌, ◌<◌, ◌≤◌, Some}
+use Rattle.std.specs.Prelude.{◌≡◌, ℕ, suc, ◌+◌, ◌-◌, ◌%◌, ◌<◌, ◌≤◌, Some, IsSome}
 use Rattle.std.specs.FinMap as finite
-use Rattle.vs_types.specs.Depth.{levels, entry_bytes, IsCanonical}
+use Rattle.vs_types.specs.Depth.{levels, entry_bytes, table_bytes, IsCanonical}
 use Rattle.vs_types.specs.declared.depth.Depth.{Depth}
 use Rattle.vs_types.specs.declared.page.Rights.{Rights}
 use Rattle.vs_types.specs.declared.entry.Meaning.TheVariants as entry
 use Rattle.vs_walk.specs.Memory.{Memory}
 use Rattle.vs_walk.specs.Walk.{walk}
-use Rattle.vs_walk.specs.declared.walk.Walk.TheVariants.{NotMapped}
+use Rattle.vs_walk.specs.declared.walk.Walk.TheVariants.{NotMapped, Reserved}
 use Rattle.vs_space.specs.Path.{found_at, table_at, SamePath}
-use Rattle.vs_space.specs.inside.Tree.{IsTree, IsReached}
+use Rattle.vs_space.specs.inside.Tree.{IsTree, IsFilled, IsReached}
 use Rattle.vs_space.specs.inside.Prune.{IsFilledBut}
 
 -- the path of the address ends at an absent entry of this table of this level; other tables than those on it have something mapped
@@ -21,11 +21,24 @@ pub record IsOpen (depth : Depth) (memory : Memory) (root base level number : �
   pub reached : table_at (levels depth) memory root level base ≡ Some number
   pub absent : found_at level memory number base ≡ Some entry.Absent
 
--- a table for each level from one down to another was linked, and addresses are walked as before
-pub record IsExtended (depth : Depth) (old new : Memory) (root base from level number : ℕ) : Type 0 where
-  pub open_at : IsOpen depth new root base level number
-  pub walks : (b : ℕ) → walk depth new root b ≡ walk depth old root b
+-- a table for each level from one down to another was linked below this one: where the path of the address ended there, addresses are walked as before
+pub record IsExtended (old new : Memory) (base last from level number : ℕ) : Type 0 where
+  pub in_use : IsSome (finite.get new number)
   pub more : finite.len new ≡ finite.len old + (from - level)
+  pub open_at : (depth : Depth) (root : ℕ) → IsOpen depth old root base from last → IsOpen depth new root base level number
+  pub walks : (depth : Depth) (root : ℕ) → IsOpen depth old root base from last → (b : ℕ) → walk depth new root b ≡ walk depth old root b
+
+-- a table of this level that begins at an address, below the root of tables under each of which something is mapped
+pub record IsBelowRoot (depth : Depth) (memory : Memory) (root start level number : ℕ) : Type 0 where
+  pub tree : IsTree (levels depth) memory root
+  pub all_reached : IsReached (levels depth) memory root
+  pub filled : IsFilled depth memory root
+  pub faultless : (b : ℕ) → IsCanonical depth b → walk depth memory root b ≡ Reserved → ⊥
+  pub canonical : IsCanonical depth start
+  pub some : 1 ≤ level
+  pub below : level < levels depth
+  pub aligned : start % table_bytes level ≡ 0
+  pub reached : table_at (levels depth) memory root level start ≡ Some number
 
 -- a leaf on the path of an address at which a page begins
 pub record IsLeafAt (depth : Depth) (memory : Memory) (root base : ℕ) : Type 0 where

@@ -1,100 +1,71 @@
 use Rattle.std.proofs.Common.{◌≡◌, ℕ, ◌+◌, ◌-◌, ◌%◌, ◌≤◌, List, Some, sym, ap, subst, ◌∙◌, arith}
+use Rattle.std.specs.Prelude.{slice_index}
 use Rattle.std.specs.FinMap as finite
 use Rattle.vs_types.specs.Depth.{levels, index_at}
 use Rattle.vs_types.specs.Entry.{meaning, leaf_word}
 use Rattle.vs_types.specs.Page.{bytes_of, level_of, IsPage}
-use Rattle.vs_types.specs.declared.depth.Depth.{Depth}
 use Rattle.vs_types.specs.declared.page.Page.{Page}
-use Rattle.vs_types.specs.declared.entry.Meaning.{Meaning}
 use Rattle.vs_types.specs.declared.entry.Meaning.TheVariants as entry
 use Rattle.vs_types.specs.declared.op.Action.TheVariants.{Map}
 use Rattle.vs_types.specs.declared.answer.Answer.TheVariants as answers
 use Rattle.vs_walk.specs.Memory.{Memory, AreWhole}
 use Rattle.vs_space.specs.Held.{Held, with_word}
-use Rattle.vs_space.specs.inside.Descent.{IsDescent}
-use Rattle.vs_space.specs.Path.{table_at}
-use Rattle.vs_space.specs.inside.Grow.{IsOpen, IsExtended, IsLeastBase}
 use Rattle.vs_space.specs.Table.{PageTable, IsTableStep}
-use Rattle.vs_space.specs.inside.Invariant.{IsPageTable}
-use Rattle.vs_space.proofs.Protects.{page_table}
-use Rattle.vs_space.proofs.Maps.{reserved_never, leaf_overlaps, not_lowest, table_reached, table_overlaps, full_step, is_open, map_table, map_step}
+use Rattle.vs_space.specs.inside.Descent.{IsDescent}
+use Rattle.vs_space.specs.inside.Grow.{IsExtended, IsBelowRoot, IsLeastBase}
+use Rattle.vs_space.specs.inside.Invariant.{IsPageTable, table_in_store}
+use Rattle.vs_space.proofs.Meets.{descended, used_met, seen}
+use Rattle.vs_space.proofs.Maps.{reserved_never, leaf_overlaps, below_root, table_overlaps, full_step, mapped}
 use Rattle.vs_space.proofs.space.Space.map.Goals as goal
 
--- the end of the path, by the level of the page and the entry that was matched
-descended : {depth : Depth} {memory : Memory} {root address asked lowest level : ℕ} {path : List ℕ} {met found : Meaning} → asked ≡ lowest → met ≡ found
-    → IsDescent depth memory root address asked level path met → IsDescent depth memory root address lowest level path found
-descended {depth} {memory} {root} {address} {asked} {lowest} {level} {path} {met} {found} lowest_is is descent =
-    subst (λ l. IsDescent depth memory root address l level path found) lowest_is
-    (subst (λ (e : Meaning). IsDescent depth memory root address asked level path e) is descent)
-
 -- the page is mapped, where the level of its tables and how many are added have names of their own
-mapped : (depth : Depth) (memory : Memory) (root : ℕ) → IsPageTable depth memory root → (page : Page) → IsPage depth page → (level : ℕ) (path : List ℕ)
-    → IsDescent depth memory root page.base (level_of page.size) level path entry.Absent
-    → (lowest : ℕ) → lowest ≡ level_of page.size → (m : Memory) (number : ℕ) → IsExtended depth memory m root page.base level lowest number → AreWhole m
-    → (word index : ℕ) → meaning (level_of page.size) word ≡ entry.Leaf page.phys page.rights → word ≡ leaf_word page.size page.phys page.rights
-    → index ≡ index_at lowest page.base
-    → (first limit added : ℕ) → added ≡ level - lowest → finite.len memory + added ≤ limit
-    → IsPageTable depth (with_word m number index word) root × IsTableStep (page_table depth first limit root memory) (Map page) answers.Done
-    (page_table depth first limit root (with_word m number index word))
-mapped depth memory root table page good level path descent lowest lowest_is m number extended whole word index leads is_word at first limit added added_is
-    few =
-    let grown = subst (λ l. IsExtended depth memory m root page.base level l number) lowest_is extended in
-    let here = subst (λ l. index ≡ index_at l page.base) lowest_is at in
-    let below : level - lowest ≡ level - level_of page.size = ap (λ l. level - l) lowest_is in
-    let room : finite.len memory + (level - level_of page.size) ≤ limit = omega (arith, below, added_is, few) in (
-      map_table depth memory root table page good level path descent m number grown whole word leads is_word index here limit room,
-      map_step depth memory root table page good level path descent m number grown whole word leads is_word index here first limit room,
-    )
+added : {t : PageTable} → IsPageTable t → {page : Page} → IsPage t.depth page → {level : ℕ} {path : List ℕ}
+    → IsDescent t.depth t.memory t.root page.base (level_of page.size) level path entry.Absent
+    → {last lowest : ℕ} → last ≡ slice_index path level → lowest ≡ level_of page.size → {m : Memory} {number : ℕ}
+    → IsExtended t.memory m page.base last level lowest number → AreWhole m
+    → {word index more : ℕ} → meaning (level_of page.size) word ≡ entry.Leaf page.phys page.rights → word ≡ leaf_word page.size page.phys page.rights
+    → index ≡ index_at lowest page.base → more ≡ level - lowest → finite.len t.memory + more ≤ t.limit
+    → IsPageTable (record t { memory = with_word m number index word })
+    × IsTableStep t (Map page) answers.Done (record t { memory = with_word m number index word })
+added {t} table {page} good {level} descent {last} last_is lowest_is {m} {number} extended whole {index = index} leads is_word at more_is few =
+    let below = ap (λ l. level - l) lowest_is in
+    mapped table good descent (subst (λ n. IsExtended t.memory m page.base n level (level_of page.size) number) last_is
+    (subst (λ l. IsExtended t.memory m page.base last level l number) lowest_is extended)) whole leads is_word
+    (subst (λ l. index ≡ index_at l page.base) lowest_is at) (omega (arith, below, more_is, few))
 
-pub least_base-base-requires-clause-some_level : goal.least_base-base-requires-clause-some_level
-least_base-base-requires-clause-some_level g c =
+pub least_base-base-requires : goal.least_base-base-requires
+least_base-base-requires g c =
     let inside = c.self.inside in
     let good = subst (λ (t : PageTable). IsPage t.depth c.args.page) (sym c.self.view_is) c.requires in
-    let descent = descended c.level-lowest.ensures (sym c.in-Table.ensures) c.descend-descent.ensures.descent in
-    omega (
-      arith,
-      not_lowest inside.depth inside.tables.memory inside.root c.self.invariant.0 c.args.page good c.descend-descent.result.level
-          c.descend-descent.result.path c.in-Table.table c.in-Table.field-1 descent,
-      c.level-lowest.ensures,
+    let descent = descended c.level-lowest.ensures (sym c.in-Table.ensures) c.descend-descent.ensures.descent in (
+      inside.depth,
+      inside.root,
+      subst (λ l. IsBelowRoot inside.depth inside.tables.memory inside.root c.args.page.base (l - 1) c.in-Table.table) (sym c.level-lowest.ensures)
+          (below_root c.self.invariant.0 good descent),
     )
-
-pub least_base-base-requires-clause-reached : goal.least_base-base-requires-clause-reached
-least_base-base-requires-clause-reached g c =
-    let inside = c.self.inside in
-    let good = subst (λ (t : PageTable). IsPage t.depth c.args.page) (sym c.self.view_is) c.requires in
-    let descent = descended c.level-lowest.ensures (sym c.in-Table.ensures) c.descend-descent.ensures.descent in
-    subst (λ l. table_at (levels inside.depth) inside.tables.memory inside.root (l - 1) c.args.page.base ≡ Some c.in-Table.table) (sym c.level-lowest.ensures)
-    (table_reached inside.depth inside.tables.memory inside.root c.self.invariant.0 c.args.page good c.descend-descent.result.level
-    c.descend-descent.result.path c.in-Table.table c.in-Table.field-1 descent)
 
 pub returns-in-Table : goal.returns-in-Table
 returns-in-Table g c =
     let inside = c.self.inside in
     let good = subst (λ (t : PageTable). IsPage t.depth c.args.page) (sym c.self.view_is) c.requires in
     let descent = descended c.level-lowest.ensures (sym c.in-Table.ensures) c.descend-descent.ensures.descent in
-    let first = subst (λ l. IsLeastBase inside.depth inside.tables.memory inside.root c.args.page.base (l - 1) c.least_base-base.result)
-    c.level-lowest.ensures c.least_base-base.ensures in
+    let first = subst (λ l. IsBelowRoot inside.depth inside.tables.memory inside.root c.args.page.base (l - 1) c.in-Table.table
+    → IsLeastBase inside.depth inside.tables.memory inside.root c.args.page.base (l - 1) c.least_base-base.result)
+    c.level-lowest.ensures (c.least_base-base.ensures inside.depth inside.root) in
     subst (λ (t : PageTable). IsTableStep t (Map c.args.page) (answers.Overlap c.least_base-base.result) t) c.self.view_is
-    (table_overlaps inside.depth inside.tables.memory inside.root c.self.invariant.0 c.args.page good c.descend-descent.result.level
-    c.descend-descent.result.path c.in-Table.table c.in-Table.field-1 descent inside.tables.base inside.tables.limit c.least_base-base.result first)
+    (table_overlaps c.self.invariant.0 good descent (first (below_root c.self.invariant.0 good descent)))
 
 pub returns-in-Leaf : goal.returns-in-Leaf
 returns-in-Leaf g c =
-    let inside = c.self.inside in
     let good = subst (λ (t : PageTable). IsPage t.depth c.args.page) (sym c.self.view_is) c.requires in
     let descent = descended c.level-lowest.ensures (sym c.in-Leaf.ensures) c.descend-descent.ensures.descent in
     subst (λ (t : PageTable). IsTableStep t (Map c.args.page) (answers.Overlap (c.args.page.base - c.args.page.base % c.bytes-bytes.result)) t) c.self.view_is
-    (leaf_overlaps inside.depth inside.tables.memory inside.root c.self.invariant.0 c.args.page good c.descend-descent.result.level
-    c.descend-descent.result.path c.in-Leaf.field-0 c.in-Leaf.field-1 descent inside.tables.base inside.tables.limit c.bytes-bytes.result
-    (c.bytes-bytes.ensures ∙ ap bytes_of c.at_level.ensures))
+    (leaf_overlaps c.self.invariant.0 good descent (c.bytes-bytes.ensures ∙ ap bytes_of c.at_level.ensures))
 
 pub unreachable-requires : goal.unreachable-requires
 unreachable-requires g c =
-    let inside = c.self.inside in
     let good = subst (λ (t : PageTable). IsPage t.depth c.args.page) (sym c.self.view_is) c.requires in
-    let descent = descended c.level-lowest.ensures (sym c.in-Reserved.ensures) c.descend-descent.ensures.descent in
-    reserved_never inside.depth inside.tables.memory inside.root c.self.invariant.0 c.args.page good c.descend-descent.result.level
-    c.descend-descent.result.path descent
+    reserved_never c.self.invariant.0 good (descended c.level-lowest.ensures (sym c.in-Reserved.ensures) c.descend-descent.ensures.descent)
 
 pub returns-then-need-limit : goal.returns-then-need-limit
 returns-then-need-limit g c =
@@ -106,48 +77,33 @@ returns-then-need-limit g c =
     let need : c.used.result + c.from.result ≡ finite.len inside.tables.memory + (c.descend-descent.result.level - level_of c.args.page.size) =
     omega (arith, lowest_is, c.used.ensures.counts, c.from.ensures) in
     subst (λ (t : PageTable). IsTableStep t (Map c.args.page) (answers.Full (c.used.result + c.from.result)) t) c.self.view_is
-    (full_step inside.depth inside.tables.memory inside.root c.self.invariant.0 c.args.page good c.descend-descent.result.level c.descend-descent.result.path
-    descent inside.tables.base inside.tables.limit (c.used.result + c.from.result) need (omega (arith, c.if-need-limit.true, c.limit-limit.ensures.reads)))
+    (full_step c.self.invariant.0 good descent need (omega (arith, c.if-need-limit.true, c.limit-limit.ensures.reads)))
 
-pub extend-number-requires-clause-open_at : goal.extend-number-requires-clause-open_at
-extend-number-requires-clause-open_at g c =
-    let inside = c.self.inside in
-    let good = subst (λ (t : PageTable). IsPage t.depth c.args.page) (sym c.self.view_is) c.requires in
-    let descent = descended c.level-lowest.ensures (sym c.in-Absent.ensures) c.descend-descent.ensures.descent in
-    subst (λ n. IsOpen inside.depth inside.tables.memory inside.root c.args.page.base c.descend-descent.result.level n) (sym c.descend-descent.ensures.last)
-    (is_open inside.depth inside.tables.memory inside.root c.self.invariant.0 c.args.page good c.descend-descent.result.level c.descend-descent.result.path
-    descent)
+pub extend-number-requires-clause-in_use : goal.extend-number-requires-clause-in_use
+extend-number-requires-clause-in_use g c = used_met c.self.invariant.0 c.descend-descent.ensures.descent c.descend-descent.ensures.last
 
 pub invariant_of-self : goal.invariant_of-self
 invariant_of-self g c =
-    let inside = c.self.inside in
     let good = subst (λ (t : PageTable). IsPage t.depth c.args.page) (sym c.self.view_is) c.requires in
-    let descent = descended c.level-lowest.ensures (sym c.in-Absent.ensures) c.descend-descent.ensures.descent in (
-      subst (λ (h : Held). IsPageTable inside.depth h.memory inside.root) (sym c.write.ensures.written)
-          (mapped inside.depth inside.tables.memory inside.root c.self.invariant.0 c.args.page good c.descend-descent.result.level
-          c.descend-descent.result.path descent c.level-lowest.result c.level-lowest.ensures c.extend-number.new.self.memory c.extend-number.result
-          c.extend-number.ensures.extended c.write.ensures.whole
-          c.word.result c.index_at.result (ap (meaning (level_of c.args.page.size)) c.word.ensures ∙ c.leaf-leaf.ensures.read_back)
-          (c.word.ensures ∙ c.leaf-leaf.ensures.written) c.index_at.ensures.is inside.tables.base inside.tables.limit c.from.result c.from.ensures
-          (omega (arith, c.used.ensures.counts, c.if-need-limit.false, c.limit-limit.ensures.reads))).0,
+    let descent = descended c.level-lowest.ensures (sym c.in-Absent.ensures) c.descend-descent.ensures.descent in
+    let written = c.write.ensures.written ∙ ap (λ (h : Held). let r : Held =
+    record { base = h.base; limit = h.limit; memory = with_word c.extend-number.new.self.memory c.extend-number.result c.index_at.result c.word.result }
+    in r) c.extend-number.ensures.same in (
+      subst (λ (h : Held). IsPageTable (table_in_store c.self.inside.depth h c.self.inside.root)) (sym written)
+          (added c.self.invariant.0 good descent c.descend-descent.ensures.last c.level-lowest.ensures c.extend-number.ensures.extended c.write.ensures.whole
+          (ap (meaning (level_of c.args.page.size)) c.word.ensures ∙ c.leaf-leaf.ensures.read_back) (c.word.ensures ∙ c.leaf-leaf.ensures.written)
+          c.index_at.ensures.is c.from.ensures (omega (arith, c.used.ensures.counts, c.if-need-limit.false, c.limit-limit.ensures.reads))).0,
       c.write.ensures.numbers,
     )
 
 pub returns : goal.returns
 returns g c =
-    let inside = c.self.inside in
     let good = subst (λ (t : PageTable). IsPage t.depth c.args.page) (sym c.self.view_is) c.requires in
     let descent = descended c.level-lowest.ensures (sym c.in-Absent.ensures) c.descend-descent.ensures.descent in
-    let whole = c.write.ensures.written ∙ ap (λ (h : Held). let r : Held =
+    let written = c.write.ensures.written ∙ ap (λ (h : Held). let r : Held =
     record { base = h.base; limit = h.limit; memory = with_word c.extend-number.new.self.memory c.extend-number.result c.index_at.result c.word.result }
     in r) c.extend-number.ensures.same in
-    subst (λ (t : PageTable). IsTableStep t (Map c.args.page) answers.Done
-    (page_table inside.depth c.write.new.self.base c.write.new.self.limit inside.root c.write.new.self.memory)) c.self.view_is
-    (subst (λ (h : Held). IsTableStep (page_table inside.depth inside.tables.base inside.tables.limit inside.root inside.tables.memory)
-    (Map c.args.page) answers.Done (page_table inside.depth h.base h.limit inside.root h.memory)) (sym whole)
-    (mapped inside.depth inside.tables.memory inside.root c.self.invariant.0 c.args.page good c.descend-descent.result.level c.descend-descent.result.path
-    descent c.level-lowest.result c.level-lowest.ensures c.extend-number.new.self.memory c.extend-number.result c.extend-number.ensures.extended
-    c.write.ensures.whole
-    c.word.result c.index_at.result (ap (meaning (level_of c.args.page.size)) c.word.ensures ∙ c.leaf-leaf.ensures.read_back)
-    (c.word.ensures ∙ c.leaf-leaf.ensures.written) c.index_at.ensures.is inside.tables.base inside.tables.limit c.from.result c.from.ensures
-    (omega (arith, c.used.ensures.counts, c.if-need-limit.false, c.limit-limit.ensures.reads))).1)
+    seen c.self.view_is written
+    (added c.self.invariant.0 good descent c.descend-descent.ensures.last c.level-lowest.ensures c.extend-number.ensures.extended c.write.ensures.whole
+    (ap (meaning (level_of c.args.page.size)) c.word.ensures ∙ c.leaf-leaf.ensures.read_back) (c.word.ensures ∙ c.leaf-leaf.ensures.written)
+    c.index_at.ensures.is c.from.ensures (omega (arith, c.used.ensures.counts, c.if-need-limit.false, c.limit-limit.ensures.reads))).1

@@ -5,8 +5,7 @@ use Rattle.vs_types.specs.Space.{no_pages}
 use Rattle.vs_arena.specs.Store.{zeros}
 use Rattle.vs_space.specs.Held.{Held}
 use Rattle.vs_space.specs.Table.{IsTableOf}
-use Rattle.vs_space.specs.inside.Invariant.{IsPageTable}
-use Rattle.vs_space.proofs.Protects.{page_table}
+use Rattle.vs_space.specs.inside.Invariant.{IsPageTable, table_in_store}
 use Rattle.vs_space.proofs.News.{new_table, new_is_empty}
 use Rattle.vs_space.proofs.space.Space.new.Goals as goal
 
@@ -19,7 +18,8 @@ pub invariant_of-result : goal.invariant_of-result
 invariant_of-result g c =
     let after = c.in-Some.ensures.taken ∙ ap (λ (h : Held). let r : Held =
     record { base = h.base; limit = h.limit; memory = finite.insert h.memory c.in-Some.root zeros } in r) c.new-tables.ensures in (
-      subst (λ (h : Held). IsPageTable c.args.depth h.memory c.in-Some.root) (sym after) (new_table c.args.depth c.in-Some.root c.in-Some.ensures.in_range),
+      subst (λ (h : Held). IsPageTable (table_in_store c.args.depth h c.in-Some.root)) (sym after)
+          (new_table c.args.depth c.in-Some.root _ _ c.in-Some.ensures.in_range),
       c.in-Some.ensures.numbers,
     )
 
@@ -27,5 +27,5 @@ pub returns-clause-empty : goal.returns-clause-empty
 returns-clause-empty g c =
     let after = c.in-Some.ensures.taken ∙ ap (λ (h : Held). let r : Held =
     record { base = h.base; limit = h.limit; memory = finite.insert h.memory c.in-Some.root zeros } in r) c.new-tables.ensures in
-    subst (λ (h : Held). IsTableOf (page_table c.args.depth h.base h.limit c.in-Some.root h.memory) no_pages) (sym after)
+    subst (λ (h : Held). IsTableOf (table_in_store c.args.depth h c.in-Some.root) no_pages) (sym after)
     (new_is_empty c.args.depth c.in-Some.root _ _)

@@ -6,5 +6,4 @@ use Rattle.vs_space.proofs.space.Space.tables.Goals as goal
 
 pub returns-clause-counts : goal.returns-clause-counts
 returns-clause-counts g c = subst (λ (t : PageTable). (space : spaces.Space) → IsTableOf t space → c.used.result ≡ spaces.table_count t.depth space)
-    c.self.view_is
-    (λ space is. c.used.ensures.counts ∙ (space_of _ _ _ space c.self.invariant.0 is.is_space is.translates).counted)
+    c.self.view_is (λ space is. c.used.ensures.counts ∙ (space_of c.self.invariant.0 is).counted)

@@ -1,40 +1,34 @@
 use Rattle.std.proofs.Common.{refl, sym, ◌∙◌, arith}
-use Rattle.vs_types.specs.Entry.{meaning}
 use Rattle.vs_space.proofs.Descents.{at_root, all_root, goes_down, written_on_path, entry_read, stops, no_table}
 use Rattle.vs_space.proofs.tables.Tables.descend.Goals as goal
 
 pub loop-level-init : goal.loop-level-init
-loop-level-init g c = at_root _ _ c.args.root _ c.args.lowest _ _ c.levels-level.ensures c.requires.within refl (all_root c.args.root)
+loop-level-init g c = at_root c.levels-level.ensures c.requires.within refl (all_root c.args.root)
 
 pub loop-level-preserved : goal.loop-level-preserved
-loop-level-preserved g c =
-    goes_down _ _ c.args.root _ c.args.lowest _ _ c.in-Table.next _ _ c.requires.some_level c.loop-level.invariant
-    (entry_read c.loop-level.level _ c.loop-level.number c.args.address _ _ _ c.word-word.ensures c.index_at.ensures.is c.in-Table.ensures)
+loop-level-preserved g c = goes_down c.loop-level.invariant c.requires.some_level
+    (entry_read c.loop-level.level _ c.loop-level.number c.args.address c.word-word.ensures c.index_at.ensures.is c.in-Table.ensures)
     (λ e. c.if-level-lowest.false (sym e))
 
 pub returns-then-level-lowest-clause-descent : goal.returns-then-level-lowest-clause-descent
-returns-then-level-lowest-clause-descent g c =
-    stops _ _ c.args.root _ c.args.lowest _ _ _ (meaning c.loop-level.level c.word-word.result) c.loop-level.invariant
-    (entry_read c.loop-level.level _ c.loop-level.number c.args.address _ _ _ c.word-word.ensures c.index_at.ensures.is refl)
+returns-then-level-lowest-clause-descent g c = stops c.loop-level.invariant
+    (entry_read c.loop-level.level _ c.loop-level.number c.args.address c.word-word.ensures c.index_at.ensures.is refl)
     (λ deep. absurd (omega (arith, c.if-level-lowest.true, deep)))
 
 pub returns-in_default-clause-descent : goal.returns-in_default-clause-descent
-returns-in_default-clause-descent g c =
-    stops _ _ c.args.root _ c.args.lowest _ _ _ (meaning c.loop-level.level c.word-word.result) c.loop-level.invariant
-    (entry_read c.loop-level.level _ c.loop-level.number c.args.address _ _ _ c.word-word.ensures c.index_at.ensures.is refl)
+returns-in_default-clause-descent g c = stops c.loop-level.invariant
+    (entry_read c.loop-level.level _ c.loop-level.number c.args.address c.word-word.ensures c.index_at.ensures.is refl)
     (λ deep. no_table _ (λ n own e. c.in_default.not-Table n own (c.read_written.ensures ∙ e)))
 
 pub returns-then-level-lowest-clause-written : goal.returns-then-level-lowest-clause-written
 returns-then-level-lowest-clause-written g c =
-    written_on_path _ _ c.args.root _ c.args.lowest _ _ _ c.requires.tree c.requires.all_reached c.loop-level.invariant _ _ c.word-word.ensures
+    written_on_path c.loop-level.invariant c.requires.tree c.requires.all_reached _ _ c.word-word.ensures
 
 pub returns-in_default-clause-written : goal.returns-in_default-clause-written
-returns-in_default-clause-written g c =
-    written_on_path _ _ c.args.root _ c.args.lowest _ _ _ c.requires.tree c.requires.all_reached c.loop-level.invariant _ _ c.word-word.ensures
+returns-in_default-clause-written g c = written_on_path c.loop-level.invariant c.requires.tree c.requires.all_reached _ _ c.word-word.ensures
 
 pub read_written-requires-clause-written : goal.read_written-requires-clause-written
-read_written-requires-clause-written g c =
-    written_on_path _ _ c.args.root _ c.args.lowest _ _ _ c.requires.tree c.requires.all_reached c.loop-level.invariant _ _ c.word-word.ensures
+read_written-requires-clause-written g c = written_on_path c.loop-level.invariant c.requires.tree c.requires.all_reached _ _ c.word-word.ensures
 
 pub returns-then-level-lowest-clause-last : goal.returns-then-level-lowest-clause-last
 returns-then-level-lowest-clause-last g c = c.loop-level.invariant.last

@@ -5,7 +5,7 @@ use Rattle.vs_space.proofs.tables.Tables.extend.Given as goal
 
 abbrev pub invariant-loop-level : goal.invariant-loop-level
 invariant-loop-level g l = record {
-  extended : IsExtended l.fn.depth l.fn.self.memory l.self.memory l.fn.root l.address l.from l.level l.number;
+  extended : IsExtended l.fn.self.memory l.self.memory l.address l.last l.from l.level l.number;
   above : l.lowest ≤ l.level;
   within : l.level ≤ l.from;
   same : l.self ≡ (let r : Held = record l.fn.self { memory = l.self.memory } in r);

@@ -9,25 +9,18 @@ use Rattle.vs_space.proofs.tables.Tables.prune.Goals as goal
 
 pub returns-then-not-is_empty-clause-pruned : goal.returns-then-not-is_empty-clause-pruned
 returns-then-not-is_empty-clause-pruned g c =
-    let root = slice_index c.args.path.now (levels c.args.depth) in
     let going = c.loop-level.invariant.pruning in
-    pruned_by c.args.depth c.loop-level.self.memory root c.args.address c.loop-level.level c.args.path.now c.requires.canonical going.cut
-    c.args.self.now.memory c.args.from going
-    (λ deep. something_here c.args.depth c.loop-level.self.memory root c.args.address c.loop-level.level c.args.path.now c.requires.canonical going.cut
-    (λ b is_b reserved. c.requires.faultless b is_b (sym (going.walks b is_b) ∙ reserved)) (omega (arith, c.loop-level-test.true, c.levels.ensures))
-    (c.is_empty.ensures.present c.if-not-is_empty.true))
+    pruned_by going.cut going (λ deep.
+    something_here going.cut c.requires.canonical (λ b is_b reserved. c.requires.faultless b is_b (sym (going.walks b is_b) ∙ reserved))
+    (omega (arith, c.loop-level-test.true, c.levels.ensures)) (c.is_empty.ensures.present c.if-not-is_empty.true))
 
 pub is_empty-requires-clause-written : goal.is_empty-requires-clause-written
-is_empty-requires-clause-written g c =
-    emptied_written c.args.depth c.loop-level.self.memory
-    (slice_index c.args.path.now (levels c.args.depth)) c.args.address c.loop-level.level c.args.path.now c.loop-level.invariant.pruning.cut
+is_empty-requires-clause-written g c = emptied_written c.loop-level.invariant.pruning.cut
 
 pub give-requires : goal.give-requires
 give-requires g c =
     subst (λ (h : Held). IsSome (finite.get h.memory (slice_index c.args.path.now c.loop-level.level))) (sym c.write.ensures.written)
-    (emptied_used c.args.depth c.loop-level.self.memory
-    (slice_index c.args.path.now (levels c.args.depth)) c.args.address c.loop-level.level c.args.path.now _ c.index_at-in-loop-level.result
-    c.loop-level.invariant.pruning.cut)
+    (emptied_used c.loop-level.invariant.pruning.cut _ c.index_at-in-loop-level.result)
 
 pub loop-level-preserved : goal.loop-level-preserved
 loop-level-preserved g c =
@@ -39,18 +32,13 @@ loop-level-preserved g c =
     record {
       pruning = subst (λ (h : Held). IsPruning c.args.depth c.args.self.now.memory h.memory root c.args.address c.args.from
           (c.loop-level.level + 1) c.args.path.now) (sym after)
-          (pruning_on c.args.depth c.loop-level.self.memory root c.args.address c.loop-level.level c.args.path.now c.requires.canonical going.cut
-          (omega (arith, c.loop-level-test.true, c.levels.ensures))
-          (c.is_empty.ensures.empty c.if-not-is_empty.false) c.index_at-in-loop-level.result c.index_at-in-loop-level.ensures.is c.args.self.now.memory
-          c.args.from going);
+          (pruning_on going.cut (omega (arith, c.loop-level-test.true, c.levels.ensures)) (c.is_empty.ensures.empty c.if-not-is_empty.false)
+          c.index_at-in-loop-level.ensures.is going);
       same = same_but_memory c.args.self.now c.loop-level.self c.give.new.self _ after c.loop-level.invariant.same;
       numbers = c.give.ensures.numbers;
     }
 
 pub returns-clause-pruned : goal.returns-clause-pruned
 returns-clause-pruned g c =
-    let root = slice_index c.args.path.now (levels c.args.depth) in
     let going = c.loop-level.invariant.pruning in
-    pruned_by c.args.depth c.loop-level.self.memory root c.args.address c.loop-level.level c.args.path.now c.requires.canonical going.cut
-    c.args.self.now.memory c.args.from going
-    (λ deep. absurd (omega (arith, deep, c.loop-level-test.false, c.levels.ensures)))
+    pruned_by going.cut going (λ deep. absurd (omega (arith, deep, c.loop-level-test.false, c.levels.ensures)))
