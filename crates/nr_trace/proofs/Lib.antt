@@ -18,6 +18,9 @@ pub mod LawsOfFormat
 pub mod LawsOfFronts
 pub mod Assembled
 pub mod LawsOfTrailing
+pub mod Known
+pub mod UnitsOfBytes
+pub mod LawsOfBytes
 pub mod LawsOfLists
 pub mod LawsOfCalls
 pub mod LawsOfOrder
