@@ -1,7 +1,7 @@
 -- A trace that is put together from the units at the front of bytes.
 use Rattle.std.proofs.Common.{◌≡◌, ℕ, suc, ◌^◌, ◌<◌, Bool, true, false, ◌&&◌, T, List, [], ◌∷◌, ◌++◌, length, map, All, Option, Some, None, refl, ap}
 use Rattle.std.proofs.Common.{ap₂, sym, ◌∙◌, subst, arith}
-use Rattle.std.specs.Prelude.{flat_map}
+use Rattle.std.specs.Prelude.{flat_map, ⊤}
 use Rattle.std.specs.List.{AllByRecursion}
 use Rattle.std.specs.FinMap as finite
 use Rattle.std.specs.FinMap.Entries as kept
@@ -120,42 +120,42 @@ dump_is head frames fit count =
     (as_many head frames fit count) (held head frames fit)
 
 -- this many dumps stand at the front
-abbrev pub HasDumps : ℕ → (List ℕ → Type 0) → List ℕ → Type 0
-HasDumps = HasUnits (AllByRecursion IsImage) dump
+abbrev pub HasDumps : ℕ → List ℕ → Type 0
+HasDumps many = HasUnits (AllByRecursion IsImage) dump many (λ _. ⊤)
 
-pub one_dump : (many : ℕ) (Then : List ℕ → Type 0) (head : DumpHead) (rest behind : List ℕ) → IsDumpHead head → rest ≡ dump_head head ++ behind
-    → HasUnits (FramesFit None) frame head.frames (HasDumps many Then) behind → HasDumps (suc many) Then rest
-one_dump many Then head rest behind fits is has =
-    one_unit (AllByRecursion IsImage) (AllByRecursion IsImage) dump many Then (image_from head has.values) rest has.more
+pub one_dump : (many : ℕ) (head : DumpHead) (rest behind : List ℕ) → IsDumpHead head → rest ≡ dump_head head ++ behind
+    → HasUnits (FramesFit None) frame head.frames (HasDumps many) behind → HasDumps (suc many) rest
+one_dump many head rest behind fits is has =
+    one_unit (AllByRecursion IsImage) (AllByRecursion IsImage) dump many (λ _. ⊤) (image_from head has.values) rest has.more
     (λ images all. (image_fits head has.values fits has.fit has.count, all))
     (is ∙ ap (λ (l : List ℕ). dump_head head ++ l) has.parts ∙ sym (append_assoc (dump_head head) (flat_map frame has.values) has.more)
     ∙ ap (λ (l : List ℕ). l ++ has.more) (sym (dump_is head has.values has.fit has.count))) has.then
 
 -- ---- a trace
 
-abbrev pub HasEvents : Version → Layout → ℕ → (List ℕ → Type 0) → List ℕ → Type 0
-HasEvents version layout many Then = HasUnits (AllByRecursion (IsEvent version layout)) event many (HasDumps layout.replicas Then)
+abbrev pub HasEvents : Version → Layout → ℕ → List ℕ → Type 0
+HasEvents version layout many = HasUnits (AllByRecursion (IsEvent version layout)) event many (HasDumps layout.replicas)
 
-abbrev pub HasLog : Version → Layout → ℕ → ℕ → (List ℕ → Type 0) → List ℕ → Type 0
-HasLog version layout places many Then = HasUnits (AllByRecursion (λ call. call < 2 ^ 32)) log_word places (HasEvents version layout many Then)
+abbrev pub HasLog : Version → Layout → ℕ → ℕ → List ℕ → Type 0
+HasLog version layout places many = HasUnits (AllByRecursion (λ call. call < 2 ^ 32)) log_word places (HasEvents version layout many)
 
--- a front of the bytes spells a trace, and what comes after has the property
-abbrev pub HasTrace : (List ℕ → Type 0) → List ℕ → Type 0
-HasTrace Then bytes = (front : List ℕ) × (more : List ℕ) × (trace : Recording) × (bytes ≡ front ++ more) × Then more × Spells front trace
+-- a front of the bytes spells a trace
+abbrev pub HasTrace : List ℕ → Type 0
+HasTrace bytes = (front : List ℕ) × (more : List ℕ) × (trace : Recording) × (bytes ≡ front ++ more) × Spells front trace
 
 four_parts : (front a b c more : List ℕ) → front ++ (a ++ (b ++ (c ++ more))) ≡ (front ++ a ++ b ++ c) ++ more
 four_parts front a b c more =
     sym (append_assoc (front ++ a ++ b) c more ∙ append_assoc (front ++ a) b (c ++ more) ∙ append_assoc front a (b ++ (c ++ more)))
 
-abbrev trace_of : (Then : List ℕ → Type 0) (version : Version) (numbers : Counts) (rest : List ℕ)
-    → HasLog version numbers.layout numbers.places numbers.events Then rest
+abbrev trace_of : (version : Version) (numbers : Counts) (rest : List ℕ)
+    → HasLog version numbers.layout numbers.places numbers.events rest
     → Recording
-trace_of Then version numbers rest has =
+trace_of version numbers rest has =
     record { version = version; layout = numbers.layout; log = has.values; events = has.then.values; dumps = has.then.then.values }
 
-trace_fits : (Then : List ℕ → Type 0) (version : Version) (numbers : Counts) (rest : List ℕ) → IsCounts version numbers
-    → (has : HasLog version numbers.layout numbers.places numbers.events Then rest) → IsRecording (trace_of Then version numbers rest has)
-trace_fits Then version numbers rest fits has = record {
+trace_fits : (version : Version) (numbers : Counts) (rest : List ℕ) → IsCounts version numbers
+    → (has : HasLog version numbers.layout numbers.places numbers.events rest) → IsRecording (trace_of version numbers rest has)
+trace_fits version numbers rest fits has = record {
   layout = fits.layout;
   depth = fits.depth;
   few_places = omega (arith, has.count, fits.few_places);
@@ -166,11 +166,11 @@ trace_fits Then version numbers rest fits has = record {
   dumps = All-from_recursion IsImage has.then.then.values has.then.then.fit;
 }
 
-pub one_trace : (Then : List ℕ → Type 0) (version : Version) (numbers : Counts) (bytes middle behind rest : List ℕ) → IsCounts version numbers
+pub one_trace : (version : Version) (numbers : Counts) (bytes middle behind rest : List ℕ) → IsCounts version numbers
     → bytes ≡ magic ++ middle → middle ≡ version_word version ++ behind → behind ≡ counts numbers ++ rest
-    → HasLog version numbers.layout numbers.places numbers.events Then rest → HasTrace Then bytes
-one_trace Then version numbers bytes middle behind rest fits is_bytes is_middle is_behind has =
-    let trace = trace_of Then version numbers rest has in
+    → HasLog version numbers.layout numbers.places numbers.events rest → HasTrace bytes
+one_trace version numbers bytes middle behind rest fits is_bytes is_middle is_behind has =
+    let trace = trace_of version numbers rest has in
     let log = flat_map log_word has.values in
     let calls = flat_map event has.then.values in
     let images = flat_map dump has.then.then.values in
@@ -184,6 +184,5 @@ one_trace Then version numbers bytes middle behind rest fits is_bytes is_middle 
           ∙ ap (λ (l : List ℕ). calls ++ l) has.then.then.parts))))
           ∙ four_parts (magic ++ version_word version ++ counts numbers) log calls images more
           ∙ ap (λ (c : Counts). (magic ++ version_word version ++ counts c ++ log ++ calls ++ images) ++ more) same,
-      has.then.then.then,
-      record { in_range = trace_fits Then version numbers rest fits has; spelled = refl },
+      record { in_range = trace_fits version numbers rest fits has; spelled = refl },
     )

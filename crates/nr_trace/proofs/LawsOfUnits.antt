@@ -147,10 +147,10 @@ request_of_kind (suc (suc zero)) f = Update (Protect f.address (rights_from f.ri
 request_of_kind (suc (suc (suc zero))) f = Resolve f.address
 request_of_kind (suc (suc (suc (suc n)))) f = Access f.address (mode_from f.rights) (access_from f.size)
 
-abbrev request_from : RequestFields → Query
+abbrev pub request_from : RequestFields → Query
 request_from f = request_of_kind f.kind f
 
-request_back : (request : Query) → request_from (request_fields request) ≡ request
+pub request_back : (request : Query) → request_from (request_fields request) ≡ request
 request_back (Update (Map page)) =
     ap₂ (λ (size : Size) (rights : Rights). Update (Map (record { base = page.base; size = size; phys = page.phys; rights = rights }))) (size_back page.size)
     (rights_back page.rights)
@@ -174,10 +174,10 @@ answer_of_code (suc (suc (suc (suc (suc (suc (suc zero))))))) f = Mapped f.value
 answer_of_code (suc (suc (suc (suc (suc (suc (suc (suc zero)))))))) f = Allowed f.value
 answer_of_code (suc (suc (suc (suc (suc (suc (suc (suc (suc n))))))))) f = Fault f.value
 
-abbrev answer_from : AnswerFields → Answer
+abbrev pub answer_from : AnswerFields → Answer
 answer_from f = answer_of_code f.code f
 
-answer_back : (answer : Answer) → answer_from (answer_fields answer) ≡ answer
+pub answer_back : (answer : Answer) → answer_from (answer_fields answer) ≡ answer
 answer_back Done = refl
 answer_back (Overlap base) = refl
 answer_back (Full need) = refl

@@ -17,7 +17,9 @@ pub mod LawsOfLength
 pub mod LawsOfFormat
 pub mod LawsOfFronts
 pub mod Assembled
-pub mod LawsOfTrailing
+pub mod Known
+pub mod UnitsOfBytes
+pub mod LawsOfBytes
 pub mod LawsOfLists
 pub mod LawsOfCalls
 pub mod LawsOfOrder

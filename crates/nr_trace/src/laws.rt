@@ -1,7 +1,8 @@
 //! Laws of the definitions in `specs/`. Each function does nothing: its clauses say what holds of all bytes and all
 //! recordings.
 
-ghost use Rattle.std.specs.Prelude.{◌≡◌, ◌≢◌, ◌≤◌, ◌++◌, ◌+◌, ℕ, max, ◌⊎◌, ◌↔◌, length, slice_get, take, Contains, List, [], None, Some, Result, Err};
+ghost use Rattle.std.specs.Prelude.{◌≡◌, ◌≢◌, ◌<◌, ◌≤◌, ◌++◌, ◌+◌, ℕ, max, ◌⊎◌, ◌↔◌, length, slice_get, take, All, Contains, List, []};
+ghost use Rattle.std.specs.Prelude.{None, Some, Result, Err};
 ghost use Rattle.std.specs.List.{concat};
 ghost use Rattle.vs_walk.specs.Dump.{Image};
 ghost use Rattle.vs_types.specs.declared.refusal.Fail.{Fail};
@@ -124,4 +125,10 @@ pub fn trailing_bytes_follow_a_trace()
 /// Where bytes spell a trace, each front of them that lacks some has the fault `Truncated`.
 pub fn fronts_of_a_spelling_are_truncated()
     ensures { (front more : List ℕ) (trace : Recording) → Spells (front ++ more) trace → more ≢ [] → HasFormatFault front Truncated }
+{}
+
+/// Any bytes spell a trace, or have a fault of the format.
+pub fn bytes_spell_a_trace_or_have_a_fault()
+    ensures { (bytes : List ℕ) → All (λ byte. byte < 256) bytes
+        → ((trace : Recording) × Spells bytes trace) ⊎ ((fault : Format) × HasFormatFault bytes fault) }
 {}
