@@ -35,6 +35,14 @@ impl Load {
         Ok(load)
     }
 
+    fn add_address(&mut self, address: u64) -> Result<(), ProgFault> {
+        if !self.depth.is_canonical(address) {
+            return Err(ProgFault::BadPage);
+        }
+        self.addresses.push(address)?;
+        Ok(())
+    }
+
     /// The calls for one page. Its rights are those of its number, and then those of the number's eighth.
     fn add(&mut self, workload: Workload, number: u16) -> Result<(), ProgFault> {
         let depth = self.depth;
@@ -43,11 +51,8 @@ impl Load {
         let address = page.base.wrapping_add(u64::from(number % 4096));
         let protect = Op::protect(depth, page.base, rights_of(number / 8))?;
         let unmap = Op::unmap(depth, page.base)?;
-        if !depth.is_canonical(address) {
-            return Err(ProgFault::BadPage);
-        }
+        self.add_address(address)?;
         self.maps.push(map)?;
-        self.addresses.push(address)?;
         self.protects.push(protect)?;
         self.unmaps.push(unmap)?;
         Ok(())
