@@ -4,7 +4,7 @@ ghost use Rattle.vs_types.specs.Depth.{IsCanonical};
 ghost use Rattle.vs_types.specs.Space as spaces;
 ghost use Rattle.vs_types.specs.Operation.{IsAction};
 ghost use Rattle.vs_space.specs.Table.{IsTableOf};
-ghost use Rattle.space_benchmark.specs.Work.{Applies, IsRound, sum_of_looks, after_rounds, start};
+ghost use Rattle.space_benchmark.specs.Work.{Applies, IsRound, IsWellFormed, after_rounds, start, sum_of_looks};
 
 use crate::fault::ProgFault;
 use crate::load::{Load, all_fit};
@@ -61,9 +61,7 @@ impl Measured {
         load: &Load,
     ) -> Result<(), ProgFault>
         requires depth { space.old.depth ≡ load.now.depth }
-        requires maps { All (IsAction load.now.depth) load.now.maps.items }
-        requires protects { All (IsAction load.now.depth) load.now.protects.items }
-        requires unmaps { All (IsAction load.now.depth) load.now.unmaps.items }
+        requires fits { IsWellFormed load.now }
         ensures ok { OnOk result (IsRound space.old load.now self.old.sum.value space.new self.new.sum.value) }
         ensures err { IfErr result (λ fault. fault ≡ ProgFault.NoClock) }
     {
@@ -103,7 +101,7 @@ pub fn measure<S: FrameStore + Drop>(
     requires empty { S.frames store ≡ finite.empty }
     requires size { S.size store ≡ FRAMES }
     ensures ok { IfOk result (λ measured. measured.sum.value ≡ (after_rounds load.now.depth FRAMES load.now rounds start).sum) }
-    ensures err { IfErr result (λ fault. (fault ≡ ProgFault.NoClock) ⊎ (fault ≡ ProgFault.BadPage)) }
+    ensures err { IfErr result (λ fault. (fault ≡ ProgFault.NoClock) ⊎ ((fault ≡ ProgFault.BadPage) × (IsWellFormed load.now → ⊥))) }
 {
     let depth = load.depth;
     if !all_fit(depth, &load.maps)
