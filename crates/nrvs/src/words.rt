@@ -1,5 +1,5 @@
-ghost use Rattle.std.specs.Prelude.{◌≡◌, ◌∷◌, [], false, IfOk, IfErr, map, string_bytes};
-ghost use Rattle.clap.specs.Words.{app_of, fault_of, subcommand_of, HasKind};
+ghost use Rattle.std.specs.Prelude.{◌≡◌, ◌∷◌, [], false, IfOk, IfErr, MatchResult, map, string_bytes};
+ghost use Rattle.clap.specs.Words.{app_of, fault_of, kind_of, subcommand_of, HasKind};
 ghost use Rattle.nrvs.specs.CommandLine.{command_line, Asks};
 
 use crate::command::Command;
@@ -64,7 +64,14 @@ fn read_words<'a>(alloc: Global, words: &'a [String]) -> Result<Command<'a>, Err
 pub fn read_program_words<'a>(
     alloc: Global,
     words: &'a Result<Vec<String>, AllocError>,
-) -> Result<Command<'a>, Error> {
+) -> Result<Command<'a>, Error>
+    ensures asks { IfOk words.entry.now (λ given. IfOk result (Asks (subcommand_of command_line (map (λ word. string_bytes word) given.items)))) }
+    ensures faultless { IfOk words.entry.now (λ given. IfOk result (λ _. fault_of command_line (map (λ word. string_bytes word) given.items) ≡ [])) }
+    ensures fault { IfOk words.entry.now
+        (λ given. IfErr result
+        (HasKind (ErrorKind.MissingSubcommand ∷ fault_of command_line (map (λ word. string_bytes word) given.items)))) }
+    ensures memory { IfErr words.entry.now (λ _. MatchResult result (λ _. ⊥) (λ error. kind_of error ≡ ErrorKind.OutOfMemory)) }
+{
     match words {
         Ok(words) => read_words(alloc, words.as_slice()),
         Err(AllocError) => Err(Error::from(AllocError)),

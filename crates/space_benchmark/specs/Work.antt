@@ -1,12 +1,19 @@
 -- What the calls of a workload are answered, as a sum.
-use Rattle.std.specs.Prelude.{◌≡◌, ℕ, zero, suc, List, [], ◌∷◌}
+use Rattle.std.specs.Prelude.{◌≡◌, ℕ, zero, suc, List, [], ◌∷◌, All}
 use Rattle.vs_types.specs.Space.{Space, no_pages, table_count}
+use Rattle.vs_types.specs.Operation.{IsAction}
 use Rattle.vs_types.specs.Step.{step, look, after_all}
 use Rattle.vs_types.specs.declared.depth.Depth.{Depth}
 use Rattle.vs_types.specs.declared.op.Action.{Action}
 use Rattle.vs_space.specs.Table.{PageTable, IsTableOf}
 use Rattle.space_benchmark.specs.declared.load.Load.{Load}
 use Rattle.space_benchmark.specs.Sum.{answer_number, sum_with}
+
+-- all operations of a workload are well formed at its depth
+pub record IsWellFormed (load : Load) : Type 0 where
+  pub maps : All (IsAction load.depth) load.maps.items
+  pub protects : All (IsAction load.depth) load.protects.items
+  pub unmaps : All (IsAction load.depth) load.unmaps.items
 
 -- a sum goes on with the answers of operations, one after another
 abbrev pub sum_of_steps : Depth → ℕ → Space → ℕ → List Action → ℕ

@@ -1,4 +1,4 @@
-ghost use Rattle.std.specs.Prelude.{All, IsTrue};
+ghost use Rattle.std.specs.Prelude.{◌↔◌, All, IsTrue};
 ghost use Rattle.vs_types.specs.Depth.{IsCanonical};
 ghost use Rattle.vs_types.specs.Operation.{IsAction};
 
@@ -61,7 +61,7 @@ impl Load {
 
 /// Whether all operations are well formed at this depth.
 pub fn all_fit(depth: Depth, ops: &[Op]) -> bool
-    ensures { IsTrue result → All (IsAction depth) ops.now }
+    ensures { IsTrue result ↔ All (IsAction depth) ops.now }
 {
     ops.iter().all(|op| op.fits(depth))
 }

@@ -1,10 +1,10 @@
-ghost use Rattle.std.specs.Prelude.{◌≡◌, All, IfOk, OnOk};
+ghost use Rattle.std.specs.Prelude.{◌≡◌, ◌⊎◌, All, IfErr, IfOk, OnOk};
 ghost use Rattle.std.specs.FinMap as finite;
 ghost use Rattle.vs_types.specs.Depth.{IsCanonical};
 ghost use Rattle.vs_types.specs.Space as spaces;
 ghost use Rattle.vs_types.specs.Operation.{IsAction};
 ghost use Rattle.vs_space.specs.Table.{IsTableOf};
-ghost use Rattle.space_benchmark.specs.Work.{Applies, IsRound, sum_of_looks, after_rounds, start};
+ghost use Rattle.space_benchmark.specs.Work.{Applies, IsRound, IsWellFormed, after_rounds, start, sum_of_looks};
 
 use crate::fault::ProgFault;
 use crate::load::{Load, all_fit};
@@ -61,10 +61,9 @@ impl Measured {
         load: &Load,
     ) -> Result<(), ProgFault>
         requires depth { space.old.depth ≡ load.now.depth }
-        requires maps { All (IsAction load.now.depth) load.now.maps.items }
-        requires protects { All (IsAction load.now.depth) load.now.protects.items }
-        requires unmaps { All (IsAction load.now.depth) load.now.unmaps.items }
-        ensures { OnOk result (IsRound space.old load.now self.old.sum.value space.new self.new.sum.value) }
+        requires fits { IsWellFormed load.now }
+        ensures ok { OnOk result (IsRound space.old load.now self.old.sum.value space.new self.new.sum.value) }
+        ensures err { IfErr result (λ fault. fault ≡ ProgFault.NoClock) }
     {
         let start = now(clock)?;
         apply_all(space, &load.maps, &mut self.sum);
@@ -101,7 +100,8 @@ pub fn measure<S: FrameStore + Drop>(
 ) -> Result<Measured, ProgFault>
     requires empty { S.frames store ≡ finite.empty }
     requires size { S.size store ≡ FRAMES }
-    ensures { IfOk result (λ measured. measured.sum.value ≡ (after_rounds load.now.depth FRAMES load.now rounds start).sum) }
+    ensures ok { IfOk result (λ measured. measured.sum.value ≡ (after_rounds load.now.depth FRAMES load.now rounds start).sum) }
+    ensures err { IfErr result (λ fault. (fault ≡ ProgFault.NoClock) ⊎ ((fault ≡ ProgFault.BadPage) × (IsWellFormed load.now → ⊥))) }
 {
     let depth = load.depth;
     if !all_fit(depth, &load.maps)
@@ -121,7 +121,9 @@ pub fn measure<S: FrameStore + Drop>(
 }
 
 /// What the clock says.
-fn now(clock: &impl Clock) -> Result<Instant, ProgFault> {
+fn now(clock: &impl Clock) -> Result<Instant, ProgFault>
+    ensures { IfErr result (λ fault. fault ≡ ProgFault.NoClock) }
+{
     Instant::now(clock).map_err(|_| ProgFault::NoClock)
 }
 

@@ -13,7 +13,10 @@ ghost use Rattle.vs_types.specs.declared.page.Size.TheVariants.{G1, K4, M2};
 ghost use Rattle.vs_types.specs.Depth.{index_at, is_canonical};
 ghost use Rattle.vs_types.specs.Entry.{all_rights, leaf_word, meaning, table_word};
 ghost use Rattle.vs_types.specs.Operation.{action_fault};
-ghost use Rattle.vs_types.specs.Examples.{allow_after, answers, beyond_four_levels, both_halves, large_then_small, last_page, look_after, map_all, no_rights, one_gigabyte, other_rights, past_three_tables, small_replaced, small_then_large, tables_after, user_and_exec, write_only, written_then_run};
+ghost use Rattle.vs_types.specs.Examples.{allow_after, answers, look_after, tables_after};
+ghost use Rattle.vs_types.specs.Examples.{no_rights, other_rights, user_and_exec, write_only};
+ghost use Rattle.vs_types.specs.Examples.{beyond_four_levels, both_halves, last_page, map_all, past_three_tables, written_then_run};
+ghost use Rattle.vs_types.specs.Examples.{large_then_small, one_gigabyte, small_replaced, small_then_large};
 
 /// Pages at both ends of the addresses that are not canonical.
 pub fn both_halves_of_the_address_space()
