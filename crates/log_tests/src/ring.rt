@@ -4,7 +4,7 @@ ghost use Rattle.vs_types.specs.declared.depth.Depth.TheVariants.{Four};
 ghost use Rattle.vs_types.specs.declared.limits.TheConstants.{CALLS};
 
 use arrayvec::ArrayVec;
-use nr_ring::{AppendFault, LogName, RingLog, Tails};
+use nr_ring::{AppendFault, LogName, Moved, RingLog, Tails};
 use std::process::Abort;
 use std::test::Fail;
 use vs_types::{Depth, LogEntry, Op};
@@ -91,6 +91,32 @@ fn ring_fills_and_frees(rt: HostRuntime) -> Result<(), Fail> {
     assert_eq!(rt; entries[15].call, 1);
     log.meet(&rt, &mut second, &mut first);
     assert_eq!(rt; log.look(&rt, &mut first), tails);
+    Ok(())
+}
+
+#[test]
+fn advance_meets_another_event(rt: HostRuntime) -> Result<(), Fail> {
+    let (log, mut passes) = RingLog::<Two>::new(rt.alloc(), Depth::Four, 2, 1)?;
+    let mut first = passes.remove(0);
+    let mut third = passes.remove(1);
+    let one = [entry(&rt, 1)];
+    assert_eq!(rt; log.append(&rt, &mut third, one.as_slice()), Ok(0));
+    let tails = log.look(&rt, &mut first);
+    assert_eq!(rt; (tails.tail, tails.local[0]), (1, 0));
+    assert_eq!(rt; log.append(&rt, &mut third, one.as_slice()), Ok(1));
+    // to the local tail: nothing is exchanged
+    assert_eq!(rt; log.advance(&rt, &mut first, 0), Ok(()));
+    assert!(rt; tails.local[0] <= 1 && 1 <= tails.tail);
+    assert_eq!(rt; log.advance(&rt, &mut first, 1), Err(Moved));
+    let tails = log.look(&rt, &mut first);
+    assert!(rt; tails.local[0] <= 1 && 1 <= tails.tail);
+    assert_eq!(rt; log.advance(&rt, &mut first, 1), Ok(()));
+    let tails = Tails {
+        tail: 2,
+        completed: 1,
+        local: [1, 0, 0, 0],
+    };
+    assert_eq!(rt; log.look(&rt, &mut third), tails);
     Ok(())
 }
 
