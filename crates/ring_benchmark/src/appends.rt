@@ -17,7 +17,7 @@ use std::time::{Duration, Instant};
 use vs_types::{Depth, LogEntry};
 
 /// How often a thread tries what waits for the others.
-const TRIES: u32 = 1 << 26;
+const TRIES: u32 = 1 << 22;
 
 /// What a replica has taken.
 #[derive(Clone, Copy, Debug)]
