@@ -1,6 +1,7 @@
 /* Preloaded into the program: refuses the growth of memory whose number, from 1, is in REFUSE_GROWTH, and then makes the
    file that REFUSED names. */
 #define _GNU_SOURCE
+#include <errno.h>
 #include <fcntl.h>
 #include <stdatomic.h>
 #include <stddef.h>
@@ -23,6 +24,7 @@ static int is_refused(void) {
     const char *name = getenv("REFUSED");
     int mark = name ? open(name, O_CREAT | O_WRONLY, 0600) : -1;
     if (mark >= 0) close(mark);
+    errno = ENOMEM;
     return 1;
 }
 

@@ -16,8 +16,8 @@ use std::thread::Threads;
 use std::time::{Duration, Instant};
 use vs_types::{Depth, LogEntry};
 
-/// How often a thread tries what waits for the others.
-const TRIES: u32 = 1 << 26;
+/// How often a thread tries what the others may hinder, before it says that it is stuck.
+const TRIES: u32 = 1 << 22;
 
 /// What a replica has taken.
 #[derive(Clone, Copy, Debug)]
