@@ -139,8 +139,18 @@ pub one_unit : (reader : Reader) (len : ℕ) → IsReady reader → unit_bytes r
 one_unit (Magic alloc) len ready is = sym (some_is 4 len is)
 one_unit (Version alloc) len ready is = sym (some_is 2 len is)
 one_unit (Header alloc version) len ready is = sym (some_is 14 len is)
-one_unit (Log parts places events) len ready is = sym (some_is 4 len is)
-one_unit (Events parts events) len ready is = sym (some_is 24 len is)
+one_unit (Log parts places events) len ready is = record {
+  count = 1;
+  some = omega arith;
+  few = ready.1;
+  all = omega (arith, some_is 4 len is);
+}
+one_unit (Events parts events) len ready is = record {
+  count = 1;
+  some = omega arith;
+  few = ready.1;
+  all = omega (arith, some_is 24 len is);
+}
 one_unit (Dumps parts) len ready is =
     let given = chosen (nat_lt (length parts.dumps.items) parts.config.replicas) 16 len is in
     (ltb-true _ _ given.0, sym given.1)
