@@ -1,4 +1,4 @@
-use Rattle.std.proofs.Common.{◌≡◌, ◌++◌, ◌*◌, ◌/◌, ◌≤◌, ℕ, List, length, rules, ap, subst, arith}
+use Rattle.std.proofs.Common.{◌++◌, ◌/◌, List, length, rules, ap, subst, arith}
 use Rattle.std.proofs.lemmas.List.{length-append}
 use Rattle.vs_types.specs.Refusal.{IfRefused}
 use Rattle.nr_trace.specs.FirstFault.{AtEvents}

@@ -1,4 +1,4 @@
-use Rattle.std.proofs.Common.{◌≡◌, ◌*◌, ◌/◌, ◌≤◌, ℕ, List, length, ap, subst, arith}
+use Rattle.std.proofs.Common.{◌/◌, ℕ, List, length, ap, subst, arith}
 use Rattle.std.proofs.lemmas.List.{length-append}
 use Rattle.nr_trace.specs.inside.Reading.{ArePlaced}
 use Rattle.nr_trace.proofs.Taken.{as_many_places, places_in_range, places_taken}
