@@ -1,6 +1,6 @@
 -- What the address space answers in the worked examples. The pages of a space are its entries, and those of a space that
 -- is made by inserts compute.
-use Rattle.std.proofs.Common.{◌≡◌, ℕ, ◌+◌, ◌-◌, nat_le, true, Option, Some, None, List, [], ◌∷◌, map, filter, find, length, refl, ap, sym, ◌∙◌, arith}
+use Rattle.std.proofs.Common.{◌≡◌, ℕ, ◌+◌, nat_le, true, Some, None, List, [], ◌∷◌, map, filter, find, length, refl, ap, sym, ◌∙◌, arith}
 use Rattle.std.specs.FinMap as finite
 use Rattle.std.specs.FinMap.Entries as kept
 use Rattle.std.specs.Ordering.{nat_cmp}

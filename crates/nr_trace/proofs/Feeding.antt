@@ -1,16 +1,14 @@
 -- A feed that takes whole units one after the other.
-use Rattle.std.proofs.Common.{◌≡◌, ◌≢◌, ℕ, ◌<◌, ◌≤◌, List, [], ◌∷◌, ◌++◌, length, Option, Some, None, Ok, Err, refl, sym, ap, subst, ◌∙◌, arith, append_assoc}
+use Rattle.std.proofs.Common.{◌≡◌, ◌≢◌, ℕ, ◌<◌, ◌≤◌, List, [], ◌∷◌, ◌++◌, length, Option, Some, None, Ok, Err, refl, sym, ap, subst, ◌∙◌, append_assoc}
 use Rattle.std.proofs.Common.{Vec, Global}
 use Rattle.std.proofs.lemmas.List.{append-nil}
 use Rattle.vs_types.specs.Refusal.{IfRefused}
 use Rattle.vs_types.specs.declared.refusal.Fail.{Fail}
 use Rattle.vs_types.specs.declared.refusal.Fail.TheVariants as fails
-use Rattle.nr_trace.specs.Recording.{Recording}
-use Rattle.nr_trace.specs.Spelling.{Spells}
 use Rattle.nr_trace.specs.FirstFault.{HasFormatFault}
 use Rattle.nr_trace.specs.Feed.{Fed, IsSettled, HasNoFaultYet, Feeds, Ends}
 use Rattle.nr_trace.specs.Feed.Fed.{Taken}
-use Rattle.nr_trace.specs.inside.Progress.{unit_bytes, said, Ahead, IsReady, HasRead, IsFault, whole_spelling}
+use Rattle.nr_trace.specs.inside.Progress.{unit_bytes, said, Ahead, HasRead, IsFault}
 use Rattle.nr_trace.specs.inside.Feeding.{IsSound, AreFewer, IsCut, HasCome, IsFeeding, fed}
 use Rattle.nr_trace.specs.declared.fault.Format.{Format}
 use Rattle.nr_trace.specs.declared.fault.Format.TheVariants.{Truncated, Trailing}

@@ -16,11 +16,11 @@ use Rattle.vs_walk.specs.Memory.{Memory}
 use Rattle.vs_walk.specs.Dump.{Image}
 use Rattle.vs_types.specs.Frame.{IsFrame}
 use Rattle.nr_trace.specs.Recording.{IsImage}
-use Rattle.nr_trace.specs.Spelling.{dump_head, frame_number, frame_words, dump}
+use Rattle.nr_trace.specs.Spelling.{dump_head, frame_number, frame_words}
 use Rattle.nr_trace.specs.inside.Reading.{SpellsHead}
 use Rattle.nr_trace.specs.declared.fields.DumpHead.{DumpHead}
 use Rattle.nr_trace.specs.FirstFault.{AtUnit, AtFrames, AtDumps, IsNext, IsDumpHead}
-use Rattle.nr_trace.specs.inside.Progress.{HasRead, AreInRange, IsOpened, IsReady, AreBelow, AreUnits, BehindDumps, AtWords, Ahead, said, whole_spelling, opened_spelling, frame_begun, words_begun}
+use Rattle.nr_trace.specs.inside.Progress.{HasRead, AreInRange, IsOpened, IsReady, AreBelow, BehindDumps, AtWords, Ahead, said, whole_spelling, opened_spelling, frame_begun, words_begun}
 use Rattle.nr_trace.specs.declared.fault.Format.{Format}
 use Rattle.nr_trace.specs.declared.fault.Format.TheVariants.{BadCount, BadFrame}
 use Rattle.nr_trace.specs.declared.reading.parts.Parts.{Parts}

@@ -1,12 +1,12 @@
 -- No trace is spelled by more bytes than 70,647,892.
-use Rattle.std.proofs.Common.{◌≡◌, ℕ, suc, ◌+◌, ◌*◌, ◌≤◌, ◌<◌, List, [], ◌∷◌, ◌++◌, length, drop, refl, ap, sym, ◌∙◌, arith}
+use Rattle.std.proofs.Common.{◌≡◌, ℕ, suc, ◌+◌, ◌*◌, ◌≤◌, List, [], ◌∷◌, ◌++◌, length, drop, refl, ap, ◌∙◌, arith}
 use Rattle.std.specs.Prelude.{flat_map}
 use Rattle.std.specs.List.{AllByRecursion}
 use Rattle.std.specs.FinMap as finite
 use Rattle.std.proofs.lemmas.List.{length-append}
 use Rattle.std.proofs.lemmas.List.Elements.{recursion_from_All}
 use Rattle.vs_walk.specs.Dump.{Image}
-use Rattle.nr_trace.specs.Recording.{Recording, IsRecording, IsImage}
+use Rattle.nr_trace.specs.Recording.{Recording, IsImage}
 use Rattle.nr_trace.specs.Spelling.{spelling, Spells, counts, counts_of, dump_head, head_of, log_word, event, dump, frame_number, frame_words}
 use Rattle.nr_trace.proofs.LawsOfUnits.{length-counts, length-head, length-event, length_of_units, length-frame_words}
 use Rattle.nr_trace.proofs.LawsOfSpelling.{Frame, FrameFits, frame, image_frames_fit, frames_of, logs, events, dumps, spelling_behind_version}

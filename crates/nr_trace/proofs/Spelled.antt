@@ -1,7 +1,8 @@
 -- Spellings that grow by a unit, and readers that have taken it.
-use Rattle.std.proofs.Common.{◌≡◌, ℕ, ◌+◌, ◌-◌, List, [], ◌∷◌, ◌++◌, length, sym, ap, subst, ◌∙◌, arith}
+use Rattle.std.proofs.Common.{◌≡◌, ℕ, ◌+◌, ◌-◌, List, [], ◌∷◌, ◌++◌, length, sym, ap, subst, ◌∙◌, arith, append_assoc}
 use Rattle.std.specs.List.{flat_map}
 use Rattle.std.proofs.lemmas.List.{append-nil, flat_map_more}
+use Rattle.std.proofs.lemmas.Grind.{flat_map-append}
 use Rattle.vs_types.specs.Config.{Layout}
 use Rattle.vs_walk.specs.Dump.{Image}
 use Rattle.nr_trace.specs.Spelling.{magic, version_word, counts, log_word, event, dump}
@@ -21,26 +22,31 @@ spelling_of version layout places events log recorded dumps =
     magic ++ version_word version ++ counts (record { layout = layout; places = places; events = events }) ++ flat_map log_word log ++ flat_map event recorded
     ++ flat_map dump dumps
 
-pub more_place : (version : Version) (layout : Layout) (places events : ℕ) (log : List ℕ) (call : ℕ) (recorded : List Event) (dumps : List Image)
+behind_more : {X : Type 0} (f : X → List ℕ) (front : List ℕ) (xs ys : List X) → front ++ flat_map f (xs ++ ys) ≡ front ++ flat_map f xs ++ flat_map f ys
+behind_more f front xs ys = ap (λ (l : List ℕ). front ++ l) (flat_map-append f xs ys) ∙ sym (append_assoc front (flat_map f xs) (flat_map f ys))
+
+pub more_places : (version : Version) (layout : Layout) (places events : ℕ) (log calls : List ℕ) (recorded : List Event) (dumps : List Image)
     → recorded ≡ [] → dumps ≡ []
-    → spelling_of version layout places events (log ++ call ∷ []) recorded dumps ≡ spelling_of version layout places events log recorded dumps ++ log_word call
-more_place version layout places events log call recorded dumps no_events no_dumps =
+    → spelling_of version layout places events (log ++ calls) recorded dumps
+    ≡ spelling_of version layout places events log recorded dumps ++ flat_map log_word calls
+more_places version layout places events log calls recorded dumps no_events no_dumps =
     let front = magic ++ version_word version ++ counts (record { layout = layout; places = places; events = events }) in
-    behind_nothing dump dumps (front ++ flat_map log_word (log ++ call ∷ []) ++ flat_map event recorded) no_dumps
-    ∙ behind_nothing event recorded (front ++ flat_map log_word (log ++ call ∷ [])) no_events
-    ∙ sym (flat_map_more log_word front log call)
-    ∙ ap (λ (l : List ℕ). l ++ log_word call)
+    behind_nothing dump dumps (front ++ flat_map log_word (log ++ calls) ++ flat_map event recorded) no_dumps
+    ∙ behind_nothing event recorded (front ++ flat_map log_word (log ++ calls)) no_events
+    ∙ behind_more log_word front log calls
+    ∙ ap (λ (l : List ℕ). l ++ flat_map log_word calls)
     (sym (behind_nothing dump dumps (front ++ flat_map log_word log ++ flat_map event recorded) no_dumps
     ∙ behind_nothing event recorded (front ++ flat_map log_word log) no_events))
 
-pub more_event : (version : Version) (layout : Layout) (places events : ℕ) (log : List ℕ) (recorded : List Event) (one : Event) (dumps : List Image)
+pub more_events : (version : Version) (layout : Layout) (places events : ℕ) (log : List ℕ) (recorded more : List Event) (dumps : List Image)
     → dumps ≡ []
-    → spelling_of version layout places events log (recorded ++ one ∷ []) dumps ≡ spelling_of version layout places events log recorded dumps ++ event one
-more_event version layout places events log recorded one dumps no_dumps =
+    → spelling_of version layout places events log (recorded ++ more) dumps
+    ≡ spelling_of version layout places events log recorded dumps ++ flat_map event more
+more_events version layout places events log recorded more dumps no_dumps =
     let front = magic ++ version_word version ++ counts (record { layout = layout; places = places; events = events }) ++ flat_map log_word log in
-    behind_nothing dump dumps (front ++ flat_map event (recorded ++ one ∷ [])) no_dumps
-    ∙ sym (flat_map_more event front recorded one)
-    ∙ ap (λ (l : List ℕ). l ++ event one) (sym (behind_nothing dump dumps (front ++ flat_map event recorded) no_dumps))
+    behind_nothing dump dumps (front ++ flat_map event (recorded ++ more)) no_dumps
+    ∙ behind_more event front recorded more
+    ∙ ap (λ (l : List ℕ). l ++ flat_map event more) (sym (behind_nothing dump dumps (front ++ flat_map event recorded) no_dumps))
 
 pub more_dump : (version : Version) (layout : Layout) (places events : ℕ) (log : List ℕ) (recorded : List Event) (dumps : List Image) (one : Image)
     → spelling_of version layout places events log recorded (dumps ++ one ∷ []) ≡ spelling_of version layout places events log recorded dumps ++ dump one

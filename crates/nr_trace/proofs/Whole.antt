@@ -1,19 +1,16 @@
 -- A reader where bytes are missing, or stand after the end.
-use Rattle.std.proofs.Common.{◌≡◌, ◌≢◌, ℕ, zero, suc, ◌+◌, ◌*◌, ◌-◌, ◌<◌, ◌≤◌, Bool, true, false, List, [], ◌++◌, length, take, Option, Some, None, refl, sym, ap, subst}
-use Rattle.std.proofs.Common.{◌∙◌, arith, inl, append_assoc}
+use Rattle.std.proofs.Common.{◌≡◌, ◌≢◌, ℕ, zero, suc, ◌+◌, ◌*◌, ◌-◌, ◌<◌, ◌≤◌, Bool, true, false, List, [], length, take, Option, Some, None, refl, sym, ap, subst}
+use Rattle.std.proofs.Common.{◌∙◌, arith, inl}
 use Rattle.std.specs.Prelude.{nat_lt, if◌then◌else◌, MatchOption}
 use Rattle.std.proofs.lemmas.Bool.{ltb-true, ltb-false}
-use Rattle.std.proofs.lemmas.List.{append-nil, length-append, length-take-le}
+use Rattle.std.proofs.lemmas.List.{length-append, length-take-le}
 use Rattle.std.specs.Int.{w64, to_be_bytes}
 use Rattle.vs_types.specs.Config.{Layout}
 use Rattle.vs_types.specs.Frame.{IsFrame}
-use Rattle.vs_types.specs.declared.refusal.Fail.{Fail}
-use Rattle.vs_types.specs.declared.refusal.Fail.TheVariants as fails
 use Rattle.nr_trace.specs.Recording.{Recording}
 use Rattle.nr_trace.specs.Spelling.{Spells}
-use Rattle.nr_trace.specs.FirstFault.{AtFrames, AtDumps, AtEvents, AtLog, HasFormatFault}
-use Rattle.nr_trace.specs.inside.Progress.{unit_bytes, said, words_begun, Ahead, IsReady, IsRun, HasRead, IsFault}
-use Rattle.vs_types.specs.Refusal.{IfRefused}
+use Rattle.nr_trace.specs.FirstFault.{AtFrames, AtDumps, AtEvents, AtLog}
+use Rattle.nr_trace.specs.inside.Progress.{unit_bytes, said, words_begun, Ahead, IsReady, IsRun}
 use Rattle.nr_trace.specs.declared.fault.Format.{Format}
 use Rattle.nr_trace.specs.declared.fault.Format.TheVariants.{Truncated, Trailing}
 use Rattle.nr_trace.specs.declared.reading.parts.OpenFrame.{OpenFrame}
@@ -139,8 +136,18 @@ pub one_unit : (reader : Reader) (len : ℕ) → IsReady reader → unit_bytes r
 one_unit (Magic alloc) len ready is = sym (some_is 4 len is)
 one_unit (Version alloc) len ready is = sym (some_is 2 len is)
 one_unit (Header alloc version) len ready is = sym (some_is 14 len is)
-one_unit (Log parts places events) len ready is = sym (some_is 4 len is)
-one_unit (Events parts events) len ready is = sym (some_is 24 len is)
+one_unit (Log parts places events) len ready is = record {
+  count = 1;
+  some = omega arith;
+  few = ready.1;
+  all = omega (arith, some_is 4 len is);
+}
+one_unit (Events parts events) len ready is = record {
+  count = 1;
+  some = omega arith;
+  few = ready.1;
+  all = omega (arith, some_is 24 len is);
+}
 one_unit (Dumps parts) len ready is =
     let given = chosen (nat_lt (length parts.dumps.items) parts.config.replicas) 16 len is in
     (ltb-true _ _ given.0, sym given.1)

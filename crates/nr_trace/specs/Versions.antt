@@ -1,9 +1,9 @@
 -- The two versions of the format: the number of each, and what it knows.
 use Rattle.std.specs.Prelude.{ℕ, ⊤}
 use Rattle.vs_types.specs.declared.depth.Depth.{Depth}
-use Rattle.vs_types.specs.declared.depth.Depth.TheVariants.{Four, Five}
+use Rattle.vs_types.specs.declared.depth.Depth.TheVariants.{Five}
 use Rattle.vs_types.specs.declared.request.Query.{Query}
-use Rattle.vs_types.specs.declared.request.Query.TheVariants.{Update, Resolve, Access}
+use Rattle.vs_types.specs.declared.request.Query.TheVariants.{Access}
 use Rattle.vs_types.specs.declared.answer.Answer.{Answer}
 use Rattle.vs_types.specs.declared.answer.Answer.TheVariants.{Allowed, Fault}
 use Rattle.nr_trace.specs.declared.version.Version.{Version}

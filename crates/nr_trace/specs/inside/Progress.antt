@@ -41,8 +41,8 @@ abbrev pub IsRun : Reader → ℕ → Type 0
 IsRun (Magic alloc) bytes = bytes ≡ 4
 IsRun (Version alloc) bytes = bytes ≡ 2
 IsRun (Header alloc version) bytes = bytes ≡ 14
-IsRun (Log parts places events) bytes = bytes ≡ 4
-IsRun (Events parts events) bytes = bytes ≡ 24
+IsRun (Log parts places events) bytes = AreUnits 4 places bytes
+IsRun (Events parts events) bytes = AreUnits 24 events bytes
 IsRun (Dumps parts) bytes = (length parts.dumps.items < parts.config.replicas) × (bytes ≡ 16)
 IsRun (Frame parts opened last) bytes = bytes ≡ 8
 IsRun (Words parts opened frame) bytes = AreUnits 8 (512 - frame.filled) bytes

@@ -1,5 +1,5 @@
 -- What the parts of the reader find.
-use Rattle.std.specs.Prelude.{◌≡◌, ℕ, List}
+use Rattle.std.specs.Prelude.{◌≡◌, ◌≢◌, ℕ, ◌+◌, ◌^◌, ◌<◌, ◌++◌, List, length, flat_map, All}
 use Rattle.vs_types.specs.Config.{Layout}
 use Rattle.vs_types.specs.Fields.{HasFields}
 use Rattle.vs_types.specs.declared.depth.Depth.{Depth}
@@ -8,13 +8,15 @@ use Rattle.vs_types.specs.declared.request.Query.{Query}
 use Rattle.vs_types.specs.declared.answer.Answer.{Answer}
 use Rattle.nr_trace.specs.Versions.{KnowsQuery, KnowsAnswer}
 use Rattle.nr_trace.specs.Recording.{IsAnswer, IsEvent}
-use Rattle.nr_trace.specs.Spelling.{answer_fields, counts, event, dump_head}
+use Rattle.nr_trace.specs.Spelling.{answer_fields, counts, log_word, event, dump_head}
 use Rattle.nr_trace.specs.FirstFault.{IsCounts, IsDumpHead}
 use Rattle.nr_trace.specs.declared.version.Version.{Version}
 use Rattle.nr_trace.specs.declared.fields.AnswerFields.{AnswerFields}
 use Rattle.nr_trace.specs.declared.fields.Counts.{Counts}
 use Rattle.nr_trace.specs.declared.fields.DumpHead.{DumpHead}
 use Rattle.nr_trace.specs.declared.event.Event.{Event}
+use Rattle.nr_trace.specs.declared.fault.Format.{Format}
+use Rattle.nr_trace.specs.declared.fault.Format.TheVariants.{BadEvent}
 
 -- an answer in range with these fields
 pub record HasAnswerFields (fields : AnswerFields) (answer : Answer) : Type 0 where
@@ -44,3 +46,28 @@ pub record SpellsHead (bytes : List ℕ) (head : DumpHead) : Type 0 where
 pub record SpellsEvent (version : Version) (layout : Layout) (bytes : List ℕ) (recorded : Event) : Type 0 where
   pub in_range : IsEvent version layout recorded
   pub spelled : bytes ≡ event recorded
+
+-- the calls that the bytes spell went behind those that there were
+pub record ArePlaced (before bytes after : List ℕ) : Type 0 where
+  pub calls : List ℕ
+  pub fit : All (λ call. call < 2 ^ 32) calls
+  pub added : after ≡ before ++ calls
+  pub spelled : bytes ≡ flat_map log_word calls
+
+-- the events that the bytes spell went behind those that there were
+pub record AreRecorded (version : Version) (layout : Layout) (before : List Event) (bytes : List ℕ) (after : List Event) : Type 0 where
+  pub recorded : List Event
+  pub fit : All (IsEvent version layout) recorded
+  pub added : after ≡ before ++ recorded
+  pub spelled : bytes ≡ flat_map event recorded
+
+-- behind some events the bytes have 24 that spell none: the event of this index
+pub record IsBadEvent (version : Version) (layout : Layout) (index : ℕ) (bytes : List ℕ) (fault : Format) : Type 0 where
+  pub recorded : List Event
+  pub unit : List ℕ
+  pub behind : List ℕ
+  pub fit : All (IsEvent version layout) recorded
+  pub parts : bytes ≡ flat_map event recorded ++ (unit ++ behind)
+  pub whole : length unit ≡ 24
+  pub none : (one : Event) → IsEvent version layout one → unit ≢ event one
+  pub first : fault ≡ BadEvent (index + length recorded)

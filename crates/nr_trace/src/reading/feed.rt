@@ -23,7 +23,7 @@ pub(crate) enum State {
     Stopped(Fail<Format>),
 }
 
-/// Takes all whole units at the front of the bytes, and gives what is left.
+/// Takes all whole units at the front of the bytes, by runs, and gives what is left.
 fn take_units(reader: Reader, bytes: &[u8]) -> Result<(Reader, &[u8]), Fail<Format>>
     requires { IsSound reader }
     ensures { MatchResult result (λ left. IsCut (said reader ++ bytes.now) left.0 left.1.now) (IfRefused (IsSettled (said reader ++ bytes.now))) }
@@ -109,7 +109,8 @@ impl Feed {
 
     /// Takes the next piece. It refuses with the first fault of the bytes so far, as soon as these hold one that no
     /// later piece can mend; and with out of memory. A feed that has refused answers the same from then on. It takes
-    /// memory for what the whole units say, and for the beginning of one unit.
+    /// memory for what the whole units say, 4,096 bytes for a frame once its number has come, and for the beginning of
+    /// one unit, fewer than 24 bytes.
     pub fn feed(&mut self, piece: &[u8]) -> Result<(), Fail<Format>>
         ensures { Feeds self.old piece.now self.new result }
     {

@@ -5,7 +5,7 @@ ghost use Rattle.std.specs.Prelude.{◌≡◌, ◌≤◌, ◌<◌, ◌++◌, [],
 use crate::event::Event;
 use crate::fault::Format;
 use crate::reading::dumps::{take_dump_head, take_frame_number, take_words};
-use crate::reading::places::{take_event, take_header, take_magic, take_place, take_version};
+use crate::reading::places::{take_events, take_header, take_magic, take_places, take_version};
 use crate::trace::Trace;
 use crate::version::Version;
 use std::alloc::Global;
@@ -50,7 +50,7 @@ fn units_of(whole: usize, most: usize) -> usize
 }
 
 /// A reader of a trace that takes whole units, named by the unit that comes next. What it takes at a time is a run: one
-/// unit, or some words of a frame, a unit each.
+/// unit, or some places of the log, events or words of a frame, a unit each.
 #[derive(Drop)]
 pub(crate) enum Reader {
     Magic(Global),
@@ -109,6 +109,8 @@ impl Reader {
         ensures { MatchOption result (unit_bytes self.now ≡ None) (λ len. IsRun self.now len × (have < len → unit_bytes self.now ≡ Some len)) }
     {
         match self {
+            Reader::Log(_, places, _) => Some(4 * units_of(have / 4, *places as usize)),
+            Reader::Events(_, events) => Some(24 * units_of(have / 24, *events as usize)),
             Reader::Words(_, _, frame) => {
                 Some(8 * units_of(have / 8, FRAME_WORDS - frame.filled))
             }
@@ -127,8 +129,8 @@ impl Reader {
             Reader::Magic(alloc) => take_magic(alloc, run),
             Reader::Version(alloc) => take_version(alloc, run),
             Reader::Header(alloc, version) => take_header(alloc, version, run),
-            Reader::Log(parts, places, events) => take_place(parts, places, events, run),
-            Reader::Events(parts, events) => take_event(parts, events, run),
+            Reader::Log(parts, places, events) => take_places(parts, places, events, run),
+            Reader::Events(parts, events) => take_events(parts, events, run),
             Reader::Dumps(parts) => take_dump_head(parts, run),
             Reader::Frame(parts, opened, last) => take_frame_number(parts, opened, last, run),
             Reader::Words(parts, opened, frame) => take_words(parts, opened, frame, run),

@@ -1,10 +1,13 @@
 //! The units of the header, of the log and of the events.
 
-ghost use Rattle.std.specs.Prelude.{◌≡◌, ◌+◌, ◌≤◌, [], length};
+ghost use Rattle.std.specs.Prelude.{◌≡◌, ◌+◌, ◌*◌, ◌≤◌, ℕ, [], length, MatchResult, OnOk};
 ghost use Rattle.vs_types.specs.declared.limits.TheConstants.{LOG_PLACES, CALLS};
+ghost use Rattle.vs_types.specs.Refusal.{IfRefused};
 ghost use Rattle.nr_trace.specs.FirstFault.{AtLog, AtEvents};
-ghost use Rattle.nr_trace.specs.inside.Progress.{AreInRange, HasRead, IsReady, Takes, parts_spelling};
+ghost use Rattle.nr_trace.specs.inside.Reading.{ArePlaced, AreRecorded, IsBadEvent};
+ghost use Rattle.nr_trace.specs.inside.Progress.{AreInRange, AreUnits, HasRead, IsReady, Takes, parts_spelling};
 
+use crate::event::Event;
 use crate::fault::Format;
 use crate::reading::event::event_of;
 use crate::reading::fields::{take_u16, take_u32};
@@ -13,7 +16,7 @@ use crate::reading::parts::{Parts, Reader};
 use crate::reading::room::make_room;
 use crate::version::Version;
 use std::alloc::Global;
-use vs_types::Fail;
+use vs_types::{Config, Fail, Memory};
 
 fn at_events(parts: Parts, events: u32) -> Reader
     requires in_range { AreInRange parts }
@@ -91,36 +94,70 @@ pub(crate) fn take_header(
     }
 }
 
-pub(crate) fn take_place(
+/// Adds the calls that the bytes spell to the log. It takes memory where there is no room for them.
+fn push_places(log: &mut Vec<u32>, bytes: &[u8]) -> Result<(), Memory>
+    requires { (n : ℕ) × (length bytes.now ≡ 4 * n) }
+    ensures { OnOk result (ArePlaced log.old.items bytes.now log.new.items) }
+{
+    let mut rest = bytes;
+    for k in 0..bytes.len() / 4 {
+        let (call, behind) = take_u32(rest);
+        log.push(call)?;
+        rest = behind;
+    }
+    Ok(())
+}
+
+pub(crate) fn take_places(
     mut parts: Parts,
     places: u32,
     events: u32,
-    unit: &[u8],
+    run: &[u8],
 ) -> Result<Reader, Fail<Format>>
     requires ready { IsReady (Reader.Log parts places events) }
-    requires whole { length unit.now ≡ 4 }
-    ensures { Takes (Reader.Log parts places events) unit.now result }
+    requires run { AreUnits 4 places (length run.now) }
+    ensures { Takes (Reader.Log parts places events) run.now result }
 {
-    let (call, _) = take_u32(unit);
-    make_room(&mut parts.log, 1, places as usize)?;
-    parts.log.push(call)?;
-    Ok(at_log(parts, places - 1, events))
+    let count = run.len() / 4;
+    make_room(&mut parts.log, count, places as usize)?;
+    push_places(&mut parts.log, run)?;
+    Ok(at_log(parts, places - count as u32, events))
 }
 
-pub(crate) fn take_event(mut parts: Parts, events: u32, unit: &[u8]) -> Result<Reader, Fail<Format>>
-    requires ready { IsReady (Reader.Events parts events) }
-    requires whole { length unit.now ≡ 24 }
-    ensures { Takes (Reader.Events parts events) unit.now result }
+/// Adds the events that the bytes spell, up to the first 24 bytes that spell none. It takes memory where there is no room
+/// for them.
+fn push_events(
+    version: Version,
+    config: Config,
+    events: &mut Vec<Event>,
+    bytes: &[u8],
+) -> Result<(), Fail<Format>>
+    requires whole { (n : ℕ) × (length bytes.now ≡ 24 * n) × (length events.old.items + n ≤ CALLS) }
+    ensures { MatchResult result (λ done. AreRecorded version config events.old.items bytes.now events.new.items)
+        (IfRefused (IsBadEvent version config (length events.old.items) bytes.now)) }
 {
-    match event_of(parts.version, parts.config, unit) {
-        Some(event) => {
-            make_room(&mut parts.events, 1, events as usize)?;
-            parts.events.push(event)?;
-            Ok(at_events(parts, events - 1))
+    let mut rest = bytes;
+    for k in 0..bytes.len() / 24 {
+        let (unit, behind) = rest.split_at(24);
+        match event_of(version, config, unit) {
+            Some(event) => events.push(event)?,
+            None => {
+                let index = events.len() as u32;
+                return Err(Fail::Refused(Format::BadEvent(index)));
+            }
         }
-        None => {
-            let index = parts.events.len() as u32;
-            Err(Fail::Refused(Format::BadEvent(index)))
-        }
+        rest = behind;
     }
+    Ok(())
+}
+
+pub(crate) fn take_events(mut parts: Parts, events: u32, run: &[u8]) -> Result<Reader, Fail<Format>>
+    requires ready { IsReady (Reader.Events parts events) }
+    requires run { AreUnits 24 events (length run.now) }
+    ensures { Takes (Reader.Events parts events) run.now result }
+{
+    let count = run.len() / 24;
+    make_room(&mut parts.events, count, events as usize)?;
+    push_events(parts.version, parts.config, &mut parts.events, run)?;
+    Ok(at_events(parts, events - count as u32))
 }

@@ -1,4 +1,4 @@
-use Rattle.std.proofs.Common.{◌≡◌, true, false, subst, sym, ◌∙◌}
+use Rattle.std.proofs.Common.{◌≡◌, true, subst, sym}
 use Rattle.nr_trace.specs.Versions.{KnowsQuery}
 use Rattle.nr_trace.proofs.Events.{request_unknown}
 use Rattle.nr_trace.proofs.reading.event.request_of.Goals as goal
