@@ -328,3 +328,29 @@ fn pages_of_many_tables(rt: HostRuntime) {
         assert_eq!(rt; pages[4_999].base, 4_999 << 21);
     }
 }
+
+/// The pages one after another, by rising base, however they were mapped.
+#[test]
+fn pages_one_after_another(rt: HostRuntime) {
+    for depth in DEPTHS {
+        let mut space = PlainSpace::new(rt.alloc(), 4096, depth);
+        assert!(rt; space.iter().next().is_none());
+        for place in 0..100u64 {
+            let base = (99 - place) << 21;
+            assert_eq!(rt; map(&rt, &mut space, base, Size::M2, base), Answer::Done);
+        }
+        let mut pages = space.iter();
+        assert_eq!(rt; pages.size_hint(), (100, Some(100)));
+        for place in 0..100u64 {
+            let page = Page {
+                base: place << 21,
+                phys: place << 21,
+                size: Size::M2,
+                rights: Rights::ALL,
+            };
+            assert_eq!(rt; pages.next(), Some(page));
+        }
+        assert_eq!(rt; pages.next(), None);
+        assert_eq!(rt; pages.size_hint(), (0, Some(0)));
+    }
+}

@@ -1,12 +1,13 @@
 -- Spaces by the ordered entries of a map.
 use Rattle.std.proofs.Common.{◌≡◌, ℕ, ◌≤◌, Bool, true, false, cond, T, ◌&&◌, List, [], ◌∷◌, ◌++◌, map, Option, Some, None, option_map, refl, sym, ap, ◌∙◌, subst}
-use Rattle.std.proofs.Common.{arith, nat_cmp, is_eq, is_lt, is_gt, is_some, IsSome, IfSome, slice_get, ⊎_elim, Less, BTreeMap}
+use Rattle.std.proofs.Common.{arith, nat_cmp, is_eq, is_lt, is_gt, is_some, IsSome, IfSome, slice_get, ⊎_elim, Less, Bor, BTreeMap}
 use Rattle.std.specs.Cmp.{nat_cmp_total, eq_by_cmp_equiv}
 use Rattle.std.specs.Ordering.{eq_by_cmp}
 use Rattle.std.specs.FinMap as finite
 use Rattle.std.specs.FinMap.{nat_cmp-IsAntisymmetric}
 use Rattle.std.specs.FinMap.Entries as in_order
 use Rattle.std.specs.Map.{keys_of, lookup}
+use Rattle.std.specs.Map.Iter.{TakesLast, deref_pair}
 use Rattle.std.specs.BTreeMap.{is_at, get}
 use Rattle.std.specs.BTreeMap.Range.{IsRangeOf, IsEntryInRange, IsLeBy}
 use Rattle.std.proofs.lemmas.Bool.{cases_lt}
@@ -133,7 +134,7 @@ module _ (m : BTreeMap ℕ Mapping) (h : Rise m.entries) (address : ℕ) (r : Li
   absent : (q : Page) → Holds (listed_space m.entries) q → get nat_cmp m q.base ≡ None → ⊥
   absent q holds none = let there = is_there q holds in cc
 
-  pub last_from_range : IsRangeOf nat_cmp Unbounded (Included address) m r → (e : ℕ × Mapping) (t : List (ℕ × Mapping)) → r ≡ t ++ e ∷ []
+  last_from_range : IsRangeOf nat_cmp Unbounded (Included address) m r → (e : ℕ × Mapping) (t : List (ℕ × Mapping)) → r ≡ t ++ e ∷ []
       → IsLastUpTo (listed_space m.entries) address (Some (page_of e))
   last_from_range range e t is =
       let entry = range.3 e t is in (
@@ -142,9 +143,15 @@ module _ (m : BTreeMap ℕ Mapping) (h : Rise m.entries) (address : ℕ) (r : Li
         λ q holds l. ge_from_not_lt e.0 q.base (range.4 e t is q.base (tt, up_to q.base address l) (is_there q holds)),
       )
 
-  pub no_last_from_range : IsRangeOf nat_cmp Unbounded (Included address) m r → r ≡ [] → IsLastUpTo (listed_space m.entries) address None
+  no_last_from_range : IsRangeOf nat_cmp Unbounded (Included address) m r → r ≡ [] → IsLastUpTo (listed_space m.entries) address None
   no_last_from_range range is q holds =
       ⊎_elim (λ l. l) (λ l. absurd (absent q holds (range.5 is q.base (tt, up_to q.base address l)))) (cases_lt address q.base)
+
+  -- the last entry of the range, as an iterator that has it left gives it
+  pub last_given : IsRangeOf nat_cmp Unbounded (Included address) m r → (t : List (ℕ × Mapping)) (given : Option (Bor ℕ × Bor Mapping))
+      → TakesLast deref_pair r given t → IsLastUpTo (listed_space m.entries) address (option_map (λ e. page_from e.0.now e.1.now) given)
+  last_given range t None steps = no_last_from_range range steps.0
+  last_given range t (Some e) steps = last_from_range range (e.0.now, e.1.now) t steps
 
   pub first_from_range : IsRangeOf nat_cmp (Included address) Unbounded m r → (e : ℕ × Mapping) (t : List (ℕ × Mapping)) → r ≡ e ∷ t
       → IsFirstFrom (listed_space m.entries) address (Some (page_of e))

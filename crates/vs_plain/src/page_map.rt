@@ -1,9 +1,10 @@
-ghost use Rattle.std.specs.Prelude.{◌≡◌, ◌+◌, ◌<◌, ◌≤◌, ◌||◌, map, None, IfOk, IfSome, IfNone, OnOk, OnErr};
+ghost use Rattle.std.specs.Prelude.{◌≡◌, ◌+◌, ◌<◌, ◌≤◌, ◌||◌, map, None, option_map, IfOk, IfSome, IfNone, OnOk, OnErr};
 ghost use Rattle.std.specs.FinMap as finite;
 ghost use Rattle.std.specs.List.Sorted.{IsStrictlyIncreasing};
 ghost use Rattle.vs_types.specs.Space.{no_pages, pages, least_overlapped, table_count, IsSpace};
 ghost use Rattle.vs_types.specs.Depth.{levels};
 ghost use Rattle.vs_types.specs.Page.{IsPage};
+ghost use Rattle.vs_plain.specs.inside.Listed.{page_from};
 ghost use Rattle.vs_plain.specs.inside.Tables.{begins_in_stretch};
 ghost use Rattle.vs_plain.specs.inside.PageMap.{IsLastUpTo, IsFirstFrom};
 
@@ -70,11 +71,19 @@ impl PageMap {
         }
     }
 
-    /// The page with the greatest base up to the address.
+    /// The greatest base up to the address, and what is mapped from there on.
+    fn entry_up_to(&self, address: u64) -> Option<(&u64, &Mapping)>
+        ensures { IsLastUpTo self.now address (option_map (λ entry. page_from entry.0.now entry.1.now) result) }
+    {
+        self.by_base.range(..=address).next_back()
+    }
+
+    /// The page with the greatest base up to the address. It is put together where it is looked at, and not in memory.
+    #[inline(always)]
     pub(crate) fn last_up_to(&self, address: u64) -> Option<Page>
         ensures { IsLastUpTo self.now address result }
     {
-        let (base, mapping) = self.by_base.range(..=address).next_back()?;
+        let (base, mapping) = self.entry_up_to(address)?;
         Some(mapping.page_from(*base))
     }
 
