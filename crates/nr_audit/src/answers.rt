@@ -11,14 +11,14 @@ use crate::history::{History, Reply};
 use nr_trace::Fault;
 use std::alloc::Global;
 use vs_plain::PlainSpace;
-use vs_types::{Answer, Fail, Memory, Query};
+use vs_types::{Answer, Fail, Memory, Query, Request};
 
 /// Serves a request on a space.
-pub(crate) fn serve(space: &mut PlainSpace, query: Query) -> Result<Answer, Memory>
-    requires { IsQuery space.old.depth query }
-    ensures { IfOk result (λ answer. Serves space.old query answer space.new) }
+pub(crate) fn serve(space: &mut PlainSpace, request: Request) -> Result<Answer, Memory>
+    requires { IsQuery space.old.depth request }
+    ensures { IfOk result (λ answer. Serves space.old request answer space.new) }
 {
-    match query {
+    match request.query() {
         Query::Update(op) => space.apply(op),
         Query::Resolve(address) => Ok(space.resolve(address)),
         Query::Access(address, mode, access) => Ok(space.access(address, mode, access)),
@@ -57,10 +57,10 @@ pub(crate) fn check_answers(
     let config = history.config();
     let mut space = PlainSpace::new(alloc, config.tables(), config.depth());
     for call in order {
-        let Some(query) = history.request(*call) else {
+        let Some(request) = history.request(*call) else {
             continue;
         };
-        let answer = serve(&mut space, query)?;
+        let answer = serve(&mut space, request)?;
         if !agrees(history.reply(*call), answer) {
             return Err(Fail::Refused(Fault::WrongAnswer(*call)));
         }

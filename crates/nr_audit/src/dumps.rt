@@ -100,8 +100,8 @@ fn apply_place(history: &History, space: &mut PlainSpace, place: usize) -> Resul
     ensures { OnOk result (space.new ≡ space_of history.now.layout (space_after history.now (take (place + 1) history.now.log))) }
 {
     let log = history.log();
-    if let Some(query) = history.request(log[place]) {
-        serve(space, query)?;
+    if let Some(request) = history.request(log[place]) {
+        serve(space, request)?;
     }
     Ok(())
 }

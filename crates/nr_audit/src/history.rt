@@ -8,7 +8,7 @@ ghost use Rattle.nr_audit.specs.inside.Tables.{AreReplies};
 use crate::tables::MaybeIndex;
 use nr_trace::{Event, Trace};
 use std::marker::Model;
-use vs_types::{Answer, Config, Query};
+use vs_types::{Answer, Config, Query, Request};
 use vs_walk::Dump;
 
 /// What a call is answered.
@@ -80,12 +80,12 @@ impl<'a> History<'a> {
     }
 
     /// What the call of this number asks, or `None` where there is no such call.
-    pub(crate) fn request(&self, call: u32) -> Option<Query>
+    pub(crate) fn request(&self, call: u32) -> Option<Request>
         ensures asks { result ≡ option_map (λ made. made.request) (call_of self.now call) }
         ensures well_formed { IfSome result (IsQuery self.now.layout.depth) }
     {
         match self.trace.events().get(call as usize)? {
-            Event::Call { request, .. } => Some(request.query()),
+            Event::Call { request, .. } => Some(*request),
             Event::Reply { .. } => None,
         }
     }
@@ -94,17 +94,20 @@ impl<'a> History<'a> {
     pub(crate) fn is_update(&self, call: u32) -> bool
         ensures { result ≡ is_some (operation_of self.now call) }
     {
-        matches!(self.request(call), Some(Query::Update(_)))
+        match self.request(call) {
+            Some(request) => matches!(request.query(), Query::Update(_)),
+            None => false,
+        }
     }
 
     /// Whether a read has this number: a call that asks for a resolve or an access.
     pub(crate) fn is_read(&self, call: u32) -> bool
         ensures { result ≡ is_some (address_of self.now call) }
     {
-        matches!(
-            self.request(call),
-            Some(Query::Resolve(_) | Query::Access(..))
-        )
+        match self.request(call) {
+            Some(request) => matches!(request.query(), Query::Resolve(_) | Query::Access(..)),
+            None => false,
+        }
     }
 
     /// The replica at which a call was made, or `None` where no call has this number.

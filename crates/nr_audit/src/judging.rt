@@ -22,7 +22,8 @@ use vs_types::{Fail, Memory};
 /// and that each dump translates every canonical address as that space does after so many updates as the replica had
 /// applied. `No` does not say that no other order explains the trace.
 ///
-/// Takes memory in all of the size of the trace.
+/// Takes memory beside the trace: at most 16 bytes for each event and 4 for each thread, for one space at a time, and what
+/// the check of a dump takes.
 ///
 /// # Errors
 ///
@@ -46,7 +47,7 @@ pub fn judge(alloc: Global, trace: &Trace) -> Result<Verdict, Memory>
 /// Whether bytes are those of a right trace: they are read, and what they spell is judged. `No` with a fault of the format
 /// where they spell none.
 ///
-/// Takes memory in all of the size of the bytes.
+/// Takes memory for the trace, and what `judge` takes.
 ///
 /// # Errors
 ///

@@ -24,7 +24,7 @@ loop-call-preserved-in_default c =
 
 -- src/answers.rt:65:22
 pub serve-requires : goal.serve-requires
-serve-requires c = subst (λ (s : BoundedSpace). IsQuery s.depth c.in-Some.query) (sym c.loop-call.invariant.space) c.in-Some.ensures.well_formed
+serve-requires c = subst (λ (s : BoundedSpace). IsQuery s.depth c.in-Some.request) (sym c.loop-call.invariant.space) c.in-Some.ensures.well_formed
 
 -- src/answers.rt:66:13
 pub returns-then-not-agrees-clause-first : goal.returns-then-not-agrees-clause-first
@@ -32,11 +32,11 @@ returns-then-not-agrees-clause-first c =
     let trace = c.args.history.now in
     let order = c.args.order.now in
     let k = c.loop-call.call-index in
-    let serves = subst (λ (s : BoundedSpace). Serves s c.in-Some.query c.in_ok-answer.answer c.serve.new.space) c.loop-call.invariant.space
+    let serves = subst (λ (s : BoundedSpace). Serves s c.in-Some.request c.in_ok-answer.answer c.serve.new.space) c.loop-call.invariant.space
     c.in_ok-answer.ensures in
-    let gives = answered trace.layout (space_after trace (take k order)) c.in-Some.query c.in_ok-answer.answer c.serve.new.space serves in
+    let gives = answered trace.layout (space_after trace (take k order)) c.in-Some.request c.in_ok-answer.answer c.serve.new.space serves in
     first_wrong trace order c.requires.listed c.requires.clean k c.loop-call-test.true c.loop-call.invariant.right
-    (wrong_here trace order c.requires.listed c.requires.clean k c.in-Some.query c.in_ok-answer.answer c.reply.result c.loop-call-test.true (sym c.in-Some.is
+    (wrong_here trace order c.requires.listed c.requires.clean k c.in-Some.request c.in_ok-answer.answer c.reply.result c.loop-call-test.true (sym c.in-Some.is
     ∙ c.request.ensures.asks) gives c.reply.ensures
     (iff_false c.agrees.ensures c.if-not-agrees.true))
 
@@ -47,14 +47,14 @@ loop-call-preserved c =
     let order = c.args.order.now in
     let k = c.loop-call.call-index in
     let asks = sym c.in-Some.is ∙ c.request.ensures.asks in
-    let serves = subst (λ (s : BoundedSpace). Serves s c.in-Some.query c.in_ok-answer.answer c.serve.new.space) c.loop-call.invariant.space
+    let serves = subst (λ (s : BoundedSpace). Serves s c.in-Some.request c.in_ok-answer.answer c.serve.new.space) c.loop-call.invariant.space
     c.in_ok-answer.ensures in
-    let gives = answered trace.layout (space_after trace (take k order)) c.in-Some.query c.in_ok-answer.answer c.serve.new.space serves in
+    let gives = answered trace.layout (space_after trace (take k order)) c.in-Some.request c.in_ok-answer.answer c.serve.new.space serves in
     record {
-      space = left trace.layout (space_after trace (take k order)) c.in-Some.query c.in_ok-answer.answer c.serve.new.space serves
-          ∙ ap (λ s. kept trace.layout s) (space_visits trace order k 0 c.in-Some.query c.loop-call-test.true asks);
+      space = left trace.layout (space_after trace (take k order)) c.in-Some.request c.in_ok-answer.answer c.serve.new.space serves
+          ∙ ap (λ s. kept trace.layout s) (space_visits trace order k 0 c.in-Some.request c.loop-call-test.true asks);
       right = right_more trace order k c.loop-call.invariant.right
-          (right_here trace order c.requires.listed c.requires.clean k c.in-Some.query c.in_ok-answer.answer c.reply.result c.loop-call-test.true asks gives
+          (right_here trace order c.requires.listed c.requires.clean k c.in-Some.request c.in_ok-answer.answer c.reply.result c.loop-call-test.true asks gives
           c.reply.ensures (c.agrees.ensures.0 c.if-not-agrees.false));
     }
 

@@ -10,7 +10,7 @@ use Rattle.nr_audit.proofs.dumps.apply_place.Goals as goal
 
 -- src/dumps.rt:104:9
 pub serve-requires : goal.serve-requires
-serve-requires c = subst (λ (s : BoundedSpace). IsQuery s.depth c.in-Some.query) (sym c.requires.before) c.in-Some.ensures.well_formed
+serve-requires c = subst (λ (s : BoundedSpace). IsQuery s.depth c.in-Some.request) (sym c.requires.before) c.in-Some.ensures.well_formed
 
 -- src/dumps.rt:96:1
 pub returns-in_ok-serve : goal.returns-in_ok-serve
@@ -19,9 +19,9 @@ returns-in_ok-serve c =
     let log = trace.log in
     let asks = c.request.ensures.asks
     ∙ ap (λ (xs : List ℕ). option_map (λ (made : Invocation). made.request) (call_of trace (get_or xs c.args.place 0))) c.log-log.ensures.reads in
-    let serves = subst (λ (s : BoundedSpace). Serves s c.in-Some.query c.in_ok-serve.field-0 c.serve.new.space) c.requires.before c.in_ok-serve.ensures in
-    left trace.layout (space_after trace (take c.args.place log)) c.in-Some.query _ c.serve.new.space serves
-    ∙ ap (λ s. kept trace.layout s) (space_visits trace log c.args.place 0 c.in-Some.query c.requires.within (sym c.in-Some.is ∙ asks))
+    let serves = subst (λ (s : BoundedSpace). Serves s c.in-Some.request c.in_ok-serve.field-0 c.serve.new.space) c.requires.before c.in_ok-serve.ensures in
+    left trace.layout (space_after trace (take c.args.place log)) c.in-Some.request _ c.serve.new.space serves
+    ∙ ap (λ s. kept trace.layout s) (space_visits trace log c.args.place 0 c.in-Some.request c.requires.within (sym c.in-Some.is ∙ asks))
 
 -- src/dumps.rt:96:1
 pub returns-in_default : goal.returns-in_default
