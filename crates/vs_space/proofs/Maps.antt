@@ -4,7 +4,7 @@ use Rattle.std.proofs.Common.{◌∙◌, arith}
 use Rattle.std.specs.Prelude.{slice_index}
 use Rattle.std.proofs.lemmas.Bool.{cases_lt}
 use Rattle.std.specs.FinMap as finite
-use Rattle.vs_types.specs.Depth.{levels, entry_bytes, table_bytes, index_at, IsCanonical}
+use Rattle.vs_types.specs.Depth.{levels, entry_bytes, index_at, IsCanonical}
 use Rattle.vs_types.specs.Entry.{meaning, size_at, leaf_word}
 use Rattle.vs_types.specs.Page.{level_of, bytes_of, covers, IsPage}
 use Rattle.vs_types.specs.Space.{Space, Holds, IsSpace, page_at, table_count, least_overlapped}
@@ -28,7 +28,7 @@ use Rattle.vs_walk.specs.Memory.{Memory, AreWhole}
 use Rattle.vs_walk.specs.Walk.{as_walk}
 use Rattle.vs_walk.specs.declared.walk.Walk.TheVariants.{Mapped}
 use Rattle.vs_space.specs.Held.{with_word}
-use Rattle.vs_space.specs.Path.{found_at, table_at, table_in, SamePath}
+use Rattle.vs_space.specs.Path.{found_at, table_in, SamePath}
 use Rattle.vs_space.specs.inside.Tree.{NothingUnder}
 use Rattle.vs_space.specs.inside.Grow.{IsOpen, IsExtended, IsBelowRoot, IsLeastBase}
 use Rattle.vs_space.specs.inside.Descent.{IsDescent}

@@ -4,7 +4,7 @@ use Rattle.vs_types.specs.Depth.{levels, entry_bytes, index_at, IsCanonical}
 use Rattle.vs_types.specs.Entry.{meaning, size_at, leaf_word}
 use Rattle.vs_types.specs.Operation.{IsBase}
 use Rattle.vs_types.specs.Page.{level_of, bytes_of}
-use Rattle.vs_types.specs.Space.{Space, IsSpace, page_at, table_count}
+use Rattle.vs_types.specs.Space.{Space, page_at, table_count}
 use Rattle.vs_types.specs.Step.{step, Stepped}
 use Rattle.vs_types.specs.Laws.{as_in, LooksChanged}
 use Rattle.vs_types.specs.declared.depth.Depth.{Depth}

@@ -7,7 +7,7 @@ use Rattle.std.specs.Prelude.{slice_index}
 use Rattle.vs_types.specs.Depth.{levels, entry_bytes, table_bytes, index_at, IsCanonical}
 use Rattle.vs_types.specs.Entry.{size_at}
 use Rattle.vs_types.specs.Page.{level_of, bytes_of, covers, IsPage}
-use Rattle.vs_types.specs.Space.{Space, Holds, IsSpace, page_at}
+use Rattle.vs_types.specs.Space.{Space, Holds, page_at}
 use Rattle.vs_types.specs.Step.{look}
 use Rattle.vs_types.specs.Laws.{LooksChanged}
 use Rattle.vs_types.specs.declared.depth.Depth.{Depth}

@@ -1,7 +1,7 @@
 -- The path through all tables of a tree: it reaches each frame in use once, and no other, and it meets no fault where the
 -- memory translates as a space.
 use Rattle.std.proofs.Common.{◌≡◌, ◌≢◌, ℕ, zero, suc, ◌+◌, ◌-◌, ◌*◌, ◌/◌, ◌%◌, ◌^◌, ◌==◌, ◌<◌, ◌≤◌, List, [], ◌∷◌, ◌++◌, Option, Some, None, Bool, true, false}
-use Rattle.std.proofs.Common.{not, if◌then◌else◌, length, get_or, flat_map, Contains, IsTrue, ⊎_elim, refl, sym, ap, subst, ◌∙◌, arith, mod-lt}
+use Rattle.std.proofs.Common.{not, if◌then◌else◌, length, get_or, flat_map, Contains, ⊎_elim, refl, sym, ap, subst, ◌∙◌, arith, mod-lt}
 use Rattle.std.specs.Prelude.{⊤, IsSome, option_map, slice_index}
 use Rattle.std.specs.List.{enumerate_from}
 use Rattle.std.proofs.lemmas.Nat.{div-mul-add}
@@ -12,14 +12,13 @@ use Rattle.vs_types.specs.Depth.{levels, entry_bytes, table_bytes, index_at}
 use Rattle.vs_types.specs.Page.{intersection}
 use Rattle.vs_types.specs.Entry.{meaning, has_reserved, is_leaf}
 use Rattle.std.specs.Int.{bit_at}
-use Rattle.vs_types.specs.Space.{Space}
 use Rattle.vs_types.specs.declared.depth.Depth.{Depth}
 use Rattle.vs_types.specs.declared.page.Rights.{Rights}
 use Rattle.vs_types.specs.declared.entry.Meaning.{Meaning}
 use Rattle.vs_types.specs.declared.entry.Meaning.TheVariants as entry
 use Rattle.vs_types.proofs.Lists.{Contains-head, Contains-tail, Contains-cases, not_in_nil}
-use Rattle.vs_walk.specs.Memory.{Memory, AreWhole}
-use Rattle.vs_walk.specs.Walk.{all_rights, TranslatesAs}
+use Rattle.vs_walk.specs.Memory.{Memory}
+use Rattle.vs_walk.specs.Walk.{all_rights}
 use Rattle.vs_walk.specs.Traversal.{Visit, OfFrame, ReachedTable, entry_visits, table_visits, traversal, reached_by, reached, walk_fault}
 use Rattle.vs_walk.proofs.LawsOfLists.{contained_at_some_word}
 use Rattle.vs_walk.proofs.TranslatedBits.{entry_some, no_table_below}
@@ -31,7 +30,6 @@ use Rattle.vs_walk.proofs.LawsOfTraversals.{shared_reached}
 use Rattle.vs_walk.proofs.LawsOfSpaces.{translates_shared}
 use Rattle.vs_space.specs.Held.{word_at}
 use Rattle.vs_space.specs.Path.{found_at, table_in, table_at, SamePath}
-use Rattle.vs_space.specs.inside.Tree.{IsTree, IsReached}
 use Rattle.vs_space.specs.Table.{PageTable}
 use Rattle.vs_space.specs.inside.Invariant.{IsPageTable}
 use Rattle.vs_space.proofs.Paths.{words_found, reached_within, table_first, table_next, none_past, table_before, same_table}
