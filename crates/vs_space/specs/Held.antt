@@ -21,9 +21,9 @@ held_code = code_by (ℕ × (ℕ × Memory)) (coded× coded_ℕ (coded× coded_�
     (λ h. (h.base, (h.limit, h.memory))) (λ p. record { base = p.0; limit = p.1.0; memory = p.1.1 }) (λ _. refl)
 
 -- the frames in use have numbers from the base on, below the base plus how many there can be
-pub record AreNumbered (base limit : ℕ) (memory : Memory) : Type 0 where
-  pub from_base : (number : ℕ) → IsSome (finite.get memory number) → base ≤ number
-  pub below : (number : ℕ) → IsSome (finite.get memory number) → number < base + limit
+pub record AreNumbered (held : Held) : Type 0 where
+  pub from_base : (number : ℕ) → IsSome (finite.get held.memory number) → held.base ≤ number
+  pub below : (number : ℕ) → IsSome (finite.get held.memory number) → number < held.base + held.limit
 
 -- the word of a frame at an index, where the frame is in use
 unfoldable pub word_at : Memory → ℕ → ℕ → Option ℕ

@@ -40,7 +40,7 @@ impl<S: FrameStore> Model for Tables<S> {
 
     ghost view = { λ t. record { base = S.base t.store; limit = S.size t.store; memory = numbered (S.base t.store) (S.frames t.store) } };
 
-    ghost invariant = { λ t. AreWhole (S.frames t.store) × AreNumbered (S.base t.store) (S.size t.store) (numbered (S.base t.store) (S.frames t.store)) };
+    ghost invariant = { λ t. AreWhole (S.frames t.store) × AreNumbered (record { base = S.base t.store; limit = S.size t.store; memory = numbered (S.base t.store) (S.frames t.store) }) };
 }
 
 impl<S: FrameStore> Tables<S> {
@@ -90,7 +90,7 @@ impl<S: FrameStore> Tables<S> {
         requires in_frame { index < FRAME_WORDS }
         ensures written { self.new ≡ record self.old { memory = with_word self.old.memory number index word } }
         ensures whole { AreWhole self.old.memory }
-        ensures numbers { AreNumbered self.new.base self.new.limit self.new.memory }
+        ensures numbers { AreNumbered self.new }
     {
         let frame = frame_of(&self.store, number);
         self.store.set(frame, index, word);
@@ -101,7 +101,7 @@ impl<S: FrameStore> Tables<S> {
         ensures was_free { IfSome result (λ n. finite.get self.old.memory n ≡ None) }
         ensures taken { IfSome result (λ n. self.new ≡ record self.old { memory = finite.insert self.old.memory n zeros }) }
         ensures in_range { IfSome result (λ n. n < 2 ^ 40) }
-        ensures numbers { IfSome result (λ _. AreNumbered self.new.base self.new.limit self.new.memory) }
+        ensures numbers { IfSome result (λ _. AreNumbered self.new) }
         ensures all_in_use { IfNone result (finite.len self.old.memory ≡ self.old.limit) }
         ensures unchanged { IfNone result (self.new ≡ self.old) }
     {
@@ -113,7 +113,7 @@ impl<S: FrameStore> Tables<S> {
     pub(crate) fn give(&mut self, number: u64)
         requires { IsSome (finite.get self.old.memory number) }
         ensures removed { self.new ≡ record self.old { memory = finite.remove self.old.memory number } }
-        ensures numbers { AreNumbered self.new.base self.new.limit self.new.memory }
+        ensures numbers { AreNumbered self.new }
     {
         let frame = frame_of(&self.store, number);
         self.store.give(frame);
@@ -224,11 +224,11 @@ impl<S: FrameStore> Tables<S> {
     ) -> u8
         requires canonical { IsCanonical depth address }
         requires faultless { (b : ℕ) → IsCanonical depth b → walk depth self.old.memory (slice_index path.now (levels depth)) b ≢ Walk.Reserved }
-        requires numbers { AreNumbered self.old.base self.old.limit self.old.memory }
+        requires numbers { AreNumbered self.old }
         requires cut { IsCut depth self.old.memory (slice_index path.now (levels depth)) address from path.now }
         ensures pruned { IsPruned depth self.old.memory self.new.memory (slice_index path.now (levels depth)) address from result }
         ensures same { self.new ≡ record self.old { memory = self.new.memory } }
-        ensures numbers { AreNumbered self.new.base self.new.limit self.new.memory }
+        ensures numbers { AreNumbered self.new }
     {
         let mut level = from;
         while level < depth.levels() {
