@@ -242,7 +242,8 @@ module _ {h : Held} (is : AreNumbered h) where
   numbers_removed k = record { from_base = λ n used. is.from_base n (before n used); below = λ n used. is.below n (before n used) } where
     before : (n : ℕ) → IsSome (finite.get (finite.remove h.memory k) n) → IsSome (finite.get h.memory n)
     before n used = ⊎_elim
-        (λ (same : n ≡ k). let none : IsSome {T = List ℕ} None = subst IsSome (ap (finite.get (finite.remove h.memory k)) same ∙ get-remove_same h.memory k) used
+        (λ (same : n ≡ k). let none : IsSome {T = List ℕ} None =
+        subst IsSome (ap (finite.get (finite.remove h.memory k)) same ∙ get-remove_same h.memory k) used
         in absurd (cc))
         (λ (other : n ≢ k). subst IsSome (get-remove_other h.memory k n other) used)
         (cases_eq n k)

@@ -16,6 +16,10 @@ pub record Held : Type 0 where
   pub limit : ℕ
   pub memory : Memory
 
+-- the frames in use of a store with this base and size
+abbrev pub held_in : ℕ → ℕ → Store → Held
+held_in base size store = record { base = base; limit = size; memory = numbered base store }
+
 abbrev pub held_code : Coded Held
 held_code = code_by (ℕ × (ℕ × Memory)) (coded× coded_ℕ (coded× coded_ℕ (finite.code {R = nat_cmp} coded_ℕ (coded_list coded_ℕ))))
     (λ h. (h.base, (h.limit, h.memory))) (λ p. record { base = p.0; limit = p.1.0; memory = p.1.1 }) (λ _. refl)

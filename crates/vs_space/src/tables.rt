@@ -31,16 +31,16 @@ pub(crate) struct Tables<S: FrameStore> {
 }
 
 impl<S: FrameStore> Model for Tables<S> {
-    ghost use Rattle.vs_space.specs.Held.{Held, held_code, numbered, AreNumbered};
+    ghost use Rattle.vs_space.specs.Held.{Held, held_code, held_in, AreNumbered};
     ghost use Rattle.vs_walk.specs.Memory.{AreWhole};
 
     ghost Value = { Held };
 
     ghost coded = { held_code };
 
-    ghost view = { λ t. record { base = S.base t.store; limit = S.size t.store; memory = numbered (S.base t.store) (S.frames t.store) } };
+    ghost view = { λ t. held_in (S.base t.store) (S.size t.store) (S.frames t.store) };
 
-    ghost invariant = { λ t. AreWhole (S.frames t.store) × AreNumbered (record { base = S.base t.store; limit = S.size t.store; memory = numbered (S.base t.store) (S.frames t.store) }) };
+    ghost invariant = { λ t. AreWhole (S.frames t.store) × AreNumbered (held_in (S.base t.store) (S.size t.store) (S.frames t.store)) };
 }
 
 impl<S: FrameStore> Tables<S> {
