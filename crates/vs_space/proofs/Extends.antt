@@ -1,6 +1,5 @@
 -- Tables are linked on the path of an address, one by one.
-use Rattle.std.proofs.Common.{◌≡◌, ◌≢◌, ℕ, suc, ◌+◌, ◌-◌, ◌<◌, ◌≤◌, Some, None, ⊎_elim, refl, sym, ap, subst, ◌∙◌, arith}
-use Rattle.std.specs.Prelude.{IsSome}
+use Rattle.std.proofs.Common.{◌≡◌, ℕ, suc, ◌-◌, ◌<◌, ◌≤◌, Some, None, ⊎_elim, refl, sym, subst, ◌∙◌, arith}
 use Rattle.std.specs.FinMap as finite
 use Rattle.vs_types.specs.Depth.{levels, index_at}
 use Rattle.vs_types.specs.Entry.{meaning, table_word}
@@ -11,8 +10,7 @@ use Rattle.vs_arena.proofs.Stores.{IsInUse-insert}
 use Rattle.vs_walk.specs.Memory.{Memory, AreWhole}
 use Rattle.vs_walk.specs.Walk.{all_rights, walk}
 use Rattle.vs_space.specs.Held.{with_word}
-use Rattle.vs_space.specs.Path.{found_at, table_in, table_at, SamePath}
-use Rattle.vs_space.specs.inside.Tree.{IsTree}
+use Rattle.vs_space.specs.Path.{table_at, SamePath}
 use Rattle.vs_space.specs.inside.Grow.{IsOpen, IsExtended}
 use Rattle.vs_space.proofs.Numbered.{get-insert_same, len-insert_free}
 use Rattle.vs_space.proofs.Writes.{used_some, written_in_use, len_written}

@@ -9,7 +9,7 @@ use Rattle.vs_types.specs.Entry.{meaning}
 use Rattle.vs_types.specs.declared.page.Rights.{Rights}
 use Rattle.vs_types.specs.declared.entry.Meaning.TheVariants as entry
 use Rattle.vs_arena.specs.Store.{zeros}
-use Rattle.vs_walk.specs.Memory.{Memory, AreWhole}
+use Rattle.vs_walk.specs.Memory.{Memory}
 use Rattle.vs_walk.specs.Walk.{all_rights, walk_from}
 use Rattle.vs_walk.specs.declared.walk.Walk.TheVariants.{NotMapped}
 use Rattle.vs_space.specs.Held.{word_at, with_word}

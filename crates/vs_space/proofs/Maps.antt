@@ -4,7 +4,7 @@ use Rattle.std.proofs.Common.{◌∙◌, arith}
 use Rattle.std.specs.Prelude.{slice_index}
 use Rattle.std.proofs.lemmas.Bool.{cases_lt}
 use Rattle.std.specs.FinMap as finite
-use Rattle.vs_types.specs.Depth.{levels, entry_bytes, table_bytes, index_at, IsCanonical}
+use Rattle.vs_types.specs.Depth.{levels, entry_bytes, index_at, IsCanonical}
 use Rattle.vs_types.specs.Entry.{meaning, size_at, leaf_word}
 use Rattle.vs_types.specs.Page.{level_of, bytes_of, covers, IsPage}
 use Rattle.vs_types.specs.Space.{Space, Holds, IsSpace, page_at, table_count, least_overlapped}
@@ -28,7 +28,7 @@ use Rattle.vs_walk.specs.Memory.{Memory, AreWhole}
 use Rattle.vs_walk.specs.Walk.{as_walk}
 use Rattle.vs_walk.specs.declared.walk.Walk.TheVariants.{Mapped}
 use Rattle.vs_space.specs.Held.{with_word}
-use Rattle.vs_space.specs.Path.{found_at, table_at, table_in, SamePath}
+use Rattle.vs_space.specs.Path.{found_at, table_in, SamePath}
 use Rattle.vs_space.specs.inside.Tree.{NothingUnder}
 use Rattle.vs_space.specs.inside.Grow.{IsOpen, IsExtended, IsBelowRoot, IsLeastBase}
 use Rattle.vs_space.specs.inside.Descent.{IsDescent}
@@ -42,7 +42,7 @@ use Rattle.vs_space.proofs.Regions.{walk_in, leaf_page, nothing_at, translates_c
 use Rattle.vs_space.proofs.Protects.{IsMet, faultless, own_space, space_of, never_reserved, page_here, stays}
 use Rattle.vs_space.proofs.Meets.{met_of, never_table}
 use Rattle.vs_space.proofs.Prunes.{absent_under}
-use Rattle.vs_space.proofs.Written.{written_leaf, leaf_at_level}
+use Rattle.vs_space.proofs.Written.{size_same, written_leaf, leaf_at_level}
 use Rattle.vs_space.proofs.Overlaps.{overlapped_none, overlapped_least}
 use Rattle.vs_space.proofs.TableCounts.{count_added}
 
@@ -211,11 +211,6 @@ module _ {t : PageTable} (table : IsPageTable t) {page : Page} (good : IsPage t.
       walk_on : (b : ℕ) → SamePath (levels t.depth) (level_of page.size) page.base b
           → walk_in new b ≡ Mapped (page.phys + b % bytes_of page.size) (size_at (level_of page.size)) page.rights
       walk_on b same = walk_to_leaf here w leads (level_some page.size) b same
-
-      size_same : (size : Size) → size_at (level_of size) ≡ size
-      size_same K4 = refl
-      size_same M2 = refl
-      size_same G1 = refl
 
       module _ {limit : ℕ} (room : finite.len t.memory + (level - level_of page.size) ≤ limit) where
         module _ {space : Space} (of : IsSpaceOf t space) where

@@ -200,9 +200,9 @@ whole-remove store f is = λ i words got. ⊎_elim
     (λ (other : i ≢ f). is i words (sym (get-remove_other store f i other) ∙ got))
     (cases_eq i f)
 
-pub stored : (limit limit' base base' : ℕ) (store' : Store) (m : Memory) → limit' ≡ limit → base' ≡ base → numbered base store' ≡ m
-    → held base' limit' (numbered base' store') ≡ held base limit m
-stored limit limit' base base' store' m same_limit same_base e = rw (same_limit, same_base, e) refl
+pub stored : (store : Store) {base base' limit limit' : ℕ} {m : Memory} → limit' ≡ limit → base' ≡ base → numbered base store ≡ m
+    → held base' limit' (numbered base' store) ≡ held base limit m
+stored store same_limit same_base e = rw (same_limit, same_base, e) refl
 
 -- but for their memory, they are as they were
 pub same_but_memory : (old now new : Held) (m : Memory) → new ≡ record now { memory = m } → now ≡ record old { memory = now.memory }
@@ -212,38 +212,38 @@ same_but_memory old now new m is same =
 
 -- ---- the numbers of the frames in use
 
-pub numbers_stored : (limit limit' base base' : ℕ) (store' : Store) (m : Memory) → limit' ≡ limit → base' ≡ base → numbered base store' ≡ m
-    → AreNumbered base limit m → AreNumbered base' limit' (numbered base' store')
-numbers_stored limit limit' base base' store' m same_limit same_base e is = rw (same_limit, same_base, e) is
+pub numbers_stored : (store : Store) {base base' limit limit' : ℕ} {m : Memory} → limit' ≡ limit → base' ≡ base → numbered base store ≡ m
+    → AreNumbered (held base limit m) → AreNumbered (held base' limit' (numbered base' store))
+numbers_stored store same_limit same_base e is = subst AreNumbered (sym (stored store same_limit same_base e)) is
 
-pub numbers_none : (base limit : ℕ) (m : Memory) → m ≡ finite.empty → AreNumbered base limit m
-numbers_none base limit m e = record { from_base = λ n used. absurd (nothing n used); below = λ n used. absurd (nothing n used) } where
+pub numbers_none : (base limit : ℕ) {m : Memory} → m ≡ finite.empty → AreNumbered (held base limit m)
+numbers_none base limit {m} e = record { from_base = λ n used. absurd (nothing n used); below = λ n used. absurd (nothing n used) } where
   nothing : (n : ℕ) → IsSome (finite.get m n) → ⊥
   nothing n used = let none : IsSome {T = List ℕ} None = subst IsSome (ap (λ (s : Memory). finite.get s n) e ∙ finite.get-empty nat_cmp n) used in cc
 
-pub numbers_insert : (base limit : ℕ) (m : Memory) (k : ℕ) (words : List ℕ) → base ≤ k → k < base + limit → AreNumbered base limit m
-    → AreNumbered base limit (finite.insert m k words)
-numbers_insert base limit m k words low high is = record {
-  from_base = λ n used. ⊎_elim
-      (λ (same : n ≡ k). omega arith)
-      (λ (other : n ≢ k). is.from_base n (subst IsSome (get-insert_other m k words n other) used))
-      (cases_eq n k);
-  below = λ n used. ⊎_elim
-      (λ (same : n ≡ k). omega arith)
-      (λ (other : n ≢ k). is.below n (subst IsSome (get-insert_other m k words n other) used))
-      (cases_eq n k);
-}
+module _ {h : Held} (is : AreNumbered h) where
+  pub numbers_insert : (k : ℕ) (words : List ℕ) → h.base ≤ k → k < h.base + h.limit → AreNumbered (record h { memory = finite.insert h.memory k words })
+  numbers_insert k words low high = record {
+    from_base = λ n used. ⊎_elim
+        (λ (same : n ≡ k). omega arith)
+        (λ (other : n ≢ k). is.from_base n (subst IsSome (get-insert_other h.memory k words n other) used))
+        (cases_eq n k);
+    below = λ n used. ⊎_elim
+        (λ (same : n ≡ k). omega arith)
+        (λ (other : n ≢ k). is.below n (subst IsSome (get-insert_other h.memory k words n other) used))
+        (cases_eq n k);
+  }
 
-pub numbers_written : (base limit : ℕ) (m : Memory) (n i w : ℕ) → IsSome (finite.get m n) → AreNumbered base limit m
-    → AreNumbered base limit (with_word m n i w)
-unfolding with_word
-numbers_written base limit m n i w used is = numbers_insert base limit m n _ (is.from_base n used) (is.below n used) is
+  pub numbers_written : (n i w : ℕ) → IsSome (finite.get h.memory n) → AreNumbered (record h { memory = with_word h.memory n i w })
+  unfolding with_word
+  numbers_written n i w used = numbers_insert n _ (is.from_base n used) (is.below n used)
 
-pub numbers_removed : (base limit : ℕ) (m : Memory) (k : ℕ) → AreNumbered base limit m → AreNumbered base limit (finite.remove m k)
-numbers_removed base limit m k is = record { from_base = λ n used. is.from_base n (before n used); below = λ n used. is.below n (before n used) } where
-  before : (n : ℕ) → IsSome (finite.get (finite.remove m k) n) → IsSome (finite.get m n)
-  before n used = ⊎_elim
-      (λ (same : n ≡ k). let none : IsSome {T = List ℕ} None = subst IsSome (ap (finite.get (finite.remove m k)) same ∙ get-remove_same m k) used in
-      absurd (cc))
-      (λ (other : n ≢ k). subst IsSome (get-remove_other m k n other) used)
-      (cases_eq n k)
+  pub numbers_removed : (k : ℕ) → AreNumbered (record h { memory = finite.remove h.memory k })
+  numbers_removed k = record { from_base = λ n used. is.from_base n (before n used); below = λ n used. is.below n (before n used) } where
+    before : (n : ℕ) → IsSome (finite.get (finite.remove h.memory k) n) → IsSome (finite.get h.memory n)
+    before n used = ⊎_elim
+        (λ (same : n ≡ k). let none : IsSome {T = List ℕ} None =
+        subst IsSome (ap (finite.get (finite.remove h.memory k)) same ∙ get-remove_same h.memory k) used
+        in absurd (cc))
+        (λ (other : n ≢ k). subst IsSome (get-remove_other h.memory k n other) used)
+        (cases_eq n k)

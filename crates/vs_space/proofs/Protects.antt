@@ -4,7 +4,7 @@ use Rattle.vs_types.specs.Depth.{levels, entry_bytes, index_at, IsCanonical}
 use Rattle.vs_types.specs.Entry.{meaning, size_at, leaf_word}
 use Rattle.vs_types.specs.Operation.{IsBase}
 use Rattle.vs_types.specs.Page.{level_of, bytes_of}
-use Rattle.vs_types.specs.Space.{Space, IsSpace, page_at, table_count}
+use Rattle.vs_types.specs.Space.{Space, page_at, table_count}
 use Rattle.vs_types.specs.Step.{step, Stepped}
 use Rattle.vs_types.specs.Laws.{as_in, LooksChanged}
 use Rattle.vs_types.specs.declared.depth.Depth.{Depth}
@@ -31,7 +31,7 @@ use Rattle.vs_space.proofs.Writes.{IsTreeAt, walk_off_path, len_write}
 use Rattle.vs_space.proofs.Trees.{tree_write, walk_to_leaf, but_none, but_write, filled_by}
 use Rattle.vs_space.proofs.Reached.{reached_write, whole_write}
 use Rattle.vs_space.proofs.Written.{written_leaf}
-use Rattle.vs_space.proofs.Regions.{walk_in, IsLeafPage, leaf_page, nothing_at, translates_changed, path_covers}
+use Rattle.vs_space.proofs.Regions.{walk_in, IsLeafPage, page_path, leaf_page, nothing_at, translates_changed, path_covers}
 
 -- the space that a page table is of
 pub own_space : {t : PageTable} → IsPageTable t → (space : Space) × IsTableOf t space
@@ -152,17 +152,13 @@ module _ {t : PageTable} (table : IsPageTable t) {base : ℕ} (good : IsBase t.d
         (changed_looks limit of.is_of.is_space leaf.0 rights own leaf.1.held
         (subst (λ a. (step t.depth limit space (Protect a rights)).answer ≡ answers.Changed own) (sym begins) answer_is))
 
-    -- addresses of the page take the path of the base
-    path_is : (b : ℕ) → SamePath (levels t.depth) (level_of leaf.0.size) leaf.0.base b ≡ SamePath (levels t.depth) level base b
-    path_is b = ap (λ l. SamePath (levels t.depth) l leaf.0.base b) leaf.1.level_is ∙ ap (λ a. SamePath (levels t.depth) level a b) begins
-
     inside_is : (b : ℕ) → IsCanonical t.depth b → SamePath (levels t.depth) (level_of leaf.0.size) leaf.0.base b
         → walk_in new b ≡ as_walk (as_in (record leaf.0 { rights = rights }) b)
     inside_is b canonical same =
         let at = (path_covers t.depth leaf.0 leaf.1.good b canonical same).1 in
         let offset : phys + b % entry_bytes level ≡ leaf.0.phys + (b - leaf.0.base) =
         subst (λ l. phys + b % entry_bytes l ≡ leaf.0.phys + (b - leaf.0.base)) leaf.1.level_is (omega (arith, at, leaf.1.phys_is)) in
-        walk_to_leaf here w leads met.some b (subst (λ x. x) (path_is b) same) ∙ ap (λ p. Mapped p (size_at level) rights) offset
+        walk_to_leaf here w leads met.some b ((page_path leaf.1 begins b).0 same) ∙ ap (λ p. Mapped p (size_at level) rights) offset
         ∙ ap (λ z. Mapped (leaf.0.phys + (b - leaf.0.base)) z rights) (sym leaf.1.size)
 
     pub space_is : IsSpaceOf new next
@@ -170,7 +166,7 @@ module _ {t : PageTable} (table : IsPageTable t) {base : ℕ} (good : IsBase t.d
       is_of = record {
         is_space = step_space limit of.is_of.is_space (Protect base rights) good;
         translates = translates_changed new.memory of.is_of leaf.1.good looks inside_is
-            (λ b canonical apart. walk_off_path here w b (λ same. apart (subst (λ x. x) (sym (path_is b)) same)));
+            (λ b canonical apart. walk_off_path here w b (λ same. apart ((page_path leaf.1 begins b).1 same)));
       };
       counted = len_write here w ∙ of.counted ∙ sym (protect_tables limit of.is_of.is_space base rights);
     }

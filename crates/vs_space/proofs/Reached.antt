@@ -11,7 +11,7 @@ use Rattle.vs_space.specs.Held.{with_word}
 use Rattle.vs_space.specs.Path.{found_at, table_in, table_at, SamePath}
 use Rattle.vs_space.specs.inside.Tree.{IsTree, IsReached, AreWritten}
 use Rattle.vs_space.specs.Written.{IsWritten}
-use Rattle.vs_space.proofs.Numbered.{get-insert_same, get-insert_other, get-remove_same, get-remove_other, whole-insert}
+use Rattle.vs_space.proofs.Numbered.{get-insert_other, get-remove_same, get-remove_other, whole-insert}
 use Rattle.vs_space.proofs.Paths.{table_below, none_past, same_table, found_same}
 use Rattle.vs_space.proofs.Writes.{IsTreeAt, used_at, within, at_same, after_write, words_in, get_written_other, table_off_path, table_above, same_or_not}
 use Rattle.vs_space.proofs.Trees.{one_some, unreached_table}

@@ -1,5 +1,5 @@
 -- Which addresses take one path: those of an aligned stretch. What a walk's end says of the space.
-use Rattle.std.proofs.Common.{◌≡◌, ◌≢◌, ℕ, zero, suc, ◌+◌, ◌-◌, ◌*◌, ◌/◌, ◌%◌, ◌^◌, ◌<◌, ◌≤◌, true, false, Some, None, IsTrue, refl, sym, ap, subst, ◌∙◌}
+use Rattle.std.proofs.Common.{◌≡◌, ◌≢◌, ℕ, zero, suc, ◌+◌, ◌-◌, ◌*◌, ◌/◌, ◌%◌, ◌^◌, ◌<◌, ◌≤◌, ◌↔◌, true, false, Some, None, IsTrue, refl, sym, ap, subst, ◌∙◌}
 use Rattle.std.proofs.Common.{mod-lt, arith}
 use lib.Pow.{pow_pos, split, shr-shr}
 use Rattle.std.proofs.lemmas.Nat.{div-mul-add}
@@ -7,7 +7,7 @@ use Rattle.std.specs.Prelude.{slice_index}
 use Rattle.vs_types.specs.Depth.{levels, entry_bytes, table_bytes, index_at, IsCanonical}
 use Rattle.vs_types.specs.Entry.{size_at}
 use Rattle.vs_types.specs.Page.{level_of, bytes_of, covers, IsPage}
-use Rattle.vs_types.specs.Space.{Space, Holds, IsSpace, page_at}
+use Rattle.vs_types.specs.Space.{Space, Holds, page_at}
 use Rattle.vs_types.specs.Step.{look}
 use Rattle.vs_types.specs.Laws.{LooksChanged}
 use Rattle.vs_types.specs.declared.depth.Depth.{Depth}
@@ -160,6 +160,13 @@ pub record IsLeafPage (depth : Depth) (space : Space) (a level phys : ℕ) (own 
   pub base : q.base + a % bytes_of q.size ≡ a
   pub phys_is : q.phys ≡ phys
   pub rights : q.rights ≡ own
+
+-- addresses of a page that begins there take the path of that address
+pub page_path : {depth : Depth} {space : Space} {a level phys : ℕ} {own : Rights} {q : Page} → IsLeafPage depth space a level phys own q → q.base ≡ a → (b : ℕ)
+    → SamePath (levels depth) (level_of q.size) q.base b ↔ SamePath (levels depth) level a b
+page_path {depth} {a = a} {q = q} leaf begins b =
+    subst (λ l. SamePath (levels depth) (level_of q.size) q.base b ↔ SamePath (levels depth) l a b) leaf.level_is
+    (subst (λ x. SamePath (levels depth) (level_of q.size) q.base b ↔ SamePath (levels depth) (level_of q.size) x b) begins (λ same. same, λ same. same))
 
 pub leaf_page : {t : PageTable} {space : Space} → IsTree (levels t.depth) t.memory t.root → IsTableOf t space → (a level n phys : ℕ) (own : Rights)
     → IsCanonical t.depth a → 1 ≤ level → table_at (levels t.depth) t.memory t.root level a ≡ Some n

@@ -14,8 +14,6 @@ use Rattle.vs_types.proofs.Pages.{level_some, covers_base, covers_means}
 use Rattle.vs_types.proofs.Spaces.{holds_listed, page_at_means}
 use Rattle.vs_types.proofs.Counts.{member_comes, member_goes}
 use Rattle.vs_types.proofs.TableCounts.{has_table, stretches, tables_with, tables_without}
-use Rattle.vs_walk.specs.Memory.{Memory}
-use Rattle.vs_walk.specs.Walk.{walk, TranslatesAs}
 use Rattle.vs_walk.specs.declared.walk.Walk.TheVariants.{NotMapped}
 use Rattle.vs_space.specs.inside.Tree.{NothingUnder}
 use Rattle.vs_space.specs.Table.{PageTable, IsTableOf}

@@ -1,7 +1,7 @@
 -- The path through all tables of a tree: it reaches each frame in use once, and no other, and it meets no fault where the
 -- memory translates as a space.
 use Rattle.std.proofs.Common.{◌≡◌, ◌≢◌, ℕ, zero, suc, ◌+◌, ◌-◌, ◌*◌, ◌/◌, ◌%◌, ◌^◌, ◌==◌, ◌<◌, ◌≤◌, List, [], ◌∷◌, ◌++◌, Option, Some, None, Bool, true, false}
-use Rattle.std.proofs.Common.{not, if◌then◌else◌, length, get_or, flat_map, Contains, IsTrue, ⊎_elim, refl, sym, ap, subst, ◌∙◌, arith, mod-lt}
+use Rattle.std.proofs.Common.{not, if◌then◌else◌, length, get_or, flat_map, Contains, ⊎_elim, refl, sym, ap, subst, ◌∙◌, arith, mod-lt}
 use Rattle.std.specs.Prelude.{⊤, IsSome, option_map, slice_index}
 use Rattle.std.specs.List.{enumerate_from}
 use Rattle.std.proofs.lemmas.Nat.{div-mul-add}
@@ -12,14 +12,13 @@ use Rattle.vs_types.specs.Depth.{levels, entry_bytes, table_bytes, index_at}
 use Rattle.vs_types.specs.Page.{intersection}
 use Rattle.vs_types.specs.Entry.{meaning, has_reserved, is_leaf}
 use Rattle.std.specs.Int.{bit_at}
-use Rattle.vs_types.specs.Space.{Space}
 use Rattle.vs_types.specs.declared.depth.Depth.{Depth}
 use Rattle.vs_types.specs.declared.page.Rights.{Rights}
 use Rattle.vs_types.specs.declared.entry.Meaning.{Meaning}
 use Rattle.vs_types.specs.declared.entry.Meaning.TheVariants as entry
 use Rattle.vs_types.proofs.Lists.{Contains-head, Contains-tail, Contains-cases, not_in_nil}
-use Rattle.vs_walk.specs.Memory.{Memory, AreWhole}
-use Rattle.vs_walk.specs.Walk.{all_rights, TranslatesAs}
+use Rattle.vs_walk.specs.Memory.{Memory}
+use Rattle.vs_walk.specs.Walk.{all_rights}
 use Rattle.vs_walk.specs.Traversal.{Visit, OfFrame, ReachedTable, entry_visits, table_visits, traversal, reached_by, reached, walk_fault}
 use Rattle.vs_walk.proofs.LawsOfLists.{contained_at_some_word}
 use Rattle.vs_walk.proofs.TranslatedBits.{entry_some, no_table_below}
@@ -31,7 +30,6 @@ use Rattle.vs_walk.proofs.LawsOfTraversals.{shared_reached}
 use Rattle.vs_walk.proofs.LawsOfSpaces.{translates_shared}
 use Rattle.vs_space.specs.Held.{word_at}
 use Rattle.vs_space.specs.Path.{found_at, table_in, table_at, SamePath}
-use Rattle.vs_space.specs.inside.Tree.{IsTree, IsReached}
 use Rattle.vs_space.specs.Table.{PageTable}
 use Rattle.vs_space.specs.inside.Invariant.{IsPageTable}
 use Rattle.vs_space.proofs.Paths.{words_found, reached_within, table_first, table_next, none_past, table_before, same_table}
@@ -130,196 +128,6 @@ path_into top level times start rest is lt =
     let other : (start + rest) / bytes ≡ times = ap (λ n. (n + rest) / bytes) is ∙ div-mul-add times bytes rest lt in
     stretch_same top level start (start + rest) (own ∙ sym other)
 
--- ---- tables on their paths
-
-module _ (depth : Depth) (top : ℕ) (root : ℕ) (m : Memory) (whole : AreWhole m) where
-  -- the table is reached on the path of the address at which it begins
-  record IsOnPath (level : ℕ) (table : ReachedTable) : Type 0 where
-    descended : IsPlaced level table
-    at : table_at top m root level table.start ≡ Some table.number
-
-  root_on_path : IsOnPath top (record { number = root; start = 0; rights = all_rights })
-  root_on_path = record { descended = root_placed top root; at = table_first top root m 0 }
-
-  -- an entry of a table on its path
-  module _ (level : ℕ) (table : ReachedTable) (on : IsOnPath (suc level) table) (words : List ℕ) (is : finite.get m table.number ≡ Some words) (index : ℕ)
-      (within : index < 512) where
-    entry_path : SamePath top (suc (suc level)) table.start (entry_start level table index)
-    entry_path = subst (λ r. SamePath top (suc (suc level)) table.start (table.start + r)) (omega arith)
-        (path_into top (suc level) on.descended.times table.start (index * entry_bytes (suc level) + 0) on.descended.at
-        (offset_fits level index 0 within (entry_some (suc level))))
-
-    entry_index : index_at (suc level) (entry_start level table index) ≡ index
-    entry_index =
-        (at_entry level on.descended.times index 0 (entry_start level table index) within (entry_some (suc level))
-        (ap (λ n. n + index * entry_bytes (suc level)) on.descended.at ∙ omega arith)).0
-
-    -- the table to which it leads is on its path
-    next_on_path : (number : ℕ) (own : Rights) → meaning (suc level) (get_or words index 0) ≡ entry.Table number own
-        → IsOnPath level (next_table level table index number own)
-    next_on_path number own says = record {
-      descended = place_below level table index number own on.descended;
-      at = table_next top root m level _ table.number (sym (same_table top root m (suc level) _ _ entry_path) ∙ on.at)
-          ∙ ap table_in (found_in (suc level) m table.number _ index words (entry.Table number own) is entry_index says);
-    }
-
-    -- and what is met there is met in the table
-    next_is_met : (number : ℕ) (own : Rights) (move : Visit) → meaning (suc level) (get_or words index 0) ≡ entry.Table number own
-        → Contains (table_visits depth m level (next_table level table index number own)) move → Contains (table_visits depth m (suc level) table) move
-    next_is_met number own move says met =
-        word_is_met depth m level table words index move is (omega (arith, whole table.number words is))
-        (subst (λ means. Contains (entry_visits depth (suc level) table index (λ next. table_visits depth m level next) means) move) (sym says) met)
-
-  -- ---- what is reached is on a path
-
-  -- a path to the frame, at this level or below, takes the entries that lead to the table of this level
-  record IsUnder (level start n : ℕ) : Type 0 where
-    lower : ℕ
-    address : ℕ
-    below : lower ≤ level
-    path : SamePath top (suc level) start address
-    at : table_at top m root lower address ≡ Some n
-
-  -- and then the entry at this index
-  record IsThrough (level start index n : ℕ) : Type 0 where
-    lower : ℕ
-    address : ℕ
-    below : lower < level
-    path : SamePath top (suc level) start address
-    turns : index_at level address ≡ index
-    at : table_at top m root lower address ≡ Some n
-
-  through : (level : ℕ) (table : ReachedTable) (on : IsOnPath (suc level) table) (words : List ℕ) → finite.get m table.number ≡ Some words
-      → ((next : ReachedTable) → IsOnPath level next → (n : ℕ) → Contains (table_visits depth m level next) (OfFrame n) → IsUnder level next.start n)
-      → (index n : ℕ) → index < length words → Contains (at_word_met depth m level table (index, get_or words index 0)) (OfFrame n)
-      → IsThrough (suc level) table.start index n
-  through level table on words is lower index n lt met =
-      let within : index < 512 = omega (arith, whole table.number words is) in
-      let into = into_table depth level table index (λ next. table_visits depth m level next) (meaning (suc level) (get_or words index 0)) n met in
-      let under = lower (next_table level table index into.0 into.1) (next_on_path level table on words is index within into.0 into.1 into.2) n into.3 in
-      record {
-        lower = under.lower;
-        address = under.address;
-        below = omega (arith, under.below);
-        path = λ i over to. entry_path level table on words is index within i over to ∙ under.path i (omega arith) to;
-        turns = sym (under.path (suc level) (omega arith) (reached_within top root m (suc level) table.start table.number on.at))
-            ∙ entry_index level table on words is index within;
-        at = under.at;
-      }
-
-  own_under : (level : ℕ) (table : ReachedTable) (n : ℕ) → IsOnPath level table → table.number ≡ n → IsUnder level table.start n
-  own_under level table n on same = record {
-    lower = level;
-    address = table.start;
-    below = omega arith;
-    path = λ i over to. refl;
-    at = on.at ∙ ap Some same;
-  }
-
-  from_through : {level start index n : ℕ} → IsThrough level start index n → IsUnder level start n
-  from_through {level} {start} {index} {n} t = record { lower = t.lower; address = t.address; below = omega (arith, t.below); path = t.path; at = t.at }
-
-  table_reaches : (level : ℕ) (table : ReachedTable) → IsOnPath level table → (n : ℕ) → Contains (table_visits depth m level table) (OfFrame n)
-      → IsUnder level table.start n
-  table_reaches zero table on n met = absurd (not_in_nil _ (subst (λ ms. Contains ms (OfFrame n)) (nothing_met depth m table) met))
-  table_reaches (suc level) table on n met =
-      elim (finite.get m table.number) as (λ o. finite.get m table.number ≡ o → IsUnder (suc level) table.start n) [
-        | None ↦ λ is. ⊎_elim
-            (λ same. own_under (suc level) table n on (one_number table.number n same))
-            (λ later. absurd (not_in_nil _ later))
-            (Contains-cases (OfFrame table.number) [] (OfFrame n) (subst (λ ms. Contains ms (OfFrame n)) (missing_met depth m level table is) met))
-        | Some words ↦ λ is. ⊎_elim
-            (λ same. own_under (suc level) table n on (one_number table.number n same))
-            (λ later.
-            let at = contained_at_some_word (at_word_met depth m level table) words 0 (OfFrame n) later in
-            from_through (through level table on words is (λ next. table_reaches level next) at.0 n at.1
-            (subst (λ i. Contains (at_word_met depth m level table (i, get_or words at.0 0)) (OfFrame n)) (omega arith) at.2)))
-            (Contains-cases (OfFrame table.number) _ (OfFrame n) (subst (λ ms. Contains ms (OfFrame n)) (table_met depth m level table words is) met))
-      ] refl
-    where
-      one_number : (x y : ℕ) → OfFrame x ≡ OfFrame y → x ≡ y
-      one_number x y e = cc
-
-  -- ---- each frame once
-
-  module _ (tree : IsTree top m root) where
-    -- paths to one frame take the same entry
-    one_turn : (level start i j n : ℕ) → level ≤ top → IsThrough level start i n → IsThrough level start j n → i ≡ j
-    one_turn level start i j n le left right =
-        let both = tree.once left.lower right.lower left.address right.address n left.at right.at in
-        sym left.turns ∙ both.1 level left.below le ∙ right.turns
-
-    -- and none goes through the frame itself
-    not_own : (level : ℕ) (table : ReachedTable) → IsOnPath level table → (index : ℕ) → IsThrough level table.start index table.number → ⊥
-    not_own level table on index t =
-        let both = tree.once level t.lower table.start t.address table.number on.at t.at in
-        omega (arith, both.0, t.below)
-
-    table_once : (level : ℕ) (table : ReachedTable) → IsOnPath level table → Once (reached (table_visits depth m level table))
-    table_once zero table on = subst (λ ms. Once (reached ms)) (sym (nothing_met depth m table)) tt
-    table_once (suc level) table on =
-        elim (finite.get m table.number) as (λ o. finite.get m table.number ≡ o → Once (reached (table_visits depth m (suc level) table))) [
-          | None ↦ λ is. subst (λ ms. Once (reached ms)) (sym (missing_met depth m level table is)) (λ again. not_in_nil _ again, tt)
-          | Some words ↦ λ is.
-              let by_index : (index n : ℕ) → index < length words → Contains (at_word_met depth m level table (index, get_or words index 0)) (OfFrame n)
-              → IsThrough (suc level) table.start index n =
-              through level table on words is (λ next. table_reaches level next) in
-              subst (λ ms. Once (reached ms)) (sym (table_met depth m level table words is)) (
-                λ again.
-                    let at = contained_at_some_word (at_word_met depth m level table) words 0 (OfFrame table.number) (reached_is_met _ table.number again) in
-                    not_own (suc level) table on at.0
-                    (by_index at.0 table.number at.1 (subst (λ i. Contains (at_word_met depth m level table (i, get_or words at.0 0)) (OfFrame table.number))
-                    (omega arith) at.2)),
-                words_once (at_word_met depth m level table) (IsThrough (suc level) table.start) words 0
-                    (λ i j n. one_turn (suc level) table.start i j n (reached_within top root m (suc level) table.start table.number on.at))
-                    (λ index lt. subst (λ i. Once (reached (at_word_met depth m level table (i, get_or words index 0)))) (omega arith)
-                    (entry_once depth level table index (λ next. table_visits depth m level next) (meaning (suc level) (get_or words index 0))
-                    (λ number own says. table_once level _ (next_on_path level table on words is index
-                    (omega (arith, whole table.number words is)) number own says))))
-                    (λ index n lt met. subst (λ i. IsThrough (suc level) table.start i n) (omega arith)
-                    (by_index index n lt (subst (λ i. Contains (at_word_met depth m level table (i, get_or words index 0)) (OfFrame n)) (omega arith) met))),
-              )
-        ] refl
-
-  -- ---- each table on a path is reached
-
-  some_there : (level j a n : ℕ) → level ≤ j → j ≤ top → table_at top m root level a ≡ Some n → (p : ℕ) × (table_at top m root j a ≡ Some p)
-  some_there level j a n le high at = elim (table_at top m root j a) as (λ o. table_at top m root j a ≡ o → (p : ℕ) × (table_at top m root j a ≡ Some p)) [
-    | None ↦ λ none. let nothing = none_past top root m j level a high le none in cc
-    | Some p ↦ λ is. (p, is)
-  ] refl
-
-  path_reached : (d level lower : ℕ) (table : ReachedTable) → d + lower ≡ level → 0 < level → IsOnPath level table → (a n : ℕ)
-      → SamePath top (suc level) table.start a
-      → table_at top m root lower a ≡ Some n → Contains (table_visits depth m level table) (OfFrame n)
-  path_reached d zero lower table deep some on a n same at = absurd (omega arith)
-  path_reached zero (suc level) lower table deep some on a n same at =
-      let number : table.number ≡ n =
-      one_some table.number n (sym on.at ∙ same_table top root m (suc level) table.start a same
-      ∙ subst (λ j. table_at top m root j a ≡ Some n) (omega arith) at) in
-      let first = first_met depth m level table in
-      subst (λ x. Contains (table_visits depth m (suc level) table) (OfFrame x)) number
-      (subst (λ ms. Contains ms (OfFrame table.number)) (sym first.1) (Contains-head (OfFrame table.number) first.0))
-  path_reached (suc d) (suc level) lower table deep some on a n same at =
-      let high : suc level ≤ top = reached_within top root m (suc level) table.start table.number on.at in
-      let next = some_there lower level a n (omega arith) (omega (arith, high)) at in
-      let before = table_before top root m level a next.0 (omega (arith, high)) next.1 in
-      let parent : before.0 ≡ table.number = one_some before.0 table.number
-      (sym before.2 ∙ sym (same_table top root m (suc level) table.start a same) ∙ on.at) in
-      let leads : found_at (suc level) m table.number a ≡ Some (entry.Table next.0 before.1) =
-      subst (λ p. found_at (suc level) m p a ≡ Some (entry.Table next.0 before.1)) parent before.3 in
-      let words = words_found (suc level) m table.number a (entry.Table next.0 before.1) leads in
-      let index : ℕ = index_at (suc level) a in
-      let within : index < 512 = mod-lt (a / entry_bytes (suc level)) (omega arith) in
-      next_is_met level table on words.0 words.1 index within next.0 before.1 (OfFrame n) words.2
-      (path_reached d level lower (next_table level table index next.0 before.1) (omega arith)
-      (above_zero level (get_or words.0 index 0) next.0 before.1 words.2)
-      (next_on_path level table on words.0 words.1 index within next.0 before.1 words.2) a n
-      (same_longer top (suc level) (entry_start level table index) a
-      (λ i over to. sym (entry_path level table on words.0 words.1 index within i over to) ∙ same i over to)
-      (entry_index level table on words.0 words.1 index within))
-      at)
-
 -- ---- frame numbers
 
 -- what a word leads to, where it leads to a table
@@ -336,27 +144,225 @@ table_fits level word n own is =
     let same : word % 2 ^ 52 / 2 ^ 12 ≡ n = leads_to (bit_at word 0 == 1) (has_reserved level word) (is_leaf level word) _ _ n _ own is in
     omega (arith, same)
 
--- ---- from the root of a page table on
+-- ---- tables on their paths
 
-module _ {t : PageTable} (table : IsPageTable t) where
+module _ {t : PageTable} (pages : IsPageTable t) where
   abbrev top : ℕ
   top = levels t.depth
+
+  abbrev table_on : ℕ → ℕ → Option ℕ
+  table_on level a = table_at top t.memory t.root level a
+
+  abbrev visits : ℕ → ReachedTable → List Visit
+  visits level table = table_visits t.depth t.memory level table
+
+  abbrev met_at : ℕ → ReachedTable → ℕ × ℕ → List Visit
+  met_at level table w = at_word_met t.depth t.memory level table w
+
+  -- the table is reached on the path of the address at which it begins
+  record IsOnPath (level : ℕ) (table : ReachedTable) : Type 0 where
+    descended : IsPlaced level table
+    at : table_on level table.start ≡ Some table.number
+
+  root_on_path : IsOnPath top (record { number = t.root; start = 0; rights = all_rights })
+  root_on_path = record { descended = root_placed top t.root; at = table_first top t.root t.memory 0 }
+
+  -- an entry of a table on its path
+  module _ (level : ℕ) (table : ReachedTable) (on : IsOnPath (suc level) table) (words : List ℕ)
+      (is : finite.get t.memory table.number ≡ Some words) (index : ℕ)
+      (within : index < 512) where
+    entry_path : SamePath top (suc (suc level)) table.start (entry_start level table index)
+    entry_path = subst (λ r. SamePath top (suc (suc level)) table.start (table.start + r)) (omega arith)
+        (path_into top (suc level) on.descended.times table.start (index * entry_bytes (suc level) + 0) on.descended.at
+        (offset_fits level index 0 within (entry_some (suc level))))
+
+    entry_index : index_at (suc level) (entry_start level table index) ≡ index
+    entry_index =
+        (at_entry level on.descended.times index 0 (entry_start level table index) within (entry_some (suc level))
+        (ap (λ n. n + index * entry_bytes (suc level)) on.descended.at ∙ omega arith)).0
+
+    -- the table to which it leads is on its path
+    next_on_path : (number : ℕ) (own : Rights) → meaning (suc level) (get_or words index 0) ≡ entry.Table number own
+        → IsOnPath level (next_table level table index number own)
+    next_on_path number own says = record {
+      descended = place_below level table index number own on.descended;
+      at = table_next top t.root t.memory level _ table.number (sym (same_table top t.root t.memory (suc level) _ _ entry_path) ∙ on.at)
+          ∙ ap table_in (found_in (suc level) t.memory table.number _ index words (entry.Table number own) is entry_index says);
+    }
+
+    -- and what is met there is met in the table
+    next_is_met : (number : ℕ) (own : Rights) (move : Visit) → meaning (suc level) (get_or words index 0) ≡ entry.Table number own
+        → Contains (visits level (next_table level table index number own)) move → Contains (visits (suc level) table) move
+    next_is_met number own move says met =
+        word_is_met t.depth t.memory level table words index move is (omega (arith, pages.whole table.number words is))
+        (subst (λ means. Contains (entry_visits t.depth (suc level) table index (λ next. visits level next) means) move) (sym says) met)
+
+  -- ---- what is reached is on a path
+
+  -- a path to the frame, at this level or below, takes the entries that lead to the table of this level
+  record IsUnder (level start n : ℕ) : Type 0 where
+    lower : ℕ
+    address : ℕ
+    below : lower ≤ level
+    path : SamePath top (suc level) start address
+    at : table_on lower address ≡ Some n
+
+  -- and then the entry at this index
+  record IsThrough (level start index n : ℕ) : Type 0 where
+    lower : ℕ
+    address : ℕ
+    below : lower < level
+    path : SamePath top (suc level) start address
+    turns : index_at level address ≡ index
+    at : table_on lower address ≡ Some n
+
+  through : (level : ℕ) (table : ReachedTable) (on : IsOnPath (suc level) table) (words : List ℕ) → finite.get t.memory table.number ≡ Some words
+      → ((next : ReachedTable) → IsOnPath level next → (n : ℕ) → Contains (visits level next) (OfFrame n) → IsUnder level next.start n)
+      → (index n : ℕ) → index < length words → Contains (met_at level table (index, get_or words index 0)) (OfFrame n)
+      → IsThrough (suc level) table.start index n
+  through level table on words is lower index n lt met =
+      let within : index < 512 = omega (arith, pages.whole table.number words is) in
+      let into = into_table t.depth level table index (λ next. visits level next) (meaning (suc level) (get_or words index 0)) n met in
+      let under = lower (next_table level table index into.0 into.1) (next_on_path level table on words is index within into.0 into.1 into.2) n into.3 in
+      record {
+        lower = under.lower;
+        address = under.address;
+        below = omega (arith, under.below);
+        path = λ i over to. entry_path level table on words is index within i over to ∙ under.path i (omega arith) to;
+        turns = sym (under.path (suc level) (omega arith) (reached_within top t.root t.memory (suc level) table.start table.number on.at))
+            ∙ entry_index level table on words is index within;
+        at = under.at;
+      }
+
+  own_under : (level : ℕ) (table : ReachedTable) (n : ℕ) → IsOnPath level table → table.number ≡ n → IsUnder level table.start n
+  own_under level table n on same = record {
+    lower = level;
+    address = table.start;
+    below = omega arith;
+    path = λ i over to. refl;
+    at = on.at ∙ ap Some same;
+  }
+
+  from_through : {level start index n : ℕ} → IsThrough level start index n → IsUnder level start n
+  from_through {level} {start} {index} {n} on = record { lower = on.lower; address = on.address; below = omega (arith, on.below); path = on.path; at = on.at }
+
+  table_reaches : (level : ℕ) (table : ReachedTable) → IsOnPath level table → (n : ℕ) → Contains (visits level table) (OfFrame n)
+      → IsUnder level table.start n
+  table_reaches zero table on n met = absurd (not_in_nil _ (subst (λ ms. Contains ms (OfFrame n)) (nothing_met t.depth t.memory table) met))
+  table_reaches (suc level) table on n met =
+      elim (finite.get t.memory table.number) as (λ o. finite.get t.memory table.number ≡ o → IsUnder (suc level) table.start n) [
+        | None ↦ λ is. ⊎_elim
+            (λ same. own_under (suc level) table n on (one_number table.number n same))
+            (λ later. absurd (not_in_nil _ later))
+            (Contains-cases (OfFrame table.number) [] (OfFrame n) (subst (λ ms. Contains ms (OfFrame n)) (missing_met t.depth t.memory level table is) met))
+        | Some words ↦ λ is. ⊎_elim
+            (λ same. own_under (suc level) table n on (one_number table.number n same))
+            (λ later.
+            let at = contained_at_some_word (met_at level table) words 0 (OfFrame n) later in
+            from_through (through level table on words is (λ next. table_reaches level next) at.0 n at.1
+            (subst (λ i. Contains (met_at level table (i, get_or words at.0 0)) (OfFrame n)) (omega arith) at.2)))
+            (Contains-cases (OfFrame table.number) _ (OfFrame n) (subst (λ ms. Contains ms (OfFrame n)) (table_met t.depth t.memory level table words is) met))
+      ] refl
+    where
+      one_number : (x y : ℕ) → OfFrame x ≡ OfFrame y → x ≡ y
+      one_number x y e = cc
+
+  -- ---- each frame once
+
+  -- paths to one frame take the same entry
+  one_turn : (level start i j n : ℕ) → level ≤ top → IsThrough level start i n → IsThrough level start j n → i ≡ j
+  one_turn level start i j n le left right =
+      let both = pages.tree.once left.lower right.lower left.address right.address n left.at right.at in
+      sym left.turns ∙ both.1 level left.below le ∙ right.turns
+
+  -- and none goes through the frame itself
+  not_own : (level : ℕ) (table : ReachedTable) → IsOnPath level table → (index : ℕ) → IsThrough level table.start index table.number → ⊥
+  not_own level table on index other =
+      let both = pages.tree.once level other.lower table.start other.address table.number on.at other.at in
+      omega (arith, both.0, other.below)
+
+  table_once : (level : ℕ) (table : ReachedTable) → IsOnPath level table → Once (reached (visits level table))
+  table_once zero table on = subst (λ ms. Once (reached ms)) (sym (nothing_met t.depth t.memory table)) tt
+  table_once (suc level) table on =
+      elim (finite.get t.memory table.number) as (λ o. finite.get t.memory table.number ≡ o → Once (reached (visits (suc level) table))) [
+        | None ↦ λ is. subst (λ ms. Once (reached ms)) (sym (missing_met t.depth t.memory level table is)) (λ again. not_in_nil _ again, tt)
+        | Some words ↦ λ is.
+            let by_index : (index n : ℕ) → index < length words → Contains (met_at level table (index, get_or words index 0)) (OfFrame n)
+            → IsThrough (suc level) table.start index n =
+            through level table on words is (λ next. table_reaches level next) in
+            subst (λ ms. Once (reached ms)) (sym (table_met t.depth t.memory level table words is)) (
+              λ again.
+                  let at = contained_at_some_word (met_at level table) words 0 (OfFrame table.number) (reached_is_met _ table.number again) in
+                  not_own (suc level) table on at.0
+                  (by_index at.0 table.number at.1 (subst (λ i. Contains (met_at level table (i, get_or words at.0 0)) (OfFrame table.number))
+                  (omega arith) at.2)),
+              words_once (met_at level table) (IsThrough (suc level) table.start) words 0
+                  (λ i j n. one_turn (suc level) table.start i j n (reached_within top t.root t.memory (suc level) table.start table.number on.at))
+                  (λ index lt. subst (λ i. Once (reached (met_at level table (i, get_or words index 0)))) (omega arith)
+                  (entry_once t.depth level table index (λ next. visits level next) (meaning (suc level) (get_or words index 0))
+                  (λ number own says. table_once level _ (next_on_path level table on words is index
+                  (omega (arith, pages.whole table.number words is)) number own says))))
+                  (λ index n lt met. subst (λ i. IsThrough (suc level) table.start i n) (omega arith)
+                  (by_index index n lt (subst (λ i. Contains (met_at level table (i, get_or words index 0)) (OfFrame n)) (omega arith) met))),
+            )
+      ] refl
+
+  -- ---- each table on a path is reached
+
+  some_there : (level j a n : ℕ) → level ≤ j → j ≤ top → table_on level a ≡ Some n → (p : ℕ) × (table_on j a ≡ Some p)
+  some_there level j a n le high at = elim (table_on j a) as (λ o. table_on j a ≡ o → (p : ℕ) × (table_on j a ≡ Some p)) [
+    | None ↦ λ none. let nothing = none_past top t.root t.memory j level a high le none in cc
+    | Some p ↦ λ is. (p, is)
+  ] refl
+
+  path_reached : (d level lower : ℕ) (table : ReachedTable) → d + lower ≡ level → 0 < level → IsOnPath level table → (a n : ℕ)
+      → SamePath top (suc level) table.start a
+      → table_on lower a ≡ Some n → Contains (visits level table) (OfFrame n)
+  path_reached d zero lower table deep some on a n same at = absurd (omega arith)
+  path_reached zero (suc level) lower table deep some on a n same at =
+      let number : table.number ≡ n =
+      one_some table.number n (sym on.at ∙ same_table top t.root t.memory (suc level) table.start a same
+      ∙ subst (λ j. table_on j a ≡ Some n) (omega arith) at) in
+      let first = first_met t.depth t.memory level table in
+      subst (λ x. Contains (visits (suc level) table) (OfFrame x)) number
+      (subst (λ ms. Contains ms (OfFrame table.number)) (sym first.1) (Contains-head (OfFrame table.number) first.0))
+  path_reached (suc d) (suc level) lower table deep some on a n same at =
+      let high : suc level ≤ top = reached_within top t.root t.memory (suc level) table.start table.number on.at in
+      let next = some_there lower level a n (omega arith) (omega (arith, high)) at in
+      let before = table_before top t.root t.memory level a next.0 (omega (arith, high)) next.1 in
+      let parent : before.0 ≡ table.number = one_some before.0 table.number
+      (sym before.2 ∙ sym (same_table top t.root t.memory (suc level) table.start a same) ∙ on.at) in
+      let leads : found_at (suc level) t.memory table.number a ≡ Some (entry.Table next.0 before.1) =
+      subst (λ p. found_at (suc level) t.memory p a ≡ Some (entry.Table next.0 before.1)) parent before.3 in
+      let words = words_found (suc level) t.memory table.number a (entry.Table next.0 before.1) leads in
+      let index : ℕ = index_at (suc level) a in
+      let within : index < 512 = mod-lt (a / entry_bytes (suc level)) (omega arith) in
+      next_is_met level table on words.0 words.1 index within next.0 before.1 (OfFrame n) words.2
+      (path_reached d level lower (next_table level table index next.0 before.1) (omega arith)
+      (above_zero level (get_or words.0 index 0) next.0 before.1 words.2)
+      (next_on_path level table on words.0 words.1 index within next.0 before.1 words.2) a n
+      (same_longer top (suc level) (entry_start level table index) a
+      (λ i over to. sym (entry_path level table on words.0 words.1 index within i over to) ∙ same i over to)
+      (entry_index level table on words.0 words.1 index within))
+      at)
+
+  -- ---- from the root on
 
   -- each frame that is reached is in use
   pub in_use : (n : ℕ) → Contains (reached (traversal t.depth t.memory t.root)) n → IsSome (finite.get t.memory n)
   in_use n is =
-      let under = table_reaches t.depth top t.root t.memory table.whole top _ (root_on_path t.depth top t.root t.memory table.whole) n
+      let under = table_reaches top _ root_on_path n
       (reached_is_met (traversal t.depth t.memory t.root) n is) in
-      table.tree.in_use under.lower under.address n under.at
+      pages.tree.in_use under.lower under.address n under.at
 
   -- and each frame in use is reached
   pub each : (n : ℕ) → IsSome (finite.get t.memory n) → Contains (reached (traversal t.depth t.memory t.root)) n
   each n used =
-      let path = table.reached.path n used in
+      let path = pages.reached.path n used in
       met_is_reached (traversal t.depth t.memory t.root) n
-      (path_reached t.depth top t.root t.memory table.whole (top - path.0) top path.0 _
+      (path_reached (top - path.0) top path.0 _
       (omega (arith, reached_within top t.root t.memory path.0 path.1 n path.2)) (some_levels t.depth)
-      (root_on_path t.depth top t.root t.memory table.whole) path.1 n (λ i over to. absurd (omega arith)) path.2)
+      root_on_path path.1 n (λ i over to. absurd (omega arith)) path.2)
 
   -- and there is no fault
   pub no_fault : walk_fault t.depth t.memory t.root ≡ None
@@ -366,19 +372,19 @@ module _ {t : PageTable} (table : IsPageTable t) where
       let twice = shared_reached t.depth t.memory t.root shared.0 shared.1 in
       absurd (not_twice shared.0 twice.0 twice.1
       (subst Once twice.2
-      (table_once t.depth top t.root t.memory table.whole table.tree top _ (root_on_path t.depth top t.root t.memory table.whole)))
+      (table_once top _ root_on_path))
       twice.3))
-      (translates_shared t.depth t.memory t.root table.some_space.0 table.whole table.some_space.1.is_of.translates)
+      (translates_shared t.depth t.memory t.root pages.some_space.0 pages.whole pages.some_space.1.is_of.translates)
 
   -- a frame in use is the root, or an entry leads to it
   pub numbers_fit : (n : ℕ) → IsSome (finite.get t.memory n) → n < 2 ^ 40
   numbers_fit n used =
-      let path = table.reached.path n used in
+      let path = pages.reached.path n used in
       ⊎_elim
       (λ (same : path.0 ≡ top).
       let first : t.root ≡ n = one_some t.root n (sym (table_first top t.root t.memory path.1)
-      ∙ subst (λ l. table_at top t.memory t.root l path.1 ≡ Some n) same path.2) in
-      subst (λ number. number < 2 ^ 40) first table.root_fits)
+      ∙ subst (λ l. table_on l path.1 ≡ Some n) same path.2) in
+      subst (λ number. number < 2 ^ 40) first pages.root_fits)
       (λ (other : path.0 ≢ top).
       let before = table_before top t.root t.memory path.0 path.1 n (omega (arith, other, reached_within top t.root t.memory path.0 path.1 n path.2)) path.2 in
       table_fits (suc path.0) _ n before.1 (words_found (suc path.0) t.memory before.0 path.1 (entry.Table n before.1) before.3).2)

@@ -32,7 +32,7 @@ use Rattle.vs_space.proofs.Writes.{IsTreeAt, table_above, found_on_path, walk_of
 use Rattle.vs_space.proofs.Trees.{tree_write, walk_to_absent, but_none, but_write}
 use Rattle.vs_space.proofs.Reached.{reached_write, whole_write}
 use Rattle.vs_space.proofs.Written.{written_zero}
-use Rattle.vs_space.proofs.Regions.{walk_in, IsLeafPage, nothing_at, translates_changed}
+use Rattle.vs_space.proofs.Regions.{walk_in, IsLeafPage, page_path, nothing_at, translates_changed}
 use Rattle.vs_space.proofs.Protects.{faultless, own_space, space_of, tree_at}
 use Rattle.vs_space.proofs.TableCounts.{count_added}
 use Rattle.vs_space.proofs.Meets.{met, page_met}
@@ -120,21 +120,12 @@ module _ {t : PageTable} (table : IsPageTable t) {base level phys : ℕ} {path :
           (subst (λ a. (step t.depth limit space (Unmap a)).answer ≡ answers.Removed leaf.0.phys leaf.0.size leaf.0.rights) (sym begins_here)
           (ap (λ (s : Stepped). s.answer) removes)))
 
-      -- addresses of the page take the path of the base
-      on_path : (b : ℕ) → SamePath (levels t.depth) (level_of leaf.0.size) leaf.0.base b → SamePath (levels t.depth) level base b
-      on_path b same = subst (λ l. SamePath (levels t.depth) l base b) leaf.1.level_is
-          (subst (λ a. SamePath (levels t.depth) (level_of leaf.0.size) a b) begins_here same)
-
-      of_page : (b : ℕ) → SamePath (levels t.depth) level base b → SamePath (levels t.depth) (level_of leaf.0.size) leaf.0.base b
-      of_page b same = subst (λ a. SamePath (levels t.depth) (level_of leaf.0.size) a b) (sym begins_here)
-          (subst (λ l. SamePath (levels t.depth) l base b) (sym leaf.1.level_is) same)
-
       after : IsTableOf new next
       after = record {
         is_space = step_space limit of.is_of.is_space (Unmap base) (record { canonical = canonical; aligned = aligned });
         translates = translates_changed new.memory of.is_of leaf.1.good looks
-            (λ b is_b same. pruned.walks b is_b ∙ walk_on b (on_path b same))
-            (λ b is_b apart. pruned.walks b is_b ∙ walk_off_path here 0 b (λ same. apart (of_page b same)));
+            (λ b is_b same. pruned.walks b is_b ∙ walk_on b ((page_path leaf.1 begins_here b).0 same))
+            (λ b is_b apart. pruned.walks b is_b ∙ walk_off_path here 0 b (λ same. apart ((page_path leaf.1 begins_here b).1 same)));
       }
 
       removed_is : next ≡ finite.remove space leaf.0.base

@@ -38,7 +38,7 @@ pub written_leaf : (level word phys : ℕ) (rights : Rights) → meaning level w
     → IsWritten level word
 written_leaf level word phys rights says is = written_as level word (entry.Leaf phys rights) says is
 
-size_same : (size : Size) → size_at (level_of size) ≡ size
+pub size_same : (size : Size) → size_at (level_of size) ≡ size
 size_same K4 = refl
 size_same M2 = refl
 size_same G1 = refl

@@ -16,14 +16,18 @@ pub record Held : Type 0 where
   pub limit : ℕ
   pub memory : Memory
 
+-- the frames in use of a store with this base and size
+abbrev pub held_in : ℕ → ℕ → Store → Held
+held_in base size store = record { base = base; limit = size; memory = numbered base store }
+
 abbrev pub held_code : Coded Held
 held_code = code_by (ℕ × (ℕ × Memory)) (coded× coded_ℕ (coded× coded_ℕ (finite.code {R = nat_cmp} coded_ℕ (coded_list coded_ℕ))))
     (λ h. (h.base, (h.limit, h.memory))) (λ p. record { base = p.0; limit = p.1.0; memory = p.1.1 }) (λ _. refl)
 
 -- the frames in use have numbers from the base on, below the base plus how many there can be
-pub record AreNumbered (base limit : ℕ) (memory : Memory) : Type 0 where
-  pub from_base : (number : ℕ) → IsSome (finite.get memory number) → base ≤ number
-  pub below : (number : ℕ) → IsSome (finite.get memory number) → number < base + limit
+pub record AreNumbered (held : Held) : Type 0 where
+  pub from_base : (number : ℕ) → IsSome (finite.get held.memory number) → held.base ≤ number
+  pub below : (number : ℕ) → IsSome (finite.get held.memory number) → number < held.base + held.limit
 
 -- the word of a frame at an index, where the frame is in use
 unfoldable pub word_at : Memory → ℕ → ℕ → Option ℕ

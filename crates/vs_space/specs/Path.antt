@@ -2,6 +2,7 @@
 use Rattle.std.specs.Prelude.{◌≡◌, ℕ, zero, suc, ◌<◌, ◌≤◌, nat_eq, Option, Some, None, option_map, option_and_then, if◌then◌else◌}
 use Rattle.vs_types.specs.Depth.{index_at}
 use Rattle.vs_types.specs.Entry.{meaning}
+use Rattle.vs_types.specs.declared.frame.TheConstants.{FRAME_WORDS}
 use Rattle.vs_types.specs.declared.entry.Meaning.{Meaning}
 use Rattle.vs_types.specs.declared.entry.Meaning.TheVariants as entry
 use Rattle.vs_walk.specs.Memory.{Memory}
@@ -37,11 +38,11 @@ entry_in level memory number index = option_map (meaning level) (word_at memory 
 -- a table has an entry that isn't absent
 pub record HasPresent (level : ℕ) (memory : Memory) (number : ℕ) : Type 0 where
   pub index : ℕ
-  pub within : index < 512
+  pub within : index < FRAME_WORDS
   pub present : entry_in level memory number index ≡ Some entry.Absent → ⊥
 
 -- the first entry of a table that isn't absent, if there is one
 pub record IsFirstPresent (level : ℕ) (memory : Memory) (number index : ℕ) : Type 0 where
-  pub within : index < 512
+  pub within : index < FRAME_WORDS
   pub present : entry_in level memory number index ≡ Some entry.Absent → ⊥
   pub before : (i : ℕ) → i < index → entry_in level memory number i ≡ Some entry.Absent

@@ -46,7 +46,7 @@ impl<S: FrameStore> Model for Space<S> {
 
     ghost view = { λ s. record { depth = s.depth; base = s.tables.base; limit = s.tables.limit; root = s.root; memory = s.tables.memory } };
 
-    ghost invariant = { λ s. IsPageTable (table_in_store s.depth s.tables s.root) × AreNumbered s.tables.base s.tables.limit s.tables.memory };
+    ghost invariant = { λ s. IsPageTable (table_in_store s.depth s.tables s.root) × AreNumbered s.tables };
 }
 
 impl<S: FrameStore> Frames for Space<S> {

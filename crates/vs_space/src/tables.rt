@@ -2,6 +2,7 @@ ghost use Rattle.std.specs.Prelude.{ℕ, ◌≢◌, Some, slice_index, ◌≡◌
 ghost use Rattle.std.specs.FinMap as finite;
 ghost use Rattle.vs_arena.specs.Store.{zeros, IsInUse};
 ghost use Rattle.vs_types.specs.declared.depth.Depth.{Depth};
+ghost use Rattle.vs_types.specs.declared.frame.TheConstants.{FRAME_WORDS};
 ghost use Rattle.vs_types.specs.declared.limits.TheConstants.{TABLES};
 ghost use Rattle.vs_types.specs.Depth.{levels, index_at, IsCanonical};
 ghost use Rattle.vs_walk.specs.Walk.{walk};
@@ -30,16 +31,16 @@ pub(crate) struct Tables<S: FrameStore> {
 }
 
 impl<S: FrameStore> Model for Tables<S> {
-    ghost use Rattle.vs_space.specs.Held.{Held, held_code, numbered, AreNumbered};
+    ghost use Rattle.vs_space.specs.Held.{Held, held_code, held_in, AreNumbered};
     ghost use Rattle.vs_walk.specs.Memory.{AreWhole};
 
     ghost Value = { Held };
 
     ghost coded = { held_code };
 
-    ghost view = { λ t. record { base = S.base t.store; limit = S.size t.store; memory = numbered (S.base t.store) (S.frames t.store) } };
+    ghost view = { λ t. held_in (S.base t.store) (S.size t.store) (S.frames t.store) };
 
-    ghost invariant = { λ t. AreWhole (S.frames t.store) × AreNumbered (S.base t.store) (S.size t.store) (numbered (S.base t.store) (S.frames t.store)) };
+    ghost invariant = { λ t. AreWhole (S.frames t.store) × AreNumbered (held_in (S.base t.store) (S.size t.store) (S.frames t.store)) };
 }
 
 impl<S: FrameStore> Tables<S> {
@@ -77,7 +78,7 @@ impl<S: FrameStore> Tables<S> {
     /// The word at an index of a frame in use.
     pub(crate) fn word(&self, number: u64, index: usize) -> u64
         requires in_use { IsSome (finite.get self.now.memory number) }
-        requires in_frame { index < 512 }
+        requires in_frame { index < FRAME_WORDS }
         ensures { word_at self.now.memory number index ≡ Some result }
     {
         self.store.get(frame_of(&self.store, number), index)
@@ -86,10 +87,10 @@ impl<S: FrameStore> Tables<S> {
     /// Writes the word at an index of a frame in use.
     pub(crate) fn write(&mut self, number: u64, index: usize, word: u64)
         requires in_use { IsSome (finite.get self.old.memory number) }
-        requires in_frame { index < 512 }
+        requires in_frame { index < FRAME_WORDS }
         ensures written { self.new ≡ record self.old { memory = with_word self.old.memory number index word } }
         ensures whole { AreWhole self.old.memory }
-        ensures numbers { AreNumbered self.new.base self.new.limit self.new.memory }
+        ensures numbers { AreNumbered self.new }
     {
         let frame = frame_of(&self.store, number);
         self.store.set(frame, index, word);
@@ -100,7 +101,7 @@ impl<S: FrameStore> Tables<S> {
         ensures was_free { IfSome result (λ n. finite.get self.old.memory n ≡ None) }
         ensures taken { IfSome result (λ n. self.new ≡ record self.old { memory = finite.insert self.old.memory n zeros }) }
         ensures in_range { IfSome result (λ n. n < 2 ^ 40) }
-        ensures numbers { IfSome result (λ _. AreNumbered self.new.base self.new.limit self.new.memory) }
+        ensures numbers { IfSome result (λ _. AreNumbered self.new) }
         ensures all_in_use { IfNone result (finite.len self.old.memory ≡ self.old.limit) }
         ensures unchanged { IfNone result (self.new ≡ self.old) }
     {
@@ -112,7 +113,7 @@ impl<S: FrameStore> Tables<S> {
     pub(crate) fn give(&mut self, number: u64)
         requires { IsSome (finite.get self.old.memory number) }
         ensures removed { self.new ≡ record self.old { memory = finite.remove self.old.memory number } }
-        ensures numbers { AreNumbered self.new.base self.new.limit self.new.memory }
+        ensures numbers { AreNumbered self.new }
     {
         let frame = frame_of(&self.store, number);
         self.store.give(frame);
@@ -175,7 +176,7 @@ impl<S: FrameStore> Tables<S> {
         requires in_use { IsSome (finite.get self.now.memory number) }
         requires some_level { 1 ≤ level }
         requires few_levels { level ≤ 5 }
-        ensures none { IfNone result ((i : ℕ) → i < 512 → entry_in level self.now.memory number i ≡ Some Meaning.Absent) }
+        ensures none { IfNone result ((i : ℕ) → i < FRAME_WORDS → entry_in level self.now.memory number i ≡ Some Meaning.Absent) }
         ensures first { IfSome result (IsFirstPresent level self.now.memory number) }
     {
         let Some(words) = self.words(number) else {
@@ -194,12 +195,14 @@ impl<S: FrameStore> Tables<S> {
     fn is_empty(&self, level: u8, number: u64, near: usize) -> bool
         requires in_use { IsSome (finite.get self.now.memory number) }
         requires written { AreWritten level self.now.memory number }
-        requires in_frame { near < 512 }
-        ensures empty { IsTrue result → (i : ℕ) → i < 512 → entry_in level self.now.memory number i ≡ Some Meaning.Absent }
+        requires in_frame { near < FRAME_WORDS }
+        ensures empty { IsTrue result → (i : ℕ) → i < FRAME_WORDS → entry_in level self.now.memory number i ≡ Some Meaning.Absent }
         ensures present { IsFalse result → HasPresent level self.now.memory number }
     {
         let words = self.store.frame(frame_of(&self.store, number));
-        if words[(near + 1) % 512] != 0 || words[(near + 511) % 512] != 0 {
+        if words[(near + 1) % FRAME_WORDS] != 0
+            || words[(near + FRAME_WORDS - 1) % FRAME_WORDS] != 0
+        {
             return false;
         }
         for group in 0..FRAME_WORDS / 8 {
@@ -221,11 +224,11 @@ impl<S: FrameStore> Tables<S> {
     ) -> u8
         requires canonical { IsCanonical depth address }
         requires faultless { (b : ℕ) → IsCanonical depth b → walk depth self.old.memory (slice_index path.now (levels depth)) b ≢ Walk.Reserved }
-        requires numbers { AreNumbered self.old.base self.old.limit self.old.memory }
+        requires numbers { AreNumbered self.old }
         requires cut { IsCut depth self.old.memory (slice_index path.now (levels depth)) address from path.now }
         ensures pruned { IsPruned depth self.old.memory self.new.memory (slice_index path.now (levels depth)) address from result }
         ensures same { self.new ≡ record self.old { memory = self.new.memory } }
-        ensures numbers { AreNumbered self.new.base self.new.limit self.new.memory }
+        ensures numbers { AreNumbered self.new }
     {
         let mut level = from;
         while level < depth.levels() {
@@ -290,9 +293,9 @@ impl<S: FrameStore> Tables<S> {
 /// Whether the eight words from this index on are 0.
 #[inline]
 fn are_zero(words: &[u64; FRAME_WORDS], at: usize) -> bool
-    requires { at + 8 ≤ 512 }
+    requires { at + 8 ≤ FRAME_WORDS }
     ensures zero { IsTrue result → (i : ℕ) → i < 8 → slice_index words.now (at + i) ≡ 0 }
-    ensures other { IsFalse result → (i : ℕ) × (i < 512) × (slice_index words.now i ≢ 0) }
+    ensures other { IsFalse result → (i : ℕ) × (i < FRAME_WORDS) × (slice_index words.now i ≢ 0) }
 {
     (words[at] == 0)
         & (words[at + 1] == 0)

@@ -1,4 +1,4 @@
-use Rattle.std.proofs.Common.{◌+◌, ◌%◌, Some, sym, ap, ◌∙◌, arith}
+use Rattle.std.proofs.Common.{◌+◌, ◌-◌, ◌%◌, Some, sym, ap, ◌∙◌, arith}
 use Rattle.std.specs.FinMap as finite
 use Rattle.vs_space.specs.Held.{Held}
 use Rattle.vs_space.proofs.Numbered.{some_at}
@@ -16,7 +16,7 @@ returns-then-words-near-ne0-clause-present g c = λ _.
       | then-words-near-ne0-via-then-words-near-ne0 w ↦ entry_other c.args.level c.args.self.now.memory c.args.number
           ((c.args.near + 1) % 512) c.frame-words.result.now own c.requires.written (omega arith) w.if-words-near-ne0.true
       | then-words-near-ne0-via-else-words-near-ne0+then-words-near-ne0-2 w ↦ entry_other c.args.level c.args.self.now.memory c.args.number
-          ((c.args.near + 511) % 512) c.frame-words.result.now own c.requires.written (omega arith) w.if-words-near-ne0-2.true
+          ((c.args.near + 512 - 1) % 512) c.frame-words.result.now own c.requires.written (omega arith) w.if-words-near-ne0-2.true
     ]
 
 pub returns-then-not-are_zero-clause-present : goal.returns-then-not-are_zero-clause-present

@@ -4,7 +4,7 @@ use Rattle.vs_space.proofs.Numbered.{held, whole-empty, numbered-empty, numbers_
 use Rattle.vs_space.proofs.tables.Tables.new.Goals as goal
 
 pub invariant_of-result : goal.invariant_of-result
-invariant_of-result g c = (whole-empty _ c.requires, numbers_none _ _ _ (ap (numbered (g.S.FrameStore.base c.args.store)) c.requires ∙ numbered-empty _))
+invariant_of-result g c = (whole-empty _ c.requires, numbers_none _ _ (ap (numbered (g.S.FrameStore.base c.args.store)) c.requires ∙ numbered-empty _))
 
 pub returns : goal.returns
 returns g c = ap (held (g.S.FrameStore.base c.args.store) (g.S.FrameStore.size c.args.store))

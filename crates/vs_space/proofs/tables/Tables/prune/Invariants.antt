@@ -9,7 +9,7 @@ abbrev pub invariant-loop-level : goal.invariant-loop-level
 invariant-loop-level g l = record {
   pruning : IsPruning l.fn.depth l.fn.self.memory l.self.memory (slice_index l.path (levels l.fn.depth)) l.address l.from l.level l.path;
   same : l.self ≡ (let r : Held = record l.fn.self { memory = l.self.memory } in r);
-  numbers : AreNumbered l.self.base l.self.limit l.self.memory;
+  numbers : AreNumbered l.self;
 }
 
 abbrev pub decreases-loop-level : goal.decreases-loop-level

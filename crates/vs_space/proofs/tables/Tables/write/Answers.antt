@@ -9,16 +9,16 @@ use Rattle.vs_space.proofs.tables.Tables.write.Goals as goal
 pub invariant_of-self : goal.invariant_of-self
 invariant_of-self g c = (
   rw c.set.ensures.written (whole-set _ _ c.args.index c.args.word c.frame_of-frame.ensures.in_use c.self.invariant.0),
-  numbers_stored _ _ _ _ _ _ c.set.ensures.same_size c.set.ensures.same_base
+  numbers_stored _ c.set.ensures.same_size c.set.ensures.same_base
       (ap (numbered (g.S.FrameStore.base c.self.inside.store)) c.set.ensures.written
       ∙ with_word_numbered _ _ c.args.number _ c.args.index c.args.word c.frame_of-frame.ensures.numbered c.frame_of-frame.ensures.in_use)
-      (numbers_written _ _ _ c.args.number c.args.index c.args.word
-      (subst (λ (h : Held). IsSome (finite.get h.memory c.args.number)) (sym c.self.view_is) c.requires.in_use) c.self.invariant.1),
+      (numbers_written c.self.invariant.1 c.args.number c.args.index c.args.word
+      (subst (λ (h : Held). IsSome (finite.get h.memory c.args.number)) (sym c.self.view_is) c.requires.in_use)),
 )
 
 pub returns-clause-written : goal.returns-clause-written
 returns-clause-written g c =
-    stored _ _ _ _ _ _ c.set.ensures.same_size c.set.ensures.same_base
+    stored _ c.set.ensures.same_size c.set.ensures.same_base
     (ap (numbered (g.S.FrameStore.base c.self.inside.store)) c.set.ensures.written
     ∙ with_word_numbered _ _ c.args.number _ c.args.index c.args.word c.frame_of-frame.ensures.numbered c.frame_of-frame.ensures.in_use)
     ∙ ap (λ (h : Held). held h.base h.limit (with_word h.memory c.args.number c.args.index c.args.word)) c.self.view_is
@@ -28,8 +28,8 @@ returns-clause-whole g c = subst (λ (h : Held). AreWhole h.memory) c.self.view_
 
 pub returns-clause-numbers : goal.returns-clause-numbers
 returns-clause-numbers g c =
-    numbers_stored _ _ _ _ _ _ c.set.ensures.same_size c.set.ensures.same_base
+    numbers_stored _ c.set.ensures.same_size c.set.ensures.same_base
     (ap (numbered (g.S.FrameStore.base c.self.inside.store)) c.set.ensures.written
     ∙ with_word_numbered _ _ c.args.number _ c.args.index c.args.word c.frame_of-frame.ensures.numbered c.frame_of-frame.ensures.in_use)
-    (numbers_written _ _ _ c.args.number c.args.index c.args.word
-    (subst (λ (h : Held). IsSome (finite.get h.memory c.args.number)) (sym c.self.view_is) c.requires.in_use) c.self.invariant.1)
+    (numbers_written c.self.invariant.1 c.args.number c.args.index c.args.word
+    (subst (λ (h : Held). IsSome (finite.get h.memory c.args.number)) (sym c.self.view_is) c.requires.in_use))
