@@ -1,7 +1,9 @@
 //! Worked examples: what the definitions say of short recordings. Each function does nothing: the prover computes.
 
 ghost use Rattle.std.specs.Prelude.{◌≡◌, [], ◌∷◌, take, drop, length};
-ghost use Rattle.nr_trace.specs.Examples.{access_it, access_refused, as_version_2, looks_mapped, map_it, map_then_access, map_then_resolve, map_then_resolve_bytes, read_before_and_after, resolve_it, stale_read, unanswered_left_out, unanswered_too_early, with_applied, with_log, with_replies, without_first_reply};
+ghost use Rattle.nr_trace.specs.Examples.{access_it, access_refused, as_version_2, looks_mapped, map_it, map_then_access, map_then_resolve};
+ghost use Rattle.nr_trace.specs.Examples.{map_then_resolve_bytes, read_before_and_after, resolve_it, stale_read, unanswered_left_out, unanswered_too_early};
+ghost use Rattle.nr_trace.specs.Examples.{with_applied, with_log, with_replies, without_first_reply};
 ghost use Rattle.nr_trace.specs.Faults.{Holds};
 ghost use Rattle.nr_trace.specs.Orders.{answer_in, before, floor, recorded_order, space_after, IsLegalOrder};
 ghost use Rattle.nr_trace.specs.Recording.{IsEvent};
@@ -11,7 +13,8 @@ ghost use Rattle.nr_trace.specs.declared.event.Event.TheVariants.{Call, Reply};
 ghost use Rattle.nr_trace.specs.declared.version.Version.TheVariants.{V1, V2};
 ghost use Rattle.vs_types.specs.declared.depth.Depth.TheVariants.{Five};
 ghost use Rattle.vs_types.specs.declared.answer.Answer.TheVariants.{Allowed, Done};
-ghost use Rattle.nr_trace.specs.declared.fault.Fault.TheVariants.{AnsweredTwice, Early, NoSuchCall, NotAnUpdate, NotPlaced, PastLog, PlacedTwice, PrefixPastLog, PrefixShort, ThreadOpen, WrongAnswer};
+ghost use Rattle.nr_trace.specs.declared.fault.Fault.TheVariants.{AnsweredTwice, Early, NoSuchCall, NotAnUpdate, NotPlaced, PastLog, PlacedTwice};
+ghost use Rattle.nr_trace.specs.declared.fault.Fault.TheVariants.{PrefixPastLog, PrefixShort, ThreadOpen, WrongAnswer};
 
 /// The update stands first, and then the read that saw it.
 pub fn map_then_resolve_order()

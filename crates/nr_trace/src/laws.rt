@@ -62,12 +62,14 @@ pub fn recorded_order_is_serial()
 
 /// Where moreover no call stands too early, the recorded order is legal.
 pub fn recorded_order_is_legal()
-    ensures { (trace : Recording) → HasCleanLog trace → ((call : ℕ) → Holds trace (Early call) → ⊥) → ((call : ℕ) → Holds trace (WrongAnswer call) → ⊥) → IsLegalOrder trace (recorded_order trace) }
+    ensures { (trace : Recording) → HasCleanLog trace → ((call : ℕ) → Holds trace (Early call) → ⊥) → ((call : ℕ) → Holds trace (WrongAnswer call) → ⊥)
+        → IsLegalOrder trace (recorded_order trace) }
 {}
 
 /// Of two faults that hold of a trace, one is earlier, or they are one.
 pub fn faults_are_ordered()
-    ensures { (trace : Recording) (first second : Fault) → HasRank trace first → HasRank trace second → Holds trace first → Holds trace second → (first ≡ second) ⊎ (Earlier trace first second ⊎ Earlier trace second first) }
+    ensures { (trace : Recording) (first second : Fault) → HasRank trace first → HasRank trace second → Holds trace first → Holds trace second
+        → (first ≡ second) ⊎ (Earlier trace first second ⊎ Earlier trace second first) }
 {}
 
 /// A trace has at most one first fault.
@@ -83,7 +85,8 @@ pub fn one_first_fault_of_bytes()
 /// Where no fault holds of a recording, the recorded order is legal, and each dump fits it.
 pub fn faultless_recordings_have_an_order()
     ensures legal { (trace : Recording) → IsFaultless trace → IsLegalOrder trace (recorded_order trace) }
-    ensures fits { (trace : Recording) (replica : ℕ) (dump : Image) → IsFaultless trace → slice_get trace.dumps replica ≡ Some dump → FitsOrder trace (recorded_order trace) replica dump }
+    ensures fits { (trace : Recording) (replica : ℕ) (dump : Image) → IsFaultless trace → slice_get trace.dumps replica ≡ Some dump
+        → FitsOrder trace (recorded_order trace) replica dump }
 {}
 
 /// The members of the recorded order are the calls that stand after some entries, each after one number of them. Before a
@@ -91,21 +94,26 @@ pub fn faultless_recordings_have_an_order()
 pub fn recorded_order_by_entries()
     ensures members { (trace : Recording) (call : ℕ) → HasCleanLog trace → Contains (recorded_order trace) call ↔ Stands trace call }
     ensures once { (trace : Recording) (call m n : ℕ) → HasCleanLog trace → StandsAfter trace call m → StandsAfter trace call n → m ≡ n }
-    ensures answered { (trace : Recording) (call : ℕ) (reply : Response) → HasCleanLog trace → reply_to trace call ≡ Some reply → StandsAfter trace call reply.at × (reply.at ≤ length trace.log) }
-    ensures first { (trace : Recording) (index : ℕ) (reply : Response) → HasCleanLog trace → reply_of trace index ≡ Some reply → reply_to trace reply.call ≡ Some reply }
+    ensures answered { (trace : Recording) (call : ℕ) (reply : Response) → HasCleanLog trace → reply_to trace call ≡ Some reply
+        → StandsAfter trace call reply.at × (reply.at ≤ length trace.log) }
+    ensures first { (trace : Recording) (index : ℕ) (reply : Response) → HasCleanLog trace → reply_of trace index ≡ Some reply
+        → reply_to trace reply.call ≡ Some reply }
     ensures updates { (trace : Recording) → HasCleanLog trace → updates trace (recorded_order trace) ≡ trace.log }
-    ensures space { (trace : Recording) (call n : ℕ) → HasCleanLog trace → n ≤ length trace.log → StandsAfter trace call n → space_after trace (before call (recorded_order trace)) ≡ space_after trace (take n trace.log) }
+    ensures space { (trace : Recording) (call n : ℕ) → HasCleanLog trace → n ≤ length trace.log → StandsAfter trace call n
+        → space_after trace (before call (recorded_order trace)) ≡ space_after trace (take n trace.log) }
 {}
 
 /// Of two wrong answers the one whose call stands before the other's is earlier.
 pub fn earlier_wrong_answer()
-    ensures { (trace : Recording) (i j : ℕ) → HasCleanLog trace → Holds trace (WrongAnswer i) → Holds trace (WrongAnswer j) → Earlier trace (WrongAnswer i) (WrongAnswer j) ↔ Contains (before j (recorded_order trace)) i }
+    ensures { (trace : Recording) (i j : ℕ) → HasCleanLog trace → Holds trace (WrongAnswer i) → Holds trace (WrongAnswer j)
+        → Earlier trace (WrongAnswer i) (WrongAnswer j) ↔ Contains (before j (recorded_order trace)) i }
 {}
 
 /// A floor is raised by what each reply makes known, and by nothing else.
 pub fn floors_rise_by_replies()
     ensures start { (trace : Recording) → floor trace 0 ≡ 0 }
-    ensures reply { (trace : Recording) (index : ℕ) (reply : Response) → reply_of trace index ≡ Some reply → floor trace (index + 1) ≡ max (floor trace index) (known_by trace reply) }
+    ensures reply { (trace : Recording) (index : ℕ) (reply : Response) → reply_of trace index ≡ Some reply
+        → floor trace (index + 1) ≡ max (floor trace index) (known_by trace reply) }
     ensures other { (trace : Recording) (index : ℕ) → reply_of trace index ≡ None → floor trace (index + 1) ≡ floor trace index }
 {}
 
@@ -113,7 +121,8 @@ pub fn floors_rise_by_replies()
 pub fn spaces_go_on_by_places()
     ensures start { (trace : Recording) → space_after trace (take 0 trace.log) ≡ no_pages }
     ensures next { (trace : Recording) (place call : ℕ) (action : Action) → slice_get trace.log place ≡ Some call → operation_of trace call ≡ Some action
-        → space_after trace (take (place + 1) trace.log) ≡ (step trace.layout.depth trace.layout.tables (space_after trace (take place trace.log)) action).space }
+        → space_after trace (take (place + 1) trace.log) ≡ (step trace.layout.depth trace.layout.tables
+        (space_after trace (take place trace.log)) action).space }
 {}
 
 /// Bytes have the fault `Trailing` exactly where a front of them spells a trace, and more bytes come after it.

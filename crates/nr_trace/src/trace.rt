@@ -34,7 +34,8 @@ impl Model for Trace {
     ghost Value = { Recording };
 
     ghost coded = { code_by (Version × (Layout × (List ℕ × (List Event × List Image))))
-        (coded× version_contract.the_row.coded (coded× config_contract.the_row.coded (coded× (coded_list coded_ℕ) (coded× (coded_list event_contract.the_row.coded) (coded_list image_code)))))
+        (coded× version_contract.the_row.coded (coded× config_contract.the_row.coded
+        (coded× (coded_list coded_ℕ) (coded× (coded_list event_contract.the_row.coded) (coded_list image_code)))))
         (λ t. (t.version, (t.layout, (t.log, (t.events, t.dumps)))))
         (λ p. record { version = p.0; layout = p.1.0; log = p.1.1.0; events = p.1.1.1.0; dumps = p.1.1.1.1 }) (λ _. refl) };
 

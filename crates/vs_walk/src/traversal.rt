@@ -65,7 +65,13 @@ impl TablePosition {
     fn page(self, depth: Depth, index: usize, phys: u64, own: Rights) -> Page
         requires within { index < 512 }
         requires fits { Fits depth self }
-        ensures { result ≡ record { base = canonical_from depth (self.start + index * entry_bytes self.level); size = size_at self.level; phys = phys; rights = intersection self.rights own } }
+        ensures { result ≡ record {
+          base = canonical_from depth
+              (self.start + index * entry_bytes self.level);
+          size = size_at self.level;
+          phys = phys;
+          rights = intersection self.rights own;
+        } }
     {
         let start = self.start_of(depth, index);
         let half = 1u64 << (11 + 9 * depth.levels());
@@ -99,8 +105,10 @@ fn go_through<F: Frames, V: PageVisitor>(
     visitor: &mut V,
 ) -> Result<(), Fail<WalkFault>>
     requires { Fits depth place }
-    ensures pages { IfOk result (λ _. TakesFound (V.HasTaken visitor.old) (V.HasTaken visitor.new) (table_visits depth (F.memory frames.now) place.level (table_at place))) }
-    ensures goes_on { IfOk result (λ _. GoesOn (F.memory frames.now) marks.old marks.new (table_visits depth (F.memory frames.now) place.level (table_at place))) }
+    ensures pages { IfOk result (λ _. TakesFound (V.HasTaken visitor.old) (V.HasTaken visitor.new)
+        (table_visits depth (F.memory frames.now) place.level (table_at place))) }
+    ensures goes_on { IfOk result (λ _. GoesOn (F.memory frames.now) marks.old marks.new
+        (table_visits depth (F.memory frames.now) place.level (table_at place))) }
     ensures stops { IfErr result (IfRefused (Stops (F.memory frames.now) marks.old (table_visits depth (F.memory frames.now) place.level (table_at place)))) }
 {
     let Some(frame) = frames.words(place.number) else {
@@ -138,7 +146,8 @@ pub fn traverse<F: Frames, V: PageVisitor>(
     depth: Depth,
     visitor: &mut V,
 ) -> Result<Reached, Fail<WalkFault>>
-    ensures pages { IfOk result (λ _. (pages : List Page) → V.HasTaken visitor.old pages → V.HasTaken visitor.new (pages ++ found (traversal depth (F.memory frames.now) root))) }
+    ensures pages { IfOk result (λ _. (pages : List Page) → V.HasTaken visitor.old pages
+        → V.HasTaken visitor.new (pages ++ found (traversal depth (F.memory frames.now) root))) }
     ensures faultless { OnOk result (walk_fault depth (F.memory frames.now) root ≡ None) }
     ensures reached { IfOk result (λ r. AreJust r (reached (traversal depth (F.memory frames.now) root))) }
     ensures first { IfErr result (IfRefused (λ fault. walk_fault depth (F.memory frames.now) root ≡ Some fault)) }
