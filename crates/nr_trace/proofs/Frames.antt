@@ -1,6 +1,6 @@
 -- A reader that has taken a unit of a dump.
-use Rattle.std.proofs.Common.{◌≡◌, ◌≢◌, ℕ, zero, suc, ◌+◌, ◌-◌, ◌^◌, ◌<◌, ◌≤◌, List, [], ◌∷◌, ◌++◌, length, take, map, All, Option, Some, None, refl, sym, ap, subst}
-use Rattle.std.proofs.Common.{◌∙◌, arith, append_assoc}
+use Rattle.std.proofs.Common.{◌≡◌, ◌≢◌, ℕ, zero, suc, ◌+◌, ◌-◌, ◌^◌, ◌<◌, ◌≤◌, List, [], ◌∷◌, ◌++◌, length, take, map, All, Option, Some, None, refl, sym, ap}
+use Rattle.std.proofs.Common.{subst, ◌∙◌, arith, append_assoc}
 use Rattle.std.specs.Global.{Vec}
 use Rattle.std.specs.List.{flat_map}
 use Rattle.std.specs.FinMap as finite
@@ -20,7 +20,8 @@ use Rattle.nr_trace.specs.Spelling.{dump_head, frame_number, frame_words}
 use Rattle.nr_trace.specs.inside.Reading.{SpellsHead}
 use Rattle.nr_trace.specs.declared.fields.DumpHead.{DumpHead}
 use Rattle.nr_trace.specs.FirstFault.{AtUnit, AtFrames, AtDumps, IsNext, IsDumpHead}
-use Rattle.nr_trace.specs.inside.Progress.{HasRead, AreInRange, IsOpened, IsReady, AreBelow, BehindDumps, AtWords, Ahead, said, whole_spelling, opened_spelling, frame_begun, words_begun}
+use Rattle.nr_trace.specs.inside.Progress.{HasRead, AreInRange, IsOpened, IsReady, AreBelow, BehindDumps, AtWords, Ahead, said, whole_spelling, opened_spelling}
+use Rattle.nr_trace.specs.inside.Progress.{frame_begun, words_begun}
 use Rattle.nr_trace.specs.declared.fault.Format.{Format}
 use Rattle.nr_trace.specs.declared.fault.Format.TheVariants.{BadCount, BadFrame}
 use Rattle.nr_trace.specs.declared.reading.parts.Parts.{Parts}

@@ -79,7 +79,13 @@ pub places_in_range : (parts : Parts) (held : Vec ℕ) (run : List ℕ) (count :
 places_in_range parts held run count in_range placed all few = record {
   layout = in_range.layout;
   depth = in_range.depth;
-  few_places = omega (arith, few, ap length placed.added, length-append parts.log.items placed.calls, as_many_places parts.log.items run held.items count placed all);
+  few_places = omega (
+    arith,
+    few,
+    ap length placed.added,
+    length-append parts.log.items placed.calls,
+    as_many_places parts.log.items run held.items count placed all,
+  );
   log = subst (All (λ call. call < 2 ^ 32)) (sym placed.added) (All-append (λ call. call < 2 ^ 32) parts.log.items placed.calls in_range.log placed.fit);
   few_events = in_range.few_events;
   events = in_range.events;

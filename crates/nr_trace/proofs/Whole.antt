@@ -1,6 +1,6 @@
 -- A reader where bytes are missing, or stand after the end.
-use Rattle.std.proofs.Common.{◌≡◌, ◌≢◌, ℕ, zero, suc, ◌+◌, ◌*◌, ◌-◌, ◌<◌, ◌≤◌, Bool, true, false, List, [], length, take, Option, Some, None, refl, sym, ap, subst}
-use Rattle.std.proofs.Common.{◌∙◌, arith, inl}
+use Rattle.std.proofs.Common.{◌≡◌, ◌≢◌, ℕ, zero, suc, ◌+◌, ◌*◌, ◌-◌, ◌<◌, ◌≤◌, Bool, true, false, List, [], length, take, Option, Some, None, refl, sym, ap}
+use Rattle.std.proofs.Common.{subst, ◌∙◌, arith, inl}
 use Rattle.std.specs.Prelude.{nat_lt, if◌then◌else◌, MatchOption}
 use Rattle.std.proofs.lemmas.Bool.{ltb-true, ltb-false}
 use Rattle.std.proofs.lemmas.List.{length-append, length-take-le}
@@ -56,7 +56,8 @@ short_frame replica index zero last Behind rest some short = absurd (omega arith
 short_frame replica index (suc frames) last Behind rest some short = inl (short, refl)
 
 length_begun : (frame : OpenFrame) → IsFrame frame.words.value → frame.filled < 512 → length (words_begun frame) ≡ 8 * frame.filled
-length_begun frame whole few = length_of_units (to_be_bytes w64) 8 (λ n. refl) (take frame.filled frame.words.value) ∙ ap (λ n. 8 * n) (length-take-le frame.filled frame.words.value (omega (arith, whole.whole)))
+length_begun frame whole few = length_of_units (to_be_bytes w64) 8 (λ n. refl) (take frame.filled frame.words.value)
+    ∙ ap (λ n. 8 * n) (length-take-le frame.filled frame.words.value (omega (arith, whole.whole)))
 
 pub too_short : (reader : Reader) (len : ℕ) (rest : List ℕ) → IsReady reader → unit_bytes reader ≡ Some len → length rest < len → Ahead reader rest Truncated
 too_short (Magic alloc) len rest ready is short = inl (omega (arith, some_is 4 len is), refl)
