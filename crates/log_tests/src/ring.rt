@@ -1,4 +1,4 @@
-ghost use Rattle.std.specs.Prelude.{◌≡◌, ◌<◌, All, [], ◌∷◌};
+ghost use Rattle.std.specs.Prelude.{◌<◌};
 ghost use Rattle.vs_types.specs.LogEntry.{IsLogEntry};
 ghost use Rattle.vs_types.specs.declared.depth.Depth.TheVariants.{Four};
 ghost use Rattle.vs_types.specs.declared.limits.TheConstants.{CALLS};
@@ -41,7 +41,8 @@ pub fn entry(rt: &impl Abort, call: u32) -> LogEntry
     LogEntry { call, op }
 }
 
-fn full<T>(tail: u32, completed: u32, local: [u32; 4]) -> Result<T, AppendFault> {
+/// The refusal of a batch for which a log with these tails has no room.
+fn full(tail: u32, completed: u32, local: [u32; 4]) -> Result<u32, AppendFault> {
     Err(AppendFault::Full(Tails {
         tail,
         completed,
