@@ -1,7 +1,6 @@
 -- Spaces by the ordered entries of a map.
 use Rattle.std.proofs.Common.{◌≡◌, ℕ, ◌≤◌, Bool, true, false, cond, T, ◌&&◌, List, [], ◌∷◌, ◌++◌, map, Option, Some, None, option_map, refl, sym, ap, ◌∙◌}
-use Rattle.std.proofs.Common.{subst}
-use Rattle.std.proofs.Common.{arith, nat_cmp, is_eq, is_lt, is_gt, is_some, IsSome, IfSome, slice_get, ⊎_elim, Less, Bor, BTreeMap}
+use Rattle.std.proofs.Common.{subst, arith, nat_cmp, is_eq, is_lt, is_gt, is_some, IsSome, IfSome, slice_get, ⊎_elim, Less, Bor, BTreeMap}
 use Rattle.std.specs.Cmp.{nat_cmp_total, eq_by_cmp_equiv}
 use Rattle.std.specs.Ordering.{eq_by_cmp}
 use Rattle.std.specs.FinMap as finite

@@ -16,8 +16,7 @@ use Rattle.vs_space.proofs.Numbered.{get-insert_same, len-insert_free}
 use Rattle.vs_space.proofs.Writes.{used_some, written_in_use, len_written}
 use Rattle.vs_space.proofs.Trees.{but_alike}
 use Rattle.vs_space.proofs.Links.{IsLink, found_in_zeros, still_clear, linked, old_or_new, tree_link, walk_link, table_take, walk_take, tree_take}
-use Rattle.vs_space.proofs.Links.{new_unreached}
-use Rattle.vs_space.proofs.Links.{found_take}
+use Rattle.vs_space.proofs.Links.{new_unreached, found_take}
 use Rattle.vs_space.proofs.Reached.{reached_link}
 use Rattle.vs_space.proofs.Written.{written_table}
 

@@ -1,7 +1,6 @@
 -- What a list contains, and what a look-up in it finds.
 use Rattle.std.proofs.Common.{◌≡◌, ℕ, zero, suc, Bool, true, false, cond, List, [], ◌∷◌, map, Some, None, Contains, ◌⊎◌, inl, inr, ⊎_elim, refl, sym, ap, subst}
-use Rattle.std.proofs.Common.{arith, find}
-use Rattle.std.proofs.Common.{◌≤◌, ◌||◌, nat_eq, filter, ◌∙◌, eqb-true}
+use Rattle.std.proofs.Common.{arith, find, ◌≤◌, ◌||◌, nat_eq, filter, ◌∙◌, eqb-true}
 use Rattle.std.proofs.lemmas.Bool.{or_parts}
 use Rattle.std.proofs.lemmas.Bool.Decides.{Decides-eqb}
 use Rattle.std.proofs.lemmas.Cmp.{nat_eq_equiv}

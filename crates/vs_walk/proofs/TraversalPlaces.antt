@@ -1,6 +1,5 @@
 -- Where the entries of a table stand.
-use Rattle.std.proofs.Common.{◌≡◌, ℕ, zero, suc, ◌+◌, ◌-◌, ◌*◌, ◌^◌, ◌<◌, ◌≤◌, ◌%◌, sym, ap, subst, ◌∙◌, arith, w64}
-use Rattle.std.proofs.Common.{Fits as Fits-word}
+use Rattle.std.proofs.Common.{◌≡◌, ℕ, zero, suc, ◌+◌, ◌-◌, ◌*◌, ◌^◌, ◌<◌, ◌≤◌, ◌%◌, sym, ap, subst, ◌∙◌, arith, w64, Fits as Fits-word}
 use lib.Pow.{pow_mono}
 use Rattle.vs_types.specs.Depth.{levels, entry_bytes, table_bytes, half_bytes}
 use Rattle.vs_types.specs.declared.depth.Depth.{Depth}

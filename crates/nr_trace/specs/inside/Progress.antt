@@ -1,7 +1,6 @@
 -- How far a reader has come: what it has read, and what would be wrong with the bytes ahead.
 use Rattle.std.specs.Prelude.{◌≡◌, ℕ, ◌+◌, ◌*◌, ◌-◌, ◌<◌, ◌≤◌, ◌^◌, ◌++◌, nat_lt, List, [], length, take, flat_map, All, Option, Some, None, Result}
-use Rattle.std.specs.Prelude.{MatchResult, ⊤}
-use Rattle.std.specs.Prelude.{if◌then◌else◌}
+use Rattle.std.specs.Prelude.{MatchResult, ⊤, if◌then◌else◌}
 use Rattle.std.specs.FinMap as finite
 use Rattle.vs_types.specs.Config.{IsLayout}
 use Rattle.vs_types.specs.declared.limits.TheConstants.{LOG_PLACES, CALLS, TABLES}

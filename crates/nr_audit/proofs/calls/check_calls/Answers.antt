@@ -1,6 +1,5 @@
 use Rattle.std.proofs.Common.{Vec, Global, ◌≡◌, ℕ, ◌+◌, ◌<◌, length, replicate, set, None, Option, sym, ap, subst, ◌∙◌, arith}
-use Rattle.std.proofs.lemmas.Bool.{true≢false}
-use Rattle.std.proofs.lemmas.Bool.{iff_false}
+use Rattle.std.proofs.lemmas.Bool.{true≢false, iff_false}
 use Rattle.std.proofs.lemmas.List.{get_or_read}
 use Rattle.nr_trace.specs.declared.fault.Fault.TheVariants.{ThreadOpen, NoSuchCall, AnsweredTwice}
 use Rattle.nr_audit.specs.inside.Search.{HasNone}
