@@ -14,8 +14,6 @@ use Rattle.vs_types.specs.declared.depth.Depth.{Depth}
 use Rattle.vs_types.specs.declared.op.Action.TheVariants.{Map}
 use Rattle.vs_types.specs.declared.page.Page.{Page}
 use Rattle.vs_types.specs.declared.page.Rights.{Rights}
-use Rattle.vs_types.specs.declared.page.Size.{Size}
-use Rattle.vs_types.specs.declared.page.Size.TheVariants.{K4, M2, G1}
 use Rattle.vs_types.specs.declared.entry.Meaning.{Meaning}
 use Rattle.vs_types.specs.declared.entry.Meaning.TheVariants as entry
 use Rattle.vs_types.specs.declared.answer.Answer.TheVariants as answers

@@ -4,7 +4,7 @@ use Rattle.std.specs.Prelude.{slice_index}
 use Rattle.std.specs.FinMap as finite
 use Rattle.vs_types.specs.Depth.{levels, index_at, IsCanonical}
 use Rattle.vs_types.specs.Entry.{size_at}
-use Rattle.vs_types.specs.Page.{level_of, bytes_of}
+use Rattle.vs_types.specs.Page.{bytes_of}
 use Rattle.vs_types.specs.Space.{Space, Holds, IsSpace, page_at, table_count}
 use Rattle.vs_types.specs.Step.{step, Stepped}
 use Rattle.vs_types.specs.Laws.{LooksChanged}
