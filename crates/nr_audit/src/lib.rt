@@ -11,7 +11,7 @@ mod dumps;
 mod floors;
 mod history;
 mod judging;
-mod laws;
+pub mod laws;
 mod log;
 mod order;
 mod positions;
@@ -21,5 +21,4 @@ mod tables;
 mod verdict;
 
 pub use judging::{audit, judge};
-pub use laws::one_verdict;
 pub use verdict::{Order, Verdict};

@@ -5,8 +5,7 @@
 mod checking;
 mod comparison;
 mod fault;
-mod laws;
+pub mod laws;
 
 pub use checking::check;
 pub use fault::DumpFault;
-pub use laws::dumps_fit_or_have_a_fault;

@@ -8,6 +8,14 @@ ghost use Rattle.nr_ring.specs.Laws.{HasGoneOn, HasSameTails, FitsTheRing};
 ghost use Rattle.nr_ring.specs.View.{HasSeenAdvances};
 ghost use Rattle.nr_ring.specs.declared.event.Event.{Event};
 
+pub use crate::cell_words::{
+    advances_change_two_words, appends_keep_needed_entries, words_are_a_function_of_the_log,
+};
+pub use crate::steps::{
+    events_keep_the_rule, joins_keep_the_rule, looks_keep_the_rule, new_logs_keep_the_rule,
+    own_words_mean_all_seen, splits_keep_the_rule,
+};
+
 /// Events only add entries at the end, and no tail falls.
 pub fn tails_never_fall()
     ensures { (depth : Depth) (log : Log) (events : List Event) → MayGoOn depth log events → HasGoneOn log (after_all log events) }

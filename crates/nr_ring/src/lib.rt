@@ -8,7 +8,7 @@ mod batch;
 mod cell_words;
 mod event;
 pub mod examples;
-mod laws;
+pub mod laws;
 mod name;
 mod pass;
 mod ring_log;
@@ -17,20 +17,9 @@ mod steps;
 mod tails;
 mod view;
 
-pub use cell_words::{
-    advances_change_two_words, appends_keep_needed_entries, words_are_a_function_of_the_log,
-};
 pub use event::Event;
-pub use laws::{
-    completed_is_a_local_tail, equal_tails_mean_no_event, local_tails_rise_by_advances,
-    needed_entries_fit_the_ring, refused_for_a_reason, tails_never_fall,
-};
 pub use name::LogName;
 pub use pass::LogPass;
 pub use ring_log::RingLog;
-pub use steps::{
-    events_keep_the_rule, joins_keep_the_rule, looks_keep_the_rule, new_logs_keep_the_rule,
-    own_words_mean_all_seen, splits_keep_the_rule,
-};
 pub use tails::{AppendFault, Moved, Tails};
 pub use view::View;
