@@ -41,6 +41,18 @@ fn dump_with_fewer_rights(rt: HostRuntime) -> Result<(), Fail> {
     Ok(())
 }
 
+/// A frame in a box of its caller's, after room for two was made.
+#[test]
+fn frame_in_a_box(rt: HostRuntime) -> Result<(), Fail> {
+    let mut dump = Dump::new(rt.alloc(), 1, 1);
+    dump.make_room(2)?;
+    dump.push_box(1, Box::new(rt.alloc(), one_word(3, 0x2007))?)?;
+    assert_eq!(rt; dump.count(), 1);
+    let words = dump.words(1).ok_or("frame 1")?;
+    assert_eq!(rt; words[3], 0x2007);
+    Ok(())
+}
+
 /// Three tables of which the lowest, frame 3, has this word at index 1.
 fn three_tables(alloc: Global, word: u64) -> Result<Dump, Memory> {
     let mut dump = Dump::new(alloc, 0, 1);
