@@ -59,8 +59,7 @@ fn ring_fills_and_frees(rt: HostRuntime) -> Result<(), Fail> {
     let batch = [entry(&rt, 0); 16];
     let one = [entry(&rt, 1)];
 
-    let appended = log.append(&rt, &mut third, batch.as_slice());
-    assert_eq!(rt; appended, Ok(0));
+    assert_eq!(rt; log.append(&rt, &mut third, batch.as_slice()), Ok(0));
     let appended = log.append(&rt, &mut third, one.as_slice());
     assert_eq!(rt; appended, full(16, 0, [0, 0, 0, 0]));
 

@@ -41,7 +41,8 @@ impl Model for Trace {
 
     ghost view = { λ t. record { version = t.version; layout = t.config; log = t.log.items; events = t.events.items; dumps = t.dumps.items } };
 
-    ghost invariant = { λ t. IsRecording (record { version = t.version; layout = t.config; log = t.log.items; events = t.events.items; dumps = t.dumps.items }) };
+    ghost invariant = { λ t. IsRecording
+        (record { version = t.version; layout = t.config; log = t.log.items; events = t.events.items; dumps = t.dumps.items }) };
 }
 
 impl Trace {

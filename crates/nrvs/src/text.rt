@@ -1,6 +1,7 @@
 ghost use Rattle.std.specs.Prelude.{◌≡◌, ◌++◌, IfOk, OnOk, string_bytes};
 ghost use Rattle.nrvs.specs.Text.{format_text, fault_text, no_text, call_text, yes_text, verdict_text, size_text, mark, walk_text};
 
+use itoa::Buffer;
 use nr_audit::Verdict;
 use nr_trace::{Fault, Format};
 use std::alloc::{AllocError, Global};
@@ -71,7 +72,8 @@ pub fn no_text(alloc: Global, fault: Fault) -> Result<String, AllocError>
 fn push_call(text: &mut String, call: u32) -> Result<(), AllocError>
     ensures { OnOk result (string_bytes text.new ≡ string_bytes text.old ++ call_text call) }
 {
-    write!(text, " {call}")
+    text.push(' ')?;
+    text.push_str(Buffer::new().format(call))
 }
 
 /// The lines that are printed of a right trace, with an order of its calls.

@@ -50,7 +50,8 @@ impl TablePosition {
         requires fits { Fits depth self }
         requires lower { 1 < self.level }
         ensures level { result.level ≡ self.level - 1 }
-        ensures stands { table_at result ≡ record { number = number; start = self.start + index * entry_bytes self.level; rights = intersection self.rights own } }
+        ensures stands { table_at result
+            ≡ record { number = number; start = self.start + index * entry_bytes self.level; rights = intersection self.rights own } }
         ensures fits { Fits depth result }
     {
         TablePosition {
