@@ -21,12 +21,10 @@ pub(crate) fn search(alloc: Global, trace: &Trace) -> Result<Vec<u32>, Fail<Faul
     ensures first { IfErr result (IfRefused (IsFirst trace.now)) }
 {
     let history = check_calls(alloc, trace)?;
-    {
-        let places = check_log(alloc, &history)?;
-        check_positions(&history)?;
-        check_floors(&history, &places)?;
-    }
-    let order = list_order(alloc, &history)?;
+    let places = check_log(alloc, &history)?;
+    check_positions(&history)?;
+    check_floors(&history, &places)?;
+    let order = list_order(alloc, &history, places)?;
     let space = check_answers(alloc, &history, &order)?;
     check_dumps(alloc, &history, space)?;
     Ok(order)
