@@ -21,7 +21,7 @@ use Rattle.vs_types.specs.declared.refusal.Fail.TheVariants as fails
 use Rattle.vs_walk.specs.declared.traversal.TablePosition.{TablePosition}
 use Rattle.vs_walk.specs.inside.Traversed.{table_at}
 use Rattle.vs_types.specs.declared.page.Page.{Page}
-use Rattle.vs_walk.specs.inside.Traversed.{GoesOn, Stops, TakesFound}
+use Rattle.vs_walk.specs.inside.Traversed.{AreZeros, GoesOn, Stops, TakesFound}
 use Rattle.vs_walk.specs.declared.walk.WalkFault.{WalkFault}
 use Rattle.vs_walk.proofs.TraversalVisits.{goes_on, stops_later, stops_before, takes_both}
 use Rattle.vs_walk.proofs.LawsOfVisits.{table_met, missing_met}
@@ -102,6 +102,34 @@ one_more depth memory level table words index within =
     ∙ ap (λ n. met_up_to depth memory level table words index ++ (f (n, w) ++ [])) long
     ∙ ap (λ ms. met_up_to depth memory level table words index ++ ms) (append-nil (f (index, w)))
 
+-- a word that is 0 meets nothing
+zero_met : (depth : Depth) (memory : Memory) (level : ℕ) (table : ReachedTable) (index word : ℕ) → word ≡ 0 → met_at depth memory level table (index, word) ≡ []
+zero_met depth memory level table index word none = ap (entry_visits depth level table index (λ next. table_visits depth memory (level - 1) next))
+    (ap (meaning level) none)
+
+so_many_zeros : (depth : Depth) (memory : Memory) (level : ℕ) (table : ReachedTable) (words : List ℕ) (from count : ℕ) → from + count ≤ length words
+    → AreZeros words from (from + count)
+    → met_up_to depth memory level table words (from + count) ≡ met_up_to depth memory level table words from
+so_many_zeros depth memory level table words from zero within zeros = ap (met_up_to depth memory level table words) (omega arith)
+so_many_zeros depth memory level table words from (suc count) within zeros =
+    let last = from + count in
+    let next : from + suc count ≡ last + 1 = omega arith in
+    let none : get_or words last 0 ≡ 0 = zeros last (omega arith) (omega arith) in
+    ap (met_up_to depth memory level table words) next
+    ∙ one_more depth memory level table words last (omega (arith, within))
+    ∙ ap (λ ms. met_up_to depth memory level table words last ++ ms) (zero_met depth memory level table last (get_or words last 0) none)
+    ∙ append-nil (met_up_to depth memory level table words last)
+    ∙ so_many_zeros depth memory level table words from count (omega (arith, within)) (λ i low high. zeros i low (omega (arith, high)))
+
+-- zeros meet nothing
+pub zeros_met : (depth : Depth) (memory : Memory) (level : ℕ) (table : ReachedTable) (words : List ℕ) (from to : ℕ) → from ≤ to → to ≤ length words
+    → AreZeros words from to
+    → met_up_to depth memory level table words to ≡ met_up_to depth memory level table words from
+zeros_met depth memory level table words from to up within zeros =
+    let behind : from + (to - from) ≡ to = omega (arith, up) in
+    ap (met_up_to depth memory level table words) (sym behind)
+    ∙ so_many_zeros depth memory level table words from (to - from) (omega (arith, behind, within)) (subst (AreZeros words from) (sym behind) zeros)
+
 -- those up to the end
 pub all_met : (depth : Depth) (memory : Memory) (level : ℕ) (table : ReachedTable) (words : List ℕ) (index : ℕ) → 1 ≤ level
     → finite.get memory table.number ≡ Some words → length words ≤ index
@@ -130,23 +158,25 @@ pub refused_at : {E : Type 0} {P Q : E → Type 0} (fail : Fail E) → ((fault :
 refused_at fails.Memory to is = tt
 refused_at (fails.Refused fault) to is = to fault is
 
--- what is met up to a word and then at it
-pub goes_to_next : (depth : Depth) (memory : Memory) (level : ℕ) (table : ReachedTable) (words : List ℕ) (index : ℕ) (a b c : List ℕ) (ms : List Visit)
-    → index < length words
+-- what is met up to a word and then at it, where only zeros stand between it and the next one
+pub goes_to_next : (depth : Depth) (memory : Memory) (level : ℕ) (table : ReachedTable) (words : List ℕ) (index next : ℕ) (a b c : List ℕ) (ms : List Visit)
+    → index < length words → met_up_to depth memory level table words next ≡ met_up_to depth memory level table words (index + 1)
     → met_at depth memory level table (index, get_or words index 0) ≡ ms → GoesOn memory a b (met_up_to depth memory level table words index)
     → GoesOn memory b c ms
-    → GoesOn memory a c (met_up_to depth memory level table words (index + 1))
-goes_to_next depth memory level table words index a b c ms within is left right =
-    subst (GoesOn memory a c) (sym (one_more depth memory level table words index within ∙ ap (λ ns. met_up_to depth memory level table words index ++ ns) is))
+    → GoesOn memory a c (met_up_to depth memory level table words next)
+goes_to_next depth memory level table words index next a b c ms within passed is left right =
+    subst (GoesOn memory a c) (sym (passed ∙ one_more depth memory level table words index within
+    ∙ ap (λ ns. met_up_to depth memory level table words index ++ ns) is))
     (goes_on memory a b c (met_up_to depth memory level table words index) ms left right)
 
 pub takes_to_next : {V : Type 0} (HasTaken : V → List Page → Type 0) (depth : Depth) (memory : Memory) (level : ℕ) (table : ReachedTable) (words : List ℕ)
-    (index : ℕ) (u v w : V) (ms : List Visit) → index < length words
+    (index next : ℕ) (u v w : V) (ms : List Visit) → index < length words
+    → met_up_to depth memory level table words next ≡ met_up_to depth memory level table words (index + 1)
     → met_at depth memory level table (index, get_or words index 0) ≡ ms
     → TakesFound (HasTaken u) (HasTaken v) (met_up_to depth memory level table words index) → TakesFound (HasTaken v) (HasTaken w) ms
-    → TakesFound (HasTaken u) (HasTaken w) (met_up_to depth memory level table words (index + 1))
-takes_to_next HasTaken depth memory level table words index u v w ms within is left right =
-    subst (TakesFound (HasTaken u) (HasTaken w)) (sym (one_more depth memory level table words index within
+    → TakesFound (HasTaken u) (HasTaken w) (met_up_to depth memory level table words next)
+takes_to_next HasTaken depth memory level table words index next u v w ms within passed is left right =
+    subst (TakesFound (HasTaken u) (HasTaken w)) (sym (passed ∙ one_more depth memory level table words index within
     ∙ ap (λ ns. met_up_to depth memory level table words index ++ ns) is))
     (takes_both HasTaken u v w (met_up_to depth memory level table words index) ms left right)
 

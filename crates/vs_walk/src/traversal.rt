@@ -1,12 +1,13 @@
-ghost use Rattle.std.specs.Prelude.{◌≡◌, ◌+◌, ◌-◌, ◌*◌, ◌<◌, List, Some, None, IfOk, IfErr, OnOk, length, ◌++◌, ◌∷◌, []};
+ghost use Rattle.std.specs.Prelude.{◌≡◌, ◌+◌, ◌-◌, ◌*◌, ◌<◌, ◌≤◌, List, Some, None, IfOk, IfErr, OnOk, IsTrue, length, ◌++◌, ◌∷◌, []};
 ghost use Rattle.vs_types.specs.declared.page.Page.{Page};
+ghost use Rattle.vs_types.specs.declared.frame.TheConstants.{FRAME_WORDS};
 ghost use Rattle.vs_types.specs.Depth.{half_bytes, entry_bytes};
 ghost use Rattle.vs_types.specs.Entry.{size_at};
 ghost use Rattle.vs_types.specs.Page.{intersection};
 ghost use Rattle.vs_types.specs.Refusal.{IfRefused};
 ghost use Rattle.vs_walk.specs.Traversal.{canonical_from, traversal, table_visits, reached, found, walk_fault};
 ghost use Rattle.vs_walk.specs.Reached.{AreJust};
-ghost use Rattle.vs_walk.specs.inside.Traversed.{Fits, GoesOn, Stops, TakesFound, table_at};
+ghost use Rattle.vs_walk.specs.inside.Traversed.{AreZeros, Fits, GoesOn, Stops, TakesFound, table_at};
 
 use crate::frames::Frames;
 use crate::reached::{Marks, Reached};
@@ -92,9 +93,44 @@ impl TablePosition {
 /// The words of a table, 512.
 fn table_words(words: &[u64; FRAME_WORDS]) -> &[u64]
     ensures is { result.now ≡ words.now }
-    ensures whole { length result.now ≡ 512 }
+    ensures whole { length result.now ≡ FRAME_WORDS }
 {
     words
+}
+
+/// Whether the eight words from this index on are 0.
+#[inline]
+fn are_zero(words: &[u64], at: usize) -> bool
+    requires { at + 8 ≤ length words.now }
+    ensures { IsTrue result → AreZeros words.now at (at + 8) }
+{
+    (words[at] == 0)
+        & (words[at + 1] == 0)
+        & (words[at + 2] == 0)
+        & (words[at + 3] == 0)
+        & (words[at + 4] == 0)
+        & (words[at + 5] == 0)
+        & (words[at + 6] == 0)
+        & (words[at + 7] == 0)
+}
+
+/// The index of the first word from `start` on that is not 0, or that of the end. It passes zeros eight at a time.
+#[inline]
+fn next_word(words: &[u64], start: usize) -> usize
+    requires { start ≤ length words.now }
+    ensures behind { start ≤ result }
+    ensures within { result ≤ length words.now }
+    ensures zeros { AreZeros words.now start result }
+{
+    let mut index = start;
+    while index < words.len() && words[index] == 0 {
+        index += if index + 8 <= words.len() && are_zero(words, index) {
+            8
+        } else {
+            1
+        };
+    }
+    index
 }
 
 /// Goes through a table and all that it leads to.
@@ -119,8 +155,9 @@ fn go_through<F: Frames, V: PageVisitor>(
         return Err(Fail::Refused(WalkFault::Shared(place.number)));
     }
     let words = table_words(frame);
-    for (index, word) in words.iter().enumerate() {
-        match Entry::new(*word).read(place.level) {
+    let mut index = next_word(words, 0);
+    while index < words.len() {
+        match Entry::new(words[index]).read(place.level) {
             Meaning::Absent => {}
             Meaning::Reserved => {
                 return Err(Fail::Refused(WalkFault::Reserved(place.number, index as u16)));
@@ -131,6 +168,7 @@ fn go_through<F: Frames, V: PageVisitor>(
                 go_through(frames, depth, below, marks, visitor)?;
             }
         }
+        index = next_word(words, index + 1);
     }
     Ok(())
 }

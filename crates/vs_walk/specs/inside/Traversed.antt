@@ -1,6 +1,6 @@
 -- A part of the traversal, as the code makes it with the frames marked that it has reached. No public clause
 -- cites this file.
-use Rattle.std.specs.Prelude.{◌≡◌, ℕ, ◌+◌, ◌*◌, ◌≤◌, List, ◌++◌, Some, None}
+use Rattle.std.specs.Prelude.{◌≡◌, ℕ, ◌+◌, ◌*◌, ◌<◌, ◌≤◌, List, ◌++◌, Some, None, slice_index}
 use Rattle.vs_types.specs.Depth.{levels, half_bytes, table_bytes}
 use Rattle.vs_types.specs.declared.depth.Depth.{Depth}
 use Rattle.vs_types.specs.declared.page.Page.{Page}
@@ -31,3 +31,7 @@ pub record Stops (memory : Memory) (before : List ℕ) (ms : List Visit) (fault 
 -- what has taken some pages has then taken those of the visits too
 abbrev pub TakesFound : (List Page → Type 0) → (List Page → Type 0) → List Visit → Type 0
 TakesFound HadTaken HasTaken ms = (pages : List Page) → HadTaken pages → HasTaken (pages ++ found ms)
+
+-- the words from one index up to another are 0
+abbrev pub AreZeros : List ℕ → ℕ → ℕ → Type 0
+AreZeros words from to = (i : ℕ) → from ≤ i → i < to → slice_index words i ≡ 0

@@ -1,4 +1,4 @@
-use Rattle.std.proofs.Common.{◌≡◌, ◌<◌, [], ◌∷◌, Some, None, sym, ap, ◌∙◌, subst, refl, get_or, length, arith, Contains}
+use Rattle.std.proofs.Common.{◌≡◌, ◌+◌, ◌<◌, [], ◌∷◌, Some, None, sym, ap, ◌∙◌, subst, refl, get_or, length, arith, Contains}
 use Rattle.std.proofs.lemmas.Result.{err_from_is_err_and}
 use Rattle.std.specs.FinMap as finite
 use Rattle.vs_types.specs.Entry.{meaning}
@@ -7,7 +7,7 @@ use Rattle.vs_walk.specs.Traversal.{OfFrame, OfLeaf, table_visits}
 use Rattle.vs_walk.specs.inside.Traversed.{GoesOn, Stops, TakesFound, table_at}
 use Rattle.vs_walk.specs.declared.walk.WalkFault.TheVariants.{Missing, Shared, Reserved}
 use Rattle.vs_walk.proofs.TraversalVisits.{stops_before, takes_none, none_on, finds_on, meets_stops, missing_stops, shared_stops, new_on}
-use Rattle.vs_walk.proofs.TraversalWords.{missing_is, begun, all_met, means, leads_below, refused_at, goes_to_next, takes_to_next, stops_at_word}
+use Rattle.vs_walk.proofs.TraversalWords.{missing_is, begun, all_met, means, leads_below, refused_at, goes_to_next, takes_to_next, stops_at_word, zeros_met}
 use Rattle.vs_walk.proofs.traversal.+go_through.Goals.{in-Absent, in-Leaf+in_ok-take-in-Leaf, in-Table+in_ok-go_through-in-Table}
 use Rattle.vs_walk.proofs.traversal.+go_through.Goals as goal
 
@@ -35,10 +35,14 @@ loop-index-init g t c =
     let memory = g.F.Frames.memory c.args.frames.now in
     let words = c.table_words-words.result.now in
     let some : finite.get memory c.args.place.number ≡ Some words = sym c.in-Some.ensures ∙ ap (λ ws. Some ws) (sym c.table_words-words.ensures.is) in
+    let passed = zeros_met c.args.depth memory c.args.place.level (table_at c.args.place) words 0 c.next_word-index.result c.next_word-index.ensures.behind
+    c.next_word-index.ensures.within c.next_word-index.ensures.zeros in
     record {
-      goes_on = new_on memory c.args.marks.now c.add.new.self c.in_ok-add.field-0 c.args.place.number words some c.in_ok-add.ensures.new c.if-not-branch.false
-          c.in_ok-add.ensures.added;
-      takes = takes_none g.V.PageVisitor.HasTaken c.args.visitor.now (OfFrame c.args.place.number ∷ []) refl;
+      goes_on = subst (GoesOn memory c.args.marks.now c.add.new.self) (sym passed)
+          (new_on memory c.args.marks.now c.add.new.self c.in_ok-add.field-0 c.args.place.number words some c.in_ok-add.ensures.new c.if-not-branch.false
+          c.in_ok-add.ensures.added);
+      takes = subst (TakesFound (g.V.PageVisitor.HasTaken c.args.visitor.now) (g.V.PageVisitor.HasTaken c.args.visitor.now)) (sym passed)
+          (takes_none g.V.PageVisitor.HasTaken c.args.visitor.now (OfFrame c.args.place.number ∷ []) refl);
     }
 
 pub returns-in-Reserved-clause-stops : goal.returns-in-Reserved-clause-stops
@@ -90,31 +94,34 @@ loop-index-preserved g t c =
     let index = c.loop-index.index in
     let within : index < length words = c.loop-index-test.true in
     let read : meaning c.args.place.level (get_or words index 0) ≡ c.read.result = ap (meaning c.args.place.level) (sym c.new.ensures) ∙ sym c.read.ensures in
-    let goes = goes_to_next c.args.depth memory c.args.place.level table words index c.args.marks.now c.loop-index.marks in
-    let takes = takes_to_next g.V.PageVisitor.HasTaken c.args.depth memory c.args.place.level table words index c.args.visitor.now c.loop-index.visitor in
+    let next = c.next_word-index-in-loop-index.result in
+    let passed = zeros_met c.args.depth memory c.args.place.level table words (index + 1) next c.next_word-index-in-loop-index.ensures.behind
+    c.next_word-index-in-loop-index.ensures.within c.next_word-index-in-loop-index.ensures.zeros in
+    let goes = goes_to_next c.args.depth memory c.args.place.level table words index next c.args.marks.now c.loop-index.marks in
+    let takes = takes_to_next g.V.PageVisitor.HasTaken c.args.depth memory c.args.place.level table words index next c.args.visitor.now c.loop-index.visitor in
     elim c.match-read.branch [
       | in-Absent w ↦
           let met = means c.args.depth memory c.args.place.level table index (get_or words index 0) entry.Absent (read ∙ w.in-Absent.is) in
           rw (w.marks-is, w.visitor-is) record {
-            goes_on = goes c.loop-index.marks [] within met c.loop-index.invariant.goes_on (none_on memory c.loop-index.marks);
-            takes = takes c.loop-index.visitor [] within met c.loop-index.invariant.takes (takes_none g.V.PageVisitor.HasTaken c.loop-index.visitor [] refl);
+            goes_on = goes c.loop-index.marks [] within passed met c.loop-index.invariant.goes_on (none_on memory c.loop-index.marks);
+            takes = takes c.loop-index.visitor [] within passed met c.loop-index.invariant.takes (takes_none g.V.PageVisitor.HasTaken c.loop-index.visitor [] refl);
           }
       | in-Leaf+in_ok-take-in-Leaf w ↦
           let met = means c.args.depth memory c.args.place.level table index (get_or words index 0) (entry.Leaf w.in-Leaf.phys w.in-Leaf.own)
           (read ∙ w.in-Leaf.is) ∙ ap (λ page. OfLeaf page ∷ []) (sym w.page.ensures) in
           rw (w.marks-is, w.visitor-is) record {
-            goes_on = goes c.loop-index.marks (OfLeaf w.page.result ∷ []) within met c.loop-index.invariant.goes_on
+            goes_on = goes c.loop-index.marks (OfLeaf w.page.result ∷ []) within passed met c.loop-index.invariant.goes_on
                 (finds_on memory c.loop-index.marks w.page.result);
-            takes = takes w.take.new.self (OfLeaf w.page.result ∷ []) within met c.loop-index.invariant.takes w.in_ok-take-in-Leaf.ensures;
+            takes = takes w.take.new.self (OfLeaf w.page.result ∷ []) within passed met c.loop-index.invariant.takes w.in_ok-take-in-Leaf.ensures;
           }
       | in-Table+in_ok-go_through-in-Table w ↦
           let below = w.below-below.result in
           let met = leads_below c.args.depth memory c.args.place below index (get_or words index 0) w.in-Table.number w.in-Table.own
           (read ∙ w.in-Table.is) w.below-below.ensures.level w.below-below.ensures.stands in
           rw (w.marks-is, w.visitor-is) record {
-            goes_on = goes w.go_through.new.marks (table_visits c.args.depth memory below.level (table_at below)) within met c.loop-index.invariant.goes_on
+            goes_on = goes w.go_through.new.marks (table_visits c.args.depth memory below.level (table_at below)) within passed met c.loop-index.invariant.goes_on
                 w.in_ok-go_through-in-Table.ensures.goes_on;
-            takes = takes w.go_through.new.visitor (table_visits c.args.depth memory below.level (table_at below)) within met c.loop-index.invariant.takes
+            takes = takes w.go_through.new.visitor (table_visits c.args.depth memory below.level (table_at below)) within passed met c.loop-index.invariant.takes
                 w.in_ok-go_through-in-Table.ensures.pages;
           }
     ]

@@ -1,3 +1,4 @@
+use Rattle.std.proofs.Common.{◌-◌, length}
 use Rattle.vs_walk.specs.inside.Traversed.{GoesOn, TakesFound, table_at}
 use Rattle.vs_walk.proofs.TraversalWords.{met_up_to}
 use Rattle.vs_walk.proofs.traversal.+go_through.Given as goal
@@ -12,3 +13,6 @@ invariant-loop-index g l = record {
   takes : TakesFound (g.V.PageVisitor.HasTaken l.fn.visitor) (g.V.PageVisitor.HasTaken l.visitor)
       (met_up_to l.depth (g.F.Frames.memory l.frames) l.place.level (table_at l.place) l.words l.index);
 }
+
+abbrev pub decreases-loop-index : goal.decreases-loop-index
+decreases-loop-index g l = length l.words - l.index
