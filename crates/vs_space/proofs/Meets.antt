@@ -23,7 +23,8 @@ use Rattle.vs_types.specs.declared.answer.Answer.TheVariants as answers
 use Rattle.vs_walk.specs.Memory.{Memory}
 use Rattle.vs_space.specs.Held.{Held, with_word}
 use Rattle.vs_space.specs.Path.{found_at, table_in}
-use Rattle.vs_space.specs.inside.Descent.{IsDescent}
+use Rattle.vs_space.specs.Written.{IsWritten}
+use Rattle.vs_space.specs.inside.Descent.{IsDescent, HasEnded}
 use Rattle.vs_space.specs.Table.{PageTable, IsTableOf, IsTableStep}
 use Rattle.vs_space.specs.inside.Invariant.{IsPageTable, table_in_store}
 use Rattle.vs_space.proofs.Paths.{words_found}
@@ -37,6 +38,23 @@ pub descended : {depth : Depth} {memory : Memory} {root address asked lowest lev
 descended {depth} {memory} {root} {address} {asked} {lowest} {level} {path} {met} {found} lowest_is is descent =
     subst (λ l. IsDescent depth memory root address l level path found) lowest_is
     (subst (λ (e : Meaning). IsDescent depth memory root address asked level path e) is descent)
+
+-- a descent that has ended, at a level that is named, in the page table as it is seen
+pub ended : {depth : Depth} {root : ℕ} {held : Held} {old : PageTable} {address level here number word : ℕ} {path : List ℕ}
+    → table_in_store depth held root ≡ old → IsPageTable (table_in_store depth held root) → level ≡ here
+    → IsDescent depth held.memory root address 1 level path (meaning level word)
+    → number ≡ slice_index path level → IsWritten level word → HasEnded old address here number word path
+ended {depth} {root} {held} {old} {address} {level} {here} {number} {word} {path} view_is table same descent last written =
+    subst (λ (t : PageTable). HasEnded t address here number word path) view_is
+    (subst (λ l. HasEnded (table_in_store depth held root) address l number word path) same
+    (record { table = table; descent = descent; last = last; written = written }))
+
+-- and in what is inside
+pub ended_inside : {depth : Depth} {root : ℕ} {held : Held} {old : PageTable} {address level number word : ℕ} {path : List ℕ}
+    → table_in_store depth held root ≡ old → HasEnded old address level number word path
+    → HasEnded (table_in_store depth held root) address level number word path
+ended_inside {address = address} {level} {number} {word} {path} view_is is =
+    subst (λ (t : PageTable). HasEnded t address level number word path) (sym view_is) is
 
 pub met_of : {t : PageTable} {a lowest level : ℕ} {path : List ℕ} {e : Meaning} → 1 ≤ lowest → IsDescent t.depth t.memory t.root a lowest level path e
     → IsMet t a level (slice_index path level) e

@@ -10,7 +10,9 @@ ghost use Rattle.vs_types.specs.Step.{allow, look};
 ghost use Rattle.vs_walk.specs.Traversal.{traversal, reached, walk_fault};
 ghost use Rattle.vs_space.specs.Table.{PageTable, IsTableOf, IsTableStep};
 ghost use Rattle.vs_space.specs.Written.{IsWrittenTable};
+ghost use Rattle.vs_space.specs.inside.Descent.{HasEnded};
 
+use crate::descent::Descent;
 use crate::tables::Tables;
 use crate::word::read_written;
 use std::marker::Model;
@@ -127,7 +129,24 @@ impl<S: FrameStore> Space<S> {
         ensures { (space : spaces.Space) → IsTableOf self.now space → result ≡ look space address }
     {
         let descent = self.tables.descend(self.depth, self.root, address, 1);
-        let level = descent.level as u8;
+        match descent.level {
+            1 => self.resolve_at(1, &descent, address),
+            2 => self.resolve_at(2, &descent, address),
+            3 => self.resolve_at(3, &descent, address),
+            level => self.resolve_at(level as u8, &descent, address),
+        }
+    }
+
+    /// Does what `resolve` does, where the descent ended at this level. Its code stands once for each level that has pages, so
+    /// that their size is a constant there.
+    #[inline(always)]
+    fn resolve_at(&self, level: u8, descent: &Descent, address: u64) -> Answer
+        requires canonical { IsCanonical self.now.depth address }
+        requires some_level { 1 ≤ level }
+        requires few_levels { level ≤ 5 }
+        requires ended { HasEnded self.now address level descent.now.number descent.now.word descent.now.path }
+        ensures { (space : spaces.Space) → IsTableOf self.now space → result ≡ look space address }
+    {
         let Meaning::Leaf(phys, rights) = read_written(level, descent.word) else {
             return Answer::NotMapped;
         };
@@ -197,7 +216,23 @@ impl<S: FrameStore> Space<S> {
         ensures { IsTableStep self.old (Action.Unmap base) result self.new }
     {
         let descent = self.tables.descend(self.depth, self.root, base, 1);
-        let level = descent.level as u8;
+        match descent.level {
+            1 => self.unmap_at(1, &descent, base),
+            2 => self.unmap_at(2, &descent, base),
+            3 => self.unmap_at(3, &descent, base),
+            level => self.unmap_at(level as u8, &descent, base),
+        }
+    }
+
+    /// Does what `unmap` does, where the descent ended at this level.
+    #[inline(always)]
+    fn unmap_at(&mut self, level: u8, descent: &Descent, base: u64) -> Answer
+        requires base { IsBase self.old.depth base }
+        requires some_level { 1 ≤ level }
+        requires few_levels { level ≤ 5 }
+        requires ended { HasEnded self.old base level descent.now.number descent.now.word descent.now.path }
+        ensures { IsTableStep self.old (Action.Unmap base) result self.new }
+    {
         let Meaning::Leaf(phys, rights) = read_written(level, descent.word) else {
             return Answer::NotMapped;
         };
@@ -206,7 +241,7 @@ impl<S: FrameStore> Space<S> {
         if offset != 0 {
             return Answer::Inside(base - offset);
         }
-        let number = descent.path[descent.level];
+        let number = descent.path[level as usize];
         self.tables.write(number, index_at(level, base), 0);
         let _stop = self.tables.prune(self.depth, base, &descent.path, level);
         Answer::Removed(phys, size, rights)
@@ -217,7 +252,23 @@ impl<S: FrameStore> Space<S> {
         ensures { IsTableStep self.old (Action.Protect base rights) result self.new }
     {
         let descent = self.tables.descend(self.depth, self.root, base, 1);
-        let level = descent.level as u8;
+        match descent.level {
+            1 => self.protect_at(1, &descent, base, rights),
+            2 => self.protect_at(2, &descent, base, rights),
+            3 => self.protect_at(3, &descent, base, rights),
+            level => self.protect_at(level as u8, &descent, base, rights),
+        }
+    }
+
+    /// Does what `protect` does, where the descent ended at this level.
+    #[inline(always)]
+    fn protect_at(&mut self, level: u8, descent: &Descent, base: u64, rights: Rights) -> Answer
+        requires base { IsBase self.old.depth base }
+        requires some_level { 1 ≤ level }
+        requires few_levels { level ≤ 5 }
+        requires ended { HasEnded self.old base level descent.now.number descent.now.word descent.now.path }
+        ensures { IsTableStep self.old (Action.Protect base rights) result self.new }
+    {
         let Meaning::Leaf(phys, old) = read_written(level, descent.word) else {
             return Answer::NotMapped;
         };

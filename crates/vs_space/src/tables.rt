@@ -132,8 +132,27 @@ impl<S: FrameStore> Tables<S> {
     }
 
     /// Goes down on the path of an address to the first entry that leads no further, but not below the lowest level.
-    #[inline]
+    #[inline(always)]
     pub(crate) fn descend(&self, depth: Depth, root: u64, address: u64, lowest: u8) -> Descent
+        requires tree { IsTree (levels depth) self.now.memory root }
+        requires all_reached { IsReached (levels depth) self.now.memory root }
+        requires some_level { 1 ≤ lowest }
+        requires within { lowest ≤ levels depth }
+        ensures descent { IsDescent depth self.now.memory root address lowest result.level result.path (meaning result.level result.word) }
+        ensures last { result.number ≡ slice_index result.path result.level }
+        ensures written { IsWritten result.level result.word }
+        ensures some_level { 1 ≤ result.level }
+        ensures few_levels { result.level ≤ 5 }
+    {
+        match depth {
+            Depth::Four => self.descend_all(Depth::Four, root, address, lowest),
+            Depth::Five => self.descend_all(Depth::Five, root, address, lowest),
+        }
+    }
+
+    /// Does what `descend` does. Its code stands once for each depth, so that the level of each step is a constant there.
+    #[inline(always)]
+    fn descend_all(&self, depth: Depth, root: u64, address: u64, lowest: u8) -> Descent
         requires tree { IsTree (levels depth) self.now.memory root }
         requires all_reached { IsReached (levels depth) self.now.memory root }
         requires some_level { 1 ≤ lowest }
@@ -192,6 +211,7 @@ impl<S: FrameStore> Tables<S> {
     }
 
     /// Whether a table of this level has no entry that is present. It looks beside this index first, and then at all words.
+    #[inline(always)]
     fn is_empty(&self, level: u8, number: u64, near: usize) -> bool
         requires in_use { IsSome (finite.get self.now.memory number) }
         requires written { AreWritten level self.now.memory number }
@@ -215,6 +235,7 @@ impl<S: FrameStore> Tables<S> {
 
     /// Gives back the tables on the path of an address, from this level up, that have no entry that is present, and
     /// clears what led to them. Answers the level at which it stops.
+    #[inline(always)]
     pub(crate) fn prune(
         &mut self,
         depth: Depth,

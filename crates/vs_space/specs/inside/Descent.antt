@@ -1,10 +1,14 @@
 -- Where a descent through the tables ends. No public clause cites it.
 use Rattle.std.specs.Prelude.{◌≡◌, ℕ, ◌<◌, ◌≤◌, List, Some, None, slice_index}
 use Rattle.vs_types.specs.Depth.{levels}
+use Rattle.vs_types.specs.Entry.{meaning}
 use Rattle.vs_types.specs.declared.depth.Depth.{Depth}
 use Rattle.vs_types.specs.declared.entry.Meaning.{Meaning}
 use Rattle.vs_walk.specs.Memory.{Memory}
 use Rattle.vs_space.specs.Path.{found_at, table_at, table_in}
+use Rattle.vs_space.specs.Table.{PageTable}
+use Rattle.vs_space.specs.Written.{IsWritten}
+use Rattle.vs_space.specs.inside.Invariant.{IsPageTable}
 
 -- the table of this level is reached, those above it are on the path, and its entry leads no further, or is of the lowest level that is asked for
 pub record IsDescent (depth : Depth) (memory : Memory) (root address lowest level : ℕ) (path : List ℕ) (found : Meaning) : Type 0 where
@@ -13,3 +17,10 @@ pub record IsDescent (depth : Depth) (memory : Memory) (root address lowest leve
   pub reached : (j : ℕ) → level ≤ j → j ≤ levels depth → table_at (levels depth) memory root j address ≡ Some (slice_index path j)
   pub is : found_at level memory (slice_index path level) address ≡ Some found
   pub ends : lowest < level → table_in (Some found) ≡ None
+
+-- a descent through a page table, which goes on as far as it can, has ended at this level, at this word of the table with this number
+pub record HasEnded (t : PageTable) (address level number word : ℕ) (path : List ℕ) : Type 0 where
+  pub table : IsPageTable t
+  pub descent : IsDescent t.depth t.memory t.root address 1 level path (meaning level word)
+  pub last : number ≡ slice_index path level
+  pub written : IsWritten level word

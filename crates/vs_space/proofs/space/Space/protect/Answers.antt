@@ -1,67 +1,17 @@
-use Rattle.std.proofs.Common.{◌-◌, ◌%◌, refl, sym, ap, subst, ◌∙◌}
-use Rattle.vs_types.specs.Depth.{IsCanonical}
-use Rattle.vs_types.specs.Entry.{meaning}
-use Rattle.vs_types.specs.Page.{level_of}
-use Rattle.vs_types.specs.declared.op.Action.TheVariants.{Protect}
-use Rattle.vs_types.specs.declared.answer.Answer.TheVariants as answers
-use Rattle.vs_space.specs.Held.{Held, with_word}
-use Rattle.vs_space.specs.Table.{PageTable, IsTableStep}
-use Rattle.vs_space.specs.inside.Invariant.{IsPageTable, table_in_store}
-use Rattle.vs_space.proofs.Numbered.{held}
-use Rattle.vs_space.proofs.Meets.{descended, used_met, leaf_again, protect_absent, protect_in, protected, seen}
+use Rattle.vs_space.proofs.Meets.{ended}
 use Rattle.vs_space.proofs.space.Space.protect.Goals as goal
 
-pub returns-in_default : goal.returns-in_default
-returns-in_default g c =
-    let canonical = subst (λ (t : PageTable). IsCanonical t.depth c.args.base) (sym c.self.view_is) c.requires.canonical in
-    subst (λ (t : PageTable). IsTableStep t (Protect c.args.base c.args.rights) answers.NotMapped t) c.self.view_is
-    (protect_absent c.self.invariant.0 canonical (descended refl (sym c.read_written.ensures) c.descend-descent.ensures.descent) c.in_default.not-Leaf
-    c.args.rights)
+pub protect_at-requires-clause-ended : goal.protect_at-requires-clause-ended
+protect_at-requires-clause-ended g c =
+    let end = c.descend-descent.ensures in
+    ended c.self.view_is c.self.invariant.0 c.in-1.is end.descent end.last end.written
 
-pub returns-then-offset-ne0 : goal.returns-then-offset-ne0
-returns-then-offset-ne0 g c =
-    let canonical = subst (λ (t : PageTable). IsCanonical t.depth c.args.base) (sym c.self.view_is) c.requires.canonical in
-    let descent = descended refl (sym c.in-Leaf.ensures) c.descend-descent.ensures.descent in
-    subst (λ (t : PageTable). IsTableStep t (Protect c.args.base c.args.rights) (answers.Inside (c.args.base - c.args.base % c.bytes.result)) t) c.self.view_is
-    (protect_in c.self.invariant.0 canonical descent c.at_level-size.ensures c.bytes.ensures c.if-offset-ne0.true c.args.rights)
+pub protect_at-requires-in-2-clause-ended : goal.protect_at-requires-in-2-clause-ended
+protect_at-requires-in-2-clause-ended g c =
+    let end = c.descend-descent.ensures in
+    ended c.self.view_is c.self.invariant.0 c.in-2.is end.descent end.last end.written
 
-pub leaf-leaf-requires-clause-aligned : goal.leaf-leaf-requires-clause-aligned
-leaf-leaf-requires-clause-aligned g c =
-    let canonical = subst (λ (t : PageTable). IsCanonical t.depth c.args.base) (sym c.self.view_is) c.requires.canonical in
-    let descent = descended refl (sym c.in-Leaf.ensures) c.descend-descent.ensures.descent in
-    (leaf_again c.self.invariant.0 canonical descent c.at_level-size.ensures).1
-
-pub leaf-leaf-requires-clause-in_range : goal.leaf-leaf-requires-clause-in_range
-leaf-leaf-requires-clause-in_range g c =
-    let canonical = subst (λ (t : PageTable). IsCanonical t.depth c.args.base) (sym c.self.view_is) c.requires.canonical in
-    let descent = descended refl (sym c.in-Leaf.ensures) c.descend-descent.ensures.descent in
-    (leaf_again c.self.invariant.0 canonical descent c.at_level-size.ensures).2
-
-pub write-requires-clause-in_use : goal.write-requires-clause-in_use
-write-requires-clause-in_use g c = used_met c.self.invariant.0 c.descend-descent.ensures.descent c.descend-descent.ensures.last
-
-pub invariant_of-self : goal.invariant_of-self
-invariant_of-self g c =
-    let inside = c.self.inside in
-    let canonical = subst (λ (t : PageTable). IsCanonical t.depth c.args.base) (sym c.self.view_is) c.requires.canonical in
-    let descent = descended refl (sym c.in-Leaf.ensures) c.descend-descent.ensures.descent in
-    let written = c.write.ensures.written ∙ ap
-    (λ n. held inside.tables.base inside.tables.limit (with_word inside.tables.memory n c.index_at.result c.word.result)) c.descend-descent.ensures.last in (
-      subst (λ (h : Held). IsPageTable (table_in_store inside.depth h inside.root)) (sym written)
-          (protected c.self.invariant.0 canonical descent c.at_level-size.ensures c.bytes.ensures c.requires.aligned
-          (ap (meaning (level_of c.at_level-size.result)) c.word.ensures ∙ c.leaf-leaf.ensures.read_back)
-          (c.word.ensures ∙ c.leaf-leaf.ensures.written) c.index_at.ensures.is c.if-offset-ne0.false).0,
-      c.write.ensures.numbers,
-    )
-
-pub returns : goal.returns
-returns g c =
-    let inside = c.self.inside in
-    let canonical = subst (λ (t : PageTable). IsCanonical t.depth c.args.base) (sym c.self.view_is) c.requires.canonical in
-    let descent = descended refl (sym c.in-Leaf.ensures) c.descend-descent.ensures.descent in
-    let written = c.write.ensures.written ∙ ap
-    (λ n. held inside.tables.base inside.tables.limit (with_word inside.tables.memory n c.index_at.result c.word.result)) c.descend-descent.ensures.last in
-    seen c.self.view_is written
-    (protected c.self.invariant.0 canonical descent c.at_level-size.ensures c.bytes.ensures c.requires.aligned
-    (ap (meaning (level_of c.at_level-size.result)) c.word.ensures ∙ c.leaf-leaf.ensures.read_back)
-    (c.word.ensures ∙ c.leaf-leaf.ensures.written) c.index_at.ensures.is c.if-offset-ne0.false).1
+pub protect_at-requires-in-3-clause-ended : goal.protect_at-requires-in-3-clause-ended
+protect_at-requires-in-3-clause-ended g c =
+    let end = c.descend-descent.ensures in
+    ended c.self.view_is c.self.invariant.0 c.in-3.is end.descent end.last end.written

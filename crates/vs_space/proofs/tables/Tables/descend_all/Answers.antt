@@ -1,6 +1,6 @@
 use Rattle.std.proofs.Common.{refl, sym, ◌∙◌, arith}
 use Rattle.vs_space.proofs.Descents.{at_root, all_root, goes_down, written_on_path, entry_read, stops, no_table}
-use Rattle.vs_space.proofs.tables.Tables.descend.Goals as goal
+use Rattle.vs_space.proofs.tables.Tables.descend_all.Goals as goal
 
 pub loop-level-init : goal.loop-level-init
 loop-level-init g c = at_root c.levels-level.ensures c.requires.within refl (all_root c.args.root)
