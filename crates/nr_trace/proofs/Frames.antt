@@ -1,7 +1,7 @@
 -- A reader that has taken a unit of a dump.
 use Rattle.std.proofs.Common.{◌≡◌, ◌≢◌, ℕ, zero, suc, ◌+◌, ◌-◌, ◌^◌, ◌<◌, ◌≤◌, List, [], ◌∷◌, ◌++◌, length, take, map, All, Option, Some, None, refl, sym, ap}
 use Rattle.std.proofs.Common.{subst, ◌∙◌, arith, append_assoc}
-use Rattle.std.specs.Global.{Vec}
+use Rattle.std.specs.Global.{Box, Vec}
 use Rattle.std.specs.List.{flat_map}
 use Rattle.std.specs.FinMap as finite
 use Rattle.std.specs.FinMap.Entries.{put, by_order}
@@ -85,17 +85,17 @@ number_refused replica index (suc frames) last Behind unit rest some whole none 
     (λ n. AtUnit 4096 None IsFrame frame_words (λ words. AtFrames replica (index + 1) frames (Some n) Behind))
     (BadFrame replica index) unit rest whole refl none
 
-pub number_taken : (parts : Parts) (opened : Opened) (last : Option ℕ) (frame : OpenFrame) (unit : List ℕ) → IsOpened parts opened
+pub number_taken : (parts : Parts) (opened : Opened) (last : Option ℕ) (room : Box (List ℕ)) (frame : OpenFrame) (unit : List ℕ) → IsOpened parts opened
     → ((n : ℕ) → IsNext last n → AreBelow opened n) → IsNext last frame.number → unit ≡ frame_number frame.number
     → frame.filled ≡ 0 → IsFrame frame.words.value
-    → HasRead (said (Frame parts opened last) ++ unit) (λ rest fault. Ahead (Frame parts opened last) (unit ++ rest) fault)
+    → HasRead (said (Frame parts opened last room) ++ unit) (λ rest fault. Ahead (Frame parts opened last room) (unit ++ rest) fault)
     (Words parts opened frame)
-number_taken parts opened last frame unit is_opened below next is none whole =
+number_taken parts opened last room frame unit is_opened below next is none whole =
     let nothing : words_begun frame ≡ [] = ap (λ (n : ℕ). frame_words (take n frame.words.value)) none in
     record {
       ready = (is_opened, next.in_range, below frame.number next, whole, omega (arith, none));
       bytes_are = ap (λ (l : List ℕ). frame_begun parts opened frame.number ++ l) nothing ∙ append-nil (frame_begun parts opened frame.number)
-          ∙ ap (λ (l : List ℕ). said (Frame parts opened last) ++ l) (sym is);
+          ∙ ap (λ (l : List ℕ). said (Frame parts opened last room) ++ l) (sym is);
       faults = λ rest fault h. number_passed (length parts.dumps.items) (finite.len opened.dump.frames) opened.left last
           (BehindDumps parts 1) frame.number unit rest fault is_opened.some_left next is
           (subst (λ (l : List ℕ). AtWords parts opened frame.number (l ++ rest) fault) nothing h);
@@ -168,28 +168,29 @@ grown_below opened number words above next is_next =
     omega (arith, one, is_next.rises)) is_next.rises)
 
 -- a frame is left
-pub words_taken : (parts : Parts) (opened : Opened) (number : ℕ) (words unit : List ℕ) → IsOpened parts opened → number < 2 ^ 40 → AreBelow opened number
-    → IsFrame words → unit ≡ frame_words words → 1 ≤ opened.left - 1
+pub words_taken : (parts : Parts) (opened : Opened) (number : ℕ) (room : Box (List ℕ)) (unit : List ℕ) → IsOpened parts opened → number < 2 ^ 40
+    → AreBelow opened number → IsFrame room.value → unit ≡ frame_words room.value → 1 ≤ opened.left - 1
     → HasRead (frame_begun parts opened number ++ unit) (λ rest fault. AtWords parts opened number (unit ++ rest) fault)
-    (Frame parts (grown opened number words) (Some number))
-words_taken parts opened number words unit is_opened fits above are is more = record {
+    (Frame parts (grown opened number room.value) (Some number) room)
+words_taken parts opened number room unit is_opened fits above are is more = record {
   ready = (
     record {
       in_range = is_opened.in_range;
       more_dumps = is_opened.more_dumps;
       applied = is_opened.applied;
       root = is_opened.root;
-      numbers = grown_numbers opened number words is_opened.numbers fits above;
-      words = grown_words opened number words is_opened.words are above;
+      numbers = grown_numbers opened number room.value is_opened.numbers fits above;
+      words = grown_words opened number room.value is_opened.words are above;
       some_left = more;
-      few_frames = omega (arith, len_more opened.dump.frames number words above, is_opened.few_frames, is_opened.some_left);
+      few_frames = omega (arith, len_more opened.dump.frames number room.value above, is_opened.few_frames, is_opened.some_left);
     },
-    grown_below opened number words above,
+    grown_below opened number room.value above,
+    are,
   );
-  bytes_are = ap (λ (l : List ℕ). whole_spelling parts ++ l) (grown_spelled opened number words unit is_opened.some_left above is)
+  bytes_are = ap (λ (l : List ℕ). whole_spelling parts ++ l) (grown_spelled opened number room.value unit is_opened.some_left above is)
       ∙ sym (append_assoc (whole_spelling parts) (opened_spelling opened ++ frame_number number) unit)
       ∙ ap (λ (l : List ℕ). l ++ unit) (sym (append_assoc (whole_spelling parts) (opened_spelling opened) (frame_number number)));
-  faults = λ rest fault h. words_faults parts opened number words unit rest fault above are is h;
+  faults = λ rest fault h. words_faults parts opened number room.value unit rest fault above are is h;
 }
 
 no_frame : (replica index frames : ℕ) (last : Option ℕ) (Behind : List ℕ → Format → Type 0) (rest : List ℕ) (fault : Format) → frames ≡ 0 → Behind rest fault
@@ -329,17 +330,18 @@ no_entries = nil_from_length (finite.entries (finite.empty {X = List ℕ} {R = n
 abbrev pub begun : DumpHead → Image
 begun head = record { applied = head.applied; root = head.root; frames = finite.empty }
 
-pub head_taken : (parts : Parts) (head : DumpHead) (image : Image) (unit : List ℕ) → image ≡ begun head → AreInRange parts
+pub head_taken : (parts : Parts) (head : DumpHead) (image : Image) (room : Box (List ℕ)) (unit : List ℕ) → image ≡ begun head → IsFrame room.value
+    → AreInRange parts
     → length parts.dumps.items < parts.config.replicas → SpellsHead unit head
     → HasRead (said (Dumps parts) ++ unit) (λ rest fault. Ahead (Dumps parts) (unit ++ rest) fault)
-    (Frame parts (record { dump = image; left = head.frames }) None)
-head_taken parts head image unit begins in_range one_left spells =
+    (Frame parts (record { dump = image; left = head.frames }) None room)
+head_taken parts head image room unit begins whole in_range one_left spells =
     let none : finite.len (finite.empty {X = List ℕ} {R = nat_cmp}) ≡ 0 = finite.len-empty nat_cmp (List ℕ) in
     let no_keys : finite.keys (finite.empty {X = List ℕ} {R = nat_cmp}) ≡ [] = ap (map (λ (e : ℕ × List ℕ). e.0)) no_entries in
     let no_values : finite.values (finite.empty {X = List ℕ} {R = nat_cmp}) ≡ [] = ap (map (λ (e : ℕ × List ℕ). e.1)) no_entries in
     let front = whole_spelling parts in
     let made : HasRead (said (Dumps parts) ++ unit) (λ rest fault. Ahead (Dumps parts) (unit ++ rest) fault)
-    (Frame parts (record { dump = begun head; left = head.frames }) None) = record {
+    (Frame parts (record { dump = begun head; left = head.frames }) None room) = record {
       ready = (
         record {
           in_range = in_range;
@@ -352,6 +354,7 @@ head_taken parts head image unit begins in_range one_left spells =
           few_frames = omega (arith, none, spells.in_range.few_frames);
         },
         λ number next. subst (All (λ held. held < number)) (sym no_keys) (All-nil (λ held. held < number)),
+        whole,
       );
       bytes_are = ap (λ (l : List ℕ). front ++ l)
           (ap (λ (n : ℕ). dump_head (record { applied = head.applied; frames = n; root = head.root }) ++ flat_map frame_bytes
@@ -370,4 +373,4 @@ head_taken parts head image unit begins in_range one_left spells =
           head unit rest fault none refl left spells.in_range spells.spelled h);
     } in
     subst (λ (d : Image). HasRead (said (Dumps parts) ++ unit) (λ rest fault. Ahead (Dumps parts) (unit ++ rest) fault)
-    (Frame parts (record { dump = d; left = head.frames }) None)) (sym begins) made
+    (Frame parts (record { dump = d; left = head.frames }) None room)) (sym begins) made

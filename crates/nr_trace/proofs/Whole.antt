@@ -70,7 +70,7 @@ too_short (Dumps parts) len rest ready is short =
     let given = chosen (nat_lt (length parts.dumps.items) parts.config.replicas) 16 len is in
     let one_left : length parts.dumps.items < parts.config.replicas = ltb-true _ _ given.0 in
     short_head (length parts.dumps.items + 0) (parts.config.replicas - (length parts.dumps.items + 0)) rest (omega arith) (omega (arith, given.1))
-too_short (Frame parts opened last) len rest ready is short =
+too_short (Frame parts opened last room) len rest ready is short =
     short_frame (length parts.dumps.items) _ opened.left last _ rest ready.0.some_left (omega (arith, some_is 8 len is))
 too_short (Words parts opened frame) len rest ready is short =
     inl (omega (arith, some_is 8 len is, ready.4, length-append (words_begun frame) rest, length_begun frame ready.3 ready.4), refl)
@@ -90,7 +90,7 @@ too_long (Events parts events) rest is more = absurd cc
 too_long (Dumps parts) rest is more =
     let all : parts.config.replicas ≤ length parts.dumps.items = ltb-false _ _ (not_chosen (nat_lt (length parts.dumps.items) parts.config.replicas) 16 is) in
     at_end (length parts.dumps.items + 0) (parts.config.replicas - (length parts.dumps.items + 0)) rest (omega arith) more
-too_long (Frame parts opened last) rest is more = absurd cc
+too_long (Frame parts opened last room) rest is more = absurd cc
 too_long (Words parts opened frame) rest is more = absurd cc
 
 pub some_bytes : (reader : Reader) (len : ℕ) → unit_bytes reader ≡ Some len → 1 ≤ len
@@ -100,7 +100,7 @@ some_bytes (Header alloc version) len is = omega (arith, some_is 14 len is)
 some_bytes (Log parts places events) len is = omega (arith, some_is 4 len is)
 some_bytes (Events parts events) len is = omega (arith, some_is 24 len is)
 some_bytes (Dumps parts) len is = omega (arith, (chosen (nat_lt (length parts.dumps.items) parts.config.replicas) 16 len is).1)
-some_bytes (Frame parts opened last) len is = omega (arith, some_is 8 len is)
+some_bytes (Frame parts opened last room) len is = omega (arith, some_is 8 len is)
 some_bytes (Words parts opened frame) len is = omega (arith, some_is 8 len is)
 
 -- a reader of which no unit is left has read a trace
@@ -127,7 +127,7 @@ ready_to_end (Dumps parts) ready is =
         spelled = refl;
       },
     )
-ready_to_end (Frame parts opened last) ready is = absurd cc
+ready_to_end (Frame parts opened last room) ready is = absurd cc
 ready_to_end (Words parts opened frame) ready is = absurd cc
 
 -- ---- runs
@@ -152,7 +152,7 @@ one_unit (Events parts events) len ready is = record {
 one_unit (Dumps parts) len ready is =
     let given = chosen (nat_lt (length parts.dumps.items) parts.config.replicas) 16 len is in
     (ltb-true _ _ given.0, sym given.1)
-one_unit (Frame parts opened last) len ready is = sym (some_is 8 len is)
+one_unit (Frame parts opened last room) len ready is = sym (some_is 8 len is)
 one_unit (Words parts opened frame) len ready is = record {
   count = 1;
   some = omega arith;

@@ -41,15 +41,16 @@ fn dump_with_fewer_rights(rt: HostRuntime) -> Result<(), Fail> {
     Ok(())
 }
 
-/// A frame in a box of its caller's, after room for two was made.
+/// Two frames, after room for two was made.
 #[test]
-fn frame_in_a_box(rt: HostRuntime) -> Result<(), Fail> {
+fn frames_in_a_room(rt: HostRuntime) -> Result<(), Fail> {
     let mut dump = Dump::new(rt.alloc(), 1, 1);
     dump.make_room(2)?;
-    dump.push_box(1, Box::new(rt.alloc(), one_word(3, 0x2007))?)?;
-    assert_eq!(rt; dump.count(), 1);
-    let words = dump.words(1).ok_or("frame 1")?;
-    assert_eq!(rt; words[3], 0x2007);
+    dump.push(1, &one_word(3, 0x2007))?;
+    dump.push(7, &one_word(4, 0x2007))?;
+    assert_eq!(rt; dump.count(), 2);
+    let words = dump.words(7).ok_or("frame 7")?;
+    assert_eq!(rt; (words[3], words[4]), (0, 0x2007));
     Ok(())
 }
 

@@ -1,7 +1,7 @@
 -- Lists of frames whose numbers rise, and the memories that they are.
 use Rattle.std.proofs.Common.{◌≡◌, ℕ, zero, suc, ◌+◌, ◌^◌, ◌<◌, ◌≢◌, Bool, true, false, cond, List, [], ◌∷◌, ◌++◌, length, map, Some, None, Result, Ok, Err}
 use Rattle.std.proofs.Common.{get_or, refl, inl, inr, sym, ap, subst, ◌∙◌, arith}
-use Rattle.std.specs.Prelude.{All, IsTrue, slice_index, ◌&&◌, MatchResult}
+use Rattle.std.specs.Prelude.{All, IsTrue, slice_index, ◌&&◌, MatchResult, zip}
 use Rattle.std.specs.FinMap as finite
 use Rattle.std.specs.FinMap.Entries.{put, find, is_sorted, below_all, by_order}
 use Rattle.std.specs.Ordering.{nat_cmp, eq_by_cmp, is_lt, is_eq, ordering_index}
@@ -15,7 +15,6 @@ use Rattle.std.proofs.lemmas.Bool.{cases_lt}
 use lib.Dec.{T}
 use Rattle.vs_types.specs.declared.limits.TheConstants.{TABLES}
 use Rattle.vs_types.specs.Frame.{IsFrame}
-use Rattle.vs_walk.specs.declared.dump.DumpFrame.{DumpFrame}
 use Rattle.vs_walk.specs.Memory.{Memory}
 use Rattle.vs_walk.specs.Dump.{AreParts}
 
@@ -144,59 +143,58 @@ find_none (e ∷ es) q h =
     ap (λ b. cond b (Some e.1) (find nat_cmp q es)) (apart q e.0 (h 0 e (omega arith)))
     ∙ find_none es q (λ k d lt. h (suc k) d (omega arith))
 
--- things that have a number and words, as frames
-abbrev pub rows : {X : Type 0} → (X → ℕ) → (X → List ℕ) → List X → List (ℕ × List ℕ)
-rows number words xs = map (λ x. (number x, words x)) xs
+-- ---- numbers, and the words of the frames that have them
 
-pub length_rows : {X : Type 0} (number : X → ℕ) (words : X → List ℕ) (xs : List X) → length (rows number words xs) ≡ length xs
-length_rows number words [] = refl
-length_rows number words (x ∷ xs) = ap suc (length_rows number words xs)
+length_pairs : (ns : List ℕ) (ws : List (List ℕ)) → length ns ≡ length ws → length (zip ns ws) ≡ length ns
+length_pairs [] ws paired = refl
+length_pairs (n ∷ ns) [] paired = absurd (omega arith)
+length_pairs (n ∷ ns) (w ∷ ws) paired = ap suc (length_pairs ns ws (omega arith))
 
-row : {X : Type 0} (number : X → ℕ) (words : X → List ℕ) (xs : List X) (k : ℕ) (d : X) (e : ℕ × List ℕ) → k < length xs
-    → get_or (rows number words xs) k e ≡ (number (get_or xs k d), words (get_or xs k d))
-row number words xs k d e lt = get_or-map (λ x. (number x, words x)) xs k d e lt
+pair_at : (ns : List ℕ) (ws : List (List ℕ)) (k : ℕ) (e : ℕ × List ℕ) → length ns ≡ length ws → k < length ns
+    → get_or (zip ns ws) k e ≡ (get_or ns k e.0, get_or ws k e.1)
+pair_at [] ws k e paired lt = absurd (omega arith)
+pair_at (n ∷ ns) [] k e paired lt = absurd (omega arith)
+pair_at (n ∷ ns) (w ∷ ws) zero e paired lt = refl
+pair_at (n ∷ ns) (w ∷ ws) (suc k) e paired lt = pair_at ns ws k e (omega arith) (omega arith)
 
-pub row_number : {X : Type 0} (number : X → ℕ) (words : X → List ℕ) (xs : List X) (k : ℕ) (d : X) (e : ℕ × List ℕ) → k < length xs
-    → (get_or (rows number words xs) k e).0 ≡ number (get_or xs k d)
-row_number number words xs k d e lt = ap (λ f. f.0) (row number words xs k d e lt)
+pub pairs_push : (ns : List ℕ) (ws : List (List ℕ)) (n : ℕ) (w : List ℕ) → length ns ≡ length ws
+    → zip (ns ++ n ∷ []) (ws ++ w ∷ []) ≡ zip ns ws ++ (n, w) ∷ []
+pairs_push [] [] n w paired = refl
+pairs_push [] (v ∷ ws) n w paired = absurd (omega arith)
+pairs_push (m ∷ ns) [] n w paired = absurd (omega arith)
+pairs_push (m ∷ ns) (v ∷ ws) n w paired = ap (λ l. (m, v) ∷ l) (pairs_push ns ws n w (omega arith))
 
-climbs : {X : Type 0} (number : X → ℕ) (words : X → List ℕ) (xs : List X) (q : ℕ) → IsTrue (is_sorted nat_cmp (rows number words xs))
-    → IsNonDecreasingBy (λ x. ordering_index (nat_cmp (number x) q)) xs
-climbs number words xs q s =
-    searchable_from_sorted nat_cmp_total number xs q (λ k d low lt.
-    let e : ℕ × List ℕ = (0, []) in
-    let up : (get_or (rows number words xs) k e).0 < (get_or (rows number words xs) (k + 1) e).0 =
-    numbers_rise (rows number words xs) k (k + 1) e s (omega arith) (omega (arith, length_rows number words xs)) in
-    let rise : number (get_or xs k d) < number (get_or xs (k + 1) d) =
-    omega (arith, up, row_number number words xs k d e (omega arith), row_number number words xs (k + 1) d e lt) in
-    ap is_lt (sym (nat_cmp_is (number (get_or xs (k + 1) d)) (number (get_or xs k d)) Greater rise)))
+climbs : (ns : List ℕ) (ws : List (List ℕ)) (q : ℕ) → length ns ≡ length ws → IsTrue (is_sorted nat_cmp (zip ns ws))
+    → IsNonDecreasingBy (λ n. ordering_index (nat_cmp n q)) ns
+climbs ns ws q paired s =
+    searchable_from_sorted nat_cmp_total (λ n. n) ns q (λ k d low lt.
+    let e : ℕ × List ℕ = (d, []) in
+    let up : (get_or (zip ns ws) k e).0 < (get_or (zip ns ws) (k + 1) e).0 =
+    numbers_rise (zip ns ws) k (k + 1) e s (omega arith) (omega (arith, lt, length_pairs ns ws paired)) in
+    let here : (get_or (zip ns ws) k e).0 ≡ get_or ns k d = ap (λ p. p.0) (pair_at ns ws k e paired (omega (arith, lt))) in
+    let next : (get_or (zip ns ws) (k + 1) e).0 ≡ get_or ns (k + 1) d = ap (λ p. p.0) (pair_at ns ws (k + 1) e paired lt) in
+    let rise : get_or ns k d < get_or ns (k + 1) d = omega (arith, up, here, next) in
+    ap is_lt (sym (nat_cmp_is (get_or ns (k + 1) d) (get_or ns k d) Greater rise)))
 
--- what a binary search by number gives among frames whose numbers rise
-pub searched : {X : Type 0} (number : X → ℕ) (words : X → List ℕ) (xs : List X) (q : ℕ) (r : Result ℕ ℕ) → IsTrue (is_sorted nat_cmp (rows number words xs))
-    → IsSearchInRange r (length xs) → IsBinarySearchResult (λ x. nat_cmp (number x) q) xs r
-    → MatchResult r (λ k. (d : X) → find nat_cmp q (rows number words xs) ≡ Some (words (get_or xs k d)))
-    (λ _. find nat_cmp q (rows number words xs) ≡ None)
-searched number words xs q (Ok k) s bound at = λ d.
-    let e : ℕ × List ℕ = (0, []) in
-    find_at (rows number words xs) q k e s (omega (arith, bound, length_rows number words xs))
-    (row_number number words xs k d e bound ∙ ranked _ _ Equal (sym (at d)))
-    ∙ ap (λ f. Some f.1) (row number words xs k d e bound)
-searched number words [] q (Err i) s bound at = refl
-searched number words (x ∷ xs) q (Err i) s bound at =
-    let parts = at (climbs number words (x ∷ xs) q s) in
-    find_none (rows number words (x ∷ xs)) q (λ k e lt.
-    let within : k < length (x ∷ xs) = omega (arith, length_rows number words (x ∷ xs)) in
-    let other : number (get_or (x ∷ xs) k x) ≢ q = elim (cases_lt k i) [
-      | inl low ↦ λ is. let less = ranked (number (get_or (x ∷ xs) k x)) q Less (sym (parts.0 k x (omega arith) low)) in omega (arith, less)
-      | inr high ↦ λ is. let more = ranked (number (get_or (x ∷ xs) k x)) q Greater (sym (parts.1 k x high within)) in omega (arith, more)
+-- what a binary search gives among numbers that rise
+pub searched : (ns : List ℕ) (ws : List (List ℕ)) (q : ℕ) (r : Result ℕ ℕ) → length ns ≡ length ws → IsTrue (is_sorted nat_cmp (zip ns ws))
+    → IsSearchInRange r (length ns) → IsBinarySearchResult (λ n. nat_cmp n q) ns r
+    → MatchResult r (λ k. (w : List ℕ) → find nat_cmp q (zip ns ws) ≡ Some (get_or ws k w))
+    (λ _. find nat_cmp q (zip ns ws) ≡ None)
+searched ns ws q (Ok k) paired s bound at = λ w.
+    let e : ℕ × List ℕ = (0, w) in
+    find_at (zip ns ws) q k e s (omega (arith, bound, length_pairs ns ws paired))
+    (ap (λ p. p.0) (pair_at ns ws k e paired bound) ∙ ranked _ _ Equal (sym (at 0)))
+    ∙ ap (λ p. Some p.1) (pair_at ns ws k e paired bound)
+searched ns ws q (Err i) paired s bound at =
+    let parts = at (climbs ns ws q paired s) in
+    find_none (zip ns ws) q (λ k e lt.
+    let within : k < length ns = omega (arith, lt, length_pairs ns ws paired) in
+    let other : get_or ns k e.0 ≢ q = elim (cases_lt k i) [
+      | inl low ↦ λ is. let less = ranked (get_or ns k e.0) q Less (sym (parts.0 k e.0 (omega arith) low)) in omega (arith, less)
+      | inr high ↦ λ is. let more = ranked (get_or ns k e.0) q Greater (sym (parts.1 k e.0 high within)) in omega (arith, more)
     ] in
-    λ is. other (sym (row_number number words (x ∷ xs) k x e within) ∙ is))
-
-pub number_at : {X : Type 0} (number : X → ℕ) (words : X → List ℕ) (xs : List X) (k : ℕ) (d : X) → k < length xs
-    → slice_index (map (λ e. e.0) (rows number words xs)) k ≡ number (get_or xs k d)
-number_at number words xs k d lt =
-    let e : ℕ × List ℕ = (0, []) in
-    get_or-map (λ f. f.0) (rows number words xs) k e 0 (omega (arith, length_rows number words xs)) ∙ row_number number words xs k d e lt
+    λ is. other (sym (ap (λ p. p.0) (pair_at ns ws k e paired within)) ∙ is))
 
 pub no_frames : finite.from_sorted {X = List ℕ} {R = nat_cmp} [] ≡ finite.empty
 no_frames = finite.empty_of_len _ (finite.len-entries _ ∙ ap length (entries_stand [] refl))
@@ -219,16 +217,14 @@ no_numbers = ap finite.keys (sym no_frames) ∙ ap (map (λ e. e.0)) (entries_st
 
 -- ---- the frames that a dump keeps
 
-abbrev pub frame_rows : List DumpFrame → List (ℕ × List ℕ)
-frame_rows frames = rows (λ f. f.number) (λ f. f.words.value) frames
+pub frame_count : (ns : List ℕ) (ws : List (List ℕ)) (memory : Memory) → length ns ≡ length ws → IsStanding (zip ns ws) memory
+    → finite.len memory ≡ length ns
+frame_count ns ws memory paired stands = len_of (zip ns ws) memory stands ∙ length_pairs ns ws paired
 
-pub frame_rows_push : (frames more : List DumpFrame) (f : DumpFrame) (words : List ℕ) → more ≡ frames ++ f ∷ [] → f.words.value ≡ words
-    → frame_rows more ≡ frame_rows frames ++ (f.number, words) ∷ []
-frame_rows_push frames more f words is same =
-    ap frame_rows is ∙ map-append (λ g. (g.number, g.words.value)) frames (f ∷ []) ∙ ap (λ w. frame_rows frames ++ (f.number, w) ∷ []) same
-
-pub frame_count : (frames : List DumpFrame) (memory : Memory) → IsStanding (frame_rows frames) memory → finite.len memory ≡ length frames
-frame_count frames memory stands = len_of (frame_rows frames) memory stands ∙ length_rows _ _ frames
-
-pub within_frames : (frames : List DumpFrame) (memory : Memory) (k : ℕ) → IsStanding (frame_rows frames) memory → k < finite.len memory → k < length frames
-within_frames frames memory k stands lt = subst (λ n. k < n) (frame_count frames memory stands) lt
+pub number_at : (ns : List ℕ) (ws : List (List ℕ)) (memory : Memory) (k d : ℕ) → length ns ≡ length ws → IsStanding (zip ns ws) memory
+    → k < length ns → slice_index (finite.keys memory) k ≡ get_or ns k d
+number_at ns ws memory k d paired stands lt =
+    let e : ℕ × List ℕ = (d, []) in
+    ap (λ es. slice_index (map (λ p. p.0) es) k) (entries_of _ _ stands)
+    ∙ get_or-map (λ p. p.0) (zip ns ws) k e 0 (omega (arith, lt, length_pairs ns ws paired))
+    ∙ ap (λ p. p.0) (pair_at ns ws k e paired lt)

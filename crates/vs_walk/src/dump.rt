@@ -9,12 +9,6 @@ use std::alloc::Global;
 use std::marker::Model;
 use vs_types::{FRAME_WORDS, Memory};
 
-#[derive(Debug, Drop)]
-struct DumpFrame {
-    number: u64,
-    words: Box<[u64; FRAME_WORDS]>,
-}
-
 /// That words of this type are a frame's, as many and of 64 bits each. It does nothing: a call that lends the words tells it.
 fn are_whole(words: &[u64; FRAME_WORDS])
     ensures { IsFrame words.now }
@@ -22,27 +16,37 @@ fn are_whole(words: &[u64; FRAME_WORDS])
     let _lent = words.iter();
 }
 
-/// The page table of a replica as it was after some entries of the log. It keeps its frames by rising number.
+/// The words of one frame as a list of frames.
+fn one_frame(words: &[u64; FRAME_WORDS]) -> &[[u64; FRAME_WORDS]]
+    ensures { result.now ≡ words.now ∷ [] }
+{
+    let (frames, _) = words.as_chunks::<FRAME_WORDS>();
+    frames
+}
+
+/// The page table of a replica as it was after some entries of the log. It keeps its frames by rising number, the numbers
+/// in one list and the words in another.
 #[derive(Debug, Drop)]
 pub struct Dump {
     applied: u32,
     root: u64,
-    alloc: Global,
-    frames: Vec<DumpFrame>,
+    numbers: Vec<u64>,
+    words: Vec<[u64; FRAME_WORDS]>,
 }
 
 impl Model for Dump {
-    ghost use Rattle.std.specs.Prelude.{map};
+    ghost use Rattle.std.specs.Prelude.{zip};
     ghost use Rattle.std.specs.FinMap as finite;
-    ghost use Rattle.vs_walk.specs.Dump.{Image, image_code, AreParts};
+    ghost use Rattle.vs_walk.specs.Dump.{Image, image_code};
+    ghost use Rattle.vs_walk.specs.inside.Kept.{AreKept};
 
     ghost Value = { Image };
 
     ghost coded = { image_code };
 
-    ghost view = { λ d. record { applied = d.applied; root = d.root; frames = finite.from_sorted (map (λ f. (f.number, f.words.value)) d.frames.items) } };
+    ghost view = { λ d. record { applied = d.applied; root = d.root; frames = finite.from_sorted (zip d.numbers.items d.words.items) } };
 
-    ghost invariant = { λ d. AreParts d.applied d.root (map (λ f. (f.number, f.words.value)) d.frames.items) };
+    ghost invariant = { λ d. AreKept d.applied d.root d.numbers.items d.words.items };
 }
 
 impl Dump {
@@ -56,12 +60,13 @@ impl Dump {
         Dump {
             applied,
             root,
-            alloc,
-            frames: Vec::new(alloc),
+            numbers: Vec::new(alloc),
+            words: Vec::new(alloc),
         }
     }
 
-    /// Adds a frame, whose number is above those of all that are held and below 2^40. It takes memory for the frame.
+    /// Adds a frame, whose number is above those of all that are held and below 2^40. It takes memory where there is no
+    /// room for a frame more.
     pub fn push(&mut self, number: u64, words: &[u64; FRAME_WORDS]) -> Result<(), Memory>
         requires above { All (λ held. held < number) (finite.keys self.old.frames) }
         requires in_range { number < 2 ^ 40 }
@@ -71,31 +76,21 @@ impl Dump {
         ensures count { OnOk result (finite.len self.new.frames ≡ finite.len self.old.frames + 1) }
         ensures err { OnErr result (self.new ≡ self.old) }
     {
-        let words = Box::new(self.alloc, *words)?;
-        self.push_box(number, words)
-    }
-
-    /// Adds a frame as `push` does, and keeps its words where they are. It may take memory for the list of frames.
-    pub fn push_box(&mut self, number: u64, words: Box<[u64; FRAME_WORDS]>) -> Result<(), Memory>
-        requires above { All (λ held. held < number) (finite.keys self.old.frames) }
-        requires in_range { number < 2 ^ 40 }
-        requires room { finite.len self.old.frames < TABLES }
-        ensures ok { OnOk result (self.new ≡ record self.old { frames = finite.insert self.old.frames number words.value }) }
-        ensures numbers { OnOk result (finite.keys self.new.frames ≡ finite.keys self.old.frames ++ number ∷ []) }
-        ensures count { OnOk result (finite.len self.new.frames ≡ finite.len self.old.frames + 1) }
-        ensures err { OnErr result (self.new ≡ self.old) }
-    {
-        are_whole(&words);
-        self.frames.push(DumpFrame { number, words })?;
+        are_whole(words);
+        self.numbers.reserve(1)?;
+        self.words.extend_from_slice(one_frame(words))?;
+        self.numbers.push(number)?;
         Ok(())
     }
 
-    /// Makes room for exactly so many more frames, where its list of frames is full. It takes memory for that list.
+    /// Makes room for exactly so many more frames, where it has no room for one. It takes memory for them: 4,104 bytes
+    /// for each.
     pub fn make_room(&mut self, frames: usize) -> Result<(), Memory>
         ensures { self.new ≡ self.old }
     {
-        if self.frames.len() == self.frames.capacity() {
-            self.frames.reserve_exact(frames)?;
+        if self.words.len() == self.words.capacity() {
+            self.words.reserve_exact(frames)?;
+            self.numbers.reserve_exact(frames)?;
         }
         Ok(())
     }
@@ -119,7 +114,7 @@ impl Dump {
         ensures reads { result ≡ finite.len self.now.frames }
         ensures is_dump { IsDump self.now }
     {
-        self.frames.len()
+        self.numbers.len()
     }
 
     /// The number of its frame at index `k`, by rising number.
@@ -127,7 +122,7 @@ impl Dump {
         requires { k < finite.len self.now.frames }
         ensures { result ≡ slice_index (finite.keys self.now.frames) k }
     {
-        self.frames[k].number
+        self.numbers[k]
     }
 }
 
@@ -135,11 +130,8 @@ impl Frames for Dump {
     ghost memory = { λ d. d.frames };
 
     fn words(&self, number: u64) -> Option<&[u64; FRAME_WORDS]> {
-        match self
-            .frames
-            .binary_search_by_key(&number, |frame| frame.number)
-        {
-            Ok(k) => Some(&self.frames[k].words),
+        match self.numbers.binary_search(&number) {
+            Ok(k) => Some(&self.words[k]),
             Err(_) => None,
         }
     }

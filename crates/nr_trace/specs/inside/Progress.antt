@@ -26,7 +26,7 @@ unit_bytes (Header alloc version) = Some 14
 unit_bytes (Log parts places events) = Some 4
 unit_bytes (Events parts events) = Some 24
 unit_bytes (Dumps parts) = if nat_lt (length parts.dumps.items) parts.config.replicas then Some 16 else None
-unit_bytes (Frame parts opened last) = Some 8
+unit_bytes (Frame parts opened last room) = Some 8
 unit_bytes (Words parts opened frame) = Some 8
 
 -- at least one unit of this many bytes, and at most so many
@@ -44,7 +44,7 @@ IsRun (Header alloc version) bytes = bytes ≡ 14
 IsRun (Log parts places events) bytes = AreUnits 4 places bytes
 IsRun (Events parts events) bytes = AreUnits 24 events bytes
 IsRun (Dumps parts) bytes = (length parts.dumps.items < parts.config.replicas) × (bytes ≡ 16)
-IsRun (Frame parts opened last) bytes = bytes ≡ 8
+IsRun (Frame parts opened last room) bytes = bytes ≡ 8
 IsRun (Words parts opened frame) bytes = AreUnits 8 (512 - frame.filled) bytes
 
 -- the spelling of the parts, where there are so many places and events in all
@@ -77,7 +77,7 @@ said (Header alloc version) = magic ++ version_word version
 said (Log parts places events) = parts_spelling (length parts.log.items + places) events parts
 said (Events parts events) = parts_spelling (length parts.log.items) (length parts.events.items + events) parts
 said (Dumps parts) = whole_spelling parts
-said (Frame parts opened last) = whole_spelling parts ++ opened_spelling opened
+said (Frame parts opened last room) = whole_spelling parts ++ opened_spelling opened
 said (Words parts opened frame) = frame_begun parts opened frame.number ++ words_begun frame
 
 -- the faults of the bytes after the dumps that there are
@@ -99,7 +99,7 @@ Ahead (Header alloc version) rest fault = AtCounts version rest fault
 Ahead (Log parts places events) rest fault = AtLog parts.version parts.config places events rest fault
 Ahead (Events parts events) rest fault = AtEvents parts.version parts.config (length parts.events.items) events rest fault
 Ahead (Dumps parts) rest fault = BehindDumps parts 0 rest fault
-Ahead (Frame parts opened last) rest fault =
+Ahead (Frame parts opened last room) rest fault =
     AtFrames (length parts.dumps.items) (finite.len opened.dump.frames) opened.left last (BehindDumps parts 1) rest fault
 Ahead (Words parts opened frame) rest fault = AtWords parts opened frame.number (words_begun frame ++ rest) fault
 
@@ -138,7 +138,8 @@ IsReady (Log parts places events) =
     AreInRange parts × (1 ≤ places) × (length parts.log.items + places ≤ LOG_PLACES) × (events ≤ CALLS) × (parts.events.items ≡ []) × (parts.dumps.items ≡ [])
 IsReady (Events parts events) = AreInRange parts × (1 ≤ events) × (length parts.events.items + events ≤ CALLS) × (parts.dumps.items ≡ [])
 IsReady (Dumps parts) = AreInRange parts
-IsReady (Frame parts opened last) = IsOpened parts opened × ((number : ℕ) → IsNext last number → AreBelow opened number)
+IsReady (Frame parts opened last room) =
+    IsOpened parts opened × ((number : ℕ) → IsNext last number → AreBelow opened number) × IsFrame room.value
 IsReady (Words parts opened frame) =
     IsOpened parts opened × (frame.number < 2 ^ 40) × AreBelow opened frame.number × IsFrame frame.words.value × (frame.filled < 512)
 

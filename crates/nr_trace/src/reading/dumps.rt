@@ -29,7 +29,8 @@ pub(crate) fn take_dump_head(parts: Parts, unit: &[u8]) -> Result<Reader, Fail<F
                 dump: Dump::new(parts.alloc, head.applied, head.root),
                 left: head.frames,
             };
-            Ok(Reader::Frame(parts, opened, None))
+            let room = room_for_words(parts.alloc)?;
+            Ok(Reader::Frame(parts, opened, None, room))
         }
         None => Err(Fail::Refused(Format::BadCount)),
     }
@@ -48,18 +49,18 @@ pub(crate) fn take_frame_number(
     parts: Parts,
     opened: Opened,
     last: Option<u64>,
+    room: Box<[u64; FRAME_WORDS]>,
     unit: &[u8],
 ) -> Result<Reader, Fail<Format>>
-    requires ready { IsReady (Reader.Frame parts opened last) }
+    requires ready { IsReady (Reader.Frame parts opened last room) }
     requires whole { length unit.now ≡ 8 }
-    ensures { Takes (Reader.Frame parts opened last) unit.now result }
+    ensures { Takes (Reader.Frame parts opened last room) unit.now result }
 {
     let (number, _) = take_u64(unit);
     if is_next(last, number) {
-        let words = room_for_words(parts.alloc)?;
         let frame = OpenFrame {
             number,
-            words,
+            words: room,
             filled: 0,
         };
         return Ok(Reader::Words(parts, opened, frame));
@@ -69,24 +70,25 @@ pub(crate) fn take_frame_number(
     Err(Fail::Refused(Format::BadFrame(replica, index)))
 }
 
-/// The dump with this frame, where so many frames are left. It takes memory for the list of its frames.
+/// The dump with this frame, where so many frames are left. It takes memory for its frames.
 fn with_frame(
     mut dump: Dump,
     left: u32,
     number: u64,
-    words: Box<[u64; FRAME_WORDS]>,
+    words: &[u64; FRAME_WORDS],
 ) -> Result<Dump, Memory>
     requires above { All (λ held. held < number) (finite.keys dump.frames) }
     requires in_range { number < 2 ^ 40 }
     requires room { finite.len dump.frames < TABLES }
-    ensures { IfOk result (λ more. more ≡ record dump { frames = finite.insert dump.frames number words.value }) }
+    ensures { IfOk result (λ more. more ≡ record dump { frames = finite.insert dump.frames number words.now }) }
 {
     dump.make_room(room_step(dump.count(), 1, left as usize))?;
-    dump.push_box(number, words)?;
+    dump.push(number, words)?;
     Ok(dump)
 }
 
-/// The frame goes to its dump, and the dump to the others where it was the last one. It takes memory for the lists.
+/// The frame goes to its dump, and the dump to the others where it was the last one; else the next frame's words go to
+/// the same room. It takes memory for the lists.
 fn add_frame(
     mut parts: Parts,
     opened: Opened,
@@ -101,7 +103,7 @@ fn add_frame(
         (λ rest fault. AtWords parts opened number (frame_words words.value ++ rest) fault)) }
 {
     let Opened { dump, left } = opened;
-    let dump = with_frame(dump, left, number, words)?;
+    let dump = with_frame(dump, left, number, &words)?;
     let left = left - 1;
     if left == 0 {
         let replicas = parts.config.replicas() as usize;
@@ -109,7 +111,7 @@ fn add_frame(
         parts.dumps.push(dump)?;
         return Ok(Reader::Dumps(parts));
     }
-    Ok(Reader::Frame(parts, Opened { dump, left }, Some(number)))
+    Ok(Reader::Frame(parts, Opened { dump, left }, Some(number), words))
 }
 
 pub(crate) fn take_words(

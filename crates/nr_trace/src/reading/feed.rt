@@ -109,7 +109,7 @@ impl Feed {
 
     /// Takes the next piece. It refuses with the first fault of the bytes so far, as soon as these hold one that no
     /// later piece can mend; and with out of memory. A feed that has refused answers the same from then on. It takes
-    /// memory for what the whole units say, 4,096 bytes for a frame once its number has come, and for the beginning of
+    /// memory for what the whole units say, 4,096 bytes for the words of a dump's next frame, and for the beginning of
     /// one unit, fewer than 24 bytes.
     pub fn feed(&mut self, piece: &[u8]) -> Result<(), Fail<Format>>
         ensures { Feeds self.old piece.now self.new result }

@@ -62,8 +62,8 @@ pub(crate) enum Reader {
     Events(Parts, u32),
     /// The head of the next dump, or the end.
     Dumps(Parts),
-    /// The number of a frame; the one before it.
-    Frame(Parts, Opened, Option<u64>),
+    /// The number of a frame; the one before it, and room for the words.
+    Frame(Parts, Opened, Option<u64>, Box<[u64; FRAME_WORDS]>),
     /// The next words of a frame.
     Words(Parts, Opened, OpenFrame),
 }
@@ -97,7 +97,7 @@ impl Reader {
                     None
                 }
             }
-            Reader::Frame(_, _, _) => Some(8),
+            Reader::Frame(_, _, _, _) => Some(8),
             Reader::Words(_, _, _) => Some(8),
         }
     }
@@ -132,7 +132,9 @@ impl Reader {
             Reader::Log(parts, places, events) => take_places(parts, places, events, run),
             Reader::Events(parts, events) => take_events(parts, events, run),
             Reader::Dumps(parts) => take_dump_head(parts, run),
-            Reader::Frame(parts, opened, last) => take_frame_number(parts, opened, last, run),
+            Reader::Frame(parts, opened, last, room) => {
+                take_frame_number(parts, opened, last, room, run)
+            }
             Reader::Words(parts, opened, frame) => take_words(parts, opened, frame, run),
         }
     }

@@ -11,10 +11,10 @@ use Rattle.nr_trace.proofs.reading.dumps.take_frame_number.Goals as goal
 
 pub returns-then-is_next : goal.returns-then-is_next
 returns-then-is_next c =
-    number_taken c.args.parts c.args.opened c.args.last
-    record { number = c.take_u64-number.result.0; words = c.in_ok-words.words; filled = 0 } c.args.unit.now c.requires.ready.0 c.requires.ready.1
+    number_taken c.args.parts c.args.opened c.args.last c.args.room
+    record { number = c.take_u64-number.result.0; words = c.args.room; filled = 0 } c.args.unit.now c.requires.ready.0 c.requires.ready.1
     (c.is_next.ensures.0 c.if-is_next.true)
-    (only_front c.args.unit.now _ _ c.take_u64-number.ensures c.requires.whole) refl c.in_ok-words.ensures
+    (only_front c.args.unit.now _ _ c.take_u64-number.ensures c.requires.whole) refl c.requires.ready.2
 
 pub returns : goal.returns
 returns c = λ rest.
