@@ -1,16 +1,16 @@
 ghost use Rattle.std.specs.Prelude.{◌≡◌};
 ghost use Rattle.std.specs.FinMap as finite;
 
-use crate::alike_cases::{
-    ACCESS, BOTH_HALVES, BOTH_HALVES_OF_FIVE, Call, FULL, FULL_OF_FIVE, GIGABYTE, OVERLAP, PROTECT,
-    Row, UNMAP,
+use crate::cases::{
+    ACCESS, BOTH_HALVES, BOTH_HALVES_OF_FIVE, Call, FULL, FULL_OF_FIVE, GIGABYTE, LAST_PAGE,
+    OVERLAP, PROTECT, Row, UNMAP, operation,
 };
 use std::alloc::Global;
 use std::process::Abort;
 use std::test::Fail;
 use vs_alike::{Both, Told};
 use vs_arena::{FrameStore, RawArena, VecArena};
-use vs_types::{Answer, BadOp, Depth, Op};
+use vs_types::{Answer, Depth};
 
 /// Calls one after another, from no pages on.
 #[derive(Clone, Copy)]
@@ -22,17 +22,6 @@ struct Case<'a> {
     /// How many tables more there are than a row says, where there is a page.
     more: usize,
     rows: &'a [Row],
-}
-
-/// The operation of a call, if it is one.
-fn operation(depth: Depth, call: Call) -> Result<Option<Op>, BadOp> {
-    let op = match call {
-        Call::Map(base, size, phys, rights) => Op::map(depth, base, size, phys, rights)?,
-        Call::Unmap(base) => Op::unmap(depth, base)?,
-        Call::Protect(base, rights) => Op::protect(depth, base, rights)?,
-        Call::Resolve(_) | Call::Access(_, _, _) => return Ok(None),
-    };
-    Ok(Some(op))
 }
 
 /// What both answer to a call. A read must be of a canonical address.
@@ -75,15 +64,10 @@ fn run<S: FrameStore + Drop>(
         } else {
             1
         };
-        assert_eq!(rt; told.table, *answer, "{name}, row {place}, the page table");
-        assert_eq!(rt; told.plain, *answer, "{name}, row {place}, the plain space");
-        let counts = both.tables();
-        assert_eq!(rt; counts.table, tables, "{name}, row {place}, the page table");
-        assert_eq!(rt;
-            counts.plain,
-            tables,
-            "{name}, row {place}, the plain space"
-        );
+        let told = (told.table, told.plain);
+        assert_eq!(rt; told, (*answer, *answer), "{name}, row {place}");
+        let counts = (both.tables().table, both.tables().plain);
+        assert_eq!(rt; counts, (tables, tables), "{name}, row {place}");
         assert_eq!(rt; both.table().tables(), tables, "{name}, row {place}");
     }
     Ok(())
@@ -113,6 +97,7 @@ fn worked_examples(rt: HostRuntime) -> Result<(), Fail> {
         case("both halves", 4096, BOTH_HALVES.as_slice()),
         case("overlap names the least base", 4096, OVERLAP.as_slice()),
         case("gigabyte page", 4096, GIGABYTE.as_slice()),
+        case("last page", 4096, LAST_PAGE.as_slice()),
         case("full names its need", 3, FULL.as_slice()),
         case("unmap frees tables", 4096, UNMAP.as_slice()),
         case("protect changes rights", 4096, PROTECT.as_slice()),
@@ -134,6 +119,7 @@ fn worked_examples_at_five_levels(rt: HostRuntime) -> Result<(), Fail> {
     let cases = [
         case("overlap at five levels", 4096, 1, OVERLAP.as_slice()),
         case("gigabyte page at five levels", 4096, 1, GIGABYTE.as_slice()),
+        case("last page at five levels", 4096, 1, LAST_PAGE.as_slice()),
         case("unmap at five levels", 4096, 1, UNMAP.as_slice()),
         case("protect at five levels", 4096, 1, PROTECT.as_slice()),
         case("accesses at five levels", 4096, 1, ACCESS.as_slice()),

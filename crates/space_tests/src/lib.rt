@@ -5,9 +5,9 @@
 #[cfg(test)]
 mod alike;
 #[cfg(test)]
-mod alike_cases;
-#[cfg(test)]
 mod arena;
+#[cfg(test)]
+mod cases;
 #[cfg(test)]
 mod plain;
 #[cfg(test)]

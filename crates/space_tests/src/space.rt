@@ -1,169 +1,186 @@
-ghost use Rattle.std.specs.Prelude.{◌<◌};
-
+use crate::cases::{Call, Row, operation};
 use crate::values::{BASE, WRITE};
 use std::process::Abort;
 use std::test::Fail;
 use vs_arena::VecArena;
 use vs_space::{NoRoot, Space};
-use vs_types::{Answer, BadOp, Depth, Op, Rights, Size};
+use vs_types::{Answer, Depth, Rights, Size};
 use vs_walk::Frames;
 
 type Table = Space<VecArena>;
 
-// The answer of an operation that must be well formed.
-fn apply(rt: &impl Abort, space: &mut Table, op: Result<Op, BadOp>) -> Answer {
-    let op = op.expect(rt, "an operation that is well formed");
-    assert!(rt; op.fits(space.depth()));
-    space.apply(op)
-}
+const ALL: Rights = Rights::ALL;
 
-fn map(
-    rt: &impl Abort,
-    space: &mut Table,
-    base: u64,
-    size: Size,
-    phys: u64,
-    rights: Rights,
-) -> Answer {
-    let op = Op::map(space.depth(), base, size, phys, rights);
-    apply(rt, space, op)
-}
+/// A row, and after it the word at the end of a path: so many of these indexes, from the root down.
+#[derive(Clone, Copy)]
+struct Step(Row, usize, [u16; 5], u64);
 
-// Maps a page of 4 KiB with all rights.
-fn map_small(rt: &impl Abort, space: &mut Table, base: u64, phys: u64) -> Answer {
-    map(rt, space, base, Size::K4, phys, Rights::ALL)
-}
+static AT_FOUR_LEVELS: [Step; 7] = [
+    Step(
+        Row(
+            Call::Map(0x7FFFFFFFF000, Size::K4, 0x2000, ALL),
+            Answer::Done,
+            4,
+        ),
+        4,
+        [255, 511, 511, 511, 0],
+        0x2007,
+    ),
+    Step(
+        Row(
+            Call::Map(0xFFFF800000000000, Size::K4, 0x3000, ALL),
+            Answer::Done,
+            7,
+        ),
+        4,
+        [256, 0, 0, 0, 0],
+        0x3007,
+    ),
+    Step(
+        Row(
+            Call::Map(0x40000000, Size::G1, 0x40000000, WRITE),
+            Answer::Done,
+            8,
+        ),
+        2,
+        [0, 1, 0, 0, 0],
+        0x8000000040000083,
+    ),
+    Step(
+        Row(Call::Map(0x400000, Size::K4, 0x1000, ALL), Answer::Done, 10),
+        4,
+        [0, 0, 2, 0, 0],
+        0x1007,
+    ),
+    Step(
+        Row(
+            Call::Unmap(0x400000),
+            Answer::Removed(0x1000, Size::K4, ALL),
+            8,
+        ),
+        2,
+        [0, 0, 0, 0, 0],
+        0,
+    ),
+    Step(
+        Row(
+            Call::Map(0x400000, Size::M2, 0x200000, ALL),
+            Answer::Done,
+            9,
+        ),
+        3,
+        [0, 0, 2, 0, 0],
+        0x200087,
+    ),
+    Step(
+        Row(
+            Call::Map(0, Size::K4, 0x7FFFFFFFFF000, Rights::NONE),
+            Answer::Done,
+            10,
+        ),
+        4,
+        [0, 0, 0, 0, 0],
+        0x8007FFFFFFFFF001,
+    ),
+];
 
-fn unmap(rt: &impl Abort, space: &mut Table, base: u64) -> Answer {
-    let op = Op::unmap(space.depth(), base);
-    apply(rt, space, op)
-}
+/// The first address past 47 bits, the last page of the low half and the first of the high one.
+static AT_FIVE_LEVELS: [Step; 5] = [
+    Step(
+        Row(
+            Call::Map(0x800000000000, Size::K4, 0x1000, ALL),
+            Answer::Done,
+            5,
+        ),
+        5,
+        [0, 256, 0, 0, 0],
+        0x1007,
+    ),
+    Step(
+        Row(
+            Call::Map(0xFFFFFFFFFFF000, Size::K4, 0x2000, ALL),
+            Answer::Done,
+            9,
+        ),
+        5,
+        [255, 511, 511, 511, 511],
+        0x2007,
+    ),
+    Step(
+        Row(
+            Call::Map(0xFF00000000000000, Size::K4, 0x3000, ALL),
+            Answer::Done,
+            13,
+        ),
+        5,
+        [256, 0, 0, 0, 0],
+        0x3007,
+    ),
+    Step(
+        Row(
+            Call::Unmap(0xFF00000000000000),
+            Answer::Removed(0x3000, Size::K4, ALL),
+            9,
+        ),
+        1,
+        [256, 0, 0, 0, 0],
+        0,
+    ),
+    Step(
+        Row(
+            Call::Map(0x40000000, Size::G1, 0x40000000, WRITE),
+            Answer::Done,
+            10,
+        ),
+        3,
+        [0, 0, 1, 0, 0],
+        0x8000000040000083,
+    ),
+];
 
-// What an address is answered, or `NotMapped` where it isn't canonical.
-fn look(space: &Table, address: u64) -> Answer {
-    if !space.depth().is_canonical(address) {
-        return Answer::NotMapped;
+// The answer of a call that must be well formed.
+fn answer(rt: &impl Abort, space: &mut Table, call: Call) -> Answer {
+    let depth = space.depth();
+    if let Some(op) = operation(depth, call).expect(rt, "a well-formed operation") {
+        assert!(rt; op.fits(depth));
+        return space.apply(op);
     }
-    space.resolve(address)
+    match call {
+        Call::Resolve(address) if depth.is_canonical(address) => space.resolve(address),
+        _ => panic!(rt; "no resolve of a canonical address"),
+    }
 }
 
-// The word of a frame at an index.
-fn word(space: &Table, number: u64, index: usize) -> Option<u64>
-    requires { index < 512 }
-{
-    let words = space.words(number)?;
-    Some(words[index])
-}
-
-// The words at these indexes on a path from the root down.
-fn leads_to(rt: &impl Abort, space: &Table, indexes: &[u16]) -> u64 {
+// The word at the end of a path.
+fn word(rt: &impl Abort, space: &Table, path: &[u16]) -> u64 {
     let mut number = space.root();
     let mut last = 0;
-    for index in indexes {
-        let index = usize::from(*index % 512);
-        last = word(space, number, index).expect(rt, "a frame is missing");
+    for index in path {
+        let words = space.words(number).expect(rt, "a frame is missing");
+        last = words[usize::from(*index % 512)];
         number = (last >> 12) % (1 << 40);
     }
     last
 }
 
 #[test]
-fn both_halves_of_the_address_space(rt: HostRuntime) -> Result<(), Fail> {
-    let mut space = Space::new(VecArena::new(rt.alloc(), BASE, 16)?, Depth::Four)?;
-    assert_eq!(rt; space.depth(), Depth::Four);
-    assert_eq!(rt; space.tables(), 1);
-    let low = map_small(&rt, &mut space, 0x7FFFFFFFF000, 0x2000);
-    let high = map_small(&rt, &mut space, 0xFFFF800000000000, 0x3000);
-    assert_eq!(rt; low, Answer::Done);
-    assert_eq!(rt; high, Answer::Done);
-    assert_eq!(rt; space.tables(), 7);
-    assert_eq!(rt; leads_to(&rt, &space, &[255, 511, 511, 511]), 0x2007);
-    assert_eq!(rt; leads_to(&rt, &space, &[256, 0, 0, 0]), 0x3007);
-    assert_eq!(rt; leads_to(&rt, &space, &[256]) % 4096, 7);
-    assert_eq!(rt;
-        look(&space, 0x7FFFFFFFFFFF),
-        Answer::Mapped(0x2FFF, Size::K4, Rights::ALL)
-    );
-    Ok(())
-}
-
-// The first address past 47 bits, the last page of the low half and the first of the high one.
-#[test]
-fn both_halves_at_five_levels(rt: HostRuntime) -> Result<(), Fail> {
-    let mut space = Space::new(VecArena::new(rt.alloc(), BASE, 16)?, Depth::Five)?;
-    assert_eq!(rt; space.depth(), Depth::Five);
-    let middle = map_small(&rt, &mut space, 0x800000000000, 0x1000);
-    assert_eq!(rt; middle, Answer::Done);
-    assert_eq!(rt; space.tables(), 5);
-    let low = map_small(&rt, &mut space, 0xFFFFFFFFFFF000, 0x2000);
-    assert_eq!(rt; low, Answer::Done);
-    assert_eq!(rt; space.tables(), 9);
-    let high = map_small(&rt, &mut space, 0xFF00000000000000, 0x3000);
-    assert_eq!(rt; high, Answer::Done);
-    assert_eq!(rt; space.tables(), 13);
-    assert_eq!(rt; leads_to(&rt, &space, &[0, 256, 0, 0, 0]), 0x1007);
-    assert_eq!(rt; leads_to(&rt, &space, &[255, 511, 511, 511, 511]), 0x2007);
-    assert_eq!(rt; leads_to(&rt, &space, &[256, 0, 0, 0, 0]), 0x3007);
-    assert_eq!(rt;
-        look(&space, 0xFFFFFFFFFFFFFF),
-        Answer::Mapped(0x2FFF, Size::K4, Rights::ALL)
-    );
-    let removed = unmap(&rt, &mut space, 0xFF00000000000000);
-    assert_eq!(rt; removed, Answer::Removed(0x3000, Size::K4, Rights::ALL));
-    assert_eq!(rt; space.tables(), 9);
-    assert_eq!(rt; leads_to(&rt, &space, &[256]), 0);
-    Ok(())
-}
-
-#[test]
-fn gigabyte_page(rt: HostRuntime) -> Result<(), Fail> {
-    let mut space = Space::new(VecArena::new(rt.alloc(), BASE, 16)?, Depth::Four)?;
-    let large = map(&rt, &mut space, 0x40000000, Size::G1, 0x40000000, WRITE);
-    assert_eq!(rt; large, Answer::Done);
-    assert_eq!(rt; space.tables(), 2);
-    assert_eq!(rt; leads_to(&rt, &space, &[0, 1]), 0x8000000040000083);
-    let inside = unmap(&rt, &mut space, 0x40001000);
-    assert_eq!(rt; inside, Answer::Inside(0x40000000));
-    assert_eq!(rt;
-        look(&space, 0x40001234),
-        Answer::Mapped(0x40001234, Size::G1, WRITE)
-    );
-    Ok(())
-}
-
-#[test]
-fn gigabyte_page_at_five_levels(rt: HostRuntime) -> Result<(), Fail> {
-    let mut space = Space::new(VecArena::new(rt.alloc(), BASE, 16)?, Depth::Five)?;
-    let large = map(&rt, &mut space, 0x40000000, Size::G1, 0x40000000, WRITE);
-    assert_eq!(rt; large, Answer::Done);
-    assert_eq!(rt; space.tables(), 3);
-    assert_eq!(rt; leads_to(&rt, &space, &[0, 0, 1]), 0x8000000040000083);
-    Ok(())
-}
-
-#[test]
-fn unmap_frees_tables(rt: HostRuntime) -> Result<(), Fail> {
-    let mut space = Space::new(VecArena::new(rt.alloc(), BASE, 16)?, Depth::Four)?;
-    let small = map_small(&rt, &mut space, 0x400000, 0x1000);
-    assert_eq!(rt; small, Answer::Done);
-    assert_eq!(rt; space.tables(), 4);
-    let removed = unmap(&rt, &mut space, 0x400000);
-    assert_eq!(rt; removed, Answer::Removed(0x1000, Size::K4, Rights::ALL));
-    assert_eq!(rt; space.tables(), 1);
-    assert_eq!(rt; leads_to(&rt, &space, &[0]), 0);
-    let large = map(&rt, &mut space, 0x400000, Size::M2, 0x200000, Rights::ALL);
-    assert_eq!(rt; large, Answer::Done);
-    assert_eq!(rt; space.tables(), 3);
-    assert_eq!(rt; leads_to(&rt, &space, &[0, 0, 2]), 0x200087);
-    Ok(())
-}
-
-#[test]
-fn last_physical_page(rt: HostRuntime) -> Result<(), Fail> {
-    let mut space = Space::new(VecArena::new(rt.alloc(), BASE, 16)?, Depth::Four)?;
-    let page = map(&rt, &mut space, 0, Size::K4, 0x7FFFFFFFFF000, Rights::NONE);
-    assert_eq!(rt; page, Answer::Done);
-    assert_eq!(rt; leads_to(&rt, &space, &[0, 0, 0, 0]), 0x8007FFFFFFFFF001);
+fn words_of_pages(rt: HostRuntime) -> Result<(), Fail> {
+    let cases = [
+        (Depth::Four, AT_FOUR_LEVELS.as_slice()),
+        (Depth::Five, AT_FIVE_LEVELS.as_slice()),
+    ];
+    for (depth, steps) in cases {
+        let mut space = Space::new(VecArena::new(rt.alloc(), BASE, 16)?, depth)?;
+        assert_eq!(rt; (space.depth(), space.tables()), (depth, 1));
+        for (place, Step(row, count, path, last)) in steps.iter().enumerate() {
+            let Row(call, told, tables) = *row;
+            assert_eq!(rt; answer(&rt, &mut space, call), told, "row {place}");
+            assert_eq!(rt; space.tables(), tables, "row {place}");
+            let path = path.get(..*count).ok_or("a path of five words or less")?;
+            assert_eq!(rt; word(&rt, &space, path), *last, "row {place}");
+        }
+        assert_eq!(rt; word(&rt, &space, [255].as_slice()) % 4096, 7);
+    }
     Ok(())
 }
 
@@ -172,8 +189,8 @@ fn arena_of_two(rt: HostRuntime) -> Result<(), Fail> {
     let arena = VecArena::new(rt.alloc(), BASE, 0)?;
     assert_eq!(rt; Space::new(arena, Depth::Four).err(), Some(NoRoot));
     let mut space = Space::new(VecArena::new(rt.alloc(), BASE, 2)?, Depth::Four)?;
-    let page = map_small(&rt, &mut space, 0x1000, 0x5000);
-    assert_eq!(rt; page, Answer::Full(4));
+    let map = Call::Map(0x1000, Size::K4, 0x5000, ALL);
+    assert_eq!(rt; answer(&rt, &mut space, map), Answer::Full(4));
     assert_eq!(rt; space.tables(), 1);
     Ok(())
 }
@@ -184,18 +201,20 @@ fn two_thousand_tables(rt: HostRuntime) -> Result<(), Fail> {
     for (depth, tables) in [(Depth::Four, 2003), (Depth::Five, 2004)] {
         let mut space = Space::new(VecArena::new(rt.alloc(), BASE, 2004)?, depth)?;
         for number in 0..1000u64 {
-            let done = map_small(&rt, &mut space, number << 30, number << 12);
-            assert_eq!(rt; done, Answer::Done);
+            let map = Call::Map(number << 30, Size::K4, number << 12, ALL);
+            assert_eq!(rt; answer(&rt, &mut space, map), Answer::Done);
         }
         assert_eq!(rt; space.tables(), tables);
         for number in 0..1000u64 {
-            let here = Answer::Mapped(number << 12, Size::K4, Rights::ALL);
-            assert_eq!(rt; look(&space, number << 30), here);
-            assert_eq!(rt; look(&space, (number << 30) + 4096), Answer::NotMapped);
+            let here = Answer::Mapped(number << 12, Size::K4, ALL);
+            let base = number << 30;
+            assert_eq!(rt; answer(&rt, &mut space, Call::Resolve(base)), here);
+            let beside = answer(&rt, &mut space, Call::Resolve(base + 4096));
+            assert_eq!(rt; beside, Answer::NotMapped);
         }
         for number in 0..1000u64 {
-            let removed = Answer::Removed(number << 12, Size::K4, Rights::ALL);
-            assert_eq!(rt; unmap(&rt, &mut space, number << 30), removed);
+            let removed = Answer::Removed(number << 12, Size::K4, ALL);
+            assert_eq!(rt; answer(&rt, &mut space, Call::Unmap(number << 30)), removed);
         }
         assert_eq!(rt; space.tables(), 1);
     }

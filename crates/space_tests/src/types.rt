@@ -7,92 +7,118 @@ use vs_types::{
 
 #[test]
 fn operations_not_well_formed(rt: HostRuntime) {
-    let map = |base: u64, size: Size, phys: u64| Op::map(
-        Depth::Four,
-        base,
-        size,
-        phys,
-        Rights::ALL,
-    );
-    assert_eq!(rt; map(0x800000000001, Size::K4, 1), Err(BadOp::NotCanonical));
-    assert_eq!(rt; map(0x1000, Size::M2, 0), Err(BadOp::Unaligned));
-    assert_eq!(rt; map(0x200000, Size::M2, 0x1000), Err(BadOp::PhysUnaligned));
-    assert_eq!(rt; map(0, Size::K4, 0x8000000000000), Err(BadOp::PhysRange));
-    let unmap = |base: u64| Op::unmap(Depth::Four, base);
-    assert_eq!(rt; unmap(0x800000000000), Err(BadOp::NotCanonical));
-    assert_eq!(rt; unmap(0xFFF), Err(BadOp::Unaligned));
-    let protect = |base: u64| Op::protect(Depth::Four, base, WRITE);
-    assert_eq!(rt; protect(0xFFFF7FFFFFFFF000), Err(BadOp::NotCanonical));
-    assert_eq!(rt; protect(0x1001), Err(BadOp::Unaligned));
-    let with_five_levels = Op::unmap(Depth::Five, 0x100000000000000);
-    assert_eq!(rt; with_five_levels, Err(BadOp::NotCanonical));
-}
-
-#[test]
-fn what_fits_a_depth(rt: HostRuntime) {
-    let low = Op::unmap(Depth::Four, 0x7FFFFFFFF000).expect(&rt, "a well-formed operation");
-    assert_eq!(rt;
-        (low.fits(Depth::Four), low.fits(Depth::Five)),
-        (true, true)
-    );
-    let op = Op::unmap(Depth::Five, 0xFF00000000000000).expect(&rt, "a well-formed operation");
-    assert_eq!(rt; (op.fits(Depth::Four), op.fits(Depth::Five)), (false, true));
-    let update = Request::update(op);
-    assert_eq!(rt;
-        (update.fits(Depth::Four), update.fits(Depth::Five)),
-        (false, true)
-    );
-    let read = Request::resolve(Depth::Five, 0xFFFFFFFFFFFFFF).expect(&rt, "a canonical address");
-    assert_eq!(rt;
-        (read.fits(Depth::Four), read.fits(Depth::Five)),
-        (false, true)
-    );
-    assert_eq!(rt; Depth::Five.levels(), 5);
-    assert_eq!(rt; index_at(5, 0xFF00000000000000), 256);
+    let cases = [
+        (
+            Op::map(Depth::Four, 0x800000000001, Size::K4, 1, WRITE),
+            BadOp::NotCanonical,
+        ),
+        (
+            Op::map(Depth::Four, 0x1000, Size::M2, 0, WRITE),
+            BadOp::Unaligned,
+        ),
+        (
+            Op::map(Depth::Four, 0x200000, Size::M2, 0x1000, WRITE),
+            BadOp::PhysUnaligned,
+        ),
+        (
+            Op::map(Depth::Four, 0, Size::K4, 0x8000000000000, WRITE),
+            BadOp::PhysRange,
+        ),
+        (Op::unmap(Depth::Four, 0x800000000000), BadOp::NotCanonical),
+        (Op::unmap(Depth::Four, 0xFFF), BadOp::Unaligned),
+        (
+            Op::unmap(Depth::Five, 0x100000000000000),
+            BadOp::NotCanonical,
+        ),
+        (
+            Op::protect(Depth::Four, 0xFFFF7FFFFFFFF000, WRITE),
+            BadOp::NotCanonical,
+        ),
+        (Op::protect(Depth::Four, 0x1001, WRITE), BadOp::Unaligned),
+    ];
+    for (op, why) in cases {
+        assert_eq!(rt; op, Err(why));
+    }
+    let read = Mode::User;
+    let cases = [
+        Request::resolve(Depth::Four, 0x800000000000),
+        Request::access(Depth::Five, 0x100000000000000, read, Access::Write),
+    ];
+    for request in cases {
+        assert_eq!(rt; request, Err(BadOp::NotCanonical));
+    }
 }
 
 #[test]
 fn operations(rt: HostRuntime) {
+    let high = 0xFFFF800000000000;
     let page = Page {
         base: 0,
         size: Size::K4,
         phys: 0x7FFFFFFFFF000,
         rights: Rights::NONE,
     };
-    let map = Op::map(Depth::Four, page.base, page.size, page.phys, page.rights);
-    assert_eq!(rt; map.map(|op| op.action()), Ok(Action::Map(page)));
-    let unmap = Op::unmap(Depth::Four, 0xFFFF800000000000);
-    assert_eq!(rt;
-        unmap.map(|op| op.action()),
-        Ok(Action::Unmap(0xFFFF800000000000))
-    );
-    let protect = Op::protect(Depth::Four, 0x1000, WRITE);
-    assert_eq!(rt;
-        protect.map(|op| op.action()),
-        Ok(Action::Protect(0x1000, WRITE))
-    );
+    let cases = [
+        (
+            Op::map(Depth::Four, page.base, page.size, page.phys, page.rights),
+            Action::Map(page),
+            true,
+        ),
+        (Op::unmap(Depth::Four, high), Action::Unmap(high), true),
+        (
+            Op::protect(Depth::Four, 0x1000, WRITE),
+            Action::Protect(0x1000, WRITE),
+            true,
+        ),
+        (
+            Op::unmap(Depth::Five, 0xFF00000000000000),
+            Action::Unmap(0xFF00000000000000),
+            false,
+        ),
+    ];
+    for (made, action, fits_four) in cases {
+        let op = made.expect(&rt, "a well-formed operation");
+        let told = (op.action(), op.fits(Depth::Four), op.fits(Depth::Five));
+        assert_eq!(rt; told, (action, fits_four, true));
+    }
 }
 
 #[test]
 fn requests(rt: HostRuntime) {
-    let resolve = |address: u64| Request::resolve(Depth::Four, address).map(
-        |request| request.query(),
+    let op = Op::map(Depth::Five, 0x400000, Size::K4, 0x1000, Rights::ALL).expect(
+        &rt,
+        "an operation",
     );
-    assert_eq!(rt; resolve(0x7FFFFFFFFFFF), Ok(Query::Resolve(0x7FFFFFFFFFFF)));
-    assert_eq!(rt; resolve(0x800000000000), Err(BadOp::NotCanonical));
-    let op = Op::unmap(Depth::Four, 0x400000).expect(&rt, "a well-formed operation");
-    assert_eq!(rt; Request::update(op).query(), Query::Update(op));
-    let access = |address: u64| Request::access(
-        Depth::Five,
-        address,
-        Mode::User,
-        Access::Write,
-    ).map(|request| request.query());
-    assert_eq!(rt;
-        access(0x400123),
-        Ok(Query::Access(0x400123, Mode::User, Access::Write))
-    );
-    assert_eq!(rt; access(0x100000000000000), Err(BadOp::NotCanonical));
+    let far = Op::unmap(Depth::Five, 0xFF00000000000000).expect(&rt, "an operation");
+    let protect = Op::protect(Depth::Five, 0x1000, WRITE).expect(&rt, "an operation");
+    let (low, high) = (0x7FFFFFFFFFFF, 0xFFFFFFFFFFFFFF);
+    let cases = [
+        (Ok(Request::update(op)), Query::Update(op), true),
+        (Ok(Request::update(far)), Query::Update(far), false),
+        (Ok(Request::update(protect)), Query::Update(protect), true),
+        (
+            Request::resolve(Depth::Four, low),
+            Query::Resolve(low),
+            true,
+        ),
+        (
+            Request::resolve(Depth::Five, high),
+            Query::Resolve(high),
+            false,
+        ),
+        (
+            Request::access(Depth::Five, 0x400123, Mode::User, Access::Fetch),
+            Query::Access(0x400123, Mode::User, Access::Fetch),
+            true,
+        ),
+    ];
+    for (made, query, fits_four) in cases {
+        let request = made.expect(&rt, "a well-formed request");
+        let fits = (request.fits(Depth::Four), request.fits(Depth::Five));
+        assert_eq!(rt; (request.query(), fits), (query, (fits_four, true)));
+        let read = Request::of_fields(Depth::Five, request.fields());
+        assert_eq!(rt; read, Some(request));
+    }
 }
 
 #[test]
@@ -119,67 +145,68 @@ fn accesses(rt: HostRuntime) {
 }
 
 #[test]
-fn fields(rt: HostRuntime) {
-    let requests = [
-        Op::map(Depth::Five, 0x800000000000, Size::K4, 0x1000, Rights::ALL).map(Request::update),
-        Op::unmap(Depth::Five, 0xFF00000000000000).map(Request::update),
-        Op::protect(Depth::Five, 0x1000, WRITE).map(Request::update),
-        Request::resolve(Depth::Five, 0xFFFFFFFFFFFFFF),
-        Request::access(Depth::Five, 0x400123, Mode::User, Access::Fetch),
-    ];
-    for made in requests {
-        let request = made.expect(&rt, "a well-formed request");
-        assert_eq!(rt;
-            Request::of_fields(Depth::Five, request.fields()),
-            Some(request)
-        );
-    }
-}
-
-#[test]
 fn configurations(rt: HostRuntime) {
-    let config = |replicas: u8, threads: u16, tables: u16| Config::new(
-        Depth::Four,
-        replicas,
-        threads,
-        tables,
+    let cases = [
+        (Config::new(Depth::Four, 0, 0, 0), BadConfig::Replicas),
+        (Config::new(Depth::Four, 1, 65, 1), BadConfig::Threads),
+        (Config::new(Depth::Four, 1, 1, 4097), BadConfig::Tables),
+    ];
+    for (config, why) in cases {
+        assert_eq!(rt; config, Err(why));
+    }
+    let config = Config::new(Depth::Four, 4, 64, 4096).expect(&rt, "a configuration");
+    let read = (
+        config.depth(),
+        config.replicas(),
+        config.threads(),
+        config.tables(),
     );
-    assert_eq!(rt; config(0, 0, 0), Err(BadConfig::Replicas));
-    assert_eq!(rt; config(1, 65, 1), Err(BadConfig::Threads));
-    assert_eq!(rt; config(1, 1, 4097), Err(BadConfig::Tables));
-    let read = config(4, 64, 4096).map(|c| (c.depth(), c.replicas(), c.threads(), c.tables()));
-    assert_eq!(rt; read, Ok((Depth::Four, 4, 64, 4096)));
-    assert_eq!(rt; Depth::Four.levels(), 4);
+    assert_eq!(rt; read, (Depth::Four, 4, 64, 4096));
+    assert_eq!(rt; (Depth::Four.levels(), Depth::Five.levels()), (4, 5));
+    assert_eq!(rt; index_at(5, 0xFF00000000000000), 256);
 }
 
 #[test]
 fn entries(rt: HostRuntime) {
-    let large = Entry::leaf(Size::G1, 0x40000000, WRITE);
-    assert_eq!(rt; large.word(), 0x8000000040000083);
-    assert_eq!(rt;
-        large.read(Size::G1.level()),
-        Meaning::Leaf(0x40000000, WRITE)
-    );
-    let small = Entry::leaf(Size::K4, 0x7FFFFFFFFF000, Rights::NONE);
-    assert_eq!(rt; small.word(), 0x8007FFFFFFFFF001);
-    assert_eq!(rt; Entry::table(2), Entry::new(0x2007));
-    assert_eq!(rt; Entry::new(0x2007).read(4), Meaning::Table(2, Rights::ALL));
-    assert_eq!(rt; Entry::new(0x202087).read(2), Meaning::Reserved);
-    assert_eq!(rt; Entry::new(0).read(1), Meaning::Absent);
-    assert_eq!(rt; Entry::new(0x2007).read(5), Meaning::Table(2, Rights::ALL));
-    assert_eq!(rt; Entry::new(0x87).read(5), Meaning::Reserved);
+    let words = [
+        (Entry::leaf(Size::G1, 0x40000000, WRITE), 0x8000000040000083),
+        (
+            Entry::leaf(Size::K4, 0x7FFFFFFFFF000, Rights::NONE),
+            0x8007FFFFFFFFF001,
+        ),
+        (Entry::table(2), 0x2007),
+    ];
+    for (entry, word) in words {
+        assert_eq!(rt; (entry.word(), Entry::new(word)), (word, entry));
+    }
+    let meanings = [
+        (Entry::new(0).read(1), Meaning::Absent),
+        (Entry::new(0x202087).read(2), Meaning::Reserved),
+        (
+            Entry::new(0x8000000040000083).read(3),
+            Meaning::Leaf(0x40000000, WRITE),
+        ),
+        (Entry::new(0x2007).read(4), Meaning::Table(2, Rights::ALL)),
+        (Entry::new(0x2007).read(5), Meaning::Table(2, Rights::ALL)),
+        (Entry::new(0x87).read(5), Meaning::Reserved),
+    ];
+    for (read, meaning) in meanings {
+        assert_eq!(rt; read, meaning);
+    }
 }
 
 #[test]
 fn memory_refused(rt: HostRuntime) {
-    let plain: Memory = AllocError.into();
-    assert_eq!(rt; plain, Memory);
-    let pushed: Memory = AllocFailed { value: 7u8 }.into();
-    assert_eq!(rt; pushed, Memory);
-    let direct: Fail<BadOp> = AllocError.into();
-    assert_eq!(rt; direct, Fail::Memory);
-    let inserted: Fail<BadOp> = AllocFailed { value: 7u8 }.into();
-    assert_eq!(rt; inserted, Fail::Memory);
-    let passed_on: Fail<BadOp> = Memory.into();
-    assert_eq!(rt; passed_on, Fail::Memory);
+    for refused in [AllocError.into(), AllocFailed { value: 7u8 }.into()] {
+        let refused: Memory = refused;
+        assert_eq!(rt; refused, Memory);
+    }
+    for refused in [
+        AllocError.into(),
+        AllocFailed { value: 7u8 }.into(),
+        Memory.into(),
+    ] {
+        let refused: Fail<BadOp> = refused;
+        assert_eq!(rt; refused, Fail::Memory);
+    }
 }

@@ -1,8 +1,8 @@
 use crate::values::{EXEC, USER_AND_EXEC, WRITE};
-use vs_types::{Access, Answer, Mode, Rights, Size};
+use vs_types::{Access, Answer, BadOp, Depth, Mode, Op, Rights, Size};
 
 /// A call, by the numbers that it is made of.
-#[derive(Clone, Copy, Debug)]
+#[derive(Clone, Copy)]
 pub enum Call {
     /// A map of the page at this base, of this size, to this physical address, with these rights.
     Map(u64, Size, u64, Rights),
@@ -12,8 +12,19 @@ pub enum Call {
     Access(u64, Mode, Access),
 }
 
+/// The operation of a call, if it is one.
+pub fn operation(depth: Depth, call: Call) -> Result<Option<Op>, BadOp> {
+    let op = match call {
+        Call::Map(base, size, phys, rights) => Op::map(depth, base, size, phys, rights)?,
+        Call::Unmap(base) => Op::unmap(depth, base)?,
+        Call::Protect(base, rights) => Op::protect(depth, base, rights)?,
+        Call::Resolve(_) | Call::Access(_, _, _) => return Ok(None),
+    };
+    Ok(Some(op))
+}
+
 /// A call, what it must be answered, and how many tables there must be after it.
-#[derive(Clone, Copy, Debug)]
+#[derive(Clone, Copy)]
 pub struct Row(pub Call, pub Answer, pub usize);
 
 const ALL: Rights = Rights::ALL;
@@ -78,6 +89,25 @@ pub static GIGABYTE: [Row; 4] = [
     Row(
         Call::Resolve(0x40001234),
         Answer::Mapped(0x40001234, Size::G1, WRITE),
+        2,
+    ),
+];
+
+/// The last page of the address space.
+pub static LAST_PAGE: [Row; 3] = [
+    Row(
+        Call::Map(0xFFFFFFFFC0000000, Size::G1, 0, ALL),
+        Answer::Done,
+        2,
+    ),
+    Row(
+        Call::Resolve(u64::MAX),
+        Answer::Mapped(0x3FFFFFFF, Size::G1, ALL),
+        2,
+    ),
+    Row(
+        Call::Map(0xFFFFFFFFFFFFF000, Size::K4, 0, ALL),
+        Answer::Overlap(0xFFFFFFFFC0000000),
         2,
     ),
 ];
@@ -221,8 +251,8 @@ pub static BOTH_HALVES_OF_FIVE: [Row; 6] = [
         13,
     ),
     Row(
-        Call::Access(0xFF00000000000000, Mode::User, Access::Fetch),
-        Answer::Allowed(0x3000),
+        Call::Access(0xFF00000000000FFF, Mode::User, Access::Fetch),
+        Answer::Allowed(0x3FFF),
         13,
     ),
     Row(
