@@ -54,6 +54,7 @@ fn leads_on(word: u64) -> bool {
 }
 
 /// Whether a table has no entry. It looks beside this index first.
+#[inline(always)]
 fn is_empty(words: &[u64; 512], near: usize) -> bool {
     words[(near + 1) % 512] == 0
         && words[(near + 511) % 512] == 0
@@ -126,10 +127,20 @@ impl Space {
         Space { arena, levels, root }
     }
 
+    #[inline(always)]
     fn descend(&self, address: u64, lowest: usize) -> Place {
+        match self.levels {
+            4 => self.descend_from(4, address, lowest),
+            _ => self.descend_from(5, address, lowest),
+        }
+    }
+
+    /// A descent from this level: its code stands once for each number of levels.
+    #[inline(always)]
+    fn descend_from(&self, levels: usize, address: u64, lowest: usize) -> Place {
         let mut way = [0; 6];
         let mut number = self.root;
-        let mut level = self.levels;
+        let mut level = levels;
         loop {
             way[level] = number;
             let word = self.arena.table(number)[index_at(level, address)];
@@ -171,29 +182,50 @@ impl Space {
 
     fn protect(&mut self, base: u64, rights_now: u64) -> Answer {
         let place = self.descend(base, 1);
+        match place.level {
+            1 => self.protect_at(1, &place, base, rights_now),
+            2 => self.protect_at(2, &place, base, rights_now),
+            3 => self.protect_at(3, &place, base, rights_now),
+            level => self.protect_at(level, &place, base, rights_now),
+        }
+    }
+
+    /// A protect where the descent ended at this level: its code stands once for each level that has pages.
+    #[inline(always)]
+    fn protect_at(&mut self, level: usize, place: &Place, base: u64, rights_now: u64) -> Answer {
         if place.word & PRESENT == 0 {
             return Answer::NotMapped;
         }
-        let bytes = 1 << (3 + 9 * place.level);
+        let bytes = 1 << (3 + 9 * level);
         if base % bytes != 0 {
             return Answer::Inside(base - base % bytes);
         }
         let phys = place.word & PHYS & !(bytes - 1);
-        let word = leaf(place.level, phys, rights_now);
-        self.arena.table_mut(place.way[place.level])[index_at(place.level, base)] = word;
+        let word = leaf(level, phys, rights_now);
+        self.arena.table_mut(place.way[level])[index_at(level, base)] = word;
         Answer::Changed(rights(place.word))
     }
 
     fn unmap(&mut self, base: u64) -> Answer {
         let place = self.descend(base, 1);
+        match place.level {
+            1 => self.unmap_at(1, &place, base),
+            2 => self.unmap_at(2, &place, base),
+            3 => self.unmap_at(3, &place, base),
+            level => self.unmap_at(level, &place, base),
+        }
+    }
+
+    #[inline(always)]
+    fn unmap_at(&mut self, last: usize, place: &Place, base: u64) -> Answer {
         if place.word & PRESENT == 0 {
             return Answer::NotMapped;
         }
-        let bytes = 1 << (3 + 9 * place.level);
+        let bytes = 1 << (3 + 9 * last);
         if base % bytes != 0 {
             return Answer::Inside(base - base % bytes);
         }
-        let mut level = place.level;
+        let mut level = last;
         self.arena.table_mut(place.way[level])[index_at(level, base)] = 0;
         while level < self.levels && is_empty(self.arena.table(place.way[level]), index_at(level, base)) {
             self.arena.give(place.way[level]);
@@ -201,17 +233,27 @@ impl Space {
             self.arena.table_mut(place.way[level])[index_at(level, base)] = 0;
         }
         let phys = place.word & PHYS & !(bytes - 1);
-        Answer::Removed(phys, place.level, rights(place.word))
+        Answer::Removed(phys, last, rights(place.word))
     }
 
     fn resolve(&self, address: u64) -> Answer {
         let place = self.descend(address, 1);
+        match place.level {
+            1 => Space::resolve_at(1, &place, address),
+            2 => Space::resolve_at(2, &place, address),
+            3 => Space::resolve_at(3, &place, address),
+            level => Space::resolve_at(level, &place, address),
+        }
+    }
+
+    #[inline(always)]
+    fn resolve_at(level: usize, place: &Place, address: u64) -> Answer {
         if place.word & PRESENT == 0 {
             return Answer::NotMapped;
         }
-        let bytes = 1 << (3 + 9 * place.level);
+        let bytes = 1 << (3 + 9 * level);
         let phys = (place.word & PHYS & !(bytes - 1)) + address % bytes;
-        Answer::Mapped(phys, place.level, rights(place.word))
+        Answer::Mapped(phys, level, rights(place.word))
     }
 }
 
