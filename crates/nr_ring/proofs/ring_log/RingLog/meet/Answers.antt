@@ -29,7 +29,8 @@ pub invariant_of-told : goal.invariant_of-told
 invariant_of-told g c =
     let held = cell_view c.told.inside.pass in
     let pass = cell_view c.pass.inside.pass in
-    let looks = told_looks _ _ _ held pass _ _ held pass _ c.join_pass.ensures.1 c.split_pass-copy.ensures.given.1 refl refl c.load_as-told-inside.ensures.rule in
+    let looks = told_looks _ _ _ held pass _ _ held pass _ c.join_pass.ensures.1 c.split_pass-copy.ensures.given.1 refl refl
+    c.load_as-told-inside.ensures.rule in
     met_remembers _ _ _ _ _ held pass _ c.told.invariant looks
 
 pub returns-clause-pass : goal.returns-clause-pass
