@@ -1,7 +1,8 @@
 //! The same calls on the same log in plain Rust, with no proof, to compare with `ring_benchmark`:
-//!     rustc -O -C target-cpu=x86-64-v2 benchmarks/unverified_ring.rs && ./unverified_ring looks|appends THREADS CALLS [mutex]
+//!     rustc -O -C target-cpu=x86-64-v2 benchmarks/unverified_ring.rs && ./unverified_ring looks|appends THREADS CALLS [mutex|marked]
 //! The words of the log are those of its cell: the tail, the completed tail, four local tails, the number of replicas, and 16
-//! entries of two words. They lie in a sequence lock, or under a mutex.
+//! entries of two words. They lie in a sequence lock, or under a mutex; or in a sequence lock beside two counts of the exchanges, by
+//! which a pass knows that what it loaded is still there.
 use std::sync::atomic::{AtomicU64, Ordering, fence};
 use std::sync::Mutex;
 use std::time::{Duration, Instant};
@@ -13,8 +14,25 @@ type Words = [u64; WORDS];
 trait Cell: Sync {
     fn new(words: Words) -> Self;
     fn load(&self) -> (u64, Words);
-    /// Puts other words there where the version is still that, and says whether it did.
-    fn exchange(&self, version: u64, words: &Words) -> bool;
+    /// Puts other words there where the version is still that, and gives theirs.
+    fn exchange(&self, version: u64, words: &Words) -> Option<u64>;
+
+    /// Whether the words with this mark are still there.
+    fn is_at(&self, _mark: Option<u64>) -> bool {
+        false
+    }
+
+    /// The mark of the words that are loaded after this call.
+    fn mark(&self) -> Option<u64> {
+        None
+    }
+
+    /// An exchange of words with this mark begins: the mark of the words after it.
+    fn begin(&self, _mark: Option<u64>) -> Option<u64> {
+        None
+    }
+
+    fn end(&self) {}
 }
 
 /// The version is odd while a writer has the cell. A reader reads again if a writer came between.
@@ -42,16 +60,56 @@ impl Cell for SeqLock {
         }
     }
 
-    fn exchange(&self, version: u64, words: &Words) -> bool {
+    fn exchange(&self, version: u64, words: &Words) -> Option<u64> {
         if self.version.compare_exchange(version, version + 1, Ordering::Acquire, Ordering::Relaxed).is_err() {
-            return false;
+            return None;
         }
         fence(Ordering::Release);
         for (place, word) in self.words.iter().zip(words) {
             place.store(*word, Ordering::Relaxed);
         }
         self.version.store(version + 2, Ordering::Release);
-        true
+        Some(version + 2)
+    }
+}
+
+/// Each exchange raises `begun` before it and `ended` after it, as `RingLog` does.
+struct Marked {
+    begun: AtomicU64,
+    ended: AtomicU64,
+    cell: SeqLock,
+}
+
+impl Cell for Marked {
+    fn new(words: Words) -> Marked {
+        Marked { begun: AtomicU64::new(0), ended: AtomicU64::new(0), cell: SeqLock::new(words) }
+    }
+
+    fn load(&self) -> (u64, Words) {
+        self.cell.load()
+    }
+
+    fn exchange(&self, version: u64, words: &Words) -> Option<u64> {
+        self.cell.exchange(version, words)
+    }
+
+    fn is_at(&self, mark: Option<u64>) -> bool {
+        mark == Some(self.begun.load(Ordering::SeqCst))
+    }
+
+    fn mark(&self) -> Option<u64> {
+        let ended = self.ended.load(Ordering::SeqCst);
+        let begun = self.begun.load(Ordering::SeqCst);
+        (ended == begun).then_some(begun)
+    }
+
+    fn begin(&self, mark: Option<u64>) -> Option<u64> {
+        let begun = self.begun.fetch_add(1, Ordering::SeqCst);
+        (mark == Some(begun)).then_some(begun + 1)
+    }
+
+    fn end(&self) {
+        self.ended.fetch_add(1, Ordering::SeqCst);
     }
 }
 
@@ -66,13 +124,13 @@ impl Cell for Locked {
         *self.0.lock().unwrap()
     }
 
-    fn exchange(&self, version: u64, words: &Words) -> bool {
+    fn exchange(&self, version: u64, words: &Words) -> Option<u64> {
         let mut found = self.0.lock().unwrap();
         if found.0 != version {
-            return false;
+            return None;
         }
         *found = (version + 1, *words);
-        true
+        Some(version + 1)
     }
 }
 
@@ -104,28 +162,39 @@ struct Pass {
     replica: usize,
     version: u64,
     words: Words,
+    mark: Option<u64>,
 }
 
 impl<C: Cell> Log<C> {
     fn new(replicas: usize) -> (Log<C>, Vec<Pass>) {
         let mut words = [0; WORDS];
         words[6] = replicas as u64;
-        let passes = (0..=replicas).map(|replica| Pass { replica, version: 0, words }).collect();
+        let passes = (0..=replicas).map(|replica| Pass { replica, version: 0, words, mark: Some(0) }).collect();
         (Log { cell: C::new(words) }, passes)
     }
 
     fn look(&self, pass: &mut Pass) -> Tails {
-        (pass.version, pass.words) = self.cell.load();
+        if !self.cell.is_at(pass.mark) {
+            pass.mark = self.cell.mark();
+            (pass.version, pass.words) = self.cell.load();
+        }
         let words = &pass.words;
         Tails { tail: words[0], completed: words[1], local: [words[2], words[3], words[4], words[5]] }
     }
 
     fn exchange(&self, pass: &mut Pass, words: &Words) -> bool {
-        let done = self.cell.exchange(pass.version, words);
-        if !done {
-            self.look(pass);
+        let mark = self.cell.begin(pass.mark);
+        let left = self.cell.exchange(pass.version, words);
+        self.cell.end();
+        pass.mark = None;
+        match left {
+            Some(version) if mark.is_some() => (pass.version, pass.words, pass.mark) = (version, *words, mark),
+            Some(_) => {}
+            None => {
+                self.look(pass);
+            }
         }
-        done
+        left.is_some()
     }
 
     fn append(&self, pass: &mut Pass, batch: &[Entry]) -> Result<u64, Fault> {
@@ -272,12 +341,14 @@ fn appends<C: Cell>(threads: usize, calls: u64) -> Duration {
 fn main() {
     let words: Vec<String> = std::env::args().collect();
     let (threads, calls) = (words[2].parse().expect("THREADS"), words[3].parse().expect("CALLS"));
-    let mutex = words.get(4).is_some_and(|word| word == "mutex");
-    let (name, time) = match (words[1].as_str(), mutex) {
-        ("looks", false) => ("look", looks::<SeqLock>(threads, calls)),
-        ("looks", true) => ("look", looks::<Locked>(threads, calls)),
-        ("appends", false) => ("append", appends::<SeqLock>(threads, calls)),
-        ("appends", true) => ("append", appends::<Locked>(threads, calls)),
+    let kind = words.get(4).map_or("", |word| word.as_str());
+    let (name, time) = match (words[1].as_str(), kind) {
+        ("looks", "") => ("look", looks::<SeqLock>(threads, calls)),
+        ("looks", "marked") => ("look", looks::<Marked>(threads, calls)),
+        ("looks", "mutex") => ("look", looks::<Locked>(threads, calls)),
+        ("appends", "") => ("append", appends::<SeqLock>(threads, calls)),
+        ("appends", "marked") => ("append", appends::<Marked>(threads, calls)),
+        ("appends", "mutex") => ("append", appends::<Locked>(threads, calls)),
         _ => panic!("looks or appends"),
     };
     let rate = (threads as f64 * calls as f64 / time.as_secs_f64()) as u64;

@@ -41,13 +41,17 @@ pub fn entry(rt: &impl Abort, call: u32) -> LogEntry
     LogEntry { call, op }
 }
 
-/// The refusal of a batch for which a log with these tails has no room.
-fn full(tail: u32, completed: u32, local: [u32; 4]) -> Result<u32, AppendFault> {
-    Err(AppendFault::Full(Tails {
+fn tails(tail: u32, completed: u32, local: [u32; 4]) -> Tails {
+    Tails {
         tail,
         completed,
         local,
-    }))
+    }
+}
+
+/// The refusal of a batch for which a log with these tails has no room.
+fn full(tail: u32, completed: u32, local: [u32; 4]) -> Result<u32, AppendFault> {
+    Err(AppendFault::Full(tails(tail, completed, local)))
 }
 
 #[test]
@@ -117,6 +121,67 @@ fn advance_meets_another_event(rt: HostRuntime) -> Result<(), Fail> {
         local: [1, 0, 0, 0],
     };
     assert_eq!(rt; log.look(&rt, &mut third), tails);
+    Ok(())
+}
+
+/// No clause says that a look tells what other passes have done before it. Each look here follows an event.
+#[test]
+fn looks_see_other_passes(rt: HostRuntime) -> Result<(), Fail> {
+    let (log, mut passes) = RingLog::<Two>::new(rt.alloc(), Depth::Four, 2, 1)?;
+    let mut first = passes.remove(0);
+    let mut second = passes.remove(0);
+    let mut third = passes.remove(0);
+    let one = [entry(&rt, 1)];
+    assert_eq!(rt; log.look(&rt, &mut first), tails(0, 0, [0, 0, 0, 0]));
+    assert_eq!(rt; log.append(&rt, &mut third, one.as_slice()), Ok(0));
+    assert_eq!(rt; log.look(&rt, &mut third), tails(1, 0, [0, 0, 0, 0]));
+    let seen = log.look(&rt, &mut first);
+    assert_eq!(rt; seen, tails(1, 0, [0, 0, 0, 0]));
+    assert_eq!(rt; log.look(&rt, &mut first), seen);
+
+    assert!(rt; seen.local[0] <= 1 && 1 <= seen.tail);
+    assert_eq!(rt; log.advance(&rt, &mut first, 1), Ok(()));
+    assert_eq!(rt; log.look(&rt, &mut first), tails(1, 1, [1, 0, 0, 0]));
+    assert_eq!(rt; log.look(&rt, &mut third), tails(1, 1, [1, 0, 0, 0]));
+    assert_eq!(rt; log.look(&rt, &mut second), tails(1, 1, [1, 0, 0, 0]));
+    assert_eq!(rt; log.append(&rt, &mut third, one.as_slice()), Ok(1));
+    assert_eq!(rt; log.append(&rt, &mut third, one.as_slice()), Ok(2));
+    let mut entries = ArrayVec::new();
+    log.fetch(&rt, &mut second, &mut entries);
+    assert_eq!(rt; entries.len(), 3);
+    assert_eq!(rt; log.look(&rt, &mut first), tails(3, 1, [1, 0, 0, 0]));
+    log.meet(&rt, &mut third, &mut second);
+    assert_eq!(rt; log.append(&rt, &mut third, one.as_slice()), Ok(3));
+    assert_eq!(rt; log.append(&rt, &mut second, one.as_slice()), Ok(4));
+    assert_eq!(rt; log.look(&rt, &mut third), tails(5, 1, [1, 0, 0, 0]));
+    Ok(())
+}
+
+#[test]
+fn looks_see_what_refused(rt: HostRuntime) -> Result<(), Fail> {
+    let (log, mut passes) = RingLog::<Two>::new(rt.alloc(), Depth::Four, 2, 1)?;
+    let mut first = passes.remove(0);
+    let mut third = passes.remove(1);
+    let one = [entry(&rt, 1)];
+    assert_eq!(rt; log.append(&rt, &mut third, one.as_slice()), Ok(0));
+    let seen = log.look(&rt, &mut first);
+    assert!(rt; seen.local[0] <= 1 && 1 <= seen.tail);
+    assert_eq!(rt; log.append(&rt, &mut third, one.as_slice()), Ok(1));
+    assert_eq!(rt; log.advance(&rt, &mut first, 1), Err(Moved));
+    assert_eq!(rt; log.look(&rt, &mut first), tails(2, 0, [0, 0, 0, 0]));
+    assert_eq!(rt; log.append(&rt, &mut third, one.as_slice()), Ok(2));
+    assert_eq!(rt; log.look(&rt, &mut first), tails(3, 0, [0, 0, 0, 0]));
+    let batch = [entry(&rt, 2); 16];
+    assert_eq!(rt;
+        log.append(&rt, &mut first, batch.as_slice()),
+        full(3, 0, [0, 0, 0, 0])
+    );
+    assert_eq!(rt; log.append(&rt, &mut third, one.as_slice()), Ok(3));
+    assert_eq!(rt;
+        log.append(&rt, &mut first, batch.as_slice()),
+        full(4, 0, [0, 0, 0, 0])
+    );
+    assert_eq!(rt; log.look(&rt, &mut first), tails(4, 0, [0, 0, 0, 0]));
     Ok(())
 }
 

@@ -1,5 +1,9 @@
 ghost use Rattle.std.specs.Prelude.{◌≡◌, ◌<◌, [], ◌∷◌};
+ghost use Rattle.vs_types.specs.declared.depth.Depth.TheVariants.{Four};
 ghost use Rattle.vs_types.specs.declared.limits.TheConstants.{CALLS};
+ghost use Rattle.nr_ring.specs.Calls.{HasLooked};
+ghost use Rattle.nr_ring.specs.History.{log_after};
+ghost use Rattle.nr_ring.specs.Pass.{tails_of};
 
 use crate::ring::{Two, entry};
 use arrayvec::ArrayVec;
@@ -7,12 +11,31 @@ use crossbeam_utils::Backoff;
 use nr_ring::{AppendFault, LogPass, RingLog, Tails};
 use std::process::Abort;
 use std::sync::Wait;
+use std::sync::atomic::{AtomicU64, Ordering};
 use std::test::Fail;
 use std::thread::join;
 use vs_types::Depth;
 
 /// How many entries each thread appends.
 const ROUNDS: u32 = 10_000;
+
+/// Looks, and sees all entries whose appends had returned before.
+fn look_now<R: Wait + Abort>(
+    rt: &R,
+    log: &RingLog<Two>,
+    pass: &mut LogPass<Two>,
+    appended: &AtomicU64,
+) -> Tails
+    requires log { pass.old.log ≡ log.now }
+    ensures log { pass.new.log ≡ pass.old.log }
+    ensures looked { HasLooked Four 2 pass.old.view pass.new.view }
+    ensures tails { result ≡ tails_of (log_after 2 pass.new.view.seen) }
+{
+    let before = appended.load(Ordering::SeqCst);
+    let tails = log.look(rt, pass);
+    assert!(rt; before <= u64::from(tails.tail));
+    tails
+}
 
 /// Whether no tail is below that of an earlier log.
 fn is_later(later: Tails, earlier: Tails) -> bool {
@@ -29,6 +52,7 @@ fn take<R: Wait + Abort>(
     log: &RingLog<Two>,
     pass: &mut LogPass<Two>,
     replica: usize,
+    appended: &AtomicU64,
     taken: &mut Vec<u32>,
 )
     requires log { pass.old.log ≡ log.now }
@@ -38,7 +62,7 @@ fn take<R: Wait + Abort>(
 {
     let mut entries = ArrayVec::new();
     log.fetch(rt, pass, &mut entries);
-    let tails = log.look(rt, pass);
+    let tails = look_now(rt, log, pass, appended);
     let local = if replica == 0 {
         tails.local[0]
     } else {
@@ -61,6 +85,7 @@ fn append_one<R: Wait + Abort>(
     pass: &mut LogPass<Two>,
     replica: usize,
     call: u32,
+    appended: &AtomicU64,
     taken: &mut Vec<u32>,
 )
     requires log { pass.old.log ≡ log.now }
@@ -72,14 +97,17 @@ fn append_one<R: Wait + Abort>(
     let one = [entry(rt, call)];
     let backoff = Backoff::new();
     for _ in rt.forever() {
-        let seen = log.look(rt, pass);
+        let seen = look_now(rt, log, pass, appended);
         match log.append(rt, pass, one.as_slice()) {
-            Ok(_) => return,
+            Ok(_) => {
+                appended.fetch_add(1, Ordering::SeqCst);
+                return;
+            }
             Err(AppendFault::LogEnded) => panic!(rt; "the log ended"),
             Err(AppendFault::Moved(tails)) => assert!(rt; is_later(tails, seen)),
             Err(AppendFault::Full(tails)) => {
                 assert!(rt; is_later(tails, seen));
-                take(rt, log, pass, replica, taken);
+                take(rt, log, pass, replica, appended, taken);
             }
         }
         backoff.snooze();
@@ -94,6 +122,7 @@ fn work<R: Wait + Abort>(
     log: &RingLog<Two>,
     pass: &mut LogPass<Two>,
     replica: u32,
+    appended: &AtomicU64,
     taken: &mut Vec<u32>,
 )
     requires log { pass.old.log ≡ log.now }
@@ -101,15 +130,16 @@ fn work<R: Wait + Abort>(
     ensures log { pass.new.log ≡ pass.old.log }
 {
     for round in 0..ROUNDS {
-        append_one(rt, log, pass, replica as usize, 2 * round + replica, taken);
-        take(rt, log, pass, replica as usize, taken);
+        let call = 2 * round + replica;
+        append_one(rt, log, pass, replica as usize, call, appended, taken);
+        take(rt, log, pass, replica as usize, appended, taken);
     }
     let backoff = Backoff::new();
     for _ in rt.forever() {
         if taken.len() == 20_000 {
             return;
         }
-        take(rt, log, pass, replica as usize, taken);
+        take(rt, log, pass, replica as usize, appended, taken);
         backoff.snooze();
     }
     unreachable!()
@@ -122,10 +152,11 @@ fn two_threads_share_a_log(rt: HostRuntime) -> Result<(), Fail> {
     let mut second = passes.remove(0);
     let mut here = Vec::new(rt.alloc());
     let mut there = Vec::new(rt.alloc());
+    let appended = AtomicU64::new(0);
     join(
         &rt,
-        || work(&rt, &log, &mut first, 0, &mut here),
-        || work(&rt, &log, &mut second, 1, &mut there),
+        || work(&rt, &log, &mut first, 0, &appended, &mut here),
+        || work(&rt, &log, &mut second, 1, &appended, &mut there),
     );
     // both replicas took the same entries in the same order, and each thread's in the order in which it appended them
     assert_eq!(rt; here, there);

@@ -1,6 +1,7 @@
 -- An exchange of the words that a pass knows keeps the rule, and what it tells.
 use Rattle.std.proofs.Common.{◌≡◌, ◌≢◌, ℕ, zero, suc, ◌+◌, ◌<◌, ◌≤◌, Bool, true, false, true≢false, List, [], ◌∷◌, ◌++◌, All, Contains, Option, length}
 use Rattle.std.proofs.Common.{length-append, get_or, if◌then◌else◌, nat_eq, refl, ap, sym, subst, ◌∙◌, arith}
+use Rattle.std.specs.Prelude.{slice_index_or}
 use Rattle.std.proofs.lemmas.List.{append-nil}
 use Rattle.std.proofs.lemmas.List.Elements.{All-append}
 use lib.Pointwise.{pointwise, bytes_decides}
@@ -15,7 +16,7 @@ use Rattle.nr_ring.specs.declared.view.View.{View}
 use Rattle.nr_ring.specs.inside.Held.{Exchanges, Remembers}
 use Rattle.nr_ring.proofs.SameWords.{words_same}
 use Rattle.nr_ring.proofs.Turns.{event_kept, look_turns}
-use Rattle.nr_ring.proofs.Views.{after_one_more, goes_on_by}
+use Rattle.nr_ring.proofs.Views.{after_one_more, begins_still, goes_on_by}
 
 pub exchange_turns : (depth : Depth) (replicas pass : ℕ) (v : View) (event : Event) (current next : List ℕ) → replicas ≤ 4
     → IsWordsOf (log_after replicas v.seen) current → MayFollow depth (log_after replicas v.seen) event → MayMake v event
@@ -78,6 +79,7 @@ event_remembers depth replicas words next replica v event is may now =
       owned_below = is.owned_below;
       mine = All-append (λ number. number < length (v.seen ++ event ∷ [])) v.mine (length v.seen ∷ []) (λ k d lt. omega (arith, is.mine k d lt, more))
           (one (length (v.seen ++ event ∷ [])) (length v.seen) (omega (arith, more)));
+      told = λ k d lt. begins_still v.seen (slice_index_or v.told k d) event (is.told k d lt);
     } where
       one : (end number : ℕ) → number < end → All (λ n. n < end) (number ∷ [])
       one end number lt zero d le = lt

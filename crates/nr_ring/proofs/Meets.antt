@@ -5,7 +5,7 @@ use Rattle.nr_ring.specs.Calls.{IsCut, Looks, copied, joined}
 use Rattle.nr_ring.specs.View.{StartsWith}
 use Rattle.nr_ring.specs.declared.view.View.{View}
 use Rattle.nr_ring.specs.inside.Held.{Remembers}
-use Rattle.nr_ring.proofs.Passes.{longer}
+use Rattle.nr_ring.proofs.Passes.{longer, told_before}
 
 -- a copy owns nothing
 pub cut_nothing : (owns : List ℕ) → IsCut owns owns []
@@ -36,4 +36,5 @@ met_remembers depth replicas words words' replica told other after is looks = re
       let P : List ℕ → Type 0 = λ l. All (λ number. number < length after.seen) l in
       let more = longer after.seen told.seen (met depth replicas words' told other after looks).1 in
       subst P (sym looks.looked.mine) (λ k d lt. omega (arith, is.mine k d lt, more));
+  told = told_before after (joined told other) looks.looked.told_stays looks.looked.told;
 }

@@ -2,14 +2,14 @@
 use Rattle.std.proofs.Common.{◌≡◌, ℕ, zero, suc, ◌+◌, ◌-◌, ◌^◌, ◌<◌, ◌≤◌, List, [], ◌∷◌, ◌++◌, All, Contains, Option, None, Some, take, drop, length, get_or}
 use Rattle.std.proofs.Common.{refl, ap, sym, subst, ◌∙◌, le_trans, arith}
 use Rattle.std.specs.List.{range_with_len}
-use Rattle.std.specs.Prelude.{slice_index}
+use Rattle.std.specs.Prelude.{slice_index, slice_index_or}
 use Rattle.std.proofs.lemmas.List.FromFn.{get_or-range_with_len, length-range_with_len}
 use Rattle.vs_types.specs.declared.depth.Depth.{Depth}
 use Rattle.vs_types.specs.declared.limits.TheConstants.{LOG_PLACES}
 use Rattle.nr_ring.specs.History.{Log, tail, local_of, IsHistory, log_after}
 use Rattle.nr_ring.specs.Words.{IsWordsOf, new_words}
 use Rattle.nr_ring.specs.View.{StartsWith}
-use Rattle.nr_ring.specs.Calls.{Looks, IsCut}
+use Rattle.nr_ring.specs.Calls.{HasLooked, Looks, IsCut}
 use Rattle.nr_ring.specs.Pass.{tails_of}
 use Rattle.nr_ring.specs.declared.event.Event.{Event}
 use Rattle.nr_ring.specs.declared.view.View.{View}
@@ -17,6 +17,7 @@ use Rattle.nr_ring.specs.inside.Held.{IsBelow, Remembers, left_from, new_view, o
 use Rattle.nr_ring.proofs.Histories.{history_fits}
 use Rattle.nr_ring.proofs.LocalTails.{greatest_least}
 use Rattle.nr_ring.proofs.NewLog.{new_is}
+use Rattle.nr_ring.proofs.Views.{nothing_since, whole}
 
 -- the tails are small
 pub small_words : (depth : Depth) (replicas : ℕ) (seen : List Event) (words : List ℕ) → IsHistory depth replicas seen
@@ -43,6 +44,10 @@ tails_are log words are = λ i. record {
 pub longer : (after before : List Event) → StartsWith after before → length before ≤ length after
 longer after before begins = omega (arith, ap (λ (l : List Event). length l) begins.1, Rattle.std.proofs.Common.length-append before begins.0)
 
+-- what a pass was told stays what it was
+pub told_before : (after before : View) → after.told ≡ before.told → All (StartsWith after.seen) before.told → All (StartsWith after.seen) after.told
+told_before after before same told = let P : List (List Event) → Type 0 = λ l. All (StartsWith after.seen) l in subst P (sym same) told
+
 pub look_remembers : (depth : Depth) (replicas : ℕ) (words words' : List ℕ) (replica : Option ℕ) (before after : View)
     → Remembers depth replicas words replica before → Looks depth replicas words' before after → Remembers depth replicas words' replica after
 look_remembers depth replicas words words' replica before after is looks = record {
@@ -55,6 +60,20 @@ look_remembers depth replicas words words' replica before after is looks = recor
       let P : List ℕ → Type 0 = λ l. All (λ number. number < length after.seen) l in
       let more = longer after.seen before.seen looks.looked.seen in
       subst P (sym looks.looked.mine) (λ k d lt. omega (arith, is.mine k d lt, more));
+  told = told_before after before looks.looked.told_stays looks.looked.told;
+}
+
+-- a pass whose words are still those of the cell has nothing more to see
+pub sees_no_more : (depth : Depth) (replicas : ℕ) (words : List ℕ) (replica : Option ℕ) (view : View) → Remembers depth replicas words replica view
+    → HasLooked depth replicas view view
+sees_no_more depth replicas words replica view is = record {
+  is_history = is.is_history;
+  seen = whole view.seen;
+  told = is.told;
+  advances = λ k d lt. nothing_since (slice_index_or view.owns k d) view.seen;
+  told_stays = refl;
+  mine = refl;
+  owns = refl;
 }
 
 pub new_remembers : (depth : Depth) (replicas : ℕ) (replica : Option ℕ) → replicas ≤ 4 → IsBelow replicas replica
@@ -66,6 +85,7 @@ new_remembers depth replicas replica few below = record {
   owns = refl;
   owned_below = below;
   mine = λ k d lt. absurd (omega arith);
+  told = λ k d lt. absurd (omega arith);
 }
 
 -- the first pass gives away the first of the replicas that it owns

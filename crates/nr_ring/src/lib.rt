@@ -8,6 +8,7 @@ mod batch;
 mod cell_words;
 mod event;
 pub mod examples;
+mod exchange_count;
 pub mod laws;
 mod name;
 mod pass;

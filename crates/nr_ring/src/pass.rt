@@ -4,12 +4,13 @@ use crate::view::View;
 use crossbeam_utils::atomic::seq_cell::Pass;
 use std::marker::{Model, PhantomData};
 
-/// What one thread knows of a log: the words of the cell that it saw last, and the replica that it owns, if any. Contracts
-/// see which log it is and what the pass knows of it.
+/// What one thread knows of a log: the words of the cell that it saw last, with their mark (`ExchangeCount`), and the replica that
+/// it owns, if any. Contracts see which log it is and what the pass knows of it.
 #[derive(Drop)]
 pub struct LogPass<J: LogName> {
     pub(crate) pass: Pass<[u64; 39], View>,
     pub(crate) words: [u64; 39],
+    pub(crate) mark: Option<u64>,
     pub(crate) replica: Option<u8>,
     pub(crate) of: PhantomData<J>,
 }

@@ -1,4 +1,4 @@
-//! The log: one cell of 39 words that its threads share.
+//! The log: one cell of 39 words that its threads share, and how many exchanges of it there have been.
 ghost use Rattle.std.specs.Prelude.{◌≡◌, ◌≤◌, ◌-◌, ◌<◌, ℕ, All, Contains, IfErr, IfOk, OnErr, OnOk, [], ◌∷◌, length};
 ghost use Rattle.std.specs.List.{range_with_len};
 ghost use Rattle.vs_types.specs.LogEntry.{IsLogEntry};
@@ -13,6 +13,7 @@ ghost use Rattle.nr_ring.specs.Words.{IsWordsOf, new_words};
 ghost use Rattle.nr_ring.specs.inside.Held.{IsBelow, MadeOrMoved, left_from, new_view, owned, rest_of};
 
 use crate::batch::{read_entries, test_room, why_not, with_batch};
+use crate::exchange_count::ExchangeCount;
 use crate::name::LogName;
 use crate::pass::LogPass;
 use crate::rule::{Copies, Exchanging, FirstOwned, Happening, LogRule, Looking};
@@ -31,6 +32,7 @@ type Cell<J> = RuledSeqCell<[u64; 39], View, LogRule<J>, 39>;
 #[derive(Drop)]
 pub struct RingLog<J: LogName> {
     cell: RuledSeqCell<[u64; 39], View, LogRule<J>, 39>,
+    exchanges: ExchangeCount,
     depth: Depth,
     of: PhantomData<J>,
 }
@@ -65,6 +67,7 @@ impl<J: LogName> RingLog<J> {
         let (cell, mut first) = Cell::<J>::ruled(alloc, words)?;
         let log = RingLog {
             cell,
+            exchanges: ExchangeCount::new(),
             depth,
             of: PhantomData,
         };
@@ -98,23 +101,45 @@ impl<J: LogName> RingLog<J> {
         LogPass {
             pass,
             words,
+            mark: Some(0),
             replica,
             of: PhantomData,
         }
     }
 
-    /// Loads the cell: the tails of the log after all that the pass has then seen.
+    /// The tails of the log after all that the pass has then seen.
     ///
-    /// Waits for the cell.
+    /// Loads the cell and waits for it, but where no exchange of another pass's has begun since this pass saw it.
     pub fn look<R: Wait>(&self, rt: &R, pass: &mut LogPass<J>) -> Tails
         requires { pass.old.log ≡ self.now }
         ensures log { pass.new.log ≡ pass.old.log }
         ensures looked { HasLooked J.depth J.replicas pass.old.view pass.new.view }
         ensures tails { result ≡ tails_of (log_after J.replicas pass.new.view.seen) }
     {
-        let words = self.cell.load_as::<Looking<J>, R>(rt, &mut pass.pass);
-        pass.words = words;
-        tails_in(&words)
+        self.refresh(rt, pass);
+        tails_in(&pass.words)
+    }
+
+    /// Has the words of the pass be those of the cell: loads the cell, but where they are so still.
+    fn refresh<R: Wait>(&self, rt: &R, pass: &mut LogPass<J>)
+        requires { pass.old.log ≡ self.now }
+        ensures log { pass.new.log ≡ pass.old.log }
+        ensures looked { HasLooked J.depth J.replicas pass.old.view pass.new.view }
+    {
+        if self.exchanges.is_at(pass.mark) {
+            return;
+        }
+        self.load(rt, pass);
+    }
+
+    /// Loads the cell. Its large locals cost a look nothing that need not load, which is why it is a function of its own.
+    fn load<R: Wait>(&self, rt: &R, pass: &mut LogPass<J>)
+        requires { pass.old.log ≡ self.now }
+        ensures log { pass.new.log ≡ pass.old.log }
+        ensures looked { HasLooked J.depth J.replicas pass.old.view pass.new.view }
+    {
+        pass.mark = self.exchanges.mark();
+        pass.words = self.cell.load_as::<Looking<J>, R>(rt, &mut pass.pass);
     }
 
     /// Raises the local tail of the replica that the pass owns to a place, and the completed tail to it where that is lower.
@@ -234,7 +259,7 @@ impl<J: LogName> RingLog<J> {
         ensures fetched { (replica : ℕ) → pass.old.view.owns ≡ replica ∷ []
             → entries.new.items ≡ to_take (log_after J.replicas pass.new.view.seen) replica }
     {
-        self.look(rt, pass);
+        self.refresh(rt, pass);
         let Some(replica) = pass.replica else {
             unreachable!()
         };
@@ -257,9 +282,11 @@ impl<J: LogName> RingLog<J> {
         ensures history { IsHistory J.depth J.replicas pass.new.view.seen }
     {
         let words = pass.words;
+        pass.mark = self.exchanges.begin(pass.mark);
         let found = self
             .cell
             .compare_exchange_as::<Exchanging<J, E>, R>(rt, &mut pass.pass, words, next);
+        self.exchanges.end();
         match found {
             Ok(_) => {
                 pass.words = next;
@@ -284,7 +311,7 @@ impl<J: LogName> RingLog<J> {
     {
         let copy = self.cell.split_pass::<Copies>(&mut pass.pass);
         self.cell.join_pass::<Copies>(&mut told.pass, copy);
-        let words = self.cell.load_as::<Looking<J>, R>(rt, &mut told.pass);
-        told.words = words;
+        told.mark = self.exchanges.mark();
+        told.words = self.cell.load_as::<Looking<J>, R>(rt, &mut told.pass);
     }
 }

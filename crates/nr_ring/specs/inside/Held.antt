@@ -4,6 +4,7 @@ use Rattle.std.specs.Prelude.{◌≡◌, ℕ, ◌+◌, ◌-◌, ◌<◌, ◌≤�
 use Rattle.vs_types.specs.declared.depth.Depth.{Depth}
 use Rattle.nr_ring.specs.History.{IsHistory, log_after}
 use Rattle.nr_ring.specs.Words.{IsWordsOf}
+use Rattle.nr_ring.specs.View.{StartsWith}
 use Rattle.nr_ring.specs.Calls.{HasLooked, HasMoved, Looks, with_event}
 use Rattle.nr_ring.specs.declared.event.Event.{Event}
 use Rattle.nr_ring.specs.declared.view.View.{View}
@@ -18,7 +19,8 @@ owned (Some replica) = replica ∷ []
 abbrev pub IsBelow : ℕ → Option ℕ → Type 0
 IsBelow replicas replica = (r : ℕ) → replica ≡ Some r → r < replicas
 
--- the words are those of the log after all that the pass has seen, among which are the events that it made
+-- the words are those of the log after all that the pass has seen, among which are the events that it made; it begins with all that it
+-- was told
 pub record Remembers (depth : Depth) (replicas : ℕ) (words : List ℕ) (replica : Option ℕ) (view : View) : Type 0 where
   pub few : replicas ≤ 4
   pub is_history : IsHistory depth replicas view.seen
@@ -26,6 +28,7 @@ pub record Remembers (depth : Depth) (replicas : ℕ) (words : List ℕ) (replic
   pub owns : view.owns ≡ owned replica
   pub owned_below : IsBelow replicas replica
   pub mine : All (λ number. number < length view.seen) view.mine
+  pub told : All (StartsWith view.seen) view.told
 
 abbrev pub tails_of_words : List ℕ → Tails
 tails_of_words words = record {

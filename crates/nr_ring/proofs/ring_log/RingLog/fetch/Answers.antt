@@ -14,7 +14,7 @@ pub read_entries-requires-clause-words : goal.read_entries-requires-clause-words
 read_entries-requires-clause-words g c =
     let words = c.pass.inside.words in
     let r = c.in-Some.replica in
-    let view = c.look.new.pass.view in
+    let view = c.refresh.new.pass.view in
     let is = owner_remembers _ _ words _ r _ view c.pass.invariant (ap (λ (k : Known). k.view) c.pass.view_is) c.in-Some.is in
     let Deep : Depth → Type 0 = λ depth. CanBeRead depth words (slice_index words (2 + c.from.result)) in
     let At : ℕ → Type 0 = λ n. CanBeRead g.J.LogName.depth words (slice_index words (2 + n)) in
@@ -26,12 +26,12 @@ returns-clause-fetched g c =
     let replicas = g.J.LogName.replicas in
     let words = c.pass.inside.words in
     let r = c.in-Some.replica in
-    let view = c.look.new.pass.view in
+    let view = c.refresh.new.pass.view in
     let log = log_after replicas view.seen in
     let is = owner_remembers _ _ words _ r _ view c.pass.invariant (ap (λ (k : Known). k.view) c.pass.view_is) c.in-Some.is in
     let Fit : Depth → Type 0 = λ d. All (IsLogEntry d) log.entries in
     let fit = subst Fit (sym c.self.invariant) (history_entries depth replicas view.seen is.is_history) in
     let word = ap (λ n. slice_index words (2 + n)) c.from.ensures ∙ local_word depth replicas words r view is in
     λ replica owns.
-    let same : replica ≡ r = same_replica view.owns replica r (c.look.ensures.looked.owns ∙ owns) is.owns in
+    let same : replica ≡ r = same_replica view.owns replica r (c.refresh.ensures.looked.owns ∙ owns) is.owns in
     c.read_entries.ensures log is.words_are fit ∙ ap (λ n. drop n log.entries) (word ∙ ap (λ p. local_of log p) (sym same))

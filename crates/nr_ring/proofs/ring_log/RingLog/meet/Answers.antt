@@ -17,8 +17,8 @@ join_pass-requires g c =
     let given = c.split_pass-copy.ensures.given in
     (search rules, (search rules, (search rules, join_merges _ _ _ _ _ (cell_view c.split_pass-copy.result) (ap (λ (v : View). v.mine) given.1))))
 
-pub load_as-words-requires : goal.load_as-words-requires
-load_as-words-requires g c = (search rules, (search rules, (search rules, look_turns _ _ _ _)))
+pub load_as-told-inside-requires : goal.load_as-told-inside-requires
+load_as-told-inside-requires g c = (search rules, (search rules, (search rules, look_turns _ _ _ _)))
 
 pub invariant_of-pass : goal.invariant_of-pass
 invariant_of-pass g c =
@@ -29,7 +29,8 @@ pub invariant_of-told : goal.invariant_of-told
 invariant_of-told g c =
     let held = cell_view c.told.inside.pass in
     let pass = cell_view c.pass.inside.pass in
-    let looks = told_looks _ _ _ held pass _ _ held pass _ c.join_pass.ensures.1 c.split_pass-copy.ensures.given.1 refl refl c.load_as-words.ensures.rule in
+    let looks = told_looks _ _ _ held pass _ _ held pass _ c.join_pass.ensures.1 c.split_pass-copy.ensures.given.1 refl refl
+    c.load_as-told-inside.ensures.rule in
     met_remembers _ _ _ _ _ held pass _ c.told.invariant looks
 
 pub returns-clause-pass : goal.returns-clause-pass
@@ -42,7 +43,7 @@ returns-clause-looked g c =
     let own = ap (λ (k : Known). k.view) c.told.view_is in
     let its = ap (λ (k : Known). k.view) c.pass.view_is in
     let looks = told_looks _ _ _ (cell_view c.told.inside.pass) (cell_view c.pass.inside.pass) _ _ c.args.told.now.view c.args.pass.now.view _
-    c.join_pass.ensures.1 c.split_pass-copy.ensures.given.1 own its c.load_as-words.ensures.rule in
+    c.join_pass.ensures.1 c.split_pass-copy.ensures.given.1 own its c.load_as-told-inside.ensures.rule in
     looks.looked
 
 pub returns-clause-met : goal.returns-clause-met
@@ -51,4 +52,4 @@ returns-clause-met g c =
     let its = ap (λ (k : Known). k.view) c.pass.view_is in
     met _ _ _ c.args.told.now.view c.args.pass.now.view _
     (told_looks _ _ _ (cell_view c.told.inside.pass) (cell_view c.pass.inside.pass) _ _ c.args.told.now.view c.args.pass.now.view _
-    c.join_pass.ensures.1 c.split_pass-copy.ensures.given.1 own its c.load_as-words.ensures.rule)
+    c.join_pass.ensures.1 c.split_pass-copy.ensures.given.1 own its c.load_as-told-inside.ensures.rule)
