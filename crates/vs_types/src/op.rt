@@ -99,8 +99,9 @@ impl Op {
         })
     }
 
-    /// The operation that does this.
-    pub(crate) fn of(action: Action) -> Op
+    /// The operation that does this, which is well formed at some depth; nothing is tested.
+    #[inline]
+    pub fn of(action: Action) -> Op
         requires { IsSomeAction action }
         ensures { result ≡ action }
     {
@@ -108,6 +109,7 @@ impl Op {
     }
 
     /// What it does.
+    #[inline]
     pub fn action(self) -> Action
         ensures reads { result ≡ self }
         ensures well_formed { IsSomeAction self }

@@ -78,6 +78,7 @@ impl Request {
     }
 
     /// Asks for an operation.
+    #[inline]
     pub fn update(op: Op) -> Request
         ensures { result ≡ Query.Update op }
     {
@@ -89,7 +90,25 @@ impl Request {
         Request { asked }
     }
 
+    /// Asks this, which is well formed at some depth; nothing is tested.
+    #[inline]
+    pub fn of(query: Query) -> Request
+        requires { IsSomeQuery query }
+        ensures { result ≡ query }
+    {
+        match query {
+            Query::Update(op) => Request::update(op),
+            Query::Resolve(address) => Request {
+                asked: Asked::Resolve(address),
+            },
+            Query::Access(address, mode, access) => Request {
+                asked: Asked::Access(address, mode, access),
+            },
+        }
+    }
+
     /// What it asks.
+    #[inline]
     pub fn query(self) -> Query
         ensures reads { result ≡ self }
         ensures well_formed { IsSomeQuery self }
