@@ -1,16 +1,17 @@
 -- Small tables, word by word. A frame that is not named is missing, and a word that is not named is 0.
 use Rattle.std.specs.Prelude.{ℕ, List, [], ◌∷◌, true, false, replicate, slice_set}
 use Rattle.std.specs.FinMap as finite
+use Rattle.vs_types.specs.declared.frame.TheConstants.{FRAME_WORDS}
 use Rattle.vs_types.specs.declared.page.Rights.{Rights}
 use Rattle.vs_walk.specs.Memory.{Memory}
 
 -- 512 words, 0 but for the one at this index
 unfoldable pub one_word : ℕ → ℕ → List ℕ
-one_word index word = slice_set (replicate 512 0) index word
+one_word index word = slice_set (replicate FRAME_WORDS 0) index word
 
 -- 512 words, each 0
 unfoldable pub no_words : List ℕ
-no_words = replicate 512 0
+no_words = replicate FRAME_WORDS 0
 
 -- the tables of one page at 0x400000: the words of frame 3, at index 2, and of frame 4 are these
 abbrev pub page_tables : ℕ → ℕ → Memory

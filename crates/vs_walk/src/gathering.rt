@@ -51,6 +51,7 @@ impl Dump {
         let reached = traverse(alloc, frames, root, depth, &mut PassOver)?;
         let mut dump = Dump::new(alloc, applied, root);
         let numbers = reached.as_slice();
+        dump.make_room(numbers.len())?;
         for number in numbers {
             let Some(words) = frames.words(*number) else {
                 unreachable!();

@@ -38,7 +38,7 @@ struct TablePosition {
 impl TablePosition {
     /// The translated bits at which its entry of this index begins.
     fn start_of(self, depth: Depth, index: usize) -> u64
-        requires within { index < 512 }
+        requires within { index < FRAME_WORDS }
         requires fits { Fits depth self }
         ensures { result ≡ self.start + index * entry_bytes self.level }
     {
@@ -47,7 +47,7 @@ impl TablePosition {
 
     /// The table to which its entry of this index leads.
     fn below(self, depth: Depth, index: usize, number: u64, own: Rights) -> TablePosition
-        requires within { index < 512 }
+        requires within { index < FRAME_WORDS }
         requires fits { Fits depth self }
         requires lower { 1 < self.level }
         ensures level { result.level ≡ self.level - 1 }
@@ -65,7 +65,7 @@ impl TablePosition {
 
     /// The page that its entry of this index maps. Its address repeats the highest of the translated bits above them.
     fn page(self, depth: Depth, index: usize, phys: u64, own: Rights) -> Page
-        requires within { index < 512 }
+        requires within { index < FRAME_WORDS }
         requires fits { Fits depth self }
         ensures { result ≡ record {
           base = canonical_from depth

@@ -104,7 +104,8 @@ loop-index-preserved g t c =
           let met = means c.args.depth memory c.args.place.level table index (get_or words index 0) entry.Absent (read ∙ w.in-Absent.is) in
           rw (w.marks-is, w.visitor-is) record {
             goes_on = goes c.loop-index.marks [] within passed met c.loop-index.invariant.goes_on (none_on memory c.loop-index.marks);
-            takes = takes c.loop-index.visitor [] within passed met c.loop-index.invariant.takes (takes_none g.V.PageVisitor.HasTaken c.loop-index.visitor [] refl);
+            takes = takes c.loop-index.visitor []
+                within passed met c.loop-index.invariant.takes (takes_none g.V.PageVisitor.HasTaken c.loop-index.visitor [] refl);
           }
       | in-Leaf+in_ok-take-in-Leaf w ↦
           let met = means c.args.depth memory c.args.place.level table index (get_or words index 0) (entry.Leaf w.in-Leaf.phys w.in-Leaf.own)
@@ -119,9 +120,11 @@ loop-index-preserved g t c =
           let met = leads_below c.args.depth memory c.args.place below index (get_or words index 0) w.in-Table.number w.in-Table.own
           (read ∙ w.in-Table.is) w.below-below.ensures.level w.below-below.ensures.stands in
           rw (w.marks-is, w.visitor-is) record {
-            goes_on = goes w.go_through.new.marks (table_visits c.args.depth memory below.level (table_at below)) within passed met c.loop-index.invariant.goes_on
+            goes_on = goes w.go_through.new.marks (table_visits c.args.depth memory below.level (table_at below))
+                within passed met c.loop-index.invariant.goes_on
                 w.in_ok-go_through-in-Table.ensures.goes_on;
-            takes = takes w.go_through.new.visitor (table_visits c.args.depth memory below.level (table_at below)) within passed met c.loop-index.invariant.takes
+            takes = takes w.go_through.new.visitor (table_visits c.args.depth memory below.level (table_at below))
+                within passed met c.loop-index.invariant.takes
                 w.in_ok-go_through-in-Table.ensures.pages;
           }
     ]
