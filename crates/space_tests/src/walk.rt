@@ -30,7 +30,7 @@ fn dump_of(alloc: Global, words: [Word; 6]) -> Result<Dump, Memory>
     root[words[1].0 % 512] = words[1].1;
     let mut dump = Dump::new(alloc, 7, 1);
     dump.make_room(5)?;
-    dump.push_box(1, Box::new(alloc, root)?)?;
+    dump.push(1, &root)?;
     dump.push(2, &one_word(words[2]))?;
     dump.push(3, &one_word(words[3]))?;
     dump.push(4, &one_word(words[4]))?;
