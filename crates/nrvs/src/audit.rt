@@ -1,13 +1,14 @@
-ghost use Rattle.std.specs.Prelude.{◌≡◌, ℕ, IfOk, IfErr, List, string_bytes};
+ghost use Rattle.std.specs.Prelude.{◌≡◌, ℕ, IfOk, IfErr, List};
+ghost use Rattle.std.specs.Io.KnownBytes.{Appends};
 ghost use Rattle.nr_audit.specs.Verdict.{IsVerdictOf};
-ghost use Rattle.nrvs.specs.Text.{verdict_status};
+ghost use Rattle.nrvs.specs.Text.{verdict_status, verdict_text};
 ghost use Rattle.nrvs.specs.Refusals.{IsEndFault, WritesAnswersAlone};
 ghost use Rattle.nrvs.specs.Answers.{IsAudit, IsReadFrom, WritesReport};
 
-use crate::ends::{read_trace, write_report};
+use crate::ends::{read_trace, write_text};
 use crate::fault::ProgFault;
-use crate::report::Report;
-use crate::text::verdict_text;
+use crate::listing::write_order;
+use crate::text::no_text;
 use nr_audit::{Verdict, judge};
 use nr_trace::{Fault, Format, Trace};
 use std::alloc::Global;
@@ -34,17 +35,24 @@ fn judge_read(alloc: Global, read: Result<Trace, Fail<Format>>) -> Result<Verdic
     }
 }
 
-/// What `audit` answers to what was read of an input: the text of its verdict, and 0 where it is a right trace, else 1.
-/// Takes memory for the judgement and the text.
-pub fn audit_read(alloc: Global, read: Result<Trace, Fail<Format>>) -> Result<Report, Memory>
-    ensures { (bytes : List ℕ) → IsReadFrom bytes read → IfOk result (λ report. IsAudit bytes (string_bytes report.text) report.status) }
+/// Writes the lines of a verdict and nothing else, and gives the status. Takes memory for a line that names a fault.
+fn write_verdict<W: Write>(
+    alloc: Global,
+    writer: &mut W,
+    verdict: &Verdict,
+) -> Result<u8, ProgFault>
+    ensures ok { IfOk result (λ status. (status ≡ verdict_status verdict.now) × Appends (W.contents writer.old) (W.contents writer.new) (verdict_text verdict.now)) }
+    ensures err { IfErr result IsEndFault }
+    ensures alone { WritesAnswersAlone writer.old writer.new result }
 {
-    let verdict = judge_read(alloc, read)?;
-    let text = verdict_text(alloc, &verdict)?;
-    Ok(Report {
-        text,
-        status: status_of(&verdict),
-    })
+    match verdict {
+        Verdict::Yes(order) => write_order(writer, order.calls())?,
+        Verdict::No(fault) => {
+            let text = no_text(alloc, *fault)?;
+            write_text(writer, text.as_bytes())?;
+        }
+    }
+    Ok(status_of(verdict))
 }
 
 /// Reads a trace in blocks, judges it, and writes the verdict; the status is 0 where it is right, else 1. It stops reading
@@ -60,6 +68,6 @@ pub fn audit_io<R: Read + Drop, W: Write>(
     ensures alone { WritesAnswersAlone writer.old writer.new result }
 {
     let read = read_trace(alloc, reader)?;
-    let report = audit_read(alloc, read)?;
-    write_report(writer, &report)
+    let verdict = judge_read(alloc, read)?;
+    write_verdict(alloc, writer, &verdict)
 }

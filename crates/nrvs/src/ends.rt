@@ -12,7 +12,7 @@ use std::io::{ErrorKind, Read, Write};
 use vs_types::Fail;
 
 /// The most bytes that are read at a time.
-const BLOCK: usize = 4096;
+const BLOCK: usize = 16384;
 
 /// Reads into the block: how many bytes, none at the end of the input. A read that was interrupted is tried again.
 fn read_block<R: Read>(reader: &mut R, block: &mut [u8]) -> Result<usize, ProgFault>
@@ -57,7 +57,7 @@ fn feed_blocks<R: Read + Drop>(
     Err(ProgFault::CannotRead)
 }
 
-/// Reads the input in blocks of at most 4,096 bytes and feeds each to the reader of traces: the trace that the input
+/// Reads the input in blocks of at most 16,384 bytes and feeds each to the reader of traces: the trace that the input
 /// spells, or why it spells none. It stops at the first refusal. Takes memory for the trace, and keeps no other bytes than
 /// one block.
 pub fn read_trace<R: Read + Drop>(
@@ -70,12 +70,20 @@ pub fn read_trace<R: Read + Drop>(
     feed_blocks(reader, Feed::new(alloc), &mut [0; BLOCK])
 }
 
+/// Writes a part of a text and nothing else.
+pub fn write_part<W: Write>(writer: &mut W, part: &[u8]) -> Result<(), ProgFault>
+    ensures ok { OnOk result (Appends (W.contents writer.old) (W.contents writer.new) part.now) }
+    ensures err { IfErr result (λ fault. fault ≡ ProgFault.CannotWrite) }
+{
+    writer.write_all(part).map_err(|_| ProgFault::CannotWrite)
+}
+
 /// Writes the text and nothing else. A flush that fails is a failed write.
 pub fn write_text<W: Write>(writer: &mut W, text: &[u8]) -> Result<(), ProgFault>
     ensures ok { OnOk result (Appends (W.contents writer.old) (W.contents writer.new) text.now) }
     ensures err { IfErr result (λ fault. fault ≡ ProgFault.CannotWrite) }
 {
-    writer.write_all(text).map_err(|_| ProgFault::CannotWrite)?;
+    write_part(writer, text)?;
     writer.flush().map_err(|_| ProgFault::CannotWrite)
 }
 

@@ -6,6 +6,7 @@ mod audit;
 mod command;
 mod ends;
 mod fault;
+mod listing;
 mod program;
 mod report;
 mod resolve;

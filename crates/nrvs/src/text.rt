@@ -1,8 +1,6 @@
-ghost use Rattle.std.specs.Prelude.{◌≡◌, ◌++◌, IfOk, OnOk, string_bytes};
-ghost use Rattle.nrvs.specs.Text.{format_text, fault_text, no_text, call_text, yes_text, verdict_text, size_text, mark, walk_text};
+ghost use Rattle.std.specs.Prelude.{◌≡◌, IfOk, string_bytes};
+ghost use Rattle.nrvs.specs.Text.{format_text, fault_text, no_text, size_text, mark, walk_text};
 
-use itoa::Buffer;
-use nr_audit::Verdict;
 use nr_trace::{Fault, Format};
 use std::alloc::{AllocError, Global};
 use vs_types::Size;
@@ -67,35 +65,6 @@ pub fn no_text(alloc: Global, fault: Fault) -> Result<String, AllocError>
 {
     let text = fault_text(alloc, fault)?;
     format!(in alloc; "no {text}\n")
-}
-
-fn push_call(text: &mut String, call: u32) -> Result<(), AllocError>
-    ensures { OnOk result (string_bytes text.new ≡ string_bytes text.old ++ call_text call) }
-{
-    text.push(' ')?;
-    text.push_str(Buffer::new().format(call))
-}
-
-/// The lines that are printed of a right trace, with an order of its calls.
-fn yes_text(alloc: Global, order: &[u32]) -> Result<String, AllocError>
-    ensures { IfOk result (λ text. string_bytes text ≡ yes_text order.now) }
-{
-    let mut text = String::from_str(alloc, "yes\norder")?;
-    for call in order {
-        push_call(&mut text, *call)?;
-    }
-    text.push_str("\n")?;
-    Ok(text)
-}
-
-/// The lines that `audit` prints of a verdict. Takes memory for the text.
-pub fn verdict_text(alloc: Global, verdict: &Verdict) -> Result<String, AllocError>
-    ensures { IfOk result (λ text. string_bytes text ≡ verdict_text verdict.now) }
-{
-    match verdict {
-        Verdict::Yes(order) => yes_text(alloc, order.calls()),
-        Verdict::No(fault) => no_text(alloc, *fault),
-    }
 }
 
 fn size_text(size: Size) -> &'static str
