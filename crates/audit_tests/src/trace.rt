@@ -1,4 +1,4 @@
-use nr_trace::{Event, Format, Trace, Version, read, write};
+use nr_trace::{Event, Format, Recorded, Trace, Version, read, write};
 use std::alloc::{AllocError, Global};
 use std::test::Fail;
 use vs_types::{Access, Answer, Config, Depth, Memory, Mode, Op, Request, Rights, Size};
@@ -82,6 +82,18 @@ fn empty_trace(rt: HostRuntime) -> Result<(), Fail> {
     Ok(())
 }
 
+fn call(thread: u16, request: Request) -> Recorded {
+    Recorded::of(Event::Call {
+        replica: 0,
+        thread,
+        request,
+    })
+}
+
+fn reply(call: u32, at: u32, answer: Answer) -> Recorded {
+    Recorded::of(Event::Reply { call, at, answer })
+}
+
 #[test]
 fn map_then_resolve_is_written_again(rt: HostRuntime) -> Result<(), Fail> {
     let bytes = map_then_resolve_bytes(rt.alloc())?;
@@ -99,27 +111,12 @@ fn map_then_resolve(rt: HostRuntime) -> Result<(), Fail> {
     assert!(rt; Config::new(Depth::Four, 1, 1, 4) == Ok(trace.config()));
     assert!(rt; trace.log() == [0].as_slice());
     let map = Op::map(Depth::Four, 0x400000, Size::K4, 0x1000, Rights::ALL)?;
+    let mapped = Answer::Mapped(0x1123, Size::K4, Rights::ALL);
     let events = [
-        Event::Call {
-            replica: 0,
-            thread: 0,
-            request: Request::update(map),
-        },
-        Event::Reply {
-            call: 0,
-            at: 0,
-            answer: Answer::Done,
-        },
-        Event::Call {
-            replica: 0,
-            thread: 0,
-            request: Request::resolve(Depth::Four, 0x400123)?,
-        },
-        Event::Reply {
-            call: 2,
-            at: 1,
-            answer: Answer::Mapped(0x1123, Size::K4, Rights::ALL),
-        },
+        call(0, Request::update(map)),
+        reply(0, 0, Answer::Done),
+        call(0, Request::resolve(Depth::Four, 0x400123)?),
+        reply(2, 1, mapped),
     ];
     assert!(rt; trace.events() == events.as_slice());
     assert_eq!(rt; trace.dumps().len(), 1);
@@ -184,16 +181,9 @@ fn reads_that_ask_for_rights(rt: HostRuntime) -> Result<(), Fail> {
     assert!(rt; write(alloc, &trace)?.as_slice() == second.as_slice());
     let bytes = changed(alloc, &first, &ACCESS)?;
     let trace = read(alloc, &bytes)?;
-    let call = Event::Call {
-        replica: 0,
-        thread: 0,
-        request: Request::access(Depth::Four, 0x400123, Mode::User, Access::Write)?,
-    };
-    let reply = Event::Reply {
-        call: 2,
-        at: 1,
-        answer: Answer::Allowed(0x1123),
-    };
+    let access = Request::access(Depth::Four, 0x400123, Mode::User, Access::Write)?;
+    let call = call(0, access);
+    let reply = reply(2, 1, Answer::Allowed(0x1123));
     assert_eq!(rt; trace.events().len(), 4);
     assert!(rt; trace.events()[2] == call && trace.events()[3] == reply);
     assert!(rt; write(alloc, &trace)?.as_slice() == bytes.as_slice());
@@ -244,16 +234,8 @@ fn five_levels(rt: HostRuntime) -> Result<(), Fail> {
 fn parts_make_a_trace(rt: HostRuntime) -> Result<(), Fail> {
     let alloc = rt.alloc();
     let config = Config::new(Depth::Four, 1, 1, 1)?;
-    let reply = Event::Reply {
-        call: 7,
-        at: 9,
-        answer: Answer::Done,
-    };
-    let call = Event::Call {
-        replica: 0,
-        thread: 1,
-        request: Request::resolve(Depth::Four, 0)?,
-    };
+    let reply = reply(7, 9, Answer::Done);
+    let call = call(1, Request::resolve(Depth::Four, 0)?);
     let no_dump = Trace::new(
         Version::V1,
         config,

@@ -1,4 +1,4 @@
-use nr_trace::{Event, Format, Trace, Version, write};
+use nr_trace::{Event, Format, Recorded, Trace, Version, write};
 use std::alloc::Global;
 use std::test::Fail;
 use vs_types::{Answer, Config, Depth, Op, Request, Rights, Size};
@@ -35,29 +35,25 @@ fn dumps(alloc: Global, applied: u32) -> Result<Vec<Dump>, Fail> {
     Ok(dumps)
 }
 
-fn call(replica: u8, request: Request) -> Event {
-    Event::Call {
+fn call(replica: u8, request: Request) -> Recorded {
+    Recorded::of(Event::Call {
         replica,
         thread: 0,
         request,
-    }
+    })
 }
 
-fn map_then_resolve_events(alloc: Global) -> Result<Vec<Event>, Fail> {
+fn reply(call: u32, at: u32, answer: Answer) -> Recorded {
+    Recorded::of(Event::Reply { call, at, answer })
+}
+
+fn map_then_resolve_events(alloc: Global) -> Result<Vec<Recorded>, Fail> {
     let map = Op::map(Depth::Four, 0x400000, Size::K4, 0x1000, Rights::ALL)?;
     let mut events = Vec::new(alloc);
     events.push(call(0, Request::update(map)))?;
-    events.push(Event::Reply {
-        call: 0,
-        at: 0,
-        answer: Answer::Done,
-    })?;
+    events.push(reply(0, 0, Answer::Done))?;
     events.push(call(0, Request::resolve(Depth::Four, 0x400123)?))?;
-    events.push(Event::Reply {
-        call: 2,
-        at: 1,
-        answer: Answer::Mapped(0x1123, Size::K4, Rights::ALL),
-    })?;
+    events.push(reply(2, 1, Answer::Mapped(0x1123, Size::K4, Rights::ALL)))?;
     Ok(events)
 }
 

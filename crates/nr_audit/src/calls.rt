@@ -6,14 +6,14 @@ ghost use Rattle.nr_audit.specs.inside.Passes.{IsCallFault};
 
 use crate::history::History;
 use crate::tables::{MaybeIndex, empty_table};
-use nr_trace::{Event, Fault, Trace};
+use nr_trace::{Event, Fault, Recorded, Trace};
 use std::alloc::Global;
 use vs_types::Fail;
 
-fn is_call(event: Event) -> bool
+fn is_call(event: Recorded) -> bool
     ensures { result ≡ is_some (made_by event) }
 {
-    matches!(event, Event::Call { .. })
+    matches!(event.event(), Event::Call { .. })
 }
 
 /// Whether the last call of a thread has no reply.
@@ -38,7 +38,7 @@ pub(crate) fn check_calls<'a>(alloc: Global, trace: &'a Trace) -> Result<History
     let mut last = empty_table(alloc, trace.config().threads() as usize)?;
     let mut replies = empty_table(alloc, events.len())?;
     for (index, event) in events.iter().enumerate() {
-        match *event {
+        match event.event() {
             Event::Call { thread, .. } => {
                 if is_open(last[thread as usize], &replies) {
                     return Err(Fail::Refused(Fault::ThreadOpen(index as u32)));

@@ -52,7 +52,7 @@ pub(crate) fn check_floors(history: &History, places: &[MaybeIndex]) -> Result<(
     let events = history.events();
     let mut floor = 0;
     for (index, event) in events.iter().enumerate() {
-        match *event {
+        match event.event() {
             Event::Call { .. } => {
                 if let Some(entries) = entries_before(history, places, index as u32) {
                     if (entries as u64) < floor {

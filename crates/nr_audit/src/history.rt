@@ -6,7 +6,7 @@ ghost use Rattle.nr_audit.specs.inside.Replies.{replied_to};
 ghost use Rattle.nr_audit.specs.inside.Tables.{AreReplies};
 
 use crate::tables::MaybeIndex;
-use nr_trace::{Event, Trace};
+use nr_trace::{Event, Recorded, Trace};
 use std::marker::Model;
 use vs_types::{Answer, Config, Query, Request};
 use vs_walk::Dump;
@@ -65,7 +65,7 @@ impl<'a> History<'a> {
         self.trace.log()
     }
 
-    pub(crate) fn events(&self) -> &[Event]
+    pub(crate) fn events(&self) -> &[Recorded]
         ensures reads { result.now ≡ self.now.events }
         ensures in_range { IsRecording self.now }
     {
@@ -84,8 +84,8 @@ impl<'a> History<'a> {
         ensures asks { result ≡ option_map (λ made. made.request) (call_of self.now call) }
         ensures well_formed { IfSome result (IsQuery self.now.layout.depth) }
     {
-        match self.trace.events().get(call as usize)? {
-            Event::Call { request, .. } => Some(*request),
+        match self.trace.events().get(call as usize)?.event() {
+            Event::Call { request, .. } => Some(request),
             Event::Reply { .. } => None,
         }
     }
@@ -115,8 +115,8 @@ impl<'a> History<'a> {
         ensures made { result ≡ option_map (λ made. made.replica) (call_of self.now call) }
         ensures in_range { IfSome result (λ replica. replica < 4) }
     {
-        match self.trace.events().get(call as usize)? {
-            Event::Call { replica, .. } => Some(*replica),
+        match self.trace.events().get(call as usize)?.event() {
+            Event::Call { replica, .. } => Some(replica),
             Event::Reply { .. } => None,
         }
     }
@@ -130,7 +130,7 @@ impl<'a> History<'a> {
         }
         let index = self.replies[call as usize].get()?;
         let event = self.trace.events()[index as usize];
-        match event {
+        match event.event() {
             Event::Reply { at, answer, .. } => Some(Reply { at, answer }),
             Event::Call { .. } => None,
         }

@@ -41,7 +41,7 @@ pub(crate) fn check_positions(history: &History) -> Result<(), Fail<Fault>>
     ensures first { IfErr result (IfRefused (IsFirstAmong IsPositionFault history.now)) }
 {
     for (index, event) in history.events().iter().enumerate() {
-        let Event::Reply { call, at, .. } = *event else {
+        let Event::Reply { call, at, .. } = event.event() else {
             continue;
         };
         if is_misplaced(history, call, at) {

@@ -11,7 +11,7 @@ pub(crate) fn entries_needed(history: &History) -> [u64; 4]
 {
     let mut needed = [0; 4];
     for (_index, event) in history.events().iter().enumerate() {
-        if let Event::Reply { call, at, .. } = *event {
+        if let Event::Reply { call, at, .. } = event.event() {
             if let Some(replica) = history.replica(call) {
                 let known = entries_known(history, call, at);
                 needed[replica as usize] = needed[replica as usize].max(known);

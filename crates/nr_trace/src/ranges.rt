@@ -6,6 +6,7 @@ ghost use Rattle.nr_trace.specs.Recording.{IsEvent, IsImage};
 ghost use Rattle.nr_trace.specs.Parts.{IsFirstOut};
 
 use crate::event::Event;
+use crate::recorded::Recorded;
 use crate::version::Version;
 use vs_types::Config;
 use vs_walk::Dump;
@@ -33,12 +34,12 @@ fn is_in_range(version: Version, config: Config, event: Event) -> bool
 pub(crate) fn first_out_of_range(
     version: Version,
     config: Config,
-    events: &[Event],
+    events: &[Recorded],
 ) -> Option<usize>
     ensures { MatchOption result (All (IsEvent version config) events.now) (IsFirstOut version config events.now) }
 {
     for (index, event) in events.iter().enumerate() {
-        if !is_in_range(version, config, *event) {
+        if !is_in_range(version, config, event.event()) {
             return Some(index);
         }
     }

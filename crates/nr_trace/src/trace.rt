@@ -1,8 +1,8 @@
 ghost use Rattle.std.specs.Prelude.{◌≡◌, MatchResult};
 
-use crate::event::Event;
 use crate::fault::Format;
 use crate::ranges::{all_have_frames, first_out_of_range};
+use crate::recorded::Recorded;
 use crate::version::Version;
 use std::marker::Model;
 use vs_types::{CALLS, Config, LOG_PLACES};
@@ -15,7 +15,7 @@ pub struct Trace {
     version: Version,
     config: Config,
     log: Vec<u32>,
-    events: Vec<Event>,
+    events: Vec<Recorded>,
     dumps: Vec<Dump>,
 }
 
@@ -57,7 +57,7 @@ impl Trace {
         version: Version,
         config: Config,
         log: Vec<u32>,
-        events: Vec<Event>,
+        events: Vec<Recorded>,
         dumps: Vec<Dump>,
     ) -> Result<Trace, Format>
         ensures { let parts : Recording = record { version = version; layout = config; log = log.items; events = events.items; dumps = dumps.items } in
@@ -89,7 +89,7 @@ impl Trace {
         version: Version,
         config: Config,
         log: Vec<u32>,
-        events: Vec<Event>,
+        events: Vec<Recorded>,
         dumps: Vec<Dump>,
     ) -> Trace
         requires { IsRecording (record { version = version; layout = config; log = log.items; events = events.items; dumps = dumps.items }) }
@@ -129,7 +129,7 @@ impl Trace {
     }
 
     /// What was recorded, in order: at most `CALLS` events.
-    pub fn events(&self) -> &[Event]
+    pub fn events(&self) -> &[Recorded]
         ensures reads { result.now ≡ self.now.events }
         ensures in_range { IsRecording self.now }
     {

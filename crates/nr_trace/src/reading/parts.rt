@@ -2,10 +2,10 @@
 
 ghost use Rattle.std.specs.Prelude.{◌≡◌, ◌≤◌, ◌<◌, ◌++◌, [], length, None, Some, MatchOption};
 
-use crate::event::Event;
 use crate::fault::Format;
 use crate::reading::dumps::{take_dump_head, take_frame_number, take_words};
 use crate::reading::places::{take_events, take_header, take_magic, take_places, take_version};
+use crate::recorded::Recorded;
 use crate::trace::Trace;
 use crate::version::Version;
 use std::alloc::Global;
@@ -20,7 +20,7 @@ pub(crate) struct Parts {
     pub(crate) version: Version,
     pub(crate) config: Config,
     pub(crate) log: Vec<u32>,
-    pub(crate) events: Vec<Event>,
+    pub(crate) events: Vec<Recorded>,
     pub(crate) dumps: Vec<Dump>,
 }
 

@@ -7,13 +7,13 @@ ghost use Rattle.nr_trace.specs.FirstFault.{AtLog, AtEvents};
 ghost use Rattle.nr_trace.specs.inside.Reading.{ArePlaced, AreRecorded, IsBadEvent};
 ghost use Rattle.nr_trace.specs.inside.Progress.{AreInRange, AreUnits, HasRead, IsReady, Takes, parts_spelling};
 
-use crate::event::Event;
 use crate::fault::Format;
 use crate::reading::event::event_of;
 use crate::reading::fields::{take_u16, take_u32};
 use crate::reading::header::counts_of;
 use crate::reading::parts::{Parts, Reader};
 use crate::reading::room::make_room;
+use crate::recorded::Recorded;
 use crate::version::Version;
 use std::alloc::Global;
 use vs_types::{Config, Fail, Memory};
@@ -129,7 +129,7 @@ pub(crate) fn take_places(
 fn push_events(
     version: Version,
     config: Config,
-    events: &mut Vec<Event>,
+    events: &mut Vec<Recorded>,
     bytes: &[u8],
 ) -> Result<(), Fail<Format>>
     requires whole { (n : ℕ) × (length bytes.now ≡ 24 * n) × (length events.old.items + n ≤ CALLS) }
@@ -140,7 +140,7 @@ fn push_events(
     for k in 0..bytes.len() / 24 {
         let (unit, behind) = rest.split_at(24);
         match event_of(version, config, unit) {
-            Some(event) => events.push(event)?,
+            Some(event) => events.push(Recorded::of(event))?,
             None => {
                 let index = events.len() as u32;
                 return Err(Fail::Refused(Format::BadEvent(index)));

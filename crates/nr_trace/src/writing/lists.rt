@@ -3,7 +3,7 @@
 ghost use Rattle.std.specs.Prelude.{◌≡◌, ◌++◌, OnOk, flat_map};
 ghost use Rattle.nr_trace.specs.Spelling.{log_word, event, frame_words};
 
-use crate::event::Event;
+use crate::recorded::Recorded;
 use crate::writing::events::put_event;
 use crate::writing::numbers::{put_u32, put_u64};
 use vs_types::{FRAME_WORDS, Memory};
@@ -17,11 +17,11 @@ pub(crate) fn put_log(out: &mut Vec<u8>, log: &[u32]) -> Result<(), Memory>
     Ok(())
 }
 
-pub(crate) fn put_events(out: &mut Vec<u8>, events: &[Event]) -> Result<(), Memory>
+pub(crate) fn put_events(out: &mut Vec<u8>, events: &[Recorded]) -> Result<(), Memory>
     ensures { OnOk result (out.new.items ≡ out.old.items ++ flat_map event events.now) }
 {
     for recorded in events {
-        put_event(out, *recorded)?;
+        put_event(out, recorded.event())?;
     }
     Ok(())
 }

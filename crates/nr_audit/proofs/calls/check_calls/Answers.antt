@@ -26,7 +26,7 @@ pub is_open-requires : goal.is_open-requires
 is_open-requires c =
     let known = c.loop-index.invariant.known in
     let few = thread_in_layout c.args.trace.now c.events-events.result.now c.loop-index.index _ _ _ _ c.events-events.ensures.in_range
-    c.events-events.ensures.reads c.loop-index-test.true c.index-events-index.is c.in-Call.is in
+    c.events-events.ensures.reads c.loop-index-test.true c.index-events-index.is (sym c.event.ensures ∙ c.in-Call.is) in
     let read = get_or_read c.loop-index.last.items c.in-Call.thread c.index.result.now (omega (arith, known.threads)) c.index.ensures None in
     if_some c.index.result.now (λ call. call < length c.deref.result.now) (λ call is.
     let earlier = (known.last_made c.in-Call.thread call (sym read ∙ is)).1 in
@@ -37,14 +37,14 @@ pub returns-then-is_open-clause-first : goal.returns-then-is_open-clause-first
 returns-then-is_open-clause-first c =
     let known = c.loop-index.invariant.known in
     let few = thread_in_layout c.args.trace.now c.events-events.result.now c.loop-index.index _ _ _ _ c.events-events.ensures.in_range
-    c.events-events.ensures.reads c.loop-index-test.true c.index-events-index.is c.in-Call.is in
+    c.events-events.ensures.reads c.loop-index-test.true c.index-events-index.is (sym c.event.ensures ∙ c.in-Call.is) in
     let read = get_or_read c.loop-index.last.items c.in-Call.thread c.index.result.now (omega (arith, known.threads)) c.index.ensures None in
     let it = open_call c.index.result.now _ c.deref.result.now c.loop-index.replies.items read c.deref.ensures.value (c.is_open.ensures.0 c.if-is_open.true) in
     first_call_fault c.args.trace.now c.loop-index.index (ThreadOpen c.loop-index.index) c.loop-index.invariant.none
     (first_open c.args.trace.now c.loop-index.index c.loop-index.last.items c.loop-index.replies.items known
     (omega (arith, ap length c.events-events.ensures.reads)) _ c.in-Call.thread _
     (read_event c.args.trace.now c.events-events.result.now c.loop-index.index _ _ c.events-events.ensures.reads c.loop-index-test.true
-    c.index-events-index.is c.in-Call.is)
+    c.index-events-index.is (sym c.event.ensures ∙ c.in-Call.is))
     it.0 it.1 it.2)
 
 -- src/calls.rt:40:21
@@ -55,7 +55,7 @@ returns-then-call-index-clause-first c =
     (first_no_call c.args.trace.now c.loop-index.index c.loop-index.last.items c.loop-index.replies.items known
     (omega (arith, ap length c.events-events.ensures.reads)) _ _ _
     (read_event c.args.trace.now c.events-events.result.now c.loop-index.index _ _ c.events-events.ensures.reads c.loop-index-test.true
-    c.index-events-index.is c.in-Reply.is)
+    c.index-events-index.is (sym c.event.ensures ∙ c.in-Reply.is))
     (λ such. elim c.then-call-index.branch [
       | then-call-index-via-then-call-index w ↦ (let below = such.0 in let above = w.if-call-index.true in omega arith)
       | then-call-index-via-else-call-index+then-not-is_call w ↦
@@ -78,7 +78,7 @@ returns-then-is_some-clause-first c =
     (first_twice c.args.trace.now c.loop-index.index c.loop-index.last.items c.loop-index.replies.items known
     (omega (arith, ap length c.events-events.ensures.reads)) _ _ _
     (read_event c.args.trace.now c.events-events.result.now c.loop-index.index _ _ c.events-events.ensures.reads c.loop-index-test.true
-    c.index-events-index.is c.in-Reply.is)
+    c.index-events-index.is (sym c.event.ensures ∙ c.in-Reply.is))
     low (sym told ∙ c.if-not-is_call.false) (read_some _ _ _ (c.get.ensures ∙ read) (sym c.is_some.ensures) c.if-is_some.true))
 
 -- src/calls.rt:28:5
@@ -89,10 +89,10 @@ loop-index-preserved c =
     elim c.match-event.branch [
       | in-Call+else-is_open w ↦
           let few = thread_in_layout c.args.trace.now c.events-events.result.now c.loop-index.index _ _ _ _ c.events-events.ensures.in_range
-          c.events-events.ensures.reads c.loop-index-test.true c.index-events-index.is w.in-Call.is in
+          c.events-events.ensures.reads c.loop-index-test.true c.index-events-index.is (sym c.event.ensures ∙ w.in-Call.is) in
           let read = get_or_read c.loop-index.last.items w.in-Call.thread w.index.result.now (omega (arith, known.threads)) w.index.ensures None in
           let is = read_event c.args.trace.now c.events-events.result.now c.loop-index.index _ _ c.events-events.ensures.reads c.loop-index-test.true
-          c.index-events-index.is w.in-Call.is in
+          c.index-events-index.is (sym c.event.ensures ∙ w.in-Call.is) in
           let idle = no_open_call w.index.result.now _ w.deref.result.now c.loop-index.replies.items read w.deref.ensures.value
           (iff_false w.is_open.ensures w.if-is_open.false) in
           record {
@@ -116,7 +116,7 @@ loop-index-preserved c =
           (omega (arith, known.one_each)) w.index-in-Reply.ensures None in
           let none = read_gone _ _ _ (w.get.ensures ∙ read) (sym w.is_some.ensures) w.if-is_some.false in
           let is = read_event c.args.trace.now c.events-events.result.now c.loop-index.index _ _ c.events-events.ensures.reads c.loop-index-test.true
-          c.index-events-index.is w.in-Reply.is in
+          c.index-events-index.is (sym c.event.ensures ∙ w.in-Reply.is) in
           record {
             known = subst (λ (v : Vec (Option ℕ) Global). HasFound c.args.trace.now
                 (c.loop-index.index + 1) v.items c.match-event.replies.items) (sym w.last-is)

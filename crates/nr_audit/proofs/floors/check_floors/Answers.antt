@@ -25,7 +25,7 @@ loop-index-preserved c =
     elim c.match-event.branch [
       | in-Call+in-Some+else-entries-floor w ↦
           let is = read_event trace c.events-events.result.now index _ _ c.events-events.ensures.reads c.loop-index-test.true
-          c.index-events-index.is w.in-Call.is in
+          c.index-events-index.is (sym c.event.ensures ∙ w.in-Call.is) in
           record {
             floor = w.floor-is ∙ c.loop-index.invariant.floor ∙ sym (floor_after_other trace index (no_reply_at_call trace index _ _ _ is));
             none = more_of IsFloorFaultAt trace index c.loop-index.invariant.none
@@ -39,7 +39,7 @@ loop-index-preserved c =
           }
       | in-Call+in_default w ↦
           let is = read_event trace c.events-events.result.now index _ _ c.events-events.ensures.reads c.loop-index-test.true
-          c.index-events-index.is w.in-Call.is in
+          c.index-events-index.is (sym c.event.ensures ∙ w.in-Call.is) in
           record {
             floor = w.floor-is ∙ c.loop-index.invariant.floor ∙ sym (floor_after_other trace index (no_reply_at_call trace index _ _ _ is));
             none = more_of IsFloorFaultAt trace index c.loop-index.invariant.none
@@ -48,7 +48,7 @@ loop-index-preserved c =
           }
       | in-Reply w ↦
           let is = read_event trace c.events-events.result.now index _ _ c.events-events.ensures.reads c.loop-index-test.true
-          c.index-events-index.is w.in-Reply.is in
+          c.index-events-index.is (sym c.event.ensures ∙ w.in-Reply.is) in
           let reply : Response = record { call = w.in-Reply.call; at = w.in-Reply.at; answer = w.in-Reply.answer } in
           let known = w.entries_known.ensures w.in-Reply.answer in
           record {

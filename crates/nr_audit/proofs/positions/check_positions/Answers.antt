@@ -1,4 +1,4 @@
-use Rattle.std.proofs.Common.{◌≡◌, ℕ, ◌<◌, length, ap, subst, arith}
+use Rattle.std.proofs.Common.{◌≡◌, ℕ, ◌<◌, length, ap, subst, arith, sym, ◌∙◌}
 use Rattle.std.proofs.lemmas.Bool.{iff_false}
 use Rattle.nr_trace.specs.declared.fault.Fault.TheVariants.{NotPlaced, PastLog}
 use Rattle.nr_audit.specs.inside.Search.{HasNone}
@@ -18,7 +18,7 @@ loop-index-preserved-in_default c =
     let trace = c.args.history.now in
     let index = c.loop-index.index in
     let is = read_event trace c.events-event-items.result.now index _ _ c.events-event-items.ensures.reads c.loop-index-test.true
-    c.event-item.is c.in_default.is in
+    c.event-item.is (sym c.event.ensures ∙ c.in_default.is) in
     more_of IsPositionFaultAt trace index c.loop-index.invariant (none_without_reply trace index (no_reply_at_call trace index _ _ _ is))
 
 -- src/positions.rt:40:21
@@ -27,7 +27,7 @@ returns-then-is_misplaced-clause-first c =
     let trace = c.args.history.now in
     let index = c.loop-index.index in
     let is = read_event trace c.events-event-items.result.now index _ _ c.events-event-items.ensures.reads c.loop-index-test.true
-    c.event-item.is c.in-Reply.is in
+    c.event-item.is (sym c.event.ensures ∙ c.in-Reply.is) in
     first_position_fault trace index (NotPlaced index) c.loop-index.invariant
     (first_not_placed trace index c.in-Reply.call c.in-Reply.at c.in-Reply.answer is (c.is_misplaced.ensures.0 c.if-is_misplaced.true))
 
@@ -37,7 +37,7 @@ returns-then-is_past_log-clause-first c =
     let trace = c.args.history.now in
     let index = c.loop-index.index in
     let is = read_event trace c.events-event-items.result.now index _ _ c.events-event-items.ensures.reads c.loop-index-test.true
-    c.event-item.is c.in-Reply.is in
+    c.event-item.is (sym c.event.ensures ∙ c.in-Reply.is) in
     first_position_fault trace index (PastLog index) c.loop-index.invariant
     (first_past_log trace index c.in-Reply.call c.in-Reply.at c.in-Reply.answer is (iff_false c.is_misplaced.ensures c.if-is_misplaced.false)
     (c.is_past_log.ensures.0 c.if-is_past_log.true))
@@ -48,7 +48,7 @@ loop-index-preserved c =
     let trace = c.args.history.now in
     let index = c.loop-index.index in
     let is = read_event trace c.events-event-items.result.now index _ _ c.events-event-items.ensures.reads c.loop-index-test.true
-    c.event-item.is c.in-Reply.is in
+    c.event-item.is (sym c.event.ensures ∙ c.in-Reply.is) in
     more_of IsPositionFaultAt trace index c.loop-index.invariant
     (none_at_reply trace index c.in-Reply.call c.in-Reply.at c.in-Reply.answer is (iff_false c.is_misplaced.ensures c.if-is_misplaced.false)
     (iff_false c.is_past_log.ensures c.if-is_past_log.false))

@@ -16,7 +16,8 @@ loop-index-preserved c =
     let events = c.events-event-items.result.now in
     elim c.match-event.branch [
       | in-Reply+in-Some w ↦
-          let is = read_event trace events index _ _ c.events-event-items.ensures.reads c.loop-index-test.true c.event-item.is w.in-Reply.is in
+          let is = read_event trace events index _ _ c.events-event-items.ensures.reads c.loop-index-test.true c.event-item.is
+          (sym c.event.ensures ∙ w.in-Reply.is) in
           let reply : Response = record { call = w.in-Reply.call; at = w.in-Reply.at; answer = w.in-Reply.answer } in
           let made = made_at (call_of trace w.in-Reply.call) w.in-Some.replica (sym w.in-Some.is ∙ w.replica.ensures.made) in
           let within = subst (λ o. IfSome o (λ replica. replica < 4)) w.in-Some.is w.replica.ensures.in_range in
@@ -27,13 +28,15 @@ loop-index-preserved c =
           ∙ ap (λ r. set c.loop-index.needed r (max (get_or c.loop-index.needed r 0) (known_by trace reply))) (sym made.2)))
           (needs_grow trace index c.loop-index.needed reply made.0 (reply_here trace index _ _ _ is) made.1 (omega (arith, made.2)) c.loop-index.invariant)
       | in-Reply+in_default-replica w ↦
-          let is = read_event trace events index _ _ c.events-event-items.ensures.reads c.loop-index-test.true c.event-item.is w.in-Reply.is in
+          let is = read_event trace events index _ _ c.events-event-items.ensures.reads c.loop-index-test.true c.event-item.is
+          (sym c.event.ensures ∙ w.in-Reply.is) in
           let reply : Response = record { call = w.in-Reply.call; at = w.in-Reply.at; answer = w.in-Reply.answer } in
           subst (λ (needs : List ℕ). AreNeeds trace (index + 1) needs) (sym w.needed-is)
           (needs_stay trace index c.loop-index.needed (λ replica other. no_call_at trace index replica reply other (reply_here trace index _ _ _ is)
           (made_nowhere (call_of trace w.in-Reply.call) (sym w.replica.ensures.made ∙ w.in_default-replica.is))) c.loop-index.invariant)
       | in_default w ↦
-          let is = read_event trace events index _ _ c.events-event-items.ensures.reads c.loop-index-test.true c.event-item.is w.in_default.is in
+          let is = read_event trace events index _ _ c.events-event-items.ensures.reads c.loop-index-test.true c.event-item.is
+          (sym c.event.ensures ∙ w.in_default.is) in
           subst (λ (needs : List ℕ). AreNeeds trace (index + 1) needs) (sym w.needed-is)
           (needs_stay trace index c.loop-index.needed
           (λ replica other. no_reply_at trace index replica other (no_reply_at_call trace index _ _ _ is)) c.loop-index.invariant)

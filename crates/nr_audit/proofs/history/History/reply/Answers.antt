@@ -34,7 +34,8 @@ returns-in-Reply c =
     let there = sym c.in_ok-index.was ∙ c.get.ensures ∙ get_or_read table c.args.call c.index.result.now low c.index.ensures None in
     let reads = c.events.ensures.reads ∙ ap (λ t. t.events) c.self.view_is in
     let within = index_within trace table c.args.call c.in_ok-index.index are low (sym there) in
-    let is = read_event trace c.events.result.now c.in_ok-index.index _ _ reads (omega (arith, ap length reads)) c.index-events-index.is c.in-Reply.is in
+    let is = read_event trace c.events.result.now c.in_ok-index.index _ _ reads (omega (arith, ap length reads)) c.index-events-index.is
+    (sym c.event.ensures ∙ c.in-Reply.is) in
     sym (reply_by_table trace table c.args.call (Some c.in_ok-index.index) are there
     ∙ ap (option_map without_call) (reply_here trace c.in_ok-index.index c.in-Reply.call c.in-Reply.at c.in-Reply.answer is))
 
@@ -48,6 +49,7 @@ returns-in-Call c =
     let there = sym c.in_ok-index.was ∙ c.get.ensures ∙ get_or_read table c.args.call c.index.result.now low c.index.ensures None in
     let reads = c.events.ensures.reads ∙ ap (λ t. t.events) c.self.view_is in
     let within = index_within trace table c.args.call c.in_ok-index.index are low (sym there) in
-    let is = read_event trace c.events.result.now c.in_ok-index.index _ _ reads (omega (arith, ap length reads)) c.index-events-index.is c.in-Call.is in
+    let is = read_event trace c.events.result.now c.in_ok-index.index _ _ reads (omega (arith, ap length reads)) c.index-events-index.is
+    (sym c.event.ensures ∙ c.in-Call.is) in
     sym (reply_by_table trace table c.args.call (Some c.in_ok-index.index) are there
     ∙ ap (option_map without_call) (no_reply_at_call trace c.in_ok-index.index _ _ _ is))
