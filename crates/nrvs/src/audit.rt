@@ -13,6 +13,7 @@ use nr_audit::{Verdict, judge};
 use nr_trace::{Fault, Format, Trace};
 use std::alloc::Global;
 use std::io::{Read, Write};
+use std::mem::forget;
 use vs_types::{Fail, Memory};
 
 fn status_of(verdict: &Verdict) -> u8
@@ -24,12 +25,17 @@ fn status_of(verdict: &Verdict) -> u8
     }
 }
 
-/// The verdict on what was read of an input.
+/// The verdict on what was read of an input. The trace's memory is not given back: the program ends after its audit, and giving
+/// back each frame takes time.
 fn judge_read(alloc: Global, read: Result<Trace, Fail<Format>>) -> Result<Verdict, Memory>
     ensures { (bytes : List ℕ) → IsReadFrom bytes read → IfOk result (IsVerdictOf bytes) }
 {
     match read {
-        Ok(trace) => judge(alloc, &trace),
+        Ok(trace) => {
+            let verdict = judge(alloc, &trace);
+            forget(trace);
+            verdict
+        }
         Err(Fail::Memory) => Err(Memory),
         Err(Fail::Refused(fault)) => Ok(Verdict::No(Fault::Format(fault))),
     }
@@ -41,7 +47,8 @@ fn write_verdict<W: Write>(
     writer: &mut W,
     verdict: &Verdict,
 ) -> Result<u8, ProgFault>
-    ensures ok { IfOk result (λ status. (status ≡ verdict_status verdict.now) × Appends (W.contents writer.old) (W.contents writer.new) (verdict_text verdict.now)) }
+    ensures ok { IfOk result (λ status.
+        (status ≡ verdict_status verdict.now) × Appends (W.contents writer.old) (W.contents writer.new) (verdict_text verdict.now)) }
     ensures err { IfErr result IsEndFault }
     ensures alone { WritesAnswersAlone writer.old writer.new result }
 {

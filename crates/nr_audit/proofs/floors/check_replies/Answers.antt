@@ -34,7 +34,8 @@ loop-index-preserved c =
             floor = w.floor-is ∙ old.floor ∙ sym (floor_after_other trace index (no_reply_at_call trace index _ _ _ is));
             positions = more_of IsPositionFaultAt trace index old.positions (none_without_reply trace index (no_reply_at_call trace index _ _ _ is));
             early = λ clean. subst (λ o. FindsEarly trace (index + 1) o) (sym w.early-is) (w.early_call-early.ensures clean (old.early clean));
-            passed = passed_as trace (index + 1) _ _ _ _ (ap (λ (v : Vec (Option ℕ) Global). v.items) w.lasts-is) (ap (λ (v : Vec (Option ℕ) Global). v.items) w.rows-is) w.pass_call.ensures.passed;
+            passed = passed_as trace (index + 1) _ _ _ _ (ap (λ (v : Vec (Option ℕ) Global). v.items) w.lasts-is)
+                (ap (λ (v : Vec (Option ℕ) Global). v.items) w.rows-is) w.pass_call.ensures.passed;
             needs = subst (λ (needs : List ℕ). AreNeeds trace (index + 1) needs) (sym w.needed-is)
                 (needs_stay trace index needed
                 (λ replica other. no_reply_at trace index replica other (no_reply_at_call trace index _ _ _ is)) old.needs);
@@ -50,7 +51,8 @@ loop-index-preserved c =
                 (early_at_other trace index c.loop-index.early
                 (none_at_call trace index w.pass_call.result clean w.pass_call.ensures.stands
                 (λ entries there. absurd (w.in_default.not-Some entries there))) (old.early clean));
-            passed = passed_as trace (index + 1) _ _ _ _ (ap (λ (v : Vec (Option ℕ) Global). v.items) w.lasts-is) (ap (λ (v : Vec (Option ℕ) Global). v.items) w.rows-is) w.pass_call.ensures.passed;
+            passed = passed_as trace (index + 1) _ _ _ _ (ap (λ (v : Vec (Option ℕ) Global). v.items) w.lasts-is)
+                (ap (λ (v : Vec (Option ℕ) Global). v.items) w.rows-is) w.pass_call.ensures.passed;
             needs = subst (λ (needs : List ℕ). AreNeeds trace (index + 1) needs) (sym w.needed-is)
                 (needs_stay trace index needed
                 (λ replica other. no_reply_at trace index replica other (no_reply_at_call trace index _ _ _ is)) old.needs);
@@ -70,7 +72,8 @@ loop-index-preserved c =
                 w.in_default-position_fault.is (w.position_fault.ensures w.in-Reply.answer is));
             early = λ clean. subst (λ o. FindsEarly trace (index + 1) o) (sym w.early-is)
                 (early_at_other trace index c.loop-index.early (none_at_other trace index (no_call_at_reply trace index _ _ _ is)) (old.early clean));
-            passed = passed_as trace (index + 1) _ _ _ _ (ap (λ (v : Vec (Option ℕ) Global). v.items) w.lasts-is) (ap (λ (v : Vec (Option ℕ) Global). v.items) w.rows-is)
+            passed = passed_as trace (index + 1) _ _ _ _ (ap (λ (v : Vec (Option ℕ) Global). v.items) w.lasts-is)
+                (ap (λ (v : Vec (Option ℕ) Global). v.items) w.rows-is)
                 (passed_by trace index c.loop-index.lasts.items c.loop-index.rows.items
                 (no_call_saw_nothing trace index (no_call_at_reply trace index _ _ _ is)) old.passed);
             needs = subst (λ (needs : List ℕ). AreNeeds trace (index + 1) needs)

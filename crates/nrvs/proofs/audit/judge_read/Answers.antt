@@ -6,5 +6,5 @@ use Rattle.nrvs.proofs.audit.judge_read.Goals as goal
 
 pub returns-in-Ok : goal.returns-in-Ok
 returns-in-Ok c = λ bytes h.
-    IfOk-weaker c.judge.result (IsVerdictOn c.in-Ok.trace) (IsVerdictOf bytes)
-    (λ verdict is. of_spelled bytes c.in-Ok.trace verdict (trace_read bytes c.args.read c.in-Ok.trace c.in-Ok.is h) is) c.judge.ensures.verdict
+    IfOk-weaker c.judge-verdict.result (IsVerdictOn c.in-Ok.trace) (IsVerdictOf bytes)
+    (λ verdict is. of_spelled bytes c.in-Ok.trace verdict (trace_read bytes c.args.read c.in-Ok.trace c.in-Ok.is h) is) c.judge-verdict.ensures.verdict
