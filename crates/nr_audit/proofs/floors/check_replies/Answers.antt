@@ -1,5 +1,5 @@
 use Rattle.std.proofs.Common.{Vec, Global, Option, ◌≡◌, ℕ, ◌+◌, ◌<◌, List, length, max, sym, ap, subst, ◌∙◌, arith}
-use Rattle.nr_trace.specs.Orders.{floor, known_by}
+use Rattle.nr_trace.specs.Orders.{floor}
 use Rattle.nr_trace.specs.Calls.{Response, call_of}
 use Rattle.nr_trace.proofs.LawsOfSteps.{floor_after_reply, floor_after_other}
 use Rattle.std.specs.Prelude.{MatchOption}

@@ -4,7 +4,7 @@ use Rattle.nr_trace.specs.Laws.{IsFaultless}
 use Rattle.nr_trace.specs.Orders.{recorded_order}
 use Rattle.nr_audit.specs.inside.Search.{HasNone}
 use Rattle.nr_audit.specs.inside.Passes.{IsCallFault, IsLogFault, IsAnswerFault, IsDumpFault}
-use Rattle.nr_audit.proofs.FirstOfPasses.{none_of_format, after_calls, after_log, after_positions, after_floors, after_answers, after_dumps}
+use Rattle.nr_audit.proofs.FirstOfPasses.{none_of_format, after_calls, after_positions, after_floors, after_answers, after_dumps}
 use Rattle.nr_audit.proofs.FirstOfPasses.{clean_after_positions, faultless_after_all, refused_by_pass, refused_of, call_faults, log_faults}
 use Rattle.nr_audit.proofs.FirstOfPasses.{answer_faults, dump_faults}
 use Rattle.nr_audit.proofs.search.search.Goals as goal
