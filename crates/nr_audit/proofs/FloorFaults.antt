@@ -1,5 +1,5 @@
 -- The calls that stand before one that was answered before they were made.
-use Rattle.std.proofs.Common.{◌≡◌, ℕ, ◌<◌, ◌≤◌, [], ◌∷◌, inl, inr, length, Some, None, Option, refl, sym, ap, subst, ◌∙◌, arith}
+use Rattle.std.proofs.Common.{◌≡◌, ℕ, ◌+◌, ◌<◌, ◌≤◌, true, false, [], ◌∷◌, inl, inr, length, Some, None, Option, refl, sym, ap, subst, ◌∙◌, arith}
 use Rattle.std.specs.Prelude.{is_some}
 use Rattle.std.proofs.lemmas.Bool.{cases_lt, false≢true}
 use Rattle.nr_trace.specs.Recording.{Recording}
@@ -10,9 +10,9 @@ use Rattle.nr_trace.specs.Laws.{HasCleanLog}
 use Rattle.nr_trace.specs.declared.fault.Fault.{Fault}
 use Rattle.nr_trace.specs.declared.fault.Fault.TheVariants.{Early}
 use Rattle.nr_trace.proofs.LawsOfCalls.{call_within, stands_once, update_is_call, read_is_call}
-use Rattle.nr_audit.specs.inside.Search.{Finds, HasNone, IsFirstAmong}
+use Rattle.nr_audit.specs.inside.Search.{Finds, FindsEarly, HasNone, IsFirstAmong}
 use Rattle.nr_audit.specs.inside.Passes.{IsFloorFaultAt, IsFloorFault}
-use Rattle.nr_audit.proofs.Ranks.{IsRanked, none_of_all, first_of_all, lower_number}
+use Rattle.nr_audit.proofs.Ranks.{IsRanked, more_of, none_of_all, first_of_all, lower_number}
 
 pub floor_ranks : (trace : Recording) → IsRanked IsFloorFaultAt 5 trace
 floor_ranks trace index (Early call) among = (9, ap (λ i. 5 ∷ i ∷ 9 ∷ []) among)
@@ -61,3 +61,30 @@ first_early trace index found entries none finds is low = first_of_all IsFloorFa
   holds = (entries, subst (Finds (StandsAfter trace index)) is finds, low);
   none_earlier = λ other among holds earlier. no_earlier trace index other among earlier;
 })
+
+-- ---- the first early call, as far as known
+
+pub early_at_other : (trace : Recording) (index : ℕ) (early : Option ℕ) → HasNone (IsFloorFaultAt index) trace → FindsEarly trace index early
+    → FindsEarly trace (index + 1) early
+early_at_other trace index None none found = more_of IsFloorFaultAt trace index found none
+early_at_other trace index (Some call) none found = found
+
+pub early_kept : (trace : Recording) (index : ℕ) (early : Option ℕ) → is_some early ≡ true → FindsEarly trace index early
+    → FindsEarly trace (index + 1) early
+early_kept trace index None some found = absurd (false≢true some)
+early_kept trace index (Some call) some found = found
+
+none_early : (trace : Recording) (index : ℕ) (early : Option ℕ) → is_some early ≡ false → FindsEarly trace index early → FindsEarly trace index None
+none_early trace index None none found = found
+none_early trace index (Some call) none found = absurd (false≢true (sym none))
+
+pub early_here : (trace : Recording) (index entries : ℕ) (early : Option ℕ) → is_some early ≡ false → StandsAfter trace index entries
+    → entries < floor trace index → FindsEarly trace index early → FindsEarly trace (index + 1) (Some index)
+early_here trace index entries early none stands low found =
+    first_early trace index (Some entries) entries (none_early trace index early none found) stands refl low
+
+pub not_early_here : (trace : Recording) (index entries : ℕ) (early : Option ℕ) → HasCleanLog trace → is_some early ≡ false
+    → StandsAfter trace index entries → floor trace index ≤ entries → FindsEarly trace index early → FindsEarly trace (index + 1) None
+not_early_here trace index entries early clean none stands kept found =
+    more_of IsFloorFaultAt trace index (none_early trace index early none found)
+    (none_at_call trace index (Some entries) clean stands (λ other is. let same : entries ≡ other = cc in omega arith))

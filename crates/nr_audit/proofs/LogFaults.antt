@@ -77,7 +77,18 @@ no_log_fault trace none = none_of_all IsLogFaultAt trace (λ place. elim (cases_
 ])
 
 pub places_at_end : (trace : Recording) (table : List (Option ℕ)) → ArePlacesBelow trace (length trace.log) table → ArePlaces trace table
-places_at_end trace table logged = record { one_each = logged.one_each; each = logged.each }
+places_at_end trace table logged = record { one_each = logged.one_each; each = λ call within update. logged.each call within }
+
+-- the row of what is no update can change
+pub places_kept : (trace : Recording) (table : List (Option ℕ)) (row : ℕ) (named : Option ℕ) → (IsUpdate trace row → ⊥) → ArePlaces trace table
+    → ArePlaces trace (set table row named)
+places_kept trace table row named no_update places = record {
+  one_each = length-set table row named ∙ places.one_each;
+  each = λ call within update.
+      subst (λ o. IsPlaceBelow trace (length trace.log) call o)
+      (sym (get_or-set_other table row call named None (λ same. no_update (subst (λ c. IsUpdate trace c) same update))))
+      (places.each call (omega (arith, length-set table row named)) update);
+}
 
 no_update_is_first : (trace : Recording) (place : ℕ) (other : Fault) → IsLogFaultAt place other → Earlier trace other (NotAnUpdate place) → ⊥
 no_update_is_first trace place (NotAnUpdate j) among earlier = let h = lower_number 3 j 5 place 5 earlier among in absurd (omega arith)

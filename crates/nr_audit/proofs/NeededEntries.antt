@@ -1,7 +1,7 @@
 -- The most entries that are known by the replies at each replica, and what that says of its dump.
 use Rattle.std.proofs.Common.{cond, ◌≡◌, ℕ, ◌+◌, ◌<◌, ◌≤◌, ◌⊎◌, inl, inr, List, max, replicate, set, get_or, Some, None, Option, refl, sym, ap, subst, ◌∙◌}
 use Rattle.std.proofs.Common.{arith, get_or-set_other, get_or-set_same}
-use Rattle.std.specs.Prelude.{option_map}
+use Rattle.std.specs.Prelude.{option_map, IfSome}
 use Rattle.std.specs.Ordering.{nat_cmp, ord_max, is_lt}
 use Rattle.std.specs.declared.cmp.Ordering.{Ordering}
 use Rattle.std.specs.declared.cmp.Ordering.TheVariants.{Less, Equal, Greater}
@@ -11,7 +11,7 @@ use Rattle.std.proofs.lemmas.List.{length-set, length-replicate, get_or-replicat
 use Rattle.nr_trace.specs.Recording.{Recording}
 use Rattle.nr_trace.specs.Calls.{Invocation, call_of, Response, reply_of}
 use Rattle.nr_trace.specs.Orders.{known_by}
-use Rattle.nr_audit.specs.inside.Prefixes.{IsReplyAt, KnowsJust, AreNeeds}
+use Rattle.nr_audit.specs.inside.Prefixes.{IsReplyAt, KnowsJust, AreNeeds, with_known}
 
 no_needs : (replica : ℕ) → ◌≡◌ {A = ℕ} (get_or (replicate {A = ℕ} 4 0) replica 0) 0
 no_needs replica = elim (cases_lt replica 4) [
@@ -136,6 +136,16 @@ needs_grow trace end needs own made is is_made within are = record {
       subst (λ n. KnowsJust trace (end + 1) made.replica n) same
       (later_known trace end made.replica (get_or needs made.replica 0) (are.reached made.replica (omega arith)))
   by_greater (inr more) = record { index = end; reply = own; at = last_reply; just = let it : known_by trace own ≡ most_known = omega arith in it }
+
+-- an event that is a reply raises what the replica of its call needs
+pub needs_after_reply : (trace : Recording) (end : ℕ) (needs : List ℕ) (own : Response) → reply_of trace end ≡ Some own
+    → IfSome (call_of trace own.call) (λ (made : Invocation). made.replica < 4)
+    → AreNeeds trace end needs → AreNeeds trace (end + 1) (with_known needs (call_of trace own.call) (known_by trace own))
+needs_after_reply trace end needs own is within are = go (call_of trace own.call) refl within where
+  go : (made : Option Invocation) → made ≡ call_of trace own.call → IfSome made (λ (m : Invocation). m.replica < 4)
+      → AreNeeds trace (end + 1) (with_known needs made (known_by trace own))
+  go None none within = needs_stay trace end needs (λ replica other. no_call_at trace end replica own other is (sym none)) are
+  go (Some made) some within = needs_grow trace end needs own made is (sym some) within are
 
 -- ---- what is read of the trace
 

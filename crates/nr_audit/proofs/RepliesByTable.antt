@@ -10,7 +10,8 @@ use Rattle.nr_trace.specs.declared.event.Event.{Event}
 use Rattle.std.proofs.lemmas.Bool.{cases_lt, eq-eqb, cond-true, false≢true}
 use Rattle.std.proofs.lemmas.List.{get_or_past}
 use Rattle.std.specs.Prelude.{option_map}
-use Rattle.nr_trace.specs.Calls.{address_of, IsRead}
+use Rattle.nr_trace.specs.Calls.{Invocation, address_in, address_of, call_of, IsRead, IsUpdate}
+use Rattle.nr_trace.proofs.LawsOfCalls.{not_both}
 use Rattle.nr_audit.specs.inside.Tables.{IsReplyBelow, AreReplies}
 use Rattle.nr_audit.specs.inside.Replies.{without_call, replied_to, entries_seen}
 use Rattle.nr_audit.specs.declared.history.Reply.{Reply}
@@ -108,3 +109,16 @@ not_seen (Some a) response none = absurd (false≢true (sym none))
 
 pub not_seen_by : (trace : Recording) (call : ℕ) → is_some (address_of trace call) ≡ false → None ≡ entries_seen trace call
 not_seen_by trace call none = not_seen (address_of trace call) (reply_to trace call) none
+
+seen_of_none : (address : Option ℕ) (response : Option Response) → (is_some address ≡ true → ⊥)
+    → ◌≡◌ {A = Option ℕ} (option_and_then (λ (a : ℕ). option_map (λ (r : Response). r.at) response) address) None
+seen_of_none None response none = refl
+seen_of_none (Some a) response none = absurd (none refl)
+
+-- an update saw nothing, and neither did what is no call
+pub update_saw_nothing : (trace : Recording) (call : ℕ) → IsUpdate trace call → entries_seen trace call ≡ None
+update_saw_nothing trace call update = seen_of_none (address_of trace call) (reply_to trace call) (not_both trace call update)
+
+pub no_call_saw_nothing : (trace : Recording) (call : ℕ) → call_of trace call ≡ None → entries_seen trace call ≡ None
+no_call_saw_nothing trace call none = seen_of_none (address_of trace call) (reply_to trace call)
+    (λ read. false≢true (sym (ap (λ o. is_some (option_and_then (λ (made : Invocation). address_in made.request) o)) none) ∙ read))

@@ -9,7 +9,6 @@ ghost use Rattle.nr_audit.specs.inside.Steps.{space_of};
 
 use crate::answers::serve;
 use crate::history::History;
-use crate::prefixes::entries_needed;
 use nr_dump::{DumpFault, check};
 use nr_trace::Fault;
 use std::alloc::Global;
@@ -152,23 +151,24 @@ fn check_dump(
     }
 }
 
-/// Looks for what is wrong with the dumps, in the order of the replicas, from the space after the whole log on: it is
-/// compared with the dumps that have applied so much. Takes memory for a second space, once that one is given back, where
-/// a dump has applied less, and for what the check of a dump takes.
+/// Looks for what is wrong with the dumps, in the order of the replicas, from what each replica needs and from the space
+/// after the whole log on: it is compared with the dumps that have applied so much. Takes memory for a second space, once
+/// that one is given back, where a dump has applied less, and for what the check of a dump takes.
 pub(crate) fn check_dumps(
     alloc: Global,
     history: &History,
+    needed: &[u64; 4],
     space: PlainSpace,
 ) -> Result<(), Fail<Fault>>
-    requires { space ≡ space_of history.now.layout (space_after history.now history.now.log) }
+    requires needed { AreNeeds history.now (length history.now.events) needed.now }
+    requires space { space ≡ space_of history.now.layout (space_after history.now history.now.log) }
     ensures clean { OnOk result (HasNone IsDumpFault history.now) }
     ensures first { IfErr result (IfRefused (IsFirstAmong IsDumpFault history.now)) }
 {
     let mut faults = compare_whole(alloc, history, space)?;
     compare_shorter(alloc, history, &mut faults)?;
-    let needed = entries_needed(history);
     for replica in 0..history.dumps().len() {
-        check_dump(history, replica, &needed, &faults)?;
+        check_dump(history, replica, needed, &faults)?;
     }
     Ok(())
 }

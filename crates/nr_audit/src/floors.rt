@@ -1,21 +1,39 @@
-ghost use Rattle.std.specs.Prelude.{◌≡◌, ◌<◌, OnOk, IfErr, length};
+ghost use Rattle.std.specs.Prelude.{◌≡◌, ◌+◌, ◌<◌, OnOk, IfOk, IfErr, IfSome, length};
 ghost use Rattle.vs_types.specs.Refusal.{IfRefused};
 ghost use Rattle.vs_types.specs.declared.answer.Answer.{Answer};
-ghost use Rattle.nr_trace.specs.Calls.{Response};
-ghost use Rattle.nr_trace.specs.Faults.{StandsAfter};
+ghost use Rattle.nr_trace.specs.Calls.{Response, call_of};
+ghost use Rattle.nr_trace.specs.Faults.{IsFirst, StandsAfter};
 ghost use Rattle.nr_trace.specs.Laws.{HasCleanLog};
-ghost use Rattle.nr_trace.specs.Orders.{known_by};
-ghost use Rattle.nr_audit.specs.inside.Search.{Finds, HasNone, IsFirstAmong};
-ghost use Rattle.nr_audit.specs.inside.Passes.{IsFloorFault};
+ghost use Rattle.nr_trace.specs.Orders.{floor, known_by};
+ghost use Rattle.nr_audit.specs.inside.Chains.{AreReads};
+ghost use Rattle.nr_audit.specs.inside.Prefixes.{AreNeeds, with_known};
+ghost use Rattle.nr_audit.specs.inside.Search.{FindsEarly, HasNone};
+ghost use Rattle.nr_audit.specs.inside.Passes.{IsCallFault, IsFloorFault, IsLogFault, IsPositionFault};
 ghost use Rattle.nr_audit.specs.inside.Tables.{ArePlaces};
 
 use crate::history::History;
-use crate::tables::MaybeIndex;
+use crate::positions::position_fault;
+use crate::reads::pass_call;
+use crate::tables::{MaybeIndex, empty_table};
 use nr_trace::{Event, Fault};
+use std::alloc::Global;
 use vs_types::Fail;
 
+/// Where the calls of a trace stand in the recorded order, and what is known by its replies.
+#[derive(Drop)]
+pub(crate) struct Standing {
+    /// By number of entries the last of the answered reads that saw as many.
+    pub(crate) lasts: Vec<MaybeIndex>,
+    /// By call: of a read the one before it that saw as many entries.
+    pub(crate) rows: Vec<MaybeIndex>,
+    /// How many calls stand in the order.
+    pub(crate) count: usize,
+    /// For each replica the most entries of the log that are known by a reply to a call made there.
+    pub(crate) needed: [u64; 4],
+}
+
 /// How many entries of the log are known by a reply: those up to the update's own, or those that the read saw.
-pub(crate) fn entries_known(history: &History, call: u32, at: u32) -> u64
+fn entries_known(history: &History, call: u32, at: u32) -> u64
     ensures { (answer : Answer) → let reply : Response = record { call = call; at = at; answer = answer } in result ≡ known_by history.now reply }
 {
     if history.is_update(call) {
@@ -25,43 +43,83 @@ pub(crate) fn entries_known(history: &History, call: u32, at: u32) -> u64
     }
 }
 
-/// After how many entries of the log a call stands in the recorded order: the place of an update, and how many entries
-/// an answered read saw. `None` where it doesn't stand there.
-fn entries_before(history: &History, places: &[MaybeIndex], call: u32) -> Option<u32>
-    requires table { ArePlaces history.now places.now }
-    requires within { call < length history.now.events }
-    ensures { Finds (StandsAfter history.now call) result }
+/// Raises what the replica of a call needs to what is known by a reply to it.
+fn raise_need(history: &History, needed: &mut [u64; 4], call: u32, known: u64)
+    ensures in_range { IfSome (call_of history.now call) (λ made. made.replica < 4) }
+    ensures raised { needed.new ≡ with_known needed.old (call_of history.now call) known }
 {
-    if history.is_update(call) {
-        return places[call as usize].get();
+    if let Some(replica) = history.replica(call) {
+        needed[replica as usize] = needed[replica as usize].max(known);
     }
-    if history.is_read(call) {
-        return Some(history.reply(call)?.at);
+}
+
+/// The first call that stands too early, as far as known: one that was found before, or else the next call, where it stands
+/// after fewer entries than are known before it.
+fn early_call(
+    history: &History,
+    early: Option<u32>,
+    call: u32,
+    entries: u32,
+    known: u64,
+) -> Option<u32>
+    requires stands { StandsAfter history.now call entries }
+    requires known { known ≡ floor history.now call }
+    ensures { HasCleanLog history.now → FindsEarly history.now call early → FindsEarly history.now (call + 1) result }
+{
+    if early.is_some() {
+        return early;
+    }
+    if (entries as u64) < known {
+        return Some(call);
     }
     None
 }
 
-/// Looks for a call that stands before one that was answered before it was made: by one pass over the events, with the
-/// most entries that are known so far by a reply. Takes no memory.
-pub(crate) fn check_floors(history: &History, places: &[MaybeIndex]) -> Result<(), Fail<Fault>>
-    requires clean { HasCleanLog history.now }
-    requires table { ArePlaces history.now places.now }
-    ensures clean { OnOk result (HasNone IsFloorFault history.now) }
-    ensures first { IfErr result (IfRefused (IsFirstAmong IsFloorFault history.now)) }
+/// Looks for a reply that gives an update another place than its own, and one that gives a read more entries than the log
+/// has, and then for a call that stands before one that was answered before it was made: by one pass over the events, with
+/// the most entries that are known so far by a reply. Gives where the calls stand, in the table of the places, and takes
+/// memory for it: four bytes for each place.
+pub(crate) fn check_replies(
+    alloc: Global,
+    history: &History,
+    places: Vec<MaybeIndex>,
+) -> Result<Standing, Fail<Fault>>
+    requires calls { HasNone IsCallFault history.now }
+    requires log { HasNone IsLogFault history.now }
+    requires table { ArePlaces history.now places.items }
+    ensures reads { IfOk result (λ standing. AreReads history.now standing.lasts.items standing.rows.items) }
+    ensures needs { IfOk result (λ standing. AreNeeds history.now (length history.now.events) standing.needed) }
+    ensures clean { OnOk result (HasNone IsPositionFault history.now × HasNone IsFloorFault history.now) }
+    ensures first { IfErr result (IfRefused (IsFirst history.now)) }
 {
-    let events = history.events();
-    let mut floor = 0;
-    for (index, event) in events.iter().enumerate() {
+    let mut lasts = empty_table(alloc, history.log().len() + 1)?;
+    let mut rows = places;
+    let (mut count, mut early, mut floor, mut needed) = (0, None, 0, [0; 4]);
+    for (index, event) in history.events().iter().enumerate() {
         match event.event() {
             Event::Call { .. } => {
-                if let Some(entries) = entries_before(history, places, index as u32) {
-                    if (entries as u64) < floor {
-                        return Err(Fail::Refused(Fault::Early(index as u32)));
-                    }
+                if let Some(entries) = pass_call(history, &mut lasts, &mut rows, index as u32) {
+                    early = early_call(history, early, index as u32, entries, floor);
+                    count += 1;
                 }
             }
-            Event::Reply { call, at, .. } => floor = floor.max(entries_known(history, call, at)),
+            Event::Reply { call, at, .. } => {
+                if let Some(fault) = position_fault(history, index as u32, call, at) {
+                    return Err(Fail::Refused(fault));
+                }
+                let known = entries_known(history, call, at);
+                floor = floor.max(known);
+                raise_need(history, &mut needed, call, known);
+            }
         }
     }
-    Ok(())
+    if let Some(call) = early {
+        return Err(Fail::Refused(Fault::Early(call)));
+    }
+    Ok(Standing {
+        lasts,
+        rows,
+        count,
+        needed,
+    })
 }

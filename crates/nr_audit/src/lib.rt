@@ -1,7 +1,7 @@
 //! The auditor of traces: whether what was recorded is one run of the address space.
 //!
 //! The first pass makes a history of the trace: by number each call's request, replica and reply. The later passes take
-//! the calls from it, one after another in the order of the faults that they look for: the log, the positions, the
+//! the calls from it, one after another in the order of the faults that they look for: the log, the positions with the
 //! floors, the recorded order and its answers, the dumps.
 #![tactic(auto)]
 
@@ -15,7 +15,7 @@ pub mod laws;
 mod log;
 mod order;
 mod positions;
-mod prefixes;
+mod reads;
 mod search;
 mod tables;
 mod verdict;

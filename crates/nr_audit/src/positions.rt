@@ -1,12 +1,12 @@
-ghost use Rattle.std.specs.Prelude.{◌≡◌, ◌≢◌, ◌<◌, ◌↔◌, OnOk, IfErr, IsTrue, Some, length, slice_get};
-ghost use Rattle.vs_types.specs.Refusal.{IfRefused};
+ghost use Rattle.std.specs.Prelude.{◌≡◌, ◌≢◌, ◌<◌, ◌↔◌, IsTrue, MatchOption, Some, length, slice_get};
+ghost use Rattle.vs_types.specs.declared.answer.Answer.{Answer};
 ghost use Rattle.nr_trace.specs.Calls.{IsRead, IsUpdate};
+ghost use Rattle.nr_trace.specs.declared.event.Event.TheVariants.{Reply};
 ghost use Rattle.nr_audit.specs.inside.Search.{HasNone, IsFirstAmong};
-ghost use Rattle.nr_audit.specs.inside.Passes.{IsPositionFault};
+ghost use Rattle.nr_audit.specs.inside.Passes.{IsPositionFaultAt};
 
 use crate::history::History;
-use nr_trace::{Event, Fault};
-use vs_types::Fail;
+use nr_trace::Fault;
 
 fn stands_at(log: &[u32], place: u32, call: u32) -> bool
     ensures { IsTrue result ↔ (slice_get log.now place ≡ Some call) }
@@ -34,22 +34,17 @@ fn is_past_log(history: &History, call: u32, entries: u32) -> bool
     entries as usize > history.log().len()
 }
 
-/// Looks for a reply that gives an update another place than its own, and one that gives a read more entries than the
-/// log has. Takes no memory.
-pub(crate) fn check_positions(history: &History) -> Result<(), Fail<Fault>>
-    ensures clean { OnOk result (HasNone IsPositionFault history.now) }
-    ensures first { IfErr result (IfRefused (IsFirstAmong IsPositionFault history.now)) }
+/// What is wrong with the position that a reply gives, the event of this index: another place of an update than its own, or
+/// more entries that a read saw than the log has.
+pub(crate) fn position_fault(history: &History, index: u32, call: u32, at: u32) -> Option<Fault>
+    ensures { (answer : Answer) → slice_get history.now.events index ≡ Some (Reply call at answer)
+        → MatchOption result (HasNone (IsPositionFaultAt index) history.now) (IsFirstAmong (IsPositionFaultAt index) history.now) }
 {
-    for (index, event) in history.events().iter().enumerate() {
-        let Event::Reply { call, at, .. } = event.event() else {
-            continue;
-        };
-        if is_misplaced(history, call, at) {
-            return Err(Fail::Refused(Fault::NotPlaced(index as u32)));
-        }
-        if is_past_log(history, call, at) {
-            return Err(Fail::Refused(Fault::PastLog(index as u32)));
-        }
+    if is_misplaced(history, call, at) {
+        return Some(Fault::NotPlaced(index));
     }
-    Ok(())
+    if is_past_log(history, call, at) {
+        return Some(Fault::PastLog(index));
+    }
+    None
 }

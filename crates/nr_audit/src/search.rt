@@ -7,10 +7,9 @@ ghost use Rattle.nr_trace.specs.Orders.{recorded_order};
 use crate::answers::check_answers;
 use crate::calls::check_calls;
 use crate::dumps::check_dumps;
-use crate::floors::check_floors;
+use crate::floors::check_replies;
 use crate::log::check_log;
 use crate::order::list_order;
-use crate::positions::check_positions;
 use nr_trace::{Fault, Trace};
 use std::alloc::Global;
 use vs_types::Fail;
@@ -22,10 +21,10 @@ pub(crate) fn search(alloc: Global, trace: &Trace) -> Result<Vec<u32>, Fail<Faul
 {
     let history = check_calls(alloc, trace)?;
     let places = check_log(alloc, &history)?;
-    check_positions(&history)?;
-    check_floors(&history, &places)?;
-    let order = list_order(alloc, &history, places)?;
+    let standing = check_replies(alloc, &history, places)?;
+    let needed = standing.needed;
+    let order = list_order(alloc, &history, standing)?;
     let space = check_answers(alloc, &history, &order)?;
-    check_dumps(alloc, &history, space)?;
+    check_dumps(alloc, &history, &needed, space)?;
     Ok(order)
 }

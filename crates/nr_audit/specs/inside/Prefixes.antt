@@ -1,5 +1,5 @@
 -- How far the log has to be applied to a dump. No public clause cites this file.
-use Rattle.std.specs.Prelude.{◌≡◌, ℕ, ◌<◌, ◌≤◌, List, length, slice_index_or, Some}
+use Rattle.std.specs.Prelude.{◌≡◌, ℕ, ◌<◌, ◌≤◌, List, length, max, slice_index_or, slice_set, Option, Some, None}
 use Rattle.nr_trace.specs.Recording.{Recording}
 use Rattle.nr_trace.specs.Calls.{Invocation, call_of, Response, reply_of}
 use Rattle.nr_trace.specs.Orders.{known_by}
@@ -24,3 +24,8 @@ pub record AreNeeds (trace : Recording) (end : ℕ) (needs : List ℕ) : Type 0 
   pub four : length needs ≡ 4
   pub most : (replica index : ℕ) (reply : Response) → IsReplyAt trace end replica index reply → known_by trace reply ≤ slice_index_or needs replica 0
   pub reached : (replica : ℕ) → 0 < slice_index_or needs replica 0 → KnowsJust trace end replica (slice_index_or needs replica 0)
+
+-- what the replicas need, with what is known by a reply to a call that was made
+abbrev pub with_known : List ℕ → Option Invocation → ℕ → List ℕ
+with_known needs None known = needs
+with_known needs (Some made) known = slice_set needs made.replica (max (slice_index_or needs made.replica 0) known)

@@ -1,8 +1,10 @@
 -- What a search for some faults of a trace finds: none of them, or the first. No public clause cites this file.
-use Rattle.std.specs.Prelude.{ℕ, Option, Some, None}
+use Rattle.std.specs.Prelude.{ℕ, ◌<◌, Option, Some, None}
 use Rattle.nr_trace.specs.Recording.{Recording}
 use Rattle.nr_trace.specs.Faults.{Holds, Earlier}
 use Rattle.nr_trace.specs.declared.fault.Fault.{Fault}
+use Rattle.nr_trace.specs.declared.fault.Fault.TheVariants.{Early}
+use Rattle.nr_audit.specs.inside.Passes.{IsFloorFault, IsFloorFaultAt}
 
 -- none of these faults holds of the trace
 abbrev pub HasNone : (Fault → Type 0) → Recording → Type 0
@@ -18,3 +20,8 @@ pub record IsFirstAmong (Among : Fault → Type 0) (trace : Recording) (fault : 
 abbrev pub Finds : (ℕ → Type 0) → Option ℕ → Type 0
 Finds P None = (number : ℕ) → P number → ⊥
 Finds P (Some number) = P number
+
+-- the first call that stands too early, or none below an index
+abbrev pub FindsEarly : Recording → ℕ → Option ℕ → Type 0
+FindsEarly trace index None = (lower : ℕ) → lower < index → HasNone (IsFloorFaultAt lower) trace
+FindsEarly trace index (Some call) = IsFirstAmong IsFloorFault trace (Early call)
