@@ -9,6 +9,8 @@ mod dump;
 #[cfg(test)]
 mod pieces;
 #[cfg(test)]
+mod recorded;
+#[cfg(test)]
 mod trace;
 #[cfg(test)]
 mod writing;

@@ -122,6 +122,7 @@ impl<'a> History<'a> {
     }
 
     /// The reply to a call, or `None` where it has none.
+    #[inline(always)]
     pub(crate) fn reply(&self, call: u32) -> Option<Reply>
         ensures { result ≡ replied_to self.now call }
     {

@@ -51,7 +51,7 @@ const _: () = prove!(size_of::<Recorded>() == 24);
 impl Kept {
     ghost use Rattle.nr_trace.specs.inside.Kept.{event_of};
 
-    #[inline]
+    #[inline(always)]
     fn update(replica: u8, thread: u16, action: Action) -> Kept
         ensures { event_of result ≡ Event.Call replica thread (query.Update action) }
     {
@@ -71,7 +71,7 @@ impl Kept {
         }
     }
 
-    #[inline]
+    #[inline(always)]
     fn call(replica: u8, thread: u16, request: Request) -> Kept
         ensures { event_of result ≡ Event.Call replica thread request }
     {
@@ -84,7 +84,7 @@ impl Kept {
         }
     }
 
-    #[inline]
+    #[inline(always)]
     fn reply(call: u32, at: u32, answer: Answer) -> Kept
         ensures { event_of result ≡ Event.Reply call at answer }
     {
@@ -103,7 +103,7 @@ impl Kept {
     }
 }
 
-#[inline]
+#[inline(always)]
 fn call_of(replica: u8, thread: u16, query: Query) -> Event
     requires { IsSomeQuery query }
     ensures { result ≡ Event.Call replica thread query }
@@ -116,7 +116,7 @@ fn call_of(replica: u8, thread: u16, query: Query) -> Event
     }
 }
 
-#[inline]
+#[inline(always)]
 fn update_of(replica: u8, thread: u16, action: Action) -> Event
     requires { IsSomeAction action }
     ensures { result ≡ Event.Call replica thread (query.Update action) }
@@ -124,7 +124,7 @@ fn update_of(replica: u8, thread: u16, action: Action) -> Event
     call_of(replica, thread, Query::Update(Op::of(action)))
 }
 
-#[inline]
+#[inline(always)]
 fn reply_of(call: u32, at: u32, answer: Answer) -> Event
     ensures { result ≡ Event.Reply call at answer }
 {
@@ -154,7 +154,7 @@ impl Model for Recorded {
 
 impl Recorded {
     /// What keeps the event.
-    #[inline]
+    #[inline(always)]
     pub fn of(event: Event) -> Recorded
         ensures { result ≡ event }
     {
@@ -173,7 +173,7 @@ impl Recorded {
     }
 
     /// The event that is kept.
-    #[inline]
+    #[inline(always)]
     pub fn event(self) -> Event
         ensures { result ≡ self }
     {

@@ -10,6 +10,7 @@ ghost use Rattle.nr_trace.specs.inside.Reading.{IsAnswerIn, IsRequestIn, SpellsE
 use crate::event::Event;
 use crate::fields::AnswerFields;
 use crate::reading::fields::{take_u8, take_u16, take_u32, take_u64};
+use crate::recorded::Recorded;
 use crate::version::Version;
 use vs_types::{Answer, Config, Depth, Request, RequestFields};
 
@@ -37,7 +38,7 @@ fn answer_of(version: Version, fields: AnswerFields) -> Option<Answer>
     }
 }
 
-fn call_of(version: Version, config: Config, bytes: &[u8]) -> Option<Event>
+fn call_of(version: Version, config: Config, bytes: &[u8]) -> Option<Recorded>
     requires { length bytes.now ≡ 23 }
     ensures { Finds (SpellsEvent version config (0 ∷ bytes.now)) result }
 {
@@ -60,14 +61,14 @@ fn call_of(version: Version, config: Config, bytes: &[u8]) -> Option<Event>
         physical,
     };
     let request = request_of(version, config.depth(), fields)?;
-    Some(Event::Call {
+    Some(Recorded::of(Event::Call {
         replica,
         thread,
         request,
-    })
+    }))
 }
 
-fn reply_of(version: Version, config: Config, bytes: &[u8]) -> Option<Event>
+fn reply_of(version: Version, config: Config, bytes: &[u8]) -> Option<Recorded>
     requires { length bytes.now ≡ 23 }
     ensures { Finds (SpellsEvent version config (1 ∷ bytes.now)) result }
 {
@@ -88,11 +89,11 @@ fn reply_of(version: Version, config: Config, bytes: &[u8]) -> Option<Event>
         value,
     };
     let answer = answer_of(version, fields)?;
-    Some(Event::Reply { call, at, answer })
+    Some(Recorded::of(Event::Reply { call, at, answer }))
 }
 
 /// The event that the 24 bytes spell, if it is one of a service laid out so, and the version knows it.
-pub(crate) fn event_of(version: Version, config: Config, unit: &[u8]) -> Option<Event>
+pub(crate) fn event_of(version: Version, config: Config, unit: &[u8]) -> Option<Recorded>
     requires { length unit.now ≡ 24 }
     ensures { Finds (SpellsEvent version config unit.now) result }
 {

@@ -140,7 +140,7 @@ fn push_events(
     for k in 0..bytes.len() / 24 {
         let (unit, behind) = rest.split_at(24);
         match event_of(version, config, unit) {
-            Some(event) => events.push(Recorded::of(event))?,
+            Some(event) => events.push(event)?,
             None => {
                 let index = events.len() as u32;
                 return Err(Fail::Refused(Format::BadEvent(index)));

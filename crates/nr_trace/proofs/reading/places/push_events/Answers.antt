@@ -1,4 +1,4 @@
-use Rattle.std.proofs.Common.{◌++◌, ◌∷◌, [], rules, ap, ◌∙◌, arith}
+use Rattle.std.proofs.Common.{rules, arith}
 use Rattle.nr_trace.proofs.Taken.{one_recorded, recorded_fit}
 use Rattle.nr_trace.proofs.reading.places.push_events.Goals as goal
 
@@ -9,4 +9,4 @@ overflow_cast-index c =
 pub loop-k-preserved : goal.loop-k-preserved
 loop-k-preserved c =
     one_recorded _ _ _ _ _ _ _ _ c.in-Some.event c.split_at.result.0.now c.split_at.result.1.now c.loop-k.invariant c.in-Some.ensures
-    (c.in_ok-push-in-Some.ensures.items ∙ ap (λ one. c.loop-k.events.items ++ one ∷ []) c.of.ensures) (search rules)
+    c.in_ok-push-in-Some.ensures.items (search rules)

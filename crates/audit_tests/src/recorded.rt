@@ -1,0 +1,89 @@
+use nr_trace::{Event, Recorded};
+use std::test::Fail;
+use vs_types::{Access, Answer, Depth, Mode, Op, Page, Request, Rights, Size};
+
+const SIZES: [Size; 3] = [Size::K4, Size::M2, Size::G1];
+
+// Each right alone, all and none.
+const RIGHTS: [Rights; 5] = [
+    Rights {
+        write: true,
+        ..Rights::NONE
+    },
+    Rights {
+        user: true,
+        ..Rights::NONE
+    },
+    Rights {
+        exec: true,
+        ..Rights::NONE
+    },
+    Rights::ALL,
+    Rights::NONE,
+];
+
+// Whether a call with this request, and greatest numbers, comes back as it was.
+fn is_kept(request: Request) -> bool {
+    let event = Event::Call {
+        replica: u8::MAX,
+        thread: u16::MAX,
+        request,
+    };
+    Recorded::of(event).event() == event
+}
+
+// Whether a reply with this answer, and greatest numbers, comes back as it was.
+fn is_told(answer: Answer) -> bool {
+    let event = Event::Reply {
+        call: u32::MAX - 1,
+        at: u32::MAX,
+        answer,
+    };
+    Recorded::of(event).event() == event
+}
+
+#[test]
+fn calls_come_back(rt: HostRuntime) -> Result<(), Fail> {
+    let last = u64::MAX << 12;
+    for rights in RIGHTS {
+        for size in SIZES {
+            let bytes = size.bytes();
+            let base = u64::MAX - bytes + 1;
+            let map = Op::map(Depth::Five, base, size, Page::PHYS_END - bytes, rights)?;
+            assert!(rt; is_kept(Request::update(map)));
+        }
+        let protect = Op::protect(Depth::Five, last, rights)?;
+        assert!(rt; is_kept(Request::update(protect)));
+    }
+    assert!(rt; is_kept(Request::update(Op::unmap(Depth::Five, last)?)));
+    assert!(rt; is_kept(Request::resolve(Depth::Five, u64::MAX)?));
+    for mode in [Mode::Supervisor, Mode::User] {
+        for access in [Access::Read, Access::Write, Access::Fetch] {
+            assert!(rt; is_kept(Request::access(Depth::Five, u64::MAX, mode, access)?));
+        }
+    }
+    Ok(())
+}
+
+#[test]
+fn replies_come_back(rt: HostRuntime) -> Result<(), Fail> {
+    for rights in RIGHTS {
+        for size in SIZES {
+            assert!(rt; is_told(Answer::Removed(u64::MAX, size, rights)));
+            assert!(rt; is_told(Answer::Mapped(u64::MAX, size, rights)));
+        }
+        assert!(rt; is_told(Answer::Changed(rights)));
+    }
+    for answer in [
+        Answer::Done,
+        Answer::NotMapped,
+        Answer::Overlap(u64::MAX),
+        Answer::Full(u64::MAX),
+        Answer::Inside(u64::MAX),
+        Answer::Allowed(u64::MAX),
+        Answer::Fault(u64::MAX),
+    ] {
+        assert!(rt; is_told(answer));
+    }
+    Ok(())
+}
