@@ -117,16 +117,20 @@ fn finds(found: Option<Page>, count: usize) -> Found {
     Ok(([found, None], count))
 }
 
-#[test]
-fn dumps_of_four_levels(rt: HostRuntime) -> Result<(), Fail> {
-    let case = |words, address, walk, found| Case {
+/// A case of four levels, from frame 1 on.
+fn four(words: [Word; 6], address: u64, walk: Walk, found: Found) -> Case {
+    Case {
         words,
         root: 1,
         depth: Depth::Four,
         address,
         walk,
         found,
-    };
+    }
+}
+
+#[test]
+fn dumps_of_four_levels(rt: HostRuntime) -> Result<(), Fail> {
     let fewer = Rights {
         write: true,
         user: false,
@@ -138,50 +142,36 @@ fn dumps_of_four_levels(rt: HostRuntime) -> Result<(), Fail> {
     halves[3] = (511, 0x80000085);
     let low = page(0x7FFFC0000000, Size::G1, 0x80000000, USER_AND_EXEC);
     let high = page(0xFFFF800000000000, Size::G1, 0x40000000, ALL);
+    let small = page(0x400000, Size::K4, 0x1000, fewer);
+    let large = page(0x200000, Size::M2, 0x200000, ALL);
+    let first = page(0xFFFF800000000000, Size::K4, 0x5000, ALL);
+    let small_walk = Walk::Mapped(0x1123, Size::K4, fewer);
+    let high_walk = Walk::Mapped(0x40000000, Size::G1, ALL);
+    let large_walk = Walk::Mapped(0x200000, Size::M2, ALL);
+    let first_walk = Walk::Mapped(0x5123, Size::K4, ALL);
     let cases = [
-        case(
-            three((2, 0x4003)),
-            0x400123,
-            Walk::Mapped(0x1123, Size::K4, fewer),
-            finds(page(0x400000, Size::K4, 0x1000, fewer), 4),
-        ),
-        case(
-            halves,
-            0xFFFF800000000000,
-            Walk::Mapped(0x40000000, Size::G1, ALL),
-            Ok(([low, high], 3)),
-        ),
-        case(
-            three((1, 0x202087)),
-            0x200000,
-            Walk::Reserved,
-            Err(WalkFault::Reserved(3, 1)),
-        ),
-        case(
-            three((1, 0x201087)),
-            0x200000,
-            Walk::Mapped(0x200000, Size::M2, ALL),
-            finds(page(0x200000, Size::M2, 0x200000, ALL), 3),
-        ),
-        case(
-            one((0, 0x1007)),
-            0,
-            Walk::Mapped(0x1000, Size::K4, ALL),
-            Err(WalkFault::Shared(1)),
-        ),
-        case(
-            one((0, 0x9007)),
-            0,
-            Walk::Missing,
-            Err(WalkFault::Missing(9)),
-        ),
-        case(one((0, 0)), 0, Walk::NotMapped, finds(None, 1)),
-        case(
-            HIGH,
-            0xFFFF800000000123,
-            Walk::Mapped(0x5123, Size::K4, ALL),
-            finds(page(0xFFFF800000000000, Size::K4, 0x5000, ALL), 4),
-        ),
+        four(three((2, 0x4003)), 0x400123, small_walk, finds(small, 4)),
+        four(halves, 0xFFFF800000000000, high_walk, Ok(([low, high], 3))),
+        four(three((1, 0x201087)), 0x200000, large_walk, finds(large, 3)),
+        four(one((0, 0)), 0, Walk::NotMapped, finds(None, 1)),
+        four(HIGH, 0xFFFF800000000123, first_walk, finds(first, 4)),
+    ];
+    for case in cases {
+        run(&rt, rt.alloc(), case)?;
+    }
+    Ok(())
+}
+
+#[test]
+fn faulty_dumps(rt: HostRuntime) -> Result<(), Fail> {
+    let reserved = Err(WalkFault::Reserved(3, 1));
+    let shared = Err(WalkFault::Shared(1));
+    let missing = Err(WalkFault::Missing(9));
+    let mapped = Walk::Mapped(0x1000, Size::K4, ALL);
+    let cases = [
+        four(three((1, 0x202087)), 0x200000, Walk::Reserved, reserved),
+        four(one((0, 0x1007)), 0, mapped, shared),
+        four(one((0, 0x9007)), 0, Walk::Missing, missing),
     ];
     for case in cases {
         run(&rt, rt.alloc(), case)?;
