@@ -6,7 +6,7 @@ use std::alloc::Global;
 use std::process::Abort;
 use std::test::Fail;
 use vs_types::{Depth, Memory, Page, Rights, Size};
-use vs_walk::{Dump, Frames, Walk, WalkFault, leaves, translate};
+use vs_walk::{Dump, Frames, Walk, WalkFault, are_zero, leaves, translate};
 
 const ALL: Rights = Rights::ALL;
 
@@ -236,5 +236,15 @@ fn gathered(rt: HostRuntime) -> Result<(), Fail> {
     assert!(rt; gathered.words(1).is_none());
     let words = gathered.words(4).ok_or("frame 4")?;
     assert_eq!(rt; *words, one_word((0, 0x5007)));
+    Ok(())
+}
+
+/// Eight words in a row, of which one or none is not 0.
+#[test]
+fn eight_zeros(rt: HostRuntime) -> Result<(), Fail> {
+    let words = one_word((300, 5));
+    assert!(rt; are_zero(&words, 0) && are_zero(&words, 292));
+    assert!(rt; !are_zero(&words, 293) && !are_zero(&words, 300));
+    assert!(rt; are_zero(&words, 301) && are_zero(&words, 504));
     Ok(())
 }

@@ -16,13 +16,14 @@ ghost use Rattle.vs_space.specs.Path.{found_at, entry_in, IsFirstPresent, HasPre
 ghost use Rattle.vs_space.specs.inside.Tree.{IsTree, IsReached, AreWritten};
 ghost use Rattle.vs_space.specs.Written.{IsWritten};
 ghost use Rattle.vs_space.specs.inside.Grow.{IsExtended, IsBelowRoot, IsLeastBase};
-ghost use Rattle.vs_space.specs.inside.Descent.{IsDescent};
+ghost use Rattle.vs_space.specs.inside.Descent.{EndsAt};
 
 use crate::descent::{Descent, PATH_LENGTH};
 use crate::word::read_written;
 use std::marker::Model;
 use vs_arena::{FRAME_WORDS, Frame, FrameStore};
 use vs_types::{Depth, Entry, Meaning, index_at};
+use vs_walk::are_zero;
 
 /// The frames of a store by number. Contracts see those in use, and how many there can be.
 #[derive(Drop)]
@@ -138,11 +139,7 @@ impl<S: FrameStore> Tables<S> {
         requires all_reached { IsReached (levels depth) self.now.memory root }
         requires some_level { 1 ≤ lowest }
         requires within { lowest ≤ levels depth }
-        ensures descent { IsDescent depth self.now.memory root address lowest result.level result.path (meaning result.level result.word) }
-        ensures last { result.number ≡ slice_index result.path result.level }
-        ensures written { IsWritten result.level result.word }
-        ensures some_level { 1 ≤ result.level }
-        ensures few_levels { result.level ≤ 5 }
+        ensures { EndsAt depth self.now.memory root address lowest result }
     {
         match depth {
             Depth::Four => self.descend_all(Depth::Four, root, address, lowest),
@@ -157,11 +154,7 @@ impl<S: FrameStore> Tables<S> {
         requires all_reached { IsReached (levels depth) self.now.memory root }
         requires some_level { 1 ≤ lowest }
         requires within { lowest ≤ levels depth }
-        ensures descent { IsDescent depth self.now.memory root address lowest result.level result.path (meaning result.level result.word) }
-        ensures last { result.number ≡ slice_index result.path result.level }
-        ensures written { IsWritten result.level result.word }
-        ensures some_level { 1 ≤ result.level }
-        ensures few_levels { result.level ≤ 5 }
+        ensures { EndsAt depth self.now.memory root address lowest result }
     {
         let mut level = depth.levels();
         let mut number = root;
@@ -309,23 +302,6 @@ impl<S: FrameStore> Tables<S> {
             level -= 1;
         }
     }
-}
-
-/// Whether the eight words from this index on are 0.
-#[inline]
-fn are_zero(words: &[u64; FRAME_WORDS], at: usize) -> bool
-    requires { at + 8 ≤ FRAME_WORDS }
-    ensures zero { IsTrue result → (i : ℕ) → i < 8 → slice_index words.now (at + i) ≡ 0 }
-    ensures other { IsFalse result → (i : ℕ) × (i < FRAME_WORDS) × (slice_index words.now i ≢ 0) }
-{
-    (words[at] == 0)
-        & (words[at + 1] == 0)
-        & (words[at + 2] == 0)
-        & (words[at + 3] == 0)
-        & (words[at + 4] == 0)
-        & (words[at + 5] == 0)
-        & (words[at + 6] == 0)
-        & (words[at + 7] == 0)
 }
 
 /// The frame in use with this number.

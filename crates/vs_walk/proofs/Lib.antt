@@ -2,6 +2,7 @@ pub mod Dumps
 pub mod Walks
 pub mod Gathered
 pub mod ReachedNumbers
+pub mod EightWords
 pub mod TraversalPlaces
 pub mod TraversalVisits
 pub mod TraversalWords

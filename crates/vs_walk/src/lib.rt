@@ -13,6 +13,7 @@ pub mod pages;
 mod reached;
 mod traversal;
 mod walk;
+mod zeros;
 
 pub use dump::Dump;
 pub use frames::Frames;
@@ -21,3 +22,4 @@ pub use reached::Reached;
 pub use traversal::{PageVisitor, traverse};
 pub use vs_types::FRAME_WORDS;
 pub use walk::{Walk, WalkFault, translate};
+pub use zeros::are_zero;

@@ -1,4 +1,4 @@
-ghost use Rattle.std.specs.Prelude.{◌≡◌, ◌+◌, ◌-◌, ◌*◌, ◌<◌, ◌≤◌, List, Some, None, IfOk, IfErr, OnOk, IsTrue, length, ◌++◌, ◌∷◌, []};
+ghost use Rattle.std.specs.Prelude.{◌≡◌, ◌+◌, ◌-◌, ◌*◌, ◌<◌, ◌≤◌, List, Some, None, IfOk, IfErr, OnOk, length, ◌++◌, ◌∷◌, []};
 ghost use Rattle.vs_types.specs.declared.page.Page.{Page};
 ghost use Rattle.vs_types.specs.declared.frame.TheConstants.{FRAME_WORDS};
 ghost use Rattle.vs_types.specs.Depth.{half_bytes, entry_bytes};
@@ -12,6 +12,7 @@ ghost use Rattle.vs_walk.specs.inside.Traversed.{AreZeros, Fits, GoesOn, Stops, 
 use crate::frames::Frames;
 use crate::reached::{Marks, Reached};
 use crate::walk::WalkFault;
+use crate::zeros::are_zero;
 use std::alloc::Global;
 use vs_types::{Depth, Entry, FRAME_WORDS, Fail, Meaning, Memory, Page, Rights, Size};
 
@@ -96,22 +97,6 @@ fn table_words(words: &[u64; FRAME_WORDS]) -> &[u64]
     ensures whole { length result.now ≡ FRAME_WORDS }
 {
     words
-}
-
-/// Whether the eight words from this index on are 0.
-#[inline]
-fn are_zero(words: &[u64], at: usize) -> bool
-    requires { at + 8 ≤ length words.now }
-    ensures { IsTrue result → AreZeros words.now at (at + 8) }
-{
-    (words[at] == 0)
-        & (words[at + 1] == 0)
-        & (words[at + 2] == 0)
-        & (words[at + 3] == 0)
-        & (words[at + 4] == 0)
-        & (words[at + 5] == 0)
-        & (words[at + 6] == 0)
-        & (words[at + 7] == 0)
 }
 
 /// The index of the first word from `start` on that is not 0, or that of the end. It passes zeros eight at a time.

@@ -5,6 +5,7 @@ use Rattle.vs_types.specs.Entry.{meaning}
 use Rattle.vs_types.specs.declared.depth.Depth.{Depth}
 use Rattle.vs_types.specs.declared.entry.Meaning.{Meaning}
 use Rattle.vs_walk.specs.Memory.{Memory}
+use Rattle.vs_space.specs.declared.descent.Descent.{Descent}
 use Rattle.vs_space.specs.Path.{found_at, table_at, table_in}
 use Rattle.vs_space.specs.Table.{PageTable}
 use Rattle.vs_space.specs.Written.{IsWritten}
@@ -17,6 +18,14 @@ pub record IsDescent (depth : Depth) (memory : Memory) (root address lowest leve
   pub reached : (j : ℕ) → level ≤ j → j ≤ levels depth → table_at (levels depth) memory root j address ≡ Some (slice_index path j)
   pub is : found_at level memory (slice_index path level) address ≡ Some found
   pub ends : lowest < level → table_in (Some found) ≡ None
+
+-- a descent ends so: at a word as it is written of a table that is reached
+pub record EndsAt (depth : Depth) (memory : Memory) (root address lowest : ℕ) (end : Descent) : Type 0 where
+  pub descent : IsDescent depth memory root address lowest end.level end.path (meaning end.level end.word)
+  pub last : end.number ≡ slice_index end.path end.level
+  pub written : IsWritten end.level end.word
+  pub some_level : 1 ≤ end.level
+  pub few_levels : end.level ≤ 5
 
 -- a descent through a page table, which goes on as far as it can, has ended at this level, at this word of the table with this number
 pub record HasEnded (t : PageTable) (address level number word : ℕ) (path : List ℕ) : Type 0 where

@@ -1,4 +1,5 @@
 use Rattle.std.proofs.Common.{refl, sym, ◌∙◌, arith}
+use Rattle.vs_walk.proofs.Walks.{few_levels}
 use Rattle.vs_space.proofs.Descents.{at_root, all_root, goes_down, written_on_path, entry_read, stops, no_table}
 use Rattle.vs_space.proofs.tables.Tables.descend_all.Goals as goal
 
@@ -10,28 +11,27 @@ loop-level-preserved g c = goes_down c.loop-level.invariant c.requires.some_leve
     (entry_read c.loop-level.level _ c.loop-level.number c.args.address c.word-word.ensures c.index_at.ensures.is c.in-Table.ensures)
     (λ e. c.if-level-lowest.false (sym e))
 
-pub returns-then-level-lowest-clause-descent : goal.returns-then-level-lowest-clause-descent
-returns-then-level-lowest-clause-descent g c = stops c.loop-level.invariant
-    (entry_read c.loop-level.level _ c.loop-level.number c.args.address c.word-word.ensures c.index_at.ensures.is refl)
-    (λ deep. absurd (omega (arith, c.if-level-lowest.true, deep)))
+pub returns-then-level-lowest : goal.returns-then-level-lowest
+returns-then-level-lowest g c = record {
+  descent = stops c.loop-level.invariant
+      (entry_read c.loop-level.level _ c.loop-level.number c.args.address c.word-word.ensures c.index_at.ensures.is refl)
+      (λ deep. absurd (omega (arith, c.if-level-lowest.true, deep)));
+  last = c.loop-level.invariant.last;
+  written = written_on_path c.loop-level.invariant c.requires.tree c.requires.all_reached _ _ c.word-word.ensures;
+  some_level = omega (arith, c.requires.some_level, c.loop-level.invariant.above);
+  few_levels = omega (arith, c.loop-level.invariant.below, few_levels c.args.depth);
+}
 
-pub returns-in_default-clause-descent : goal.returns-in_default-clause-descent
-returns-in_default-clause-descent g c = stops c.loop-level.invariant
-    (entry_read c.loop-level.level _ c.loop-level.number c.args.address c.word-word.ensures c.index_at.ensures.is refl)
-    (λ deep. no_table _ (λ n own e. c.in_default.not-Table n own (c.read_written.ensures ∙ e)))
-
-pub returns-then-level-lowest-clause-written : goal.returns-then-level-lowest-clause-written
-returns-then-level-lowest-clause-written g c =
-    written_on_path c.loop-level.invariant c.requires.tree c.requires.all_reached _ _ c.word-word.ensures
-
-pub returns-in_default-clause-written : goal.returns-in_default-clause-written
-returns-in_default-clause-written g c = written_on_path c.loop-level.invariant c.requires.tree c.requires.all_reached _ _ c.word-word.ensures
+pub returns-in_default : goal.returns-in_default
+returns-in_default g c = record {
+  descent = stops c.loop-level.invariant
+      (entry_read c.loop-level.level _ c.loop-level.number c.args.address c.word-word.ensures c.index_at.ensures.is refl)
+      (λ deep. no_table _ (λ n own e. c.in_default.not-Table n own (c.read_written.ensures ∙ e)));
+  last = c.loop-level.invariant.last;
+  written = written_on_path c.loop-level.invariant c.requires.tree c.requires.all_reached _ _ c.word-word.ensures;
+  some_level = omega (arith, c.requires.some_level, c.loop-level.invariant.above);
+  few_levels = omega (arith, c.loop-level.invariant.below, few_levels c.args.depth);
+}
 
 pub read_written-requires-clause-written : goal.read_written-requires-clause-written
 read_written-requires-clause-written g c = written_on_path c.loop-level.invariant c.requires.tree c.requires.all_reached _ _ c.word-word.ensures
-
-pub returns-then-level-lowest-clause-last : goal.returns-then-level-lowest-clause-last
-returns-then-level-lowest-clause-last g c = c.loop-level.invariant.last
-
-pub returns-in_default-clause-last : goal.returns-in_default-clause-last
-returns-in_default-clause-last g c = c.loop-level.invariant.last

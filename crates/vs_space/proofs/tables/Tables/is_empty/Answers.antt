@@ -24,10 +24,10 @@ returns-then-not-are_zero-clause-present g c = λ _.
     let own = ap (λ (h : Held). finite.get h.memory c.args.number) (sym c.self.view_is)
     ∙ some_at _ _ c.args.number _ c.frame_of.ensures.numbered c.frame_of.ensures.in_use ∙ ap Some (sym c.frame-words.ensures) in
     let other = c.are_zero.ensures.other c.if-not-are_zero.true in
-    entry_other c.args.level c.args.self.now.memory c.args.number other.0 c.frame-words.result.now own c.requires.written other.1 other.2
+    entry_other c.args.level c.args.self.now.memory c.args.number other.0 c.frame-words.result.now own c.requires.written (omega arith) other.3
 
 pub loop-group-preserved : goal.loop-group-preserved
-loop-group-preserved g c = eight_more c.frame-words.result.now c.loop-group.group c.loop-group.invariant (c.are_zero.ensures.zero c.if-not-are_zero.false)
+loop-group-preserved g c = eight_more c.frame-words.result.now c.loop-group.group c.loop-group.invariant (c.are_zero.ensures.zeros c.if-not-are_zero.false)
 
 pub returns-clause-empty : goal.returns-clause-empty
 returns-clause-empty g c = λ _ i lt.
