@@ -14,7 +14,7 @@ mod reached;
 mod traversal;
 mod walk;
 
-pub use dump::Dump;
+pub use dump::{Dump, OpenDump};
 pub use frames::Frames;
 pub use listing::leaves;
 pub use reached::Reached;
