@@ -1,12 +1,11 @@
 -- A reader where bytes are missing, or stand after the end.
-use Rattle.std.proofs.Common.{◌≡◌, ◌≢◌, ℕ, zero, suc, ◌+◌, ◌*◌, ◌-◌, ◌<◌, ◌≤◌, Bool, true, false, List, [], length, take, Option, Some, None, refl, sym, ap}
-use Rattle.std.proofs.Common.{subst, ◌∙◌, arith, inl}
+use Rattle.std.proofs.Common.{◌≡◌, ◌≢◌, ℕ, zero, suc, ◌+◌, ◌*◌, ◌-◌, ◌<◌, ◌≤◌, Bool, true, false, List, [], length, Option, Some, None, refl, sym}
+use Rattle.std.proofs.Common.{subst, arith, inl}
 use Rattle.std.specs.Prelude.{nat_lt, if◌then◌else◌, MatchOption}
 use Rattle.std.proofs.lemmas.Bool.{ltb-true, ltb-false}
-use Rattle.std.proofs.lemmas.List.{length-append, length-take-le}
+use Rattle.std.proofs.lemmas.List.{length-append}
 use Rattle.std.specs.Int.{w64, to_be_bytes}
 use Rattle.vs_types.specs.Config.{Layout}
-use Rattle.vs_types.specs.Frame.{IsFrame}
 use Rattle.nr_trace.specs.Recording.{Recording}
 use Rattle.nr_trace.specs.Spelling.{Spells}
 use Rattle.nr_trace.specs.FirstFault.{AtFrames, AtDumps, AtEvents, AtLog}
@@ -55,9 +54,8 @@ unfolding AtFrames
 short_frame replica index zero last Behind rest some short = absurd (omega arith)
 short_frame replica index (suc frames) last Behind rest some short = inl (short, refl)
 
-length_begun : (frame : OpenFrame) → IsFrame frame.words.value → frame.filled < 512 → length (words_begun frame) ≡ 8 * frame.filled
-length_begun frame whole few = length_of_units (to_be_bytes w64) 8 (λ n. refl) (take frame.filled frame.words.value)
-    ∙ ap (λ n. 8 * n) (length-take-le frame.filled frame.words.value (omega (arith, whole.whole)))
+length_begun : (frame : OpenFrame) → length (words_begun frame) ≡ 8 * length frame.dump.coming
+length_begun frame = length_of_units (to_be_bytes w64) 8 (λ n. refl) frame.dump.coming
 
 pub too_short : (reader : Reader) (len : ℕ) (rest : List ℕ) → IsReady reader → unit_bytes reader ≡ Some len → length rest < len → Ahead reader rest Truncated
 too_short (Magic alloc) len rest ready is short = inl (omega (arith, some_is 4 len is), refl)
@@ -70,10 +68,10 @@ too_short (Dumps parts) len rest ready is short =
     let given = chosen (nat_lt (length parts.dumps.items) parts.config.replicas) 16 len is in
     let one_left : length parts.dumps.items < parts.config.replicas = ltb-true _ _ given.0 in
     short_head (length parts.dumps.items + 0) (parts.config.replicas - (length parts.dumps.items + 0)) rest (omega arith) (omega (arith, given.1))
-too_short (Frame parts opened last room) len rest ready is short =
+too_short (Frame parts opened last) len rest ready is short =
     short_frame (length parts.dumps.items) _ opened.left last _ rest ready.0.some_left (omega (arith, some_is 8 len is))
-too_short (Words parts opened frame) len rest ready is short =
-    inl (omega (arith, some_is 8 len is, ready.4, length-append (words_begun frame) rest, length_begun frame ready.3 ready.4), refl)
+too_short (Words parts frame) len rest ready is short =
+    inl (omega (arith, some_is 8 len is, ready.4, length-append (words_begun frame) rest, length_begun frame), refl)
 
 -- ---- no unit is left
 
@@ -90,8 +88,8 @@ too_long (Events parts events) rest is more = absurd cc
 too_long (Dumps parts) rest is more =
     let all : parts.config.replicas ≤ length parts.dumps.items = ltb-false _ _ (not_chosen (nat_lt (length parts.dumps.items) parts.config.replicas) 16 is) in
     at_end (length parts.dumps.items + 0) (parts.config.replicas - (length parts.dumps.items + 0)) rest (omega arith) more
-too_long (Frame parts opened last room) rest is more = absurd cc
-too_long (Words parts opened frame) rest is more = absurd cc
+too_long (Frame parts opened last) rest is more = absurd cc
+too_long (Words parts frame) rest is more = absurd cc
 
 pub some_bytes : (reader : Reader) (len : ℕ) → unit_bytes reader ≡ Some len → 1 ≤ len
 some_bytes (Magic alloc) len is = omega (arith, some_is 4 len is)
@@ -100,8 +98,8 @@ some_bytes (Header alloc version) len is = omega (arith, some_is 14 len is)
 some_bytes (Log parts places events) len is = omega (arith, some_is 4 len is)
 some_bytes (Events parts events) len is = omega (arith, some_is 24 len is)
 some_bytes (Dumps parts) len is = omega (arith, (chosen (nat_lt (length parts.dumps.items) parts.config.replicas) 16 len is).1)
-some_bytes (Frame parts opened last room) len is = omega (arith, some_is 8 len is)
-some_bytes (Words parts opened frame) len is = omega (arith, some_is 8 len is)
+some_bytes (Frame parts opened last) len is = omega (arith, some_is 8 len is)
+some_bytes (Words parts frame) len is = omega (arith, some_is 8 len is)
 
 -- a reader of which no unit is left has read a trace
 pub ready_to_end : (reader : Reader) → IsReady reader → unit_bytes reader ≡ None → (trace : Recording) × Spells (said reader) trace
@@ -127,8 +125,8 @@ ready_to_end (Dumps parts) ready is =
         spelled = refl;
       },
     )
-ready_to_end (Frame parts opened last room) ready is = absurd cc
-ready_to_end (Words parts opened frame) ready is = absurd cc
+ready_to_end (Frame parts opened last) ready is = absurd cc
+ready_to_end (Words parts frame) ready is = absurd cc
 
 -- ---- runs
 
@@ -152,8 +150,8 @@ one_unit (Events parts events) len ready is = record {
 one_unit (Dumps parts) len ready is =
     let given = chosen (nat_lt (length parts.dumps.items) parts.config.replicas) 16 len is in
     (ltb-true _ _ given.0, sym given.1)
-one_unit (Frame parts opened last room) len ready is = sym (some_is 8 len is)
-one_unit (Words parts opened frame) len ready is = record {
+one_unit (Frame parts opened last) len ready is = sym (some_is 8 len is)
+one_unit (Words parts frame) len ready is = record {
   count = 1;
   some = omega arith;
   few = omega (arith, ready.4);

@@ -248,3 +248,27 @@ fn eight_zeros(rt: HostRuntime) -> Result<(), Fail> {
     assert!(rt; are_zero(&words, 301) && are_zero(&words, 504));
     Ok(())
 }
+
+/// A frame that comes to a dump word by word.
+#[test]
+fn frame_by_words(rt: HostRuntime) -> Result<(), Fail> {
+    let mut dump = Dump::new(rt.alloc(), 7, 1);
+    dump.push(1, &one_word((0, 0x2007)))?;
+    let mut dump = dump.begin_frame(2)?;
+    for word in 0..512 {
+        if dump.words_come() < 512 {
+            dump.push(word);
+        }
+    }
+    assert_eq!(rt; (dump.number(), dump.words_come()), (2, 512));
+    if dump.words_come() < 512 {
+        return Err("words that did not come".into());
+    }
+    let dump = dump.end_frame();
+    assert_eq!(rt; (dump.applied(), dump.root(), dump.count()), (7, 1, 2));
+    let words = dump.words(1).ok_or("frame 1")?;
+    assert_eq!(rt; *words, one_word((0, 0x2007)));
+    let words = dump.words(2).ok_or("frame 2")?;
+    assert_eq!(rt; (words[0], words[1], words[511]), (0, 1, 511));
+    Ok(())
+}

@@ -1,4 +1,5 @@
 pub mod Dumps
+pub mod Kept
 pub mod Walks
 pub mod Gathered
 pub mod ReachedNumbers

@@ -17,6 +17,16 @@ abbrev pub image_code : Coded Image
 image_code = code_by (ℕ × (ℕ × Memory)) (coded× coded_ℕ (coded× coded_ℕ (finite.code {R = nat_cmp} coded_ℕ (coded_list coded_ℕ))))
     (λ d. (d.applied, (d.root, d.frames))) (λ p. record { applied = p.0; root = p.1.0; frames = p.1.1 }) (λ _. refl)
 
+-- a dump, and of one frame more its number and the words that have come
+pub record OpenImage : Type 0 where
+  pub dump : Image
+  pub number : ℕ
+  pub coming : List ℕ
+
+abbrev pub open_image_code : Coded OpenImage
+open_image_code = code_by (Image × (ℕ × List ℕ)) (coded× image_code (coded× coded_ℕ (coded_list coded_ℕ)))
+    (λ d. (d.dump, (d.number, d.coming))) (λ p. record { dump = p.0; number = p.1.0; coming = p.1.1 }) (λ _. refl)
+
 -- what the parts of a dump are: at most 4,096 frames, whose numbers rise
 pub record AreParts (applied root : ℕ) (frames : List (ℕ × List ℕ)) : Type 0 where
   pub applied_fits : applied < 2 ^ 32

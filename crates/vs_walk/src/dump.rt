@@ -1,5 +1,6 @@
-ghost use Rattle.std.specs.Prelude.{◌≡◌, ◌+◌, ◌<◌, ◌^◌, [], ◌∷◌, ◌++◌, All, OnOk, OnErr, slice_index};
+ghost use Rattle.std.specs.Prelude.{◌≡◌, ◌+◌, ◌<◌, ◌≤◌, ◌^◌, [], ◌∷◌, ◌++◌, length, All, IfOk, OnOk, OnErr, slice_index};
 ghost use Rattle.std.specs.FinMap as finite;
+ghost use Rattle.vs_types.specs.declared.frame.TheConstants.{FRAME_WORDS};
 ghost use Rattle.vs_types.specs.declared.limits.TheConstants.{TABLES};
 ghost use Rattle.vs_types.specs.Frame.{IsFrame};
 ghost use Rattle.vs_walk.specs.Dump.{IsDump};
@@ -16,35 +17,25 @@ fn are_whole(words: &[u64; FRAME_WORDS])
     let _lent = words.iter();
 }
 
-/// The words of one frame as a list of frames.
-fn one_frame(words: &[u64; FRAME_WORDS]) -> &[[u64; FRAME_WORDS]]
-    ensures { result.now ≡ words.now ∷ [] }
-{
-    let (frames, _) = words.as_chunks::<FRAME_WORDS>();
-    frames
-}
-
 /// The page table of a replica as it was after some entries of the log. It keeps its frames by rising number, the numbers
-/// in one list and the words in another.
+/// in one list and the words of all frames in another.
 #[derive(Debug, Drop)]
 pub struct Dump {
     applied: u32,
     root: u64,
     numbers: Vec<u64>,
-    words: Vec<[u64; FRAME_WORDS]>,
+    words: Vec<u64>,
 }
 
 impl Model for Dump {
-    ghost use Rattle.std.specs.Prelude.{zip};
-    ghost use Rattle.std.specs.FinMap as finite;
     ghost use Rattle.vs_walk.specs.Dump.{Image, image_code};
-    ghost use Rattle.vs_walk.specs.inside.Kept.{AreKept};
+    ghost use Rattle.vs_walk.specs.inside.Kept.{AreKept, kept};
 
     ghost Value = { Image };
 
     ghost coded = { image_code };
 
-    ghost view = { λ d. record { applied = d.applied; root = d.root; frames = finite.from_sorted (zip d.numbers.items d.words.items) } };
+    ghost view = { λ d. kept d.applied d.root d.numbers.items d.words.items };
 
     ghost invariant = { λ d. AreKept d.applied d.root d.numbers.items d.words.items };
 }
@@ -78,7 +69,7 @@ impl Dump {
     {
         are_whole(words);
         self.numbers.reserve(1)?;
-        self.words.extend_from_slice(one_frame(words))?;
+        self.words.extend_from_slice(words)?;
         self.numbers.push(number)?;
         Ok(())
     }
@@ -88,11 +79,37 @@ impl Dump {
     pub fn make_room(&mut self, frames: usize) -> Result<(), Memory>
         ensures { self.new ≡ self.old }
     {
-        if self.words.len() == self.words.capacity() {
-            self.words.reserve_exact(frames)?;
+        if self.words.capacity() - self.words.len() < FRAME_WORDS {
+            self.words
+                .reserve_exact(frames.saturating_mul(FRAME_WORDS))?;
             self.numbers.reserve_exact(frames)?;
         }
         Ok(())
+    }
+
+    /// The dump with one frame more coming, of which there is no word yet. The number is above those of all that are held
+    /// and below 2^40. It takes memory where there is no room for a frame more.
+    pub fn begin_frame(self, number: u64) -> Result<OpenDump, Memory>
+        requires above { All (λ held. held < number) (finite.keys self.frames) }
+        requires in_range { number < 2 ^ 40 }
+        requires room { finite.len self.frames < TABLES }
+        ensures { IfOk result (λ opened. opened ≡ record { dump = self; number = number; coming = [] }) }
+    {
+        let Dump {
+            applied,
+            root,
+            mut numbers,
+            mut words,
+        } = self;
+        numbers.reserve(1)?;
+        words.reserve(FRAME_WORDS)?;
+        Ok(OpenDump {
+            applied,
+            root,
+            numbers,
+            words,
+            number,
+        })
     }
 
     /// How many entries of the log the table has taken.
@@ -130,9 +147,87 @@ impl Frames for Dump {
     ghost memory = { λ d. d.frames };
 
     fn words(&self, number: u64) -> Option<&[u64; FRAME_WORDS]> {
+        let (frames, _) = self.words.as_chunks::<FRAME_WORDS>();
         match self.numbers.binary_search(&number) {
-            Ok(k) => Some(&self.words[k]),
+            Ok(k) => Some(&frames[k]),
             Err(_) => None,
+        }
+    }
+}
+
+/// A dump to which one frame more is coming, word by word. The words are written where they stay, behind those of the
+/// frames that it has.
+#[derive(Debug, Drop)]
+pub struct OpenDump {
+    applied: u32,
+    root: u64,
+    numbers: Vec<u64>,
+    words: Vec<u64>,
+    number: u64,
+}
+
+impl Model for OpenDump {
+    ghost use Rattle.std.specs.Prelude.{◌*◌, drop, length};
+    ghost use Rattle.vs_walk.specs.Dump.{OpenImage, open_image_code};
+    ghost use Rattle.vs_walk.specs.inside.Kept.{AreOpen, kept};
+
+    ghost Value = { OpenImage };
+
+    ghost coded = { open_image_code };
+
+    ghost view = { λ d. record {
+      dump = kept d.applied d.root d.numbers.items d.words.items;
+      number = d.number;
+      coming = drop (512 * length d.numbers.items) d.words.items;
+    } };
+
+    ghost invariant = { λ d. AreOpen d.applied d.root d.numbers d.words d.number };
+}
+
+impl OpenDump {
+    /// The number of the frame that is coming.
+    pub fn number(&self) -> u64
+        ensures { result ≡ self.now.number }
+    {
+        self.number
+    }
+
+    /// How many of its words have come: 0 to 512.
+    pub fn words_come(&self) -> usize
+        ensures reads { result ≡ length self.now.coming }
+        ensures few { result ≤ FRAME_WORDS }
+    {
+        self.words.len() - self.numbers.len() * FRAME_WORDS
+    }
+
+    /// Adds the next word of the frame. It takes no memory.
+    pub fn push(&mut self, word: u64)
+        requires { length self.old.coming < FRAME_WORDS }
+        ensures { self.new ≡ record self.old { coming = self.old.coming ++ word ∷ [] } }
+    {
+        self.words.push_reserved(word);
+    }
+
+    /// The dump with the frame, whose words have all come. It takes no memory and copies no word.
+    pub fn end_frame(self) -> Dump
+        requires { length self.coming ≡ FRAME_WORDS }
+        ensures made { result ≡ record self.dump { frames = finite.insert self.dump.frames self.number self.coming } }
+        ensures numbers { finite.keys result.frames ≡ finite.keys self.dump.frames ++ self.number ∷ [] }
+        ensures count { finite.len result.frames ≡ finite.len self.dump.frames + 1 }
+    {
+        let OpenDump {
+            applied,
+            root,
+            mut numbers,
+            words,
+            number,
+        } = self;
+        numbers.push_reserved(number);
+        Dump {
+            applied,
+            root,
+            numbers,
+            words,
         }
     }
 }

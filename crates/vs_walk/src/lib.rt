@@ -15,7 +15,7 @@ mod traversal;
 mod walk;
 mod zeros;
 
-pub use dump::Dump;
+pub use dump::{Dump, OpenDump};
 pub use frames::Frames;
 pub use listing::leaves;
 pub use reached::Reached;

@@ -1,5 +1,5 @@
 -- How far a reader has come: what it has read, and what would be wrong with the bytes ahead.
-use Rattle.std.specs.Prelude.{◌≡◌, ℕ, ◌+◌, ◌*◌, ◌-◌, ◌<◌, ◌≤◌, ◌^◌, ◌++◌, nat_lt, List, [], length, take, flat_map, All, Option, Some, None, Result}
+use Rattle.std.specs.Prelude.{◌≡◌, ℕ, ◌+◌, ◌*◌, ◌-◌, ◌<◌, ◌≤◌, ◌^◌, ◌++◌, nat_lt, List, [], length, flat_map, All, Option, Some, None, Result}
 use Rattle.std.specs.Prelude.{MatchResult, ⊤, if◌then◌else◌}
 use Rattle.std.specs.FinMap as finite
 use Rattle.vs_types.specs.Config.{IsLayout}
@@ -26,8 +26,8 @@ unit_bytes (Header alloc version) = Some 14
 unit_bytes (Log parts places events) = Some 4
 unit_bytes (Events parts events) = Some 24
 unit_bytes (Dumps parts) = if nat_lt (length parts.dumps.items) parts.config.replicas then Some 16 else None
-unit_bytes (Frame parts opened last room) = Some 8
-unit_bytes (Words parts opened frame) = Some 8
+unit_bytes (Frame parts opened last) = Some 8
+unit_bytes (Words parts frame) = Some 8
 
 -- at least one unit of this many bytes, and at most so many
 pub record AreUnits (unit most bytes : ℕ) : Type 0 where
@@ -44,8 +44,8 @@ IsRun (Header alloc version) bytes = bytes ≡ 14
 IsRun (Log parts places events) bytes = AreUnits 4 places bytes
 IsRun (Events parts events) bytes = AreUnits 24 events bytes
 IsRun (Dumps parts) bytes = (length parts.dumps.items < parts.config.replicas) × (bytes ≡ 16)
-IsRun (Frame parts opened last room) bytes = bytes ≡ 8
-IsRun (Words parts opened frame) bytes = AreUnits 8 (512 - frame.filled) bytes
+IsRun (Frame parts opened last) bytes = bytes ≡ 8
+IsRun (Words parts frame) bytes = AreUnits 8 (512 - length frame.dump.coming) bytes
 
 -- the spelling of the parts, where there are so many places and events in all
 abbrev pub parts_spelling : ℕ → ℕ → Parts → List ℕ
@@ -62,12 +62,20 @@ opened_spelling opened =
     dump_head (record { applied = opened.dump.applied; frames = finite.len opened.dump.frames + opened.left; root = opened.dump.root })
     ++ flat_map (λ frame. frame_number frame.0 ++ frame_words frame.1) (finite.entries opened.dump.frames)
 
--- the same up to the words of the next frame, and the words of it that have come
-abbrev pub frame_begun : Parts → Opened → ℕ → List ℕ
-frame_begun parts opened number = whole_spelling parts ++ opened_spelling opened ++ frame_number number
+-- the dump without the frame that is coming, and how many frames it lacks then
+abbrev pub opened_of : OpenFrame → Opened
+opened_of frame = record { dump = frame.dump.dump; left = frame.left }
+
+-- the dump with a frame of this number coming, of which there is no word
+abbrev pub begun : Opened → ℕ → OpenFrame
+begun opened number = record { dump = record { dump = opened.dump; number = number; coming = [] }; left = opened.left }
+
+-- the spelling up to the words of the frame that is coming, and the words of it that have come
+abbrev pub frame_begun : Parts → OpenFrame → List ℕ
+frame_begun parts frame = whole_spelling parts ++ opened_spelling (opened_of frame) ++ frame_number frame.dump.number
 
 abbrev pub words_begun : OpenFrame → List ℕ
-words_begun frame = frame_words (take frame.filled frame.words.value)
+words_begun frame = frame_words frame.dump.coming
 
 -- the bytes that were read
 abbrev pub said : Reader → List ℕ
@@ -77,18 +85,18 @@ said (Header alloc version) = magic ++ version_word version
 said (Log parts places events) = parts_spelling (length parts.log.items + places) events parts
 said (Events parts events) = parts_spelling (length parts.log.items) (length parts.events.items + events) parts
 said (Dumps parts) = whole_spelling parts
-said (Frame parts opened last room) = whole_spelling parts ++ opened_spelling opened
-said (Words parts opened frame) = frame_begun parts opened frame.number ++ words_begun frame
+said (Frame parts opened last) = whole_spelling parts ++ opened_spelling opened
+said (Words parts frame) = frame_begun parts frame ++ words_begun frame
 
 -- the faults of the bytes after the dumps that there are
 abbrev pub BehindDumps : Parts → ℕ → List ℕ → Format → Type 0
 BehindDumps parts more = AtDumps (length parts.dumps.items + more) (parts.config.replicas - (length parts.dumps.items + more))
 
--- the faults of the bytes after the number of a frame
-abbrev pub AtWords : Parts → Opened → ℕ → List ℕ → Format → Type 0
-AtWords parts opened number rest fault =
+-- the faults of the bytes after the number of the frame that is coming
+abbrev pub AtWords : Parts → OpenFrame → List ℕ → Format → Type 0
+AtWords parts frame rest fault =
     AtUnit 4096 None IsFrame frame_words (λ words.
-    AtFrames (length parts.dumps.items) (finite.len opened.dump.frames + 1) (opened.left - 1) (Some number) (BehindDumps parts 1))
+    AtFrames (length parts.dumps.items) (finite.len frame.dump.dump.frames + 1) (frame.left - 1) (Some frame.dump.number) (BehindDumps parts 1))
     rest fault
 
 -- the fault of the bytes ahead
@@ -99,9 +107,9 @@ Ahead (Header alloc version) rest fault = AtCounts version rest fault
 Ahead (Log parts places events) rest fault = AtLog parts.version parts.config places events rest fault
 Ahead (Events parts events) rest fault = AtEvents parts.version parts.config (length parts.events.items) events rest fault
 Ahead (Dumps parts) rest fault = BehindDumps parts 0 rest fault
-Ahead (Frame parts opened last room) rest fault =
+Ahead (Frame parts opened last) rest fault =
     AtFrames (length parts.dumps.items) (finite.len opened.dump.frames) opened.left last (BehindDumps parts 1) rest fault
-Ahead (Words parts opened frame) rest fault = AtWords parts opened frame.number (words_begun frame ++ rest) fault
+Ahead (Words parts frame) rest fault = AtWords parts frame (words_begun frame ++ rest) fault
 
 -- parts in their ranges
 pub record AreInRange (parts : Parts) : Type 0 where
@@ -138,10 +146,10 @@ IsReady (Log parts places events) =
     AreInRange parts × (1 ≤ places) × (length parts.log.items + places ≤ LOG_PLACES) × (events ≤ CALLS) × (parts.events.items ≡ []) × (parts.dumps.items ≡ [])
 IsReady (Events parts events) = AreInRange parts × (1 ≤ events) × (length parts.events.items + events ≤ CALLS) × (parts.dumps.items ≡ [])
 IsReady (Dumps parts) = AreInRange parts
-IsReady (Frame parts opened last room) =
-    IsOpened parts opened × ((number : ℕ) → IsNext last number → AreBelow opened number) × IsFrame room.value
-IsReady (Words parts opened frame) =
-    IsOpened parts opened × (frame.number < 2 ^ 40) × AreBelow opened frame.number × IsFrame frame.words.value × (frame.filled < 512)
+IsReady (Frame parts opened last) = IsOpened parts opened × ((number : ℕ) → IsNext last number → AreBelow opened number)
+IsReady (Words parts frame) =
+    IsOpened parts (opened_of frame) × (frame.dump.number < 2 ^ 40) × AreBelow (opened_of frame) frame.dump.number
+    × All (λ word. word < 2 ^ 64) frame.dump.coming × (length frame.dump.coming < 512)
 
 -- the reader has read these bytes, and a fault of the bytes ahead is one by this relation
 pub record HasRead (bytes : List ℕ) (Behind : List ℕ → Format → Type 0) (reader : Reader) : Type 0 where

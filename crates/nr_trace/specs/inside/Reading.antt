@@ -6,9 +6,10 @@ use Rattle.vs_types.specs.declared.depth.Depth.{Depth}
 use Rattle.vs_types.specs.declared.fields.RequestFields.{RequestFields}
 use Rattle.vs_types.specs.declared.request.Query.{Query}
 use Rattle.vs_types.specs.declared.answer.Answer.{Answer}
+use Rattle.vs_walk.specs.Dump.{OpenImage}
 use Rattle.nr_trace.specs.Versions.{KnowsQuery, KnowsAnswer}
 use Rattle.nr_trace.specs.Recording.{IsAnswer, IsEvent}
-use Rattle.nr_trace.specs.Spelling.{answer_fields, counts, log_word, event, dump_head}
+use Rattle.nr_trace.specs.Spelling.{answer_fields, counts, log_word, event, dump_head, frame_words}
 use Rattle.nr_trace.specs.FirstFault.{IsCounts, IsDumpHead}
 use Rattle.nr_trace.specs.declared.version.Version.{Version}
 use Rattle.nr_trace.specs.declared.fields.AnswerFields.{AnswerFields}
@@ -71,3 +72,9 @@ pub record IsBadEvent (version : Version) (layout : Layout) (index : ℕ) (bytes
   pub whole : length unit ≡ 24
   pub none : (one : Event) → IsEvent version layout one → unit ≢ event one
   pub first : fault ≡ BadEvent (index + length recorded)
+
+-- the words that the bytes spell went behind those that had come
+pub record HasWords (before : OpenImage) (bytes : List ℕ) (after : OpenImage) : Type 0 where
+  pub same : after ≡ record { dump = before.dump; number = before.number; coming = after.coming }
+  pub spelled : frame_words after.coming ≡ frame_words before.coming ++ bytes
+  pub fit : All (λ word. word < 2 ^ 64) before.coming → All (λ word. word < 2 ^ 64) after.coming

@@ -11,7 +11,7 @@ use crate::version::Version;
 use std::alloc::Global;
 use std::cmp::{max, min};
 use vs_types::{Config, FRAME_WORDS, Fail};
-use vs_walk::Dump;
+use vs_walk::{Dump, OpenDump};
 
 /// What is read of a trace after its header.
 #[derive(Drop)]
@@ -31,12 +31,11 @@ pub(crate) struct Opened {
     pub(crate) left: u32,
 }
 
-/// A frame that lacks its last words: its number, its words with zeros for those, and how many have come.
+/// A dump of which a frame is coming, and how many frames it lacks, this one among them.
 #[derive(Drop)]
 pub(crate) struct OpenFrame {
-    pub(crate) number: u64,
-    pub(crate) words: Box<[u64; FRAME_WORDS]>,
-    pub(crate) filled: usize,
+    pub(crate) dump: OpenDump,
+    pub(crate) left: u32,
 }
 
 /// How many units a run has, where this many are whole and there are at most so many: all of these, but at least one.
@@ -62,10 +61,10 @@ pub(crate) enum Reader {
     Events(Parts, u32),
     /// The head of the next dump, or the end.
     Dumps(Parts),
-    /// The number of a frame; the one before it, and room for the words.
-    Frame(Parts, Opened, Option<u64>, Box<[u64; FRAME_WORDS]>),
+    /// The number of a frame; the one before it.
+    Frame(Parts, Opened, Option<u64>),
     /// The next words of a frame.
-    Words(Parts, Opened, OpenFrame),
+    Words(Parts, OpenFrame),
 }
 
 impl Reader {
@@ -97,8 +96,8 @@ impl Reader {
                     None
                 }
             }
-            Reader::Frame(_, _, _, _) => Some(8),
-            Reader::Words(_, _, _) => Some(8),
+            Reader::Frame(_, _, _) => Some(8),
+            Reader::Words(_, _) => Some(8),
         }
     }
 
@@ -111,8 +110,9 @@ impl Reader {
         match self {
             Reader::Log(_, places, _) => Some(4 * units_of(have / 4, *places as usize)),
             Reader::Events(_, events) => Some(24 * units_of(have / 24, *events as usize)),
-            Reader::Words(_, _, frame) => {
-                Some(8 * units_of(have / 8, FRAME_WORDS - frame.filled))
+            Reader::Words(_, frame) => {
+                let most = FRAME_WORDS - frame.dump.words_come();
+                Some(8 * units_of(have / 8, most))
             }
             _ => self.unit_len(),
         }
@@ -132,10 +132,8 @@ impl Reader {
             Reader::Log(parts, places, events) => take_places(parts, places, events, run),
             Reader::Events(parts, events) => take_events(parts, events, run),
             Reader::Dumps(parts) => take_dump_head(parts, run),
-            Reader::Frame(parts, opened, last, room) => {
-                take_frame_number(parts, opened, last, room, run)
-            }
-            Reader::Words(parts, opened, frame) => take_words(parts, opened, frame, run),
+            Reader::Frame(parts, opened, last) => take_frame_number(parts, opened, last, run),
+            Reader::Words(parts, frame) => take_words(parts, frame, run),
         }
     }
 

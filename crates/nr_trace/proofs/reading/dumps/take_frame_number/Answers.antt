@@ -1,8 +1,10 @@
-use Rattle.std.proofs.Common.{◌≡◌, ℕ, ◌++◌, [], length, true, refl, sym, subst, ◌∙◌, arith}
+use Rattle.std.proofs.Common.{◌≡◌, ℕ, ◌++◌, [], length, true, sym, subst, ◌∙◌, arith}
 use Rattle.std.specs.FinMap as finite
 use Rattle.nr_trace.specs.FirstFault.{AtFrames, IsNext}
 use Rattle.nr_trace.specs.Spelling.{frame_number}
-use Rattle.nr_trace.specs.inside.Progress.{BehindDumps}
+use Rattle.nr_trace.specs.inside.Progress.{Ahead, BehindDumps, HasRead, said}
+use Rattle.nr_trace.specs.declared.reading.parts.OpenFrame.{OpenFrame}
+use Rattle.nr_trace.specs.declared.reading.parts.Reader.TheVariants.{Frame, Words}
 use Rattle.nr_trace.specs.declared.fault.Format.TheVariants.{BadFrame}
 use Rattle.nr_trace.proofs.LawsOfUnits.{number_64}
 use Rattle.nr_trace.proofs.Frames.{number_taken, number_refused}
@@ -11,10 +13,14 @@ use Rattle.nr_trace.proofs.reading.dumps.take_frame_number.Goals as goal
 
 pub returns-then-is_next : goal.returns-then-is_next
 returns-then-is_next c =
-    number_taken c.args.parts c.args.opened c.args.last c.args.room
-    record { number = c.take_u64-number.result.0; words = c.args.room; filled = 0 } c.args.unit.now c.requires.ready.0 c.requires.ready.1
-    (c.is_next.ensures.0 c.if-is_next.true)
-    (only_front c.args.unit.now _ _ c.take_u64-number.ensures c.requires.whole) refl c.requires.ready.2
+    let parts = c.args.parts in
+    let opened = c.args.opened in
+    let last = c.args.last in
+    let unit = c.args.unit.now in
+    subst (λ (f : OpenFrame). HasRead (said (Frame parts opened last) ++ unit) (λ rest fault. Ahead (Frame parts opened last) (unit ++ rest) fault)
+    (Words parts f)) (sym c.in_ok-frame.ensures)
+    (number_taken parts opened last c.take_u64-number.result.0 unit c.requires.ready.0 c.requires.ready.1 (c.is_next.ensures.0 c.if-is_next.true)
+    (only_front unit _ _ c.take_u64-number.ensures c.requires.whole))
 
 pub returns : goal.returns
 returns c = λ rest.
