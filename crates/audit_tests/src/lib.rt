@@ -7,6 +7,8 @@ mod audit;
 #[cfg(test)]
 mod dump;
 #[cfg(test)]
+mod flush;
+#[cfg(test)]
 mod pieces;
 #[cfg(test)]
 mod recorded;

@@ -6,13 +6,14 @@ ghost use Rattle.vs_types.specs.Query.{IsSomeQuery};
 ghost use Rattle.vs_types.specs.declared.request.Query.TheVariants as query;
 
 use crate::event::Event;
+use std::fmt;
 use std::marker::Model;
 use std::mem::size_of;
 use vs_types::{Access, Action, Answer, Mode, Op, Page, Query, Request, Rights, Size};
 
 /// An event with one tag. Fields lie as they are written here, so that none has more than 24 bytes; and a call has its replica
 /// and thread, a reply its call and `at`, at the same bytes in each case.
-#[derive(Clone, Copy, Debug, PartialEq, Eq)]
+#[derive(Clone, Copy, PartialEq, Eq)]
 enum Kept {
     /// Replica, thread, size, rights, base, physical address.
     Map(u8, u16, Size, Rights, u64, u64),
@@ -132,9 +133,15 @@ fn reply_of(call: u32, at: u32, answer: Answer) -> Event
 }
 
 /// An event as a trace keeps it, in 24 bytes. Contracts see the event.
-#[derive(Clone, Copy, Debug, PartialEq, Eq)]
+#[derive(Clone, Copy, PartialEq, Eq)]
 pub struct Recorded {
     kept: Kept,
+}
+
+impl fmt::Debug for Recorded {
+    fn fmt<W: fmt::Write>(&self, f: &mut fmt::Formatter<W>) -> fmt::Result {
+        self.event().fmt(f)
+    }
 }
 
 impl Model for Recorded {

@@ -11,7 +11,7 @@ use Rattle.clap.specs.declared.error.kind.ErrorKind.{ErrorKind}
 use Rattle.clap.specs.declared.parser.matches.SubCommand.{SubCommand}
 use Rattle.clap.specs.declared.parser.matches.ArgMatches.TheViews.{out-SubCommand}
 use Rattle.nrvs.specs.CommandLine.{Asks, IsReplica}
-use Rattle.nrvs.specs.declared.command.Command.TheVariants.{Resolve}
+use Rattle.nr_engines.specs.declared.command.Command.TheVariants.{Resolve}
 
 -- one kind more may come
 pub one_more : (k : ErrorKind) (kinds : Kinds) (e : Error) → HasKind kinds e → HasKind (k ∷ kinds) e

@@ -1,4 +1,1 @@
-pub mod Addresses
 pub mod CommandLines
-pub mod Input
-pub mod Reports

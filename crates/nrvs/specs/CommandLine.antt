@@ -4,8 +4,8 @@ use Rattle.std.specs.Str.Parse.{ParsesUnsigned}
 use Rattle.clap.specs.Words.{App, Row, Rule, Text, first_of, new_app, new_rule, with_rule, with_subcommand}
 use Rattle.clap.specs.Walk.{one_of}
 use Rattle.clap.specs.declared.builder.value_parser.ValueParser.TheVariants as parsers
-use Rattle.nrvs.specs.declared.command.Command.{Command}
-use Rattle.nrvs.specs.declared.command.Command.TheVariants.{Audit, Resolve}
+use Rattle.nr_engines.specs.declared.command.Command.{Command}
+use Rattle.nr_engines.specs.declared.command.Command.TheVariants.{Audit, Resolve}
 
 -- --address TEXT, which is required
 abbrev pub address_option : Rule

@@ -1,8 +1,5 @@
-pub mod Text
-pub mod Addresses
-pub mod Answers
-pub mod Refusals
 pub mod Program
 pub mod CommandLine
-pub use Rattle.nr_audit.specs.Verdict
+pub use Rattle.nr_engines.specs.Answers
+pub use Rattle.nr_engines.specs.Refusals
 pub use Rattle.clap.specs.Words

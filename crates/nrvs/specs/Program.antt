@@ -4,11 +4,11 @@ use Rattle.clap.specs.Words.{kind_of}
 use Rattle.clap.specs.declared.error.Error.{Error}
 use Rattle.clap.specs.declared.error.kind.ErrorKind.{ErrorKind}
 use Rattle.clap.specs.declared.error.kind.ErrorKind.TheVariants as kind
-use Rattle.nrvs.specs.Answers.{IsAnswer, WritesReport}
-use Rattle.nrvs.specs.Refusals.{IsEndFault, IsRefusal, WritesAnswersAlone, exit_status}
-use Rattle.nrvs.specs.declared.command.Command.{Command}
-use Rattle.nrvs.specs.declared.fault.ProgFault.{ProgFault}
-use Rattle.nrvs.specs.declared.fault.ProgFault.TheVariants.{Memory}
+use Rattle.nr_engines.specs.Answers.{IsAnswer, WritesReport}
+use Rattle.nr_engines.specs.Refusals.{IsEndFault, IsRefusal, WritesAnswersAlone, exit_status}
+use Rattle.nr_engines.specs.declared.command.Command.{Command}
+use Rattle.nr_engines.specs.declared.fault.ProgFault.{ProgFault}
+use Rattle.nr_engines.specs.declared.fault.ProgFault.TheVariants.{Memory}
 
 -- help or the version was asked for, which go to the output
 abbrev pub is_shown : ErrorKind → Bool

@@ -1,17 +1,7 @@
 //! The program: `nrvs audit` says whether a trace is right, and `nrvs resolve` where an address leads in one of its dumps.
 #![tactic(auto)]
 
-mod address;
-mod audit;
-mod command;
-mod ends;
-mod fault;
 mod program;
-mod report;
-mod resolve;
-#[cfg(test)]
-mod tests;
-mod text;
 mod words;
 
 use std::io;

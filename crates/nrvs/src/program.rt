@@ -1,13 +1,11 @@
 ghost use Rattle.std.specs.Prelude.{◌≡◌, false, IfErr, IfOk, MatchResult};
 ghost use Rattle.clap.specs.Words.{kind_of};
-ghost use Rattle.nrvs.specs.Refusals.{refusal_status, exit_status};
+ghost use Rattle.nr_engines.specs.Refusals.{refusal_status, exit_status};
 ghost use Rattle.nrvs.specs.Program.{is_shown, TellsRefusal, Runs, EndsWith};
 
-use crate::command::Command;
-use crate::ends::write_text;
-use crate::fault::ProgFault;
 use clap::Error;
 use clap::error::ErrorKind;
+use nr_engines::{Command, ProgFault, write_text};
 use std::alloc::Global;
 use std::io::{Read, Write};
 

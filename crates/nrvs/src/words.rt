@@ -2,9 +2,9 @@ ghost use Rattle.std.specs.Prelude.{◌≡◌, ◌∷◌, [], false, IfOk, IfErr
 ghost use Rattle.clap.specs.Words.{app_of, fault_of, kind_of, subcommand_of, HasKind};
 ghost use Rattle.nrvs.specs.CommandLine.{command_line, Asks};
 
-use crate::command::Command;
 use clap::error::ErrorKind;
 use clap::{Arg, Error, value_parser};
+use nr_engines::Command;
 use std::alloc::{AllocError, Global};
 use std::env;
 

@@ -1,0 +1,93 @@
+-- What the commands answer to bytes: a text and a status.
+use Rattle.std.specs.Prelude.{◌≡◌, ◌≤◌, ◌⊎◌, ℕ, List, Option, Some, IfSome, Result, MatchResult, slice_get}
+use Rattle.std.specs.Io.KnownBytes.{Appends}
+use Rattle.vs_types.specs.Depth.{IsCanonical}
+use Rattle.vs_types.specs.Refusal.{IfRefused}
+use Rattle.vs_types.specs.declared.refusal.Fail.{Fail}
+use Rattle.vs_walk.specs.Walk.{walk}
+use Rattle.vs_walk.specs.Dump.{Image}
+use Rattle.nr_trace.specs.Recording.{Recording}
+use Rattle.nr_trace.specs.Spelling.{Spells}
+use Rattle.nr_trace.specs.FirstFault.{HasFormatFault}
+use Rattle.nr_trace.specs.declared.fault.Format.{Format}
+use Rattle.nr_trace.specs.declared.fault.Fault.TheVariants as faults
+use Rattle.nr_audit.specs.Verdict.{IsVerdictOf}
+use Rattle.nr_audit.specs.declared.verdict.Verdict.{Verdict}
+use Rattle.nr_engines.specs.Text.{no_text, verdict_text, verdict_status, walk_text}
+use Rattle.nr_engines.specs.Addresses.{SpellsAddress}
+use Rattle.nr_engines.specs.declared.command.Command.{Command}
+use Rattle.nr_engines.specs.declared.command.Command.TheVariants.{Audit, Resolve}
+
+-- of `audit`: the text and the status are those of the verdict of these bytes
+pub record IsAudit (bytes text : List ℕ) (status : ℕ) : Type 0 where
+  pub verdict : Verdict
+  pub is_verdict : IsVerdictOf bytes verdict
+  pub text_is : text ≡ verdict_text verdict
+  pub status_is : status ≡ verdict_status verdict
+
+-- the bytes spell a trace, at its depth the address is canonical, and the text is where its walk ends in the dump of the replica
+pub record IsWalkInDump (bytes : List ℕ) (address replica : ℕ) (text : List ℕ) (status : ℕ) : Type 0 where
+  pub trace : Recording
+  pub spelled : Spells bytes trace
+  pub canonical : IsCanonical trace.layout.depth address
+  pub dump : Image
+  pub is_dump : slice_get trace.dumps replica ≡ Some dump
+  pub text_is : text ≡ walk_text (walk trace.layout.depth dump.frames dump.root address)
+  pub status_is : status ≡ 0
+
+-- the bytes spell no trace, and the text is that of their first fault
+pub record IsFormatRefusal (bytes text : List ℕ) (status : ℕ) : Type 0 where
+  pub fault : Format
+  pub first : HasFormatFault bytes fault
+  pub text_is : text ≡ no_text (faults.Format fault)
+  pub status_is : status ≡ 1
+
+-- where this address leads in the dump of this replica
+abbrev pub IsWalk : ℕ → ℕ → List ℕ → List ℕ → ℕ → Type 0
+IsWalk address replica bytes text status = IsWalkInDump bytes address replica text status ⊎ IsFormatRefusal bytes text status
+
+-- the bytes spell a trace at whose depth the address is not canonical
+pub record IsOutOfItsDepth (bytes : List ℕ) (address : ℕ) : Type 0 where
+  pub trace : Recording
+  pub spelled : Spells bytes trace
+  pub not_canonical : IsCanonical trace.layout.depth address → ⊥
+
+-- the bytes spell a trace at whose depth it is, and which has no replica of this number
+pub record LacksReplica (bytes : List ℕ) (address replica : ℕ) : Type 0 where
+  pub trace : Recording
+  pub spelled : Spells bytes trace
+  pub canonical : IsCanonical trace.layout.depth address
+  pub lacking : trace.layout.replicas ≤ replica
+
+-- of `resolve`, where this word spells the address
+pub record IsResolve (word : List ℕ) (replica : ℕ) (bytes text : List ℕ) (status : ℕ) : Type 0 where
+  pub address : ℕ
+  pub spelled : SpellsAddress word address
+  pub is_walk : IsWalk address replica bytes text status
+
+-- the text and the status that are those of the command on these bytes
+abbrev pub IsAnswer : Command → List ℕ → List ℕ → ℕ → Type 0
+IsAnswer Audit = IsAudit
+IsAnswer (Resolve word replica) = IsResolve word.now replica
+
+-- the input is that of the reader, where the reader's contract specifies its bytes
+abbrev pub IsReadOf : Option (List ℕ) → List ℕ → Type 0
+IsReadOf known input = IfSome known (λ whole. input ≡ whole)
+
+-- the trace that the bytes spell, or the fault that they have
+abbrev pub IsReadFrom : List ℕ → Result Recording (Fail Format) → Type 0
+IsReadFrom bytes read = MatchResult read (Spells bytes) (IfRefused (HasFormatFault bytes))
+
+-- so an input was read
+pub record HasRead (known : Option (List ℕ)) (read : Result Recording (Fail Format)) : Type 0 where
+  pub input : List ℕ
+  pub is_read : IsReadOf known input
+  pub read_is : IsReadFrom input read
+
+-- a text that goes with the status, on the input, was written after what was there, and nothing else
+pub record WritesReport (IsReport : List ℕ → List ℕ → ℕ → Type 0) (known old new : Option (List ℕ)) (status : ℕ) : Type 0 where
+  pub input : List ℕ
+  pub is_read : IsReadOf known input
+  pub text : List ℕ
+  pub is_report : IsReport input text status
+  pub written : Appends old new text

@@ -1,0 +1,13 @@
+pub mod Text
+pub mod Addresses
+pub mod Answers
+pub mod Refusals
+pub use Rattle.vs_types.specs.Config
+pub use Rattle.vs_types.specs.Depth
+pub use Rattle.vs_types.specs.Refusal
+pub use Rattle.vs_walk.specs.Walk
+pub use Rattle.vs_walk.specs.Dump
+pub use Rattle.nr_trace.specs.Recording
+pub use Rattle.nr_trace.specs.Spelling
+pub use Rattle.nr_trace.specs.FirstFault
+pub use Rattle.nr_audit.specs.Verdict

@@ -1,0 +1,19 @@
+//! The engines of the program, each over a reader and a writer: `audit_io` writes the verdict on a trace, and `resolve_io`
+//! where an address leads in one of its dumps. What is written is a function of what is read.
+#![tactic(auto)]
+
+mod address;
+mod audit;
+mod command;
+mod ends;
+mod fault;
+mod report;
+mod resolve;
+mod text;
+
+pub use audit::{audit_io, audit_read};
+pub use command::Command;
+pub use ends::{read_trace, write_text};
+pub use fault::ProgFault;
+pub use report::Report;
+pub use resolve::{resolve_io, resolve_read};

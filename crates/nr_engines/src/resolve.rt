@@ -1,0 +1,69 @@
+ghost use Rattle.std.specs.Prelude.{ℕ, IfOk, IfErr, List, MatchResult, string_bytes};
+ghost use Rattle.nr_engines.specs.Answers.{IsReadFrom, IsResolve, IsWalk, WritesReport};
+ghost use Rattle.nr_engines.specs.Refusals.{IsWalkFault, IsResolveFault, WritesAnswersAlone};
+
+use crate::address::parse_address;
+use crate::ends::{read_trace, write_report};
+use crate::fault::ProgFault;
+use crate::report::Report;
+use crate::text::{no_text, walk_text};
+use nr_trace::{Fault, Format, Trace};
+use std::alloc::Global;
+use std::io::{Read, Write};
+use vs_types::Fail;
+use vs_walk::translate;
+
+/// What `resolve` answers to what was read of an input: where the walk of the address ends in a replica's dump, with status 0;
+/// or the line of the format fault, with status 1; or `NotCanonical`, where it is not canonical at the trace's depth, and then
+/// `NoSuchReplica`. Takes memory for the text.
+pub fn resolve_read(
+    alloc: Global,
+    read: Result<Trace, Fail<Format>>,
+    address: u64,
+    replica: u8,
+) -> Result<Report, ProgFault>
+    ensures { (bytes : List ℕ) → IsReadFrom bytes read → MatchResult result
+        (λ report. IsWalk address replica bytes (string_bytes report.text) report.status)
+        (IsWalkFault bytes address replica) }
+{
+    match read {
+        Ok(trace) => {
+            let depth = trace.config().depth();
+            if !depth.is_canonical(address) {
+                return Err(ProgFault::NotCanonical);
+            }
+            let Some(dump) = trace.dumps().get(replica as usize) else {
+                return Err(ProgFault::NoSuchReplica);
+            };
+            let walk = translate(dump, dump.root(), depth, address);
+            let text = walk_text(alloc, walk)?;
+            Ok(Report { text, status: 0 })
+        }
+        Err(Fail::Refused(fault)) => {
+            let text = no_text(alloc, Fault::Format(fault))?;
+            Ok(Report { text, status: 1 })
+        }
+        Err(Fail::Memory) => Err(ProgFault::Memory),
+    }
+}
+
+/// Reads a trace, and writes where the walk of an address ends in a replica's dump. It tests the spelling of the
+/// address, then reads, then tests whether the address is canonical at the trace's depth, then the replica. The status is 0,
+/// or 1 where the input spells no trace. It reads in blocks, and stops where the input can't become a trace any more. Where
+/// it gives no answer some input may have been read, and nothing was written but where that failed.
+pub fn resolve_io<R: Read + Drop, W: Write>(
+    alloc: Global,
+    reader: R,
+    writer: &mut W,
+    address: &str,
+    replica: u8,
+) -> Result<u8, ProgFault>
+    ensures ok { IfOk result (WritesReport (IsResolve address.now replica) (R.remaining reader) (W.contents writer.old) (W.contents writer.new)) }
+    ensures err { IfErr result (IsResolveFault address.now replica (R.remaining reader)) }
+    ensures alone { WritesAnswersAlone writer.old writer.new result }
+{
+    let address = parse_address(address).ok_or(ProgFault::BadAddress)?;
+    let read = read_trace(alloc, reader)?;
+    let report = resolve_read(alloc, read, address, replica)?;
+    write_report(writer, &report)
+}
