@@ -17,7 +17,7 @@ use crate::exchange_count::ExchangeCount;
 use crate::name::LogName;
 use crate::pass::LogPass;
 use crate::rule::{Copies, Exchanging, FirstOwned, Happening, LogRule, Looking};
-use crate::tails::{AppendFault, Moved, Tails, tails_in};
+use crate::tails::{AppendFault, Moved, Tails};
 use crate::view::View;
 use arrayvec::ArrayVec;
 use crossbeam_utils::atomic::seq_cell::{Pass, RuledSeqCell};
@@ -117,7 +117,7 @@ impl<J: LogName> RingLog<J> {
         ensures tails { result ≡ tails_of (log_after J.replicas pass.new.view.seen) }
     {
         self.refresh(rt, pass);
-        tails_in(&pass.words)
+        pass.tails()
     }
 
     /// Has the words of the pass be those of the cell: loads the cell, but where they are so still.
@@ -194,9 +194,9 @@ impl<J: LogName> RingLog<J> {
         self.exchange::<E, R>(rt, pass, next)
     }
 
-    /// Looks, and then appends 1 to 16 entries at the log's depth: the place of the first. `LogEnded` where the log would go past
-    /// 65,536 entries; `Full` where some replica would have more than 16 entries to take; `Moved` where neither holds, but
-    /// another pass's event came after the look. The tails are those of the log that the pass has then seen.
+    /// Loads the cell, and then appends 1 to 16 entries at the log's depth: the place of the first. `LogEnded` where the log would
+    /// go past 65,536 entries; `Full` where some replica would have more than 16 entries to take; `Moved` where neither holds, but
+    /// another pass's event came after the load. The tails are those of the log that the pass has then seen.
     ///
     /// Waits for the cell.
     pub fn append<R: Wait>(
@@ -216,10 +216,11 @@ impl<J: LogName> RingLog<J> {
         ensures history { IsHistory J.depth J.replicas pass.new.view.seen }
     {
         let count = batch.len() as u64;
-        let tails = self.look(rt, pass);
+        self.load(rt, pass);
+        let place = pass.tails().tail;
         test_room(&pass.words, count)?;
         if self.try_append::<Brand, R>(rt, pass, batch) {
-            return Ok(tails.tail);
+            return Ok(place);
         }
         Err(why_not(&pass.words, count))
     }
