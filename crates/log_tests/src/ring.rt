@@ -1,10 +1,11 @@
-ghost use Rattle.std.specs.Prelude.{◌≡◌, ◌<◌, ◌≤◌, All, [], ◌∷◌, length};
+ghost use Rattle.std.specs.Prelude.{◌≡◌, ◌<◌, ◌≤◌, All, IfOk, [], ◌∷◌, length};
 ghost use Rattle.vs_types.specs.LogEntry.{IsLogEntry};
 ghost use Rattle.vs_types.specs.declared.depth.Depth.TheVariants.{Four};
 ghost use Rattle.vs_types.specs.declared.limits.TheConstants.{CALLS};
 
 use arrayvec::ArrayVec;
 use nr_ring::{AppendFault, LogName, LogPass, Moved, RingLog, Tails};
+use std::alloc::Global;
 use std::process::Abort;
 use std::sync::Wait;
 use std::test::Fail;
@@ -53,6 +54,31 @@ fn tails(tail: u32, completed: u32, local: [u32; 4]) -> Tails {
 /// The refusal of a batch for which a log with these tails has no room.
 fn full(tail: u32, completed: u32, local: [u32; 4]) -> Result<u32, AppendFault> {
     Err(AppendFault::Full(tails(tail, completed, local)))
+}
+
+/// A log of two replicas, the passes that own them, and one that owns none.
+#[derive(Drop)]
+struct Shared {
+    log: RingLog<Two>,
+    first: LogPass<Two>,
+    second: LogPass<Two>,
+    third: LogPass<Two>,
+}
+
+fn new_log(alloc: Global) -> Result<Shared, Fail>
+    ensures log { IfOk result (λ s. (s.first.log ≡ s.log) × (s.second.log ≡ s.log) × (s.third.log ≡ s.log)) }
+    ensures owns { IfOk result (λ s. (s.first.view.owns ≡ 0 ∷ []) × (s.second.view.owns ≡ 1 ∷ [])) }
+{
+    let (log, mut passes) = RingLog::<Two>::new(alloc, Depth::Four, 2, 1)?;
+    let first = passes.remove(0);
+    let second = passes.remove(0);
+    let third = passes.remove(0);
+    Ok(Shared {
+        log,
+        first,
+        second,
+        third,
+    })
 }
 
 /// Appends a batch, which is to be answered so.
@@ -150,10 +176,12 @@ fn advance_late<R: Wait + Abort>(
 
 #[test]
 fn ring_fills_and_frees(rt: HostRuntime) -> Result<(), Fail> {
-    let (log, mut passes) = RingLog::<Two>::new(rt.alloc(), Depth::Four, 2, 1)?;
-    let mut first = passes.remove(0);
-    let mut second = passes.remove(0);
-    let mut third = passes.remove(0);
+    let Shared {
+        log,
+        mut first,
+        mut second,
+        mut third,
+    } = new_log(rt.alloc())?;
     let batch = [entry(&rt, 0); 16];
     let one = [entry(&rt, 1)];
     append(&rt, &log, &mut third, &batch, Ok(0));
@@ -174,9 +202,12 @@ fn ring_fills_and_frees(rt: HostRuntime) -> Result<(), Fail> {
 
 #[test]
 fn advance_meets_another_event(rt: HostRuntime) -> Result<(), Fail> {
-    let (log, mut passes) = RingLog::<Two>::new(rt.alloc(), Depth::Four, 2, 1)?;
-    let mut first = passes.remove(0);
-    let mut third = passes.remove(1);
+    let Shared {
+        log,
+        mut first,
+        mut third,
+        ..
+    } = new_log(rt.alloc())?;
     append(&rt, &log, &mut third, &[entry(&rt, 1)], Ok(0));
     look(&rt, &log, &mut first, tails(1, 0, [0, 0, 0, 0]));
     advance_late(&rt, &log, &mut first, &mut third, 1);
@@ -188,10 +219,12 @@ fn advance_meets_another_event(rt: HostRuntime) -> Result<(), Fail> {
 /// No clause says that a look tells what other passes have done before it. Each look here follows an event.
 #[test]
 fn looks_see_other_passes(rt: HostRuntime) -> Result<(), Fail> {
-    let (log, mut passes) = RingLog::<Two>::new(rt.alloc(), Depth::Four, 2, 1)?;
-    let mut first = passes.remove(0);
-    let mut second = passes.remove(0);
-    let mut third = passes.remove(0);
+    let Shared {
+        log,
+        mut first,
+        mut second,
+        mut third,
+    } = new_log(rt.alloc())?;
     let one = [entry(&rt, 1)];
     look(&rt, &log, &mut first, tails(0, 0, [0, 0, 0, 0]));
     append(&rt, &log, &mut third, &one, Ok(0));
@@ -214,9 +247,12 @@ fn looks_see_other_passes(rt: HostRuntime) -> Result<(), Fail> {
 
 #[test]
 fn looks_see_what_refused(rt: HostRuntime) -> Result<(), Fail> {
-    let (log, mut passes) = RingLog::<Two>::new(rt.alloc(), Depth::Four, 2, 1)?;
-    let mut first = passes.remove(0);
-    let mut third = passes.remove(1);
+    let Shared {
+        log,
+        mut first,
+        mut third,
+        ..
+    } = new_log(rt.alloc())?;
     let one = [entry(&rt, 1)];
     let batch = [entry(&rt, 2); 16];
     append(&rt, &log, &mut third, &one, Ok(0));
