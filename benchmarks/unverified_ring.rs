@@ -175,11 +175,15 @@ impl<C: Cell> Log<C> {
 
     fn look(&self, pass: &mut Pass) -> Tails {
         if !self.cell.is_at(pass.mark) {
-            pass.mark = self.cell.mark();
-            (pass.version, pass.words) = self.cell.load();
+            self.load(pass);
         }
         let words = &pass.words;
         Tails { tail: words[0], completed: words[1], local: [words[2], words[3], words[4], words[5]] }
+    }
+
+    fn load(&self, pass: &mut Pass) {
+        pass.mark = self.cell.mark();
+        (pass.version, pass.words) = self.cell.load();
     }
 
     fn exchange(&self, pass: &mut Pass, words: &Words) -> bool {
@@ -198,7 +202,8 @@ impl<C: Cell> Log<C> {
     }
 
     fn append(&self, pass: &mut Pass, batch: &[Entry]) -> Result<u64, Fault> {
-        let tail = self.look(pass).tail;
+        self.load(pass);
+        let tail = pass.words[0];
         let end = tail + batch.len() as u64;
         if end > 65_536 {
             return Err(Fault::LogEnded);

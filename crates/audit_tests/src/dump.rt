@@ -1,14 +1,13 @@
 ghost use Rattle.std.specs.Prelude.{◌<◌, All, IsTrue};
 ghost use Rattle.std.specs.FinMap as finite;
 
+use crate::dump_cases::{AT_BOTH_DEPTHS, AT_FIVE_LEVELS, AT_FOUR_LEVELS, Case, Frame};
 use nr_dump::{DumpFault, check};
 use std::alloc::Global;
 use std::process::Abort;
 use vs_plain::PlainSpace;
 use vs_types::{Answer, Depth, FRAME_WORDS, Fail, Op, Rights, Size};
 use vs_walk::Dump;
-
-const DEPTHS: [Depth; 2] = [Depth::Four, Depth::Five];
 
 /// 512 words, 0 but for these at their indexes.
 fn words(entries: &[(usize, u64)]) -> [u64; FRAME_WORDS] {
@@ -52,15 +51,11 @@ fn push(rt: &impl Abort, dump: &mut Dump, number: u64, words: &[u64; FRAME_WORDS
     }
 }
 
-/// A dump of frames 1, 2, 3 and so on.
-fn dump_of(rt: &impl Abort, alloc: Global, root: u64, frames: &[[u64; FRAME_WORDS]]) -> Dump {
-    let mut dump = Dump::new(alloc, 0, root);
-    let mut number = 0u64;
-    for words in frames {
-        number = number.wrapping_add(1);
-        push(rt, &mut dump, number, words);
+fn words_of(frame: Frame) -> [u64; FRAME_WORDS] {
+    match frame {
+        Frame::Words(entries) => words(entries),
+        Frame::Pages(phys) => table_of_pages(phys),
     }
-    dump
 }
 
 /// Maps a page with all rights; where memory is refused, at a second try.
@@ -95,214 +90,42 @@ fn checked(
     }
 }
 
-fn check_beside_nothing(
-    rt: &impl Abort,
-    alloc: Global,
-    depth: Depth,
-    root: u64,
-    frames: &[[u64; FRAME_WORDS]],
-) -> Result<(), DumpFault> {
-    let dump = dump_of(rt, alloc, root, frames);
-    checked(rt, alloc, &dump, &PlainSpace::new(alloc, 4096, depth))
-}
-
-/// Bit 13 of a page of 2 MiB is reserved, and bit 12 is ignored.
-#[test]
-fn bits_of_a_large_page(rt: HostRuntime) {
-    let alloc = rt.alloc();
-    let first = words(&[(0, 0x2007)]);
-    let second = words(&[(0, 0x3007)]);
-    let reserved = [first, second, words(&[(1, 0x202087)])];
+/// Checks the dump of a case against its space, and holds what is told against what is expected.
+fn run(rt: &impl Abort, alloc: Global, depth: Depth, case: &Case) {
+    let mut dump = Dump::new(alloc, 0, case.root);
+    let mut number = 0u64;
+    for frame in case.frames {
+        number = number.wrapping_add(1);
+        push(rt, &mut dump, number, &words_of(*frame));
+    }
+    let mut space = PlainSpace::new(alloc, 4096, depth);
+    for (base, size, phys) in case.pages {
+        map(rt, &mut space, *base, *size, *phys);
+    }
     assert_eq!(rt;
-        check_beside_nothing(&rt, alloc, Depth::Four, 1, &reserved),
-        Err(DumpFault::ReservedBit(3, 1))
-    );
-    let ignored = [first, second, words(&[(1, 0x201087)])];
-    assert_eq!(rt;
-        check_beside_nothing(&rt, alloc, Depth::Four, 1, &ignored),
-        Err(DumpFault::Differs(0x200000))
+        checked(rt, alloc, &dump, &space),
+        case.told,
+        "{}",
+        case.name
     );
 }
 
 #[test]
-fn faulty_dumps(rt: HostRuntime) {
-    let alloc = rt.alloc();
-    let first = words(&[(0, 0x2007)]);
-    for depth in DEPTHS {
-        assert_eq!(rt;
-            check_beside_nothing(&rt, alloc, depth, 1, &[words(&[(0, 0x1007)])]),
-            Err(DumpFault::SharedFrame(1))
-        );
-        assert_eq!(rt;
-            check_beside_nothing(&rt, alloc, depth, 1, &[first]),
-            Err(DumpFault::MissingFrame(2))
-        );
-        assert_eq!(rt;
-            check_beside_nothing(&rt, alloc, depth, 1, &[words(&[]), words(&[])]),
-            Err(DumpFault::StrayFrame(2))
-        );
-        assert_eq!(rt;
-            check_beside_nothing(&rt, alloc, depth, 5, &[words(&[])]),
-            Err(DumpFault::MissingFrame(5))
-        );
+fn dumps_at_both_depths(rt: HostRuntime) {
+    for case in &AT_BOTH_DEPTHS {
+        run(&rt, rt.alloc(), Depth::Four, case);
+        run(&rt, rt.alloc(), Depth::Five, case);
     }
 }
 
 #[test]
-fn hostile_dumps(rt: HostRuntime) {
-    let alloc = rt.alloc();
-    let both = words(&[(0, 0x2007), (1, 0x87)]);
-    let twice = words(&[(0, 0x2007), (1, 0x2007)]);
-    let first = words(&[(0, 0x2007)]);
-    let nothing = words(&[]);
-    for depth in DEPTHS {
-        assert_eq!(rt;
-            check_beside_nothing(&rt, alloc, depth, 1, &[both]),
-            Err(DumpFault::MissingFrame(2))
-        );
-        assert_eq!(rt;
-            check_beside_nothing(&rt, alloc, depth, 1, &[both, nothing]),
-            Err(DumpFault::ReservedBit(1, 1))
-        );
-        assert_eq!(rt;
-            check_beside_nothing(&rt, alloc, depth, 1, &[twice, nothing]),
-            Err(DumpFault::SharedFrame(2))
-        );
-        assert_eq!(rt;
-            check_beside_nothing(&rt, alloc, depth, 1, &[first, words(&[(0, 0x1007)])]),
-            Err(DumpFault::SharedFrame(1))
-        );
-        assert_eq!(rt;
-            check_beside_nothing(&rt, alloc, depth, 1, &[first, nothing]),
-            Ok(())
-        );
+fn dumps_at_one_depth(rt: HostRuntime) {
+    for case in &AT_FOUR_LEVELS {
+        run(&rt, rt.alloc(), case.depth, case);
     }
-    let large = [first, words(&[(0, 0x87)])];
-    assert_eq!(rt;
-        check_beside_nothing(&rt, alloc, Depth::Four, 1, &large),
-        Err(DumpFault::Differs(0))
-    );
-    assert_eq!(rt;
-        check_beside_nothing(&rt, alloc, Depth::Five, 1, &large),
-        Err(DumpFault::ReservedBit(2, 0))
-    );
-}
-
-/// A root of five levels whose index 256 begins the high half.
-#[test]
-fn five_levels(rt: HostRuntime) {
-    let alloc = rt.alloc();
-    let five = Depth::Five;
-    assert_eq!(rt;
-        check_beside_nothing(&rt, alloc, five, 1, &[words(&[])]),
-        Ok(())
-    );
-    assert_eq!(rt;
-        check_beside_nothing(&rt, alloc, five, 1, &[words(&[(0, 0x87)])]),
-        Err(DumpFault::ReservedBit(1, 0))
-    );
-    let frames = [
-        words(&[(256, 0x2007)]),
-        words(&[(0, 0x3007)]),
-        words(&[(0, 0x4007)]),
-        words(&[(0, 0x5007)]),
-        words(&[(0, 0x3007)]),
-    ];
-    let dump = dump_of(&rt, alloc, 1, &frames);
-    let mut space = PlainSpace::new(alloc, 4096, five);
-    assert_eq!(rt;
-        checked(&rt, alloc, &dump, &space),
-        Err(DumpFault::Differs(0xFF00000000000000))
-    );
-    map(&rt, &mut space, 0xFF00000000000000, Size::K4, 0x3000);
-    assert_eq!(rt; checked(&rt, alloc, &dump, &space), Ok(()));
-    map(&rt, &mut space, 0xFFFFFFFFFFF000, Size::K4, 0x2000);
-    assert_eq!(rt;
-        checked(&rt, alloc, &dump, &space),
-        Err(DumpFault::Differs(0xFFFFFFFFFFF000))
-    );
-    let mut of_four = PlainSpace::new(alloc, 4096, Depth::Four);
-    map(&rt, &mut of_four, 0xFFFF800000000000, Size::K4, 0x5000);
-    assert_eq!(rt;
-        checked(&rt, alloc, &dump, &of_four),
-        Err(DumpFault::StrayFrame(5))
-    );
-}
-
-/// The dump of one 4 KiB page at 0x400000, with this word in its third table, and this in its fourth.
-fn one_page(rt: &impl Abort, alloc: Global, third: u64, fourth: u64) -> Dump {
-    let frames = [
-        words(&[(0, 0x2007)]),
-        words(&[(0, 0x3007)]),
-        words(&[(2, third)]),
-        words(&[(0, fourth)]),
-    ];
-    dump_of(rt, alloc, 1, &frames)
-}
-
-#[test]
-fn dump_with_fewer_rights(rt: HostRuntime) {
-    let alloc = rt.alloc();
-    let mut space = PlainSpace::new(alloc, 4096, Depth::Four);
-    map(&rt, &mut space, 0x400000, Size::K4, 0x1000);
-    let differs = Err(DumpFault::Differs(0x400000));
-    assert_eq!(rt;
-        checked(&rt, alloc, &one_page(&rt, alloc, 0x4007, 0x1007), &space),
-        Ok(())
-    );
-    assert_eq!(rt;
-        checked(&rt, alloc, &one_page(&rt, alloc, 0x4003, 0x1007), &space),
-        differs
-    );
-    assert_eq!(rt;
-        checked(&rt, alloc, &one_page(&rt, alloc, 0x4007, 0x1006), &space),
-        differs
-    );
-}
-
-/// The same bytes, in pages of another size.
-#[test]
-fn sizes_differ(rt: HostRuntime) {
-    let alloc = rt.alloc();
-    let mut space = PlainSpace::new(alloc, 4096, Depth::Four);
-    map(&rt, &mut space, 0x400000, Size::M2, 0x600000);
-    let first = words(&[(0, 0x2007)]);
-    let second = words(&[(0, 0x3007)]);
-    let large = dump_of(&rt, alloc, 1, &[first, second, words(&[(2, 0x600087)])]);
-    assert_eq!(rt; checked(&rt, alloc, &large, &space), Ok(()));
-    let small = dump_of(
-        &rt,
-        alloc,
-        1,
-        &[
-            first,
-            second,
-            words(&[(2, 0x4007)]),
-            table_of_pages(0x600000),
-        ],
-    );
-    assert_eq!(rt;
-        checked(&rt, alloc, &small, &space),
-        Err(DumpFault::Differs(0x400000))
-    );
-}
-
-/// Addresses are compared as numbers, so the low half comes before the high half.
-#[test]
-fn low_half_before_high_half(rt: HostRuntime) {
-    let alloc = rt.alloc();
-    let frames = [words(&[(256, 0x2007)]), words(&[(0, 0x83)])];
-    let dump = dump_of(&rt, alloc, 1, &frames);
-    let mut space = PlainSpace::new(alloc, 4096, Depth::Four);
-    assert_eq!(rt;
-        checked(&rt, alloc, &dump, &space),
-        Err(DumpFault::Differs(0xFFFF800000000000))
-    );
-    map(&rt, &mut space, 0x7FFFFFFFF000, Size::K4, 0x2000);
-    assert_eq!(rt;
-        checked(&rt, alloc, &dump, &space),
-        Err(DumpFault::Differs(0x7FFFFFFFF000))
-    );
+    for case in &AT_FIVE_LEVELS {
+        run(&rt, rt.alloc(), case.depth, case);
+    }
 }
 
 /// 4,096 pages of 4 KiB.

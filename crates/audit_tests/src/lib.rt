@@ -5,7 +5,11 @@
 #[cfg(test)]
 mod audit;
 #[cfg(test)]
+mod audit_cases;
+#[cfg(test)]
 mod dump;
+#[cfg(test)]
+mod dump_cases;
 #[cfg(test)]
 mod flush;
 #[cfg(test)]

@@ -28,10 +28,10 @@ fn refusal<T: Drop>(given: Result<T, vs_types::Fail<Format>>) -> Option<Format> 
 fn pieces_of_every_kind_give_one_trace(rt: HostRuntime) -> Result<(), Fail> {
     let alloc = rt.alloc();
     let bytes = map_then_resolve_bytes(alloc)?;
-    assert!(rt; is_read_in_pieces(alloc, &bytes, 1)?);
-    assert!(rt; is_read_in_pieces(alloc, &bytes, 7)?);
-    assert!(rt; is_read_in_pieces(alloc, &bytes, 4095)?);
-    assert!(rt; is_read_in_pieces(alloc, &bytes, 4096)?);
+    for len in [1, 7, 4095, 4096] {
+        assert!(rt; len > 0);
+        assert!(rt; is_read_in_pieces(alloc, &bytes, len)?, "{len}");
+    }
     Ok(())
 }
 

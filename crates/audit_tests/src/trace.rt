@@ -1,8 +1,10 @@
-use nr_trace::{Event, Format, Recorded, Trace, Version, read, write};
+use crate::writing::{call, map_then_resolve_events, reply};
+use nr_trace::{Format, Version, read, write};
 use std::alloc::{AllocError, Global};
+use std::process::Abort;
 use std::test::Fail;
-use vs_types::{Access, Answer, Config, Depth, Memory, Mode, Op, Request, Rights, Size};
-use vs_walk::{Dump, Frames};
+use vs_types::{Access, Answer, Config, Depth, Mode, Request};
+use vs_walk::Frames;
 
 /// A frame whose words are 0, but for one.
 fn push_frame(bytes: &mut Vec<u8>, number: u64, index: usize, word: u64) -> Result<(), AllocError> {
@@ -36,12 +38,6 @@ pub(crate) fn map_then_resolve_bytes(alloc: Global) -> Result<Vec<u8>, AllocErro
     push_frame(&mut bytes, 3, 2, 0x4007)?;
     push_frame(&mut bytes, 4, 0, 0x1007)?;
     Ok(bytes)
-}
-
-fn one_frame(alloc: Global) -> Result<Dump, Memory> {
-    let mut dump = Dump::new(alloc, 0, 1);
-    dump.push(1, &[0; 512])?;
-    Ok(dump)
 }
 
 /// The bytes with others at some indexes.
@@ -82,18 +78,6 @@ fn empty_trace(rt: HostRuntime) -> Result<(), Fail> {
     Ok(())
 }
 
-fn call(thread: u16, request: Request) -> Recorded {
-    Recorded::of(Event::Call {
-        replica: 0,
-        thread,
-        request,
-    })
-}
-
-fn reply(call: u32, at: u32, answer: Answer) -> Recorded {
-    Recorded::of(Event::Reply { call, at, answer })
-}
-
 #[test]
 fn map_then_resolve_is_written_again(rt: HostRuntime) -> Result<(), Fail> {
     let bytes = map_then_resolve_bytes(rt.alloc())?;
@@ -110,15 +94,7 @@ fn map_then_resolve(rt: HostRuntime) -> Result<(), Fail> {
     let trace = read(rt.alloc(), &bytes)?;
     assert!(rt; Config::new(Depth::Four, 1, 1, 4) == Ok(trace.config()));
     assert!(rt; trace.log() == [0].as_slice());
-    let map = Op::map(Depth::Four, 0x400000, Size::K4, 0x1000, Rights::ALL)?;
-    let mapped = Answer::Mapped(0x1123, Size::K4, Rights::ALL);
-    let events = [
-        call(0, Request::update(map)),
-        reply(0, 0, Answer::Done),
-        call(0, Request::resolve(Depth::Four, 0x400123)?),
-        reply(2, 1, mapped),
-    ];
-    assert!(rt; trace.events() == events.as_slice());
+    assert!(rt; trace.events() == map_then_resolve_events(rt.alloc())?.as_slice());
     assert_eq!(rt; trace.dumps().len(), 1);
     let dump = &trace.dumps()[0];
     assert_eq!(rt; dump.applied(), 1);
@@ -131,40 +107,77 @@ fn map_then_resolve(rt: HostRuntime) -> Result<(), Fail> {
     Ok(())
 }
 
+/// Changes of the trace without calls, and the fault of each.
+static CHANGES_OF_EMPTY: [(&[(usize, u8)], Format); 8] = [
+    (&[(13, 1), (15, 1)], Format::BadCount),
+    (&[(5, 0)], Format::BadVersion),
+    (&[(5, 3)], Format::BadVersion),
+    (&[(3, b'X')], Format::BadMagic),
+    (&[(5, 1), (6, 5)], Format::BadCount),
+    (&[(5, 1), (6, 3)], Format::BadCount),
+    (&[(5, 2), (6, 6)], Format::BadCount),
+    (&[(5, 2), (6, 3)], Format::BadCount),
+];
+
+/// Changes of map-then-resolve, and the fault of each.
+static CHANGES: [(&[(usize, u8)], Format); 4] = [
+    (&[(31, 1)], Format::BadEvent(0)),
+    (&[(4247, 1)], Format::BadFrame(0, 1)),
+    (&[(97, 8), (99, 0)], Format::BadEvent(3)),
+    (&[(97, 9), (99, 0)], Format::BadEvent(3)),
+];
+
+/// Changes of the user's write, and the fault of each.
+static CHANGES_OF_ACCESS: [(&[(usize, u8)], Format); 9] = [
+    (&[(5, 1)], Format::BadEvent(2)),
+    (&[(76, 5)], Format::BadEvent(2)),
+    (&[(77, 3)], Format::BadEvent(2)),
+    (&[(78, 2)], Format::BadEvent(2)),
+    (&[(79, 1)], Format::BadEvent(2)),
+    (&[(94, 16)], Format::BadEvent(2)),
+    (&[(97, 10)], Format::BadEvent(3)),
+    (&[(98, 1)], Format::BadEvent(3)),
+    (&[(99, 1)], Format::BadEvent(3)),
+];
+
+/// Reads the bytes with each of these changes, and holds the fault against what is expected.
+fn run(
+    rt: &impl Abort,
+    alloc: Global,
+    bytes: &[u8],
+    cases: &[(&'static [(usize, u8)], Format)],
+) -> Result<(), Fail> {
+    for (place, (changes, fault)) in cases.iter().enumerate() {
+        let told = fault_of(alloc, &changed(alloc, bytes, *changes)?);
+        assert_eq!(rt; told, Some(*fault), "case {place}");
+    }
+    Ok(())
+}
+
 #[test]
 fn malformed_bytes(rt: HostRuntime) -> Result<(), Fail> {
     let alloc = rt.alloc();
     let empty = empty_bytes(alloc)?;
     let first = map_then_resolve_bytes(alloc)?;
-    let mut longer = empty_bytes(alloc)?;
-    longer.push(0)?;
-    let mut shorter = empty_bytes(alloc)?;
-    let _ = shorter.pop();
-    assert_eq!(rt; fault_of(alloc, &shorter), Some(Format::Truncated));
-    assert_eq!(rt; fault_of(alloc, &longer), Some(Format::Trailing));
+    run(&rt, alloc, &empty, &CHANGES_OF_EMPTY)?;
+    run(&rt, alloc, &first, &CHANGES)?;
+    run(
+        &rt,
+        alloc,
+        &changed(alloc, &first, &ACCESS)?,
+        &CHANGES_OF_ACCESS,
+    )
+}
+
+#[test]
+fn lengths(rt: HostRuntime) -> Result<(), Fail> {
+    let alloc = rt.alloc();
+    let mut bytes = empty_bytes(alloc)?;
+    bytes.push(0)?;
+    assert_eq!(rt; fault_of(alloc, &bytes), Some(Format::Trailing));
+    bytes.truncate(4139);
+    assert_eq!(rt; fault_of(alloc, &bytes), Some(Format::Truncated));
     assert_eq!(rt; fault_of(alloc, &[]), Some(Format::Truncated));
-    assert_eq!(rt;
-        fault_of(alloc, &changed(alloc, &first, &[(31, 1)])?),
-        Some(Format::BadEvent(0))
-    );
-    let many = changed(alloc, &empty, &[(13, 1), (15, 1)])?;
-    assert_eq!(rt; fault_of(alloc, &many), Some(Format::BadCount));
-    assert_eq!(rt;
-        fault_of(alloc, &changed(alloc, &empty, &[(5, 0)])?),
-        Some(Format::BadVersion)
-    );
-    assert_eq!(rt;
-        fault_of(alloc, &changed(alloc, &empty, &[(5, 3)])?),
-        Some(Format::BadVersion)
-    );
-    assert_eq!(rt;
-        fault_of(alloc, &changed(alloc, &empty, &[(3, b'X')])?),
-        Some(Format::BadMagic)
-    );
-    assert_eq!(rt;
-        fault_of(alloc, &changed(alloc, &first, &[(4247, 1)])?),
-        Some(Format::BadFrame(0, 1))
-    );
     Ok(())
 }
 
@@ -182,7 +195,7 @@ fn reads_that_ask_for_rights(rt: HostRuntime) -> Result<(), Fail> {
     let bytes = changed(alloc, &first, &ACCESS)?;
     let trace = read(alloc, &bytes)?;
     let access = Request::access(Depth::Four, 0x400123, Mode::User, Access::Write)?;
-    let call = call(0, access);
+    let call = call(0, 0, access);
     let reply = reply(2, 1, Answer::Allowed(0x1123));
     assert_eq!(rt; trace.events().len(), 4);
     assert!(rt; trace.events()[2] == call && trace.events()[3] == reply);
@@ -191,74 +204,11 @@ fn reads_that_ask_for_rights(rt: HostRuntime) -> Result<(), Fail> {
 }
 
 #[test]
-fn malformed_accesses(rt: HostRuntime) -> Result<(), Fail> {
-    let alloc = rt.alloc();
-    let first = map_then_resolve_bytes(alloc)?;
-    let access = changed(alloc, &first, &ACCESS)?;
-    for (at, byte) in [(5, 1), (76, 5), (77, 3), (78, 2), (79, 1), (94, 16)] {
-        let fault = fault_of(alloc, &changed(alloc, &access, &[(at, byte)])?);
-        assert_eq!(rt; fault, Some(Format::BadEvent(2)));
-    }
-    for (at, byte) in [(97, 10), (98, 1), (99, 1)] {
-        let fault = fault_of(alloc, &changed(alloc, &access, &[(at, byte)])?);
-        assert_eq!(rt; fault, Some(Format::BadEvent(3)));
-    }
-    for answer in [8, 9] {
-        let fault = fault_of(alloc, &changed(alloc, &first, &[(97, answer), (99, 0)])?);
-        assert_eq!(rt; fault, Some(Format::BadEvent(3)));
-    }
-    Ok(())
-}
-
-#[test]
 fn five_levels(rt: HostRuntime) -> Result<(), Fail> {
     let alloc = rt.alloc();
-    let empty = empty_bytes(alloc)?;
-    let bytes = changed(alloc, &empty, &[(5, 2), (6, 5)])?;
+    let bytes = changed(alloc, &empty_bytes(alloc)?, &[(5, 2), (6, 5)])?;
     let trace = read(alloc, &bytes)?;
-    let config = Config::new(Depth::Five, 1, 1, 1)?;
-    assert!(rt; trace.config() == config);
+    assert!(rt; Config::new(Depth::Five, 1, 1, 1) == Ok(trace.config()));
     assert!(rt; write(alloc, &trace)?.as_slice() == bytes.as_slice());
-    for (version, levels) in [(1, 5), (1, 3), (2, 6), (2, 3)] {
-        let other = changed(alloc, &empty, &[(5, version), (6, levels)])?;
-        assert_eq!(rt; fault_of(alloc, &other), Some(Format::BadCount));
-    }
-    let none = Vec::new(alloc);
-    let dumps = vec![in alloc; one_frame(alloc)?]?;
-    let first = Trace::new(Version::V1, config, none, Vec::new(alloc), dumps);
-    assert_eq!(rt; first.err(), Some(Format::BadCount));
-    Ok(())
-}
-
-#[test]
-fn parts_make_a_trace(rt: HostRuntime) -> Result<(), Fail> {
-    let alloc = rt.alloc();
-    let config = Config::new(Depth::Four, 1, 1, 1)?;
-    let reply = reply(7, 9, Answer::Done);
-    let call = call(1, Request::resolve(Depth::Four, 0)?);
-    let no_dump = Trace::new(
-        Version::V1,
-        config,
-        Vec::new(alloc),
-        vec![in alloc; reply]?,
-        Vec::new(alloc),
-    );
-    assert_eq!(rt; no_dump.err(), Some(Format::BadCount));
-    let other_thread = Trace::new(
-        Version::V1,
-        config,
-        Vec::new(alloc),
-        vec![in alloc; reply, call]?,
-        vec![in alloc; one_frame(alloc)?]?,
-    );
-    assert_eq!(rt; other_thread.err(), Some(Format::BadEvent(1)));
-    let trace = Trace::new(
-        Version::V1,
-        config,
-        Vec::new(alloc),
-        vec![in alloc; reply]?,
-        vec![in alloc; one_frame(alloc)?]?,
-    )?;
-    assert_eq!(rt; trace.events().len(), 1);
     Ok(())
 }

@@ -35,24 +35,24 @@ fn dumps(alloc: Global, applied: u32) -> Result<Vec<Dump>, Fail> {
     Ok(dumps)
 }
 
-fn call(replica: u8, request: Request) -> Recorded {
+pub(crate) fn call(replica: u8, thread: u16, request: Request) -> Recorded {
     Recorded::of(Event::Call {
         replica,
-        thread: 0,
+        thread,
         request,
     })
 }
 
-fn reply(call: u32, at: u32, answer: Answer) -> Recorded {
+pub(crate) fn reply(call: u32, at: u32, answer: Answer) -> Recorded {
     Recorded::of(Event::Reply { call, at, answer })
 }
 
-fn map_then_resolve_events(alloc: Global) -> Result<Vec<Recorded>, Fail> {
+pub(crate) fn map_then_resolve_events(alloc: Global) -> Result<Vec<Recorded>, Fail> {
     let map = Op::map(Depth::Four, 0x400000, Size::K4, 0x1000, Rights::ALL)?;
     let mut events = Vec::new(alloc);
-    events.push(call(0, Request::update(map)))?;
+    events.push(call(0, 0, Request::update(map)))?;
     events.push(reply(0, 0, Answer::Done))?;
-    events.push(call(0, Request::resolve(Depth::Four, 0x400123)?))?;
+    events.push(call(0, 0, Request::resolve(Depth::Four, 0x400123)?))?;
     events.push(reply(2, 1, Answer::Mapped(0x1123, Size::K4, Rights::ALL)))?;
     Ok(events)
 }
@@ -87,27 +87,43 @@ fn map_then_resolve(rt: HostRuntime) -> Result<(), Fail> {
     Ok(())
 }
 
+/// Why no trace of version 1 is made of no log, these events and these dumps, if none is.
+fn refusal(
+    alloc: Global,
+    depth: Depth,
+    events: &[Recorded],
+    dumps: Vec<Dump>,
+) -> Result<Option<Format>, Fail> {
+    let config = Config::new(depth, 1, 1, 1)?;
+    let mut kept = Vec::new(alloc);
+    for event in events {
+        kept.push(*event)?;
+    }
+    Ok(Trace::new(Version::V1, config, Vec::new(alloc), kept, dumps).err())
+}
+
 #[test]
 fn parts_out_of_range(rt: HostRuntime) -> Result<(), Fail> {
-    let config = config(4)?;
     let alloc = rt.alloc();
-    let no_dump = Trace::new(
-        Version::V1,
-        config,
-        Vec::new(alloc),
-        Vec::new(alloc),
-        Vec::new(alloc),
-    );
-    assert!(rt; matches!(no_dump, Err(Format::BadCount)));
-    let mut events = map_then_resolve_events(alloc)?;
-    events.push(call(1, Request::resolve(Depth::Four, 0)?))?;
-    let mut bare = Vec::new(alloc);
-    bare.push(Dump::new(alloc, 0, 1))?;
-    let no_replica = Trace::new(Version::V1, config, Vec::new(alloc), events, bare);
-    assert!(rt; matches!(no_replica, Err(Format::BadEvent(4))));
-    let mut bare = Vec::new(alloc);
-    bare.push(Dump::new(alloc, 0, 1))?;
-    let no_frame = Trace::new(Version::V1, config, Vec::new(alloc), Vec::new(alloc), bare);
-    assert!(rt; matches!(no_frame, Err(Format::BadCount)));
+    let four = Depth::Four;
+    let reply = [reply(7, 9, Answer::Done)];
+    let other_thread = [reply[0], call(0, 1, Request::resolve(four, 0)?)];
+    let mut other_replica = map_then_resolve_events(alloc)?;
+    other_replica.push(call(1, 0, Request::resolve(four, 0)?))?;
+    let bad_count = Some(Format::BadCount);
+    let told = refusal(alloc, four, &reply, dumps(alloc, 0)?)?;
+    assert_eq!(rt; told, None);
+    let told = refusal(alloc, Depth::Five, &[], dumps(alloc, 0)?)?;
+    assert_eq!(rt; told, bad_count);
+    let told = refusal(alloc, four, &reply, Vec::new(alloc))?;
+    assert_eq!(rt; told, bad_count);
+    let told = refusal(alloc, four, &other_thread, dumps(alloc, 0)?)?;
+    assert_eq!(rt; told, Some(Format::BadEvent(1)));
+    // a dump without frames comes after the events
+    let no_frame = vec![in alloc; Dump::new(alloc, 0, 1)]?;
+    let told = refusal(alloc, four, &other_replica, no_frame)?;
+    assert_eq!(rt; told, Some(Format::BadEvent(4)));
+    let no_frame = vec![in alloc; Dump::new(alloc, 0, 1)]?;
+    assert_eq!(rt; refusal(alloc, four, &[], no_frame)?, bad_count);
     Ok(())
 }

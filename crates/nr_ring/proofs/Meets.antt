@@ -1,7 +1,7 @@
--- A pass that was told of another looks.
+-- A pass to which another was joined looks.
 use Rattle.std.proofs.Common.{◌≡◌, ℕ, ◌<◌, List, [], All, Option, length, ap, sym, subst, ◌∙◌, arith}
 use Rattle.vs_types.specs.declared.depth.Depth.{Depth}
-use Rattle.nr_ring.specs.Calls.{IsCut, Looks, copied, joined}
+use Rattle.nr_ring.specs.Calls.{HasLooked, IsCut, Looks, joined}
 use Rattle.nr_ring.specs.View.{StartsWith}
 use Rattle.nr_ring.specs.declared.view.View.{View}
 use Rattle.nr_ring.specs.inside.Held.{Remembers}
@@ -11,17 +11,16 @@ use Rattle.nr_ring.proofs.Passes.{longer, told_before}
 pub cut_nothing : (owns : List ℕ) → IsCut owns owns []
 cut_nothing owns = record { kept_of = λ r has. has; given_of = λ r has. absurd (omega (arith, has.1)); apart = λ r kept given. absurd (omega (arith, given.1)) }
 
--- what the look after a join tells, of the views that contracts see
-pub told_looks : (depth : Depth) (replicas : ℕ) (words : List ℕ) (held pass copy between told other after : View) → between ≡ joined held copy
-    → copy ≡ copied pass [] → held ≡ told → pass ≡ other → Looks depth replicas words between after
-    → Looks depth replicas words (joined told other) after
-told_looks depth replicas words held pass copy between told other after first second own its looks =
+-- what the look after a join tells, of the view that contracts see
+pub joined_looks : (depth : Depth) (replicas : ℕ) (words : List ℕ) (held copy between pass after : View) → between ≡ joined held copy → held ≡ pass
+    → Looks depth replicas words between after → Looks depth replicas words (joined pass copy) after
+joined_looks depth replicas words held copy between pass after first own looks =
     let Is : View → Type 0 = λ v. Looks depth replicas words v after in
-    subst Is (first ∙ ap (joined held) second ∙ ap (λ (w : View). joined w pass) own ∙ ap (joined told) its) looks
+    subst Is (first ∙ ap (λ (w : View). joined w copy) own) looks
 
-pub met : (depth : Depth) (replicas : ℕ) (words : List ℕ) (told other after : View) → Looks depth replicas words (joined told other) after
+pub met : (depth : Depth) (replicas : ℕ) (told other after : View) → HasLooked depth replicas (joined told other) after
     → StartsWith after.seen other.seen × StartsWith after.seen told.seen
-met depth replicas words told other after looks = (looks.looked.told 0 [] (omega arith), looks.looked.told 1 [] (omega arith))
+met depth replicas told other after looked = (looked.told 0 [] (omega arith), looked.told 1 [] (omega arith))
 
 pub met_remembers : (depth : Depth) (replicas : ℕ) (words words' : List ℕ) (replica : Option ℕ) (told other after : View)
     → Remembers depth replicas words replica told → Looks depth replicas words' (joined told other) after
@@ -34,7 +33,7 @@ met_remembers depth replicas words words' replica told other after is looks = re
   owned_below = is.owned_below;
   mine =
       let P : List ℕ → Type 0 = λ l. All (λ number. number < length after.seen) l in
-      let more = longer after.seen told.seen (met depth replicas words' told other after looks).1 in
+      let more = longer after.seen told.seen (met depth replicas told other after looks.looked).1 in
       subst P (sym looks.looked.mine) (λ k d lt. omega (arith, is.mine k d lt, more));
   told = told_before after (joined told other) looks.looked.told_stays looks.looked.told;
 }

@@ -1,5 +1,12 @@
 //! A thread's pass to a log.
+ghost use Rattle.std.specs.Prelude.{◌≡◌};
+ghost use Rattle.crossbeam_utils.specs.Seq.{cell_view};
+ghost use Rattle.nr_ring.specs.History.{log_after};
+ghost use Rattle.nr_ring.specs.Pass.{tails_of};
+ghost use Rattle.nr_ring.specs.inside.Held.{Remembers};
+
 use crate::name::LogName;
+use crate::tails::{Tails, tails_in};
 use crate::view::View;
 use crossbeam_utils::atomic::seq_cell::Pass;
 use std::marker::{Model, PhantomData};
@@ -25,4 +32,31 @@ impl<J: LogName> Model for LogPass<J> {
     ghost view = { λ p. record { log = p.pass.table_id; view = cell_view p.pass } };
 
     ghost invariant = { λ p. Remembers J.depth J.replicas p.words p.replica (cell_view p.pass) };
+}
+
+impl<J: LogName> LogPass<J> {
+    /// A pass that saw these words when the log was new.
+    pub(crate) fn new(
+        pass: Pass<[u64; 39], View>,
+        words: [u64; 39],
+        replica: Option<u8>,
+    ) -> LogPass<J>
+        requires { Remembers J.depth J.replicas words replica (cell_view pass) }
+        ensures { (result.log ≡ pass.table_id) × (result.view ≡ cell_view pass) }
+    {
+        LogPass {
+            pass,
+            words,
+            mark: Some(0),
+            replica,
+            of: PhantomData,
+        }
+    }
+
+    /// The tails of the log after all that the pass has seen.
+    pub(crate) fn tails(&self) -> Tails
+        ensures { result ≡ tails_of (log_after J.replicas self.now.view.seen) }
+    {
+        tails_in(&self.words)
+    }
 }

@@ -3,7 +3,7 @@ ghost use Rattle.std.specs.Prelude.{◌≡◌, ◌≤◌, ◌-◌, ◌<◌, ℕ,
 ghost use Rattle.std.specs.List.{range_with_len};
 ghost use Rattle.vs_types.specs.LogEntry.{IsLogEntry};
 ghost use Rattle.crossbeam_utils.specs.Seq.{cell_view, IsSamePass};
-ghost use Rattle.nr_ring.specs.Calls.{HasLooked, HasMoved, HasTaken, MayMake, MayTake, joined, with_event};
+ghost use Rattle.nr_ring.specs.Calls.{HasLooked, HasMoved, HasTaken, MayMake, MayTake, copied, joined, with_event};
 ghost use Rattle.nr_ring.specs.History.{IsHistory, MayAdvance, MayAppend, MayFollow, after, log_after};
 ghost use Rattle.nr_ring.specs.declared.event.Event.TheVariants.{Append, Advance};
 ghost use Rattle.nr_ring.specs.Entries.{HasAppended, IsReason, to_take};
@@ -17,7 +17,7 @@ use crate::exchange_count::ExchangeCount;
 use crate::name::LogName;
 use crate::pass::LogPass;
 use crate::rule::{Copies, Exchanging, FirstOwned, Happening, LogRule, Looking};
-use crate::tails::{AppendFault, Moved, Tails, tails_in};
+use crate::tails::{AppendFault, Moved, Tails};
 use crate::view::View;
 use arrayvec::ArrayVec;
 use crossbeam_utils::atomic::seq_cell::{Pass, RuledSeqCell};
@@ -98,13 +98,7 @@ impl<J: LogName> RingLog<J> {
         ensures pass { result ≡ new_pass self.now (owned replica) }
     {
         let pass = self.cell.split_pass::<FirstOwned>(first);
-        LogPass {
-            pass,
-            words,
-            mark: Some(0),
-            replica,
-            of: PhantomData,
-        }
+        LogPass::new(pass, words, replica)
     }
 
     /// The tails of the log after all that the pass has then seen.
@@ -117,7 +111,7 @@ impl<J: LogName> RingLog<J> {
         ensures tails { result ≡ tails_of (log_after J.replicas pass.new.view.seen) }
     {
         self.refresh(rt, pass);
-        tails_in(&pass.words)
+        pass.tails()
     }
 
     /// Has the words of the pass be those of the cell: loads the cell, but where they are so still.
@@ -194,9 +188,9 @@ impl<J: LogName> RingLog<J> {
         self.exchange::<E, R>(rt, pass, next)
     }
 
-    /// Looks, and then appends 1 to 16 entries at the log's depth: the place of the first. `LogEnded` where the log would go past
-    /// 65,536 entries; `Full` where some replica would have more than 16 entries to take; `Moved` where neither holds, but
-    /// another pass's event came after the look. The tails are those of the log that the pass has then seen.
+    /// Loads the cell, and then appends 1 to 16 entries at the log's depth: the place of the first. `LogEnded` where the log would
+    /// go past 65,536 entries; `Full` where some replica would have more than 16 entries to take; `Moved` where neither holds, but
+    /// another pass's event came after the load. The tails are those of the log that the pass has then seen.
     ///
     /// Waits for the cell.
     pub fn append<R: Wait>(
@@ -216,10 +210,11 @@ impl<J: LogName> RingLog<J> {
         ensures history { IsHistory J.depth J.replicas pass.new.view.seen }
     {
         let count = batch.len() as u64;
-        let tails = self.look(rt, pass);
+        self.load(rt, pass);
+        let place = pass.tails().tail;
         test_room(&pass.words, count)?;
         if self.try_append::<Brand, R>(rt, pass, batch) {
-            return Ok(tails.tail);
+            return Ok(place);
         }
         Err(why_not(&pass.words, count))
     }
@@ -309,9 +304,28 @@ impl<J: LogName> RingLog<J> {
         ensures met { StartsWith told.new.view.seen pass.old.view.seen × StartsWith told.new.view.seen told.old.view.seen }
         ensures looked { HasLooked J.depth J.replicas (joined told.old.view pass.old.view) told.new.view }
     {
-        let copy = self.cell.split_pass::<Copies>(&mut pass.pass);
-        self.cell.join_pass::<Copies>(&mut told.pass, copy);
-        told.mark = self.exchanges.mark();
-        told.words = self.cell.load_as::<Looking<J>, R>(rt, &mut told.pass);
+        let copy = self.copy(pass);
+        self.join(rt, told, copy);
+    }
+
+    /// A pass to the cell that has seen what this one has, and owns and has made nothing.
+    fn copy(&self, pass: &mut LogPass<J>) -> Pass<[u64; 39], View>
+        requires { pass.old.log ≡ self.now }
+        ensures pass { pass.new ≡ pass.old }
+        ensures copy { (result.table_id ≡ self.now) × (cell_view result ≡ copied pass.old.view []) × (result.me.1 ≡ []) }
+    {
+        self.cell.split_pass::<Copies>(&mut pass.pass)
+    }
+
+    /// Joins a pass to the cell that has made nothing to one of the log, which then loads the cell.
+    fn join<R: Wait>(&self, rt: &R, pass: &mut LogPass<J>, copy: Pass<[u64; 39], View>)
+        requires log { pass.old.log ≡ self.now }
+        requires copy { (copy.table_id ≡ self.now) × ((cell_view copy).mine ≡ []) × (copy.me.1 ≡ []) }
+        ensures log { pass.new.log ≡ pass.old.log }
+        ensures looked { HasLooked J.depth J.replicas (joined pass.old.view (cell_view copy)) pass.new.view }
+    {
+        self.cell.join_pass::<Copies>(&mut pass.pass, copy);
+        pass.mark = self.exchanges.mark();
+        pass.words = self.cell.load_as::<Looking<J>, R>(rt, &mut pass.pass);
     }
 }

@@ -1,3 +1,5 @@
+ghost use Rattle.std.specs.Prelude.{◌≤◌};
+
 use crate::appends::{Appends, Taken, append};
 use crate::fault::ProgFault;
 use crate::looks::{Looks, look};
@@ -79,14 +81,25 @@ fn try_run<R: Env + AllocGlobal + Print + Eprint + Clock + Threads + Wait + Sync
             print_rate(rt, "look", threads, all, looks.time)
         }
         Call::Append => {
-            if all > 65_536 {
-                return Err(ProgFault::BadWords);
-            }
-            let appends = append::<Brand, R>(rt, rt.alloc(), threads, calls)?;
+            let appends = make_appends(rt, threads, calls)?;
             print_appends(rt, &appends)?;
             print_rate(rt, "append", threads, all, appends.time)
         }
     }
+}
+
+/// Makes the appends, if a log has the room for them.
+fn make_appends<R: AllocGlobal + Clock + Threads + Wait + Sync>(
+    rt: &R,
+    threads: u8,
+    calls: u32,
+) -> Result<Appends, ProgFault>
+    requires { (1 ≤ threads) × (threads ≤ 4) }
+{
+    if u64::from(threads) * u64::from(calls) > 65_536 {
+        return Err(ProgFault::BadWords);
+    }
+    append::<Brand, R>(rt, rt.alloc(), threads, calls)
 }
 
 /// How many looks there were, and the sum of the tails that they found.

@@ -3,6 +3,3 @@ use Rattle.ring_benchmark.proofs.command.try_run.Given as goal
 
 abbrev pub ghosts-look : goal.ghosts-look
 ghosts-look g a = record { depth = Four; replicas = a.threads }
-
-abbrev pub ghosts-append : goal.ghosts-append
-ghosts-append g a = record { depth = Four; replicas = a.threads }

@@ -17,13 +17,13 @@ returns-clause-refused g c =
     let depth = g.J.LogName.depth in
     let replicas = g.J.LogName.replicas in
     let old = c.args.pass.now.view in
-    let middle = c.look-tails.new.pass.view in
+    let middle = c.load.new.pass.view in
     let new = c.try_append.new.pass.view in
     let log = log_after replicas new.seen in
     let words = c.pass-2.inside.words in
     let Is : View → Type 0 = λ v. IsWordsOf (log_after replicas v.seen) words in
     let are = subst Is (ap (λ (k : Known). k.view) c.pass-2.view_is) c.pass-2.invariant.words_are in
-    let first = c.look-tails.ensures.looked in
+    let first = c.load.ensures.looked in
     let second = c.if-try_append.ensures.view in (
       looked_twice depth replicas old middle new first second.0,
       reason log _ old new c.why_not.result (c.why_not.ensures log are) (moved_later depth replicas old middle new first second.1),

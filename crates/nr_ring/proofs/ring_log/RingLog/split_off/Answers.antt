@@ -18,8 +18,8 @@ split_pass-pass-requires g c =
       ),
     )
 
-pub invariant_of-result : goal.invariant_of-result
-invariant_of-result g c =
+pub new-requires : goal.new-requires
+new-requires g c =
     let replicas = g.J.LogName.replicas in
     let view = c.split_pass-pass.ensures.given.1 ∙ ap (λ (v : View). copied v (take 1 v.owns)) c.requires.first.1
     ∙ ap new_view (gives_first replicas c.args.replica c.requires.few.1) in
@@ -42,4 +42,4 @@ returns-clause-pass g c =
     let given = c.split_pass-pass.ensures.given in
     let log = given.0 ∙ c.requires.first.0 in
     let view = given.1 ∙ ap (λ (v : View). copied v (take 1 v.owns)) c.requires.first.1 ∙ ap new_view (gives_first replicas c.args.replica c.requires.few.1) in
-    λ i. record { log = log i; view = view i }
+    λ i. record { log = (c.new.ensures.0 ∙ log) i; view = (c.new.ensures.1 ∙ view) i }

@@ -1,0 +1,250 @@
+use nr_dump::DumpFault;
+use vs_types::{Depth, Size};
+
+/// 512 words.
+#[derive(Clone, Copy)]
+pub enum Frame {
+    /// 0 but for these at their indexes.
+    Words(&'static [(usize, u64)]),
+    /// Those of pages of 4 KiB each, one after another, with all rights, from this physical address on.
+    Pages(u64),
+}
+
+/// A dump of frames 1, 2, 3 and so on, pages of a space, each with all rights, and what a check of the two tells.
+#[derive(Clone, Copy)]
+pub struct Case {
+    pub name: &'static str,
+    pub depth: Depth,
+    pub root: u64,
+    pub frames: &'static [Frame],
+    /// Of each page the base, the size and the physical address.
+    pub pages: &'static [(u64, Size, u64)],
+    pub told: Result<(), DumpFault>,
+}
+
+/// A root without a page, beside no page.
+const EMPTY: Case = Case {
+    name: "an empty root",
+    depth: Depth::Four,
+    root: 1,
+    frames: &[NONE],
+    pages: &[],
+    told: Ok(()),
+};
+
+const NONE: Frame = Frame::Words(&[]);
+
+const TO_FIRST: Frame = Frame::Words(&[(0, 0x1007)]);
+
+const TO_SECOND: Frame = Frame::Words(&[(0, 0x2007)]);
+
+const TO_THIRD: Frame = Frame::Words(&[(0, 0x3007)]);
+
+const LARGE: Frame = Frame::Words(&[(0, 0x87)]);
+
+/// A small page.
+const SMALL: &[(u64, Size, u64)] = &[(0x400000, Size::K4, 0x1000)];
+
+/// The tables of one page under a root of five levels, whose index 256 begins the high half.
+const HIGH: &[Frame] = &[
+    Frame::Words(&[(256, 0x2007)]),
+    TO_THIRD,
+    Frame::Words(&[(0, 0x4007)]),
+    Frame::Words(&[(0, 0x5007)]),
+    TO_THIRD,
+];
+
+/// Whatever the depth.
+pub static AT_BOTH_DEPTHS: [Case; 9] = [
+    Case {
+        name: "a root that reaches itself",
+        frames: &[TO_FIRST],
+        told: Err(DumpFault::SharedFrame(1)),
+        ..EMPTY
+    },
+    Case {
+        name: "a frame that is not there",
+        frames: &[TO_SECOND],
+        told: Err(DumpFault::MissingFrame(2)),
+        ..EMPTY
+    },
+    Case {
+        name: "a frame that is not reached",
+        frames: &[NONE, NONE],
+        told: Err(DumpFault::StrayFrame(2)),
+        ..EMPTY
+    },
+    Case {
+        name: "a root that is not there",
+        root: 5,
+        told: Err(DumpFault::MissingFrame(5)),
+        ..EMPTY
+    },
+    Case {
+        name: "a missing frame, then a reserved bit",
+        frames: &[Frame::Words(&[(0, 0x2007), (1, 0x87)])],
+        told: Err(DumpFault::MissingFrame(2)),
+        ..EMPTY
+    },
+    Case {
+        name: "a reserved bit in the root",
+        frames: &[Frame::Words(&[(0, 0x2007), (1, 0x87)]), NONE],
+        told: Err(DumpFault::ReservedBit(1, 1)),
+        ..EMPTY
+    },
+    Case {
+        name: "a frame reached twice",
+        frames: &[Frame::Words(&[(0, 0x2007), (1, 0x2007)]), NONE],
+        told: Err(DumpFault::SharedFrame(2)),
+        ..EMPTY
+    },
+    Case {
+        name: "a table that reaches the root",
+        frames: &[TO_SECOND, TO_FIRST],
+        told: Err(DumpFault::SharedFrame(1)),
+        ..EMPTY
+    },
+    Case {
+        name: "a table without a page",
+        frames: &[TO_SECOND, NONE],
+        told: Ok(()),
+        ..EMPTY
+    },
+];
+
+pub static AT_FOUR_LEVELS: [Case; 11] = [
+    // bit 13 of a page of 2 MiB is reserved, and bit 12 is ignored
+    Case {
+        name: "bit 13 of a page of 2 MiB",
+        frames: &[TO_SECOND, TO_THIRD, Frame::Words(&[(1, 0x202087)])],
+        told: Err(DumpFault::ReservedBit(3, 1)),
+        ..EMPTY
+    },
+    Case {
+        name: "bit 12 of a page of 2 MiB",
+        frames: &[TO_SECOND, TO_THIRD, Frame::Words(&[(1, 0x201087)])],
+        told: Err(DumpFault::Differs(0x200000)),
+        ..EMPTY
+    },
+    Case {
+        name: "a page of 1 GiB at four levels",
+        frames: &[TO_SECOND, LARGE],
+        told: Err(DumpFault::Differs(0)),
+        ..EMPTY
+    },
+    Case {
+        name: "all rights",
+        frames: &[TO_SECOND, TO_THIRD, Frame::Words(&[(2, 0x4007)]), TO_FIRST],
+        pages: SMALL,
+        told: Ok(()),
+        ..EMPTY
+    },
+    Case {
+        name: "fewer rights in a table",
+        frames: &[TO_SECOND, TO_THIRD, Frame::Words(&[(2, 0x4003)]), TO_FIRST],
+        pages: SMALL,
+        told: Err(DumpFault::Differs(0x400000)),
+        ..EMPTY
+    },
+    Case {
+        name: "fewer rights in a page",
+        frames: &[
+            TO_SECOND,
+            TO_THIRD,
+            Frame::Words(&[(2, 0x4007)]),
+            Frame::Words(&[(0, 0x1006)]),
+        ],
+        pages: SMALL,
+        told: Err(DumpFault::Differs(0x400000)),
+        ..EMPTY
+    },
+    Case {
+        name: "a page of 2 MiB",
+        frames: &[TO_SECOND, TO_THIRD, Frame::Words(&[(2, 0x600087)])],
+        pages: &[(0x400000, Size::M2, 0x600000)],
+        told: Ok(()),
+        ..EMPTY
+    },
+    Case {
+        name: "the same bytes in small pages",
+        frames: &[
+            TO_SECOND,
+            TO_THIRD,
+            Frame::Words(&[(2, 0x4007)]),
+            Frame::Pages(0x600000),
+        ],
+        pages: &[(0x400000, Size::M2, 0x600000)],
+        told: Err(DumpFault::Differs(0x400000)),
+        ..EMPTY
+    },
+    // addresses are compared as numbers, so the low half comes before the high half
+    Case {
+        name: "a page in the high half",
+        frames: &[Frame::Words(&[(256, 0x2007)]), Frame::Words(&[(0, 0x83)])],
+        told: Err(DumpFault::Differs(0xFFFF800000000000)),
+        ..EMPTY
+    },
+    Case {
+        name: "another in the low half",
+        frames: &[Frame::Words(&[(256, 0x2007)]), Frame::Words(&[(0, 0x83)])],
+        pages: &[(0x7FFFFFFFF000, Size::K4, 0x2000)],
+        told: Err(DumpFault::Differs(0x7FFFFFFFF000)),
+        ..EMPTY
+    },
+    Case {
+        name: "a root of five levels at four",
+        frames: HIGH,
+        pages: &[(0xFFFF800000000000, Size::K4, 0x5000)],
+        told: Err(DumpFault::StrayFrame(5)),
+        ..EMPTY
+    },
+];
+
+pub static AT_FIVE_LEVELS: [Case; 6] = [
+    Case {
+        name: "an empty root of five levels",
+        depth: Depth::Five,
+        told: Ok(()),
+        ..EMPTY
+    },
+    Case {
+        name: "a large page in the root",
+        depth: Depth::Five,
+        frames: &[LARGE],
+        told: Err(DumpFault::ReservedBit(1, 0)),
+        ..EMPTY
+    },
+    Case {
+        name: "a page of 1 GiB at five levels",
+        depth: Depth::Five,
+        frames: &[TO_SECOND, LARGE],
+        told: Err(DumpFault::ReservedBit(2, 0)),
+        ..EMPTY
+    },
+    Case {
+        name: "a page in the high half of five",
+        depth: Depth::Five,
+        frames: HIGH,
+        told: Err(DumpFault::Differs(0xFF00000000000000)),
+        ..EMPTY
+    },
+    Case {
+        name: "the page in both",
+        depth: Depth::Five,
+        frames: HIGH,
+        pages: &[(0xFF00000000000000, Size::K4, 0x3000)],
+        told: Ok(()),
+        ..EMPTY
+    },
+    Case {
+        name: "one more in the low half",
+        depth: Depth::Five,
+        frames: HIGH,
+        pages: &[
+            (0xFF00000000000000, Size::K4, 0x3000),
+            (0xFFFFFFFFFFF000, Size::K4, 0x2000),
+        ],
+        told: Err(DumpFault::Differs(0xFFFFFFFFFFF000)),
+        ..EMPTY
+    },
+];

@@ -1,0 +1,5 @@
+use Rattle.vs_types.specs.declared.depth.Depth.TheVariants.{Four}
+use Rattle.ring_benchmark.proofs.command.make_appends.Given as goal
+
+abbrev pub ghosts-append : goal.ghosts-append
+ghosts-append g a = record { depth = Four; replicas = a.threads }
