@@ -17,7 +17,7 @@ use Rattle.vs_types.specs.declared.request.Query.TheVariants.{Update, Resolve, A
 use Rattle.vs_types.specs.declared.answer.Answer.{Answer}
 use Rattle.vs_plain.specs.Plain.{BoundedSpace}
 use Rattle.nr_trace.specs.Recording.{Recording}
-use Rattle.nr_trace.specs.Calls.{Invocation, call_of, operation_in, operation_of, reply_to}
+use Rattle.nr_trace.specs.Calls.{Invocation, Response, call_of, operation_in, operation_of, reply_to}
 use Rattle.nr_trace.specs.Orders.{before, updates, operations, space_after, answer_in, recorded_order}
 use Rattle.nr_trace.specs.Faults.{Holds, Earlier, IsWrong}
 use Rattle.nr_trace.specs.Laws.{HasCleanLog}
@@ -28,10 +28,8 @@ use Rattle.nr_trace.proofs.LawsOfFaults.{wrong_is_member}
 use Rattle.nr_audit.specs.inside.Search.{HasNone, IsFirstAmong}
 use Rattle.nr_audit.specs.inside.Passes.{IsAnswerFault}
 use Rattle.nr_audit.specs.inside.Steps.{Serves}
-use Rattle.nr_audit.specs.inside.Replies.{without_call, replied_to}
-use Rattle.nr_audit.specs.declared.history.Reply.{Reply}
+use Rattle.nr_audit.specs.inside.Replies.{answer_to}
 use Rattle.nr_audit.proofs.Ranks.{earlier_cases}
-use Rattle.nr_audit.proofs.RepliesByTable.{response_of}
 
 -- ---- where a call stands among distinct ones
 
@@ -169,6 +167,12 @@ made_of : (o : Option Invocation) (query : Query) → Some query ≡ option_map 
 made_of None query e = absurd (cc)
 made_of (Some made) query e = (made, refl, cc)
 
+-- the reply that gives an answer
+response_of : (o : Option Response) (answer : Answer) → Some answer ≡ option_map (λ (r : Response). r.answer) o
+    → (response : Response) × (o ≡ Some response) × (response.answer ≡ answer)
+response_of None answer e = absurd (cc)
+response_of (Some response) answer e = (response, refl, cc)
+
 module _ (trace : Recording) (order : List ℕ) (listed : order ≡ recorded_order trace) (clean : HasCleanLog trace) where
   distinct : IsDistinct nat_eq order
   distinct = subst (λ xs. IsDistinct nat_eq xs) (sym listed) (order_distinct trace clean)
@@ -178,36 +182,36 @@ module _ (trace : Recording) (order : List ℕ) (listed : order ≡ recorded_ord
   before_here k within = subst (λ xs. before (get_or order k 0) xs ≡ take k order) listed (before_at order k 0 distinct within)
 
   -- an answer that is told and is not the space's is wrong
-  pub wrong_here : (k : ℕ) (query : Query) (answer : Answer) (told : Option Reply) → k < length order
+  pub wrong_here : (k : ℕ) (query : Query) (answer : Answer) (told : Option Answer) → k < length order
       → Some query ≡ option_map (λ (made : Invocation). made.request) (call_of trace (get_or order k 0))
-      → answer ≡ answer_in trace.layout (space_after trace (take k order)) query → told ≡ replied_to trace (get_or order k 0)
-      → (IfSome told (λ reply. reply.answer ≡ answer) → ⊥) → IsWrong trace (get_or order k 0)
+      → answer ≡ answer_in trace.layout (space_after trace (take k order)) query → told ≡ answer_to trace (get_or order k 0)
+      → (IfSome told (λ t. t ≡ answer) → ⊥) → IsWrong trace (get_or order k 0)
   wrong_here k query answer None within asks gives is differs = absurd (differs tt)
   wrong_here k query answer (Some told) within asks gives is differs =
       let made = made_of (call_of trace (get_or order k 0)) query asks in
-      let reply = response_of (reply_to trace (get_or order k 0)) told (sym is) in
+      let reply = response_of (reply_to trace (get_or order k 0)) told is in
       record {
         made = made.0;
         is_made = made.1;
         reply = reply.0;
         is_reply = reply.1;
-        differs = λ same. differs (sym reply.3 ∙ same
+        differs = λ same. differs (sym reply.2 ∙ same
             ∙ ap (λ xs. answer_in trace.layout (space_after trace xs) made.0.request) (before_here k within)
             ∙ ap (λ q. answer_in trace.layout (space_after trace (take k order)) q) made.2 ∙ sym gives);
       }
 
   -- one that is told, if any is, and is the space's is not
-  pub right_here : (k : ℕ) (query : Query) (answer : Answer) (told : Option Reply) → k < length order
+  pub right_here : (k : ℕ) (query : Query) (answer : Answer) (told : Option Answer) → k < length order
       → Some query ≡ option_map (λ (made : Invocation). made.request) (call_of trace (get_or order k 0))
-      → answer ≡ answer_in trace.layout (space_after trace (take k order)) query → told ≡ replied_to trace (get_or order k 0)
-      → IfSome told (λ reply. reply.answer ≡ answer) → IsWrong trace (get_or order k 0) → ⊥
+      → answer ≡ answer_in trace.layout (space_after trace (take k order)) query → told ≡ answer_to trace (get_or order k 0)
+      → IfSome told (λ t. t ≡ answer) → IsWrong trace (get_or order k 0) → ⊥
   right_here k query answer told within asks gives is agrees wrong =
       let made = made_of (call_of trace (get_or order k 0)) query asks in
       let one = made.1 in
       let two = wrong.is_made in
       let same : made.0 ≡ wrong.made = cc in
-      let here = is ∙ ap (λ o. option_map without_call o) wrong.is_reply in
-      wrong.differs (subst (λ o. IfSome o (λ reply. reply.answer ≡ answer)) here agrees ∙ gives
+      let here = is ∙ ap (λ o. option_map (λ (r : Response). r.answer) o) wrong.is_reply in
+      wrong.differs (subst (λ o. IfSome o (λ t. t ≡ answer)) here agrees ∙ gives
       ∙ ap (λ q. answer_in trace.layout (space_after trace (take k order)) q) (sym made.2 ∙ ap (λ (m : Invocation). m.request) same)
       ∙ ap (λ xs. answer_in trace.layout (space_after trace xs) wrong.made.request) (sym (before_here k within)))
 

@@ -128,6 +128,10 @@ refused_by_pass pass Among trace (Refused fault) are none first = first_of_pass 
 pub refused_of : (history trace : Recording) (fail : Fail Fault) → history ≡ trace → IfRefused (IsFirst history) fail → IfRefused (IsFirst trace) fail
 refused_of history trace fail same first = subst (λ t. IfRefused (IsFirst t) fail) same first
 
+pub refused_in : (Among : Fault → Type 0) (one other : Recording) (fail : Fail Fault) → one ≡ other → IfRefused (IsFirstAmong Among one) fail
+    → IfRefused (IsFirstAmong Among other) fail
+refused_in Among one other fail same first = subst (λ t. IfRefused (IsFirstAmong Among t) fail) same first
+
 call_from : (fault : Fault) → pass_of fault ≡ 2 → IsCallFault fault
 call_from (Format fault) e = absurd (omega arith)
 call_from (ThreadOpen index) e = (index, refl)

@@ -8,6 +8,7 @@ pub mod Standing
 pub mod FloorFaults
 pub mod Chains
 pub mod RecordedOrder
+pub mod LastEvents
 pub mod AnswerFaults
 pub mod AnswerEquality
 pub mod FirstOfPasses

@@ -13,8 +13,7 @@ use Rattle.std.specs.Prelude.{option_map}
 use Rattle.nr_trace.specs.Calls.{Invocation, address_in, address_of, call_of, IsRead, IsUpdate}
 use Rattle.nr_trace.proofs.LawsOfCalls.{not_both}
 use Rattle.nr_audit.specs.inside.Tables.{IsReplyBelow, AreReplies}
-use Rattle.nr_audit.specs.inside.Replies.{without_call, replied_to, entries_seen}
-use Rattle.nr_audit.specs.declared.history.Reply.{Reply}
+use Rattle.nr_audit.specs.inside.Replies.{position_of, entries_seen}
 use Rattle.nr_audit.proofs.CallsAndReplies.{reply_by}
 
 -- the first thing that is given, where just one is
@@ -65,23 +64,13 @@ replied trace call (Some index) h =
     (ap (λ (p : Option Event). is_some (option_and_then (λ (reply : Response). if reply.call == call then Some reply else None) (option_and_then reply_in p)))
     is ∙ ap is_some given)) ∙ sym named.1
 
--- what a reply is made of
-pub response_of : (o : Option Response) (reply : Reply) → option_map without_call o ≡ Some reply
-    → (response : Response) × (o ≡ Some response) × (response.at ≡ reply.at) × (response.answer ≡ reply.answer)
-response_of None reply e = absurd (cc)
-response_of (Some response) reply e =
-    let same : without_call response ≡ reply = cc in
-    (response, refl, ap (λ (r : Reply). r.at) same, ap (λ (r : Reply). r.answer) same)
-
 -- the reply to a call, as the table has it
 pub reply_by_table : (trace : Recording) (table : List (Option ℕ)) (call : ℕ) (o : Option ℕ) → AreReplies trace table → o ≡ get_or table call None
-    → replied_to trace call ≡ option_map without_call (option_and_then (λ index. reply_of trace index) o)
+    → reply_to trace call ≡ option_and_then (λ index. reply_of trace index) o
 reply_by_table trace table call o are e = elim (cases_lt call (length table)) [
-  | inl low ↦ ap (option_map without_call)
-      (replied trace call (get_or table call None) (are.each call low) ∙ ap (λ p. option_and_then (λ index. reply_of trace index) p) (sym e))
-  | inr past ↦ ap (option_map without_call)
-      (replied trace call None (λ index lt. are.no_other call past index)
-      ∙ ap (λ p. option_and_then (λ index. reply_of trace index) p) (sym (e ∙ get_or_past table call None past)))
+  | inl low ↦ replied trace call (get_or table call None) (are.each call low) ∙ ap (λ p. option_and_then (λ index. reply_of trace index) p) (sym e)
+  | inr past ↦ replied trace call None (λ index lt. are.no_other call past index)
+      ∙ ap (λ p. option_and_then (λ index. reply_of trace index) p) (sym (e ∙ get_or_past table call None past))
 ]
 
 -- the index that the table has is one of an event
@@ -89,18 +78,13 @@ pub index_within : (trace : Recording) (table : List (Option ℕ)) (call index :
     → get_or table call None ≡ Some index → index < length trace.events
 index_within trace table call index are lt e = (subst (λ o. IsReplyBelow trace (length trace.events) call o) e (are.each call lt)).0
 
-seen_of : (address : Option ℕ) (response : Option Response) (reply : Option Reply) → is_some address ≡ true → reply ≡ option_map without_call response
-    → option_map (λ (r : Reply). r.at) reply ≡ option_and_then (λ (a : ℕ). option_map (λ (r : Response). r.at) response) address
-seen_of None response reply read told = absurd (false≢true read)
-seen_of (Some a) response reply read told = ap (option_map (λ (r : Reply). r.at)) told ∙ again response where
-  again : (o : Option Response) → option_map (λ (r : Reply). r.at) (option_map without_call o) ≡ option_map (λ (r : Response). r.at) o
-  again None = refl
-  again (Some r) = refl
+seen_of : (address seen : Option ℕ) → is_some address ≡ true → seen ≡ option_and_then (λ (a : ℕ). seen) address
+seen_of None seen read = absurd (false≢true read)
+seen_of (Some a) seen read = refl
 
 -- how many entries a read saw, by the reply to it
-pub seen_by_read : (trace : Recording) (call : ℕ) (reply : Option Reply) → IsRead trace call → reply ≡ replied_to trace call
-    → option_map (λ (r : Reply). r.at) reply ≡ entries_seen trace call
-seen_by_read trace call reply read told = seen_of (address_of trace call) (reply_to trace call) reply read told
+pub seen_by_read : (trace : Recording) (call : ℕ) → IsRead trace call → position_of trace call ≡ entries_seen trace call
+seen_by_read trace call read = seen_of (address_of trace call) (position_of trace call) read
 
 not_seen : (address : Option ℕ) (response : Option Response) → is_some address ≡ false
     → ◌≡◌ {A = Option ℕ} None (option_and_then (λ (a : ℕ). option_map (λ (r : Response). r.at) response) address)

@@ -2,6 +2,7 @@
 pub mod Chains
 pub mod Dumps
 pub mod Indexes
+pub mod LastEvents
 pub mod Passes
 pub mod Prefixes
 pub mod Replies

@@ -3,12 +3,14 @@ ghost use Rattle.nr_trace.specs.Laws.{HasCleanLog};
 ghost use Rattle.nr_trace.specs.Orders.{recorded_order, space_after};
 ghost use Rattle.vs_types.specs.Query.{IsQuery};
 ghost use Rattle.vs_types.specs.Refusal.{IfRefused};
+ghost use Rattle.nr_audit.specs.inside.LastEvents.{AreLastEvents};
 ghost use Rattle.nr_audit.specs.inside.Search.{HasNone, IsFirstAmong};
 ghost use Rattle.nr_audit.specs.inside.Passes.{IsAnswerFault};
 ghost use Rattle.nr_audit.specs.inside.Steps.{Serves, space_of};
 
-use crate::history::{History, Reply};
-use nr_trace::Fault;
+use crate::last_events::{answer_at, call_at};
+use crate::requests::request_of;
+use nr_trace::{Fault, Trace};
 use std::alloc::Global;
 use vs_plain::PlainSpace;
 use vs_types::{Answer, Fail, Memory, Query, Request};
@@ -31,38 +33,43 @@ fn is_same(recorded: Answer, given: Answer) -> bool
     recorded == given
 }
 
-/// Whether a reply, if there is one, has this answer.
-fn agrees(reply: Option<Reply>, answer: Answer) -> bool
-    ensures { IsTrue result ↔ IfSome reply (λ reply. reply.answer ≡ answer) }
+/// Whether what a call is told, if anything is, is this answer.
+fn agrees(told: Option<Answer>, answer: Answer) -> bool
+    ensures { IsTrue result ↔ IfSome told (λ told. told ≡ answer) }
 {
-    match reply {
-        Some(reply) => is_same(reply.answer, answer),
+    match told {
+        Some(told) => is_same(told, answer),
         None => true,
     }
 }
 
-/// Serves the calls of a trace in the recorded order on one space, and looks for an answer that is not the space's. Gives
-/// the space after all of them, and takes memory for it.
+/// Serves the calls of a trace in the recorded order on one space, and looks for an answer that is not the space's. The calls
+/// come by their last events, and each is put in the place of its event. Gives the space after all of them, and takes
+/// memory for it.
 pub(crate) fn check_answers(
     alloc: Global,
-    history: &History,
-    order: &[u32],
+    trace: &Trace,
+    order: &mut [u32],
 ) -> Result<PlainSpace, Fail<Fault>>
-    requires clean { HasCleanLog history.now }
-    requires listed { order.now ≡ recorded_order history.now }
-    ensures space { IfOk result (λ space. space ≡ space_of history.now.layout (space_after history.now history.now.log)) }
-    ensures right { OnOk result (HasNone IsAnswerFault history.now) }
-    ensures first { IfErr result (IfRefused (IsFirstAmong IsAnswerFault history.now)) }
+    requires clean { HasCleanLog trace.now }
+    requires listed { AreLastEvents trace.now (recorded_order trace.now) order.old }
+    ensures calls { OnOk result (order.new ≡ recorded_order trace.now) }
+    ensures space { IfOk result (λ space. space ≡ space_of trace.now.layout (space_after trace.now trace.now.log)) }
+    ensures right { OnOk result (HasNone IsAnswerFault trace.now) }
+    ensures first { IfErr result (IfRefused (IsFirstAmong IsAnswerFault trace.now)) }
 {
-    let config = history.config();
+    let config = trace.config();
     let mut space = PlainSpace::new(alloc, config.tables(), config.depth());
-    for call in order {
-        let Some(request) = history.request(*call) else {
+    for member in order.iter_mut() {
+        let event = *member;
+        let call = call_at(trace, event);
+        *member = call;
+        let Some(request) = request_of(trace, call) else {
             continue;
         };
         let answer = serve(&mut space, request)?;
-        if !agrees(history.reply(*call), answer) {
-            return Err(Fail::Refused(Fault::WrongAnswer(*call)));
+        if !agrees(answer_at(trace, event), answer) {
+            return Err(Fail::Refused(Fault::WrongAnswer(call)));
         }
     }
     Ok(space)

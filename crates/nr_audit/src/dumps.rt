@@ -8,9 +8,9 @@ ghost use Rattle.nr_audit.specs.inside.Search.{HasNone, IsFirstAmong};
 ghost use Rattle.nr_audit.specs.inside.Steps.{space_of};
 
 use crate::answers::serve;
-use crate::history::History;
+use crate::requests::request_of;
 use nr_dump::{DumpFault, check};
-use nr_trace::Fault;
+use nr_trace::{Fault, Trace};
 use std::alloc::Global;
 use vs_plain::PlainSpace;
 use vs_types::{Fail, Memory};
@@ -44,16 +44,16 @@ fn table_fault(alloc: Global, dump: &Dump, space: &PlainSpace) -> Result<Option<
 /// under its replica.
 fn compare_dumps(
     alloc: Global,
-    history: &History,
+    trace: &Trace,
     applied: usize,
     space: &PlainSpace,
     faults: &mut [Option<DumpFault>; 4],
 ) -> Result<(), Memory>
-    requires { space.now ≡ space_of history.now.layout (space_after history.now (take applied history.now.log)) }
-    ensures { OnOk result (AreCompared history.now applied (length history.now.dumps) faults.old faults.new) }
+    requires { space.now ≡ space_of trace.now.layout (space_after trace.now (take applied trace.now.log)) }
+    ensures { OnOk result (AreCompared trace.now applied (length trace.now.dumps) faults.old faults.new) }
 {
-    for replica in 0..history.dumps().len() {
-        let dump = &history.dumps()[replica];
+    for replica in 0..trace.dumps().len() {
+        let dump = &trace.dumps()[replica];
         if dump.applied() as usize == applied {
             let found = table_fault(alloc, dump, space)?;
             faults[replica] = found;
@@ -65,26 +65,26 @@ fn compare_dumps(
 /// Compares the dumps that have applied the whole log with the space after it.
 fn compare_whole(
     alloc: Global,
-    history: &History,
+    trace: &Trace,
     space: PlainSpace,
 ) -> Result<[Option<DumpFault>; 4], Memory>
-    requires { space ≡ space_of history.now.layout (space_after history.now history.now.log) }
-    ensures { IfOk result (AreFound history.now 0) }
+    requires { space ≡ space_of trace.now.layout (space_after trace.now trace.now.log) }
+    ensures { IfOk result (AreFound trace.now 0) }
 {
     let mut faults = [None; 4];
-    compare_dumps(alloc, history, history.log().len(), &space, &mut faults)?;
+    compare_dumps(alloc, trace, trace.log().len(), &space, &mut faults)?;
     Ok(faults)
 }
 
 /// How many places of the log it takes to come to the entries of each dump that has not applied the whole log.
-fn places_to_visit(history: &History) -> usize
-    ensures all { HasShorterBelow history.now (length history.now.dumps) result }
-    ensures within { result ≤ length history.now.log }
+fn places_to_visit(trace: &Trace) -> usize
+    ensures all { HasShorterBelow trace.now (length trace.now.dumps) result }
+    ensures within { result ≤ length trace.now.log }
 {
-    let log = history.log();
+    let log = trace.log();
     let mut end = 0;
-    for replica in 0..history.dumps().len() {
-        let applied = history.dumps()[replica].applied() as usize;
+    for replica in 0..trace.dumps().len() {
+        let applied = trace.dumps()[replica].applied() as usize;
         if applied < log.len() {
             end = end.max(applied + 1);
         }
@@ -93,13 +93,13 @@ fn places_to_visit(history: &History) -> usize
 }
 
 /// Applies the update of a place to the space before it.
-fn apply_place(history: &History, space: &mut PlainSpace, place: usize) -> Result<(), Memory>
-    requires within { place < length history.now.log }
-    requires before { space.old ≡ space_of history.now.layout (space_after history.now (take place history.now.log)) }
-    ensures { OnOk result (space.new ≡ space_of history.now.layout (space_after history.now (take (place + 1) history.now.log))) }
+fn apply_place(trace: &Trace, space: &mut PlainSpace, place: usize) -> Result<(), Memory>
+    requires within { place < length trace.now.log }
+    requires before { space.old ≡ space_of trace.now.layout (space_after trace.now (take place trace.now.log)) }
+    ensures { OnOk result (space.new ≡ space_of trace.now.layout (space_after trace.now (take (place + 1) trace.now.log))) }
 {
-    let log = history.log();
-    if let Some(request) = history.request(log[place]) {
+    let log = trace.log();
+    if let Some(request) = request_of(trace, log[place]) {
         serve(space, request)?;
     }
     Ok(())
@@ -109,37 +109,37 @@ fn apply_place(history: &History, space: &mut PlainSpace, place: usize) -> Resul
 /// up to the last that one of these dumps has applied.
 fn compare_shorter(
     alloc: Global,
-    history: &History,
+    trace: &Trace,
     faults: &mut [Option<DumpFault>; 4],
 ) -> Result<(), Memory>
-    requires { AreFound history.now 0 faults.old }
-    ensures { OnOk result (AreFound history.now (length history.now.log) faults.new) }
+    requires { AreFound trace.now 0 faults.old }
+    ensures { OnOk result (AreFound trace.now (length trace.now.log) faults.new) }
 {
-    let config = history.config();
+    let config = trace.config();
     let mut space = PlainSpace::new(alloc, config.tables(), config.depth());
-    for place in 0..places_to_visit(history) {
-        compare_dumps(alloc, history, place, &space, faults)?;
-        apply_place(history, &mut space, place)?;
+    for place in 0..places_to_visit(trace) {
+        compare_dumps(alloc, trace, place, &space, faults)?;
+        apply_place(trace, &mut space, place)?;
     }
     Ok(())
 }
 
 /// Looks for what is wrong with a replica's dump: with how many entries it has applied, and then with its tables.
 fn check_dump(
-    history: &History,
+    trace: &Trace,
     replica: usize,
     needed: &[u64; 4],
     faults: &[Option<DumpFault>; 4],
 ) -> Result<(), Fail<Fault>>
-    requires replica { replica < length history.now.dumps }
-    requires needed { AreNeeds history.now (length history.now.events) needed.now }
-    requires found { AreFound history.now (length history.now.log) faults.now }
-    ensures clean { OnOk result (HasNone (IsDumpFaultAt replica) history.now) }
-    ensures first { IfErr result (IfRefused (IsFirstAmong (IsDumpFaultAt replica) history.now)) }
+    requires replica { replica < length trace.now.dumps }
+    requires needed { AreNeeds trace.now (length trace.now.events) needed.now }
+    requires found { AreFound trace.now (length trace.now.log) faults.now }
+    ensures clean { OnOk result (HasNone (IsDumpFaultAt replica) trace.now) }
+    ensures first { IfErr result (IfRefused (IsFirstAmong (IsDumpFaultAt replica) trace.now)) }
 {
-    let dump = &history.dumps()[replica];
+    let dump = &trace.dumps()[replica];
     let applied = dump.applied() as usize;
-    if applied > history.log().len() {
+    if applied > trace.log().len() {
         return Err(Fail::Refused(Fault::PrefixPastLog(replica as u8)));
     }
     if (applied as u64) < needed[replica] {
@@ -156,19 +156,19 @@ fn check_dump(
 /// that one is given back, where a dump has applied less, and for what the check of a dump takes.
 pub(crate) fn check_dumps(
     alloc: Global,
-    history: &History,
+    trace: &Trace,
     needed: &[u64; 4],
     space: PlainSpace,
 ) -> Result<(), Fail<Fault>>
-    requires needed { AreNeeds history.now (length history.now.events) needed.now }
-    requires space { space ≡ space_of history.now.layout (space_after history.now history.now.log) }
-    ensures clean { OnOk result (HasNone IsDumpFault history.now) }
-    ensures first { IfErr result (IfRefused (IsFirstAmong IsDumpFault history.now)) }
+    requires needed { AreNeeds trace.now (length trace.now.events) needed.now }
+    requires space { space ≡ space_of trace.now.layout (space_after trace.now trace.now.log) }
+    ensures clean { OnOk result (HasNone IsDumpFault trace.now) }
+    ensures first { IfErr result (IfRefused (IsFirstAmong IsDumpFault trace.now)) }
 {
-    let mut faults = compare_whole(alloc, history, space)?;
-    compare_shorter(alloc, history, &mut faults)?;
-    for replica in 0..history.dumps().len() {
-        check_dump(history, replica, needed, &faults)?;
+    let mut faults = compare_whole(alloc, trace, space)?;
+    compare_shorter(alloc, trace, &mut faults)?;
+    for replica in 0..trace.dumps().len() {
+        check_dump(trace, replica, needed, &faults)?;
     }
     Ok(())
 }

@@ -1,25 +1,17 @@
 ghost use Rattle.std.specs.Prelude.{◌≡◌, ◌<◌, IfSome, option_map, is_some};
-ghost use Rattle.nr_trace.specs.Calls.{address_of, call_of, operation_of};
-ghost use Rattle.vs_types.specs.Query.{IsQuery};
+ghost use Rattle.nr_trace.specs.Calls.{address_of, call_of, operation_of, IsCall};
 ghost use Rattle.nr_trace.specs.Recording.{IsRecording};
-ghost use Rattle.nr_audit.specs.inside.Replies.{replied_to};
+ghost use Rattle.nr_audit.specs.inside.LastEvents.{IsLastEvent};
+ghost use Rattle.nr_audit.specs.inside.Replies.{position_of};
 ghost use Rattle.nr_audit.specs.inside.Tables.{AreReplies};
 
+use crate::requests::request_of;
 use crate::tables::MaybeIndex;
 use nr_trace::{Event, Recorded, Trace};
 use std::marker::Model;
-use vs_types::{Answer, Config, Query, Request};
-use vs_walk::Dump;
+use vs_types::Query;
 
-/// What a call is answered.
-#[derive(Clone, Copy, Debug)]
-pub(crate) struct Reply {
-    /// The place of an update, and for a read how many entries it saw.
-    pub(crate) at: u32,
-    pub(crate) answer: Answer,
-}
-
-/// The calls of a trace by number, the index of the event: what each asks, where it was made, and the reply to it.
+/// The calls of a trace by number, the index of the event: what kind each is, where it was made, and the reply to it.
 ///
 /// Each call has one reply at most. Contracts see the trace's recording.
 #[derive(Drop)]
@@ -52,12 +44,6 @@ impl<'a> History<'a> {
         History { trace, replies }
     }
 
-    pub(crate) fn config(&self) -> Config
-        ensures reads { result ≡ self.now.layout }
-    {
-        self.trace.config()
-    }
-
     pub(crate) fn log(&self) -> &[u32]
         ensures reads { result.now ≡ self.now.log }
         ensures in_range { IsRecording self.now }
@@ -72,29 +58,11 @@ impl<'a> History<'a> {
         self.trace.events()
     }
 
-    pub(crate) fn dumps(&self) -> &[Dump]
-        ensures reads { result.now ≡ self.now.dumps }
-        ensures in_range { IsRecording self.now }
-    {
-        self.trace.dumps()
-    }
-
-    /// What the call of this number asks, or `None` where there is no such call.
-    pub(crate) fn request(&self, call: u32) -> Option<Request>
-        ensures asks { result ≡ option_map (λ made. made.request) (call_of self.now call) }
-        ensures well_formed { IfSome result (IsQuery self.now.layout.depth) }
-    {
-        match self.trace.events().get(call as usize)?.event() {
-            Event::Call { request, .. } => Some(request),
-            Event::Reply { .. } => None,
-        }
-    }
-
     /// Whether an update has this number.
     pub(crate) fn is_update(&self, call: u32) -> bool
         ensures { result ≡ is_some (operation_of self.now call) }
     {
-        match self.request(call) {
+        match request_of(self.trace, call) {
             Some(request) => matches!(request.query(), Query::Update(_)),
             None => false,
         }
@@ -104,7 +72,7 @@ impl<'a> History<'a> {
     pub(crate) fn is_read(&self, call: u32) -> bool
         ensures { result ≡ is_some (address_of self.now call) }
     {
-        match self.request(call) {
+        match request_of(self.trace, call) {
             Some(request) => matches!(request.query(), Query::Resolve(_) | Query::Access(..)),
             None => false,
         }
@@ -121,10 +89,11 @@ impl<'a> History<'a> {
         }
     }
 
-    /// The reply to a call, or `None` where it has none.
+    /// The position that the reply to a call gives, or `None` where it has none: the place of an update, and for a read how
+    /// many entries it saw.
     #[inline(always)]
-    pub(crate) fn reply(&self, call: u32) -> Option<Reply>
-        ensures { result ≡ replied_to self.now call }
+    pub(crate) fn position(&self, call: u32) -> Option<u32>
+        ensures { result ≡ position_of self.now call }
     {
         if call as usize >= self.replies.len() {
             return None;
@@ -132,8 +101,19 @@ impl<'a> History<'a> {
         let index = self.replies[call as usize].get()?;
         let event = self.trace.events()[index as usize];
         match event.event() {
-            Event::Reply { at, answer, .. } => Some(Reply { at, answer }),
+            Event::Reply { at, .. } => Some(at),
             Event::Call { .. } => None,
+        }
+    }
+
+    /// The last event of a call: the reply to it, or the call itself where it has none.
+    pub(crate) fn last_event(&self, call: u32) -> u32
+        requires { IsCall self.now call }
+        ensures { IsLastEvent self.now call result }
+    {
+        match self.replies[call as usize].get() {
+            Some(index) => index,
+            None => call,
         }
     }
 }

@@ -22,8 +22,8 @@ use vs_types::{Fail, Memory};
 /// and that each dump translates every canonical address as that space does after so many updates as the replica had
 /// applied. `No` does not say that no other order explains the trace.
 ///
-/// Takes memory beside the trace: at most 16 bytes for each event and 4 for each thread, for one space at a time, and what
-/// the check of a dump takes.
+/// Takes memory beside the trace: at most 16 bytes for each event and 4 for each thread; and, when these are given back but
+/// for 4 bytes for each call of the order, for one space at a time and what the check of a dump takes.
 ///
 /// # Errors
 ///

@@ -1,8 +1,8 @@
 //! The auditor of traces: whether what was recorded is one run of the address space.
 //!
-//! The first pass makes a history of the trace: by number each call's request, replica and reply. The later passes take
-//! the calls from it, one after another in the order of the faults that they look for: the log, the positions with the
-//! floors, the recorded order and its answers, the dumps.
+//! The first pass makes a history of the trace: by number each call's reply. The later passes come one after another in
+//! the order of the faults that they look for: by the history the log, and the positions with the floors; by the last
+//! events of the calls, in the recorded order, the answers; and then the dumps.
 #![tactic(auto)]
 
 mod answers;
@@ -11,11 +11,13 @@ mod dumps;
 mod floors;
 mod history;
 mod judging;
+mod last_events;
 pub mod laws;
 mod log;
 mod order;
 mod positions;
 mod reads;
+mod requests;
 mod search;
 mod tables;
 mod verdict;

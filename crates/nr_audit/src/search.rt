@@ -8,6 +8,7 @@ use crate::answers::check_answers;
 use crate::calls::check_calls;
 use crate::dumps::check_dumps;
 use crate::floors::check_replies;
+use crate::last_events::last_events;
 use crate::log::check_log;
 use crate::order::list_order;
 use nr_trace::{Fault, Trace};
@@ -24,7 +25,8 @@ pub(crate) fn search(alloc: Global, trace: &Trace) -> Result<Vec<u32>, Fail<Faul
     let standing = check_replies(alloc, &history, places)?;
     let needed = standing.needed;
     let order = list_order(alloc, &history, standing)?;
-    let space = check_answers(alloc, &history, &order)?;
-    check_dumps(alloc, &history, &needed, space)?;
+    let mut order = last_events(history, order);
+    let space = check_answers(alloc, trace, &mut order)?;
+    check_dumps(alloc, trace, &needed, space)?;
     Ok(order)
 }

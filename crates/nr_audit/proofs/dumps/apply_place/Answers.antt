@@ -15,9 +15,9 @@ serve-requires c = subst (λ (s : BoundedSpace). IsQuery s.depth c.in-Some.reque
 -- src/dumps.rt:96:1
 pub returns-in_ok-serve : goal.returns-in_ok-serve
 returns-in_ok-serve c =
-    let trace = c.args.history.now in
+    let trace = c.args.trace.now in
     let log = trace.log in
-    let asks = c.request.ensures.asks
+    let asks = c.request_of.ensures.asks
     ∙ ap (λ (xs : List ℕ). option_map (λ (made : Invocation). made.request) (call_of trace (get_or xs c.args.place 0))) c.log-log.ensures.reads in
     let serves = subst (λ (s : BoundedSpace). Serves s c.in-Some.request c.in_ok-serve.field-0 c.serve.new.space) c.requires.before c.in_ok-serve.ensures in
     left trace.layout (space_after trace (take c.args.place log)) c.in-Some.request _ c.serve.new.space serves
@@ -26,7 +26,7 @@ returns-in_ok-serve c =
 -- src/dumps.rt:96:1
 pub returns-in_default : goal.returns-in_default
 returns-in_default c =
-    let trace = c.args.history.now in
-    let asks = c.request.ensures.asks
+    let trace = c.args.trace.now in
+    let asks = c.request_of.ensures.asks
     ∙ ap (λ (xs : List ℕ). option_map (λ (made : Invocation). made.request) (call_of trace (get_or xs c.args.place 0))) c.log-log.ensures.reads in
     c.requires.before ∙ ap (λ s. kept trace.layout s) (space_stays trace trace.log c.args.place 0 c.requires.within (sym asks ∙ c.in_default.is))

@@ -9,24 +9,24 @@ use Rattle.nr_audit.proofs.dumps.check_dump.Goals as goal
 -- src/dumps.rt:78:9
 pub returns-then-applied-log-clause-first : goal.returns-then-applied-log-clause-first
 returns-then-applied-log-clause-first c =
-    let is = read_dump c.dumps.result.now c.args.history.now.dumps c.args.replica c.index-dumps-replica.result c.dumps.ensures.reads c.requires.replica
+    let is = read_dump c.dumps.result.now c.args.trace.now.dumps c.args.replica c.index-dumps-replica.result c.dumps.ensures.reads c.requires.replica
     c.index-dumps-replica.is in
-    first_past_log c.args.history.now c.args.replica c.index-dumps-replica.result is
+    first_past_log c.args.trace.now c.args.replica c.index-dumps-replica.result is
     (omega (arith, c.if-applied-log.true, c.applied-applied.ensures, ap length c.log.ensures.reads))
 
 -- src/dumps.rt:81:9
 pub returns-then-applied-needed-clause-first : goal.returns-then-applied-needed-clause-first
 returns-then-applied-needed-clause-first c =
-    let is = read_dump c.dumps.result.now c.args.history.now.dumps c.args.replica c.index-dumps-replica.result c.dumps.ensures.reads c.requires.replica
+    let is = read_dump c.dumps.result.now c.args.trace.now.dumps c.args.replica c.index-dumps-replica.result c.dumps.ensures.reads c.requires.replica
     c.index-dumps-replica.is in
-    first_short c.args.history.now c.args.replica c.index-dumps-replica.result is
+    first_short c.args.trace.now c.args.replica c.index-dumps-replica.result is
     (omega (arith, c.if-applied-log.false, c.applied-applied.ensures, ap length c.log.ensures.reads))
     c.args.needed.now c.requires.needed (omega (arith, c.if-applied-needed.true, c.applied-applied.ensures))
 
 -- src/dumps.rt:85:9
 pub returns-in-None-clause-clean : goal.returns-in-None-clause-clean
 returns-in-None-clause-clean c =
-    let trace = c.args.history.now in
+    let trace = c.args.trace.now in
     let dump = c.index-dumps-replica.result in
     let is = read_dump c.dumps.result.now trace.dumps c.args.replica dump c.dumps.ensures.reads c.requires.replica c.index-dumps-replica.is in
     let within : dump.applied ≤ length trace.log = omega (arith, c.if-applied-log.false, c.applied-applied.ensures, ap length c.log.ensures.reads) in
@@ -38,7 +38,7 @@ returns-in-None-clause-clean c =
 -- src/dumps.rt:87:48
 pub returns-in-Some-clause-first : goal.returns-in-Some-clause-first
 returns-in-Some-clause-first c =
-    let trace = c.args.history.now in
+    let trace = c.args.trace.now in
     let dump = c.index-dumps-replica.result in
     let is = read_dump c.dumps.result.now trace.dumps c.args.replica dump c.dumps.ensures.reads c.requires.replica c.index-dumps-replica.is in
     let within : dump.applied ≤ length trace.log = omega (arith, c.if-applied-log.false, c.applied-applied.ensures, ap length c.log.ensures.reads) in

@@ -12,7 +12,7 @@ use Rattle.nr_audit.proofs.dumps.compare_dumps.Goals.{then-applied+in_ok-found, 
 -- src/dumps.rt:56:5
 pub loop-replica-preserved : goal.loop-replica-preserved
 loop-replica-preserved c =
-    let trace = c.args.history.now in
+    let trace = c.args.trace.now in
     let replica = c.loop-replica.replica in
     let dump = c.index-dumps-replica.result in
     let low : replica < length trace.dumps = omega (arith, c.loop-replica-test.true, ap length c.dumps-replica-end.ensures.reads) in

@@ -6,6 +6,6 @@ use Rattle.nr_audit.proofs.dumps.compare_shorter.Given as goal
 
 abbrev pub invariant-loop-place : goal.invariant-loop-place
 invariant-loop-place l = record {
-  space : l.space ≡ space_of l.history.layout (space_after l.history (take l.place l.history.log));
-  found : AreFound l.history l.place l.faults;
+  space : l.space ≡ space_of l.trace.layout (space_after l.trace (take l.place l.trace.log));
+  found : AreFound l.trace l.place l.faults;
 }

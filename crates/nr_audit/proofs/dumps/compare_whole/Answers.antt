@@ -10,14 +10,14 @@ use Rattle.nr_audit.proofs.dumps.compare_whole.Goals as goal
 -- src/dumps.rt:76:5
 pub compare_dumps-requires : goal.compare_dumps-requires
 compare_dumps-requires c =
-    let trace = c.args.history.now in
+    let trace = c.args.trace.now in
     c.requires ∙ ap (λ (xs : List ℕ). space_of trace.layout (space_after trace xs))
     (sym (ap (λ (xs : List ℕ). take (length xs) trace.log) c.log.ensures.reads ∙ take-length trace.log))
 
 -- src/dumps.rt:66:1
 pub returns : goal.returns
 returns c =
-    let trace = c.args.history.now in
+    let trace = c.args.trace.now in
     let start = replicate {A = Option DumpFault} 4 None in
     found_in_whole trace start c.compare_dumps.new.faults refl
     (subst (λ n. AreCompared trace n (length trace.dumps) start c.compare_dumps.new.faults) (ap length c.log.ensures.reads) c.in_ok-compare_dumps.ensures)

@@ -4,6 +4,6 @@ use Rattle.nr_audit.proofs.dumps.places_to_visit.Given as goal
 
 abbrev pub invariant-loop-replica : goal.invariant-loop-replica
 invariant-loop-replica l = record {
-  all : HasShorterBelow l.history l.replica l.end;
-  within : l.end ≤ length l.history.log;
+  all : HasShorterBelow l.trace l.replica l.end;
+  within : l.end ≤ length l.trace.log;
 }

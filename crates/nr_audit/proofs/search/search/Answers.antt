@@ -1,21 +1,24 @@
-use Rattle.std.proofs.Common.{sym, ap, subst, ◌∙◌}
+use Rattle.std.proofs.Common.{◌≡◌, ◌++◌, length, take, drop, sym, ap, subst, ◌∙◌, arith}
+use Rattle.std.proofs.Math.Seq.{take-append_seam}
 use Rattle.std.proofs.lemmas.Result.{err_from_is_err_and}
-use Rattle.nr_trace.specs.Laws.{IsFaultless}
+use Rattle.std.specs.Prelude.{All}
+use Rattle.nr_trace.specs.Calls.{IsCall}
+use Rattle.nr_trace.specs.Laws.{HasCleanLog, IsFaultless}
 use Rattle.nr_trace.specs.Orders.{recorded_order}
+use Rattle.nr_audit.specs.inside.LastEvents.{AreLastEvents}
 use Rattle.nr_audit.specs.inside.Search.{HasNone}
 use Rattle.nr_audit.specs.inside.Passes.{IsCallFault, IsLogFault, IsAnswerFault, IsDumpFault}
 use Rattle.nr_audit.proofs.FirstOfPasses.{none_of_format, after_calls, after_positions, after_floors, after_answers, after_dumps}
-use Rattle.nr_audit.proofs.FirstOfPasses.{clean_after_positions, faultless_after_all, refused_by_pass, refused_of, call_faults, log_faults}
+use Rattle.nr_audit.proofs.FirstOfPasses.{clean_after_positions, faultless_after_all, refused_by_pass, refused_of, refused_in, call_faults, log_faults}
 use Rattle.nr_audit.proofs.FirstOfPasses.{answer_faults, dump_faults}
+use Rattle.nr_audit.proofs.LastEvents.{all_calls}
 use Rattle.nr_audit.proofs.search.search.Goals as goal
 
--- src/search.rt:23:19
 pub returns-in_err-history-clause-first : goal.returns-in_err-history-clause-first
 returns-in_err-history-clause-first c =
     let p = err_from_is_err_and c.from_residual.result c.from_residual.ensures.1 in
     rw (p.1, p.2) (refused_by_pass 2 IsCallFault c.args.trace.now _ call_faults (none_of_format c.args.trace.now) c.in_err-history.ensures.first)
 
--- src/search.rt:24:18
 pub returns-in_err-places-clause-first : goal.returns-in_err-places-clause-first
 returns-in_err-places-clause-first c =
     let p = err_from_is_err_and c.from_residual-in_err-places.result c.from_residual-in_err-places.ensures.1 in
@@ -24,24 +27,35 @@ returns-in_err-places-clause-first c =
     let calls = subst (λ t. HasNone IsCallFault t) (sym same) c.in_ok-history.ensures.clean in
     rw (p.1, p.2) (refused_of t c.args.trace.now _ same (refused_by_pass 3 IsLogFault t _ log_faults (after_calls t calls) c.in_err-places.ensures.first))
 
--- src/search.rt:25:20
 pub check_replies-requires-clause-calls : goal.check_replies-requires-clause-calls
 check_replies-requires-clause-calls c = subst (λ t. HasNone IsCallFault t) (sym c.in_ok-history.ensures.history) c.in_ok-history.ensures.clean
 
--- src/search.rt:25:20
 pub returns-in_err-standing-clause-first : goal.returns-in_err-standing-clause-first
 returns-in_err-standing-clause-first c =
     let p = err_from_is_err_and c.from_residual-in_err-standing.result c.from_residual-in_err-standing.ensures.1 in
     rw (p.1, p.2) (refused_of c.in_ok-history.history c.args.trace.now _ c.in_ok-history.ensures.history c.in_err-standing.ensures.first)
 
--- src/search.rt:28:5
-pub check_answers-requires-clause-clean : goal.check_answers-requires-clause-clean
-check_answers-requires-clause-clean c =
+pub last_events-order-requires : goal.last_events-order-requires
+last_events-order-requires c =
     let t = c.in_ok-history.history in
     let calls = subst (λ t. HasNone IsCallFault t) (sym c.in_ok-history.ensures.history) c.in_ok-history.ensures.clean in
-    clean_after_positions t (after_positions t calls c.in_ok-places.ensures.clean c.in_ok-standing.ensures.clean.0)
+    let clean = clean_after_positions t (after_positions t calls c.in_ok-places.ensures.clean c.in_ok-standing.ensures.clean.0) in
+    subst (λ order. All (IsCall t) order) (sym c.in_ok-order.ensures) (all_calls t clean)
 
--- src/search.rt:28:5
+pub check_answers-requires-clause-clean : goal.check_answers-requires-clause-clean
+check_answers-requires-clause-clean c =
+    let same = c.in_ok-history.ensures.history in
+    let t = c.in_ok-history.history in
+    let calls = subst (λ t. HasNone IsCallFault t) (sym same) c.in_ok-history.ensures.clean in
+    subst (λ t. HasCleanLog t) same (clean_after_positions t (after_positions t calls c.in_ok-places.ensures.clean c.in_ok-standing.ensures.clean.0))
+
+pub check_answers-requires-clause-listed : goal.check_answers-requires-clause-listed
+check_answers-requires-clause-listed c =
+    let t = c.args.trace.now in
+    subst (λ events. AreLastEvents t (recorded_order t) events) (sym c.deref_mut.ensures.value)
+    (subst (λ t. AreLastEvents t (recorded_order t) c.last_events-order.result.items) c.in_ok-history.ensures.history
+    (subst (λ order. AreLastEvents c.in_ok-history.history order c.last_events-order.result.items) c.in_ok-order.ensures c.last_events-order.ensures))
+
 pub returns-in_err-space-clause-first : goal.returns-in_err-space-clause-first
 returns-in_err-space-clause-first c =
     let p = err_from_is_err_and c.from_residual-in_err-space.result c.from_residual-in_err-space.ensures.1 in
@@ -49,30 +63,35 @@ returns-in_err-space-clause-first c =
     let t = c.in_ok-history.history in
     let calls = subst (λ t. HasNone IsCallFault t) (sym same) c.in_ok-history.ensures.clean in
     rw (p.1, p.2) (refused_of t c.args.trace.now _ same (refused_by_pass 6 IsAnswerFault t _ answer_faults
-    (after_floors t calls c.in_ok-places.ensures.clean c.in_ok-standing.ensures.clean.0 c.in_ok-standing.ensures.clean.1) c.in_err-space.ensures.first))
+    (after_floors t calls c.in_ok-places.ensures.clean c.in_ok-standing.ensures.clean.0 c.in_ok-standing.ensures.clean.1)
+    (refused_in IsAnswerFault c.args.trace.now t _ (sym same) c.in_err-space.ensures.first)))
 
--- src/search.rt:29:5
 pub check_dumps-requires-clause-space : goal.check_dumps-requires-clause-space
 check_dumps-requires-clause-space c = c.in_ok-space.ensures.space
 
--- src/search.rt:29:5
 pub returns-in_err-check_dumps-clause-first : goal.returns-in_err-check_dumps-clause-first
 returns-in_err-check_dumps-clause-first c =
     let p = err_from_is_err_and c.from_residual-in_err-check_dumps.result c.from_residual-in_err-check_dumps.ensures.1 in
     let same = c.in_ok-history.ensures.history in
     let t = c.in_ok-history.history in
     let calls = subst (λ t. HasNone IsCallFault t) (sym same) c.in_ok-history.ensures.clean in
+    let right = subst (λ t. HasNone IsAnswerFault t) (sym same) c.in_ok-space.ensures.right in
     rw (p.1, p.2) (refused_of t c.args.trace.now _ same (refused_by_pass 7 IsDumpFault t _ dump_faults
-    (after_answers t calls c.in_ok-places.ensures.clean c.in_ok-standing.ensures.clean.0 c.in_ok-standing.ensures.clean.1 c.in_ok-space.ensures.right)
-    c.in_err-check_dumps.ensures.first))
+    (after_answers t calls c.in_ok-places.ensures.clean c.in_ok-standing.ensures.clean.0 c.in_ok-standing.ensures.clean.1 right)
+    (refused_in IsDumpFault c.args.trace.now t _ (sym same) c.in_err-check_dumps.ensures.first)))
 
--- src/search.rt:19:1
 pub returns-clause-none : goal.returns-clause-none
 returns-clause-none c =
     let same = c.in_ok-history.ensures.history in
     let t = c.in_ok-history.history in
-    let calls = subst (λ t. HasNone IsCallFault t) (sym same) c.in_ok-history.ensures.clean in (
+    let calls = subst (λ t. HasNone IsCallFault t) (sym same) c.in_ok-history.ensures.clean in
+    let right = subst (λ t. HasNone IsAnswerFault t) (sym same) c.in_ok-space.ensures.right in
+    let dumps = subst (λ t. HasNone IsDumpFault t) (sym same) c.in_ok-check_dumps.ensures.clean in
+    let events = c.last_events-order.result in
+    let order = c.check_answers.new.order in
+    let as_many : events.len ≡ length order = omega (arith, events.ok.0, ap length c.deref_mut.ensures.value, c.check_answers.auto.order) in (
       subst (λ t. IsFaultless t) same (faultless_after_all t (after_dumps t calls c.in_ok-places.ensures.clean c.in_ok-standing.ensures.clean.0
-          c.in_ok-standing.ensures.clean.1 c.in_ok-space.ensures.right c.in_ok-check_dumps.ensures.clean)),
-      c.in_ok-order.ensures ∙ ap (λ t. recorded_order t) same,
+          c.in_ok-standing.ensures.clean.1 right dumps)),
+      ap (λ n. take n (order ++ drop (length order) events.items)) as_many ∙ take-append_seam order (drop (length order) events.items)
+          ∙ c.in_ok-space.ensures.calls,
     )
