@@ -3,6 +3,7 @@
 //! Numbers are bytes unless a name says otherwise. `PlainSpace::apply` and `PlainSpace::pages` take memory.
 #![tactic(auto)]
 
+mod byte_aligned;
 mod mapping;
 mod page_map;
 mod pages;
