@@ -19,21 +19,23 @@ use vs_types::Depth;
 /// How many entries each thread appends.
 const ROUNDS: u32 = 10_000;
 
-/// Looks, and sees all entries whose appends had returned before.
+/// Looks, and sees all entries that a thread had appended or seen before.
 fn look_now<R: Wait + Abort>(
     rt: &R,
     log: &RingLog<Two>,
     pass: &mut LogPass<Two>,
-    appended: &AtomicU64,
+    known: &AtomicU64,
 ) -> Tails
     requires log { pass.old.log ≡ log.now }
     ensures log { pass.new.log ≡ pass.old.log }
     ensures looked { HasLooked Four 2 pass.old.view pass.new.view }
     ensures tails { result ≡ tails_of (log_after 2 pass.new.view.seen) }
 {
-    let before = appended.load(Ordering::SeqCst);
+    let before = known.load(Ordering::SeqCst);
     let tails = log.look(rt, pass);
-    assert!(rt; before <= u64::from(tails.tail));
+    let tail = u64::from(tails.tail);
+    assert!(rt; before <= tail);
+    known.fetch_max(tail, Ordering::SeqCst);
     tails
 }
 
@@ -52,7 +54,7 @@ fn take<R: Wait + Abort>(
     log: &RingLog<Two>,
     pass: &mut LogPass<Two>,
     replica: usize,
-    appended: &AtomicU64,
+    known: &AtomicU64,
     taken: &mut Vec<u32>,
 )
     requires log { pass.old.log ≡ log.now }
@@ -62,7 +64,7 @@ fn take<R: Wait + Abort>(
 {
     let mut entries = ArrayVec::new();
     log.fetch(rt, pass, &mut entries);
-    let tails = look_now(rt, log, pass, appended);
+    let tails = look_now(rt, log, pass, known);
     let local = if replica == 0 {
         tails.local[0]
     } else {
@@ -85,7 +87,7 @@ fn append_one<R: Wait + Abort>(
     pass: &mut LogPass<Two>,
     replica: usize,
     call: u32,
-    appended: &AtomicU64,
+    known: &AtomicU64,
     taken: &mut Vec<u32>,
 )
     requires log { pass.old.log ≡ log.now }
@@ -97,17 +99,17 @@ fn append_one<R: Wait + Abort>(
     let one = [entry(rt, call)];
     let backoff = Backoff::new();
     for _ in rt.forever() {
-        let seen = look_now(rt, log, pass, appended);
+        let seen = look_now(rt, log, pass, known);
         match log.append(rt, pass, one.as_slice()) {
-            Ok(_) => {
-                appended.fetch_add(1, Ordering::SeqCst);
+            Ok(place) => {
+                known.fetch_max(u64::from(place) + 1, Ordering::SeqCst);
                 return;
             }
             Err(AppendFault::LogEnded) => panic!(rt; "the log ended"),
             Err(AppendFault::Moved(tails)) => assert!(rt; is_later(tails, seen)),
             Err(AppendFault::Full(tails)) => {
                 assert!(rt; is_later(tails, seen));
-                take(rt, log, pass, replica, appended, taken);
+                take(rt, log, pass, replica, known, taken);
             }
         }
         backoff.snooze();
@@ -122,7 +124,7 @@ fn work<R: Wait + Abort>(
     log: &RingLog<Two>,
     pass: &mut LogPass<Two>,
     replica: u32,
-    appended: &AtomicU64,
+    known: &AtomicU64,
     taken: &mut Vec<u32>,
 )
     requires log { pass.old.log ≡ log.now }
@@ -131,32 +133,54 @@ fn work<R: Wait + Abort>(
 {
     for round in 0..ROUNDS {
         let call = 2 * round + replica;
-        append_one(rt, log, pass, replica as usize, call, appended, taken);
-        take(rt, log, pass, replica as usize, appended, taken);
+        append_one(rt, log, pass, replica as usize, call, known, taken);
+        take(rt, log, pass, replica as usize, known, taken);
     }
     let backoff = Backoff::new();
     for _ in rt.forever() {
         if taken.len() == 20_000 {
             return;
         }
-        take(rt, log, pass, replica as usize, appended, taken);
+        take(rt, log, pass, replica as usize, known, taken);
         backoff.snooze();
+    }
+    unreachable!()
+}
+
+/// Looks until all entries of both threads are there.
+fn watch<R: Wait + Abort>(rt: &R, log: &RingLog<Two>, pass: &mut LogPass<Two>, known: &AtomicU64)
+    requires log { pass.old.log ≡ log.now }
+{
+    for _ in rt.forever() {
+        if look_now(rt, log, pass, known).tail == 20_000 {
+            return;
+        }
     }
     unreachable!()
 }
 
 #[test]
 fn two_threads_share_a_log(rt: HostRuntime) -> Result<(), Fail> {
-    let (log, mut passes) = RingLog::<Two>::new(rt.alloc(), Depth::Four, 2, 0)?;
+    let (log, mut passes) = RingLog::<Two>::new(rt.alloc(), Depth::Four, 2, 1)?;
     let mut first = passes.remove(0);
     let mut second = passes.remove(0);
+    let mut third = passes.remove(0);
     let mut here = Vec::new(rt.alloc());
     let mut there = Vec::new(rt.alloc());
-    let appended = AtomicU64::new(0);
+    let known = AtomicU64::new(0);
     join(
         &rt,
-        || work(&rt, &log, &mut first, 0, &appended, &mut here),
-        || work(&rt, &log, &mut second, 1, &appended, &mut there),
+        || work(&rt, &log, &mut first, 0, &known, &mut here),
+        ||
+            requires log { (second.log ≡ log) × (third.log ≡ log) }
+            requires owner { second.view.owns ≡ 1 ∷ [] }
+        {
+            join(
+                &rt,
+                || work(&rt, &log, &mut second, 1, &known, &mut there),
+                || watch(&rt, &log, &mut third, &known),
+            );
+        },
     );
     // both replicas took the same entries in the same order, and each thread's in the order in which it appended them
     assert_eq!(rt; here, there);

@@ -47,8 +47,12 @@ pub fn look<J: LogName + Send + Sync, R: Threads + Wait + Clock + Sync>(
         { look_often(rt, &log, pass, calls) },
     )?;
     let end = Instant::now(rt).map_err(|_| ProgFault::NoClock)?;
+    let mut tails = 0u64;
+    for sum in &sums {
+        tails = tails.wrapping_add(*sum);
+    }
     Ok(Looks {
-        tails: sums.iter().fold(0, |all: u64, sum| all.wrapping_add(*sum)),
+        tails,
         time: end.duration_since(start),
     })
 }

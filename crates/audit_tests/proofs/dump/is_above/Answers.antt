@@ -1,6 +1,4 @@
-use Rattle.std.proofs.Common.{◌≡◌, ◌<◌, ◌-◌, sym, ◌∙◌, subst, arith}
-use Rattle.std.specs.Prelude.{slice_index}
-use Rattle.std.specs.FinMap as finite
+use Rattle.std.proofs.Common.{◌<◌, ◌-◌, sym, ◌∙◌, subst, arith}
 use Rattle.std.proofs.lemmas.Bool.{ltb-true}
 use Rattle.nr_dump.proofs.Outside.{last_below_all, none_below_all}
 use Rattle.audit_tests.proofs.dump.is_above.Goals as goal
