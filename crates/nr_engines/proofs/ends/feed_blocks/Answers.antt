@@ -1,6 +1,6 @@
-use Rattle.std.proofs.Common.{◌≡◌, ℕ, List, [], ap, refl, subst, sym, take, arith}
+use Rattle.std.proofs.Common.{◌≡◌, ℕ, [], ap, take, arith}
 use Rattle.std.specs.Io.KnownBytes.{IsAtEnd}
-use Rattle.nr_engines.proofs.Input.{IsFed, starts, goes_on, stops, ends}
+use Rattle.nr_engines.proofs.Input.{starts, goes_on, stops, ends}
 use Rattle.nr_engines.proofs.ends.feed_blocks.Goals as goal
 
 pub loop-init : goal.loop-init
