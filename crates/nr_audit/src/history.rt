@@ -5,6 +5,7 @@ ghost use Rattle.nr_audit.specs.inside.LastEvents.{IsLastEvent};
 ghost use Rattle.nr_audit.specs.inside.Replies.{position_of};
 ghost use Rattle.nr_audit.specs.inside.Tables.{AreReplies};
 
+use crate::last_events::position_at;
 use crate::requests::request_of;
 use crate::tables::MaybeIndex;
 use nr_trace::{Event, Recorded, Trace};
@@ -99,11 +100,7 @@ impl<'a> History<'a> {
             return None;
         }
         let index = self.replies[call as usize].get()?;
-        let event = self.trace.events()[index as usize];
-        match event.event() {
-            Event::Reply { at, .. } => Some(at),
-            Event::Call { .. } => None,
-        }
+        position_at(self.trace, index)
     }
 
     /// The last event of a call: the reply to it, or the call itself where it has none.

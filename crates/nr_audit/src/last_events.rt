@@ -41,3 +41,15 @@ pub(crate) fn answer_at(trace: &Trace, event: u32) -> Option<Answer>
         Event::Reply { answer, .. } => Some(answer),
     }
 }
+
+/// The position that is told at an event, or `None` where it is no reply.
+#[inline(always)]
+pub(crate) fn position_at(trace: &Trace, event: u32) -> Option<u32>
+    requires { event < length trace.now.events }
+    ensures { result ≡ option_map (λ reply. reply.at) (reply_of trace.now event) }
+{
+    match trace.events()[event as usize].event() {
+        Event::Call { .. } => None,
+        Event::Reply { at, .. } => Some(at),
+    }
+}

@@ -40,15 +40,15 @@ returns-then-not-agrees-clause-first c =
     let trace = c.args.trace.now in
     let order = recorded_order trace in
     let k = c.loop-member.member-index in
-    let request = c.in-Some.request in
     let is = c.loop-member.invariant in
     let within : k < length order = omega arith in
     let own = subst (λ e. IsLastEvent trace (get_or order k 0) e) (sym (is.left k (omega arith))) (c.requires.listed.each k within) in
     let call = c.call_at-call.ensures ∙ own.names in
-    let asks = sym c.in-Some.is ∙ c.request_of.ensures.asks ∙ ap (λ n. option_map (λ (made : Invocation). made.request) (call_of trace n)) call in
-    let told = c.answer_at.ensures ∙ ap (option_map (λ (r : Response). r.answer)) own.only_reply in
+    let request = c.in-Some.request in
     let serves = subst (λ (s : BoundedSpace). Serves s request c.in_ok-answer.answer c.serve.new.space) is.space c.in_ok-answer.ensures in
     let gives = answered trace.layout (space_after trace (take k order)) request c.in_ok-answer.answer c.serve.new.space serves in
+    let asks = sym c.in-Some.is ∙ c.request_of.ensures.asks ∙ ap (λ n. option_map (λ (made : Invocation). made.request) (call_of trace n)) call in
+    let told = c.answer_at.ensures ∙ ap (option_map (λ (r : Response). r.answer)) own.only_reply in
     subst (λ n. IsFirstAmong IsAnswerFault trace (WrongAnswer n)) (sym call)
     (first_wrong trace order refl c.requires.clean k within is.right
     (wrong_here trace order refl c.requires.clean k request c.in_ok-answer.answer c.answer_at.result within asks gives told
