@@ -122,6 +122,15 @@ piece_taken self old next reader begun piece view is has =
     subst (λ f. Feeds f piece (fed next) (Ok tt)) (ap fed (sym is) ∙ view)
     (has.bytes_are, goes_on (said reader ++ begun.items ++ piece) next has.feeding has.bytes_are)
 
+pub piece_refused : (self : Fed) (old : State) (reader : Reader) (begun : Vec ℕ Global) (piece : List ℕ) (fail : Fail Format) → fed old ≡ self
+    → old ≡ Open reader begun → IfRefused (IsSettled (said reader ++ begun.items ++ piece)) fail → Feeds self piece (fed (Stopped fail)) (Err fail)
+piece_refused self old reader begun piece fail view is why =
+    subst (λ f. Feeds f piece (fed (Stopped fail)) (Err fail)) (ap fed (sym is) ∙ view) (refl, why)
+
+pub still_refused : (self : Fed) (old : State) (piece : List ℕ) (fail : Fail Format) → fed old ≡ self → old ≡ Stopped fail
+    → Feeds self piece (fed (Stopped fail)) (Err fail)
+still_refused self old piece fail view is = subst (λ f. Feeds f piece (fed (Stopped fail)) (Err fail)) (ap fed (sym is) ∙ view) (refl, refl)
+
 -- ---- the end
 
 pub fewer_than : (o : Option ℕ) (len : ℕ) (bytes : List ℕ) → o ≡ Some len → AreFewer o bytes → length bytes < len

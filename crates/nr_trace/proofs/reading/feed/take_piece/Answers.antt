@@ -36,3 +36,6 @@ take_run-requires-clause-run c =
       c.args.begun.ok.0,
     ) in
     subst (λ (n : ℕ). IsRun c.args.reader n) whole (one_unit c.args.reader c.in-Some.len c.requires.sound.ready (sym c.in-Some.ensures))
+
+pub split_at-requires : goal.split_at-requires
+split_at-requires c = c.if-piece-missing.false
