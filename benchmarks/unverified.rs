@@ -17,8 +17,12 @@ struct Arena {
 }
 
 impl Arena {
+    /// All frames are written at once, as `VecArena` does: of memory that is only asked for to be 0 the kernel gives each page
+    /// when it is first used.
     fn new() -> Arena {
-        Arena { base: 1 << 39, words: vec![[0; 512]; FRAMES], free: (0..FRAMES as u16).collect() }
+        let mut words = vec![[1; 512]; FRAMES];
+        words.fill([0; 512]);
+        Arena { base: 1 << 39, words, free: (0..FRAMES as u16).collect() }
     }
 
     fn take(&mut self) -> Option<u64> {
