@@ -35,11 +35,11 @@ fn flush_that_fails(rt: HostRuntime) -> Result<(), Fail> {
         let mut output = FailsAtFlush(Vec::new(rt.alloc()));
         let input = HEAD.as_slice().chain(root.as_slice());
         let told = match command.run(rt.alloc(), input, &mut output) {
-            Ok(_) => "an answer",
-            Err(fault) => fault.text(),
+            Ok(status) => ("an answer", status),
+            Err(fault) => (fault.text(), fault.status()),
         };
         assert_eq!(rt; output.0.as_slice(), answer.as_bytes());
-        assert_eq!(rt; told, "cannot write");
+        assert_eq!(rt; told, ("cannot write", 2));
     }
     Ok(())
 }

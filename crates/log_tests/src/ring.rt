@@ -152,8 +152,8 @@ fn advance<J: LogName, R: Wait + Abort>(
     assert_eq!(rt; log.advance(rt, pass, to), Ok(()));
 }
 
-/// A pass that owns replica 0 looks, and another appends an entry. Then an advance to the local tail exchanges nothing, and one to this
-/// place is refused.
+/// A pass that owns replica 0 looks, and another appends an entry. Then an advance to the local tail exchanges nothing, and
+/// one to this place is refused.
 fn advance_late<R: Wait + Abort>(
     rt: &R,
     log: &RingLog<Two>,

@@ -8,7 +8,7 @@ use vs_types::FRAME_WORDS;
 /// The name of a frame of a store: its index, below 4,096. Contracts see the index.
 #[derive(Clone, Copy, Debug, PartialEq, Eq)]
 pub struct Frame {
-    index: u16,
+    index: usize,
 }
 
 impl Model for Frame {
@@ -25,7 +25,7 @@ impl Model for Frame {
 }
 
 impl Frame {
-    pub(crate) fn at_index(index: u16) -> Frame
+    pub(crate) fn at_index(index: usize) -> Frame
         requires { index < TABLES }
         ensures { result ≡ index }
     {
@@ -33,7 +33,7 @@ impl Frame {
     }
 
     /// Its place in the store: 0 to 4,095.
-    pub fn index(self) -> u16
+    pub fn index(self) -> usize
         ensures reads { result ≡ self }
         ensures in_range { self < TABLES }
     {
@@ -50,7 +50,7 @@ pub(crate) fn marked_at(base: u64, marks: &[bool], number: u64) -> Option<Frame>
 {
     let index = number.checked_sub(base)? as usize;
     if index < marks.len() && marks[index] {
-        Some(Frame::at_index(index as u16))
+        Some(Frame::at_index(index))
     } else {
         None
     }

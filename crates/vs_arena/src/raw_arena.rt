@@ -98,11 +98,11 @@ impl FrameStore for RawArena {
         if self.free_count == 0 {
             return None;
         }
-        let index = self.next_free as u16;
-        let words = self.region.get_mut(index as usize);
+        let index = self.next_free as usize;
+        let words = self.region.get_mut(index);
         self.next_free = words[0];
         *words = cleared_words();
-        self.marks[index as usize] = true;
+        self.marks[index] = true;
         self.free_count -= 1;
         Some(Frame::at_index(index))
     }
@@ -110,9 +110,9 @@ impl FrameStore for RawArena {
     fn give(&mut self, frame: Frame) {
         let index = frame.index();
         let next = self.next_free;
-        let words = self.region.get_mut(index as usize);
+        let words = self.region.get_mut(index);
         words[0] = next;
-        self.marks[index as usize] = false;
+        self.marks[index] = false;
         self.next_free = index as u64;
         self.free_count += 1;
     }
@@ -122,12 +122,12 @@ impl FrameStore for RawArena {
     }
 
     fn set(&mut self, frame: Frame, index: usize, word: u64) {
-        let words = self.region.get_mut(frame.index() as usize);
+        let words = self.region.get_mut(frame.index());
         words[index] = word;
     }
 
     fn frame(&self, frame: Frame) -> &[u64; FRAME_WORDS] {
-        self.region.get(frame.index() as usize)
+        self.region.get(frame.index())
     }
 
     fn number(&self, frame: Frame) -> u64 {
@@ -139,6 +139,6 @@ impl FrameStore for RawArena {
     }
 
     fn in_use(&self, number: u64) -> Frame {
-        Frame::at_index((number - self.base) as u16)
+        Frame::at_index((number - self.base) as usize)
     }
 }

@@ -78,16 +78,16 @@ impl FrameStore for VecArena {
             return None;
         }
         self.free_count -= 1;
-        let index = self.free[self.free_count];
-        self.marks[index as usize] = true;
-        self.words[index as usize] = cleared_words();
+        let index = self.free[self.free_count] as usize;
+        self.marks[index] = true;
+        self.words[index] = cleared_words();
         Some(Frame::at_index(index))
     }
 
     fn give(&mut self, frame: Frame) {
         let index = frame.index();
-        self.marks[index as usize] = false;
-        self.free[self.free_count] = index;
+        self.marks[index] = false;
+        self.free[self.free_count] = index as u16;
         self.free_count += 1;
     }
 
@@ -96,12 +96,12 @@ impl FrameStore for VecArena {
     }
 
     fn set(&mut self, frame: Frame, index: usize, word: u64) {
-        let words = &mut self.words[frame.index() as usize];
+        let words = &mut self.words[frame.index()];
         words[index] = word;
     }
 
     fn frame(&self, frame: Frame) -> &[u64; FRAME_WORDS] {
-        &self.words[frame.index() as usize]
+        &self.words[frame.index()]
     }
 
     fn number(&self, frame: Frame) -> u64 {
@@ -113,6 +113,6 @@ impl FrameStore for VecArena {
     }
 
     fn in_use(&self, number: u64) -> Frame {
-        Frame::at_index((number - self.base) as u16)
+        Frame::at_index((number - self.base) as usize)
     }
 }

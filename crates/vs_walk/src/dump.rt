@@ -88,7 +88,8 @@ impl Dump {
     }
 
     /// The dump with one frame more coming, of which there is no word yet. The number is above those of all that are held
-    /// and below 2^40. It takes memory where there is no room for a frame more.
+    /// and below 2^40. It takes memory where there is no room for a frame more, and gives the dump up where that is refused;
+    /// after `make_room` there is room.
     pub fn begin_frame(self, number: u64) -> Result<OpenDump, Memory>
         requires above { All (λ held. held < number) (finite.keys self.frames) }
         requires in_range { number < 2 ^ 40 }

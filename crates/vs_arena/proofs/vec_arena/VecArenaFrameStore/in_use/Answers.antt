@@ -4,13 +4,6 @@ use Rattle.vs_arena.specs.Arena.{Arena}
 use Rattle.vs_arena.proofs.MarkedFrames.{IsMarked-from_use}
 use Rattle.vs_arena.proofs.vec_arena.VecArenaFrameStore.in_use.Goals as goal
 
-pub overflow_cast-number : goal.overflow_cast-number
-overflow_cast-number c =
-    let in_use = subst (λ (a : Arena). IsInUse a.frames c.requires.0) (sym c.self.view_is) c.requires.2 in
-    let marked = IsMarked-from_use c.self.inside.marks.items c.self.inside.words.items c.requires.0 in_use in
-    let base_is = ap (λ (a : Arena). a.base) c.self.view_is in
-    omega (arith, marked.in_marks, c.self.invariant.few_frames, c.requires.1, base_is)
-
 pub at_index-requires : goal.at_index-requires
 at_index-requires c =
     let in_use = subst (λ (a : Arena). IsInUse a.frames c.requires.0) (sym c.self.view_is) c.requires.2 in
