@@ -27,12 +27,14 @@ impl Arena {
 
     fn take(&mut self) -> Option<u64> {
         let index = self.free.pop()?;
-        self.words[index as usize] = [0; 512];
         Some(self.base + index as u64)
     }
 
+    /// The frame is cleared now, when its words have just been read.
     fn give(&mut self, number: u64) {
-        self.free.push((number - self.base) as u16);
+        let index = (number - self.base) as u16;
+        self.words[index as usize] = [0; 512];
+        self.free.push(index);
     }
 
     fn used(&self) -> usize {

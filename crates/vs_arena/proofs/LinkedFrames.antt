@@ -7,6 +7,7 @@ use Rattle.std.proofs.lemmas.Bool.{cases_eq}
 use Rattle.vs_arena.specs.Store.{zeros}
 use Rattle.vs_arena.proofs.MarkedFrames.{IsFrame-zeros, IsFrame-set}
 use Rattle.vs_arena.proofs.NewArenas.{HasMade, HasMade-none, HasMade-push}
+use Rattle.vs_arena.proofs.RawArenas.{IsClearButLink, linked_clear}
 
 -- the first of the n places have frames, each linked to the one before it
 pub record HasLinked (places : List (Option (List ℕ))) (n made : ℕ) : Type 0 where
@@ -14,7 +15,7 @@ pub record HasLinked (places : List (Option (List ℕ))) (n made : ℕ) : Type 0
   pub free : List ℕ
   pub within : made ≤ n
   pub all : places ≡ map Some words ++ replicate (n - made) None
-  pub frames : HasMade words free made
+  pub frames : HasMade IsClearButLink words free made
   pub links : (k : ℕ) → k + 1 < made → get_or (get_or words (k + 1) []) 0 0 ≡ k
 
 pub HasLinked-none : (places : List (Option (List ℕ))) (n : ℕ) → places ≡ replicate n None → HasLinked places n 0
@@ -66,7 +67,8 @@ HasLinked-push places n made link own below own_is fits before linked =
       within = omega arith;
       all = ap (λ l. set l made (Some own)) is ∙ ap (λ i. set (map Some words ++ None ∷ replicate (n - (made + 1)) None) i (Some own)) (sym long)
           ∙ set-next words _ own;
-      frames = HasMade-push words linked.free made own (rw own_is (IsFrame-set zeros 0 link IsFrame-zeros fits)) linked.frames;
+      frames = HasMade-push IsClearButLink words linked.free made own (rw own_is (IsFrame-set zeros 0 link IsFrame-zeros fits))
+          (subst IsClearButLink (sym own_is) (linked_clear link)) linked.frames;
       links = λ k k_below. elim (cases_eq (k + 1) made) as (λ _. get_or (get_or (words ++ own ∷ []) (k + 1) []) 0 0 ≡ k) [
         | inl last ↦ ap (λ l. get_or l 0 0) (get_or_push words own [] (k + 1) (long ∙ sym last)) ∙ first ∙ (let same : link ≡ k = omega arith in same)
         | inr other ↦

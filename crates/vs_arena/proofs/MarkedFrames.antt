@@ -186,6 +186,27 @@ once_pushed free count index room once apart j k j_below k_below same =
       ]
     ]
 
+-- the numbers that count on the list name no marked frame
+pub unmarked_apart : (marks : List Bool) (free : List ℕ) (count index : ℕ) → get_or marks index false ≡ true
+    → ((k : ℕ) → k < count → get_or marks (get_or free k 0) false ≡ false) → (k : ℕ) → k < count → get_or free k 0 ≢ index
+unmarked_apart marks free count index is_marked unmarked k below same =
+    true≢false (sym is_marked ∙ sym (ap (λ i. get_or marks i false) same) ∙ unmarked k below)
+
+-- words are written at an index that isn't on the list of those with such words
+pub each_kept : (P : List ℕ → Type 0) (words : List (List ℕ)) (free : List ℕ) (count index : ℕ) (own : List ℕ)
+    → ((k : ℕ) → k < count → get_or free k 0 ≢ index) → ((k : ℕ) → k < count → P (get_or words (get_or free k 0) []))
+    → (k : ℕ) → k < count → P (get_or (set words index own) (get_or free k 0) [])
+each_kept P words free count index own apart each k below =
+    subst P (sym (get_or-set_other words index (get_or free k 0) own [] (apart k below))) (each k below)
+
+-- such words are written at an index, which comes on the list
+pub each_given : (P : List ℕ → Type 0) (words : List (List ℕ)) (free : List ℕ) (count index : ℕ) (own : List ℕ) → index < length words
+    → count < length free → P own → ((k : ℕ) → k < count → get_or free k 0 ≢ index) → ((k : ℕ) → k < count → P (get_or words (get_or free k 0) []))
+    → (k : ℕ) → k < count + 1 → P (get_or (set words index own) (get_or (set free count index) k 0) [])
+each_given P words free count index own in_words room here apart each =
+    each_pushed free count index (λ i. P (get_or (set words index own) i [])) room (subst P (sym (get_or-set_same words index own [] in_words)) here)
+    (each_kept P words free count index own apart each)
+
 stays_unmarked : (marks : List Bool) (index i : ℕ) → index < length marks → get_or marks i false ≡ false → get_or (set marks index false) i false ≡ false
 stays_unmarked marks index i in_marks unmarked = elim (cases_eq i index) as (λ _. get_or (set marks index false) i false ≡ false) [
   | inl at ↦ get_or-set_at marks index i false false at in_marks
@@ -208,8 +229,7 @@ IsArena-give base words marks free count index arena is_marked =
           (λ k below. rw length-set (arena.free_within k below));
       free_unmarked = each_pushed free count index (λ i. get_or (set marks index false) i false ≡ false) room
           (get_or-set_same marks index false false in_marks) (λ k below. stays_unmarked marks index (get_or free k 0) in_marks (arena.free_unmarked k below));
-      free_once = once_pushed free count index room arena.free_once
-          (λ k below same. true≢false (sym is_marked.mark ∙ sym (ap (λ i. get_or marks i false) same) ∙ arena.free_unmarked k below));
+      free_once = once_pushed free count index room arena.free_once (unmarked_apart marks free count index is_marked.mark arena.free_unmarked);
       counted = rw (marked_frames-unmark marks words index in_marks, length-set marks index false) (omega (arith, one_less, arena.counted));
     }
 

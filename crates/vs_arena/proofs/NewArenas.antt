@@ -6,24 +6,26 @@ use Rattle.std.proofs.lemmas.List.Elements.{All-push}
 use Rattle.std.proofs.lemmas.Bool.{cases_eq}
 use Rattle.vs_types.specs.Frame.{IsFrame}
 
--- this many frames, and their numbers from 0 on
-pub record HasMade (words : List (List ℕ)) (free : List ℕ) (n : ℕ) : Type 0 where
+-- this many frames with such words, and their numbers from 0 on
+pub record HasMade (P : List ℕ → Type 0) (words : List (List ℕ)) (free : List ℕ) (n : ℕ) : Type 0 where
   pub words_for_each : length words ≡ n
   pub whole_frames : All IsFrame words
   pub room_for_each : length free ≡ n
   pub free_itself : (k : ℕ) → k < n → get_or free k 0 ≡ k
+  pub each : All P words
 
-pub HasMade-none : HasMade [] [] 0
+pub HasMade-none : {P : List ℕ → Type 0} → HasMade P [] [] 0
 HasMade-none = record {
   words_for_each = refl;
   whole_frames = λ k d below. absurd (omega arith);
   room_for_each = refl;
   free_itself = λ k below. absurd (omega arith);
+  each = λ k d below. absurd (omega arith);
 }
 
-pub HasMade-push : (words : List (List ℕ)) (free : List ℕ) (n : ℕ) (own : List ℕ) → IsFrame own → HasMade words free n
-    → HasMade (words ++ own ∷ []) (free ++ n ∷ []) (n + 1)
-HasMade-push words free n own own_frame made = record {
+pub HasMade-push : (P : List ℕ → Type 0) (words : List (List ℕ)) (free : List ℕ) (n : ℕ) (own : List ℕ) → IsFrame own → P own → HasMade P words free n
+    → HasMade P (words ++ own ∷ []) (free ++ n ∷ []) (n + 1)
+HasMade-push P words free n own own_frame here made = record {
   words_for_each = length_push words own ∙ ap (λ k. k + 1) made.words_for_each;
   whole_frames = All-push IsFrame words own made.whole_frames own_frame;
   room_for_each = length_push free n ∙ ap (λ k. k + 1) made.room_for_each;
@@ -33,4 +35,5 @@ HasMade-push words free n own own_frame made = record {
         let within : k < n = omega arith in
         get_or_append_left free (n ∷ []) 0 k (omega (arith, made.room_for_each)) ∙ made.free_itself k within
   ];
+  each = All-push P words own made.each here;
 }

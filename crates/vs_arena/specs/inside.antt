@@ -4,3 +4,4 @@ pub mod RawArena
 pub mod Region
 pub mod RegionLends
 pub mod RegionMemory
+pub mod VecArena

@@ -56,7 +56,7 @@ pub(crate) fn marked_at(base: u64, marks: &[bool], number: u64) -> Option<Frame>
     }
 }
 
-/// The words of a frame that was just taken.
+/// The words of a frame that is clear.
 pub(crate) fn cleared_words() -> [u64; FRAME_WORDS]
     ensures { result ≡ zeros }
 {

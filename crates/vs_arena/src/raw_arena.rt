@@ -11,7 +11,8 @@ use vs_types::{FRAME_WORDS, Memory};
 
 /// A store of frames that lie in one block of memory. `new` takes all its memory: 4,097 bytes a frame.
 ///
-/// The block is aligned to 8 bytes, as its words are.
+/// The block is aligned to 8 bytes, as its words are. A frame is cleared as it is given back, when its words have often just
+/// been read, and not as it is taken.
 pub struct RawArena {
     base: u64,
     region: Region<[u64; FRAME_WORDS]>,
@@ -101,7 +102,7 @@ impl FrameStore for RawArena {
         let index = self.next_free as usize;
         let words = self.region.get_mut(index);
         self.next_free = words[0];
-        *words = cleared_words();
+        words[0] = 0;
         self.marks[index] = true;
         self.free_count -= 1;
         Some(Frame::at_index(index))
@@ -111,6 +112,7 @@ impl FrameStore for RawArena {
         let index = frame.index();
         let next = self.next_free;
         let words = self.region.get_mut(index);
+        *words = cleared_words();
         words[0] = next;
         self.marks[index] = false;
         self.next_free = index as u64;

@@ -9,9 +9,12 @@ use std::marker::Model;
 use vs_types::{FRAME_WORDS, Memory};
 
 /// A store of frames that lie in one vector. `new` takes all its memory: 4,099 bytes a frame.
+///
+/// A frame is cleared as it is given back, when its words have often just been read, and not as it is taken.
 #[derive(Debug, Drop)]
 pub struct VecArena {
     base: u64,
+    /// Those of a frame that isn't in use are 0.
     words: Vec<[u64; FRAME_WORDS]>,
     /// Whether each frame is in use.
     marks: Vec<bool>,
@@ -23,7 +26,8 @@ pub struct VecArena {
 impl Model for VecArena {
     ghost use Rattle.std.specs.Prelude.{length};
     ghost use Rattle.vs_arena.specs.Arena.{Arena};
-    ghost use Rattle.vs_arena.specs.inside.Arena.{arena_code, marked_frames, IsArena};
+    ghost use Rattle.vs_arena.specs.inside.Arena.{arena_code, marked_frames};
+    ghost use Rattle.vs_arena.specs.inside.VecArena.{IsVecArena};
 
     ghost Value = { Arena };
 
@@ -31,7 +35,7 @@ impl Model for VecArena {
 
     ghost view = { λ a. record { base = a.base; size = length a.marks.items; frames = marked_frames a.marks.items a.words.items } };
 
-    ghost invariant = { λ a. IsArena a.base a.words.items a.marks.items a.free.items a.free_count };
+    ghost invariant = { λ a. IsVecArena a.base a.words.items a.marks.items a.free.items a.free_count };
 }
 
 impl VecArena {
@@ -80,12 +84,12 @@ impl FrameStore for VecArena {
         self.free_count -= 1;
         let index = self.free[self.free_count] as usize;
         self.marks[index] = true;
-        self.words[index] = cleared_words();
         Some(Frame::at_index(index))
     }
 
     fn give(&mut self, frame: Frame) {
         let index = frame.index();
+        self.words[index] = cleared_words();
         self.marks[index] = false;
         self.free[self.free_count] = index as u16;
         self.free_count += 1;

@@ -32,7 +32,7 @@ invariant_of-result c =
     let made = linked.frames in (
       rw (marks_are c) (IsRawArena-new _ _ _ _ linked.words linked.free c.requires.few c.requires.in_range (all_linked _ _ linked)
           made.words_for_each made.whole_frames made.room_for_each made.free_itself linked.links
-          (λ k last. c.saturating_sub-2.ensures ∙ (let one : c.args.n - 1 ≡ k = omega arith in one))),
+          (λ k last. c.saturating_sub-2.ensures ∙ (let one : c.args.n - 1 ≡ k = omega arith in one)) made.each),
       c.loop-index.invariant.1,
       c.in_ok-region.ensures.2 ∙ sym (ap length (marks_are c) ∙ length-replicate c.args.n false),
       c.in_ok-region.ensures.3,

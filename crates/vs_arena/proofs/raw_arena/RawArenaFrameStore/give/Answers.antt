@@ -4,8 +4,8 @@ use Rattle.vs_arena.specs.Store.{IsInUse}
 use Rattle.vs_arena.specs.Arena.{Arena}
 use Rattle.vs_arena.specs.inside.Arena.{marked_frames}
 use Rattle.vs_arena.specs.inside.RawArena.{values}
-use Rattle.vs_arena.proofs.MarkedFrames.{IsMarked, IsMarked-from_use, IsFrame-set, marked_frames-unmark_written}
-use Rattle.vs_arena.proofs.RawArenas.{IsFilled-within, value_at, values-set, IsRawArena-give}
+use Rattle.vs_arena.proofs.MarkedFrames.{IsMarked, IsMarked-from_use, IsFrame-set, IsFrame-zeros, marked_frames-unmark_written}
+use Rattle.vs_arena.proofs.RawArenas.{IsFilled-within, values-set, IsRawArena-give}
 use Rattle.vs_arena.proofs.raw_arena.RawArenaFrameStore.give.Goals as goal
 
 pub get_mut-words-requires : goal.get_mut-words-requires
@@ -24,10 +24,8 @@ invariant_of-self c =
     let marked = subst (λ i. IsMarked marks (values places) i) (sym c.index-index.ensures.reads)
     (IsMarked-from_use marks (values places) c.args.frame in_use) in
     let within : c.index-index.result < length (values places) = omega (arith, marked.in_marks, raw.arena.words_for_each) in
-    let old = value_at places raw.filled c.index-index.result [] c.get_mut-words.result.now within c.get_mut-words.ensures.value in
-    let whole = IsFrame-set c.get_mut-words.result.now 0 c.self.inside.next_free (rw old (raw.arena.whole_frames c.index-index.result [] within))
-    (omega (arith, c.self.ranges)) in (
-      IsRawArena-give _ _ _ _ _ raw c.index-index.result _ marked (ap (λ l. set l 0 c.self.inside.next_free) old) whole,
+    let whole = IsFrame-set c.cleared_words.result 0 c.self.inside.next_free (rw c.cleared_words.ensures IsFrame-zeros) (omega (arith, c.self.ranges)) in (
+      IsRawArena-give _ _ _ _ _ raw c.index-index.result _ marked (ap (λ l. set l 0 c.self.inside.next_free) c.cleared_words.ensures) whole,
       c.self.invariant.1,
       c.self.invariant.2 ∙ sym (length-set marks c.index-index.result false),
       c.self.invariant.3,

@@ -3,8 +3,9 @@ use Rattle.std.specs.FinMap as finite
 use Rattle.std.proofs.lemmas.List.{length-replicate}
 use Rattle.vs_arena.specs.Arena.{Arena}
 use Rattle.vs_arena.specs.inside.Arena.{marked_frames}
-use Rattle.vs_arena.proofs.MarkedFrames.{IsArena-new, IsFrame-zeros, marked_frames-none}
+use Rattle.vs_arena.proofs.MarkedFrames.{IsFrame-zeros, marked_frames-none}
 use Rattle.vs_arena.proofs.NewArenas.{HasMade, HasMade-none, HasMade-push}
+use Rattle.vs_arena.proofs.VecArenas.{IsClear, IsVecArena-new}
 use Rattle.vs_arena.proofs.vec_arena.VecArena.new.Goals as goal
 
 pub loop-index-init : goal.loop-index-init
@@ -12,7 +13,7 @@ loop-index-init c = rw (c.in_ok-words.ensures.items, c.in_ok-free.ensures.items)
 
 pub loop-index-preserved : goal.loop-index-preserved
 loop-index-preserved c = rw (c.in_ok-push.ensures.items, c.in_ok-push-2.ensures.items)
-    (HasMade-push _ _ _ _ (rw c.cleared_words.ensures IsFrame-zeros) c.loop-index.invariant)
+    (HasMade-push IsClear _ _ _ _ (rw c.cleared_words.ensures IsFrame-zeros) c.cleared_words.ensures c.loop-index.invariant)
 
 marks_are : (c : goal.After-loop-index) → c.in_ok-marks.marks.items ≡ replicate c.args.n false
 marks_are c = c.in_ok-marks.ensures.items_if_clones_equal (λ y clone. search rules)
@@ -20,8 +21,8 @@ marks_are c = c.in_ok-marks.ensures.items_if_clones_equal (λ y clone. search ru
 pub invariant_of-result : goal.invariant_of-result
 invariant_of-result c =
     let all : c.loop-index.index ≡ c.args.n = omega arith in
-    let made = subst (λ n. HasMade c.loop-index.words.items c.loop-index.free.items n) all c.loop-index.invariant in
-    rw (marks_are c) (IsArena-new _ _ _ _ c.requires.few c.requires.in_range made.words_for_each made.whole_frames made.room_for_each made.free_itself)
+    let made = subst (λ n. HasMade IsClear c.loop-index.words.items c.loop-index.free.items n) all c.loop-index.invariant in
+    rw (marks_are c) (IsVecArena-new _ _ _ _ c.requires.few c.requires.in_range made.words_for_each made.whole_frames made.room_for_each made.free_itself made.each)
 
 -- an arena of which no frame is in use
 empty_arena : (base n : ℕ) (words : List (List ℕ)) (marks : List Bool) → marks ≡ replicate n false
