@@ -27,10 +27,11 @@ pub struct Rights {
 pub struct Page {
     /// The first address.
     pub base: u64,
-    /// The physical address to which the first address is translated.
-    pub phys: u64,
     pub size: Size,
     pub rights: Rights,
+    /// The physical address to which the first address is translated. It stands last: the small fields of the other cases of
+    /// an `Action` then share no bytes with it, and it is copied as one word.
+    pub phys: u64,
 }
 
 impl Size {
