@@ -22,7 +22,8 @@ pub invariant_of-result : goal.invariant_of-result
 invariant_of-result c =
     let all : c.loop-index.index ≡ c.args.n = omega arith in
     let made = subst (λ n. HasMade IsClear c.loop-index.words.items c.loop-index.free.items n) all c.loop-index.invariant in
-    rw (marks_are c) (IsVecArena-new _ _ _ _ c.requires.few c.requires.in_range made.words_for_each made.whole_frames made.room_for_each made.free_itself made.each)
+    rw (marks_are c)
+    (IsVecArena-new _ _ _ _ c.requires.few c.requires.in_range made.words_for_each made.whole_frames made.room_for_each made.free_itself made.each)
 
 -- an arena of which no frame is in use
 empty_arena : (base n : ℕ) (words : List (List ℕ)) (marks : List Bool) → marks ≡ replicate n false
