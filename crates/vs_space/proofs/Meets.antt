@@ -21,10 +21,11 @@ use Rattle.vs_types.specs.declared.entry.Meaning.TheVariants as entry
 use Rattle.vs_types.specs.declared.answer.Answer.{Answer}
 use Rattle.vs_types.specs.declared.answer.Answer.TheVariants as answers
 use Rattle.vs_walk.specs.Memory.{Memory}
+use Rattle.vs_space.specs.declared.descent.Descent.{Descent}
 use Rattle.vs_space.specs.Held.{Held, with_word}
 use Rattle.vs_space.specs.Path.{found_at, table_in}
 use Rattle.vs_space.specs.Written.{IsWritten}
-use Rattle.vs_space.specs.inside.Descent.{IsDescent, HasEnded}
+use Rattle.vs_space.specs.inside.Descent.{IsDescent, EndsAt, HasEnded, HasMet}
 use Rattle.vs_space.specs.Table.{PageTable, IsTableOf, IsTableStep}
 use Rattle.vs_space.specs.inside.Invariant.{IsPageTable, table_in_store}
 use Rattle.vs_space.proofs.Paths.{words_found}
@@ -55,6 +56,18 @@ pub ended_inside : {depth : Depth} {root : ℕ} {held : Held} {old : PageTable} 
     → HasEnded (table_in_store depth held root) address level number word path
 ended_inside {address = address} {level} {number} {word} {path} view_is is =
     subst (λ (t : PageTable). HasEnded t address level number word path) (sym view_is) is
+
+-- a descent for a page that has met this entry, in the page table as it is seen
+pub met_by : {depth : Depth} {root : ℕ} {held : Held} {old : PageTable} {page : Page} {lowest : ℕ} {end : Descent} {met : Meaning}
+    → table_in_store depth held root ≡ old → IsPageTable (table_in_store depth held root) → lowest ≡ level_of page.size → meaning end.level end.word ≡ met
+    → EndsAt depth held.memory root page.base lowest end → HasMet old page end.level end.number end.path met
+met_by {page = page} {end = end} {met} view_is table lowest_is is ends = subst (λ (t : PageTable). HasMet t page end.level end.number end.path met) view_is
+    (record { table = table; descent = descended lowest_is is ends.descent; last = ends.last })
+
+-- and in what is inside
+pub met_inside : {depth : Depth} {root : ℕ} {held : Held} {old : PageTable} {page : Page} {level number : ℕ} {path : List ℕ} {met : Meaning}
+    → table_in_store depth held root ≡ old → HasMet old page level number path met → HasMet (table_in_store depth held root) page level number path met
+met_inside {page = page} {level} {number} {path} {met} view_is is = subst (λ (t : PageTable). HasMet t page level number path met) (sym view_is) is
 
 pub met_of : {t : PageTable} {a lowest level : ℕ} {path : List ℕ} {e : Meaning} → 1 ≤ lowest → IsDescent t.depth t.memory t.root a lowest level path e
     → IsMet t a level (slice_index path level) e

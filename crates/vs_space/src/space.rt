@@ -1,5 +1,7 @@
-ghost use Rattle.std.specs.Prelude.{◌<◌, ◌≤◌, ◌≡◌, ◌^◌, ◌+◌, ℕ, Contains, IsTrue, None, IfOk, OnErr};
+ghost use Rattle.std.specs.Prelude.{◌<◌, ◌≤◌, ◌≡◌, ◌≢◌, List, ◌^◌, ◌+◌, ℕ, Contains, IsTrue, None, IfOk, OnErr};
 ghost use Rattle.std.specs.FinMap as finite;
+ghost use Rattle.vs_types.specs.declared.answer.Answer.{Answer};
+ghost use Rattle.vs_types.specs.declared.entry.Meaning.{Meaning};
 ghost use Rattle.vs_types.specs.declared.op.Action.{Action};
 ghost use Rattle.vs_types.specs.Depth.{IsCanonical};
 ghost use Rattle.vs_types.specs.Operation.{IsAction, IsBase};
@@ -10,7 +12,7 @@ ghost use Rattle.vs_types.specs.Step.{allow, look};
 ghost use Rattle.vs_walk.specs.Traversal.{traversal, reached, walk_fault};
 ghost use Rattle.vs_space.specs.Table.{PageTable, IsTableOf, IsTableStep};
 ghost use Rattle.vs_space.specs.Written.{IsWrittenTable};
-ghost use Rattle.vs_space.specs.inside.Descent.{HasEnded};
+ghost use Rattle.vs_space.specs.inside.Descent.{HasEnded, HasMet};
 
 use crate::descent::Descent;
 use crate::tables::Tables;
@@ -188,17 +190,42 @@ impl<S: FrameStore> Space<S> {
             .descend(self.depth, self.root, page.base, lowest);
         let level = descent.level as u8;
         match read_written(level, descent.word) {
-            Meaning::Absent => {}
+            Meaning::Absent => self.add(page, level, &descent),
+            met => Answer::Overlap(self.overlapped(page, level, met)),
+        }
+    }
+
+    /// The least base of a page that this one overlaps, where the descent for it met this entry, which isn't absent.
+    fn overlapped(&self, page: Page, level: u8, met: Meaning) -> u64
+        requires page { IsPage self.now.depth page }
+        requires some_level { 1 ≤ level }
+        requires few_levels { level ≤ 5 }
+        requires present { met ≢ Meaning.Absent }
+        requires ended { (number : ℕ) × (path : List ℕ) × HasMet self.now page level number path met }
+        ensures { IsTableStep self.now (Action.Map page) (Answer.Overlap result) self.now }
+    {
+        match met {
             Meaning::Table(table, _) => {
-                let base = self.tables.least_base(page.base, table, lowest - 1);
-                return Answer::Overlap(base);
+                let below = page.size.level() - 1;
+                self.tables.least_base(page.base, table, below)
             }
             Meaning::Leaf(_, _) => {
                 let bytes = Size::at_level(level).bytes();
-                return Answer::Overlap(page.base - page.base % bytes);
+                page.base - page.base % bytes
             }
-            Meaning::Reserved => unreachable!(),
+            Meaning::Absent | Meaning::Reserved => unreachable!(),
         }
+    }
+
+    /// Does what `map` does, where the descent ended at this level, at an absent entry: the page overlaps no other.
+    #[inline(always)]
+    fn add(&mut self, page: Page, level: u8, descent: &Descent) -> Answer
+        requires page { IsPage self.old.depth page }
+        requires few_levels { level ≤ 5 }
+        requires absent { HasMet self.old page level descent.now.number descent.now.path Meaning.Absent }
+        ensures { IsTableStep self.old (Action.Map page) result self.new }
+    {
+        let lowest = page.size.level();
         let limit = self.tables.limit();
         let need = self.tables.used() + usize::from(level - lowest);
         if need > limit {

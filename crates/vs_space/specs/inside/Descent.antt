@@ -3,6 +3,8 @@ use Rattle.std.specs.Prelude.{◌≡◌, ℕ, ◌<◌, ◌≤◌, List, Some, No
 use Rattle.vs_types.specs.Depth.{levels}
 use Rattle.vs_types.specs.Entry.{meaning}
 use Rattle.vs_types.specs.declared.depth.Depth.{Depth}
+use Rattle.vs_types.specs.Page.{level_of}
+use Rattle.vs_types.specs.declared.page.Page.{Page}
 use Rattle.vs_types.specs.declared.entry.Meaning.{Meaning}
 use Rattle.vs_walk.specs.Memory.{Memory}
 use Rattle.vs_space.specs.declared.descent.Descent.{Descent}
@@ -33,3 +35,9 @@ pub record HasEnded (t : PageTable) (address level number word : ℕ) (path : Li
   pub descent : IsDescent t.depth t.memory t.root address 1 level path (meaning level word)
   pub last : number ≡ slice_index path level
   pub written : IsWritten level word
+
+-- a descent for a page through a page table has ended at this level, and has met this entry of the table with this number
+pub record HasMet (t : PageTable) (page : Page) (level number : ℕ) (path : List ℕ) (met : Meaning) : Type 0 where
+  pub table : IsPageTable t
+  pub descent : IsDescent t.depth t.memory t.root page.base (level_of page.size) level path met
+  pub last : number ≡ slice_index path level
