@@ -66,14 +66,14 @@ impl Measured {
         ensures err { IfErr result (λ fault. fault ≡ ProgFault.NoClock) }
     {
         let start = now(clock)?;
-        apply_all(space, &load.maps, &mut self.sum);
+        self.sum = apply_all(space, &load.maps, self.sum);
         let mapped = now(clock)?;
         self.sum.add(space.tables() as u64);
-        resolve_all(space, &load.addresses, &mut self.sum);
+        self.sum = resolve_all(space, &load.addresses, self.sum);
         let resolved = now(clock)?;
-        apply_all(space, &load.protects, &mut self.sum);
+        self.sum = apply_all(space, &load.protects, self.sum);
         let protected = now(clock)?;
-        apply_all(space, &load.unmaps, &mut self.sum);
+        self.sum = apply_all(space, &load.unmaps, self.sum);
         let unmapped = now(clock)?;
         self.sum.add(space.tables() as u64);
         let times = &mut self.times;
@@ -127,22 +127,24 @@ fn now(clock: &impl Clock) -> Result<Instant, ProgFault>
     Instant::now(clock).map_err(|_| ProgFault::NoClock)
 }
 
-/// Does the operations one after another.
-fn apply_all<S: FrameStore>(space: &mut Space<S>, ops: &[Op], sum: &mut Sum)
+/// Does the operations one after another, and gives the sum with their answers.
+fn apply_all<S: FrameStore>(space: &mut Space<S>, ops: &[Op], mut sum: Sum) -> Sum
     requires { All (IsAction space.old.depth) ops.now }
-    ensures { Applies space.old ops.now sum.old.value space.new sum.new.value }
+    ensures { Applies space.old ops.now sum.value space.new result.value }
 {
     for op in ops {
         sum.add_answer(space.apply(*op));
     }
+    sum
 }
 
-/// Resolves the addresses.
-fn resolve_all<S: FrameStore>(space: &Space<S>, addresses: &[u64], sum: &mut Sum)
+/// Resolves the addresses, and gives the sum with their answers.
+fn resolve_all<S: FrameStore>(space: &Space<S>, addresses: &[u64], mut sum: Sum) -> Sum
     requires { All (IsCanonical space.now.depth) addresses.now }
-    ensures { (s : spaces.Space) → IsTableOf space.now s → sum.new.value ≡ sum_of_looks s sum.old.value addresses.now }
+    ensures { (s : spaces.Space) → IsTableOf space.now s → result.value ≡ sum_of_looks s sum.value addresses.now }
 {
     for address in addresses {
         sum.add_answer(space.resolve(*address));
     }
+    sum
 }

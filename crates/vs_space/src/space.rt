@@ -1,4 +1,4 @@
-ghost use Rattle.std.specs.Prelude.{◌<◌, ◌≤◌, ◌≡◌, ◌≢◌, List, ◌^◌, ◌+◌, ℕ, Contains, IsTrue, None, IfOk, OnErr};
+ghost use Rattle.std.specs.Prelude.{◌<◌, ◌≤◌, ◌≡◌, ◌≢◌, List, ◌^◌, ◌+◌, ℕ, Contains, IsTrue, None, slice_index, IfOk, OnErr};
 ghost use Rattle.std.specs.FinMap as finite;
 ghost use Rattle.vs_types.specs.declared.answer.Answer.{Answer};
 ghost use Rattle.vs_types.specs.declared.entry.Meaning.{Meaning};
@@ -14,7 +14,7 @@ ghost use Rattle.vs_space.specs.Table.{PageTable, IsTableOf, IsTableStep};
 ghost use Rattle.vs_space.specs.Written.{IsWrittenTable};
 ghost use Rattle.vs_space.specs.inside.Descent.{HasEnded, HasMet};
 
-use crate::descent::Descent;
+use crate::descent::{Descent, PATH_LENGTH};
 use crate::tables::Tables;
 use crate::word::read_written;
 use std::marker::Model;
@@ -242,25 +242,30 @@ impl<S: FrameStore> Space<S> {
         requires { IsBase self.old.depth base }
         ensures { IsTableStep self.old (Action.Unmap base) result self.new }
     {
-        let descent = self.tables.descend(self.depth, self.root, base, 1);
-        match descent.level {
-            1 => self.unmap_at(1, &descent, base),
-            2 => self.unmap_at(2, &descent, base),
-            3 => self.unmap_at(3, &descent, base),
-            level => self.unmap_at(level as u8, &descent, base),
+        let Descent {
+            path,
+            level,
+            word,
+            ..
+        } = self.tables.descend(self.depth, self.root, base, 1);
+        match level {
+            1 => self.unmap_at(1, &path, word, base),
+            2 => self.unmap_at(2, &path, word, base),
+            3 => self.unmap_at(3, &path, word, base),
+            level => self.unmap_at(level as u8, &path, word, base),
         }
     }
 
-    /// Does what `unmap` does, where the descent ended at this level.
+    /// Does what `unmap` does, where the descent ended at this level, at this word, and met the tables of this path.
     #[inline(always)]
-    fn unmap_at(&mut self, level: u8, descent: &Descent, base: u64) -> Answer
+    fn unmap_at(&mut self, level: u8, path: &[u64; PATH_LENGTH], word: u64, base: u64) -> Answer
         requires base { IsBase self.old.depth base }
         requires some_level { 1 ≤ level }
         requires few_levels { level ≤ 5 }
-        requires ended { HasEnded self.old base level descent.now.number descent.now.word descent.now.path }
+        requires ended { HasEnded self.old base level (slice_index path.now level) word path.now }
         ensures { IsTableStep self.old (Action.Unmap base) result self.new }
     {
-        let Meaning::Leaf(phys, rights) = read_written(level, descent.word) else {
+        let Meaning::Leaf(phys, rights) = read_written(level, word) else {
             return Answer::NotMapped;
         };
         let size = Size::at_level(level);
@@ -268,9 +273,9 @@ impl<S: FrameStore> Space<S> {
         if offset != 0 {
             return Answer::Inside(base - offset);
         }
-        let number = descent.path[level as usize];
+        let number = path[level as usize];
         self.tables.write(number, index_at(level, base), 0);
-        let _stop = self.tables.prune(self.depth, base, &descent.path, level);
+        let _stop = self.tables.prune(self.depth, base, path, level);
         Answer::Removed(phys, size, rights)
     }
 

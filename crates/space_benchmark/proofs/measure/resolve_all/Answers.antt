@@ -8,9 +8,9 @@ use Rattle.space_benchmark.proofs.measure.resolve_all.Goals as goal
 pub loop-address-preserved : goal.loop-address-preserved
 loop-address-preserved g c = λ space is_table.
     let address = get_or c.args.addresses.now c.loop-address.address-index 0 in
-    let before = sum_of_looks space c.args.sum.now.value (take c.loop-address.address-index c.args.addresses.now) in
+    let before = sum_of_looks space c.args.sum.value (take c.loop-address.address-index c.args.addresses.now) in
     c.add_answer.ensures
     ∙ ap (λ s. sum_with s (answer_number c.resolve.result)) (c.loop-address.invariant space is_table)
     ∙ ap (λ a. sum_with before (answer_number a)) (c.resolve.ensures space is_table)
-    ∙ sym (ap (λ xs. sum_of_looks space c.args.sum.now.value xs) (take_more c.args.addresses.now c.loop-address.address-index 0 c.loop-address-test.true)
-    ∙ sum_of_looks-append space c.args.sum.now.value (take c.loop-address.address-index c.args.addresses.now) (address ∷ []))
+    ∙ sym (ap (λ xs. sum_of_looks space c.args.sum.value xs) (take_more c.args.addresses.now c.loop-address.address-index 0 c.loop-address-test.true)
+    ∙ sum_of_looks-append space c.args.sum.value (take c.loop-address.address-index c.args.addresses.now) (address ∷ []))

@@ -30,7 +30,7 @@ prune-stop-requires-clause-faultless g c =
     let ended = ended_inside c.self.view_is c.requires.ended in
     let descent = descended refl (sym c.in-Leaf.ensures) ended.descent in
     subst (λ (h : Held). (b : ℕ) → IsCanonical c.self.inside.depth b
-    → walk c.self.inside.depth h.memory (slice_index c.args.descent.now.path (levels c.self.inside.depth)) b ≢ Reserved) (sym c.write.ensures.written)
+    → walk c.self.inside.depth h.memory (slice_index c.args.path.now (levels c.self.inside.depth)) b ≢ Reserved) (sym c.write.ensures.written)
     (cut_here c.self.invariant.0 canonical descent c.index_at.ensures.is (path_root descent)).1
 
 pub prune-stop-requires-clause-cut : goal.prune-stop-requires-clause-cut
@@ -38,8 +38,8 @@ prune-stop-requires-clause-cut g c =
     let canonical = subst (λ (t : PageTable). IsCanonical t.depth c.args.base) (sym c.self.view_is) c.requires.base.canonical in
     let ended = ended_inside c.self.view_is c.requires.ended in
     let descent = descended refl (sym c.in-Leaf.ensures) ended.descent in
-    subst (λ (h : Held). IsCut c.self.inside.depth h.memory (slice_index c.args.descent.now.path (levels c.self.inside.depth)) c.args.base
-    c.args.level c.args.descent.now.path) (sym c.write.ensures.written)
+    subst (λ (h : Held). IsCut c.self.inside.depth h.memory (slice_index c.args.path.now (levels c.self.inside.depth)) c.args.base
+    c.args.level c.args.path.now) (sym c.write.ensures.written)
     (cut_here c.self.invariant.0 canonical descent c.index_at.ensures.is (path_root descent)).0
 
 pub invariant_of-self : goal.invariant_of-self
