@@ -60,14 +60,14 @@ ended_inside {address = address} {level} {number} {word} {path} view_is is =
 -- a descent for a page that has met this entry, in the page table as it is seen
 pub met_by : {depth : Depth} {root : ℕ} {held : Held} {old : PageTable} {page : Page} {lowest : ℕ} {end : Descent} {met : Meaning}
     → table_in_store depth held root ≡ old → IsPageTable (table_in_store depth held root) → lowest ≡ level_of page.size → meaning end.level end.word ≡ met
-    → EndsAt depth held.memory root page.base lowest end → HasMet old page end.level end.number end.path met
-met_by {page = page} {end = end} {met} view_is table lowest_is is ends = subst (λ (t : PageTable). HasMet t page end.level end.number end.path met) view_is
-    (record { table = table; descent = descended lowest_is is ends.descent; last = ends.last })
+    → EndsAt depth held.memory root page.base lowest end → HasMet old page end.level end.number met
+met_by {page = page} {end = end} {met} view_is table lowest_is is ends = subst (λ (t : PageTable). HasMet t page end.level end.number met) view_is
+    (record { path = end.path; table = table; descent = descended lowest_is is ends.descent; last = ends.last })
 
 -- and in what is inside
-pub met_inside : {depth : Depth} {root : ℕ} {held : Held} {old : PageTable} {page : Page} {level number : ℕ} {path : List ℕ} {met : Meaning}
-    → table_in_store depth held root ≡ old → HasMet old page level number path met → HasMet (table_in_store depth held root) page level number path met
-met_inside {page = page} {level} {number} {path} {met} view_is is = subst (λ (t : PageTable). HasMet t page level number path met) (sym view_is) is
+pub met_inside : {depth : Depth} {root : ℕ} {held : Held} {old : PageTable} {page : Page} {level number : ℕ} {met : Meaning}
+    → table_in_store depth held root ≡ old → HasMet old page level number met → HasMet (table_in_store depth held root) page level number met
+met_inside {page = page} {level} {number} {met} view_is is = subst (λ (t : PageTable). HasMet t page level number met) (sym view_is) is
 
 pub met_of : {t : PageTable} {a lowest level : ℕ} {path : List ℕ} {e : Meaning} → 1 ≤ lowest → IsDescent t.depth t.memory t.root a lowest level path e
     → IsMet t a level (slice_index path level) e

@@ -1,4 +1,4 @@
-ghost use Rattle.std.specs.Prelude.{◌<◌, ◌≤◌, ◌≡◌, ◌≢◌, List, ◌^◌, ◌+◌, ℕ, Contains, IsTrue, None, slice_index, IfOk, OnErr};
+ghost use Rattle.std.specs.Prelude.{◌<◌, ◌≤◌, ◌≡◌, ◌≢◌, ◌^◌, ◌+◌, ℕ, Contains, IsTrue, None, slice_index, IfOk, OnErr};
 ghost use Rattle.std.specs.FinMap as finite;
 ghost use Rattle.vs_types.specs.declared.answer.Answer.{Answer};
 ghost use Rattle.vs_types.specs.declared.entry.Meaning.{Meaning};
@@ -190,7 +190,7 @@ impl<S: FrameStore> Space<S> {
             .descend(self.depth, self.root, page.base, lowest);
         let level = descent.level as u8;
         match read_written(level, descent.word) {
-            Meaning::Absent => self.add(page, level, &descent),
+            Meaning::Absent => self.add(page, level, descent.number),
             met => Answer::Overlap(self.overlapped(page, level, met)),
         }
     }
@@ -201,7 +201,7 @@ impl<S: FrameStore> Space<S> {
         requires some_level { 1 ≤ level }
         requires few_levels { level ≤ 5 }
         requires present { met ≢ Meaning.Absent }
-        requires ended { (number : ℕ) × (path : List ℕ) × HasMet self.now page level number path met }
+        requires ended { (number : ℕ) × HasMet self.now page level number met }
         ensures { IsTableStep self.now (Action.Map page) (Answer.Overlap result) self.now }
     {
         match met {
@@ -217,12 +217,13 @@ impl<S: FrameStore> Space<S> {
         }
     }
 
-    /// Does what `map` does, where the descent ended at this level, at an absent entry: the page overlaps no other.
+    /// Does what `map` does, where the descent ended at this level, at an absent entry of the table with this frame number:
+    /// the page overlaps no other.
     #[inline(always)]
-    fn add(&mut self, page: Page, level: u8, descent: &Descent) -> Answer
+    fn add(&mut self, page: Page, level: u8, last: u64) -> Answer
         requires page { IsPage self.old.depth page }
         requires few_levels { level ≤ 5 }
-        requires absent { HasMet self.old page level descent.now.number descent.now.path Meaning.Absent }
+        requires absent { HasMet self.old page level last Meaning.Absent }
         ensures { IsTableStep self.old (Action.Map page) result self.new }
     {
         let lowest = page.size.level();
@@ -231,7 +232,7 @@ impl<S: FrameStore> Space<S> {
         if need > limit {
             return Answer::Full(need as u64);
         }
-        let number = self.tables.extend(page.base, descent.number, level, lowest);
+        let number = self.tables.extend(page.base, last, level, lowest);
         let leaf = Entry::leaf(page.size, page.phys, page.rights);
         self.tables
             .write(number, index_at(lowest, page.base), leaf.word());

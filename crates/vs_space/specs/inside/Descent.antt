@@ -37,7 +37,8 @@ pub record HasEnded (t : PageTable) (address level number word : ℕ) (path : Li
   pub written : IsWritten level word
 
 -- a descent for a page through a page table has ended at this level, and has met this entry of the table with this number
-pub record HasMet (t : PageTable) (page : Page) (level number : ℕ) (path : List ℕ) (met : Meaning) : Type 0 where
+pub record HasMet (t : PageTable) (page : Page) (level number : ℕ) (met : Meaning) : Type 0 where
+  pub path : List ℕ
   pub table : IsPageTable t
   pub descent : IsDescent t.depth t.memory t.root page.base (level_of page.size) level path met
   pub last : number ≡ slice_index path level

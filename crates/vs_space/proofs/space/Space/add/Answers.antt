@@ -1,4 +1,4 @@
-use Rattle.std.proofs.Common.{◌≡◌, ℕ, ◌+◌, ◌-◌, ◌≤◌, List, sym, ap, subst, ◌∙◌, arith}
+use Rattle.std.proofs.Common.{◌≡◌, ℕ, ◌+◌, ◌-◌, ◌≤◌, sym, ap, subst, ◌∙◌, arith}
 use Rattle.std.specs.FinMap as finite
 use Rattle.vs_types.specs.Depth.{index_at}
 use Rattle.vs_types.specs.Entry.{meaning, leaf_word}
@@ -18,13 +18,13 @@ use Rattle.vs_space.proofs.Maps.{full_step, mapped}
 use Rattle.vs_space.proofs.space.Space.add.Goals as goal
 
 -- the page is mapped, where the level of its tables and how many are added have names of their own
-added : {t : PageTable} {page : Page} {level last : ℕ} {path : List ℕ} → IsPage t.depth page → HasMet t page level last path entry.Absent
+added : {t : PageTable} {page : Page} {level last : ℕ} → IsPage t.depth page → HasMet t page level last entry.Absent
     → {lowest : ℕ} → lowest ≡ level_of page.size → {m : Memory} {number : ℕ} → IsExtended t.memory m page.base last level lowest number → AreWhole m
     → {word index more : ℕ} → meaning (level_of page.size) word ≡ entry.Leaf page.phys page.rights → word ≡ leaf_word page.size page.phys page.rights
     → index ≡ index_at lowest page.base → more ≡ level - lowest → finite.len t.memory + more ≤ t.limit
     → IsPageTable (record t { memory = with_word m number index word })
     × IsTableStep t (Map page) answers.Done (record t { memory = with_word m number index word })
-added {t} {page} {level} {last} {path} good met lowest_is {m} {number} extended whole {index = index} leads is_word at more_is few =
+added {t} {page} {level} {last} good met lowest_is {m} {number} extended whole {index = index} leads is_word at more_is few =
     let below = ap (λ l. level - l) lowest_is in
     mapped met.table good met.descent (subst (λ n. IsExtended t.memory m page.base n level (level_of page.size) number) met.last
     (subst (λ l. IsExtended t.memory m page.base last level l number) lowest_is extended)) whole leads is_word

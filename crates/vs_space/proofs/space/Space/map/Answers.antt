@@ -9,7 +9,6 @@ add-requires-clause-absent g c =
 pub overlapped-requires-clause-ended : goal.overlapped-requires-clause-ended
 overlapped-requires-clause-ended g c = (
   c.descend-descent.result.number,
-  c.descend-descent.result.path,
   met_by c.self.view_is c.self.invariant.0 c.level-lowest.ensures (sym c.read_written.ensures) c.descend-descent.ensures,
 )
 

@@ -12,7 +12,7 @@ pub least_base-requires : goal.least_base-requires
 least_base-requires g c =
     let inside = c.self.inside in
     let page = subst (λ (t : PageTable). IsPage t.depth c.args.page) (sym c.self.view_is) c.requires.page in
-    let met = met_inside c.self.view_is c.requires.ended.2 in
+    let met = met_inside c.self.view_is c.requires.ended.1 in
     let descent = descended refl c.in-Table.is met.descent in (
       inside.depth,
       inside.root,
@@ -24,7 +24,7 @@ pub returns-in-Table : goal.returns-in-Table
 returns-in-Table g c =
     let inside = c.self.inside in
     let page = subst (λ (t : PageTable). IsPage t.depth c.args.page) (sym c.self.view_is) c.requires.page in
-    let met = met_inside c.self.view_is c.requires.ended.2 in
+    let met = met_inside c.self.view_is c.requires.ended.1 in
     let descent = descended refl c.in-Table.is met.descent in
     let first = subst (λ l. IsBelowRoot inside.depth inside.tables.memory inside.root c.args.page.base (l - 1) c.in-Table.table
     → IsLeastBase inside.depth inside.tables.memory inside.root c.args.page.base (l - 1) c.least_base.result)
@@ -34,10 +34,10 @@ returns-in-Table g c =
 
 pub returns-in-Leaf : goal.returns-in-Leaf
 returns-in-Leaf g c =
-    let met = c.requires.ended.2 in
+    let met = c.requires.ended.1 in
     leaf_overlaps met.table c.requires.page (descended refl c.in-Leaf.is met.descent) (c.bytes-bytes.ensures ∙ ap bytes_of c.at_level.ensures)
 
 pub unreachable-requires : goal.unreachable-requires
 unreachable-requires g c =
-    let met = c.requires.ended.2 in
+    let met = c.requires.ended.1 in
     ⊎_elim (λ absent. c.requires.present absent) (λ reserved. reserved_never met.table c.requires.page (descended refl reserved met.descent)) c.in-Absent.is
