@@ -213,18 +213,18 @@ impl Space {
     }
 
     fn unmap(&mut self, base: u64) -> Answer {
-        let place = self.descend(base, 1);
-        match place.level {
-            1 => self.unmap_at(1, &place, base),
-            2 => self.unmap_at(2, &place, base),
-            3 => self.unmap_at(3, &place, base),
-            level => self.unmap_at(level, &place, base),
+        let Place { way, level, word } = self.descend(base, 1);
+        match level {
+            1 => self.unmap_at(1, &way, word, base),
+            2 => self.unmap_at(2, &way, word, base),
+            3 => self.unmap_at(3, &way, word, base),
+            level => self.unmap_at(level, &way, word, base),
         }
     }
 
     #[inline(always)]
-    fn unmap_at(&mut self, last: usize, place: &Place, base: u64) -> Answer {
-        if place.word & PRESENT == 0 {
+    fn unmap_at(&mut self, last: usize, way: &[u64; 6], word: u64, base: u64) -> Answer {
+        if word & PRESENT == 0 {
             return Answer::NotMapped;
         }
         let bytes = 1 << (3 + 9 * last);
@@ -232,14 +232,14 @@ impl Space {
             return Answer::Inside(base - base % bytes);
         }
         let mut level = last;
-        self.arena.table_mut(place.way[level])[index_at(level, base)] = 0;
-        while level < self.levels && is_empty(self.arena.table(place.way[level]), index_at(level, base)) {
-            self.arena.give(place.way[level]);
+        self.arena.table_mut(way[level])[index_at(level, base)] = 0;
+        while level < self.levels && is_empty(self.arena.table(way[level]), index_at(level, base)) {
+            self.arena.give(way[level]);
             level += 1;
-            self.arena.table_mut(place.way[level])[index_at(level, base)] = 0;
+            self.arena.table_mut(way[level])[index_at(level, base)] = 0;
         }
-        let phys = place.word & PHYS & !(bytes - 1);
-        Answer::Removed(phys, last, rights(place.word))
+        let phys = word & PHYS & !(bytes - 1);
+        Answer::Removed(phys, last, rights(word))
     }
 
     fn resolve(&self, address: u64) -> Answer {
