@@ -1,11 +1,12 @@
 #!/usr/bin/env python3
 """ratios.py RUNS NAME NAME COMMAND COMMAND [COMMAND COMMAND]..: runs pairs of commands that time the same work, the two of a pair
-in turn, and prints the medians side by side. The names are those of the first and of the second program of each pair.
+after one another, and prints the medians side by side. The names are those of the first and of the second program of each pair.
 
 Each line: a workload and an operation, millions of operations a second of the first command and of the second, and
-how many times as fast the first is. Of each two neighbouring runs the first program goes first in every other pair. The
-ratio is the median of the ratios of neighbouring runs, which a change of the machine's speed disturbs least.
+how many times as fast the first is. Which of two neighbouring runs comes first is drawn. The ratio is the median of the
+ratios of neighbouring runs, which a change of the machine's speed disturbs least.
 """
+import random
 import statistics
 import subprocess
 import sys
@@ -18,9 +19,9 @@ def rates(command):
     return {(line[0], name): int(rate) for line in lines for name, rate in zip(head[3:], line[1:])}
 
 
-def neighbours(run, first_command, second_command):
-    """Both commands, the first one first in every other run."""
-    if run % 2 == 0:
+def neighbours(first_command, second_command):
+    """Both commands, in an order that is drawn."""
+    if random.random() < 0.5:
         first = rates(first_command)
         return first, rates(second_command)
     second = rates(second_command)
@@ -42,7 +43,7 @@ def show(pairs):
 def main():
     runs, one, other, *commands = sys.argv[1:]
     commands = list(zip(commands[::2], commands[1::2]))
-    found = [[neighbours(run, *pair) for pair in commands] for run in range(int(runs))]
+    found = [[neighbours(*pair) for pair in commands] for _ in range(int(runs))]
     print(f"{'workload':14} {'operation':10} {one:>8} {other:>8} {'ratio':>6}")
     for pairs in zip(*found):
         show(pairs)
