@@ -4,8 +4,9 @@ ghost use Rattle.vs_types.specs.declared.answer.Answer.{Answer};
 ghost use Rattle.vs_types.specs.declared.entry.Meaning.{Meaning};
 ghost use Rattle.vs_types.specs.declared.op.Action.{Action};
 ghost use Rattle.vs_types.specs.Depth.{IsCanonical};
+ghost use Rattle.vs_types.specs.Entry.{leaf_word, meaning};
 ghost use Rattle.vs_types.specs.Operation.{IsAction, IsBase};
-ghost use Rattle.vs_types.specs.Page.{IsPage};
+ghost use Rattle.vs_types.specs.Page.{IsPage, level_of};
 ghost use Rattle.vs_types.specs.Space as spaces;
 ghost use Rattle.vs_types.specs.Space.{no_pages, table_count};
 ghost use Rattle.vs_types.specs.Step.{allow, look};
@@ -16,7 +17,7 @@ ghost use Rattle.vs_space.specs.inside.Descent.{HasEnded, HasMet};
 
 use crate::descent::{Descent, PATH_LENGTH};
 use crate::tables::Tables;
-use crate::word::read_written;
+use crate::word::{RightsBits, read_written};
 use std::marker::Model;
 use vs_arena::{FRAME_WORDS, FrameStore};
 use vs_types::{
@@ -180,17 +181,19 @@ impl<S: FrameStore> Space<S> {
         }
     }
 
+    /// The page's word is made before the descent: one number is kept meanwhile, and not its size, its address and three rights.
     fn map(&mut self, page: Page) -> Answer
         requires { IsPage self.old.depth page }
         ensures { IsTableStep self.old (Action.Map page) result self.new }
     {
+        let leaf = Entry::leaf(page.size, page.phys, page.rights);
         let lowest = page.size.level();
         let descent = self
             .tables
             .descend(self.depth, self.root, page.base, lowest);
         let level = descent.level as u8;
         match read_written(level, descent.word) {
-            Meaning::Absent => self.add(page, level, descent.number),
+            Meaning::Absent => self.add(page, leaf, level, descent.number),
             met => Answer::Overlap(self.overlapped(page, level, met)),
         }
     }
@@ -218,10 +221,12 @@ impl<S: FrameStore> Space<S> {
     }
 
     /// Does what `map` does, where the descent ended at this level, at an absent entry of the table with this frame number:
-    /// the page overlaps no other.
+    /// the page, whose entry is this leaf, overlaps no other.
     #[inline(always)]
-    fn add(&mut self, page: Page, level: u8, last: u64) -> Answer
+    fn add(&mut self, page: Page, leaf: Entry, level: u8, last: u64) -> Answer
         requires page { IsPage self.old.depth page }
+        requires leaf_written { leaf ≡ leaf_word page.size page.phys page.rights }
+        requires leaf_read { meaning (level_of page.size) leaf ≡ Meaning.Leaf page.phys page.rights }
         requires few_levels { level ≤ 5 }
         requires absent { HasMet self.old page level last Meaning.Absent }
         ensures { IsTableStep self.old (Action.Map page) result self.new }
@@ -233,7 +238,6 @@ impl<S: FrameStore> Space<S> {
             return Answer::Full(need as u64);
         }
         let number = self.tables.extend(page.base, last, level, lowest);
-        let leaf = Entry::leaf(page.size, page.phys, page.rights);
         self.tables
             .write(number, index_at(lowest, page.base), leaf.word());
         Answer::Done
@@ -280,22 +284,24 @@ impl<S: FrameStore> Space<S> {
         Answer::Removed(phys, size, rights)
     }
 
+    /// The bits of the rights are found before the descent, as the word is in `map`.
     fn protect(&mut self, base: u64, rights: Rights) -> Answer
         requires { IsBase self.old.depth base }
         ensures { IsTableStep self.old (Action.Protect base rights) result self.new }
     {
+        let bits = RightsBits::new(rights);
         let descent = self.tables.descend(self.depth, self.root, base, 1);
         match descent.level {
-            1 => self.protect_at(1, &descent, base, rights),
-            2 => self.protect_at(2, &descent, base, rights),
-            3 => self.protect_at(3, &descent, base, rights),
-            level => self.protect_at(level as u8, &descent, base, rights),
+            1 => self.protect_at(1, &descent, base, bits),
+            2 => self.protect_at(2, &descent, base, bits),
+            3 => self.protect_at(3, &descent, base, bits),
+            level => self.protect_at(level as u8, &descent, base, bits),
         }
     }
 
     /// Does what `protect` does, where the descent ended at this level.
     #[inline(always)]
-    fn protect_at(&mut self, level: u8, descent: &Descent, base: u64, rights: Rights) -> Answer
+    fn protect_at(&mut self, level: u8, descent: &Descent, base: u64, rights: RightsBits) -> Answer
         requires base { IsBase self.old.depth base }
         requires some_level { 1 ≤ level }
         requires few_levels { level ≤ 5 }
@@ -310,9 +316,9 @@ impl<S: FrameStore> Space<S> {
         if offset != 0 {
             return Answer::Inside(base - offset);
         }
-        let leaf = Entry::leaf(size, phys, rights);
+        let leaf = rights.leaf(size, phys);
         self.tables
-            .write(descent.number, index_at(level, base), leaf.word());
+            .write(descent.number, index_at(level, base), leaf);
         Answer::Changed(old)
     }
 }

@@ -53,7 +53,7 @@ invariant_of-self g c =
     in r) c.extend-number.ensures.same in (
       subst (λ (h : Held). IsPageTable (table_in_store c.self.inside.depth h c.self.inside.root)) (sym written)
           (added good (met_inside c.self.view_is c.requires.absent) c.level-lowest.ensures c.extend-number.ensures.extended c.write.ensures.whole
-          (ap (meaning (level_of c.args.page.size)) c.word.ensures ∙ c.leaf-leaf.ensures.read_back) (c.word.ensures ∙ c.leaf-leaf.ensures.written)
+          (ap (meaning (level_of c.args.page.size)) c.word.ensures ∙ c.requires.leaf_read) (c.word.ensures ∙ c.requires.leaf_written)
           c.index_at.ensures.is c.from.ensures (omega (arith, c.used.ensures.counts, c.if-need-limit.false, c.limit-limit.ensures.reads))).0,
       c.write.ensures.numbers,
     )
@@ -66,5 +66,5 @@ returns g c =
     in r) c.extend-number.ensures.same in
     seen c.self.view_is written
     (added good (met_inside c.self.view_is c.requires.absent) c.level-lowest.ensures c.extend-number.ensures.extended c.write.ensures.whole
-    (ap (meaning (level_of c.args.page.size)) c.word.ensures ∙ c.leaf-leaf.ensures.read_back) (c.word.ensures ∙ c.leaf-leaf.ensures.written)
+    (ap (meaning (level_of c.args.page.size)) c.word.ensures ∙ c.requires.leaf_read) (c.word.ensures ∙ c.requires.leaf_written)
     c.index_at.ensures.is c.from.ensures (omega (arith, c.used.ensures.counts, c.if-need-limit.false, c.limit-limit.ensures.reads))).1
