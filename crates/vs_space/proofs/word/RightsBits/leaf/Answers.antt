@@ -5,4 +5,5 @@ use Rattle.vs_space.proofs.word.RightsBits.leaf.Goals as goal
 
 pub returns-clause-read_back : goal.returns-clause-read_back
 returns-clause-read_back c =
-    leaf_reads c.args.size c.args.phys c.args.self (c.args.phys + c.self.inside.bits + c.if-eq.large) (grind (arith, common_steps)) c.requires.aligned c.requires.in_range
+    leaf_reads c.args.size c.args.phys c.args.self (c.args.phys + c.self.inside.bits + c.if-eq.large) (grind (arith, common_steps))
+    c.requires.aligned c.requires.in_range
