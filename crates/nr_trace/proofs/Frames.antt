@@ -255,7 +255,7 @@ dump_taken parts held frame is_opened fits above are none one_more =
 
 -- ---- some words of a frame
 
--- the frame with the words of a run behind those that had come
+-- the frame with the words of a run after those that had come
 abbrev pub filled : OpenFrame → OpenImage → OpenFrame
 filled frame dump = record { dump = record { dump = frame.dump.dump; number = frame.dump.number; coming = dump.coming }; left = frame.left }
 

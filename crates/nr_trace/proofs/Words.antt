@@ -7,7 +7,7 @@ use Rattle.vs_walk.specs.Dump.{OpenImage}
 use Rattle.nr_trace.specs.Spelling.{frame_words}
 use Rattle.nr_trace.specs.inside.Reading.{HasWords}
 
--- so many words went behind those that had come, and this is left of the run
+-- so many words were put after those that had come, and this is left of the run
 pub record IsFilled (before : OpenImage) (run : List ℕ) (dump : OpenImage) (k : ℕ) (rest : List ℕ) : Type 0 where
   pub same : dump ≡ record { dump = before.dump; number = before.number; coming = dump.coming }
   pub parts : frame_words before.coming ++ run ≡ frame_words dump.coming ++ rest

@@ -3,7 +3,7 @@ ghost use Rattle.vs_types.specs.Page.{covers};
 
 use vs_types::Page;
 
-/// What is at an address: the page that covers it, or none, behind this last one that begins before it.
+/// What is at an address: the page that covers it, or none, and the last page that begins before it.
 pub(crate) enum Place {
     Covered(Page),
     Free(Option<Page>),

@@ -1,4 +1,4 @@
--- Frames that lie one behind the other in one list of words.
+-- Frames that lie one after the other in one list of words.
 use Rattle.std.proofs.Common.{◌≡◌, ℕ, zero, suc, ◌+◌, ◌*◌, ◌^◌, ◌<◌, ◌≤◌, List, [], ◌∷◌, ◌++◌, length, take, drop, map, refl, sym, ap, subst, ◌∙◌}
 use Rattle.std.proofs.Common.{arith, add-one}
 use Rattle.std.specs.Prelude.{All, zip}
@@ -39,11 +39,11 @@ chunks_more (suc k) words =
 pub as_many : (numbers words : List ℕ) → length numbers ≡ length (first_chunks 512 (length numbers) words)
 as_many numbers words = sym (chunk_count (length numbers) words)
 
--- words behind the frames leave these
+-- words after the frames leave these
 pub frames_stay : (numbers words more : List ℕ) → 512 * length numbers ≤ length words → paired numbers (words ++ more) ≡ paired numbers words
 frames_stay numbers words more behind = ap (λ frames. zip numbers frames) (chunks_front (length numbers) words more behind)
 
--- the words behind the frames are those of one frame more
+-- the words after the frames are those of one frame more
 pub frame_closed : (numbers words : List ℕ) (number : ℕ) → length words ≡ 512 * length numbers + 512
     → paired (numbers ++ number ∷ []) words ≡ paired numbers words ++ (number, drop (512 * length numbers) words) ∷ []
 frame_closed numbers words number whole =
@@ -55,7 +55,7 @@ frame_closed numbers words number whole =
     ∙ ap (λ frames. zip (numbers ++ number ∷ []) frames) (chunks_more k words ∙ ap (λ frame. first_chunks 512 k words ++ frame ∷ []) last)
     ∙ pairs_push numbers (first_chunks 512 k words) number (drop (512 * k) words) (as_many numbers words)
 
--- a frame's words go behind the others
+-- a frame's words go after the others
 pub frame_pushed : (numbers words : List ℕ) (number : ℕ) (frame : List ℕ) → length words ≡ 512 * length numbers → length frame ≡ 512
     → paired (numbers ++ number ∷ []) (words ++ frame) ≡ paired numbers words ++ (number, frame) ∷ []
 frame_pushed numbers words number frame whole full =

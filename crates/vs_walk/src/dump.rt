@@ -156,7 +156,7 @@ impl Frames for Dump {
     }
 }
 
-/// A dump to which one frame more is coming, word by word. The words are written where they stay, behind those of the
+/// A dump to which one frame more is coming, word by word. The words are written where they stay, after those of the
 /// frames that it has.
 #[derive(Debug, Drop)]
 pub struct OpenDump {

@@ -48,21 +48,21 @@ pub record SpellsEvent (version : Version) (layout : Layout) (bytes : List ℕ) 
   pub in_range : IsEvent version layout recorded
   pub spelled : bytes ≡ event recorded
 
--- the calls that the bytes spell went behind those that there were
+-- the calls that the bytes spell were put after those that there were
 pub record ArePlaced (before bytes after : List ℕ) : Type 0 where
   pub calls : List ℕ
   pub fit : All (λ call. call < 2 ^ 32) calls
   pub added : after ≡ before ++ calls
   pub spelled : bytes ≡ flat_map log_word calls
 
--- the events that the bytes spell went behind those that there were
+-- the events that the bytes spell were put after those that there were
 pub record AreRecorded (version : Version) (layout : Layout) (before : List Event) (bytes : List ℕ) (after : List Event) : Type 0 where
   pub recorded : List Event
   pub fit : All (IsEvent version layout) recorded
   pub added : after ≡ before ++ recorded
   pub spelled : bytes ≡ flat_map event recorded
 
--- behind some events the bytes have 24 that spell none: the event of this index
+-- after some events the bytes have 24 that spell none: the event of this index
 pub record IsBadEvent (version : Version) (layout : Layout) (index : ℕ) (bytes : List ℕ) (fault : Format) : Type 0 where
   pub recorded : List Event
   pub unit : List ℕ
@@ -73,7 +73,7 @@ pub record IsBadEvent (version : Version) (layout : Layout) (index : ℕ) (bytes
   pub none : (one : Event) → IsEvent version layout one → unit ≢ event one
   pub first : fault ≡ BadEvent (index + length recorded)
 
--- the words that the bytes spell went behind those that had come
+-- the words that the bytes spell were put after those that had come
 pub record HasWords (before : OpenImage) (bytes : List ℕ) (after : OpenImage) : Type 0 where
   pub same : after ≡ record { dump = before.dump; number = before.number; coming = after.coming }
   pub spelled : frame_words after.coming ≡ frame_words before.coming ++ bytes

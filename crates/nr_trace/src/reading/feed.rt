@@ -55,7 +55,7 @@ fn take_bytes(reader: Reader, mut begun: Vec<u8>, bytes: &[u8]) -> Result<State,
     Ok(State::Open(reader, begun))
 }
 
-/// Completes the unit that has begun, and goes on behind it.
+/// Completes the unit that has begun, and goes on after it.
 fn take_piece(reader: Reader, mut begun: Vec<u8>, piece: &[u8]) -> Result<State, Fail<Format>>
     requires sound { IsSound reader }
     requires fewer { AreFewer (unit_bytes reader) begun.items }
