@@ -18,7 +18,7 @@ struct Arena {
 
 impl Arena {
     /// Each frame is written once, as `VecArena` does. Of memory that is only asked for to be 0 the kernel gives each page when it
-    /// is first used; what is written twice is found sooner by the first rounds, in a cache nearer by.
+    /// is first used; and the first rounds on frames that are written twice are faster.
     fn new() -> Arena {
         let mut words = Vec::with_capacity(FRAMES);
         for _ in 0..FRAMES {
