@@ -1,5 +1,6 @@
 //! The same workloads on the same page table in plain Rust, with no proof, to compare with `space_benchmark`:
-//!     rustc -O -C target-cpu=x86-64-v2 benchmarks/unverified.rs && ./unverified ROUNDS [five]
+//!     rustc -O -C target-cpu=x86-64-v2 -C llvm-args=-x86-branches-within-32B-boundaries benchmarks/unverified.rs
+//!     ./unverified ROUNDS [five]
 use std::time::{Duration, Instant};
 
 const FRAMES: usize = 4096;
@@ -170,6 +171,7 @@ impl Space {
 
     /// No page of a workload overlaps another, so the base that an overlap would name isn't looked for.
     fn map(&mut self, base: u64, size: usize, phys: u64, rights: u64) -> Answer {
+        let leaf = leaf(size, phys, rights);
         let place = self.descend(base, size);
         if place.word & PRESENT != 0 {
             return Answer::Overlap;
@@ -184,23 +186,24 @@ impl Space {
             self.arena.table_mut(number)[index_at(level, base)] = next << 12 | 7;
             number = next;
         }
-        self.arena.table_mut(number)[index_at(size, base)] = leaf(size, phys, rights);
+        self.arena.table_mut(number)[index_at(size, base)] = leaf;
         Answer::Done
     }
 
     fn protect(&mut self, base: u64, rights_now: u64) -> Answer {
+        let bits = leaf(1, 0, rights_now);
         let place = self.descend(base, 1);
         match place.level {
-            1 => self.protect_at(1, &place, base, rights_now),
-            2 => self.protect_at(2, &place, base, rights_now),
-            3 => self.protect_at(3, &place, base, rights_now),
-            level => self.protect_at(level, &place, base, rights_now),
+            1 => self.protect_at(1, &place, base, bits),
+            2 => self.protect_at(2, &place, base, bits),
+            3 => self.protect_at(3, &place, base, bits),
+            level => self.protect_at(level, &place, base, bits),
         }
     }
 
     /// A protect where the descent ended at this level: its code stands once for each level that has pages.
     #[inline(always)]
-    fn protect_at(&mut self, level: usize, place: &Place, base: u64, rights_now: u64) -> Answer {
+    fn protect_at(&mut self, level: usize, place: &Place, base: u64, bits: u64) -> Answer {
         if place.word & PRESENT == 0 {
             return Answer::NotMapped;
         }
@@ -209,7 +212,7 @@ impl Space {
             return Answer::Inside(base - base % bytes);
         }
         let phys = place.word & PHYS & !(bytes - 1);
-        let word = leaf(level, phys, rights_now);
+        let word = phys | bits | if level > 1 { LARGE } else { 0 };
         self.arena.table_mut(place.way[level])[index_at(level, base)] = word;
         Answer::Changed(rights(place.word))
     }
