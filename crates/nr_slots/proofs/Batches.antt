@@ -21,26 +21,31 @@ increasing_snoc xs n rising below k lt =
     (λ (l : k + 1 < length xs). let next = get_or-append xs (n ∷ []) 0 (k + 1) l in let less = rising k l in omega (arith, here, next, less))
     (eq-or-lt_of_le within)
 
-only : (w : Waiting) (n : ℕ) → w.thread < n → All (λ x. x.thread < n) (w ∷ [])
-only w n lt zero d l = lt
-only w n lt (suc k) d l = absurd (omega arith)
+only : (Holds : Waiting → Type 0) (w : Waiting) → Holds w → All Holds (w ∷ [])
+only Holds w holds zero d l = holds
+only Holds w holds (suc k) d l = absurd (omega arith)
 
 rises_snoc : (batch : List Waiting) (w : Waiting) → Rises batch → All (λ x. x.thread < w.thread) batch → Rises (batch ++ w ∷ [])
 rises_snoc batch w rising below =
     rw map-append (increasing_snoc (map (λ x. x.thread) batch) w.thread rising (All-map (λ x. x < w.thread) (λ x. x.thread) batch below))
 
--- a batch of threads below a number, which rises
-pub record RisesBelow (n : ℕ) (batch : List Waiting) : Type 0 where
+-- a batch of threads below a number, which rises, and of whose updates a rule holds
+pub record RisesBelow (Holds : Waiting → Type 0) (n : ℕ) (batch : List Waiting) : Type 0 where
   pub rising : Rises batch
   pub below : All (λ x. x.thread < n) batch
+  pub rule : All Holds batch
 
-pub one_more : (n : ℕ) (before after : List Waiting) (w : Waiting) → after ≡ before ++ w ∷ [] → w.thread ≡ n → RisesBelow n before → RisesBelow (n + 1) after
-one_more n before after w e at is =
+pub one_more : (Holds : Waiting → Type 0) (n : ℕ) (before after : List Waiting) (w : Waiting) → after ≡ before ++ w ∷ [] → w.thread ≡ n → Holds w
+    → RisesBelow Holds n before → RisesBelow Holds (n + 1) after
+one_more Holds n before after w e at holds is =
     let earlier : All (λ x. x.thread < w.thread) before = rw at is.below in
     rw e (record {
       rising = rises_snoc before w is.rising earlier;
-      below = All-append (λ x. x.thread < n + 1) before (w ∷ []) (λ k d l. let b = is.below k d l in omega arith) (only w (n + 1) (omega arith));
+      below = All-append (λ x. x.thread < n + 1) before (w ∷ []) (λ k d l. let b = is.below k d l in omega arith)
+          (only (λ x. x.thread < n + 1) w (omega arith));
+      rule = All-append Holds before (w ∷ []) is.rule (only Holds w holds);
     })
 
-pub same : (n : ℕ) (before after : List Waiting) → after ≡ before → RisesBelow n before → RisesBelow (n + 1) after
-same n before after e is = rw e (record { rising = is.rising; below = λ k d l. let b = is.below k d l in omega arith })
+pub same : (Holds : Waiting → Type 0) (n : ℕ) (before after : List Waiting) → after ≡ before → RisesBelow Holds n before → RisesBelow Holds (n + 1) after
+same Holds n before after e is =
+    rw e (record { rising = is.rising; below = λ k d l. let b = is.below k d l in omega arith; rule = is.rule })

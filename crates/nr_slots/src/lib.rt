@@ -5,11 +5,14 @@
 #![tactic(auto)]
 
 mod answered;
+mod rule;
+mod ruled_slot;
 mod slot;
 mod slots;
 mod waiting;
 
 pub use answered::Answered;
+pub use rule::{Anything, SlotRule};
 pub use slot::{NotTaken, Occupied, Slot};
 pub use slots::Slots;
 pub use waiting::Waiting;

@@ -2,7 +2,9 @@ ghost use Rattle.std.specs.Prelude.{◌≡◌, ◌<◌, ◌≤◌, ◌^◌, ℕ,
 ghost use Rattle.vs_types.specs.declared.limits.TheConstants.{CALLS};
 
 use crate::answered::Answered;
-use crate::slot::{NotTaken, Occupied, Slot};
+use crate::rule::{Anything, SlotRule};
+use crate::ruled_slot::RuledSlot;
+use crate::slot::{NotTaken, Occupied};
 use crate::waiting::Waiting;
 use arrayvec::ArrayVec;
 use std::alloc::Global;
@@ -12,11 +14,11 @@ use vs_types::{Memory, Op};
 
 /// A slot for each thread of a replica, each under a lock. Contracts see how many there are.
 #[derive(Drop)]
-pub struct Slots {
-    slots: Vec<Mutex<Slot>>,
+pub struct Slots<P: SlotRule = Anything> {
+    slots: Vec<Mutex<RuledSlot<P>>>,
 }
 
-impl Model for Slots {
+impl<P: SlotRule> Model for Slots<P> {
     ghost Value = { ℕ };
 
     ghost view = { λ s. vec_len s.slots };
@@ -24,17 +26,17 @@ impl Model for Slots {
     ghost invariant = { λ s. vec_len s.slots < 2 ^ 16 };
 }
 
-impl Slots {
+impl<P: SlotRule> Slots<P> {
     ghost use Rattle.nr_slots.specs.Batch.{Rises};
 
     /// Empty slots for threads 0 to n - 1. It takes all memory that the slots ever need.
-    pub fn new(alloc: Global, n: u16) -> Result<Slots, Memory>
+    pub fn new(alloc: Global, n: u16) -> Result<Slots<P>, Memory>
         ensures { IfOk result (λ slots. slots ≡ n) }
     {
         let mut slots = Vec::new(alloc);
         slots.reserve(usize::from(n))?;
         for _ in 0..n {
-            slots.push(Mutex::new(Slot::Empty))?;
+            slots.push(Mutex::new(RuledSlot::new()))?;
         }
         Ok(Slots { slots })
     }
@@ -45,26 +47,31 @@ impl Slots {
     pub fn post<R: Wait>(&self, rt: &R, thread: u16, call: u32, op: Op) -> Result<(), Occupied>
         requires thread { thread < self.now }
         requires call { call < CALLS }
+        requires rule { ∥ P.posted thread call op ∥₁ }
     {
         let waiting = Waiting::new(thread, call, op);
         self.slots[usize::from(thread)].lock(rt).post(waiting)
     }
 
-    /// Takes updates that wait into the batch, by rising thread, until the batch is full.
+    /// Takes updates that wait into the batch, by rising thread, until the batch is full: of each thread its own.
     ///
     /// Waits for each slot's lock in turn.
     pub fn collect<R: Wait>(&self, rt: &R, batch: &mut ArrayVec<Waiting, 16>)
         requires { batch.old.items ≡ [] }
         ensures rising { Rises batch.new.items }
         ensures below { All (λ waiting. waiting.thread < self.now) batch.new.items }
+        ensures rule { All (λ waiting. ∥ P.posted waiting.thread waiting.call waiting.op ∥₁) batch.new.items }
     {
         for (thread, slot) in self.slots.iter().enumerate() {
             if batch.is_full() {
                 break;
             }
             let taken = slot.lock(rt).take();
-            if let Some(Waiting { call, op, .. }) = taken {
-                batch.push(Waiting::new(thread as u16, call, op));
+            if let Some(waiting) = taken {
+                // always so: only `post` fills the slot, with its thread's update; but no proof knows whose lock this is
+                if usize::from(waiting.thread) == thread {
+                    batch.push(waiting);
+                }
             }
         }
     }
@@ -73,6 +80,7 @@ impl Slots {
     ///
     /// Waits for the slot's lock.
     pub fn answer<R: Wait>(&self, rt: &R, answered: Answered) -> Result<(), NotTaken>
+        requires { ∥ P.answered answered ∥₁ }
         ensures { self.now ≤ answered.thread → IsErr result }
     {
         let Some(slot) = self.slots.get(usize::from(answered.thread)) else {
@@ -86,9 +94,15 @@ impl Slots {
     /// Waits for the slot's lock.
     pub fn poll<R: Wait>(&self, rt: &R, thread: u16) -> Option<Answered>
         requires { thread < self.now }
-        ensures { IfSome result (λ answered. answered.thread ≡ thread) }
+        ensures thread { IfSome result (λ answered. answered.thread ≡ thread) }
+        ensures rule { IfSome result (λ answered. ∥ P.answered answered ∥₁) }
     {
         let answered = self.slots[usize::from(thread)].lock(rt).poll()?;
-        Some(Answered { thread, ..answered })
+        // always so, as in `collect`
+        if answered.thread == thread {
+            Some(answered)
+        } else {
+            None
+        }
     }
 }
