@@ -20,6 +20,8 @@ impl LogName for One {
     ghost depth = { Four };
 
     ghost replicas = { 1 };
+
+    ghost passes = { 1 };
 }
 
 /// Names a log of two replicas.
@@ -31,6 +33,8 @@ impl LogName for Two {
     ghost depth = { Four };
 
     ghost replicas = { 2 };
+
+    ghost passes = { 3 };
 }
 
 /// An entry by which a call unmaps a page.

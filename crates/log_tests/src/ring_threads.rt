@@ -2,7 +2,7 @@ ghost use Rattle.std.specs.Prelude.{◌≡◌, ◌<◌, [], ◌∷◌};
 ghost use Rattle.vs_types.specs.declared.depth.Depth.TheVariants.{Four};
 ghost use Rattle.vs_types.specs.declared.limits.TheConstants.{CALLS};
 ghost use Rattle.nr_ring.specs.Calls.{HasLooked};
-ghost use Rattle.nr_ring.specs.History.{log_after};
+ghost use Rattle.nr_ring.specs.LogHistory.{log_after};
 ghost use Rattle.nr_ring.specs.Pass.{tails_of};
 
 use crate::ring::{Two, entry};

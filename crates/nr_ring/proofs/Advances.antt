@@ -2,9 +2,9 @@
 use Rattle.std.proofs.Common.{◌≡◌, ℕ, ◌+◌, ◌<◌, ◌≤◌, List, [], ◌∷◌, Contains, Option, Some, refl, ap, sym, subst, ◌∙◌, arith}
 use Rattle.std.specs.Prelude.{slice_index}
 use Rattle.vs_types.specs.declared.depth.Depth.{Depth}
-use Rattle.nr_ring.specs.History.{MayAdvance, local_of, log_after}
+use Rattle.nr_ring.specs.LogHistory.{MayAdvance, local_of, log_after}
 use Rattle.nr_ring.specs.Calls.{HasTaken, MayTake, with_event}
-use Rattle.nr_ring.specs.declared.event.Event.TheVariants.{Advance}
+use Rattle.nr_ring.specs.declared.log_event.LogEvent.TheVariants.{Advance}
 use Rattle.nr_ring.specs.declared.view.View.{View}
 use Rattle.nr_ring.specs.inside.Held.{Remembers}
 use Rattle.nr_ring.proofs.Histories.{as_many_locals}

@@ -5,11 +5,11 @@ use Rattle.std.specs.Prelude.{slice_index, slice_index_or}
 use Rattle.std.proofs.lemmas.List.{append_assoc}
 use Rattle.std.proofs.lemmas.List.Elements.{All-append}
 use Rattle.vs_types.specs.declared.depth.Depth.{Depth}
-use Rattle.nr_ring.specs.History.{Log, AllKeepUp, log_after}
+use Rattle.nr_ring.specs.LogHistory.{Log, AllKeepUp, log_after}
 use Rattle.nr_ring.specs.Calls.{HasLooked, HasMoved}
 use Rattle.nr_ring.specs.View.{HasSeenAdvances, IsElse, StartsWith}
 use Rattle.nr_ring.specs.Words.{IsWordsOf}
-use Rattle.nr_ring.specs.declared.event.Event.{Event}
+use Rattle.nr_ring.specs.declared.log_event.LogEvent.{LogEvent}
 use Rattle.nr_ring.specs.declared.view.View.{View}
 use Rattle.nr_ring.specs.Entries.{IsReason}
 use Rattle.nr_ring.specs.declared.tails.AppendFault.{AppendFault}
@@ -33,10 +33,10 @@ keeps_up log words count are room few r lt =
     let present : r < slice_index words 6 = omega (arith, are.replicas_are, lt) in
     omega (arith, room r present, are.tail_is, are.locals_are r (omega arith))
 
-begins : (a b c : List Event) → StartsWith b a → StartsWith c b → StartsWith c a
-begins a b c first second = (first.0 ++ second.0, second.1 ∙ ap (λ (l : List Event). l ++ second.0) first.1 ∙ append_assoc a first.0 second.0)
+begins : (a b c : List LogEvent) → StartsWith b a → StartsWith c b → StartsWith c a
+begins a b c first second = (first.0 ++ second.0, second.1 ∙ ap (λ (l : List LogEvent). l ++ second.0) first.1 ∙ append_assoc a first.0 second.0)
 
-no_advances : (replica : ℕ) (a b c : List Event) → HasSeenAdvances replica b a → HasSeenAdvances replica c b → HasSeenAdvances replica c a
+no_advances : (replica : ℕ) (a b c : List LogEvent) → HasSeenAdvances replica b a → HasSeenAdvances replica c b → HasSeenAdvances replica c a
 unfolding begins
 no_advances replica a b c first second =
     let all = begins a b c (first.0, first.1) (second.0, second.1) in
@@ -45,7 +45,7 @@ no_advances replica a b c first second =
 -- two looks are a look
 pub looked_twice : (depth : Depth) (replicas : ℕ) (u v w : View) → HasLooked depth replicas u v → HasLooked depth replicas v w → HasLooked depth replicas u w
 looked_twice depth replicas u v w a b =
-    let P : List (List Event) → Type 0 = λ l. All (StartsWith w.seen) l in
+    let P : List (List LogEvent) → Type 0 = λ l. All (StartsWith w.seen) l in
     let Q : List ℕ → Type 0 = λ l. All (λ replica. HasSeenAdvances replica w.seen v.seen) l in
     let later = subst Q a.owns b.advances in
     record {
@@ -56,6 +56,7 @@ looked_twice depth replicas u v w a b =
       told_stays = b.told_stays ∙ a.told_stays;
       mine = b.mine ∙ a.mine;
       owns = b.owns ∙ a.owns;
+      rights = b.rights ∙ a.rights;
     }
 
 pub moved_later : (depth : Depth) (replicas : ℕ) (u v w : View) → HasLooked depth replicas u v → HasMoved v w → HasMoved u w

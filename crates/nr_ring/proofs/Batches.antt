@@ -9,7 +9,7 @@ use Rattle.std.proofs.lemmas.Option.{slice_get_within}
 use Rattle.std.proofs.lemmas.Bool.Decides.{eqb_tells}
 use Rattle.vs_types.specs.LogEntry.{log_words}
 use Rattle.vs_types.specs.declared.log_entry.LogEntry.{LogEntry}
-use Rattle.nr_ring.specs.History.{Log, tail}
+use Rattle.nr_ring.specs.LogHistory.{Log, tail}
 use Rattle.nr_ring.specs.Words.{word_of, IsAppended, IsWordsOf}
 use Rattle.nr_ring.specs.inside.Batch.{IsWritten}
 use Rattle.nr_ring.proofs.CellWords.{apart}

@@ -7,9 +7,9 @@ use Rattle.std.proofs.lemmas.List.{get_or-set_same, get_or-set_other}
 use Rattle.std.proofs.lemmas.Bool.Decides.{eqb_tells}
 use Rattle.vs_types.specs.declared.depth.Depth.{Depth}
 use Rattle.vs_types.specs.declared.log_entry.LogEntry.{LogEntry}
-use Rattle.nr_ring.specs.History.{Log, tail, MayAdvance, MayAppend, after}
+use Rattle.nr_ring.specs.LogHistory.{Log, tail, MayAdvance, MayAppend, log_after_event}
 use Rattle.nr_ring.specs.Words.{word_of, IsWordsOf, advanced_words, IsAppended}
-use Rattle.nr_ring.specs.declared.event.Event.TheVariants.{Append, Advance}
+use Rattle.nr_ring.specs.declared.log_event.LogEvent.TheVariants.{Append, Advance}
 use Rattle.nr_ring.proofs.LocalTails.{greatest_raised, le_or_lt}
 
 -- a word that an advance leaves
@@ -20,7 +20,7 @@ left_alone words replica to word one two =
     ∙ get_or-set_other words 1 word (max (slice_index words 1) to) 0 one
 
 pub advance_words : (log : Log) (replica to : ℕ) (words : List ℕ) → replica < 4 → IsWordsOf log words → MayAdvance log replica to
-    → IsWordsOf (after log (Advance replica to)) (advanced_words replica to words)
+    → IsWordsOf (log_after_event log (Advance replica to)) (advanced_words replica to words)
 advance_words log replica to words few is may =
     let middle = set words 1 (max (slice_index words 1) to) in
     let wide : length middle ≡ 39 = length-set words 1 (max (slice_index words 1) to) ∙ is.long in
@@ -66,7 +66,7 @@ apart place later lt near = ⊎_elim (λ le. let differ : place % 16 ≢ later %
 
 -- an append changes no entry that a replica has still to take
 pub append_words : (depth : Depth) (log : Log) (batch : List LogEntry) (before words : List ℕ) → IsWordsOf log before → MayAppend depth log batch
-    → IsAppended log batch before words → IsWordsOf (after log (Append batch)) words
+    → IsAppended log batch before words → IsWordsOf (log_after_event log (Append batch)) words
 append_words depth log batch before words is may new =
     let long = length-append log.entries batch in
     record {

@@ -9,21 +9,21 @@ use Rattle.vs_types.specs.LogEntry.{IsLogEntry, SpellsEntry}
 use Rattle.vs_types.specs.declared.depth.Depth.{Depth}
 use Rattle.vs_types.specs.declared.log_entry.LogEntry.{LogEntry}
 use Rattle.vs_types.proofs.OneEntry.{one_entry}
-use Rattle.nr_ring.specs.History.{Log, tail, MayGoOn, IsHistory, after, after_all, log_after, new_log}
+use Rattle.nr_ring.specs.LogHistory.{Log, tail, MayGoOn, IsLogHistory, log_after_event, log_after_events, log_after, new_log}
 use Rattle.nr_ring.specs.Words.{word_of, IsWordsOf}
-use Rattle.nr_ring.specs.declared.event.Event.{Event}
-use Rattle.nr_ring.specs.declared.event.Event.TheVariants.{Append, Advance}
+use Rattle.nr_ring.specs.declared.log_event.LogEvent.{LogEvent}
+use Rattle.nr_ring.specs.declared.log_event.LogEvent.TheVariants.{Append, Advance}
 use Rattle.nr_ring.proofs.SameWords.{item_of}
 
 -- all entries of a log are at its depth
-entries_fit : (depth : Depth) (log : Log) (events : List Event) → MayGoOn depth log events → All (IsLogEntry depth) log.entries
-    → All (IsLogEntry depth) (after_all log events).entries
+entries_fit : (depth : Depth) (log : Log) (events : List LogEvent) → MayGoOn depth log events → All (IsLogEntry depth) log.entries
+    → All (IsLogEntry depth) (log_after_events log events).entries
 entries_fit depth log [] may fit = fit
 entries_fit depth log (Append batch ∷ events) may fit =
-    entries_fit depth (after log (Append batch)) events may.1 (All-append (IsLogEntry depth) log.entries batch fit may.0.entries)
-entries_fit depth log (Advance replica to ∷ events) may fit = entries_fit depth (after log (Advance replica to)) events may.1 fit
+    entries_fit depth (log_after_event log (Append batch)) events may.1 (All-append (IsLogEntry depth) log.entries batch fit may.0.entries)
+entries_fit depth log (Advance replica to ∷ events) may fit = entries_fit depth (log_after_event log (Advance replica to)) events may.1 fit
 
-pub history_entries : (depth : Depth) (replicas : ℕ) (events : List Event) → IsHistory depth replicas events
+pub history_entries : (depth : Depth) (replicas : ℕ) (events : List LogEvent) → IsLogHistory depth replicas events
     → All (IsLogEntry depth) (log_after replicas events).entries
 history_entries depth replicas events is = entries_fit depth (new_log replicas) events is (λ k d lt. absurd (omega arith))
 

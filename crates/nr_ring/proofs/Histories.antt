@@ -7,13 +7,13 @@ use Rattle.vs_types.specs.LogEntry.{IsLogEntry}
 use Rattle.vs_types.specs.declared.depth.Depth.{Depth}
 use Rattle.vs_types.specs.declared.limits.TheConstants.{LOG_PLACES}
 use Rattle.vs_types.specs.declared.log_entry.LogEntry.{LogEntry}
-use Rattle.nr_ring.specs.History.{Log, new_log, tail, local_of, completed, MayAppend, MayFollow, MayGoOn, IsHistory, IsEnded, IsFull, after, after_all}
-use Rattle.nr_ring.specs.History.{log_after}
+use Rattle.nr_ring.specs.LogHistory.{Log, new_log, tail, local_of, completed, MayAppend, MayFollow, MayGoOn, IsLogHistory, IsEnded, IsFull, log_after_event, log_after_events}
+use Rattle.nr_ring.specs.LogHistory.{log_after}
 use Rattle.nr_ring.specs.Words.{IsWordsOf}
 use Rattle.nr_ring.specs.View.{HasSeenAdvances, IsElse, StartsWith}
 use Rattle.nr_ring.specs.Laws.{HasGoneOn, HasSameTails, FitsTheRing}
-use Rattle.nr_ring.specs.declared.event.Event.{Event}
-use Rattle.nr_ring.specs.declared.event.Event.TheVariants.{Append, Advance}
+use Rattle.nr_ring.specs.declared.log_event.LogEvent.{LogEvent}
+use Rattle.nr_ring.specs.declared.log_event.LogEvent.TheVariants.{Append, Advance}
 use Rattle.nr_ring.proofs.LocalTails.{below_greatest, greatest_least, raised, still_below, le_or_lt, all_or_one}
 
 gone_on : (p q : Log) → (rest : List LogEntry) × (q.entries ≡ p.entries ++ rest) → length q.locals ≡ length p.locals
@@ -35,28 +35,28 @@ goes_on p q r a b =
     (b.replicas ∙ a.replicas)
     (λ i. le_trans (a.locals i) (b.locals i))
 
-one_event : (depth : Depth) (log : Log) (event : Event) → MayFollow depth log event → HasGoneOn log (after log event)
-one_event depth log (Append batch) may = gone_on log (after log (Append batch)) (batch, refl) refl (λ r. le_refl _)
+one_event : (depth : Depth) (log : Log) (event : LogEvent) → MayFollow depth log event → HasGoneOn log (log_after_event log event)
+one_event depth log (Append batch) may = gone_on log (log_after_event log (Append batch)) (batch, refl) refl (λ r. le_refl _)
 one_event depth log (Advance replica to) may =
-    gone_on log (after log (Advance replica to)) ([], sym (append-nil log.entries)) (length-set log.locals replica to)
+    gone_on log (log_after_event log (Advance replica to)) ([], sym (append-nil log.entries)) (length-set log.locals replica to)
     (λ r. raised log.locals replica to r (omega (arith, may.some)))
 
-pub events_go_on : (depth : Depth) (log : Log) (events : List Event) → MayGoOn depth log events → HasGoneOn log (after_all log events)
+pub events_go_on : (depth : Depth) (log : Log) (events : List LogEvent) → MayGoOn depth log events → HasGoneOn log (log_after_events log events)
 events_go_on depth log [] may = stands log
 events_go_on depth log (event ∷ events) may =
-    goes_on log (after log event) (after_all (after log event) events) (one_event depth log event may.0) (events_go_on depth (after log event) events may.1)
+    goes_on log (log_after_event log event) (log_after_events (log_after_event log event) events) (one_event depth log event may.0) (events_go_on depth (log_after_event log event) events may.1)
 
 tail_rises : (p q : Log) → HasGoneOn p q → tail p ≤ tail q
 tail_rises p q on = omega (arith, length-append p.entries on.entries.0, ap (λ (l : List LogEntry). length l) on.entries.1)
 
-pub no_event : (depth : Depth) (log : Log) (events : List Event) → MayGoOn depth log events → HasSameTails (after_all log events) log → events ≡ []
+pub no_event : (depth : Depth) (log : Log) (events : List LogEvent) → MayGoOn depth log events → HasSameTails (log_after_events log events) log → events ≡ []
 no_event depth log [] may same = refl
 no_event depth log (Append batch ∷ events) may same =
-    let later = tail_rises (after log (Append batch)) (after_all (after log (Append batch)) events)
-    (events_go_on depth (after log (Append batch)) events may.1) in
+    let later = tail_rises (log_after_event log (Append batch)) (log_after_events (log_after_event log (Append batch)) events)
+    (events_go_on depth (log_after_event log (Append batch)) events may.1) in
     absurd (omega (arith, later, same.tail, may.0.some, length-append log.entries batch))
 no_event depth log (Advance replica to ∷ events) may same =
-    let later = (events_go_on depth (after log (Advance replica to)) events may.1).locals replica in
+    let later = (events_go_on depth (log_after_event log (Advance replica to)) events may.1).locals replica in
     let there = get_or-set_same log.locals replica to 0 may.0.there in
     absurd (omega (arith, later, there, same.locals replica, may.0.some))
 
@@ -67,7 +67,7 @@ fits_new replicas = record { written = zeros replicas; kept_up = λ r lt. omega 
   zeros (suc n) zero = le_refl 0
   zeros (suc n) (suc r) = zeros n r
 
-fits_after : (depth : Depth) (log : Log) (event : Event) → MayFollow depth log event → FitsTheRing log → FitsTheRing (after log event)
+fits_after : (depth : Depth) (log : Log) (event : LogEvent) → MayFollow depth log event → FitsTheRing log → FitsTheRing (log_after_event log event)
 fits_after depth log (Append batch) may is = record {
   written = λ r. omega (arith, is.written r, length-append log.entries batch);
   kept_up = λ r lt. omega (arith, may.kept_up r lt, length-append log.entries batch);
@@ -82,11 +82,11 @@ fits_after depth log (Advance replica to) may is = record {
   ends = is.ends;
 }
 
-fits_all : (depth : Depth) (log : Log) (events : List Event) → MayGoOn depth log events → FitsTheRing log → FitsTheRing (after_all log events)
+fits_all : (depth : Depth) (log : Log) (events : List LogEvent) → MayGoOn depth log events → FitsTheRing log → FitsTheRing (log_after_events log events)
 fits_all depth log [] may is = is
-fits_all depth log (event ∷ events) may is = fits_all depth (after log event) events may.1 (fits_after depth log event may.0 is)
+fits_all depth log (event ∷ events) may is = fits_all depth (log_after_event log event) events may.1 (fits_after depth log event may.0 is)
 
-pub history_fits : (depth : Depth) (replicas : ℕ) (events : List Event) → IsHistory depth replicas events → FitsTheRing (log_after replicas events)
+pub history_fits : (depth : Depth) (replicas : ℕ) (events : List LogEvent) → IsLogHistory depth replicas events → FitsTheRing (log_after replicas events)
 history_fits depth replicas events is = fits_all depth (new_log replicas) events is (fits_new replicas)
 
 pub refused : (depth : Depth) (log : Log) (batch : List LogEntry) → 1 ≤ length batch → length batch ≤ 16 → All (IsLogEntry depth) batch
@@ -98,35 +98,35 @@ refused depth log batch some few fit =
     (λ ended. inr (inl ended))
     (le_or_lt (tail log + length batch) LOG_PLACES)
 
-pub goes_on_after : (depth : Depth) (log : Log) (seen rest : List Event) → MayGoOn depth log (seen ++ rest) → MayGoOn depth (after_all log seen) rest
+pub goes_on_after : (depth : Depth) (log : Log) (seen rest : List LogEvent) → MayGoOn depth log (seen ++ rest) → MayGoOn depth (log_after_events log seen) rest
 goes_on_after depth log [] rest may = may
-goes_on_after depth log (event ∷ seen) rest may = goes_on_after depth (after log event) seen rest may.1
+goes_on_after depth log (event ∷ seen) rest may = goes_on_after depth (log_after_event log event) seen rest may.1
 
-pub after_both : (log : Log) (seen rest : List Event) → after_all log (seen ++ rest) ≡ after_all (after_all log seen) rest
+pub after_both : (log : Log) (seen rest : List LogEvent) → log_after_events log (seen ++ rest) ≡ log_after_events (log_after_events log seen) rest
 after_both log [] rest = refl
-after_both log (event ∷ seen) rest = after_both (after log event) seen rest
+after_both log (event ∷ seen) rest = after_both (log_after_event log event) seen rest
 
 -- events that are no advance of a replica leave its local tail
-local_stays : (replica : ℕ) (log : Log) (events : List Event) → All (IsElse replica) events → local_of (after_all log events) replica ≡ local_of log replica
+local_stays : (replica : ℕ) (log : Log) (events : List LogEvent) → All (IsElse replica) events → local_of (log_after_events log events) replica ≡ local_of log replica
 local_stays replica log [] all = refl
-local_stays replica log (Append batch ∷ events) all = local_stays replica (after log (Append batch)) events (λ k d lt. all (suc k) d (omega arith))
+local_stays replica log (Append batch ∷ events) all = local_stays replica (log_after_event log (Append batch)) events (λ k d lt. all (suc k) d (omega arith))
 local_stays replica log (Advance other to ∷ events) all =
     let differ : other ≡ replica → ⊥ = all 0 (Advance other to) (omega arith) in
-    local_stays replica (after log (Advance other to)) events (λ k d lt. all (suc k) d (omega arith))
+    local_stays replica (log_after_event log (Advance other to)) events (λ k d lt. all (suc k) d (omega arith))
     ∙ get_or-set_other log.locals other replica to 0 (λ e. differ (sym e))
 
-pub local_since : (replicas replica : ℕ) (events seen : List Event) → HasSeenAdvances replica events seen
+pub local_since : (replicas replica : ℕ) (events seen : List LogEvent) → HasSeenAdvances replica events seen
     → local_of (log_after replicas events) replica ≡ local_of (log_after replicas seen) replica
 local_since replicas replica events seen is =
-    ap (λ (l : List Event). local_of (log_after replicas l) replica) is.1
+    ap (λ (l : List LogEvent). local_of (log_after replicas l) replica) is.1
     ∙ ap (λ (log : Log). local_of log replica) (after_both (new_log replicas) seen is.0)
     ∙ local_stays replica (log_after replicas seen) is.0 is.2
 
-goes_on_before : (depth : Depth) (log : Log) (seen rest : List Event) → MayGoOn depth log (seen ++ rest) → MayGoOn depth log seen
+goes_on_before : (depth : Depth) (log : Log) (seen rest : List LogEvent) → MayGoOn depth log (seen ++ rest) → MayGoOn depth log seen
 goes_on_before depth log [] rest may = tt
-goes_on_before depth log (event ∷ seen) rest may = (may.0, goes_on_before depth (after log event) seen rest may.1)
+goes_on_before depth log (event ∷ seen) rest may = (may.0, goes_on_before depth (log_after_event log event) seen rest may.1)
 
-pub as_many_locals : (depth : Depth) (replicas : ℕ) (events : List Event) → IsHistory depth replicas events
+pub as_many_locals : (depth : Depth) (replicas : ℕ) (events : List LogEvent) → IsLogHistory depth replicas events
     → length (log_after replicas events).locals ≡ replicas
 as_many_locals depth replicas events is = (events_go_on depth (new_log replicas) events is).replicas ∙ length-replicate replicas 0
 
@@ -136,14 +136,14 @@ past_end (x ∷ xs) zero le = absurd (omega arith)
 past_end (x ∷ xs) (suc i) le = past_end xs i (omega arith)
 
 -- where the words are those after what was seen, all was seen
-pub seen_all : (depth : Depth) (replicas : ℕ) (history seen : List Event) (words : List ℕ) → replicas ≤ 4 → IsHistory depth replicas history
+pub seen_all : (depth : Depth) (replicas : ℕ) (history seen : List LogEvent) (words : List ℕ) → replicas ≤ 4 → IsLogHistory depth replicas history
     → StartsWith history seen
     → IsWordsOf (log_after replicas seen) words → IsWordsOf (log_after replicas history) words → history ≡ seen
 seen_all depth replicas history seen words few is begins before now =
-    let all : IsHistory depth replicas (seen ++ begins.0) = rw begins.1 at is in
-    let first : IsHistory depth replicas seen = goes_on_before depth (new_log replicas) seen begins.0 all in
+    let all : IsLogHistory depth replicas (seen ++ begins.0) = rw begins.1 at is in
+    let first : IsLogHistory depth replicas seen = goes_on_before depth (new_log replicas) seen begins.0 all in
     let later : MayGoOn depth (log_after replicas seen) begins.0 = goes_on_after depth (new_log replicas) seen begins.0 all in
-    let log : log_after replicas history ≡ after_all (log_after replicas seen) begins.0 =
+    let log : log_after replicas history ≡ log_after_events (log_after replicas seen) begins.0 =
     ap (log_after replicas) begins.1 ∙ after_both (new_log replicas) seen begins.0 in
     let low : (r : ℕ) → r < 4 → local_of (log_after replicas history) r ≡ local_of (log_after replicas seen) r =
     λ r lt. sym (now.locals_are r lt) ∙ before.locals_are r lt in
@@ -154,4 +154,4 @@ seen_all depth replicas history seen words few is begins before now =
     record { tail = sym now.tail_is ∙ before.tail_is; locals = λ r. ⊎_elim (high r) (low r) (le_or_lt 4 r) } in
     let P : Log → Type 0 = λ l. HasSameTails l (log_after replicas seen) in
     let none : begins.0 ≡ [] = no_event depth (log_after replicas seen) begins.0 later (subst P log same) in
-    begins.1 ∙ ap (λ (l : List Event). seen ++ l) none ∙ append-nil seen
+    begins.1 ∙ ap (λ (l : List LogEvent). seen ++ l) none ∙ append-nil seen

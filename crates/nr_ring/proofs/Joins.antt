@@ -9,53 +9,17 @@ use lib.ListN.{get_elem?}
 use Rattle.atomic_table.proofs.Lists.{at_set}
 use Rattle.crossbeam_utils.specs.Register.{Merges}
 use Rattle.vs_types.specs.declared.depth.Depth.{Depth}
-use Rattle.nr_ring.specs.View.{StartsWith, IsElse, HasSeenAdvances, made_by, IsTrueOf}
+use Rattle.nr_ring.specs.View.{StartsWith, IsElse, HasSeenAdvances, made_by_pass, IsTrueOf}
 use Rattle.nr_ring.specs.Rule.{IsKept}
 use Rattle.nr_ring.specs.Calls.{joined, spent}
-use Rattle.nr_ring.specs.declared.event.Event.{Event}
+use Rattle.nr_ring.specs.declared.log_event.LogEvent.{LogEvent}
 use Rattle.nr_ring.specs.declared.view.View.{View}
+use Rattle.nr_ring.proofs.Rights.{idle_still, rights_changed}
 
--- who has seen more has seen as many advances
-else_later : (replica : ℕ) (seen more rest later : List Event) → seen ++ rest ≡ more ++ later → length seen ≤ length more → All (IsElse replica) rest
-    → All (IsElse replica) later
-else_later replica [] more rest later e le all =
-    let P : List Event → Type 0 = λ l. All (IsElse replica) l in
-    let both : All (IsElse replica) (more ++ later) = subst P e all in
-    λ k d lt. let Q : Event → Type 0 = IsElse replica in
-    subst Q (get_or-append-add more later k d) (both (length more + k) d (omega (arith, length-append more later)))
-else_later replica (x ∷ seen) [] rest later e le all = absurd (omega arith)
-else_later replica (x ∷ seen) (y ∷ more) rest later e le all = else_later replica seen more rest later (ap (λ (l : List Event). drop 1 l) e) (omega arith) all
-
-seen_more : (replica : ℕ) (events seen more : List Event) → HasSeenAdvances replica events seen → StartsWith events more → length seen ≤ length more
-    → HasSeenAdvances replica events more
-seen_more replica events seen more is begins le = (begins.0, begins.1, else_later replica seen more is.0 begins.0 (sym is.1 ∙ begins.1) le is.2)
-
--- of the two, the longer
-abbrev longer : List Event → List Event → List Event
-longer seen other = if nat_lt (length seen) (length other) then other else seen
-
-longer_is : (seen other : List Event) → ((longer seen other ≡ other) × (length seen ≤ length other)) ⊎ (longer seen other ≡ seen)
-longer_is seen other = by_test (nat_lt (length seen) (length other)) refl where
-  by_test : (b : Bool) → nat_lt (length seen) (length other) ≡ b
-      → (((if b then other else seen) ≡ other) × (length seen ≤ length other)) ⊎ ((if b then other else seen) ≡ seen)
-  by_test true e = inl (refl, grind (arith, Rattle.std.proofs.lemmas.Bool.Decides.nat_tests))
-  by_test false e = inr refl
-
-starts_longer : (events seen other : List Event) → StartsWith events seen → StartsWith events other → StartsWith events (longer seen other)
-starts_longer events seen other a b = let P : List Event → Type 0 = λ l. StartsWith events l in
-    ⊎_elim (λ t. subst P (sym t.0) b) (λ t. subst P (sym t) a) (longer_is seen other)
-
-advances_longer : (replica : ℕ) (events seen other : List Event) → HasSeenAdvances replica events seen → StartsWith events other
-    → HasSeenAdvances replica events (longer seen other)
-advances_longer replica events seen other a b =
-    let P : List Event → Type 0 = λ l. HasSeenAdvances replica events l in
-    ⊎_elim (λ t. subst P (sym t.0) (seen_more replica events seen other a b t.1)) (λ t. subst P (sym t) a) (longer_is seen other)
-
-told_two : (events a b : List Event) (told : List (List Event)) → StartsWith events a → StartsWith events b → All (StartsWith events) told
-    → All (StartsWith events) (a ∷ b ∷ told)
-told_two events a b told first second rest zero d lt = first
-told_two events a b told first second rest (suc zero) d lt = second
-told_two events a b told first second rest (suc (suc k)) d lt = rest k d (omega arith)
+told_one : (events a : List LogEvent) (told : List (List LogEvent)) → StartsWith events a → All (StartsWith events) told
+    → All (StartsWith events) (a ∷ told)
+told_one events a told first rest zero d lt = first
+told_one events a told first rest (suc k) d lt = rest k d (omega arith)
 
 -- each owner after the join owned the replica before
 owner_before : (views : List View) (pass other : ℕ) (v w : View) → get_elem? views pass ≡ some v → (j : ℕ) (u : View) (replica : ℕ)
@@ -72,8 +36,9 @@ owner_before views pass other v w at j u replica there has =
     (at_set views pass j (joined v w) u t.1))
     (at_set (set views pass (joined v w)) other j spent u there)
 
-pub join_merges : (depth : Depth) (replicas pass other : ℕ) (v w : View) → w.mine ≡ [] → Merges (IsKept depth replicas) pass v other w (joined v w) spent
-join_merges depth replicas pass other v w idle words views is at differ there =
+pub join_merges : (depth : Depth) (replicas passes pass other : ℕ) (v w : View) → w.mine ≡ []
+    → Merges (IsKept depth replicas passes) pass v other w (joined v w) spent
+join_merges depth replicas passes pass other v w idle words views is at differ there =
     let changed = set views pass (joined v w) in
     let wide : length (set changed other spent) ≡ length views = length-set changed other spent ∙ length-set views pass (joined v w) in
     let w_at : get_elem? views other ≡ some w =
@@ -81,11 +46,11 @@ join_merges depth replicas pass other v w idle words views is at differ there =
     (at_set views pass other (joined v w) w there) in
     let old = is.each_view pass v at in
     let copy = is.each_view other w w_at in
-    let T : ℕ → View → Type 0 = λ j z. IsTrueOf is.history (made_by j is.makers) z in
+    let T : ℕ → View → Type 0 = λ j z. IsTrueOf is.history (made_by_pass j is.makers) z in
     let own : T pass (joined v w) = record {
-      seen = starts_longer is.history v.seen w.seen old.seen copy.seen;
-      told = told_two is.history w.seen v.seen v.told copy.seen old.seen old.told;
-      owns = λ k d lt. advances_longer (slice_index_or v.owns k d) is.history v.seen w.seen (old.owns k d lt) copy.seen;
+      seen = old.seen;
+      told = told_one is.history w.seen v.told copy.seen old.told;
+      owns = old.owns;
       mine = old.mine;
     } in
     let gone : T other spent = record {
@@ -116,4 +81,7 @@ join_merges depth replicas pass other v w idle words views is at differ there =
           let c = owner_before views pass other v w at p a replica pa ha in
           let e = owner_before views pass other v w at q b replica qb hb in
           is.one_owner p q c.0 e.0 replica c.1 e.1 c.2 e.2;
+      all_rights = omega (arith, rights_changed views pass v (joined v w) at, rights_changed changed other w spent there, is.all_rights);
+      makers_right = idle_still changed other spent (λ none. refl)
+          (idle_still views pass (joined v w) (λ none. is.makers_right pass v at (omega arith)) is.makers_right);
     }

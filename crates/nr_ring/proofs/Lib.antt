@@ -2,6 +2,7 @@ pub mod LocalTails
 pub mod Histories
 pub mod Rounds
 pub mod Views
+pub mod Rights
 pub mod Turns
 pub mod CellWords
 pub mod SameWords

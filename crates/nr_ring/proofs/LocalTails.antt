@@ -4,7 +4,7 @@ use Rattle.std.proofs.Common.{le_trans, arith}
 use Rattle.std.proofs.Math.Nat.{le-max_left, le-max_right, max-le, eq-or-lt_of_le, le_antisymm}
 use Rattle.std.proofs.lemmas.List.{get_or-set_same}
 use Rattle.std.proofs.lemmas.Bool.Decides.{eqb_tells}
-use Rattle.nr_ring.specs.History.{greatest}
+use Rattle.nr_ring.specs.LogHistory.{greatest}
 
 pub below_greatest : (xs : List ℕ) (i : ℕ) → get_or xs i 0 ≤ greatest xs
 below_greatest [] i = le_refl 0

@@ -1,15 +1,11 @@
 -- A pass to which another was joined looks.
 use Rattle.std.proofs.Common.{◌≡◌, ℕ, ◌<◌, List, [], All, Option, length, ap, sym, subst, ◌∙◌, arith}
 use Rattle.vs_types.specs.declared.depth.Depth.{Depth}
-use Rattle.nr_ring.specs.Calls.{HasLooked, IsCut, Looks, joined}
+use Rattle.nr_ring.specs.Calls.{HasLooked, Looks, joined}
 use Rattle.nr_ring.specs.View.{StartsWith}
 use Rattle.nr_ring.specs.declared.view.View.{View}
 use Rattle.nr_ring.specs.inside.Held.{Remembers}
 use Rattle.nr_ring.proofs.Passes.{longer, told_before}
-
--- a copy owns nothing
-pub cut_nothing : (owns : List ℕ) → IsCut owns owns []
-cut_nothing owns = record { kept_of = λ r has. has; given_of = λ r has. absurd (omega (arith, has.1)); apart = λ r kept given. absurd (omega (arith, given.1)) }
 
 -- what the look after a join tells, of the view that contracts see
 pub joined_looks : (depth : Depth) (replicas : ℕ) (words : List ℕ) (held copy between pass after : View) → between ≡ joined held copy → held ≡ pass
@@ -20,17 +16,18 @@ joined_looks depth replicas words held copy between pass after first own looks =
 
 pub met : (depth : Depth) (replicas : ℕ) (told other after : View) → HasLooked depth replicas (joined told other) after
     → StartsWith after.seen other.seen × StartsWith after.seen told.seen
-met depth replicas told other after looked = (looked.told 0 [] (omega arith), looked.told 1 [] (omega arith))
+met depth replicas told other after looked = (looked.told 0 [] (omega arith), looked.seen)
 
 pub met_remembers : (depth : Depth) (replicas : ℕ) (words words' : List ℕ) (replica : Option ℕ) (told other after : View)
-    → Remembers depth replicas words replica told → Looks depth replicas words' (joined told other) after
+    → Remembers depth replicas words replica told → other.rights ≡ 0 → Looks depth replicas words' (joined told other) after
     → Remembers depth replicas words' replica after
-met_remembers depth replicas words words' replica told other after is looks = record {
+met_remembers depth replicas words words' replica told other after is none looks = record {
   few = is.few;
   is_history = looks.looked.is_history;
   words_are = looks.words_are;
   owns = looks.looked.owns ∙ is.owns;
   owned_below = is.owned_below;
+  rights = looks.looked.rights ∙ omega (arith, is.rights, none);
   mine =
       let P : List ℕ → Type 0 = λ l. All (λ number. number < length after.seen) l in
       let more = longer after.seen told.seen (met depth replicas told other after looks.looked).1 in

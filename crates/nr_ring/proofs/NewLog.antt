@@ -1,11 +1,11 @@
 -- The rule holds of a new log, whose first pass has seen nothing.
-use Rattle.std.proofs.Common.{◌≡◌, ℕ, zero, suc, ◌+◌, ◌*◌, ◌<◌, ◌≤◌, List, [], ◌∷◌, ◌++◌, All, Contains, length, slice_index, replicate, refl, sym, ◌∙◌, arith}
+use Rattle.std.proofs.Common.{◌≡◌, ℕ, zero, suc, ◌+◌, ◌*◌, ◌<◌, ◌≤◌, List, [], ◌∷◌, ◌++◌, All, Contains, length, slice_index, replicate, refl, ap, sym, ◌∙◌, arith}
 use Rattle.std.proofs.Math.ListN.{length-replicate}
 use Rattle.std.proofs.lemmas.List.{append-nil}
 use mathlib.Core.Option.{some, some-injective, some-ne-none}
 use lib.ListN.{get_elem?}
 use Rattle.vs_types.specs.declared.depth.Depth.{Depth}
-use Rattle.nr_ring.specs.History.{new_log, greatest}
+use Rattle.nr_ring.specs.LogHistory.{new_log, greatest}
 use Rattle.nr_ring.specs.Words.{IsWordsOf, new_words}
 use Rattle.nr_ring.specs.View.{IsTrueOf}
 use Rattle.nr_ring.specs.Rule.{IsKept}
@@ -18,7 +18,7 @@ zeros (suc n) (suc i) = zeros n i
 
 no_greatest : (n : ℕ) → greatest (replicate n 0) ≡ 0
 no_greatest zero = refl
-no_greatest (suc n) = Rattle.std.proofs.Common.ap (Rattle.std.proofs.Common.max 0) (no_greatest n)
+no_greatest (suc n) = ap (Rattle.std.proofs.Common.max 0) (no_greatest n)
 
 low : (replicas r : ℕ) → r < 4 → slice_index (new_words replicas) (2 + r) ≡ 0
 low replicas zero lt = refl
@@ -52,7 +52,8 @@ only_first : (v : View) (pass : ℕ) (u : View) → get_elem? (v ∷ []) pass �
 only_first v zero u e = (refl, some-injective v u e)
 only_first v (suc pass) u e = absurd (some-ne-none u (sym e))
 
-pub new_kept : (depth : Depth) (replicas : ℕ) (v : View) → v.seen ≡ [] → v.mine ≡ [] → v.told ≡ [] → IsKept depth replicas (new_words replicas) (v ∷ [])
+pub new_kept : (depth : Depth) (replicas : ℕ) (v : View) → v.seen ≡ [] → v.mine ≡ [] → v.told ≡ []
+    → IsKept depth replicas v.rights (new_words replicas) (v ∷ [])
 new_kept depth replicas v seen mine told = record {
   history = [];
   makers = [];
@@ -71,4 +72,6 @@ new_kept depth replicas v seen mine told = record {
         mine = mine;
       });
   one_owner = λ p q a b replica pa qb ha hb. (only_first v p a pa).0 ∙ sym (only_first v q b qb).0;
+  all_rights = omega arith;
+  makers_right = λ pass u there none. ap (λ (z : View). z.mine) (sym (only_first v pass u there).1) ∙ mine;
 }

@@ -6,12 +6,12 @@ use Rattle.std.specs.Prelude.{slice_index, slice_index_or}
 use Rattle.std.proofs.lemmas.List.FromFn.{get_or-range_with_len, length-range_with_len}
 use Rattle.vs_types.specs.declared.depth.Depth.{Depth}
 use Rattle.vs_types.specs.declared.limits.TheConstants.{LOG_PLACES}
-use Rattle.nr_ring.specs.History.{Log, tail, local_of, IsHistory, log_after}
+use Rattle.nr_ring.specs.LogHistory.{Log, tail, local_of, IsLogHistory, log_after}
 use Rattle.nr_ring.specs.Words.{IsWordsOf, new_words}
 use Rattle.nr_ring.specs.View.{StartsWith}
 use Rattle.nr_ring.specs.Calls.{HasLooked, Looks, IsCut}
 use Rattle.nr_ring.specs.Pass.{tails_of}
-use Rattle.nr_ring.specs.declared.event.Event.{Event}
+use Rattle.nr_ring.specs.declared.log_event.LogEvent.{LogEvent}
 use Rattle.nr_ring.specs.declared.view.View.{View}
 use Rattle.nr_ring.specs.inside.Held.{IsBelow, Remembers, left_from, new_view, owned, rest_of, tails_of_words}
 use Rattle.nr_ring.proofs.Histories.{history_fits}
@@ -20,7 +20,7 @@ use Rattle.nr_ring.proofs.NewLog.{new_is}
 use Rattle.nr_ring.proofs.Views.{nothing_since, whole}
 
 -- the tails are small
-pub small_words : (depth : Depth) (replicas : ℕ) (seen : List Event) (words : List ℕ) → IsHistory depth replicas seen
+pub small_words : (depth : Depth) (replicas : ℕ) (seen : List LogEvent) (words : List ℕ) → IsLogHistory depth replicas seen
     → IsWordsOf (log_after replicas seen) words → (word : ℕ) → word < 6 → slice_index words word ≤ LOG_PLACES
 small_words depth replicas seen words is are word lt =
     let log = log_after replicas seen in
@@ -41,12 +41,12 @@ tails_are log words are = λ i. record {
   local = are.locals_are 0 (omega arith) i ∷ are.locals_are 1 (omega arith) i ∷ are.locals_are 2 (omega arith) i ∷ are.locals_are 3 (omega arith) i ∷ [];
 }
 
-pub longer : (after before : List Event) → StartsWith after before → length before ≤ length after
-longer after before begins = omega (arith, ap (λ (l : List Event). length l) begins.1, Rattle.std.proofs.Common.length-append before begins.0)
+pub longer : (after before : List LogEvent) → StartsWith after before → length before ≤ length after
+longer after before begins = omega (arith, ap (λ (l : List LogEvent). length l) begins.1, Rattle.std.proofs.Common.length-append before begins.0)
 
 -- what a pass was told stays what it was
 pub told_before : (after before : View) → after.told ≡ before.told → All (StartsWith after.seen) before.told → All (StartsWith after.seen) after.told
-told_before after before same told = let P : List (List Event) → Type 0 = λ l. All (StartsWith after.seen) l in subst P (sym same) told
+told_before after before same told = let P : List (List LogEvent) → Type 0 = λ l. All (StartsWith after.seen) l in subst P (sym same) told
 
 pub look_remembers : (depth : Depth) (replicas : ℕ) (words words' : List ℕ) (replica : Option ℕ) (before after : View)
     → Remembers depth replicas words replica before → Looks depth replicas words' before after → Remembers depth replicas words' replica after
@@ -56,6 +56,7 @@ look_remembers depth replicas words words' replica before after is looks = recor
   words_are = looks.words_are;
   owns = looks.looked.owns ∙ is.owns;
   owned_below = is.owned_below;
+  rights = looks.looked.rights ∙ is.rights;
   mine =
       let P : List ℕ → Type 0 = λ l. All (λ number. number < length after.seen) l in
       let more = longer after.seen before.seen looks.looked.seen in
@@ -74,16 +75,18 @@ sees_no_more depth replicas words replica view is = record {
   told_stays = refl;
   mine = refl;
   owns = refl;
+  rights = refl;
 }
 
 pub new_remembers : (depth : Depth) (replicas : ℕ) (replica : Option ℕ) → replicas ≤ 4 → IsBelow replicas replica
-    → Remembers depth replicas (new_words replicas) replica (new_view (owned replica))
+    → Remembers depth replicas (new_words replicas) replica (new_view (owned replica) 1)
 new_remembers depth replicas replica few below = record {
   few = few;
   is_history = tt;
   words_are = new_is replicas;
   owns = refl;
   owned_below = below;
+  rights = refl;
   mine = λ k d lt. absurd (omega arith);
   told = λ k d lt. absurd (omega arith);
 }

@@ -2,7 +2,7 @@
 use Rattle.std.proofs.Common.{◌≡◌, ℕ, zero, suc, ◌+◌, ◌-◌, ◌*◌, ◌/◌, ◌%◌, ◌<◌, ◌≤◌, List, [], ◌∷◌, Some, length, ⊎_elim, refl, ap, sym, ◌∙◌, arith}
 use Rattle.std.specs.Prelude.{slice_get, slice_index}
 use Rattle.std.proofs.lemmas.List.{ext_get_or}
-use Rattle.nr_ring.specs.History.{Log, tail}
+use Rattle.nr_ring.specs.LogHistory.{Log, tail}
 use Rattle.nr_ring.specs.Words.{word_of, IsWordsOf}
 use Rattle.nr_ring.proofs.LocalTails.{le_or_lt}
 

@@ -8,38 +8,29 @@ use lib.ListN.{get_elem?}
 use Rattle.atomic_table.proofs.Lists.{at_set}
 use Rattle.crossbeam_utils.specs.Register.{Turns}
 use Rattle.vs_types.specs.declared.depth.Depth.{Depth}
-use Rattle.nr_ring.specs.History.{Log, MayFollow, IsHistory, new_log, after, log_after}
+use Rattle.nr_ring.specs.LogHistory.{Log, MayFollow, IsLogHistory, new_log, log_after_event, log_after}
 use Rattle.nr_ring.specs.Words.{IsWordsOf}
-use Rattle.nr_ring.specs.View.{IsElse, made_by, IsTrueOf}
+use Rattle.nr_ring.specs.View.{IsElse, made_by_pass, IsTrueOf}
 use Rattle.nr_ring.specs.Rule.{IsKept}
 use Rattle.nr_ring.specs.Calls.{Looks, MayMake, with_event}
-use Rattle.nr_ring.specs.declared.event.Event.{Event}
-use Rattle.nr_ring.specs.declared.event.Event.TheVariants.{Append, Advance}
+use Rattle.nr_ring.specs.declared.log_event.LogEvent.{LogEvent}
+use Rattle.nr_ring.specs.declared.log_event.LogEvent.TheVariants.{Append, Advance}
 use Rattle.nr_ring.specs.declared.view.View.{View}
 use Rattle.nr_ring.proofs.Views.{whole, nothing_since, begins_still, advances_still, goes_on_by, after_one_more, made_by_it, made_by_another, owned_before}
-use Rattle.nr_ring.proofs.Views.{below_end, contains_item}
+use Rattle.nr_ring.proofs.Views.{below_end, contains_item, views_changed}
+use Rattle.nr_ring.proofs.Rights.{has_right, idle_still, rights_changed}
 use Rattle.nr_ring.proofs.Histories.{seen_all}
 
--- what holds of the views holds still where one is changed to what is true
-views_changed : (P : ℕ → View → Type 0) (views : List View) (pass : ℕ) (w : View) → P pass w
-    → ((j : ℕ) (u : View) → j ≢ pass → get_elem? views j ≡ some u → P j u)
-    → (j : ℕ) (u : View) → get_elem? (set views pass w) j ≡ some u → P j u
-views_changed P views pass w here others j u there =
-    ⊎_elim
-    (λ (t : (j ≡ pass) × (w ≡ u)). let Q : View → Type 0 = λ z. P j z in let R : ℕ → Type 0 = λ i. P i w in subst Q t.1 (subst R (sym t.0) here))
-    (λ (t : (j ≢ pass) × (get_elem? views j ≡ some u)). others j u t.0 t.1)
-    (at_set views pass j w u there)
-
 -- the view of a pass that has seen the whole history
-abbrev looked : List Event → View → View
-looked history v = record { seen = history; mine = v.mine; owns = v.owns; told = v.told }
+abbrev looked : List LogEvent → View → View
+looked history v = record { seen = history; mine = v.mine; owns = v.owns; rights = v.rights; told = v.told }
 
-pub look_turns : (depth : Depth) (replicas pass : ℕ) (v : View)
-    → Turns (IsKept depth replicas) pass v (λ x. x) (λ before words words' after. Looks depth replicas words' before after)
-look_turns depth replicas pass v x views kept at =
+pub look_turns : (depth : Depth) (replicas passes pass : ℕ) (v : View)
+    → Turns (IsKept depth replicas passes) pass v (λ x. x) (λ before words words' after. Looks depth replicas words' before after)
+look_turns depth replicas passes pass v x views kept at =
     let history = kept.history in
     let w : View = looked history v in
-    let old : IsTrueOf history (made_by pass kept.makers) v = kept.each_view pass v at in (
+    let old : IsTrueOf history (made_by_pass pass kept.makers) v = kept.each_view pass v at in (
       w,
       record {
         history = history;
@@ -48,16 +39,18 @@ look_turns depth replicas pass v x views kept at =
         words_are = kept.words_are;
         each_made = kept.each_made;
         by_passes = λ k d lt. omega (arith, kept.by_passes k d lt, length-set views pass w);
-        each_view = views_changed (λ j u. IsTrueOf history (made_by j kept.makers) u) views pass w
+        each_view = views_changed (λ j u. IsTrueOf history (made_by_pass j kept.makers) u) views pass w
             (record { seen = whole history; told = old.told; owns = λ k d lt. nothing_since (slice_index_or v.owns k d) history; mine = old.mine })
             (λ j u other there. kept.each_view j u there);
         one_owner = λ p q a b replica pa qb ha hb.
             let c = owned_before views pass v w at refl p a replica pa ha in
             let e = owned_before views pass v w at refl q b replica qb hb in
             kept.one_owner p q c.0 e.0 replica c.1 e.1 c.2 e.2;
+        all_rights = omega (arith, rights_changed views pass v w at, kept.all_rights);
+        makers_right = idle_still views pass w (kept.makers_right pass v at) kept.makers_right;
       },
       record {
-        looked = record { is_history = kept.is_history; seen = old.seen; told = old.told; advances = old.owns; told_stays = refl; mine = refl; owns = refl };
+        looked = record { is_history = kept.is_history; seen = old.seen; told = old.told; advances = old.owns; told_stays = refl; mine = refl; owns = refl; rights = refl };
         words_are = kept.words_are;
       },
     )
@@ -67,25 +60,25 @@ only_pass n pass lt zero d le = lt
 only_pass n pass lt (suc k) d le = absurd (omega arith)
 
 -- an event of another pass's is no advance of a replica that this one owns
-else_of : (event : Event) (v : View) (replica : ℕ) → MayMake v event → (Contains v.owns replica → ⊥) → IsElse replica event
+else_of : (event : LogEvent) (v : View) (replica : ℕ) → MayMake v event → (Contains v.owns replica → ⊥) → IsElse replica event
 else_of (Append batch) v replica may apart = tt
-else_of (Advance other to) v replica may apart = λ (e : other ≡ replica). let P : ℕ → Type 0 = λ r. Contains v.owns r in apart (subst P e may)
+else_of (Advance other to) v replica may apart = λ (e : other ≡ replica). let P : ℕ → Type 0 = λ r. Contains v.owns r in apart (subst P e may.1)
 
 -- a pass that has seen all makes an event
-pub event_kept : (depth : Depth) (replicas pass : ℕ) (v : View) (event : Event) (words words' : List ℕ) (views : List View) → replicas ≤ 4
-    → IsKept depth replicas words views → get_elem? views pass ≡ some v
+pub event_kept : (depth : Depth) (replicas passes pass : ℕ) (v : View) (event : LogEvent) (words words' : List ℕ) (views : List View) → replicas ≤ 4
+    → IsKept depth replicas passes words views → get_elem? views pass ≡ some v
     → IsWordsOf (log_after replicas v.seen) words → MayFollow depth (log_after replicas v.seen) event → MayMake v event
-    → IsWordsOf (after (log_after replicas v.seen) event) words'
-    → IsKept depth replicas words' (set views pass (with_event v event))
-event_kept depth replicas pass v event words words' views few kept at before may own now =
+    → IsWordsOf (log_after_event (log_after replicas v.seen) event) words'
+    → IsKept depth replicas passes words' (set views pass (with_event v event))
+event_kept depth replicas passes pass v event words words' views few kept at before may own now =
     let w : View = with_event v event in
     let first = kept.each_view pass v at in
     let same : kept.history ≡ v.seen = seen_all depth replicas kept.history v.seen words few kept.is_history first.seen before kept.words_are in
-    let H : List Event → Type 0 = λ h. IsHistory depth replicas h in
+    let H : List LogEvent → Type 0 = λ h. IsLogHistory depth replicas h in
     let L : Log → Type 0 = λ log. IsWordsOf log words' in
-    let number : length kept.makers ≡ length v.seen = kept.each_made ∙ ap (λ (h : List Event). length h) same in
-    let true_of : (j : ℕ) (u : View) → get_elem? views j ≡ some u → IsTrueOf v.seen (made_by j kept.makers) u = λ j u there. let T : List Event → Type 0 =
-    λ h. IsTrueOf h (made_by j kept.makers) u in subst T same (kept.each_view j u there) in
+    let number : length kept.makers ≡ length v.seen = kept.each_made ∙ ap (λ (h : List LogEvent). length h) same in
+    let true_of : (j : ℕ) (u : View) → get_elem? views j ≡ some u → IsTrueOf v.seen (made_by_pass j kept.makers) u = λ j u there. let T : List LogEvent → Type 0 =
+    λ h. IsTrueOf h (made_by_pass j kept.makers) u in subst T same (kept.each_view j u there) in
     let mine = true_of pass v at in
     let one : All (λ p. p < length (set views pass w)) (pass ∷ []) =
     only_pass (length (set views pass w)) pass (omega (arith, below_end views pass v at, length-set views pass w)) in
@@ -97,12 +90,12 @@ event_kept depth replicas pass v event words words' views few kept at before may
       each_made = omega (arith, number, length-append kept.makers (pass ∷ []), length-append v.seen (event ∷ []));
       by_passes = All-append (λ p. p < length (set views pass w)) kept.makers (pass ∷ [])
           (λ k d lt. omega (arith, kept.by_passes k d lt, length-set views pass w)) one;
-      each_view = views_changed (λ j u. IsTrueOf (v.seen ++ event ∷ []) (made_by j (kept.makers ++ pass ∷ [])) u) views pass w
+      each_view = views_changed (λ j u. IsTrueOf (v.seen ++ event ∷ []) (made_by_pass j (kept.makers ++ pass ∷ [])) u) views pass w
           (record {
             seen = whole (v.seen ++ event ∷ []);
             told = λ k d lt. begins_still v.seen (slice_index_or v.told k d) event (mine.told k d lt);
             owns = λ k d lt. nothing_since (slice_index_or v.owns k d) (v.seen ++ event ∷ []);
-            mine = ap (λ (l : List ℕ). l ++ length v.seen ∷ []) mine.mine ∙ ap (λ n. made_by pass kept.makers ++ n ∷ []) (sym number)
+            mine = ap (λ (l : List ℕ). l ++ length v.seen ∷ []) mine.mine ∙ ap (λ n. made_by_pass pass kept.makers ++ n ∷ []) (sym number)
                 ∙ sym (made_by_it pass kept.makers);
           })
           (λ j u other there. let old = true_of j u there in record {
@@ -118,4 +111,6 @@ event_kept depth replicas pass v event words words' views few kept at before may
           let c = owned_before views pass v w at refl p a replica pa ha in
           let e = owned_before views pass v w at refl q b replica qb hb in
           kept.one_owner p q c.0 e.0 replica c.1 e.1 c.2 e.2;
+      all_rights = omega (arith, rights_changed views pass v w at, kept.all_rights);
+      makers_right = idle_still views pass w (λ none. absurd (omega (arith, has_right event v own))) kept.makers_right;
     }

@@ -8,38 +8,38 @@ use mathlib.Core.Option.{some, some-ne-none}
 use lib.ListN.{get_elem?}
 use Rattle.atomic_table.proofs.Lists.{at_set}
 use Rattle.vs_types.specs.declared.depth.Depth.{Depth}
-use Rattle.nr_ring.specs.History.{Log, MayFollow, MayGoOn, after, after_all}
-use Rattle.nr_ring.specs.View.{StartsWith, IsElse, HasSeenAdvances, made_from, made_by}
-use Rattle.nr_ring.specs.declared.event.Event.{Event}
+use Rattle.nr_ring.specs.LogHistory.{Log, MayFollow, MayGoOn, log_after_event, log_after_events}
+use Rattle.nr_ring.specs.View.{StartsWith, IsElse, HasSeenAdvances, made_from, made_by_pass}
+use Rattle.nr_ring.specs.declared.log_event.LogEvent.{LogEvent}
 use Rattle.nr_ring.specs.declared.view.View.{View}
 
-pub goes_on_by : (depth : Depth) (log : Log) (events : List Event) (event : Event) → MayGoOn depth log events → MayFollow depth (after_all log events) event
+pub goes_on_by : (depth : Depth) (log : Log) (events : List LogEvent) (event : LogEvent) → MayGoOn depth log events → MayFollow depth (log_after_events log events) event
     → MayGoOn depth log (events ++ event ∷ [])
 goes_on_by depth log [] event may next = (next, tt)
-goes_on_by depth log (e ∷ es) event may next = (may.0, goes_on_by depth (after log e) es event may.1 next)
+goes_on_by depth log (e ∷ es) event may next = (may.0, goes_on_by depth (log_after_event log e) es event may.1 next)
 
-pub after_one_more : (log : Log) (events : List Event) (event : Event) → after_all log (events ++ event ∷ []) ≡ after (after_all log events) event
+pub after_one_more : (log : Log) (events : List LogEvent) (event : LogEvent) → log_after_events log (events ++ event ∷ []) ≡ log_after_event (log_after_events log events) event
 after_one_more log [] event = refl
-after_one_more log (e ∷ es) event = after_one_more (after log e) es event
+after_one_more log (e ∷ es) event = after_one_more (log_after_event log e) es event
 
-pub whole : (events : List Event) → StartsWith events events
+pub whole : (events : List LogEvent) → StartsWith events events
 whole events = ([], sym (append-nil events))
 
-pub nothing_since : (replica : ℕ) (events : List Event) → HasSeenAdvances replica events events
+pub nothing_since : (replica : ℕ) (events : List LogEvent) → HasSeenAdvances replica events events
 nothing_since replica events = ([], sym (append-nil events), λ k d lt. absurd (omega arith))
 
-pub begins_still : (events seen : List Event) (event : Event) → StartsWith events seen → StartsWith (events ++ event ∷ []) seen
-begins_still events seen event is = (is.0 ++ event ∷ [], ap (λ (l : List Event). l ++ event ∷ []) is.1 ∙ append_assoc seen is.0 (event ∷ []))
+pub begins_still : (events seen : List LogEvent) (event : LogEvent) → StartsWith events seen → StartsWith (events ++ event ∷ []) seen
+begins_still events seen event is = (is.0 ++ event ∷ [], ap (λ (l : List LogEvent). l ++ event ∷ []) is.1 ∙ append_assoc seen is.0 (event ∷ []))
 
-one_else : (replica : ℕ) (event : Event) → IsElse replica event → All (IsElse replica) (event ∷ [])
+one_else : (replica : ℕ) (event : LogEvent) → IsElse replica event → All (IsElse replica) (event ∷ [])
 one_else replica event is zero d lt = is
 one_else replica event is (suc k) d lt = absurd (omega arith)
 
-pub advances_still : (replica : ℕ) (events seen : List Event) (event : Event) → HasSeenAdvances replica events seen → IsElse replica event
+pub advances_still : (replica : ℕ) (events seen : List LogEvent) (event : LogEvent) → HasSeenAdvances replica events seen → IsElse replica event
     → HasSeenAdvances replica (events ++ event ∷ []) seen
 advances_still replica events seen event is no_advance = (
   is.0 ++ event ∷ [],
-  ap (λ (l : List Event). l ++ event ∷ []) is.1 ∙ append_assoc seen is.0 (event ∷ []),
+  ap (λ (l : List LogEvent). l ++ event ∷ []) is.1 ∙ append_assoc seen is.0 (event ∷ []),
   All-append (IsElse replica) is.0 (event ∷ []) is.2 (one_else replica event no_advance),
 )
 
@@ -62,16 +62,16 @@ made_on number pass maker (m ∷ ms) =
     first_and_rest number pass maker m ms (eqb m pass) refl
     (made_on (number + 1) pass maker ms ∙ ap (λ n. made_from (number + 1) pass ms ++ made_from n pass (maker ∷ [])) places)
 
-pub made_by_it : (pass : ℕ) (makers : List ℕ) → made_by pass (makers ++ pass ∷ []) ≡ made_by pass makers ++ length makers ∷ []
+pub made_by_it : (pass : ℕ) (makers : List ℕ) → made_by_pass pass (makers ++ pass ∷ []) ≡ made_by_pass pass makers ++ length makers ∷ []
 made_by_it pass makers =
     made_on 0 pass pass makers
-    ∙ ap (λ (l : List ℕ). made_by pass makers ++ l) (one_more_by (0 + length makers) pass pass true (eq-eqb pass pass refl) ∙ ap (λ n. n ∷ []) (omega arith))
+    ∙ ap (λ (l : List ℕ). made_by_pass pass makers ++ l) (one_more_by (0 + length makers) pass pass true (eq-eqb pass pass refl) ∙ ap (λ n. n ∷ []) (omega arith))
 
-pub made_by_another : (pass maker : ℕ) (makers : List ℕ) → maker ≢ pass → made_by pass (makers ++ maker ∷ []) ≡ made_by pass makers
+pub made_by_another : (pass maker : ℕ) (makers : List ℕ) → maker ≢ pass → made_by_pass pass (makers ++ maker ∷ []) ≡ made_by_pass pass makers
 made_by_another pass maker makers other =
     made_on 0 pass maker makers
-    ∙ ap (λ (l : List ℕ). made_by pass makers ++ l) (one_more_by (0 + length makers) pass maker false (ne_eqb maker pass other))
-    ∙ append-nil (made_by pass makers)
+    ∙ ap (λ (l : List ℕ). made_by_pass pass makers ++ l) (one_more_by (0 + length makers) pass maker false (ne_eqb maker pass other))
+    ∙ append-nil (made_by_pass pass makers)
 
 -- where a view is changed but owns the same, each owner was one before
 pub owned_before : (views : List View) (pass : ℕ) (v w : View) → get_elem? views pass ≡ some v → w.owns ≡ v.owns → (j : ℕ) (u : View) (replica : ℕ)
@@ -97,3 +97,13 @@ same_item (x ∷ xs) (suc k) a b lt = same_item xs k a b (omega arith)
 
 pub contains_item : (xs : List ℕ) (k d : ℕ) → k < length xs → Contains xs (get_or xs k d)
 contains_item xs k d lt = (k, lt, same_item xs k (get_or xs k d) d lt)
+
+-- what holds of the views holds still where one is changed to what is true
+pub views_changed : (P : ℕ → View → Type 0) (views : List View) (pass : ℕ) (w : View) → P pass w
+    → ((j : ℕ) (u : View) → j ≢ pass → get_elem? views j ≡ some u → P j u)
+    → (j : ℕ) (u : View) → get_elem? (set views pass w) j ≡ some u → P j u
+views_changed P views pass w here others j u there =
+    ⊎_elim
+    (λ (t : (j ≡ pass) × (w ≡ u)). let Q : View → Type 0 = λ z. P j z in let R : ℕ → Type 0 = λ i. P i w in subst Q t.1 (subst R (sym t.0) here))
+    (λ (t : (j ≢ pass) × (get_elem? views j ≡ some u)). others j u t.0 t.1)
+    (at_set views pass j w u there)

@@ -1,37 +1,38 @@
 -- What the calls on a log tell the pass that makes them.
-use Rattle.std.specs.Prelude.{◌≡◌, ◌≢◌, ℕ, ◌<◌, ◌≤◌, List, [], ◌∷◌, ◌++◌, All, Contains, length, nat_lt, if◌then◌else◌, ⊤}
+use Rattle.std.specs.Prelude.{◌≡◌, ◌≢◌, ℕ, ◌+◌, ◌<◌, ◌≤◌, List, [], ◌∷◌, ◌++◌, All, Contains, length}
 use Rattle.vs_types.specs.declared.depth.Depth.{Depth}
-use Rattle.nr_ring.specs.History.{IsHistory, local_of, log_after, tail}
+use Rattle.nr_ring.specs.LogHistory.{IsLogHistory, local_of, log_after, tail}
 use Rattle.nr_ring.specs.Words.{IsWordsOf}
 use Rattle.nr_ring.specs.View.{HasSeenAdvances, StartsWith}
-use Rattle.nr_ring.specs.declared.event.Event.{Event}
-use Rattle.nr_ring.specs.declared.event.Event.TheVariants.{Append, Advance}
+use Rattle.nr_ring.specs.declared.log_event.LogEvent.{LogEvent}
+use Rattle.nr_ring.specs.declared.log_event.LogEvent.TheVariants.{Append, Advance}
 use Rattle.nr_ring.specs.declared.view.View.{View}
 
 -- after a look: the pass has seen a history that begins with all that it had seen and was told; it made no event, and nobody advanced a
 -- replica that it owns
 pub record HasLooked (depth : Depth) (replicas : ℕ) (before after : View) : Type 0 where
-  pub is_history : IsHistory depth replicas after.seen
+  pub is_history : IsLogHistory depth replicas after.seen
   pub seen : StartsWith after.seen before.seen
   pub told : All (StartsWith after.seen) before.told
   pub advances : All (λ replica. HasSeenAdvances replica after.seen before.seen) before.owns
   pub told_stays : after.told ≡ before.told
   pub mine : after.mine ≡ before.mine
   pub owns : after.owns ≡ before.owns
+  pub rights : after.rights ≡ before.rights
 
 -- and the words that it found are those of the log after that history
 pub record Looks (depth : Depth) (replicas : ℕ) (words : List ℕ) (before after : View) : Type 0 where
   pub looked : HasLooked depth replicas before after
   pub words_are : IsWordsOf (log_after replicas after.seen) words
 
--- only the owner of a replica advances it
-abbrev pub MayMake : View → Event → Type 0
-MayMake view (Append batch) = ⊤
-MayMake view (Advance replica to) = Contains view.owns replica
+-- a pass that makes an event has a right to; and only the owner of a replica advances it
+abbrev pub MayMake : View → LogEvent → Type 0
+MayMake view (Append batch) = 1 ≤ view.rights
+MayMake view (Advance replica to) = (1 ≤ view.rights) × Contains view.owns replica
 
 -- the view of a pass that made an event when it had seen all
-abbrev pub with_event : View → Event → View
-with_event view event = record { seen = view.seen ++ event ∷ []; mine = view.mine ++ length view.seen ∷ []; owns = view.owns; told = view.told }
+abbrev pub with_event : View → LogEvent → View
+with_event view event = record { seen = view.seen ++ event ∷ []; mine = view.mine ++ length view.seen ∷ []; owns = view.owns; rights = view.rights; told = view.told }
 
 -- what a pass owns is cut in two, of which it keeps the first
 pub record IsCut (owned kept given : List ℕ) : Type 0 where
@@ -39,25 +40,29 @@ pub record IsCut (owned kept given : List ℕ) : Type 0 where
   pub given_of : (replica : ℕ) → Contains given replica → Contains owned replica
   pub apart : (replica : ℕ) → Contains kept replica → Contains given replica → ⊥
 
--- the view of the pass after that, and of the new pass: it has seen as much, and has made nothing
-abbrev pub keeping : View → List ℕ → View
-keeping view kept = record { seen = view.seen; mine = view.mine; owns = kept; told = view.told }
+-- and so are its rights, of which it keeps one at least where it has made events
+pub record AreCut (view : View) (kept given : ℕ) : Type 0 where
+  pub all : kept + given ≡ view.rights
+  pub of_makers : kept ≡ 0 → view.mine ≡ []
 
-abbrev pub copied : View → List ℕ → View
-copied view given = record { seen = view.seen; mine = []; owns = given; told = [] }
+-- the view of a pass that keeps these replicas and so many rights, and of the new pass: it has seen as much, and has made nothing
+abbrev pub keeping : View → List ℕ → ℕ → View
+keeping view kept rights = record { seen = view.seen; mine = view.mine; owns = kept; rights = rights; told = view.told }
 
--- the view of a pass that was joined by another: it has seen what the longer of the two had, and was told what both had
+abbrev pub offshoot : View → List ℕ → ℕ → View
+offshoot view given rights = record { seen = view.seen; mine = []; owns = given; rights = rights; told = [] }
+
+-- a copy of a pass has seen as much, and can make no event
+abbrev pub copy_of : View → View
+copy_of view = offshoot view [] 0
+
+-- the view of a pass that another was joined to: it was told what the other had seen, and has its rights. What it has seen itself stays
 abbrev pub joined : View → View → View
-joined view other = record {
-  seen = if nat_lt (length view.seen) (length other.seen) then other.seen else view.seen;
-  mine = view.mine;
-  owns = view.owns;
-  told = other.seen ∷ view.seen ∷ view.told;
-}
+joined view other = record { seen = view.seen; mine = view.mine; owns = view.owns; rights = view.rights + other.rights; told = other.seen ∷ view.told }
 
 -- the view of a pass that was joined away
 abbrev pub spent : View
-spent = record { seen = []; mine = []; owns = []; told = [] }
+spent = record { seen = []; mine = []; owns = []; rights = 0; told = [] }
 
 -- another pass's event has come: one that this pass had not seen before, and did not make
 abbrev pub HasMoved : View → View → Type 0
@@ -69,6 +74,10 @@ pub record MayTake (replicas : ℕ) (view : View) (to : ℕ) : Type 0 where
   pub owns : view.owns ≡ replica ∷ []
   pub above : local_of (log_after replicas view.seen) replica ≤ to
   pub written : to ≤ tail (log_after replicas view.seen)
+
+-- the place lies ahead of the local tail of the replica that a pass owns, as far as the pass has seen
+abbrev pub LiesAhead : ℕ → View → ℕ → Type 0
+LiesAhead replicas view to = (replica : ℕ) → view.owns ≡ replica ∷ [] → local_of (log_after replicas view.seen) replica < to
 
 -- it has made one advance of its replica to the place and has seen nothing else; where the local tail was there, nothing has changed
 pub record HasTaken (replicas : ℕ) (before : View) (to : ℕ) (after : View) : Type 0 where

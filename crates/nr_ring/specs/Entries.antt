@@ -2,10 +2,10 @@
 use Rattle.std.specs.Prelude.{◌≡◌, ℕ, List, drop}
 use Rattle.vs_types.specs.declared.depth.Depth.{Depth}
 use Rattle.vs_types.specs.declared.log_entry.LogEntry.{LogEntry}
-use Rattle.nr_ring.specs.History.{Log, AllKeepUp, HasRoom, IsEnded, IsFull, local_of, log_after, tail}
+use Rattle.nr_ring.specs.LogHistory.{Log, AllKeepUp, HasRoom, IsEnded, IsFull, local_of, log_after, tail}
 use Rattle.nr_ring.specs.Calls.{HasLooked, HasMoved, with_event}
 use Rattle.nr_ring.specs.Pass.{tails_of}
-use Rattle.nr_ring.specs.declared.event.Event.TheVariants.{Append}
+use Rattle.nr_ring.specs.declared.log_event.LogEvent.TheVariants.{Append}
 use Rattle.nr_ring.specs.declared.tails.AppendFault.{AppendFault}
 use Rattle.nr_ring.specs.declared.tails.AppendFault.TheVariants.{LogEnded, Full, Moved}
 use Rattle.nr_ring.specs.declared.view.View.{View}

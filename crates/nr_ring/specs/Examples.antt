@@ -3,8 +3,8 @@ use Rattle.std.specs.Prelude.{ℕ, ◌+◌, zero, suc, List, [], ◌∷◌, repl
 use Rattle.vs_types.specs.Examples.{map_all}
 use Rattle.vs_types.specs.declared.log_entry.LogEntry.{LogEntry}
 use Rattle.vs_types.specs.declared.page.Size.TheVariants.{K4}
-use Rattle.nr_ring.specs.declared.event.Event.{Event}
-use Rattle.nr_ring.specs.declared.event.Event.TheVariants.{Append, Advance}
+use Rattle.nr_ring.specs.declared.log_event.LogEvent.{LogEvent}
+use Rattle.nr_ring.specs.declared.log_event.LogEvent.TheVariants.{Append, Advance}
 
 -- call 0 maps a small page
 abbrev pub a_map : LogEntry
@@ -14,18 +14,18 @@ abbrev pub batch_of : ℕ → List LogEntry
 batch_of n = replicate n a_map
 
 -- two replicas: 16 entries are appended
-abbrev pub filled : List Event
+abbrev pub filled : List LogEvent
 filled = Append (batch_of 16) ∷ []
 
 -- then replica 0 takes them all
-abbrev pub half_freed : List Event
+abbrev pub half_freed : List LogEvent
 half_freed = Append (batch_of 16) ∷ Advance 0 16 ∷ []
 
 -- then replica 1 takes one
-abbrev pub freed : List Event
+abbrev pub freed : List LogEvent
 freed = Append (batch_of 16) ∷ Advance 0 16 ∷ Advance 1 1 ∷ []
 
 -- so many rounds of one replica from a place on, each an append of 16 entries and an advance past them
-unfoldable pub rounds : ℕ → ℕ → List Event
+unfoldable pub rounds : ℕ → ℕ → List LogEvent
 rounds zero place = []
 rounds (suc n) place = Append (batch_of 16) ∷ Advance 0 (place + 16) ∷ rounds n (place + 16)

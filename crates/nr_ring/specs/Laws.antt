@@ -2,7 +2,7 @@
 use Rattle.std.specs.Prelude.{◌≡◌, ℕ, ◌≤◌, ◌<◌, ◌+◌, List, ◌++◌, length}
 use Rattle.vs_types.specs.declared.limits.TheConstants.{LOG_PLACES}
 use Rattle.vs_types.specs.declared.log_entry.LogEntry.{LogEntry}
-use Rattle.nr_ring.specs.History.{Log, tail, local_of, completed}
+use Rattle.nr_ring.specs.LogHistory.{Log, tail, local_of, completed}
 
 -- the later log begins with the entries of the earlier one, and no tail has fallen
 pub record HasGoneOn (earlier later : Log) : Type 0 where

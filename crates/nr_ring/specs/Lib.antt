@@ -1,4 +1,4 @@
-pub mod History
+pub mod LogHistory
 pub mod Words
 pub mod View
 pub mod Rule

@@ -1,8 +1,8 @@
 -- What contracts see of a log and of its passes.
 use Rattle.std.specs.Prelude.{ℕ, List, [], ◌∷◌, ◌++◌, map, replicate}
 use Rattle.std.specs.List.{range_with_len}
-use Rattle.atomic_table.specs.Seated.{TableId}
-use Rattle.nr_ring.specs.History.{Log, tail, local_of, completed}
+pub use Rattle.atomic_table.specs.Seated.{TableId}
+use Rattle.nr_ring.specs.LogHistory.{Log, tail, local_of, completed}
 use Rattle.nr_ring.specs.declared.view.View.{View}
 use Rattle.nr_ring.specs.declared.tails.Tails.{Tails}
 
@@ -11,9 +11,9 @@ pub record Known : Type 0 where
   pub log : TableId
   pub view : View
 
--- a pass that has seen and made nothing, and owns these replicas
+-- a pass that has seen and made nothing, owns these replicas, and has one right to make events
 abbrev pub new_pass : TableId → List ℕ → Known
-new_pass log owns = record { log = log; view = record { seen = []; mine = []; owns = owns; told = [] } }
+new_pass log owns = record { log = log; view = record { seen = []; mine = []; owns = owns; rights = 1; told = [] } }
 
 -- the passes of a new log: one for each replica, which owns it, and others, which own none
 abbrev pub new_passes : TableId → ℕ → ℕ → List Known

@@ -2,7 +2,7 @@
 use Rattle.std.specs.Prelude.{◌≡◌, ◌⊎◌, ◌∷◌, replicate, ℕ, ◌+◌, ◌*◌, ◌%◌, ◌<◌, ◌≤◌, List, length, Some, slice_get, slice_index, slice_set, max}
 use Rattle.vs_types.specs.LogEntry.{log_words}
 use Rattle.vs_types.specs.declared.log_entry.LogEntry.{LogEntry}
-use Rattle.nr_ring.specs.History.{Log, tail, local_of, completed}
+use Rattle.nr_ring.specs.LogHistory.{Log, tail, local_of, completed}
 
 -- where the first of the two words of a place stands
 abbrev pub word_of : ℕ → ℕ

@@ -2,7 +2,7 @@
 ghost use Rattle.std.specs.Prelude.{◌≡◌, ◌<◌, ◌≤◌, ℕ, All, MatchResult, [], drop, length, slice_index};
 ghost use Rattle.vs_types.specs.LogEntry.{IsLogEntry};
 ghost use Rattle.vs_types.specs.declared.limits.TheConstants.{CALLS, LOG_PLACES};
-ghost use Rattle.nr_ring.specs.History.{AllKeepUp, HasRoom, Log};
+ghost use Rattle.nr_ring.specs.LogHistory.{AllKeepUp, HasRoom, Log};
 ghost use Rattle.nr_ring.specs.Words.{IsAppended, IsWordsOf};
 ghost use Rattle.nr_ring.specs.inside.Batch.{AreSmall, Bars, CanBeRead, Explains};
 

@@ -3,10 +3,10 @@ ghost use Rattle.std.specs.Prelude.{◌≡◌, ℕ, ◌<◌, ◌≤◌, ◌⊎�
 ghost use Rattle.vs_types.specs.LogEntry.{IsLogEntry};
 ghost use Rattle.vs_types.specs.declared.depth.Depth.{Depth};
 ghost use Rattle.vs_types.specs.declared.log_entry.LogEntry.{LogEntry};
-ghost use Rattle.nr_ring.specs.History.{Log, MayGoOn, MayAppend, IsHistory, IsEnded, IsFull, after_all, log_after, local_of, completed};
+ghost use Rattle.nr_ring.specs.LogHistory.{Log, MayGoOn, MayAppend, IsLogHistory, IsEnded, IsFull, log_after_events, log_after, local_of, completed};
 ghost use Rattle.nr_ring.specs.Laws.{HasGoneOn, HasSameTails, FitsTheRing};
 ghost use Rattle.nr_ring.specs.View.{HasSeenAdvances};
-ghost use Rattle.nr_ring.specs.declared.event.Event.{Event};
+ghost use Rattle.nr_ring.specs.declared.log_event.LogEvent.{LogEvent};
 
 pub use crate::cell_words::{
     advances_change_two_words, appends_keep_needed_entries, words_are_a_function_of_the_log,
@@ -18,23 +18,23 @@ pub use crate::steps::{
 
 /// Events only add entries at the end, and no tail falls.
 pub fn tails_never_fall()
-    ensures { (depth : Depth) (log : Log) (events : List Event) → MayGoOn depth log events → HasGoneOn log (after_all log events) }
+    ensures { (depth : Depth) (log : Log) (events : List LogEvent) → MayGoOn depth log events → HasGoneOn log (log_after_events log events) }
 {}
 
 /// Each event raises a tail, so that where the tails are as before nothing has happened.
 pub fn equal_tails_mean_no_event()
-    ensures { (depth : Depth) (log : Log) (events : List Event) → MayGoOn depth log events → HasSameTails (after_all log events) log → events ≡ [] }
+    ensures { (depth : Depth) (log : Log) (events : List LogEvent) → MayGoOn depth log events → HasSameTails (log_after_events log events) log → events ≡ [] }
 {}
 
 /// Where there was no advance of a replica, its local tail is as it was.
 pub fn local_tails_rise_by_advances()
-    ensures { (replicas replica : ℕ) (events seen : List Event) → HasSeenAdvances replica events seen
+    ensures { (replicas replica : ℕ) (events seen : List LogEvent) → HasSeenAdvances replica events seen
         → local_of (log_after replicas events) replica ≡ local_of (log_after replicas seen) replica }
 {}
 
 /// The entries that a replica has still to take are the last 16 at most.
 pub fn needed_entries_fit_the_ring()
-    ensures { (depth : Depth) (replicas : ℕ) (events : List Event) → IsHistory depth replicas events → FitsTheRing (log_after replicas events) }
+    ensures { (depth : Depth) (replicas : ℕ) (events : List LogEvent) → IsLogHistory depth replicas events → FitsTheRing (log_after replicas events) }
 {}
 
 /// The completed tail is the local tail of some replica, and no local tail is greater.

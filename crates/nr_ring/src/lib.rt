@@ -6,10 +6,10 @@
 
 mod batch;
 mod cell_words;
-mod event;
 pub mod examples;
 mod exchange_count;
 pub mod laws;
+mod log_event;
 mod name;
 mod pass;
 mod ring_log;
@@ -18,7 +18,7 @@ mod steps;
 mod tails;
 mod view;
 
-pub use event::Event;
+pub use log_event::LogEvent;
 pub use name::LogName;
 pub use pass::LogPass;
 pub use ring_log::RingLog;

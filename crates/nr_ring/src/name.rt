@@ -1,8 +1,8 @@
 //! What a log and its passes have in common.
 use std::marker::Brand;
 
-/// Names a log: its depth and the number of its replicas. A function over a log is generic in its name, and a caller picks
-/// the two for `Brand`.
+/// Names a log: its depth, the number of its replicas, and how many passes may make events. A function over a log is generic
+/// in its name, and a caller picks the three for `Brand`.
 pub trait LogName {
     ghost use Rattle.std.specs.Prelude.{ℕ};
     ghost use Rattle.vs_types.specs.declared.depth.Depth.{Depth};
@@ -10,6 +10,8 @@ pub trait LogName {
     ghost depth: { Depth };
 
     ghost replicas: { ℕ };
+
+    ghost passes: { ℕ };
 }
 
 impl LogName for Brand {
@@ -18,4 +20,6 @@ impl LogName for Brand {
     ghost depth = { Four };
 
     ghost replicas = { 1 };
+
+    ghost passes = { 1 };
 }

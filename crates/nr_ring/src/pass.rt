@@ -1,7 +1,7 @@
 //! A thread's pass to a log.
 ghost use Rattle.std.specs.Prelude.{◌≡◌};
 ghost use Rattle.crossbeam_utils.specs.Seq.{cell_view};
-ghost use Rattle.nr_ring.specs.History.{log_after};
+ghost use Rattle.nr_ring.specs.LogHistory.{log_after};
 ghost use Rattle.nr_ring.specs.Pass.{tails_of};
 ghost use Rattle.nr_ring.specs.inside.Held.{Remembers};
 

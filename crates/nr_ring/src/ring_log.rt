@@ -1,14 +1,14 @@
 //! The log: one cell of 39 words that its threads share, and how many exchanges of it there have been.
-ghost use Rattle.std.specs.Prelude.{◌≡◌, ◌≤◌, ◌-◌, ◌<◌, ℕ, All, Contains, IfErr, IfOk, OnErr, OnOk, [], ◌∷◌, length};
+ghost use Rattle.std.specs.Prelude.{◌≡◌, ◌≤◌, ◌+◌, ◌-◌, ◌<◌, ℕ, All, Contains, IfErr, IfOk, OnErr, OnOk, [], ◌∷◌, length};
 ghost use Rattle.std.specs.List.{range_with_len};
 ghost use Rattle.vs_types.specs.LogEntry.{IsLogEntry};
 ghost use Rattle.crossbeam_utils.specs.Seq.{cell_view, IsSamePass};
-ghost use Rattle.nr_ring.specs.Calls.{HasLooked, HasMoved, HasTaken, MayMake, MayTake, copied, joined, with_event};
-ghost use Rattle.nr_ring.specs.History.{IsHistory, MayAdvance, MayAppend, MayFollow, after, log_after};
-ghost use Rattle.nr_ring.specs.declared.event.Event.TheVariants.{Append, Advance};
+ghost use Rattle.nr_ring.specs.Calls.{HasLooked, HasMoved, HasTaken, LiesAhead, MayMake, MayTake, copy_of, joined, with_event};
+ghost use Rattle.nr_ring.specs.LogHistory.{IsLogHistory, MayAdvance, MayAppend, MayFollow, log_after_event, log_after};
+ghost use Rattle.nr_ring.specs.declared.log_event.LogEvent.TheVariants.{Append, Advance};
 ghost use Rattle.nr_ring.specs.Entries.{HasAppended, IsReason, to_take};
 ghost use Rattle.nr_ring.specs.Pass.{new_pass, new_passes, tails_of};
-ghost use Rattle.nr_ring.specs.View.{StartsWith};
+ghost use Rattle.nr_ring.specs.View.{HasSeenAdvances, StartsWith};
 ghost use Rattle.nr_ring.specs.Words.{IsWordsOf, new_words};
 ghost use Rattle.nr_ring.specs.inside.Held.{IsBelow, MadeOrMoved, left_from, new_view, owned, rest_of};
 
@@ -50,7 +50,7 @@ impl<J: LogName> Model for RingLog<J> {
 
 impl<J: LogName> RingLog<J> {
     /// A log without entries, of 1 to 4 replicas, and its passes: pass r owns replica r, and `others` further passes own none,
-    /// of which there may be 64. It takes all memory that the log ever needs.
+    /// of which there may be 64. Each has one of the rights to make events. It takes all memory that the log ever needs.
     pub fn new(
         alloc: Global,
         depth: Depth,
@@ -60,6 +60,7 @@ impl<J: LogName> RingLog<J> {
         requires depth { depth ≡ J.depth }
         requires replicas { (replicas ≡ J.replicas) × (1 ≤ replicas) × (replicas ≤ 4) }
         requires others { others ≤ 64 }
+        requires passes { J.passes ≡ replicas + others }
         ensures { IfOk result (λ made. made.1.items ≡ new_passes made.0 replicas others) }
     {
         let mut words = [0; 39];
@@ -84,17 +85,20 @@ impl<J: LogName> RingLog<J> {
         Ok((log, passes))
     }
 
-    /// Splits a pass off the first one, which gives it the first replica that it owns.
+    /// Splits a pass off the first one, which gives it the first replica that it owns and one of its rights.
     fn split_off(
         &self,
         first: &mut Pass<[u64; 39], View>,
         words: [u64; 39],
         replica: Option<u8>,
     ) -> LogPass<J>
-        requires first { (first.old.table_id ≡ self.now) × (cell_view first.old ≡ new_view (left_from J.replicas replica)) }
+        requires first { (first.old.table_id ≡ self.now)
+            × (cell_view first.old ≡ new_view (left_from J.replicas replica) (cell_view first.old).rights) }
+        requires right { 1 ≤ (cell_view first.old).rights }
         requires words { words ≡ new_words J.replicas }
         requires few { (J.replicas ≤ 4) × IsBelow J.replicas replica }
-        ensures first { IsSamePass first.old first.new × (cell_view first.new ≡ new_view (rest_of J.replicas replica)) }
+        ensures first { IsSamePass first.old first.new
+            × (cell_view first.new ≡ new_view (rest_of J.replicas replica) ((cell_view first.old).rights - 1)) }
         ensures pass { result ≡ new_pass self.now (owned replica) }
     {
         let pass = self.cell.split_pass::<FirstOwned>(first);
@@ -147,8 +151,9 @@ impl<J: LogName> RingLog<J> {
         ensures log { pass.new.log ≡ pass.old.log }
         ensures owns { pass.new.view.owns ≡ pass.old.view.owns }
         ensures taken { OnOk result (HasTaken J.replicas pass.old.view to pass.new.view) }
-        ensures moved { OnErr result (HasLooked J.depth J.replicas pass.old.view pass.new.view × HasMoved pass.old.view pass.new.view) }
-        ensures history { IsHistory J.depth J.replicas pass.new.view.seen }
+        ensures moved { OnErr result (HasLooked J.depth J.replicas pass.old.view pass.new.view × HasMoved pass.old.view pass.new.view
+            × LiesAhead J.replicas pass.old.view to) }
+        ensures history { IsLogHistory J.depth J.replicas pass.new.view.seen }
     {
         let Some(replica) = pass.replica else {
             unreachable!()
@@ -178,7 +183,7 @@ impl<J: LogName> RingLog<J> {
         requires may { (replica < 4) × MayAdvance (log_after J.replicas pass.old.view.seen) replica to × Contains pass.old.view.owns replica }
         ensures log { pass.new.log ≡ pass.old.log }
         ensures view { MadeOrMoved J.depth J.replicas E.event pass.old.view pass.new.view result }
-        ensures history { IsHistory J.depth J.replicas pass.new.view.seen }
+        ensures history { IsLogHistory J.depth J.replicas pass.new.view.seen }
     {
         let local = 2 + usize::from(replica);
         let place = u64::from(to);
@@ -207,7 +212,7 @@ impl<J: LogName> RingLog<J> {
         ensures appended { IfOk result (λ place. HasAppended J.depth J.replicas pass.old.view batch.now place pass.new.view) }
         ensures refused { IfErr result (λ fault. HasLooked J.depth J.replicas pass.old.view pass.new.view
             × IsReason (log_after J.replicas pass.new.view.seen) (length batch.now) pass.old.view pass.new.view fault) }
-        ensures history { IsHistory J.depth J.replicas pass.new.view.seen }
+        ensures history { IsLogHistory J.depth J.replicas pass.new.view.seen }
     {
         let count = batch.len() as u64;
         self.load(rt, pass);
@@ -230,7 +235,7 @@ impl<J: LogName> RingLog<J> {
         requires may { MayAppend J.depth (log_after J.replicas pass.old.view.seen) batch.now }
         ensures log { pass.new.log ≡ pass.old.log }
         ensures view { MadeOrMoved J.depth J.replicas E.event pass.old.view pass.new.view result }
-        ensures history { IsHistory J.depth J.replicas pass.new.view.seen }
+        ensures history { IsLogHistory J.depth J.replicas pass.new.view.seen }
     {
         let next = with_batch(&pass.words, batch);
         self.exchange::<E, R>(rt, pass, next)
@@ -271,10 +276,10 @@ impl<J: LogName> RingLog<J> {
     ) -> bool
         requires log { pass.old.log ≡ self.now }
         requires event { MayFollow J.depth (log_after J.replicas pass.old.view.seen) E.event × MayMake pass.old.view E.event }
-        requires next { IsWordsOf (after (log_after J.replicas pass.old.view.seen) E.event) next }
+        requires next { IsWordsOf (log_after_event (log_after J.replicas pass.old.view.seen) E.event) next }
         ensures log { pass.new.log ≡ pass.old.log }
         ensures view { MadeOrMoved J.depth J.replicas E.event pass.old.view pass.new.view result }
-        ensures history { IsHistory J.depth J.replicas pass.new.view.seen }
+        ensures history { IsLogHistory J.depth J.replicas pass.new.view.seen }
     {
         let words = pass.words;
         pass.mark = self.exchanges.begin(pass.mark);
@@ -294,7 +299,8 @@ impl<J: LogName> RingLog<J> {
         }
     }
 
-    /// Tells one pass what another has seen: what `told` has then seen begins with all that either had seen.
+    /// Tells one pass what another has seen: what `told` has then seen begins with all that either had seen, and nobody has
+    /// advanced the replica that it owns since it last saw the log itself.
     ///
     /// Waits for the cell.
     pub fn meet<R: Wait>(&self, rt: &R, pass: &mut LogPass<J>, told: &mut LogPass<J>)
@@ -302,25 +308,26 @@ impl<J: LogName> RingLog<J> {
         ensures pass { pass.new ≡ pass.old }
         ensures log { told.new.log ≡ told.old.log }
         ensures met { StartsWith told.new.view.seen pass.old.view.seen × StartsWith told.new.view.seen told.old.view.seen }
-        ensures looked { HasLooked J.depth J.replicas (joined told.old.view pass.old.view) told.new.view }
+        ensures advances { All (λ replica. HasSeenAdvances replica told.new.view.seen told.old.view.seen) told.old.view.owns }
+        ensures looked { HasLooked J.depth J.replicas (joined told.old.view (copy_of pass.old.view)) told.new.view }
     {
         let copy = self.copy(pass);
         self.join(rt, told, copy);
     }
 
-    /// A pass to the cell that has seen what this one has, and owns and has made nothing.
+    /// A pass to the cell that has seen what this one has, and can make no event.
     fn copy(&self, pass: &mut LogPass<J>) -> Pass<[u64; 39], View>
         requires { pass.old.log ≡ self.now }
         ensures pass { pass.new ≡ pass.old }
-        ensures copy { (result.table_id ≡ self.now) × (cell_view result ≡ copied pass.old.view []) × (result.me.1 ≡ []) }
+        ensures copy { (result.table_id ≡ self.now) × (cell_view result ≡ copy_of pass.old.view) × (result.me.1 ≡ []) }
     {
         self.cell.split_pass::<Copies>(&mut pass.pass)
     }
 
-    /// Joins a pass to the cell that has made nothing to one of the log, which then loads the cell.
+    /// Joins a pass to the cell that has made nothing and has no right to one of the log, which then loads the cell.
     fn join<R: Wait>(&self, rt: &R, pass: &mut LogPass<J>, copy: Pass<[u64; 39], View>)
         requires log { pass.old.log ≡ self.now }
-        requires copy { (copy.table_id ≡ self.now) × ((cell_view copy).mine ≡ []) × (copy.me.1 ≡ []) }
+        requires copy { (copy.table_id ≡ self.now) × ((cell_view copy).mine ≡ []) × ((cell_view copy).rights ≡ 0) × (copy.me.1 ≡ []) }
         ensures log { pass.new.log ≡ pass.old.log }
         ensures looked { HasLooked J.depth J.replicas (joined pass.old.view (cell_view copy)) pass.new.view }
     {

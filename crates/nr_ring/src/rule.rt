@@ -15,9 +15,9 @@ impl<J: LogName> Protocol<[u64; 39], View> for LogRule<J> {
     ghost use Rattle.nr_ring.specs.inside.Held.{new_view};
     ghost use Rattle.std.specs.List.{range_with_len};
 
-    ghost holds = { IsKept J.depth J.replicas };
+    ghost holds = { IsKept J.depth J.replicas J.passes };
 
-    ghost first = { new_view (range_with_len 0 J.replicas) };
+    ghost first = { new_view (range_with_len 0 J.replicas) J.passes };
 }
 
 /// A load of the cell.
@@ -33,13 +33,13 @@ impl<J: LogName> Outcome<[u64; 39], View> for Looking<J> {
 
 /// Names the event that an exchange makes.
 pub trait Happening {
-    ghost use Rattle.nr_ring.specs.declared.event.Event.{Event};
+    ghost use Rattle.nr_ring.specs.declared.log_event.LogEvent.{LogEvent};
 
-    ghost event: { Event };
+    ghost event: { LogEvent };
 }
 
 impl Happening for Brand {
-    ghost use Rattle.nr_ring.specs.declared.event.Event.TheVariants.{Advance};
+    ghost use Rattle.nr_ring.specs.declared.log_event.LogEvent.TheVariants.{Advance};
 
     ghost event = { Advance 0 0 };
 }
@@ -55,28 +55,27 @@ impl<J: LogName, E: Happening> Outcome<[u64; 39], View> for Exchanging<J, E> {
     ghost then = { λ before words words' after. Exchanges J.depth J.replicas E.event words words' before after };
 }
 
-/// The new pass takes the first replica that the other owns.
+/// The new pass takes the first replica that the other owns, and one right.
 pub struct FirstOwned;
 
 impl Split<View> for FirstOwned {
-    ghost use Rattle.std.specs.Prelude.{drop, take};
-    ghost use Rattle.nr_ring.specs.Calls.{copied, keeping};
+    ghost use Rattle.std.specs.Prelude.{◌-◌, drop, take};
+    ghost use Rattle.nr_ring.specs.Calls.{keeping, offshoot};
 
-    ghost left = { λ v. keeping v (drop 1 v.owns) };
+    ghost left = { λ v. keeping v (drop 1 v.owns) (v.rights - 1) };
 
-    ghost right = { λ v. copied v (take 1 v.owns) };
+    ghost right = { λ v. offshoot v (take 1 v.owns) 1 };
 }
 
-/// A copy of a pass owns nothing, so that it can be joined to another.
+/// A copy of a pass owns nothing and has no right, so that it makes no event and can be joined to another.
 pub struct Copies;
 
 impl Split<View> for Copies {
-    ghost use Rattle.std.specs.Prelude.{[]};
-    ghost use Rattle.nr_ring.specs.Calls.{copied, keeping};
+    ghost use Rattle.nr_ring.specs.Calls.{copy_of};
 
-    ghost left = { λ v. keeping v v.owns };
+    ghost left = { λ v. v };
 
-    ghost right = { λ v. copied v [] };
+    ghost right = { copy_of };
 }
 
 impl Join<View> for Copies {

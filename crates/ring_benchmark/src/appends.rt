@@ -1,5 +1,5 @@
 //! Appends: each thread owns a replica, appends entries, and takes all that there are.
-ghost use Rattle.std.specs.Prelude.{◌≡◌, ◌≤◌, ◌∷◌, ℕ, [], All, length};
+ghost use Rattle.std.specs.Prelude.{◌≡◌, ◌+◌, ◌≤◌, ◌∷◌, ℕ, [], All, length};
 ghost use Rattle.vs_types.specs.LogEntry.{IsLogEntry};
 ghost use Rattle.vs_types.specs.declared.depth.Depth.TheVariants.{Four};
 
@@ -46,6 +46,7 @@ pub fn append<J: LogName + Send + Sync, R: Threads + Wait + Clock + Sync>(
 ) -> Result<Appends, ProgFault>
     requires depth { J.depth ≡ Four }
     requires threads { (threads ≡ J.replicas) × (1 ≤ threads) × (threads ≤ 4) }
+    requires passes { J.passes ≡ threads + 1 }
     requires calls { calls ≤ 65536 }
 {
     let (log, mut passes) = RingLog::<J>::new(alloc, Depth::Four, threads, 1)?;

@@ -1,5 +1,5 @@
 //! Looks: each thread looks at a log to which nothing is appended meanwhile.
-ghost use Rattle.std.specs.Prelude.{◌≡◌, ◌≤◌};
+ghost use Rattle.std.specs.Prelude.{◌≡◌, ◌+◌, ◌≤◌};
 ghost use Rattle.vs_types.specs.declared.depth.Depth.TheVariants.{Four};
 
 use crate::entry::entry_of;
@@ -30,6 +30,7 @@ pub fn look<J: LogName + Send + Sync, R: Threads + Wait + Clock + Sync>(
 ) -> Result<Looks, ProgFault>
     requires depth { J.depth ≡ Four }
     requires threads { (threads ≡ J.replicas) × (1 ≤ threads) × (threads ≤ 4) }
+    requires passes { J.passes ≡ threads + 1 }
 {
     let (log, mut passes) = RingLog::<J>::new(alloc, Depth::Four, threads, 1)?;
     let Some(mut own) = passes.pop() else {

@@ -4,7 +4,7 @@ use Rattle.vs_types.specs.LogEntry.{IsLogEntry, log_words}
 use Rattle.vs_types.specs.declared.depth.Depth.{Depth}
 use Rattle.vs_types.specs.declared.limits.TheConstants.{LOG_PLACES}
 use Rattle.vs_types.specs.declared.log_entry.LogEntry.{LogEntry}
-use Rattle.nr_ring.specs.History.{Log, AllKeepUp, HasRoom, IsEnded, IsFull, tail}
+use Rattle.nr_ring.specs.LogHistory.{Log, AllKeepUp, HasRoom, IsEnded, IsFull, tail}
 use Rattle.nr_ring.specs.Pass.{tails_of}
 use Rattle.nr_ring.specs.Words.{word_of, IsWordsOf}
 use Rattle.nr_ring.specs.declared.tails.AppendFault.{AppendFault}

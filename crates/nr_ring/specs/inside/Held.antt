@@ -2,11 +2,11 @@
 use Rattle.std.specs.List.{range_with_len}
 use Rattle.std.specs.Prelude.{◌≡◌, ℕ, ◌+◌, ◌-◌, ◌<◌, ◌≤◌, Bool, MatchBool, List, [], ◌∷◌, All, Option, None, Some, length, slice_index}
 use Rattle.vs_types.specs.declared.depth.Depth.{Depth}
-use Rattle.nr_ring.specs.History.{IsHistory, log_after}
+use Rattle.nr_ring.specs.LogHistory.{IsLogHistory, log_after}
 use Rattle.nr_ring.specs.Words.{IsWordsOf}
 use Rattle.nr_ring.specs.View.{StartsWith}
 use Rattle.nr_ring.specs.Calls.{HasLooked, HasMoved, Looks, with_event}
-use Rattle.nr_ring.specs.declared.event.Event.{Event}
+use Rattle.nr_ring.specs.declared.log_event.LogEvent.{LogEvent}
 use Rattle.nr_ring.specs.declared.view.View.{View}
 use Rattle.nr_ring.specs.declared.tails.Tails.{Tails}
 
@@ -20,13 +20,14 @@ abbrev pub IsBelow : ℕ → Option ℕ → Type 0
 IsBelow replicas replica = (r : ℕ) → replica ≡ Some r → r < replicas
 
 -- the words are those of the log after all that the pass has seen, among which are the events that it made; it begins with all that it
--- was told
+-- was told; and the pass has one right to make events
 pub record Remembers (depth : Depth) (replicas : ℕ) (words : List ℕ) (replica : Option ℕ) (view : View) : Type 0 where
   pub few : replicas ≤ 4
-  pub is_history : IsHistory depth replicas view.seen
+  pub is_history : IsLogHistory depth replicas view.seen
   pub words_are : IsWordsOf (log_after replicas view.seen) words
   pub owns : view.owns ≡ owned replica
   pub owned_below : IsBelow replicas replica
+  pub rights : view.rights ≡ 1
   pub mine : All (λ number. number < length view.seen) view.mine
   pub told : All (StartsWith view.seen) view.told
 
@@ -39,8 +40,8 @@ tails_of_words words = record {
 }
 
 -- the view of a pass that has seen and made nothing
-abbrev pub new_view : List ℕ → View
-new_view owns = record { seen = []; mine = []; owns = owns; told = [] }
+abbrev pub new_view : List ℕ → ℕ → View
+new_view owns rights = record { seen = []; mine = []; owns = owns; rights = rights; told = [] }
 
 -- the replicas that the first pass still owns before it gives one away, and after that; none where it gives none
 abbrev pub left_from : ℕ → Option ℕ → List ℕ
@@ -52,11 +53,11 @@ rest_of replicas None = []
 rest_of replicas (Some replica) = range_with_len (replica + 1) (replicas - (replica + 1))
 
 -- what a try to make an event tells: the pass made it, or it looked and another pass's event has come
-abbrev pub MadeOrMoved : Depth → ℕ → Event → View → View → Bool → Type 0
+abbrev pub MadeOrMoved : Depth → ℕ → LogEvent → View → View → Bool → Type 0
 MadeOrMoved depth replicas event before after made =
     MatchBool made (after ≡ with_event before event) (HasLooked depth replicas before after × HasMoved before after)
 
 -- what an exchange of the words that a pass knows tells: where they were those of the cell, it made the event; else it looked
-pub record Exchanges (depth : Depth) (replicas : ℕ) (event : Event) (words words' : List ℕ) (before after : View) : Type 0 where
+pub record Exchanges (depth : Depth) (replicas : ℕ) (event : LogEvent) (words words' : List ℕ) (before after : View) : Type 0 where
   pub made : IsWordsOf (log_after replicas before.seen) words → after ≡ with_event before event
   pub failed : (IsWordsOf (log_after replicas before.seen) words → ⊥) → Looks depth replicas words' before after

@@ -1,6 +1,6 @@
 use Rattle.std.proofs.Common.{◌+◌, ◌<◌, ◌≤◌, List, [], ◌∷◌, ◌++◌, length, length-append, arith, ap, sym, refl, ◌∙◌}
 use Rattle.vs_types.specs.declared.log_entry.LogEntry.{LogEntry}
-use Rattle.nr_ring.specs.History.{tail}
+use Rattle.nr_ring.specs.LogHistory.{tail}
 use Rattle.nr_ring.proofs.Fetches.{found_at, spelled_at, take_one_more}
 use Rattle.nr_ring.proofs.SameWords.{item_of}
 use Rattle.nr_ring.proofs.batch.read_entries.Goals as goal

@@ -1,4 +1,4 @@
-use Rattle.nr_ring.specs.declared.event.Event.TheVariants.{Advance}
+use Rattle.nr_ring.specs.declared.log_event.LogEvent.TheVariants.{Advance}
 use Rattle.nr_ring.proofs.ring_log.RingLog.advance.Given as goal
 
 abbrev pub ghosts-try_advance : goal.ghosts-try_advance

@@ -1,15 +1,14 @@
 use Rattle.std.proofs.Common.{rules, ap, ◌∙◌, sym, subst, []}
 use Rattle.crossbeam_utils.specs.Seq.{cell_view}
-use Rattle.nr_ring.specs.Calls.{copied}
+use Rattle.nr_ring.specs.Calls.{copy_of}
 use Rattle.nr_ring.specs.declared.view.View.{View}
 use Rattle.nr_ring.specs.Pass.{Known}
 use Rattle.nr_ring.specs.inside.Held.{Remembers}
-use Rattle.nr_ring.proofs.Splits.{split_forks}
-use Rattle.nr_ring.proofs.Meets.{cut_nothing}
+use Rattle.nr_ring.proofs.Splits.{copy_forks}
 use Rattle.nr_ring.proofs.ring_log.RingLog.copy.Goals as goal
 
 pub split_pass-requires : goal.split_pass-requires
-split_pass-requires g c = (search rules, (search rules, (search rules, split_forks _ _ _ _ _ _ (cut_nothing (cell_view c.pass.inside.pass).owns))))
+split_pass-requires g c = (search rules, (search rules, (search rules, copy_forks _ _ _ _ _)))
 
 pub invariant_of-pass : goal.invariant_of-pass
 invariant_of-pass g c =
@@ -24,4 +23,4 @@ returns-clause-pass g c =
 pub returns-clause-copy : goal.returns-clause-copy
 returns-clause-copy g c =
     let given = c.split_pass.ensures.given in
-    (given.0 ∙ ap (λ (k : Known). k.log) c.pass.view_is ∙ c.requires, given.1 ∙ ap (λ (k : Known). copied k.view []) c.pass.view_is, given.2)
+    (given.0 ∙ ap (λ (k : Known). k.log) c.pass.view_is ∙ c.requires, given.1 ∙ ap (λ (k : Known). copy_of k.view) c.pass.view_is, given.2)

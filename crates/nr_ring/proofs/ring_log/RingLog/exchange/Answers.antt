@@ -1,7 +1,7 @@
 use Rattle.std.proofs.Common.{rules, ap, ◌∙◌, sym, subst}
 use Rattle.crossbeam_utils.specs.Seq.{cell_view}
 use Rattle.nr_ring.specs.Calls.{HasLooked, HasMoved, MayMake, with_event}
-use Rattle.nr_ring.specs.History.{MayFollow, after, log_after}
+use Rattle.nr_ring.specs.LogHistory.{MayFollow, log_after_event, log_after}
 use Rattle.nr_ring.specs.Pass.{Known}
 use Rattle.nr_ring.specs.Words.{IsWordsOf}
 use Rattle.nr_ring.specs.declared.view.View.{View}
@@ -17,14 +17,14 @@ compare_exchange_as-found-requires g c =
     let event = g.E.Happening.event in
     let back = sym (ap (λ (k : Known). k.view) c.pass.view_is) in
     let May : View → Type 0 = λ v. MayFollow depth (log_after replicas v.seen) event × MayMake v event in
-    let Next : View → Type 0 = λ v. IsWordsOf (after (log_after replicas v.seen) event) c.args.next in
+    let Next : View → Type 0 = λ v. IsWordsOf (log_after_event (log_after replicas v.seen) event) c.args.next in
     let may = subst May back c.requires.event in (
       search rules,
       (
         search rules,
         (
           search rules,
-          exchange_turns depth replicas _
+          exchange_turns depth replicas _ _
               (cell_view c.pass.inside.pass) event c.pass.inside.words c.args.next c.pass.invariant.few c.pass.invariant.words_are may.0 may.1
               (subst Next back c.requires.next),
         ),
@@ -39,7 +39,7 @@ invariant_of-pass g c =
     let view = cell_view c.pass.inside.pass in
     let back = sym (ap (λ (k : Known). k.view) c.pass.view_is) in
     let May : View → Type 0 = λ v. MayFollow depth (log_after replicas v.seen) event in
-    let Next : View → Type 0 = λ v. IsWordsOf (after (log_after replicas v.seen) event) c.args.next in
+    let Next : View → Type 0 = λ v. IsWordsOf (log_after_event (log_after replicas v.seen) event) c.args.next in
     let rule = c.in-Ok.ensures.rule in
     let made = exchanged depth replicas event _ c.pass.inside.words c.args.next c.pass.inside.replica view _ rule.0 c.pass.invariant rule.1 in
     let Is : View → Type 0 = λ w. Remembers depth replicas c.args.next c.pass.inside.replica w in

@@ -2,7 +2,7 @@ use Rattle.std.proofs.Common.{◌≡◌, ℕ, ◌+◌, drop, All, ap, sym, subst
 use Rattle.std.specs.Prelude.{slice_index}
 use Rattle.vs_types.specs.LogEntry.{IsLogEntry}
 use Rattle.vs_types.specs.declared.depth.Depth.{Depth}
-use Rattle.nr_ring.specs.History.{local_of, log_after}
+use Rattle.nr_ring.specs.LogHistory.{local_of, log_after}
 use Rattle.nr_ring.specs.Pass.{Known}
 use Rattle.nr_ring.specs.inside.Batch.{CanBeRead}
 use Rattle.nr_ring.proofs.Advances.{local_word, owner_remembers, same_replica}

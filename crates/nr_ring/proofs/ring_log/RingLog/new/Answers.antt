@@ -1,6 +1,8 @@
-use Rattle.std.proofs.Common.{rules, ℕ, List, map, refl, ap, ◌∙◌, sym, subst, arith, [], ◌∷◌, ◌++◌}
+use Rattle.std.proofs.Common.{rules, ◌≡◌, ℕ, ◌+◌, ◌-◌, List, map, refl, ap, ◌∙◌, sym, subst, arith, [], ◌∷◌, ◌++◌}
 use Rattle.std.specs.List.{range_with_len}
 use Rattle.std.proofs.lemmas.List.FromFn.{map-range_with_len_more}
+use Rattle.crossbeam_utils.specs.Seq.{cell_view}
+use Rattle.nr_ring.specs.declared.view.View.{View}
 use Rattle.nr_ring.specs.Pass.{Known, new_pass}
 use Rattle.nr_ring.specs.inside.Held.{new_view}
 use Rattle.nr_ring.specs.Rule.{IsKept}
@@ -11,11 +13,12 @@ use Rattle.nr_ring.proofs.ring_log.RingLog.new.Goals as goal
 pub ruled-requires : goal.ruled-requires
 ruled-requires g c =
     let replicas = g.J.LogName.replicas in
-    let P : ℕ → Type 0 = λ n. IsKept g.J.LogName.depth replicas (new_words n) (new_view (range_with_len 0 replicas) ∷ []) in (
+    let passes = g.J.LogName.passes in
+    let P : ℕ → Type 0 = λ n. IsKept g.J.LogName.depth replicas passes (new_words n) (new_view (range_with_len 0 replicas) passes ∷ []) in (
       search rules,
       (
         search rules,
-        subst P (sym (c.from.ensures ∙ c.requires.replicas.0)) (new_kept g.J.LogName.depth replicas (new_view (range_with_len 0 replicas)) refl refl refl),
+        subst P (sym (c.from.ensures ∙ c.requires.replicas.0)) (new_kept g.J.LogName.depth replicas (new_view (range_with_len 0 replicas) passes) refl refl refl),
       ),
     )
 
@@ -24,9 +27,11 @@ loop-replica-preserved g c =
     let before = c.loop-replica.invariant in
     let split = c.split_off-pass.ensures in
     let log = c.in_ok-cell.cell.table.shared.table_id in
+    let fewer : (cell_view c.loop-replica.first).rights - 1 ≡ g.J.LogName.passes - (c.loop-replica.replica + 1) =
+    omega (arith, ap (λ (v : View). v.rights) before.1) in
     let owners : ℕ → Known = λ r. new_pass log (r ∷ []) in (
       split.first.0.0 ∙ before.0,
-      split.first.1,
+      split.first.1 ∙ ap (new_view (range_with_len (c.loop-replica.replica + 1) (g.J.LogName.replicas - (c.loop-replica.replica + 1)))) fewer,
       c.in_ok-push.ensures.items
           ∙ ap (λ (passes : List Known). passes ++ c.split_off-pass.result ∷ []) before.2
           ∙ ap (λ (pass : Known). map owners (range_with_len 0 c.loop-replica.replica) ++ pass ∷ []) split.pass

@@ -1,6 +1,7 @@
-use Rattle.std.proofs.Common.{rules, ℕ, List, ap, ◌∙◌, sym, subst, drop, take}
+use Rattle.std.proofs.Common.{rules, ℕ, ◌-◌, List, ap, ◌∙◌, sym, subst, drop, take, arith}
+use Rattle.crossbeam_utils.specs.Seq.{cell_view}
 use Rattle.nr_ring.specs.declared.view.View.{View}
-use Rattle.nr_ring.specs.Calls.{IsCut, copied, keeping}
+use Rattle.nr_ring.specs.Calls.{AreCut, IsCut, keeping, offshoot}
 use Rattle.nr_ring.specs.inside.Held.{new_view, Remembers}
 use Rattle.nr_ring.specs.Words.{new_words}
 use Rattle.nr_ring.proofs.Splits.{split_forks}
@@ -10,19 +11,21 @@ use Rattle.nr_ring.proofs.ring_log.RingLog.split_off.Goals as goal
 pub split_pass-pass-requires : goal.split_pass-pass-requires
 split_pass-pass-requires g c =
     let replicas = g.J.LogName.replicas in
-    let P : View → Type 0 = λ v. IsCut v.owns (drop 1 v.owns) (take 1 v.owns) in (
+    let P : View → Type 0 = λ v. IsCut v.owns (drop 1 v.owns) (take 1 v.owns) in
+    let view = cell_view c.args.first.now in
+    let shares : AreCut view (view.rights - 1) 1 = record { all = omega (arith, c.requires.right); of_makers = λ _. ap (λ (v : View). v.mine) c.requires.first.1 } in (
       search rules,
       (
         search rules,
-        (c.requires.first.0 ∙ sym c.self.view_is, split_forks _ _ _ _ _ _ (subst P (sym c.requires.first.1) (cut_owned replicas c.args.replica))),
+        (c.requires.first.0 ∙ sym c.self.view_is, split_forks _ _ _ _ _ _ _ _ _ (subst P (sym c.requires.first.1) (cut_owned replicas c.args.replica)) shares),
       ),
     )
 
 pub new-requires : goal.new-requires
 new-requires g c =
     let replicas = g.J.LogName.replicas in
-    let view = c.split_pass-pass.ensures.given.1 ∙ ap (λ (v : View). copied v (take 1 v.owns)) c.requires.first.1
-    ∙ ap new_view (gives_first replicas c.args.replica c.requires.few.1) in
+    let view = c.split_pass-pass.ensures.given.1 ∙ ap (λ (v : View). offshoot v (take 1 v.owns) 1) c.requires.first.1
+    ∙ ap (λ owns. new_view owns 1) (gives_first replicas c.args.replica c.requires.few.1) in
     let P : View → Type 0 = λ v. Remembers g.J.LogName.depth replicas (new_words replicas) c.args.replica v in
     let Q : List ℕ → Type 0 = λ ws. Remembers g.J.LogName.depth replicas ws c.args.replica
     (Rattle.crossbeam_utils.specs.Seq.cell_view c.split_pass-pass.result) in
@@ -30,10 +33,11 @@ new-requires g c =
 
 pub returns-clause-first : goal.returns-clause-first
 returns-clause-first g c =
-    let replicas = g.J.LogName.replicas in (
+    let replicas = g.J.LogName.replicas in
+    let rights = (cell_view c.args.first.now).rights in (
       c.split_pass-pass.ensures.kept.0,
-      c.split_pass-pass.ensures.kept.1 ∙ ap (λ (v : View). keeping v (drop 1 v.owns)) c.requires.first.1
-          ∙ ap new_view (keeps_rest replicas c.args.replica c.requires.few.1),
+      c.split_pass-pass.ensures.kept.1 ∙ ap (λ (v : View). keeping v (drop 1 v.owns) (rights - 1)) c.requires.first.1
+          ∙ ap (λ owns. new_view owns (rights - 1)) (keeps_rest replicas c.args.replica c.requires.few.1),
     )
 
 pub returns-clause-pass : goal.returns-clause-pass
@@ -41,5 +45,5 @@ returns-clause-pass g c =
     let replicas = g.J.LogName.replicas in
     let given = c.split_pass-pass.ensures.given in
     let log = given.0 ∙ c.requires.first.0 in
-    let view = given.1 ∙ ap (λ (v : View). copied v (take 1 v.owns)) c.requires.first.1 ∙ ap new_view (gives_first replicas c.args.replica c.requires.few.1) in
+    let view = given.1 ∙ ap (λ (v : View). offshoot v (take 1 v.owns) 1) c.requires.first.1 ∙ ap (λ owns. new_view owns 1) (gives_first replicas c.args.replica c.requires.few.1) in
     λ i. record { log = (c.new.ensures.0 ∙ log) i; view = (c.new.ensures.1 ∙ view) i }

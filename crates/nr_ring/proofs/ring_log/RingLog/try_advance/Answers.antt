@@ -1,11 +1,11 @@
-use Rattle.std.proofs.Common.{◌≡◌, ℕ, ◌+◌, max, set, List, ap, ◌∙◌, sym, subst}
+use Rattle.std.proofs.Common.{◌≡◌, ℕ, ◌+◌, ◌≤◌, max, set, List, ap, ◌∙◌, sym, subst, arith}
 use Rattle.std.specs.Prelude.{slice_index}
 use Rattle.nr_ring.specs.Calls.{MayMake}
-use Rattle.nr_ring.specs.History.{MayFollow, after, log_after}
+use Rattle.nr_ring.specs.LogHistory.{MayFollow, log_after_event, log_after}
 use Rattle.nr_ring.specs.Pass.{Known}
 use Rattle.nr_ring.specs.Words.{IsWordsOf}
-use Rattle.nr_ring.specs.declared.event.Event.{Event}
-use Rattle.nr_ring.specs.declared.event.Event.TheVariants.{Advance}
+use Rattle.nr_ring.specs.declared.log_event.LogEvent.{LogEvent}
+use Rattle.nr_ring.specs.declared.log_event.LogEvent.TheVariants.{Advance}
 use Rattle.nr_ring.specs.declared.view.View.{View}
 use Rattle.nr_ring.proofs.CellWords.{advance_words}
 use Rattle.nr_ring.proofs.ring_log.RingLog.try_advance.Goals as goal
@@ -13,8 +13,9 @@ use Rattle.nr_ring.proofs.ring_log.RingLog.try_advance.Goals as goal
 pub exchange-requires-clause-event : goal.exchange-requires-clause-event
 exchange-requires-clause-event g c =
     let view = c.args.pass.now.view in
-    let P : Event → Type 0 = λ event. MayFollow g.J.LogName.depth (log_after g.J.LogName.replicas view.seen) event × MayMake view event in
-    subst P (sym c.requires.event) (c.requires.may.1, c.requires.may.2)
+    let P : LogEvent → Type 0 = λ event. MayFollow g.J.LogName.depth (log_after g.J.LogName.replicas view.seen) event × MayMake view event in
+    let right : 1 ≤ view.rights = omega (arith, ap (λ (k : Known). k.view.rights) c.pass.view_is, c.pass.invariant.rights) in
+    subst P (sym c.requires.event) (c.requires.may.1, (right, c.requires.may.2))
 
 pub exchange-requires-clause-next : goal.exchange-requires-clause-next
 exchange-requires-clause-next g c =
@@ -29,6 +30,6 @@ exchange-requires-clause-next g c =
     let before : List ℕ = set (set words 1 c.max.result) (2 + c.from-local.result) c.from-place.result in
     let next : before ≡ set (set words 1 (max (slice_index words 1) c.args.to)) (2 + c.args.replica) c.args.to =
     λ i. set (set words 1 (raised i)) (2 + local i) (place i) in
-    let Next : List ℕ → Type 0 = λ ws. IsWordsOf (after log (Advance c.args.replica c.args.to)) ws in
-    let After : Event → Type 0 = λ event. IsWordsOf (after log event) before in
+    let Next : List ℕ → Type 0 = λ ws. IsWordsOf (log_after_event log (Advance c.args.replica c.args.to)) ws in
+    let After : LogEvent → Type 0 = λ event. IsWordsOf (log_after_event log event) before in
     subst After (sym c.requires.event) (subst Next (sym next) advanced)

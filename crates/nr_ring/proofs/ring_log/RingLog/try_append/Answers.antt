@@ -1,8 +1,8 @@
 use Rattle.std.proofs.Common.{ap, sym, subst}
-use Rattle.nr_ring.specs.History.{after, log_after}
+use Rattle.nr_ring.specs.LogHistory.{log_after_event, log_after}
 use Rattle.nr_ring.specs.Pass.{Known}
 use Rattle.nr_ring.specs.Words.{IsWordsOf}
-use Rattle.nr_ring.specs.declared.event.Event.{Event}
+use Rattle.nr_ring.specs.declared.log_event.LogEvent.{LogEvent}
 use Rattle.nr_ring.specs.declared.view.View.{View}
 use Rattle.nr_ring.proofs.CellWords.{append_words}
 use Rattle.nr_ring.proofs.ring_log.RingLog.try_append.Goals as goal
@@ -13,6 +13,6 @@ exchange-requires-clause-next g c =
     let words = c.pass.inside.words in
     let Is : View → Type 0 = λ v. IsWordsOf (log_after g.J.LogName.replicas v.seen) words in
     let are = subst Is (ap (λ (k : Known). k.view) c.pass.view_is) c.pass.invariant.words_are in
-    let After : Event → Type 0 = λ event. IsWordsOf (after log event) c.with_batch-next.result in
+    let After : LogEvent → Type 0 = λ event. IsWordsOf (log_after_event log event) c.with_batch-next.result in
     subst After (sym c.requires.event)
     (append_words g.J.LogName.depth log c.args.batch.now words c.with_batch-next.result are c.requires.may (c.with_batch-next.ensures log are))

@@ -4,8 +4,8 @@ use Rattle.vs_types.specs.LogEntry.{IsLogEntry}
 use Rattle.vs_types.specs.declared.depth.Depth.{Depth}
 use Rattle.vs_types.specs.declared.limits.TheConstants.{LOG_PLACES}
 use Rattle.vs_types.specs.declared.log_entry.LogEntry.{LogEntry}
-use Rattle.nr_ring.specs.declared.event.Event.{Event}
-use Rattle.nr_ring.specs.declared.event.Event.TheVariants.{Append, Advance}
+use Rattle.nr_ring.specs.declared.log_event.LogEvent.{LogEvent}
+use Rattle.nr_ring.specs.declared.log_event.LogEvent.TheVariants.{Append, Advance}
 
 -- all entries since the start, and how many of them each replica has taken: its local tail
 pub record Log : Type 0 where
@@ -53,31 +53,31 @@ pub record MayAdvance (log : Log) (replica to : ℕ) : Type 0 where
   pub some : local_of log replica < to
   pub written : to ≤ tail log
 
-abbrev pub MayFollow : Depth → Log → Event → Type 0
+abbrev pub MayFollow : Depth → Log → LogEvent → Type 0
 MayFollow depth log (Append batch) = MayAppend depth log batch
 MayFollow depth log (Advance replica to) = MayAdvance log replica to
 
 -- the log after an event
-abbrev pub after : Log → Event → Log
-after log (Append batch) = record { entries = log.entries ++ batch; locals = log.locals }
-after log (Advance replica to) = record { entries = log.entries; locals = slice_set log.locals replica to }
+abbrev pub log_after_event : Log → LogEvent → Log
+log_after_event log (Append batch) = record { entries = log.entries ++ batch; locals = log.locals }
+log_after_event log (Advance replica to) = record { entries = log.entries; locals = slice_set log.locals replica to }
 
 -- the log after events
-abbrev pub after_all : Log → List Event → Log
-after_all log [] = log
-after_all log (event ∷ events) = after_all (after log event) events
+abbrev pub log_after_events : Log → List LogEvent → Log
+log_after_events log [] = log
+log_after_events log (event ∷ events) = log_after_events (log_after_event log event) events
 
 -- each event may follow those before it
-abbrev pub MayGoOn : Depth → Log → List Event → Type 0
+abbrev pub MayGoOn : Depth → Log → List LogEvent → Type 0
 MayGoOn depth log [] = ⊤
-MayGoOn depth log (event ∷ events) = MayFollow depth log event × MayGoOn depth (after log event) events
+MayGoOn depth log (event ∷ events) = MayFollow depth log event × MayGoOn depth (log_after_event log event) events
 
 -- a history of the log of so many replicas, and the log after it
-abbrev pub IsHistory : Depth → ℕ → List Event → Type 0
-IsHistory depth replicas events = MayGoOn depth (new_log replicas) events
+abbrev pub IsLogHistory : Depth → ℕ → List LogEvent → Type 0
+IsLogHistory depth replicas events = MayGoOn depth (new_log replicas) events
 
-abbrev pub log_after : ℕ → List Event → Log
-log_after replicas events = after_all (new_log replicas) events
+abbrev pub log_after : ℕ → List LogEvent → Log
+log_after replicas events = log_after_events (new_log replicas) events
 
 -- why a batch of so many entries is refused: the log would go past its end, or some replica has still to take an entry whose
 -- place in the ring the batch needs
