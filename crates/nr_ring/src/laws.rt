@@ -7,6 +7,7 @@ ghost use Rattle.nr_ring.specs.LogHistory.{Log, MayGoOn, MayAppend, IsLogHistory
 ghost use Rattle.nr_ring.specs.Laws.{HasGoneOn, HasSameTails, FitsTheRing};
 ghost use Rattle.nr_ring.specs.View.{HasSeenAdvances};
 ghost use Rattle.nr_ring.specs.declared.log_event.LogEvent.{LogEvent};
+ghost use Rattle.nr_ring.specs.declared.words.TheConstants.{RING};
 
 pub use crate::cell_words::{
     advances_change_two_words, appends_keep_needed_entries, words_are_a_function_of_the_log,
@@ -45,7 +46,7 @@ pub fn completed_is_a_local_tail()
 
 /// A batch of 1 to 16 entries at the log's depth may be appended, unless the log would end or is full.
 pub fn refused_for_a_reason()
-    ensures one { (depth : Depth) (log : Log) (batch : List LogEntry) → 1 ≤ length batch → length batch ≤ 16 → All (IsLogEntry depth) batch
+    ensures one { (depth : Depth) (log : Log) (batch : List LogEntry) → 1 ≤ length batch → length batch ≤ RING → All (IsLogEntry depth) batch
         → MayAppend depth log batch ⊎ (IsEnded log (length batch) ⊎ IsFull log (length batch)) }
     ensures ended { (depth : Depth) (log : Log) (batch : List LogEntry) → MayAppend depth log batch → IsEnded log (length batch) → ⊥ }
     ensures full { (depth : Depth) (log : Log) (batch : List LogEntry) → MayAppend depth log batch → IsFull log (length batch) → ⊥ }

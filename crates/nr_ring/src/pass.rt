@@ -8,6 +8,7 @@ ghost use Rattle.nr_ring.specs.inside.Held.{Remembers};
 use crate::name::LogName;
 use crate::tails::{Tails, tails_in};
 use crate::view::View;
+use crate::words::CELL_WORDS;
 use crossbeam_utils::atomic::seq_cell::Pass;
 use std::marker::{Model, PhantomData};
 
@@ -15,8 +16,8 @@ use std::marker::{Model, PhantomData};
 /// it owns, if any. Contracts see which log it is and what the pass knows of it.
 #[derive(Drop)]
 pub struct LogPass<J: LogName> {
-    pub(crate) pass: Pass<[u64; 39], View>,
-    pub(crate) words: [u64; 39],
+    pub(crate) pass: Pass<[u64; CELL_WORDS], View>,
+    pub(crate) words: [u64; CELL_WORDS],
     pub(crate) mark: Option<u64>,
     pub(crate) replica: Option<u8>,
     pub(crate) of: PhantomData<J>,
@@ -37,8 +38,8 @@ impl<J: LogName> Model for LogPass<J> {
 impl<J: LogName> LogPass<J> {
     /// A pass that saw these words when the log was new.
     pub(crate) fn new(
-        pass: Pass<[u64; 39], View>,
-        words: [u64; 39],
+        pass: Pass<[u64; CELL_WORDS], View>,
+        words: [u64; CELL_WORDS],
         replica: Option<u8>,
     ) -> LogPass<J>
         requires { Remembers J.depth J.replicas words replica (cell_view pass) }
