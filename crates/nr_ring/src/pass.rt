@@ -1,8 +1,9 @@
 //! A thread's pass to a log.
-ghost use Rattle.std.specs.Prelude.{◌≡◌};
+ghost use Rattle.std.specs.Prelude.{◌≡◌, ◌<◌, All};
 ghost use Rattle.crossbeam_utils.specs.Seq.{cell_view};
-ghost use Rattle.nr_ring.specs.LogHistory.{log_after};
+ghost use Rattle.nr_ring.specs.LogHistory.{IsLogHistory, log_after};
 ghost use Rattle.nr_ring.specs.Pass.{tails_of};
+ghost use Rattle.nr_ring.specs.View.{StartsWith};
 ghost use Rattle.nr_ring.specs.inside.Held.{Remembers};
 
 use crate::name::LogName;
@@ -59,5 +60,15 @@ impl<J: LogName> LogPass<J> {
         ensures { result ≡ tails_of (log_after J.replicas self.now.view.seen) }
     {
         tails_in(&self.words)
+    }
+    /// Does nothing: its clauses say what holds of every pass. What it has seen is a history, which begins with all that it was
+    /// told. Each replica that it owns is one of the log's, and it has one right to make events.
+    pub fn has_seen_a_history(&self)
+        ensures history { IsLogHistory J.depth J.replicas self.now.view.seen }
+        ensures told { All (StartsWith self.now.view.seen) self.now.view.told }
+        ensures owns { All (λ replica. replica < J.replicas) self.now.view.owns }
+        ensures rights { self.now.view.rights ≡ 1 }
+    {
+        let _known = &self.words;
     }
 }
