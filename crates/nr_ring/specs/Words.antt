@@ -1,5 +1,5 @@
 -- The words of the cell that the log is kept in, of which the last 32 are a ring of 16 entries.
-use Rattle.std.specs.Prelude.{◌≡◌, ◌⊎◌, ◌∷◌, replicate, ℕ, ◌+◌, ◌*◌, ◌%◌, ◌<◌, ◌≤◌, List, length, Some, slice_get, slice_index, slice_set, max}
+use Rattle.std.specs.Prelude.{◌≡◌, ◌⊎◌, replicate, ℕ, ◌+◌, ◌*◌, ◌%◌, ◌<◌, ◌≤◌, List, length, Some, slice_get, slice_index, slice_set, max}
 use Rattle.vs_types.specs.LogEntry.{log_words}
 use Rattle.vs_types.specs.declared.limits.TheConstants.{REPLICAS}
 use Rattle.vs_types.specs.declared.log_entry.LogEntry.{LogEntry}
