@@ -1,9 +1,11 @@
 #!/usr/bin/env python3
-"""Compares the words that a reader has to believe with docs/DEFINITIONS.md, which reads each of them aloud.
+"""Compares the words that a reader has to believe with docs/DEFINITIONS.md, which reads each of them aloud; and the public calls
+of the libraries and their premises with docs/PROMISES.md. Part 1 of DEFINITIONS.md has to have just the words of the headline.
 
 A word of the trust base is a definition of some specs/ folder that a clause of a public call cites, or that such a word
-cites; worked examples aside. In DEFINITIONS.md a word is read aloud where it stands in bold code: **`word`**. Prints each word
-that is missing on either side, and with --list the words by file, in brackets those that are not of the trust base.
+cites; worked examples aside. In DEFINITIONS.md a word is read aloud where it stands in bold code, **`word`**, under a heading that
+names its crate and file: so two words of one name are read aloud each. Prints each word that is missing on either side, and with
+--list the words by file, in brackets those that are not of the trust base.
 """
 import re
 import sys
@@ -98,9 +100,10 @@ def cited():
                     yield from scope.find(token)
 
 
-def trust_base():
+def trust_base(words=None):
+    """The words on which these rest, or else all public clauses; and each definition."""
     found, again = definitions()
-    base, ahead = set(), list(cited())
+    base, ahead = set(), list(cited() if words is None else words)
     while ahead:
         word = ahead.pop()
         word = again.get(word, word)
@@ -114,23 +117,115 @@ def trust_base():
     return base, found
 
 
+HEADLINE = ("nr_audit.Headline", "AreRightWith")
+MOST_LINES = 400
+
+
+def first_part():
+    """What is wrong with part 1 of DEFINITIONS.md: it has just the words on which the headline rests, on few lines."""
+    text = (ROOT / "docs/DEFINITIONS.md").read_text()
+    part = "## 1." + text.partition("\n## 1.")[2].partition("\n## ")[0]
+    lines = text.partition("\n## 2.")[0].count("\n")
+    base, _ = trust_base([HEADLINE])
+    told = read_aloud(part)
+    for place, name in sorted(base - {(place, name) for places, name in told for place in places}):
+        yield f"the headline rests on a word that part 1 lacks: {name} ({place})"
+    for places, name in told:
+        if not any((place, name) in base for place in places):
+            yield f"part 1 has a word on which the headline does not rest: {name}"
+    if lines > MOST_LINES:
+        yield f"part 1 ends after {lines} lines, of {MOST_LINES} at most"
+
+
+def public_calls():
+    """Each public function and method of the libraries, worked examples aside: its crate, its type or trait (or None), its name, and whether it has a premise."""
+    for library in sorted(ROOT.glob("crates/*/src/lib.rt")):
+        crate = library.parent.parent.name
+        if crate.endswith("_tests"):
+            continue
+        text = library.read_text()
+        exported = {name.split(" as ")[-1].strip() for group in re.findall(r"^pub use [\w:]+::(?:\{([^}]*)\}|\w+);", text, re.M)
+                    for name in group.split(",")}
+        exported |= set(re.findall(r"^pub use [\w:]+::(\w+);", text, re.M))
+        open_modules = set(re.findall(r"^pub mod (\w+);", text, re.M))
+        for file in sorted(library.parent.glob("**/*.rt")):
+            if file.stem not in ("tests", "examples"):
+                yield from calls_of(crate, file, exported, file.stem in open_modules)
+
+
+def calls_of(crate, file, exported, is_open):
+    owner, is_trait = None, False
+    text = file.read_text()
+    for item in re.finditer(r"^([ ]*)(pub(?:\(crate\))? |)(?:unsafe |const )*(fn|impl|trait|struct|enum)\b(?:<[^{>]*>)? ?([^\n]*)|^\}", text, re.M):
+        indent, visible, kind, rest = item[1], item[2], item[3], item[4]
+        if kind is None:
+            owner = None
+        elif kind in ("impl", "trait") and not indent:
+            inherent = " for " not in rest
+            owner = re.match(r"(\w+)", rest)[1] if inherent else ""
+            is_trait = kind == "trait" and visible == "pub "
+        elif kind == "fn" and (visible == "pub " or is_trait and owner and indent):
+            name = re.match(r"(\w+)", rest)[1]
+            if owner == "" or not (owner in exported if owner else name in exported or is_open):
+                continue
+            head = re.split(r"^\s*\{$|;$", text[item.start():], maxsplit=1, flags=re.M)[0]
+            yield crate, owner, name, re.search(r"^\s*requires\b", head, re.M) is not None
+
+
+def names(cell, owner, name):
+    """Whether the cell of a table names the call: `name` or `Owner::name`, and its type or trait somewhere in it."""
+    told = re.findall(r"`([\w:]+)`", cell)
+    if owner is None:
+        return name in told
+    return f"{owner}::{name}" in told or name in told and re.search(rf"`{owner}(::\w+)?`", cell) is not None
+
+
+def untold():
+    """The public calls that no line of PROMISES.md names, and the premises that its table lacks."""
+    text = (ROOT / "docs/PROMISES.md").read_text()
+    rows = [line for line in text.splitlines() if line.startswith("| ")]
+    premises = [line.split("|")[1] for line in text.partition("## Premises")[2].partition("\n## ")[0].splitlines() if line.startswith("| ")]
+    for crate, owner, name, has_premise in public_calls():
+        call = f"{owner}::{name}" if owner else name
+        if not any(names(row, owner, name) for row in rows):
+            yield f"no line of PROMISES.md names {call} of {crate}"
+        if has_premise and not any(names(row, owner, name) for row in premises):
+            yield f"the table of premises lacks {call} of {crate}"
+        if not has_premise and any(f"{owner}::{name}" in row if owner else names(row, owner, name) for row in premises):
+            yield f"the table of premises has {call} of {crate}, which has none"
+
+
+def read_aloud(text):
+    """The words in bold code, each with the places that the heading above it names: (`crate`: Module, Module; `crate`: Module)."""
+    told, places = [], []
+    for line in text.splitlines():
+        if line.startswith("#"):
+            named = re.search(r"\((`\w+`: [^)]*)\)", line)
+            parts = [part.strip().split(": ") for part in named[1].split(";")] if named else []
+            places = [f"{crate.strip('`')}.{module.strip()}" for crate, modules in parts for module in modules.split(",")]
+        told += [(places, name) for name in re.findall(r"\*\*`([^`]+)`\*\*", line)]
+    return told
+
+
 def main(words):
     base, found = trust_base()
     if "--list" in words:
         for place in sorted({place for place, _ in found}):
             names = sorted(name for at, name in found if at == place)
             print(f"{place}: {' '.join(name if (place, name) in base else f'({name})' for name in names)}")
-    told = re.findall(r"\*\*`([^`]+)`\*\*", (ROOT / "docs/DEFINITIONS.md").read_text())
     base = {(place, name) for place, name in base if not place.endswith(".Examples")}
-    names = {name for _, name in base}
-    missing = sorted(names - set(told))
-    for name in missing:
-        print(f"not read aloud: {name} ({', '.join(sorted(place for place, it in base if it == name))})")
-    others = sorted(set(told) - names)
-    for name in others:
-        print(f"read aloud, and no clause rests on it: {name}")
-    wrong = len(missing) + len(others)
-    print(f"{len(names) - len(missing)} passed, {wrong} failed")
+    told = read_aloud((ROOT / "docs/DEFINITIONS.md").read_text())
+    missing = sorted(base - {(place, name) for places, name in told for place in places})
+    for place, name in missing:
+        print(f"not read aloud under a heading of its place: {name} ({place})")
+    others = [(places, name) for places, name in told if not any((place, name) in base for place in places)]
+    for places, name in others:
+        print(f"read aloud, and no clause rests on it: {name} (of {', '.join(places)})")
+    lacking = [*first_part(), *untold()]
+    for line in lacking:
+        print(line)
+    wrong = len(missing) + len(others) + len(lacking)
+    print(f"{len(base) - len(missing)} passed, {wrong} failed")
     return 1 if wrong else 0
 
 

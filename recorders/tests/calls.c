@@ -60,7 +60,7 @@ struct guarded { unsigned char *all; size_t size; };
 static void *make_guarded(struct guarded *buffer, size_t size)
 {
 	free(buffer->all);
-	buffer->all = malloc(size + 2 * GUARD);
+	buffer->all = (unsigned char *)malloc(size + 2 * GUARD);
 	if (!buffer->all)
 		exit(2);
 	buffer->size = size;
@@ -80,7 +80,7 @@ struct writer { FILE *file; uint64_t left; };
 
 static int write_some(void *context, const uint8_t *bytes, uint32_t length)
 {
-	struct writer *writer = context;
+	struct writer *writer = (struct writer *)context;
 
 	if (length < 1 || length > 512 || length > writer->left)
 		return 1;
@@ -93,14 +93,18 @@ static struct guarded events, places, frames;
 
 static nrvs_status begin(const uint64_t *n)
 {
-	nrvs_config config = {
-		.levels = (uint8_t)n[0], .replicas = (uint8_t)n[1], .threads = (uint16_t)n[2], .tables = (uint16_t)n[3],
-		.event_room = (uint32_t)n[4], .log_room = (uint32_t)n[5], .frame_room = (uint32_t)n[6],
-	};
+	nrvs_config config;
 
-	config.events = make_guarded(&events, 24 * (size_t)n[4]);
-	config.log = make_guarded(&places, sizeof(nrvs_atomic) * (size_t)n[5]);
-	config.frames = make_guarded(&frames, sizeof(nrvs_frame) * (size_t)n[6]);
+	config.levels = (uint8_t)n[0];
+	config.replicas = (uint8_t)n[1];
+	config.threads = (uint16_t)n[2];
+	config.tables = (uint16_t)n[3];
+	config.event_room = (uint32_t)n[4];
+	config.log_room = (uint32_t)n[5];
+	config.frame_room = (uint32_t)n[6];
+	config.events = (uint64_t (*)[3])make_guarded(&events, 24 * (size_t)n[4]);
+	config.log = (nrvs_atomic *)make_guarded(&places, sizeof(nrvs_atomic) * (size_t)n[5]);
+	config.frames = (nrvs_frame *)make_guarded(&frames, sizeof(nrvs_frame) * (size_t)n[6]);
 	return nrvs_begin(&trace, &config);
 }
 

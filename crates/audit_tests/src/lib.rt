@@ -13,6 +13,8 @@ mod dump_cases;
 #[cfg(test)]
 mod flush;
 #[cfg(test)]
+mod large;
+#[cfg(test)]
 mod pieces;
 #[cfg(test)]
 mod recorded;

@@ -1,17 +1,32 @@
 ghost use Rattle.std.specs.Prelude.{◌≡◌, ◌∷◌, [], false, IfOk, IfErr, MatchResult, map, string_bytes};
 ghost use Rattle.clap.specs.Words.{app_of, fault_of, kind_of, subcommand_of, HasKind};
-ghost use Rattle.nrvs.specs.CommandLine.{command_line, Asks};
+ghost use Rattle.nrvs.specs.CommandLine.{command_line, kinds_of_no_words, Asks};
 
 use clap::error::ErrorKind;
 use clap::{Arg, Error, value_parser};
 use nr_engines::Command;
 use std::alloc::{AllocError, Global};
-use std::env;
+use std::{env, io};
+
+/// The version that `--version` prints.
+const VERSION: &str = "0.1.0";
+
+/// Why the program doesn't know its own words.
+#[derive(Debug, Drop)]
+pub enum NoWords {
+    /// There was no memory for them.
+    Memory,
+    /// One of them is no text in UTF-8.
+    NotText,
+}
 
 /// The program's own words, the first of which is its name.
-pub fn program_words(rt: &HostRuntime) -> Result<Vec<String>, AllocError> {
-    let words = env::args(rt).map_err(|_| AllocError)?;
-    words.collect(rt.alloc())
+pub fn program_words(rt: &HostRuntime) -> Result<Vec<String>, NoWords> {
+    match env::args(rt) {
+        Ok(words) => words.collect(rt.alloc()).map_err(|_| NoWords::Memory),
+        Err(error) if error.kind() == io::ErrorKind::InvalidData => Err(NoWords::NotText),
+        Err(_) => Err(NoWords::Memory),
+    }
 }
 
 fn command_line<'a>(alloc: Global) -> Result<clap::Command<'a>, AllocError>
@@ -35,6 +50,7 @@ fn command_line<'a>(alloc: Global) -> Result<clap::Command<'a>, AllocError>
         .arg(replica)?;
     clap::Command::new(alloc, "nrvs")
         .about("Checks recorded runs of replicated address spaces")
+        .version(VERSION)
         .subcommand_required(true)
         .disable_help_subcommand(true)
         .subcommand(audit)?
@@ -60,20 +76,24 @@ fn read_words<'a>(alloc: Global, words: &'a [String]) -> Result<Command<'a>, Err
     }
 }
 
-/// The same, where there was memory for the words.
+/// The same, where the words are known.
 pub fn read_program_words<'a>(
     alloc: Global,
-    words: &'a Result<Vec<String>, AllocError>,
+    words: &'a Result<Vec<String>, NoWords>,
 ) -> Result<Command<'a>, Error>
     ensures asks { IfOk words.entry.now (λ given. IfOk result (Asks (subcommand_of command_line (map (λ word. string_bytes word) given.items)))) }
     ensures faultless { IfOk words.entry.now (λ given. IfOk result (λ _. fault_of command_line (map (λ word. string_bytes word) given.items) ≡ [])) }
     ensures fault { IfOk words.entry.now
         (λ given. IfErr result
         (HasKind (ErrorKind.MissingSubcommand ∷ fault_of command_line (map (λ word. string_bytes word) given.items)))) }
-    ensures memory { IfErr words.entry.now (λ _. MatchResult result (λ _. ⊥) (λ error. kind_of error ≡ ErrorKind.OutOfMemory)) }
+    ensures no_words { IfErr words.entry.now (λ why. MatchResult result (λ _. ⊥) (HasKind (kinds_of_no_words why))) }
 {
     match words {
         Ok(words) => read_words(alloc, words.as_slice()),
-        Err(AllocError) => Err(Error::from(AllocError)),
+        Err(NoWords::Memory) => Err(Error::from(AllocError)),
+        Err(NoWords::NotText) => {
+            let mut line = command_line(alloc)?;
+            Err(line.error(ErrorKind::ValueValidation, "a word is not UTF-8")?)
+        }
     }
 }

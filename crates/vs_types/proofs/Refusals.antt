@@ -1,6 +1,7 @@
 -- What the answers say that leave a space as it was.
 use Rattle.std.proofs.Common.{◌≡◌, ◌≢◌, ℕ, ◌<◌, ◌≤◌, min, List, [], ◌∷◌, map, filter, Some, None, option_map, Contains, ◌↔◌, ⊎_elim, refl, sym, ap, ◌∙◌, subst}
 use Rattle.std.proofs.Common.{arith, leb-false}
+use Rattle.std.specs.FinMap as finite
 use Rattle.std.proofs.lemmas.Bool.{cases_eq}
 use Rattle.vs_types.specs.declared.depth.Depth.{Depth}
 use Rattle.vs_types.specs.declared.page.Page.{Page}
@@ -9,7 +10,7 @@ use Rattle.vs_types.specs.declared.op.Action.TheVariants.{Map, Unmap, Protect}
 use Rattle.vs_types.specs.declared.answer.Answer.TheVariants.{Overlap, Full, NotMapped, Inside}
 use Rattle.vs_types.specs.Laws.{as_in, IsLeastOverlapped, IsInside}
 use Rattle.vs_types.specs.Page.{overlaps}
-use Rattle.vs_types.specs.Space.{Space, pages, IsSpace, page_at, least, least_overlapped}
+use Rattle.vs_types.specs.Space.{Space, pages, IsSpace, page_at, least, least_overlapped, table_count}
 use Rattle.vs_types.specs.Step.{step, look}
 use Rattle.vs_types.proofs.Lists.{Contains-head, Contains-tail, Contains-cases, not_in_nil, kept_from, kept_to}
 use Rattle.vs_types.proofs.Pages.{covers_means}
@@ -59,12 +60,14 @@ overlap_says {depth} limit {space} is page base =
     (λ least e answer. let same : least ≡ base = cc in least_overlapped_is is page base (e ∙ ap Some same))
     (λ e t answer. cc)
 
-pub full_says : (depth : Depth) (limit : ℕ) (space : Space) (page : Page) (need : ℕ) → (step depth limit space (Map page)).answer ≡ Full need → limit < need
+pub full_says : (depth : Depth) (limit : ℕ) (space : Space) (page : Page) (need : ℕ) → (step depth limit space (Map page)).answer ≡ Full need
+    → (need ≡ table_count depth (finite.insert space page.base page)) × (limit < need)
 full_says depth limit space page need =
-    map_cases (λ s. s.answer ≡ Full need → limit < need) depth limit space page
+    map_cases (λ s. s.answer ≡ Full need → (need ≡ table_count depth (finite.insert space page.base page)) × (limit < need)) depth limit space page
     (λ e t answer. cc)
     (λ least e answer. cc)
-    (λ e t answer. let above = leb-false _ limit t in subst (λ n. limit < n) (cc) above)
+    (λ e t answer. let above = leb-false _ limit t in
+    let same : table_count depth (finite.insert space page.base page) ≡ need = cc in (sym same, subst (λ n. limit < n) same above))
 
 -- a page that covers an address but begins elsewhere begins below
 inside : {depth : Depth} {space : Space} → IsSpace depth space → (at base : ℕ) (page : Page) → page_at space at ≡ Some page → page.base ≢ at

@@ -1,6 +1,7 @@
 //! Laws of the definitions in `specs/`. Each function does nothing: its clauses say what holds of every space, page,
 //! operation and limit.
 ghost use Rattle.std.specs.Prelude.{◌≡◌, ℕ, Bool, ◌+◌, ◌<◌, ◌≤◌, ◌↔◌, Contains, IsTrue, IsFalse, List, slice_get, Some, None};
+ghost use Rattle.std.specs.FinMap as finite;
 ghost use Rattle.vs_types.specs.declared.access.Access.{Access};
 ghost use Rattle.vs_types.specs.declared.access.Mode.{Mode};
 ghost use Rattle.vs_types.specs.declared.depth.Depth.{Depth};
@@ -109,14 +110,14 @@ pub fn other_answers_leave_the_space()
         → (step depth limit space action).space ≡ space }
 {}
 
-/// What the other answers of an operation say: `Overlap` names the least base of a page that is overlapped, `Full` more
-/// tables than the limit, `Inside` the base of a page that has the address and begins below it; and `NotMapped` is the
+/// What the other answers of an operation say: `Overlap` names the least base of a page that is overlapped, `Full` the
+/// tables of the space with the page, which are more than the limit, `Inside` the base of a page that has the address and begins below it; and `NotMapped` is the
 /// answer exactly where the address is not mapped.
 pub fn refusals_say_why()
     ensures overlap { (depth : Depth) (limit : ℕ) (space : Space) (page : Page) (base : ℕ) → IsSpace depth space
         → (step depth limit space (Action.Map page)).answer ≡ Answer.Overlap base → IsLeastOverlapped space page base }
     ensures full { (depth : Depth) (limit : ℕ) (space : Space) (page : Page) (need : ℕ)
-        → (step depth limit space (Action.Map page)).answer ≡ Answer.Full need → limit < need }
+        → (step depth limit space (Action.Map page)).answer ≡ Answer.Full need → (need ≡ table_count depth (finite.insert space page.base page)) × (limit < need) }
     ensures unmap_inside { (depth : Depth) (limit : ℕ) (space : Space) (address base : ℕ) → IsSpace depth space
         → (step depth limit space (Action.Unmap address)).answer ≡ Answer.Inside base → IsInside space address base }
     ensures protect_inside { (depth : Depth) (limit : ℕ) (space : Space) (address base : ℕ) (rights : Rights) → IsSpace depth space

@@ -107,10 +107,13 @@ impl Feed {
         }
     }
 
-    /// Takes the next piece. It refuses with the first fault of the bytes so far, as soon as these hold one that no
-    /// later piece can mend; and with out of memory. A feed that has refused answers the same from then on. It takes
-    /// memory for what the whole units say, 4,096 bytes for the words of a dump's next frame, and for the beginning of
-    /// one unit, fewer than 24 bytes.
+    /// Takes the next piece. A feed that has refused answers the same from then on. It takes memory for what the whole
+    /// units say, 4,096 bytes for the words of a dump's next frame, and for the beginning of one unit, fewer than 24 bytes.
+    ///
+    /// # Errors
+    ///
+    /// The first fault of the bytes so far, as soon as a whole unit has one, or a byte stands after the last unit: no later
+    /// piece can mend it. A unit that has only begun is not looked into. And `Memory` where a growth of memory was refused.
     pub fn feed(&mut self, piece: &[u8]) -> Result<(), Fail<Format>>
         ensures { Feeds self.old piece.now self.new result }
     {
@@ -131,8 +134,11 @@ impl Feed {
         }
     }
 
-    /// The trace that the pieces spell one after the other, or what `feed` has answered, or `Truncated`. It takes no
-    /// memory.
+    /// The trace that the pieces spell one after the other. It takes no memory.
+    ///
+    /// # Errors
+    ///
+    /// What `feed` has refused with, or `Truncated`.
     pub fn end(self) -> Result<Trace, Fail<Format>>
         ensures { Ends self result }
     {

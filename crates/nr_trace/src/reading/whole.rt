@@ -12,8 +12,11 @@ use crate::trace::Trace;
 use std::alloc::Global;
 use vs_types::Fail;
 
-/// The trace that the bytes spell, or the first fault in byte order that keeps them from spelling one. It takes memory
-/// for the trace, at most about the length of the bytes, and refuses with out of memory where that is refused.
+/// The trace that the bytes spell. It takes memory for the trace, at most about the length of the bytes.
+///
+/// # Errors
+///
+/// The first fault in byte order that keeps the bytes from spelling a trace, or `Memory` where a growth of memory was refused.
 pub fn read(alloc: Global, bytes: &[u8]) -> Result<Trace, Fail<Format>>
     // What is read is spelled so.
     ensures spelled { IfOk result (λ trace. Spells bytes.now trace) }

@@ -11,6 +11,9 @@ use Rattle.clap.specs.declared.builder.value_parser.ValueParser.TheVariants as p
 use Rattle.nrvs.specs.CommandLine.{address_option, replica_option, audit_app, resolve_app, program_app}
 use Rattle.nrvs.proofs.words.command_line.Goals as goal
 
+abbrev versioned : App → App
+versioned a = record a { top = record a.top { has_version = true } }
+
 abbrev needs : App → App
 needs a = record a { top = record a.top { subcommand_required = true } }
 
@@ -44,7 +47,7 @@ returns c =
     let one_local = c.in_ok-arg.ensures.globals ∙ ap₂ (λ (a b : Bool). a || b) plain_local address_local in
     let resolve_local = c.in_ok-resolve.ensures.globals ∙ ap₂ (λ (a b : Bool). a || b) one_local replica_local in
     let program_is : app_of c.disable_help_subcommand.result ≡ program_app = ap app_of_fields c.disable_help_subcommand.ensures
-    ∙ ap no_help (ap app_of_fields c.subcommand_required.ensures ∙ ap needs (ap app_of_fields c.about-2.ensures ∙ c.new-5.ensures.app)) in
+    ∙ ap no_help (ap app_of_fields c.subcommand_required.ensures ∙ ap needs (ap app_of_fields c.version.ensures ∙ ap versioned (ap app_of_fields c.about-2.ensures ∙ c.new-5.ensures.app))) in
     let one_is = c.in_ok-subcommand.ensures.shape audit_local ∙ ap₂ with_subcommand program_is (ap (λ (a : App). a.top) audit_is) in
     record {
       app = IfOk-weaker c.subcommand-2.result _ _ (λ command h. h.shape resolve_local

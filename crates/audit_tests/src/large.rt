@@ -1,0 +1,133 @@
+//! One trace of 19 MB through each call that reads, judges, gathers or writes: five levels, version 2, thousands of empty tables.
+
+use nr_audit::{Verdict, audit, judge};
+use nr_trace::{Feed, Fault, Format, Trace, read, write};
+use std::alloc::{AllocError, Global};
+use std::test::Fail;
+use vs_types::Depth;
+use vs_walk::{Dump, leaves};
+
+const UPDATES: u32 = 20_000;
+const READS: u32 = 10_000;
+/// The root, 8 tables below it, and 510 below each of these.
+const FRAMES: u32 = 4_089;
+
+/// A frame of which the first words lead to tables that come one after another.
+fn push_frame(
+    bytes: &mut Vec<u8>,
+    number: u32,
+    first: u32,
+    tables: u64,
+) -> Result<(), AllocError> {
+    bytes.extend_from_slice(&(number as u64).to_be_bytes())?;
+    for k in 0..512u64 {
+        let word = if k < tables { (first as u64 + k) * 4096 + 7 } else { 0 };
+        bytes.extend_from_slice(&word.to_be_bytes())?;
+    }
+    Ok(())
+}
+
+fn push_dump(bytes: &mut Vec<u8>, frames: u32) -> Result<(), AllocError> {
+    bytes.extend_from_slice(&UPDATES.to_be_bytes())?;
+    bytes.extend_from_slice(&frames.to_be_bytes())?;
+    bytes.extend_from_slice(&1u64.to_be_bytes())?;
+    push_frame(bytes, 1, 2, if frames == 1 { 0 } else { 8 })?;
+    if frames > 1 {
+        for table in 0..8u32 {
+            push_frame(bytes, 2 + table, 10 + 510 * table, 510)?;
+        }
+        for number in 10..=frames {
+            push_frame(bytes, number, 0, 0)?;
+        }
+    }
+    Ok(())
+}
+
+/// An unmap or a resolve of an address that is not mapped, and its answer.
+fn push_call(bytes: &mut Vec<u8>, index: u32, is_update: bool) -> Result<(), AllocError> {
+    let thread = (index % 64) as u8;
+    let kind = if is_update { 1 } else { 3 };
+    let address = index as u64 * 4096;
+    bytes.extend_from_slice(&[0, thread % 2, 0, thread, kind, 0, 0, 0])?;
+    bytes.extend_from_slice(&address.to_be_bytes())?;
+    bytes.extend_from_slice(&[0; 8])?;
+    let at = if is_update { index } else { UPDATES };
+    bytes.extend_from_slice(&[1, 4, 0, 0])?;
+    bytes.extend_from_slice(&(index as u64 * 2).to_be_bytes()[4..])?;
+    bytes.extend_from_slice(&at.to_be_bytes())?;
+    bytes.extend_from_slice(&[0; 12])
+}
+
+fn large_trace(alloc: Global) -> Result<Vec<u8>, AllocError> {
+    let mut bytes = vec![in alloc; 0x4e, 0x52, 0x56, 0x54, 0, 2, 5, 2, 0, 64, 16, 0]?;
+    bytes.extend_from_slice(&UPDATES.to_be_bytes())?;
+    bytes.extend_from_slice(&(2 * (UPDATES + READS)).to_be_bytes())?;
+    for place in 0..UPDATES {
+        bytes.extend_from_slice(&(2 * place).to_be_bytes())?;
+    }
+    for index in 0..UPDATES + READS {
+        push_call(&mut bytes, index, index < UPDATES)?;
+    }
+    push_dump(&mut bytes, FRAMES)?;
+    push_dump(&mut bytes, 1)?;
+    Ok(bytes)
+}
+
+/// How many calls of the order there are, where these are the calls of the trace as they were made; or the fault.
+fn told(verdict: &Verdict) -> Result<usize, Option<Fault>> {
+    match verdict {
+        Verdict::Yes(order) => {
+            let calls = order.calls();
+            let mut made = (0..2 * (UPDATES + READS)).step_by(2);
+            if calls.iter().all(|call| made.next() == Some(*call)) {
+                Ok(calls.len())
+            } else {
+                Err(None)
+            }
+        }
+        Verdict::No(fault) => Err(Some(*fault)),
+    }
+}
+
+/// The frames that a dump's tables lead to, and how many pages are found there.
+fn gathered(alloc: Global, dump: &Dump) -> Result<(usize, usize), Fail> {
+    let listed = leaves(alloc, dump, dump.root(), Depth::Five)?;
+    let held = dump.count();
+    let again = Dump::gather(alloc, dump, dump.root(), Depth::Five, 7)?;
+    if held != again.count() {
+        return Err(Fail::from("another number of frames"));
+    }
+    Ok((again.count(), listed.pages.as_slice().len()))
+}
+
+#[test]
+fn read_and_written(rt: HostRuntime) -> Result<(), Fail> {
+    let alloc = rt.alloc();
+    let bytes = large_trace(alloc)?;
+    assert_eq!(rt; bytes.len(), 20 + 80_000 + 60_000 * 24 + 2 * 16 + 4_090 * 4_104);
+    let trace = read(alloc, &bytes)?;
+    assert!(rt; write(alloc, &trace)?.as_slice() == bytes.as_slice());
+    let mut feed = Feed::new(alloc);
+    for piece in bytes.chunks(1_000_003) {
+        feed.feed(piece)?;
+    }
+    let fed: Trace = feed.end()?;
+    assert!(rt; write(alloc, &fed)?.as_slice() == bytes.as_slice());
+    Ok(())
+}
+
+#[test]
+fn judged(rt: HostRuntime) -> Result<(), Fail> {
+    let alloc = rt.alloc();
+    let mut bytes = large_trace(alloc)?;
+    assert_eq!(rt; told(&audit(alloc, &bytes)?), Ok(30_000));
+    let trace = read(alloc, &bytes)?;
+    assert_eq!(rt; told(&judge(alloc, &trace)?), Ok(30_000));
+    let mut dumps = trace.dumps().iter();
+    let dump = dumps.next().ok_or("a dump")?;
+    assert_eq!(rt; gathered(alloc, dump)?, (4_089, 0));
+    bytes.push(0)?;
+    let trailing = Fault::Format(Format::Trailing);
+    assert_eq!(rt; told(&audit(alloc, &bytes)?), Err(Some(trailing)));
+    Ok(())
+}
