@@ -14,6 +14,8 @@ const PHYS: u64 = (1 << 52) - 1;
 struct Arena {
     base: u64,
     words: Vec<[u64; 512]>,
+    /// Of each frame in use, how many of its words aren't 0.
+    counts: Vec<u16>,
     free: Vec<u16>,
 }
 
@@ -25,19 +27,38 @@ impl Arena {
         for _ in 0..FRAMES {
             words.push([0; 512]);
         }
-        Arena { base: 1 << 39, words, free: (0..FRAMES as u16).collect() }
+        Arena { base: 1 << 39, words, counts: vec![0; FRAMES], free: (0..FRAMES as u16).collect() }
     }
 
     fn take(&mut self) -> Option<u64> {
         let index = self.free.pop()?;
+        self.counts[index as usize] = 0;
         Some(self.base + index as u64)
     }
 
-    /// The frame is cleared now, when its words have just been read.
+    /// The words of the frame are all 0.
     fn give(&mut self, number: u64) {
-        let index = (number - self.base) as u16;
-        self.words[index as usize] = [0; 512];
-        self.free.push(index);
+        self.free.push((number - self.base) as u16);
+    }
+
+    fn count_mut(&mut self, number: u64) -> &mut u16 {
+        &mut self.counts[(number - self.base) as usize]
+    }
+
+    fn is_empty(&self, number: u64) -> bool {
+        self.counts[(number - self.base) as usize] == 0
+    }
+
+    /// Writes a word that isn't 0 over 0.
+    fn fill(&mut self, number: u64, index: usize, word: u64) {
+        *self.count_mut(number) += 1;
+        self.table_mut(number)[index] = word;
+    }
+
+    /// Writes 0 over another word.
+    fn clear(&mut self, number: u64, index: usize) {
+        *self.count_mut(number) -= 1;
+        self.table_mut(number)[index] = 0;
     }
 
     fn used(&self) -> usize {
@@ -60,14 +81,6 @@ fn index_at(level: usize, address: u64) -> usize {
 /// Whether a word leads to a table, in a table above the lowest level.
 fn leads_on(word: u64) -> bool {
     word & (PRESENT | LARGE) == PRESENT
-}
-
-/// Whether a table has no entry. It looks beside this index first.
-#[inline(always)]
-fn is_empty(words: &[u64; 512], near: usize) -> bool {
-    words[(near + 1) % 512] == 0
-        && words[(near + 511) % 512] == 0
-        && words.chunks_exact(8).all(|group| group.iter().fold(0, |all, word| all | word) == 0)
 }
 
 fn rights(word: u64) -> u64 {
@@ -183,10 +196,10 @@ impl Space {
         let mut number = place.way[place.level];
         for level in (size + 1..=place.level).rev() {
             let next = self.arena.take().unwrap();
-            self.arena.table_mut(number)[index_at(level, base)] = next << 12 | 7;
+            self.arena.fill(number, index_at(level, base), next << 12 | 7);
             number = next;
         }
-        self.arena.table_mut(number)[index_at(size, base)] = leaf;
+        self.arena.fill(number, index_at(size, base), leaf);
         Answer::Done
     }
 
@@ -237,11 +250,12 @@ impl Space {
             return Answer::Inside(base - base % bytes);
         }
         let mut level = last;
-        self.arena.table_mut(way[level])[index_at(level, base)] = 0;
-        while level < self.levels && is_empty(self.arena.table(way[level]), index_at(level, base)) {
-            self.arena.give(way[level]);
+        self.arena.clear(way[level], index_at(level, base));
+        while level < self.levels && self.arena.is_empty(way[level]) {
+            let emptied = way[level];
             level += 1;
-            self.arena.table_mut(way[level])[index_at(level, base)] = 0;
+            self.arena.clear(way[level], index_at(level, base));
+            self.arena.give(emptied);
         }
         let phys = word & PHYS & !(bytes - 1);
         Answer::Removed(phys, last, rights(word))

@@ -33,6 +33,11 @@ fn use_two<S: FrameStore>(rt: &impl Abort, store: &mut S) {
     assert_eq!(rt; store.get(first, 0), 5);
     assert_eq!(rt; store.get(second, 0), 0);
 
+    store.set_note(first, 65535);
+    store.set_note(second, 3);
+    assert_eq!(rt; store.note(first), 65535);
+    assert_eq!(rt; store.note(second), 3);
+
     let number = store.number(first);
     store.give(first);
     assert_eq!(rt; store.at(number), None);
@@ -40,6 +45,14 @@ fn use_two<S: FrameStore>(rt: &impl Abort, store: &mut S) {
     assert_eq!(rt; store.get(again, 0), 0);
     assert_eq!(rt; store.at(number), Some(again));
     assert_eq!(rt; BASE + again.index() as u64, number);
+    assert_eq!(rt; store.note(again), 0);
+    assert_eq!(rt; store.note(second), 3);
+
+    store.give_zeroed(again);
+    assert_eq!(rt; store.at(number), None);
+    let once_more = take_cleared(rt, store);
+    assert_eq!(rt; once_more, again);
+    assert_eq!(rt; store.note(second), 3);
 }
 
 // All frames of a new store are taken, given back in that order, and taken again.
@@ -74,7 +87,7 @@ fn use_none<S: FrameStore>(rt: &impl Abort, store: &mut S) {
 // A new store; where one growth of memory is refused, that of a second try.
 fn raw_arena(rt: &impl Abort, alloc: Global, n: usize) -> RawArena
     requires { n ≤ 4096 }
-    ensures { result ≡ record { base = 2 ^ 39; size = n; frames = finite.empty } }
+    ensures { result ≡ record { base = 2 ^ 39; size = n; frames = finite.empty; notes = finite.empty } }
 {
     match RawArena::new(alloc, BASE, n) {
         Ok(arena) => arena,

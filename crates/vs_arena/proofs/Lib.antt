@@ -1,4 +1,5 @@
 pub mod Stores
+pub mod Marked
 pub mod MarkedFrames
 pub mod NewArenas
 pub mod VecArenas

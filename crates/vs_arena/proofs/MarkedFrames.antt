@@ -1,96 +1,39 @@
 -- The frames of an arena: what there is at an index, and how a change of marks and words changes them.
-use Rattle.std.proofs.Common.{◌≡◌, ℕ, zero, suc, ◌+◌, ◌<◌, ◌≤◌, ◌≢◌, Bool, true, false, cond, eqb, ltb, List, [], length, get_or, set, replicate, refl, sym, ap}
+use Rattle.std.proofs.Common.{◌≡◌, ℕ, ◌+◌, ◌<◌, ◌≤◌, ◌≢◌, Bool, true, false, cond, List, [], length, get_or, set, replicate, sym, ap}
 use Rattle.std.proofs.Common.{subst, ◌^◌, ◌∙◌, inl, inr, lit<, arith, rules}
 use Rattle.std.specs.Prelude.{Option, Some, None, IsSome, IfSome, IfNone, All}
 use Rattle.std.specs.FinMap as finite
 use Rattle.std.specs.Ordering.{nat_cmp}
-use Rattle.std.specs.Cmp.{nat_cmp_total}
 use Rattle.std.proofs.lemmas.Grind.{get_or-set_at}
 use Rattle.std.proofs.lemmas.List.{length-set, length-replicate, get_or-set_same, get_or-set_other, get_or_past, get_or-replicate}
 use Rattle.std.proofs.lemmas.List.Elements.{All-set, All-replicate}
-use Rattle.std.proofs.lemmas.Bool.{cases_eq, cases_lt, eqb-true, eqb-false, true≢false, lt-ltb, le-ltb}
-use Rattle.std.proofs.lemmas.Bool.Decides.{nat_tests}
+use Rattle.std.proofs.lemmas.Bool.{cases_eq, cases_lt, true≢false}
 use Rattle.vs_types.specs.declared.limits.TheConstants.{TABLES}
 use Rattle.vs_types.specs.Frame.{IsFrame}
 use Rattle.vs_arena.specs.Store.{Store, IsInUse, IsFree, words_of}
-use Rattle.vs_arena.specs.inside.Arena.{with_frame, frames_below, marked, marked_frames, IsArena}
+use Rattle.vs_arena.specs.inside.Arena.{marked, marked_frames, IsArena}
 use Rattle.vs_arena.specs.Store.{IsStore, zeros}
 use Rattle.std.proofs.lemmas.Option.{cond_some}
-use Rattle.std.specs.FinMap.{nat_cmp-IsAntisymmetric}
-use Rattle.vs_arena.proofs.Stores.{get-insert, get-remove, len-insert_free, len-insert_used, len-remove_used, get_in_use}
+use Rattle.vs_arena.proofs.Marked.{get-marked, marked-mark, marked-write, marked-unmark, marked-none}
+use Rattle.vs_arena.proofs.Stores.{len-insert_free, len-insert_used, len-remove_used, get_in_use}
 
--- one more index below which the frames are those that are given
-get-with_frame : (store : Store) (n q : ℕ) (own given : Option (List ℕ)) → (q ≡ n → given ≡ own) → finite.get store q ≡ cond (ltb q n) given None
-    → finite.get (with_frame store n own) q ≡ cond (ltb q (suc n)) given None
-get-with_frame store n q None given here below = grind (arith, nat_tests)
-get-with_frame store n q (Some words) given here below = grind (arith, nat_tests, get-insert)
+pub get-marked_frames : (marks : List Bool) (words : List (List ℕ)) (q : ℕ) → finite.get (marked_frames marks words) q ≡ marked [] marks words q
+get-marked_frames = get-marked []
 
-pub get-frames_below : (n : ℕ) (at : ℕ → Option (List ℕ)) (q : ℕ) → finite.get (frames_below n at) q ≡ cond (ltb q n) (at q) None
-unfolding frames_below
-get-frames_below zero at q = finite.get-empty nat_cmp q ∙ ap (λ b. cond b (at q) None) (sym (le-ltb q 0 (omega arith)))
-get-frames_below (suc n) at q = get-with_frame (frames_below n at) n q (at n) (at q) (λ e. ap at e) (get-frames_below n at q)
-
--- what there is at an index
-pub get-marked_frames : (marks : List Bool) (words : List (List ℕ)) (q : ℕ) → finite.get (marked_frames marks words) q ≡ marked marks words q
-get-marked_frames marks words q =
-    get-frames_below (length marks) (marked marks words) q
-    ∙ elim (cases_lt q (length marks)) as (λ _. cond (ltb q (length marks)) (marked marks words q) None ≡ marked marks words q) [
-      | inl lt ↦ ap (λ b. cond b (marked marks words q) None) (lt-ltb q (length marks) lt)
-      | inr le ↦ ap (λ b. cond b (marked marks words q) None) (le-ltb q (length marks) le)
-          ∙ sym (ap (λ b. cond b (Some (get_or words q [])) None) (get_or_past marks q false le))
-    ]
-
-same_at : (m n : Store) → ((q : ℕ) → finite.get m q ≡ finite.get n q) → m ≡ n
-same_at = finite.same_map nat_cmp_total nat_cmp-IsAntisymmetric
-
-same_where : (o : Bool) (a b x : Option (List ℕ)) → (o ≡ true → a ≡ x) → (o ≡ false → a ≡ b) → a ≡ cond o x b
-same_where true a b x here there = here refl
-same_where false a b x here there = there refl
-
--- what is written and marked at an index is inserted there
 pub marked_frames-mark : (marks : List Bool) (words : List (List ℕ)) (index : ℕ) (own : List ℕ) → index < length marks → index < length words
     → marked_frames (set marks index true) (set words index own) ≡ finite.insert (marked_frames marks words) index own
-marked_frames-mark marks words index own in_marks in_words =
-    same_at _ _ (λ q. get-marked_frames _ _ q ∙ here q
-    ∙ sym (get-insert _ index own q ∙ ap (cond (eqb q index) (Some own)) (get-marked_frames marks words q))) where
-      here : (q : ℕ) → marked (set marks index true) (set words index own) q ≡ cond (eqb q index) (Some own) (marked marks words q)
-      here q = same_where (eqb q index) _ _ _
-          (λ is. let at : q ≡ index = eqb-true q index is in
-          rw (get_or-set_at marks index q true false at in_marks, get_or-set_at words index q own [] at in_words) refl)
-          (λ isnt. let other : q ≢ index = eqb-false q index isnt in
-          rw (get_or-set_other marks index q true false other, get_or-set_other words index q own [] other) refl)
+marked_frames-mark = marked-mark []
 
--- what is written at a marked index is inserted there
 pub marked_frames-write : (marks : List Bool) (words : List (List ℕ)) (index : ℕ) (own : List ℕ) → get_or marks index false ≡ true → index < length words
     → marked_frames marks (set words index own) ≡ finite.insert (marked_frames marks words) index own
-marked_frames-write marks words index own is_marked in_words =
-    same_at _ _ (λ q. get-marked_frames _ _ q ∙ here q
-    ∙ sym (get-insert _ index own q ∙ ap (cond (eqb q index) (Some own)) (get-marked_frames marks words q))) where
-      here : (q : ℕ) → marked marks (set words index own) q ≡ cond (eqb q index) (Some own) (marked marks words q)
-      here q = same_where (eqb q index) _ _ _
-          (λ is. let at : q ≡ index = eqb-true q index is in rw (get_or-set_at words index q own [] at in_words, at, is_marked) refl)
-          (λ isnt. let other : q ≢ index = eqb-false q index isnt in rw (get_or-set_other words index q own [] other) refl)
+marked_frames-write = marked-write []
 
--- an index whose mark is taken away is removed
 pub marked_frames-unmark : (marks : List Bool) (words : List (List ℕ)) (index : ℕ) → index < length marks
     → marked_frames (set marks index false) words ≡ finite.remove (marked_frames marks words) index
-marked_frames-unmark marks words index in_marks =
-    same_at _ _ (λ q. get-marked_frames _ _ q ∙ here q ∙ sym (get-remove _ index q ∙ ap (cond (eqb q index) None) (get-marked_frames marks words q))) where
-      here : (q : ℕ) → marked (set marks index false) words q ≡ cond (eqb q index) None (marked marks words q)
-      here q = same_where (eqb q index) _ _ _
-          (λ is. let at : q ≡ index = eqb-true q index is in rw (get_or-set_at marks index q false false at in_marks) refl)
-          (λ isnt. let other : q ≢ index = eqb-false q index isnt in rw (get_or-set_other marks index q false false other) refl)
+marked_frames-unmark = marked-unmark []
 
--- whatever is written there
-pub marked_frames-unmark_written : (marks : List Bool) (words : List (List ℕ)) (index : ℕ) (own : List ℕ) → index < length marks
-    → marked_frames (set marks index false) (set words index own) ≡ finite.remove (marked_frames marks words) index
-marked_frames-unmark_written marks words index own in_marks =
-    same_at _ _ (λ q. get-marked_frames _ _ q ∙ here q ∙ sym (get-remove _ index q ∙ ap (cond (eqb q index) None) (get-marked_frames marks words q))) where
-      here : (q : ℕ) → marked (set marks index false) (set words index own) q ≡ cond (eqb q index) None (marked marks words q)
-      here q = same_where (eqb q index) _ _ _
-          (λ is. let at : q ≡ index = eqb-true q index is in rw (get_or-set_at marks index q false false at in_marks) refl)
-          (λ isnt. let other : q ≢ index = eqb-false q index isnt in
-          rw (get_or-set_other marks index q false false other, get_or-set_other words index q own [] other) refl)
+pub marked_frames-none : (n : ℕ) (words : List (List ℕ)) → marked_frames (replicate n false) words ≡ finite.empty
+marked_frames-none = marked-none []
 
 marked_within : (marks : List Bool) (index : ℕ) → get_or marks index false ≡ true → index < length marks
 marked_within marks index is_marked = elim (cases_lt index (length marks)) as (λ _. index < length marks) [
@@ -116,6 +59,12 @@ IsMarked-from_use marks words index used =
       own = sym parts.1;
       got = got ∙ ap (λ own. Some own) (sym parts.1);
     }
+
+-- a frame in use of a store with these frames, by its index
+pub marked_here : (marks : List Bool) (words : List (List ℕ)) {frames : Store} {frame index : ℕ} → marked_frames marks words ≡ frames
+    → IsInUse frames frame → index ≡ frame → IsMarked marks words index
+marked_here marks words {frames} {frame} same used is =
+    subst (λ i. IsMarked marks words i) (sym is) (IsMarked-from_use marks words frame (subst (λ m. IsInUse m frame) (sym same) used))
 
 pub IsFrame-zeros : IsFrame zeros
 IsFrame-zeros = record { whole = length-replicate {A = ℕ} 512 0; fit = All-replicate (λ word. word < 2 ^ 64) 512 0 (lit< tt) }
@@ -162,7 +111,7 @@ IsArena-take base words marks free count rest index own own_frame arena one_less
     }
 
 -- one more number on a list of which the first ones count
-each_pushed : (free : List ℕ) (count index : ℕ) (P : ℕ → Type 0) → count < length free → P index → ((k : ℕ) → k < count → P (get_or free k 0)) → (k : ℕ)
+pub each_pushed : (free : List ℕ) (count index : ℕ) (P : ℕ → Type 0) → count < length free → P index → ((k : ℕ) → k < count → P (get_or free k 0)) → (k : ℕ)
     → k < count + 1 → P (get_or (set free count index) k 0)
 each_pushed free count index P room here below k k_below = elim (cases_eq k count) as (λ _. P (get_or (set free count index) k 0)) [
   | inl top ↦ subst P (sym (get_or-set_at free count k index 0 top room)) here
@@ -198,14 +147,6 @@ pub each_kept : (P : List ℕ → Type 0) (words : List (List ℕ)) (free : List
     → (k : ℕ) → k < count → P (get_or (set words index own) (get_or free k 0) [])
 each_kept P words free count index own apart each k below =
     subst P (sym (get_or-set_other words index (get_or free k 0) own [] (apart k below))) (each k below)
-
--- such words are written at an index, which comes on the list
-pub each_given : (P : List ℕ → Type 0) (words : List (List ℕ)) (free : List ℕ) (count index : ℕ) (own : List ℕ) → index < length words
-    → count < length free → P own → ((k : ℕ) → k < count → get_or free k 0 ≢ index) → ((k : ℕ) → k < count → P (get_or words (get_or free k 0) []))
-    → (k : ℕ) → k < count + 1 → P (get_or (set words index own) (get_or (set free count index) k 0) [])
-each_given P words free count index own in_words room here apart each =
-    each_pushed free count index (λ i. P (get_or (set words index own) i [])) room (subst P (sym (get_or-set_same words index own [] in_words)) here)
-    (each_kept P words free count index own apart each)
 
 stays_unmarked : (marks : List Bool) (index i : ℕ) → index < length marks → get_or marks i false ≡ false → get_or (set marks index false) i false ≡ false
 stays_unmarked marks index i in_marks unmarked = elim (cases_eq i index) as (λ _. get_or (set marks index false) i false ≡ false) [
@@ -262,16 +203,6 @@ IsStore-from_arena base words marks free count arena = record {
       subst IsFrame parts.1 (arena.whole_frames index [] (omega (arith, arena.words_for_each)));
   counted = omega (arith, arena.counted);
 }
-
--- no frame is marked
-pub marked_frames-none : (n : ℕ) (words : List (List ℕ)) → marked_frames (replicate n false) words ≡ finite.empty
-marked_frames-none n words = same_at _ _ (λ q. get-marked_frames (replicate n false) words q ∙ ap (λ b. cond b (Some (get_or words q [])) None) (none q)
-    ∙ sym (finite.get-empty nat_cmp q)) where
-      none : (q : ℕ) → get_or (replicate n false) q false ≡ false
-      none q = elim (cases_lt q n) as (λ _. get_or (replicate n false) q false ≡ false) [
-        | inl lt ↦ get_or-replicate n q false false lt
-        | inr le ↦ get_or_past (replicate n false) q false (omega (arith, length-replicate n false))
-      ]
 
 pub IsArena-new : (base n : ℕ) (words : List (List ℕ)) (free : List ℕ) → n ≤ TABLES → base + n ≤ 2 ^ 40 → length words ≡ n → All IsFrame words
     → length free ≡ n → ((k : ℕ) → k < n → get_or free k 0 ≡ k) → IsArena base words (replicate n false) free n

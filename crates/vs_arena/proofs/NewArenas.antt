@@ -1,10 +1,14 @@
 -- An arena while it is made: whole frames, and the numbers of all of them.
-use Rattle.std.proofs.Common.{◌≡◌, ◌+◌, ◌<◌, ℕ, List, [], ◌∷◌, ◌++◌, length, get_or, refl, sym, ap, ◌∙◌, inl, inr, arith}
+use Rattle.std.proofs.Common.{◌≡◌, ◌+◌, ◌<◌, ℕ, List, [], ◌∷◌, ◌++◌, Bool, false, replicate, length, get_or, refl, sym, ap, ◌∙◌, inl, inr, arith}
 use Rattle.std.specs.Prelude.{All}
-use Rattle.std.proofs.lemmas.List.{length_push, get_or_push, get_or_append_left}
+use Rattle.std.proofs.lemmas.List.{length-replicate, length_push, get_or_push, get_or_append_left}
 use Rattle.std.proofs.lemmas.List.Elements.{All-push}
 use Rattle.std.proofs.lemmas.Bool.{cases_eq}
+use Rattle.std.specs.FinMap as finite
 use Rattle.vs_types.specs.Frame.{IsFrame}
+use Rattle.vs_arena.specs.Arena.{Arena}
+use Rattle.vs_arena.specs.inside.Arena.{marked_frames, marked_notes}
+use Rattle.vs_arena.proofs.Marked.{marked-none}
 
 -- this many frames with such words, and their numbers from 0 on
 pub record HasMade (P : List ℕ → Type 0) (words : List (List ℕ)) (free : List ℕ) (n : ℕ) : Type 0 where
@@ -37,3 +41,11 @@ HasMade-push P words free n own own_frame here made = record {
   ];
   each = All-push P words own made.each here;
 }
+
+-- an arena of which no frame is in use
+pub empty_arena : (base n : ℕ) (words : List (List ℕ)) (notes : List ℕ) {marks : List Bool} → marks ≡ replicate n false
+    → ◌≡◌ {A = Arena} (record { base = base; size = length marks; frames = marked_frames marks words; notes = marked_notes marks notes })
+    (record { base = base; size = n; frames = finite.empty; notes = finite.empty })
+empty_arena base n words notes {marks} none =
+    ap (λ m. record { base = base; size = length m; frames = marked_frames m words; notes = marked_notes m notes }) none
+    ∙ (λ i. record { base = base; size = length-replicate n false i; frames = marked-none [] n words i; notes = marked-none 0 n notes i })

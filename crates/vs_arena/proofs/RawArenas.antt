@@ -12,7 +12,7 @@ use Rattle.vs_arena.specs.inside.Arena.{marked_frames}
 use Rattle.vs_arena.specs.inside.Region.{IsFilled}
 use Rattle.vs_arena.specs.inside.RawArena.{values, IsLinked, IsRawArena}
 use Rattle.vs_arena.proofs.MarkedFrames.{IsMarked, IsMarked-from_use, IsUnmarked, IsUnmarked-from_top, IsInUse-from_mark, IsArena-take, IsArena-give}
-use Rattle.vs_arena.proofs.MarkedFrames.{IsArena-write, IsArena-new, unmarked_apart, each_kept, each_given}
+use Rattle.vs_arena.proofs.MarkedFrames.{IsArena-write, IsArena-new, unmarked_apart, each_kept, each_pushed}
 use Rattle.vs_arena.proofs.Stores.{len-remove_used}
 
 module _ {X : Type 0} where
@@ -154,9 +154,12 @@ module _ (base : ℕ) (places : List (Option (List ℕ))) (marks : List Bool) (c
                     ∙ raw.linked.links k (omega arith) ∙ sym (off k (λ e. omega arith))
               ];
         });
-        clear = rw (values-set places raw.filled index own) (each_given IsClearButLink words raw.free count index own in_words room
-            (subst IsClearButLink (sym linked_to) (linked_clear next)) apart raw.clear);
-      }
+        clear = rw (values-set places raw.filled index own) (each_pushed raw.free count index (λ i. IsClearButLink (get_or (set words index own) i [])) room
+            (subst IsClearButLink (linked_to' in_words) (linked_clear next))
+            (each_kept IsClearButLink words raw.free count index own apart raw.clear));
+      } where
+        linked_to' : index < length words → set zeros 0 next ≡ get_or (set words index own) index []
+        linked_to' within = sym linked_to ∙ sym (get_or-set_same words index own [] within)
 
 pub IsRawArena-new : (base n next : ℕ) (places : List (Option (List ℕ))) (words : List (List ℕ)) (free : List ℕ) → n ≤ TABLES → base + n ≤ 2 ^ 40
     → places ≡ map Some words → length words ≡ n → All IsFrame words → length free ≡ n → ((k : ℕ) → k < n → get_or free k 0 ≡ k)

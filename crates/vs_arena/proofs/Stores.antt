@@ -8,18 +8,18 @@ use Rattle.std.proofs.lemmas.Bool.{eq-eqb, ne_eqb}
 use Rattle.std.proofs.lemmas.Option.{none-some}
 use Rattle.vs_arena.specs.Store.{Store, IsInUse, IsFree, words_of}
 
-pub get-insert : (store : Store) (index : ℕ) (words : List ℕ) (q : ℕ)
+pub get-insert : {X : Type 0} (store : finite.FinMap nat_cmp X) (index : ℕ) (words : X) (q : ℕ)
     → finite.get (finite.insert store index words) q ≡ cond (eqb q index) (Some words) (finite.get store q)
 get-insert store index words q =
     finite.get-insert nat_cmp_total store index words q ∙ ap (λ b. cond b (Some words) (finite.get store q)) (unsigned_tied q index)
 
-pub get-remove : (store : Store) (index q : ℕ) → finite.get (finite.remove store index) q ≡ cond (eqb q index) None (finite.get store q)
+pub get-remove : {X : Type 0} (store : finite.FinMap nat_cmp X) (index q : ℕ) → finite.get (finite.remove store index) q ≡ cond (eqb q index) None (finite.get store q)
 get-remove store index q = finite.get-remove nat_cmp_total store index q ∙ ap (λ b. cond b None (finite.get store q)) (unsigned_tied q index)
 
-pub get-insert_same : (store : Store) (index : ℕ) (words : List ℕ) → finite.get (finite.insert store index words) index ≡ Some words
+pub get-insert_same : {X : Type 0} (store : finite.FinMap nat_cmp X) (index : ℕ) (words : X) → finite.get (finite.insert store index words) index ≡ Some words
 get-insert_same store index words = get-insert store index words index ∙ ap (λ b. cond b (Some words) (finite.get store index)) (eq-eqb index index refl)
 
-pub get-insert_other : (store : Store) (index : ℕ) (words : List ℕ) (q : ℕ) → (q ≡ index → ⊥)
+pub get-insert_other : {X : Type 0} (store : finite.FinMap nat_cmp X) (index : ℕ) (words : X) (q : ℕ) → (q ≡ index → ⊥)
     → finite.get (finite.insert store index words) q ≡ finite.get store q
 get-insert_other store index words q h = get-insert store index words q ∙ ap (λ b. cond b (Some words) (finite.get store q)) (ne_eqb q index h)
 

@@ -1,5 +1,5 @@
 -- Arenas in one vector: the frames that aren't in use stay clear.
-use Rattle.std.proofs.Common.{◌≡◌, ℕ, ◌+◌, ◌<◌, ◌≤◌, ◌^◌, Bool, true, false, List, [], length, get_or, set, replicate, refl, sym, ap, subst, ◌∙◌, arith}
+use Rattle.std.proofs.Common.{◌≡◌, ℕ, ◌+◌, ◌<◌, ◌≤◌, ◌^◌, Bool, true, false, List, [], length, get_or, set, replicate, sym, ap, subst, ◌∙◌, arith}
 use Rattle.std.specs.Prelude.{All}
 use Rattle.std.proofs.lemmas.List.{set-get_or}
 use Rattle.vs_types.specs.declared.limits.TheConstants.{TABLES}
@@ -7,8 +7,8 @@ use Rattle.vs_types.specs.Frame.{IsFrame}
 use Rattle.vs_arena.specs.Store.{zeros}
 use Rattle.vs_arena.specs.inside.Arena.{IsArena, marked_frames}
 use Rattle.vs_arena.specs.inside.VecArena.{IsVecArena}
-use Rattle.vs_arena.proofs.MarkedFrames.{IsMarked, IsMarked-from_use, IsInUse-from_mark, IsArena-take, IsArena-give, IsArena-write, IsArena-new}
-use Rattle.vs_arena.proofs.MarkedFrames.{IsFrame-zeros, unmarked_apart, each_kept, each_given}
+use Rattle.vs_arena.proofs.MarkedFrames.{IsMarked, IsArena-take, IsArena-give, IsArena-write, IsArena-new}
+use Rattle.vs_arena.proofs.MarkedFrames.{IsFrame-zeros, unmarked_apart, each_kept, each_pushed}
 use Rattle.vs_arena.proofs.Stores.{len-remove_used}
 
 -- all words are 0
@@ -34,17 +34,12 @@ module _ (base : ℕ) (words : List (List ℕ)) (marks : List Bool) (free : List
     clear = λ k below. vec.clear k (omega arith);
   }
 
-  pub IsVecArena-give : (index : ℕ) → IsMarked marks words index
-      → IsVecArena base (set words index zeros) (set marks index false) (set free count index) (count + 1)
-  IsVecArena-give index is_marked =
-      let written = IsArena-write base words marks free count index zeros IsFrame-zeros vec.arena is_marked in
-      let marked = IsMarked-from_use marks (set words index zeros) index (IsInUse-from_mark marks (set words index zeros) index is_marked.mark) in
-      let room : count < length free = room_for_one base words marks free count index vec.arena is_marked in
-      record {
-        arena = IsArena-give base (set words index zeros) marks free count index written marked;
-        clear = each_given IsClear words free count index zeros (omega (arith, vec.arena.words_for_each, is_marked.in_marks)) room refl
-            (unmarked_apart marks free count index is_marked.mark vec.arena.free_unmarked) vec.clear;
-      }
+  pub IsVecArena-give : (index : ℕ) → IsMarked marks words index → get_or words index [] ≡ zeros
+      → IsVecArena base words (set marks index false) (set free count index) (count + 1)
+  IsVecArena-give index is_marked zeroed = record {
+    arena = IsArena-give base words marks free count index vec.arena is_marked;
+    clear = each_pushed free count index (λ i. get_or words i [] ≡ zeros) (room_for_one base words marks free count index vec.arena is_marked) zeroed vec.clear;
+  }
 
   pub IsVecArena-write : (index : ℕ) (own : List ℕ) → IsFrame own → IsMarked marks words index → IsVecArena base (set words index own) marks free count
   IsVecArena-write index own own_frame is_marked = record {

@@ -1,4 +1,4 @@
--- Stores of page-table frames: the frames in use, each with its 512 words, under its index.
+-- Stores of page-table frames: the frames in use, each with its 512 words and its note, under its index.
 use Rattle.std.specs.Prelude.{◌≡◌, ℕ, ◌+◌, ◌^◌, ◌<◌, ◌≤◌, List, [], replicate, unwrap_or, Some, None, IsSome}
 use Rattle.std.specs.FinMap as finite
 use Rattle.std.specs.Ordering.{nat_cmp}
@@ -20,6 +20,14 @@ IsFree store index = finite.get store index ≡ None
 -- the words of a frame in use
 abbrev pub words_of : Store → ℕ → List ℕ
 words_of store index = unwrap_or (finite.get store index) []
+
+-- what its owner keeps with each frame in use: a small number
+abbrev pub Notes : Type 0
+Notes = finite.FinMap nat_cmp ℕ
+
+-- the note of a frame in use
+abbrev pub note_of : Notes → ℕ → ℕ
+note_of notes index = unwrap_or (finite.get notes index) 0
 
 -- a frame of zeros
 abbrev pub zeros : List ℕ

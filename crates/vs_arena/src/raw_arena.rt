@@ -9,7 +9,7 @@ use std::alloc::Global;
 use std::marker::Model;
 use vs_types::{FRAME_WORDS, Memory};
 
-/// A store of frames that lie in one block of memory. `new` takes all its memory: 4,097 bytes a frame.
+/// A store of frames that lie in one block of memory. `new` takes all its memory: 4,099 bytes a frame.
 ///
 /// The block is aligned to 8 bytes, as its words are. A frame is cleared as it is given back, when its words have often just
 /// been read, and not as it is taken.
@@ -20,6 +20,8 @@ pub struct RawArena {
     alloc: Global,
     /// Whether each frame is in use.
     marks: Vec<bool>,
+    /// The note of each frame in use.
+    notes: Vec<u16>,
     free_count: usize,
     /// The free frame to be taken next, if any. Its first word names the one after it, and so on.
     next_free: u64,
@@ -28,17 +30,23 @@ pub struct RawArena {
 impl Model for RawArena {
     ghost use Rattle.std.specs.Prelude.{◌≡◌, length};
     ghost use Rattle.vs_arena.specs.Arena.{Arena};
-    ghost use Rattle.vs_arena.specs.inside.Arena.{arena_code, marked_frames};
+    ghost use Rattle.vs_arena.specs.inside.Arena.{arena_code, marked_frames, marked_notes};
     ghost use Rattle.vs_arena.specs.inside.RawArena.{values, IsRawArena};
 
     ghost Value = { Arena };
 
     ghost coded = { arena_code };
 
-    ghost view = { λ a. record { base = a.base; size = length a.marks.items; frames = marked_frames a.marks.items (values a.region.places) } };
+    ghost view = { λ a. record {
+      base = a.base;
+      size = length a.marks.items;
+      frames = marked_frames a.marks.items (values a.region.places);
+      notes = marked_notes a.marks.items a.notes.items;
+    } };
 
     ghost invariant = { λ a. IsRawArena a.base a.region.places a.marks.items a.free_count a.next_free
-        × (a.lease.first ≡ a.region.first) × (a.lease.len ≡ length a.marks.items) × (a.lease.alloc ≡ a.alloc) };
+        × (a.lease.first ≡ a.region.first) × (a.lease.len ≡ length a.marks.items) × (a.lease.alloc ≡ a.alloc)
+        × (length a.notes.items ≡ length a.marks.items) };
 }
 
 impl Drop for RawArena {
@@ -49,6 +57,7 @@ impl Drop for RawArena {
             lease,
             alloc,
             marks,
+            notes: _,
             free_count: _,
             next_free: _,
         } = self;
@@ -61,9 +70,10 @@ impl RawArena {
     pub fn new(alloc: Global, base: u64, n: usize) -> Result<RawArena, Memory>
         requires few { n ≤ TABLES }
         requires in_range { base + n ≤ 2 ^ 40 }
-        ensures { IfOk result (λ a. a ≡ record { base = base; size = n; frames = finite.empty }) }
+        ensures { IfOk result (λ a. a ≡ record { base = base; size = n; frames = finite.empty; notes = finite.empty }) }
     {
         let marks = vec![in alloc; false; n]?;
+        let notes = vec![in alloc; 0; n]?;
         let (mut region, lease) = allocate(&alloc, n)?;
         for index in 0..n {
             region.write(index, linked_words((index as u64).saturating_sub(1)));
@@ -74,6 +84,7 @@ impl RawArena {
             lease,
             alloc,
             marks,
+            notes,
             free_count: n,
             next_free: (n as u64).saturating_sub(1),
         })
@@ -82,6 +93,8 @@ impl RawArena {
 
 impl FrameStore for RawArena {
     ghost frames = { λ a. a.frames };
+
+    ghost notes = { λ a. a.notes };
 
     ghost base = { λ a. a.base };
 
@@ -104,15 +117,21 @@ impl FrameStore for RawArena {
         self.next_free = words[0];
         words[0] = 0;
         self.marks[index] = true;
+        self.notes[index] = 0;
         self.free_count -= 1;
         Some(Frame::at_index(index))
     }
 
     fn give(&mut self, frame: Frame) {
+        let words = self.region.get_mut(frame.index());
+        *words = cleared_words();
+        self.give_zeroed(frame);
+    }
+
+    fn give_zeroed(&mut self, frame: Frame) {
         let index = frame.index();
         let next = self.next_free;
         let words = self.region.get_mut(index);
-        *words = cleared_words();
         words[0] = next;
         self.marks[index] = false;
         self.next_free = index as u64;
@@ -126,6 +145,14 @@ impl FrameStore for RawArena {
     fn set(&mut self, frame: Frame, index: usize, word: u64) {
         let words = self.region.get_mut(frame.index());
         words[index] = word;
+    }
+
+    fn note(&self, frame: Frame) -> u16 {
+        self.notes[frame.index()]
+    }
+
+    fn set_note(&mut self, frame: Frame, note: u16) {
+        self.notes[frame.index()] = note;
     }
 
     fn frame(&self, frame: Frame) -> &[u64; FRAME_WORDS] {

@@ -1,17 +1,20 @@
 ghost use Rattle.std.specs.Prelude.{◌≡◌, ℕ, ◌+◌, ◌^◌, ◌<◌, ◌≤◌, IfSome, IfNone, slice_index, slice_set};
 ghost use Rattle.std.specs.FinMap as finite;
 ghost use Rattle.vs_types.specs.declared.frame.TheConstants.{FRAME_WORDS};
-ghost use Rattle.vs_arena.specs.Store.{Store, IsInUse, IsFree, words_of, zeros, IsStore};
+ghost use Rattle.vs_arena.specs.Store.{Store, Notes, IsInUse, IsFree, words_of, note_of, zeros, IsStore};
 
 use crate::frame::Frame;
 use vs_types::FRAME_WORDS;
 
 /// Frames to be taken and given back. A store has up to 4,096 frames; frame i has the number `base + i`, below 2^40.
 ///
-/// No call takes memory or waits. Frames that a call doesn't name keep their words.
+/// No call takes memory or waits. Frames that a call doesn't name keep their words and their notes.
 pub trait FrameStore {
     /// The frames in use, by index.
     ghost frames: { Self → Store };
+
+    /// The note of each frame in use, by index: a small number of its owner's.
+    ghost notes: { Self → Notes };
 
     /// The number of frame 0.
     ghost base: { Self → ℕ };
@@ -29,14 +32,16 @@ pub trait FrameStore {
         ensures counts { result ≡ finite.len (frames self.now) }
         ensures at_most { result ≤ size self.now };
 
-    /// A frame that wasn't in use, now in use and all zero, or `None` where all are in use.
+    /// A frame that wasn't in use, now in use, all zero and with note 0, or `None` where all are in use.
     fn take(&mut self) -> Option<Frame>
         ensures was_free { IfSome result (IsFree (frames self.old)) }
         ensures within { IfSome result (λ f. f < size self.old) }
         ensures cleared { IfSome result (λ f. frames self.new ≡ finite.insert (frames self.old) f zeros) }
+        ensures noted { IfSome result (λ f. notes self.new ≡ finite.insert (notes self.old) f 0) }
 
         ensures all_in_use { IfNone result (finite.len (frames self.old) ≡ size self.old) }
         ensures unchanged { IfNone result (frames self.new ≡ frames self.old) }
+        ensures unchanged_notes { IfNone result (notes self.new ≡ notes self.old) }
 
         ensures same_base { base self.new ≡ base self.old }
         ensures same_size { size self.new ≡ size self.old };
@@ -45,6 +50,16 @@ pub trait FrameStore {
     fn give(&mut self, frame: Frame)
         requires { IsInUse (frames self.old) frame }
         ensures removed { frames self.new ≡ finite.remove (frames self.old) frame }
+        ensures removed_note { notes self.new ≡ finite.remove (notes self.old) frame }
+        ensures same_base { base self.new ≡ base self.old }
+        ensures same_size { size self.new ≡ size self.old };
+
+    /// Does what `give` does for a frame whose words are all 0, and clears none of them.
+    fn give_zeroed(&mut self, frame: Frame)
+        requires in_use { IsInUse (frames self.old) frame }
+        requires zeroed { words_of (frames self.old) frame ≡ zeros }
+        ensures removed { frames self.new ≡ finite.remove (frames self.old) frame }
+        ensures removed_note { notes self.new ≡ finite.remove (notes self.old) frame }
         ensures same_base { base self.new ≡ base self.old }
         ensures same_size { size self.new ≡ size self.old };
 
@@ -60,6 +75,20 @@ pub trait FrameStore {
         requires in_frame { index < FRAME_WORDS }
         ensures written { frames self.new
             ≡ finite.insert (frames self.old) frame (slice_set (words_of (frames self.old) frame) index word) }
+        ensures same_notes { notes self.new ≡ notes self.old }
+        ensures same_base { base self.new ≡ base self.old }
+        ensures same_size { size self.new ≡ size self.old };
+
+    /// The note of a frame in use: what `set_note` wrote last since the frame was taken, or 0.
+    fn note(&self, frame: Frame) -> u16
+        requires { IsInUse (frames self.now) frame }
+        ensures { result ≡ note_of (notes self.now) frame };
+
+    /// Writes the note of a frame in use.
+    fn set_note(&mut self, frame: Frame, note: u16)
+        requires { IsInUse (frames self.old) frame }
+        ensures written { notes self.new ≡ finite.insert (notes self.old) frame note }
+        ensures same_frames { frames self.new ≡ frames self.old }
         ensures same_base { base self.new ≡ base self.old }
         ensures same_size { size self.new ≡ size self.old };
 

@@ -5,13 +5,14 @@ pub mod Writes
 pub mod Trees
 pub mod Links
 pub mod Written
-pub mod Zeros
+pub mod Counts
 pub mod Reached
 pub mod Regions
 pub mod Descents
 pub mod Protects
 pub mod Meets
 pub mod Prunes
+pub mod Presents
 pub mod TableCounts
 pub mod Unmaps
 pub mod Overlaps

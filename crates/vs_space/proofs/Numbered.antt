@@ -145,6 +145,11 @@ pub some_at : (base : ℕ) (store : Store) (number f : ℕ) → base + f ≡ num
 some_at base store number f at used = subst (λ q. finite.get (numbered base store) q ≡ Some (words_of store f)) at
     (get_numbered base store f ∙ get_in_use store f used)
 
+pub words_at : (base : ℕ) (store : Store) (number f : ℕ) (words : List ℕ) → base + f ≡ number → IsInUse store f
+    → finite.get (numbered base store) number ≡ Some words → words_of store f ≡ words
+words_at base store number f words at used got =
+    let same : Some (words_of store f) ≡ Some words = sym (some_at base store number f at used) ∙ got in cc
+
 -- the frame of the store with the number of a frame in use
 pub named : (base : ℕ) (store : Store) (number : ℕ) → IsSome (finite.get (numbered base store) number) → (f : ℕ) × (base + f ≡ number) × IsInUse store f
 named base store number used = ⊎_elim
@@ -157,6 +162,11 @@ pub word_numbered : (base : ℕ) (store : Store) (number f index : ℕ) → base
     → word_at (numbered base store) number index ≡ Some (slice_index (words_of store f) index)
 unfolding word_at
 word_numbered base store number f index at used = ap (option_map (λ words. slice_index words index)) (some_at base store number f at used)
+
+pub word_is : (base : ℕ) (store : Store) (number f index word : ℕ) → base + f ≡ number → IsInUse store f
+    → word_at (numbered base store) number index ≡ Some word → slice_index (words_of store f) index ≡ word
+word_is base store number f index word at used got =
+    let same : Some (slice_index (words_of store f) index) ≡ Some word = sym (word_numbered base store number f index at used) ∙ got in cc
 
 pub with_word_numbered : (base : ℕ) (store : Store) (number f index word : ℕ) → base + f ≡ number → IsInUse store f
     → numbered base (finite.insert store f (slice_set (words_of store f) index word)) ≡ with_word (numbered base store) number index word

@@ -26,6 +26,7 @@ use Rattle.vs_space.proofs.Trees.{but_alike, filled_up}
 use Rattle.vs_space.proofs.Links.{tree_unlink, table_unlink, table_kept, walk_unlink_off, walk_unlink_on, found_unlinked}
 use Rattle.vs_space.proofs.Reached.{reached_unlink, whole_write}
 use Rattle.vs_space.proofs.Written.{written_at}
+use Rattle.vs_space.proofs.Descents.{entry_read}
 use Rattle.vs_space.proofs.Regions.{stretch_same}
 
 -- ---- entries by index
@@ -172,8 +173,28 @@ module _ {depth : Depth} {m : Memory} {root base level : ℕ} {path : List ℕ} 
   pub emptied_written : AreWritten level m (slice_index path level)
   emptied_written = written_at cut.tree cut.all_reached level base (slice_index path level) here.at
 
-  pub emptied_used : (n index : ℕ) → IsSome (finite.get (with_word m n index 0) (slice_index path level))
+  pub in_use_here : IsSome (finite.get m (slice_index path level))
+  in_use_here = used_at here
+
+  emptied_used : (n index : ℕ) → IsSome (finite.get (with_word m n index 0) (slice_index path level))
   emptied_used n index = written_in_use m n index 0 (slice_index path level) (used_at here)
+
+  module _ (below : level < levels depth) where
+    above_here : table_at (levels depth) m root (level + 1) base ≡ Some (slice_index path (level + 1))
+    above_here = cut.reached (level + 1) (omega arith) (omega arith)
+
+    -- the entry above leads to the table
+    pub leads_here : {index : ℕ} → index ≡ index_at (level + 1) base → word_at m (slice_index path (level + 1)) index ≢ Some 0
+    leads_here is none =
+        let next = table_below (levels depth) root m (level + 1) level base (slice_index path (level + 1)) (omega arith) above_here in
+        let wrong : Some (slice_index path level) ≡ None = sym here.at ∙ next
+        ∙ ap table_in (entry_read (level + 1) m (slice_index path (level + 1)) base none is refl) in
+        cc
+
+    pub apart_above : slice_index path level ≢ slice_index path (level + 1)
+    apart_above same =
+        let one : level ≡ level + 1 = (cut.tree.once level (level + 1) base base (slice_index path level) here.at (above_here ∙ ap Some (sym same))).0 in
+        omega (arith, one)
 
   -- ---- a table whose entries are all absent is given back
 

@@ -52,7 +52,7 @@ word_of : (m : Memory) (n i : ℕ) (o : Option (List ℕ)) → finite.get m n �
 unfolding word_at
 word_of m n i o got = ap (option_map (λ (words : List ℕ). slice_index words i)) got
 
-word_alike : (m m' : Memory) (n i : ℕ) → finite.get m' n ≡ finite.get m n → word_at m' n i ≡ word_at m n i
+pub word_alike : (m m' : Memory) (n i : ℕ) → finite.get m' n ≡ finite.get m n → word_at m' n i ≡ word_at m n i
 word_alike m m' n i e = word_of m' n i (finite.get m n) e ∙ sym (word_of m n i (finite.get m n) refl)
 
 one_word : (x y : ℕ) → Some x ≡ Some y → x ≡ y

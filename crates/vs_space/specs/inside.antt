@@ -1,4 +1,5 @@
 -- Loop invariants and the insides of models: no public clause cites them.
+pub mod Counted
 pub mod Descent
 pub mod Grow
 pub mod Invariant

@@ -168,8 +168,7 @@ impl<S: FrameStore> Space<S> {
 
     /// Does an operation that is well formed at the space's depth: the answer and the space after it are those of a step,
     /// under the store's capacity as the limit.
-    /// It reads and writes at most one table a level, but for the first page below a table, and for whether a table is
-    /// empty, which is one pass over its words.
+    /// It reads and writes at most one table a level, but for the first page below a table.
     pub fn apply(&mut self, op: Op) -> Answer
         requires { IsAction self.old.depth op }
         ensures { IsTableStep self.old op result self.new }
@@ -239,7 +238,7 @@ impl<S: FrameStore> Space<S> {
         }
         let number = self.tables.extend(page.base, last, level, lowest);
         self.tables
-            .write(number, index_at(lowest, page.base), leaf.word());
+            .fill(number, index_at(lowest, page.base), leaf.word());
         Answer::Done
     }
 
@@ -279,7 +278,7 @@ impl<S: FrameStore> Space<S> {
             return Answer::Inside(base - offset);
         }
         let number = path[level as usize];
-        self.tables.write(number, index_at(level, base), 0);
+        self.tables.clear(number, index_at(level, base));
         let _stop = self.tables.prune(self.depth, base, path, level);
         Answer::Removed(phys, size, rights)
     }

@@ -23,9 +23,9 @@ use crate::word::read_written;
 use std::marker::Model;
 use vs_arena::{FRAME_WORDS, Frame, FrameStore};
 use vs_types::{Depth, Entry, Meaning, index_at};
-use vs_walk::are_zero;
 
-/// The frames of a store by number. Contracts see those in use, and how many there can be.
+/// The frames of a store by number, each with how many of its words aren't 0 as its note. Contracts see those in use, and how
+/// many there can be.
 #[derive(Drop)]
 pub(crate) struct Tables<S: FrameStore> {
     store: S,
@@ -34,6 +34,7 @@ pub(crate) struct Tables<S: FrameStore> {
 impl<S: FrameStore> Model for Tables<S> {
     ghost use Rattle.vs_space.specs.Held.{Held, held_code, held_in, AreNumbered};
     ghost use Rattle.vs_walk.specs.Memory.{AreWhole};
+    ghost use Rattle.vs_space.specs.inside.Counted.{IsCounted};
 
     ghost Value = { Held };
 
@@ -41,7 +42,8 @@ impl<S: FrameStore> Model for Tables<S> {
 
     ghost view = { λ t. held_in (S.base t.store) (S.size t.store) (S.frames t.store) };
 
-    ghost invariant = { λ t. AreWhole (S.frames t.store) × AreNumbered (held_in (S.base t.store) (S.size t.store) (S.frames t.store)) };
+    ghost invariant = { λ t. AreWhole (S.frames t.store) × AreNumbered (held_in (S.base t.store) (S.size t.store) (S.frames t.store))
+        × IsCounted (S.frames t.store) (S.notes t.store) };
 }
 
 impl<S: FrameStore> Tables<S> {
@@ -85,16 +87,47 @@ impl<S: FrameStore> Tables<S> {
         self.store.get(frame_of(&self.store, number), index)
     }
 
-    /// Writes the word at an index of a frame in use.
+    /// Writes a word that isn't 0 over another one, at an index of a frame in use.
     pub(crate) fn write(&mut self, number: u64, index: usize, word: u64)
         requires in_use { IsSome (finite.get self.old.memory number) }
         requires in_frame { index < FRAME_WORDS }
+        requires present { word_at self.old.memory number index ≢ Some 0 }
+        requires some { word ≢ 0 }
+        ensures written { self.new ≡ record self.old { memory = with_word self.old.memory number index word } }
+        ensures numbers { AreNumbered self.new }
+    {
+        let frame = frame_of(&self.store, number);
+        self.store.set(frame, index, word);
+    }
+
+    /// Writes a word that isn't 0 over 0, at an index of a frame in use.
+    pub(crate) fn fill(&mut self, number: u64, index: usize, word: u64)
+        requires in_use { IsSome (finite.get self.old.memory number) }
+        requires in_frame { index < FRAME_WORDS }
+        requires absent { word_at self.old.memory number index ≡ Some 0 }
+        requires some { word ≢ 0 }
         ensures written { self.new ≡ record self.old { memory = with_word self.old.memory number index word } }
         ensures whole { AreWhole self.old.memory }
         ensures numbers { AreNumbered self.new }
     {
         let frame = frame_of(&self.store, number);
+        let count = self.store.note(frame);
+        self.store.set_note(frame, count + 1);
         self.store.set(frame, index, word);
+    }
+
+    /// Writes 0 over another word, at an index of a frame in use.
+    pub(crate) fn clear(&mut self, number: u64, index: usize)
+        requires in_use { IsSome (finite.get self.old.memory number) }
+        requires in_frame { index < FRAME_WORDS }
+        requires present { word_at self.old.memory number index ≢ Some 0 }
+        ensures written { self.new ≡ record self.old { memory = with_word self.old.memory number index 0 } }
+        ensures numbers { AreNumbered self.new }
+    {
+        let frame = frame_of(&self.store, number);
+        let count = self.store.note(frame);
+        self.store.set_note(frame, count - 1);
+        self.store.set(frame, index, 0);
     }
 
     /// The number of a frame that wasn't in use, now in use and all zero, or `None` where all are in use.
@@ -110,14 +143,14 @@ impl<S: FrameStore> Tables<S> {
         Some(self.store.number(frame))
     }
 
-    /// Gives a frame back.
+    /// Gives a frame back whose words are all 0.
     pub(crate) fn give(&mut self, number: u64)
-        requires { IsSome (finite.get self.old.memory number) }
+        requires { finite.get self.old.memory number ≡ Some zeros }
         ensures removed { self.new ≡ record self.old { memory = finite.remove self.old.memory number } }
         ensures numbers { AreNumbered self.new }
     {
         let frame = frame_of(&self.store, number);
-        self.store.give(frame);
+        self.store.give_zeroed(frame);
     }
 
     /// What the entry for an address says in the table of this level in a frame in use, whose words are as written.
@@ -203,27 +236,14 @@ impl<S: FrameStore> Tables<S> {
         None
     }
 
-    /// Whether a table of this level has no entry that is present. It looks beside this index first, and then at all words.
+    /// Whether the words of a frame in use are all 0. It reads none of them.
     #[inline(always)]
-    fn is_empty(&self, level: u8, number: u64, near: usize) -> bool
-        requires in_use { IsSome (finite.get self.now.memory number) }
-        requires written { AreWritten level self.now.memory number }
-        requires in_frame { near < FRAME_WORDS }
-        ensures empty { IsTrue result → (i : ℕ) → i < FRAME_WORDS → entry_in level self.now.memory number i ≡ Some Meaning.Absent }
-        ensures present { IsFalse result → HasPresent level self.now.memory number }
+    fn is_empty(&self, number: u64) -> bool
+        requires { IsSome (finite.get self.now.memory number) }
+        ensures empty { IsTrue result → finite.get self.now.memory number ≡ Some zeros }
+        ensures present { IsFalse result → (level : ℕ) → AreWritten level self.now.memory number → HasPresent level self.now.memory number }
     {
-        let words = self.store.frame(frame_of(&self.store, number));
-        if words[(near + 1) % FRAME_WORDS] != 0
-            || words[(near + FRAME_WORDS - 1) % FRAME_WORDS] != 0
-        {
-            return false;
-        }
-        for group in 0..FRAME_WORDS / 8 {
-            if !are_zero(words, 8 * group) {
-                return false;
-            }
-        }
-        true
+        self.store.note(frame_of(&self.store, number)) == 0
     }
 
     /// Gives back the tables on the path of an address, from this level up, that have no entry that is present, and
@@ -247,11 +267,11 @@ impl<S: FrameStore> Tables<S> {
         let mut level = from;
         while level < depth.levels() {
             let emptied = path[level as usize];
-            if !self.is_empty(level, emptied, index_at(level, address)) {
+            if !self.is_empty(emptied) {
                 return level;
             }
             level += 1;
-            self.write(path[level as usize], index_at(level, address), 0);
+            self.clear(path[level as usize], index_at(level, address));
             self.give(emptied);
         }
         level
@@ -261,11 +281,13 @@ impl<S: FrameStore> Tables<S> {
     /// the lowest level. Answers the last one's number.
     pub(crate) fn extend(&mut self, address: u64, last: u64, from: u8, lowest: u8) -> u64
         requires in_use { IsSome (finite.get self.old.memory last) }
+        requires absent { word_at self.old.memory last (index_at from address) ≡ Some 0 }
         requires some_level { 1 ≤ lowest }
         requires within { lowest ≤ from }
         requires few_levels { from ≤ 5 }
         requires room { finite.len self.old.memory + (from - lowest) ≤ self.old.limit }
         ensures extended { IsExtended self.old.memory self.new.memory address last from lowest result }
+        ensures absent { word_at self.new.memory result (index_at lowest address) ≡ Some 0 }
         ensures same { self.new ≡ record self.old { memory = self.new.memory } }
     {
         let mut level = from;
@@ -274,7 +296,7 @@ impl<S: FrameStore> Tables<S> {
             let Some(next) = self.take() else {
                 unreachable!();
             };
-            self.write(number, index_at(level, address), Entry::table(next).word());
+            self.fill(number, index_at(level, address), Entry::table(next).word());
             number = next;
             level -= 1;
         }

@@ -1,10 +1,7 @@
-use Rattle.std.proofs.Common.{◌≡◌, ◌-◌, ℕ, Bool, List, false, length, replicate, sym, ap, subst, ◌∙◌, arith, rules}
-use Rattle.std.specs.FinMap as finite
+use Rattle.std.proofs.Common.{◌≡◌, ◌-◌, false, length, replicate, sym, ap, subst, ◌∙◌, arith, rules}
 use Rattle.std.proofs.lemmas.List.{length-replicate}
-use Rattle.vs_arena.specs.Arena.{Arena}
-use Rattle.vs_arena.specs.inside.Arena.{marked_frames}
 use Rattle.vs_arena.specs.inside.RawArena.{values}
-use Rattle.vs_arena.proofs.MarkedFrames.{marked_frames-none}
+use Rattle.vs_arena.proofs.NewArenas.{empty_arena}
 use Rattle.vs_arena.proofs.LinkedFrames.{HasLinked, HasLinked-none, HasLinked-push, next_empty, all_linked}
 use Rattle.vs_arena.proofs.RawArenas.{IsRawArena-new}
 use Rattle.vs_arena.proofs.raw_arena.RawArena.new.Goals as goal
@@ -22,6 +19,9 @@ loop-index-preserved c = (
   c.loop-index.invariant.1 ∙ sym c.write.ensures.0,
 )
 
+notes_long : (c : goal.After-saturating_sub-2) → length c.in_ok-notes.notes.items ≡ c.args.n
+notes_long c = ap length (c.in_ok-notes.ensures.items_if_clones_equal (λ y clone. search rules)) ∙ length-replicate c.args.n 0
+
 marks_are : (c : goal.After-saturating_sub-2) → c.in_ok-marks.marks.items ≡ replicate c.args.n false
 marks_are c = c.in_ok-marks.ensures.items_if_clones_equal (λ y clone. search rules)
 
@@ -36,15 +36,8 @@ invariant_of-result c =
       c.loop-index.invariant.1,
       c.in_ok-region.ensures.2 ∙ sym (ap length (marks_are c) ∙ length-replicate c.args.n false),
       c.in_ok-region.ensures.3,
+      notes_long c ∙ sym (ap length (marks_are c) ∙ length-replicate c.args.n false),
     )
 
--- an arena of which no frame is in use
-empty_arena : (base n : ℕ) (words : List (List ℕ)) (marks : List Bool) → marks ≡ replicate n false
-    → ◌≡◌ {A = Arena} (record { base = base; size = length marks; frames = marked_frames marks words })
-    (record { base = base; size = n; frames = finite.empty })
-empty_arena base n words marks none =
-    ap (λ m. record { base = base; size = length m; frames = marked_frames m words }) none
-    ∙ (λ i. record { base = base; size = length-replicate n false i; frames = marked_frames-none n words i })
-
 pub returns : goal.returns
-returns c = empty_arena c.args.base c.args.n (values c.loop-index.region.places) c.in_ok-marks.marks.items (marks_are c)
+returns c = empty_arena c.args.base c.args.n (values c.loop-index.region.places) c.in_ok-notes.notes.items (marks_are c)

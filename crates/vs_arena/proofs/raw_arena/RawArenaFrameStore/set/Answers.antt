@@ -26,7 +26,7 @@ invariant_of-self c =
     let whole = IsFrame-set c.get_mut-words.result.now c.args.index c.args.word (rw old (raw.arena.whole_frames c.index.result [] within))
     (omega (arith, c.ranges.word)) in
     let here = subst (λ i. IsMarked marks (values places) i) (sym c.index.ensures.reads) marked in
-    (IsRawArena-write _ _ _ _ _ raw c.index.result _ whole here, c.self.invariant.1, c.self.invariant.2, c.self.invariant.3)
+    (IsRawArena-write _ _ _ _ _ raw c.index.result _ whole here, c.self.invariant.1, c.self.invariant.2, c.self.invariant.3, c.self.invariant.4)
 
 pub returns-clause-written : goal.returns-clause-written
 returns-clause-written c =

@@ -4,6 +4,7 @@ use Rattle.vs_arena.specs.Store.{IsFree, zeros}
 use Rattle.vs_arena.specs.Arena.{Arena}
 use Rattle.vs_arena.specs.inside.Arena.{marked_frames}
 use Rattle.vs_arena.specs.inside.RawArena.{values}
+use Rattle.vs_arena.proofs.Marked.{marked-mark}
 use Rattle.vs_arena.proofs.MarkedFrames.{IsFrame-zeros, marked_frames-mark}
 use Rattle.vs_arena.proofs.RawArenas.{IsFilled-within, value_at, values-set, IsUnmarked-next, next_within, taken_clear, IsRawArena-take}
 use Rattle.vs_types.specs.Frame.{IsFrame}
@@ -26,6 +27,7 @@ invariant_of-self c =
       c.self.invariant.1,
       c.self.invariant.2 ∙ sym (length-set c.self.inside.marks.items index true),
       c.self.invariant.3,
+      length-set c.self.inside.notes.items index 0 ∙ c.self.invariant.4 ∙ sym (length-set c.self.inside.marks.items index true),
     )
 
 pub returns-clause-was_free : goal.returns-clause-was_free
@@ -45,3 +47,11 @@ returns-clause-cleared c =
     ∙ rw (clear, c.at_index.ensures)
     (marked_frames-mark marks (values places) index zeros (IsUnmarked-next _ _ _ _ _ raw some).in_marks (next_within _ _ _ _ _ raw some))
     ∙ ap (λ (a : Arena). finite.insert a.frames c.at_index.result zeros) c.self.view_is
+
+pub returns-clause-noted : goal.returns-clause-noted
+returns-clause-noted c =
+    let raw = c.self.invariant.0 in let index = c.self.inside.next_free in
+    let some : 0 < c.self.inside.free_count = omega (arith, c.if-self-eq0.false) in
+    let in_marks = (IsUnmarked-next _ _ _ _ _ raw some).in_marks in
+    rw c.at_index.ensures (marked-mark 0 c.self.inside.marks.items c.self.inside.notes.items index 0 in_marks (omega (arith, in_marks, c.self.invariant.4)))
+    ∙ ap (λ (a : Arena). finite.insert a.notes c.at_index.result 0) c.self.view_is

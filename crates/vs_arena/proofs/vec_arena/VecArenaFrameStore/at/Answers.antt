@@ -5,7 +5,7 @@ use Rattle.vs_arena.proofs.MarkedFrames.{used_if_marked, free_if_unmarked}
 use Rattle.vs_arena.proofs.vec_arena.VecArenaFrameStore.at.Goals as goal
 
 pub marked_at-requires : goal.marked_at-requires
-marked_at-requires c = rw c.deref.ensures.value c.self.invariant.arena.few_frames
+marked_at-requires c = rw c.deref.ensures.value c.self.invariant.0.arena.few_frames
 
 pub returns-clause-numbered : goal.returns-clause-numbered
 returns-clause-numbered c = subst (λ (a : Arena). IfSome c.marked_at.result (λ f. a.base + f ≡ c.args.number)) c.self.view_is c.marked_at.ensures.numbered

@@ -1,10 +1,12 @@
-use Rattle.std.proofs.Common.{refl, sym, ap, subst, ◌∙◌}
+use Rattle.std.proofs.Common.{◌≢◌, Some, refl, sym, ap, subst, ◌∙◌}
 use Rattle.vs_types.specs.Depth.{IsCanonical}
-use Rattle.vs_space.specs.Held.{Held, with_word}
+use Rattle.vs_types.specs.Page.{level_of}
+use Rattle.vs_space.specs.Held.{Held, word_at, with_word}
 use Rattle.vs_space.specs.Table.{PageTable}
 use Rattle.vs_space.specs.inside.Invariant.{IsPageTable, table_in_store}
 use Rattle.vs_space.proofs.Numbered.{held}
 use Rattle.vs_space.proofs.Meets.{descended, ended_inside, used_met, leaf_again, protect_absent, protect_in, protected, seen}
+use Rattle.vs_space.proofs.Presents.{present_word, some_word}
 use Rattle.vs_space.proofs.space.Space.protect_at.Goals as goal
 
 pub read_written-requires-clause-written : goal.read_written-requires-clause-written
@@ -34,6 +36,15 @@ pub write-requires-clause-in_use : goal.write-requires-clause-in_use
 write-requires-clause-in_use g c =
     let ended = ended_inside c.self.view_is c.requires.ended in
     used_met c.self.invariant.0 ended.descent ended.last
+
+pub write-requires-clause-present : goal.write-requires-clause-present
+write-requires-clause-present g c =
+    let ended = ended_inside c.self.view_is c.requires.ended in
+    let found = (descended refl (sym c.in-Leaf.ensures) ended.descent).is in
+    subst (λ n. word_at c.self.inside.tables.memory n c.index_at.result ≢ Some 0) (sym ended.last) (present_word _ _ _ c.args.base found (λ none. cc) c.index_at.ensures.is)
+
+pub write-requires-clause-some : goal.write-requires-clause-some
+write-requires-clause-some g c = some_word (level_of c.at_level-size.result) c.leaf-leaf.ensures.read_back (λ none. cc)
 
 pub invariant_of-self : goal.invariant_of-self
 invariant_of-self g c =

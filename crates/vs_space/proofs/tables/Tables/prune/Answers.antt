@@ -1,10 +1,14 @@
-use Rattle.std.proofs.Common.{◌+◌, sym, ap, subst, ◌∙◌, arith}
-use Rattle.std.specs.Prelude.{IsSome, slice_index}
+use Rattle.std.proofs.Common.{◌≡◌, ◌+◌, Some, sym, ap, subst, ◌∙◌, arith}
+use Rattle.std.specs.Prelude.{slice_index}
 use Rattle.std.specs.FinMap as finite
 use Rattle.vs_types.specs.Depth.{levels}
 use Rattle.vs_space.specs.Held.{Held}
 use Rattle.vs_space.proofs.Numbered.{same_but_memory}
-use Rattle.vs_space.proofs.Prunes.{IsPruning, pruned_by, something_here, pruning_on, emptied_used, emptied_written}
+use Rattle.vs_space.proofs.Prunes.{IsPruning, pruned_by, something_here, pruning_on, in_use_here, emptied_written, leads_here, apart_above}
+use Rattle.vs_space.proofs.Writes.{get_written_other}
+use Rattle.vs_space.proofs.Links.{zeros_are}
+use Rattle.vs_space.proofs.Written.{entry_zero}
+use Rattle.vs_arena.specs.Store.{zeros}
 use Rattle.vs_space.proofs.tables.Tables.prune.Goals as goal
 
 pub returns-then-not-is_empty-clause-pruned : goal.returns-then-not-is_empty-clause-pruned
@@ -12,15 +16,22 @@ returns-then-not-is_empty-clause-pruned g c =
     let going = c.loop-level.invariant.pruning in
     pruned_by going.cut going (λ deep.
     something_here going.cut c.requires.canonical (λ b is_b reserved. c.requires.faultless b is_b (sym (going.walks b is_b) ∙ reserved))
-    (omega (arith, c.loop-level-test.true, c.levels.ensures)) (c.is_empty.ensures.present c.if-not-is_empty.true))
+    (omega (arith, c.loop-level-test.true, c.levels.ensures)) (c.is_empty.ensures.present c.if-not-is_empty.true c.loop-level.level (emptied_written going.cut)))
 
-pub is_empty-requires-clause-written : goal.is_empty-requires-clause-written
-is_empty-requires-clause-written g c = emptied_written c.loop-level.invariant.pruning.cut
+pub is_empty-requires : goal.is_empty-requires
+is_empty-requires g c = in_use_here c.loop-level.invariant.pruning.cut
+
+pub clear-requires-clause-present : goal.clear-requires-clause-present
+clear-requires-clause-present g c =
+    leads_here c.loop-level.invariant.pruning.cut (omega (arith, c.loop-level-test.true, c.levels.ensures)) c.index_at.ensures.is
 
 pub give-requires : goal.give-requires
 give-requires g c =
-    subst (λ (h : Held). IsSome (finite.get h.memory (slice_index c.args.path.now c.loop-level.level))) (sym c.write.ensures.written)
-    (emptied_used c.loop-level.invariant.pruning.cut _ c.index_at-in-loop-level.result)
+    let emptied = slice_index c.args.path.now c.loop-level.level in
+    subst (λ (h : Held). finite.get h.memory emptied ≡ Some zeros) (sym c.clear.ensures.written)
+    (get_written_other c.loop-level.self.memory _ c.index_at.result 0 emptied
+    (apart_above c.loop-level.invariant.pruning.cut (omega (arith, c.loop-level-test.true, c.levels.ensures)))
+    ∙ c.is_empty.ensures.empty c.if-not-is_empty.false)
 
 pub loop-level-preserved : goal.loop-level-preserved
 loop-level-preserved g c =
@@ -28,12 +39,13 @@ loop-level-preserved g c =
     let going = c.loop-level.invariant.pruning in
     let after = c.give.ensures.removed ∙ ap (λ (h : Held). let given : Held =
     record { base = h.base; limit = h.limit; memory = finite.remove h.memory (slice_index c.args.path.now c.loop-level.level) } in given)
-    c.write.ensures.written in
+    c.clear.ensures.written in
     record {
       pruning = subst (λ (h : Held). IsPruning c.args.depth c.args.self.now.memory h.memory root c.args.address c.args.from
           (c.loop-level.level + 1) c.args.path.now) (sym after)
-          (pruning_on going.cut (omega (arith, c.loop-level-test.true, c.levels.ensures)) (c.is_empty.ensures.empty c.if-not-is_empty.false)
-          c.index_at-in-loop-level.ensures.is going);
+          (pruning_on going.cut (omega (arith, c.loop-level-test.true, c.levels.ensures)) (λ i low.
+          entry_zero c.loop-level.level c.loop-level.self.memory _ i zeros (c.is_empty.ensures.empty c.if-not-is_empty.false) (zeros_are i))
+          c.index_at.ensures.is going);
       same = same_but_memory c.args.self.now c.loop-level.self c.give.new.self _ after c.loop-level.invariant.same;
       numbers = c.give.ensures.numbers;
     }

@@ -4,6 +4,7 @@ use Rattle.vs_arena.specs.Store.{zeros}
 use Rattle.vs_arena.proofs.Stores.{IsInUse-insert_same}
 use Rattle.vs_space.specs.Held.{Held, numbered}
 use Rattle.vs_space.proofs.Numbered.{held, stored, numbers_stored, numbers_insert, whole-zeros, numbered-insert, get_numbered, len_numbered}
+use Rattle.vs_space.proofs.Counts.{counted_insert, count_zeros}
 use Rattle.vs_space.proofs.tables.Tables.take.Goals as goal
 
 pub returns-in_err-frame-clause-all_in_use : goal.returns-in_err-frame-clause-all_in_use
@@ -20,6 +21,7 @@ invariant_of-self-2 g c = (
   numbers_stored _ c.take.ensures.same_size c.take.ensures.same_base
       (ap (numbered (g.S.FrameStore.base c.self.inside.store)) c.in_ok-frame.ensures.cleared ∙ numbered-insert _ _ _ zeros)
       (numbers_insert c.self.invariant.1 _ zeros (omega arith) (omega (arith, c.in_ok-frame.ensures.within))),
+  rw (c.in_ok-frame.ensures.cleared, c.in_ok-frame.ensures.noted) (counted_insert c.self.invariant.2 c.in_ok-frame.frame zeros 0 (sym (count_zeros 512))),
 )
 
 pub returns-clause-numbers : goal.returns-clause-numbers
