@@ -33,8 +33,8 @@ fn flush_that_fails(rt: HostRuntime) -> Result<(), Fail> {
     ];
     for (command, answer) in commands {
         let mut output = FailsAtFlush(Vec::new(rt.alloc()));
-        let input = HEAD.as_slice().chain(root.as_slice());
-        let told = match command.run(rt.alloc(), input, &mut output) {
+        let mut input = HEAD.as_slice().chain(root.as_slice());
+        let told = match command.run(rt.alloc(), &mut input, &mut output) {
             Ok(status) => ("an answer", status),
             Err(fault) => (fault.text(), fault.status()),
         };

@@ -1,5 +1,8 @@
 -- A right verdict is the only one, and where it is yes the bytes are right with its order.
-use Rattle.std.proofs.Common.{◌≡◌, ℕ, ◌⊎◌, inl, inr, List, refl, sym, ap, subst, ◌∙◌}
+use Rattle.std.proofs.Common.{◌≡◌, ℕ, ◌⊎◌, inl, inr, IfOk, IfErr, List, Result, Ok, Err, refl, sym, ap, subst, ◌∙◌}
+use Rattle.vs_types.specs.Refusal.{IfRefused}
+use Rattle.vs_types.specs.declared.refusal.Fail.{Fail}
+use Rattle.nr_trace.specs.Feed.{Reads}
 use Rattle.nr_trace.specs.Recording.{Recording}
 use Rattle.nr_trace.specs.Spelling.{Spells}
 use Rattle.nr_trace.specs.FirstFault.{HasFormatFault}
@@ -146,3 +149,10 @@ pub dumps_of : (bytes : List ℕ) (verdict : Verdict) → IsVerdictOf bytes verd
     → IfYes (λ order. IsSpelledWith bytes (λ trace. HasFittingDumps trace order)) verdict
 dumps_of bytes verdict is = part_of bytes (λ order. IsSpelledWith bytes (λ trace. HasFittingDumps trace order)) verdict is
     (λ order right. (right.trace, right.spelled, right.dumps))
+
+-- ---- what was read of bytes
+
+pub read_so : (bytes : List ℕ) (read : Result Recording (Fail FormatFault)) → IfOk read (Spells bytes) → IfErr read (IfRefused (HasFormatFault bytes))
+    → Reads bytes read
+read_so bytes (Ok trace) spelled refused = spelled
+read_so bytes (Err fail) spelled refused = refused

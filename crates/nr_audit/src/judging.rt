@@ -1,4 +1,5 @@
-ghost use Rattle.std.specs.Prelude.{◌≡◌, IfOk};
+ghost use Rattle.std.specs.Prelude.{◌≡◌, ℕ, IfOk, List};
+ghost use Rattle.nr_trace.specs.Feed.{Reads};
 ghost use Rattle.nr_trace.specs.Faults.{IsFirst, IsFirstOf};
 ghost use Rattle.nr_trace.specs.Laws.{IsFaultless};
 ghost use Rattle.nr_trace.specs.Orders.{recorded_order, HasItsCalls, HasTheAnswers, KeepsPrecedence};
@@ -10,7 +11,7 @@ ghost use Rattle.nr_audit.specs.Verdict.{IfYes, IsVerdictOf, IsVerdictOn};
 
 use crate::search::search;
 use crate::verdict::{Order, Verdict};
-use nr_trace::{Fault, Trace, read};
+use nr_trace::{Fault, Format, Trace, read};
 use std::alloc::Global;
 use vs_types::{Fail, Memory};
 
@@ -44,6 +45,24 @@ pub fn judge(alloc: Global, trace: &Trace) -> Result<Verdict, Memory>
     }
 }
 
+/// The verdict on bytes of which this was read: the trace that they spell, which is judged, or `No` with their format fault.
+///
+/// Takes what `judge` takes.
+///
+/// # Errors
+///
+/// `Memory` where a growth of memory was refused, here or as the bytes were read.
+pub fn judge_read(alloc: Global, read: Result<Trace, Fail<Format>>) -> Result<Verdict, Memory>
+    ensures verdict { (bytes : List ℕ) → Reads bytes read → IfOk result (IsVerdictOf bytes) }
+    ensures right { (bytes : List ℕ) → Reads bytes read → IfOk result (IfYes (AreRightWith bytes)) }
+{
+    match read {
+        Ok(trace) => judge(alloc, &trace),
+        Err(Fail::Memory) => Err(Memory),
+        Err(Fail::Refused(fault)) => Ok(Verdict::No(Fault::Format(fault))),
+    }
+}
+
 /// Whether bytes are those of a right trace: they are read, and what they spell is judged. `No` with a fault of the format
 /// where they spell none.
 ///
@@ -63,9 +82,5 @@ pub fn audit(alloc: Global, bytes: &[u8]) -> Result<Verdict, Memory>
     ensures answers { IfOk result (IfYes (λ order. IsSpelledWith bytes.now (λ trace. HasTheAnswers trace order))) }
     ensures dumps { IfOk result (IfYes (λ order. IsSpelledWith bytes.now (λ trace. HasFittingDumps trace order))) }
 {
-    match read(alloc, bytes) {
-        Ok(trace) => judge(alloc, &trace),
-        Err(Fail::Memory) => Err(Memory),
-        Err(Fail::Refused(fault)) => Ok(Verdict::No(Fault::Format(fault))),
-    }
+    judge_read(alloc, read(alloc, bytes))
 }

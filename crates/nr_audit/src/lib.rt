@@ -22,5 +22,5 @@ mod search;
 mod tables;
 mod verdict;
 
-pub use judging::{audit, judge};
+pub use judging::{audit, judge, judge_read};
 pub use verdict::{Order, Verdict};

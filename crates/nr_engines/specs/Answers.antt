@@ -1,27 +1,29 @@
 -- What the commands answer to bytes: a text and a status.
-use Rattle.std.specs.Prelude.{◌≡◌, ◌≤◌, ◌⊎◌, ℕ, List, Option, Some, IfSome, Result, MatchResult, slice_get}
-use Rattle.std.specs.Io.KnownBytes.{Appends}
+use Rattle.std.specs.Prelude.{◌≡◌, ◌≤◌, ◌+◌, ◌⊎◌, ◌++◌, ℕ, List, length, Option, Some, IfSome, Result, slice_get}
+use Rattle.std.specs.Io.KnownBytes.{Appends, Consumes}
 use Rattle.vs_types.specs.Depth.{IsCanonical}
-use Rattle.vs_types.specs.Refusal.{IfRefused}
 use Rattle.vs_types.specs.declared.refusal.Fail.{Fail}
 use Rattle.vs_walk.specs.Walk.{walk}
 use Rattle.vs_walk.specs.Dump.{Image}
 use Rattle.nr_trace.specs.Recording.{Recording}
+use Rattle.nr_trace.specs.Feed.{HasNoFaultYet, Reads}
 use Rattle.nr_trace.specs.Spelling.{Spells}
 use Rattle.nr_trace.specs.FirstFault.{HasFormatFault}
 use Rattle.nr_trace.specs.declared.fault.Format.{Format}
 use Rattle.nr_trace.specs.declared.fault.Fault.TheVariants as faults
-use Rattle.nr_audit.specs.Verdict.{IsVerdictOf}
+use Rattle.nr_audit.specs.Headline.{AreRightWith}
+use Rattle.nr_audit.specs.Verdict.{IfYes, IsVerdictOf}
 use Rattle.nr_audit.specs.declared.verdict.Verdict.{Verdict}
 use Rattle.nr_engines.specs.Text.{no_text, verdict_text, verdict_status, walk_text}
 use Rattle.nr_engines.specs.Addresses.{SpellsAddress}
 use Rattle.nr_engines.specs.declared.command.Command.{Command}
 use Rattle.nr_engines.specs.declared.command.Command.TheVariants.{Audit, Resolve}
 
--- of `audit`: the text and the status are those of the verdict of these bytes
+-- of `audit`: the text and the status are those of the verdict of these bytes; where it is yes they are right with its order
 pub record IsAudit (bytes text : List ℕ) (status : ℕ) : Type 0 where
   pub verdict : Verdict
   pub is_verdict : IsVerdictOf bytes verdict
+  pub right : IfYes (AreRightWith bytes) verdict
   pub text_is : text ≡ verdict_text verdict
   pub status_is : status ≡ verdict_status verdict
 
@@ -74,15 +76,20 @@ IsAnswer (Resolve word replica) = IsResolve word.now replica
 abbrev pub IsReadOf : Option (List ℕ) → List ℕ → Type 0
 IsReadOf known input = IfSome known (λ whole. input ≡ whole)
 
--- the trace that the bytes spell, or the fault that they have
-abbrev pub IsReadFrom : List ℕ → Result Recording (Fail Format) → Type 0
-IsReadFrom bytes read = MatchResult read (Spells bytes) (IfRefused (HasFormatFault bytes))
-
 -- so an input was read
 pub record HasRead (known : Option (List ℕ)) (read : Result Recording (Fail Format)) : Type 0 where
   pub input : List ℕ
   pub is_read : IsReadOf known input
-  pub read_is : IsReadFrom input read
+  pub read_is : Reads input read
+
+-- how much was read: nothing is wrong yet with the bytes before the last block, and no trace has more than all but one of them
+pub record HasReadFew (old new : Option (List ℕ)) : Type 0 where
+  pub before : List ℕ
+  pub block : List ℕ
+  pub read : Consumes old new (before ++ block)
+  pub no_fault_yet : HasNoFaultYet before
+  pub one_block : length block ≤ 4096
+  pub few : length before + length block ≤ 70647893
 
 -- a text that goes with the status, on the input, was written after what was there, and nothing else
 pub record WritesReport (IsReport : List ℕ → List ℕ → ℕ → Type 0) (known old new : Option (List ℕ)) (status : ℕ) : Type 0 where

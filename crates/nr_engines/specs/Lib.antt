@@ -9,5 +9,7 @@ pub use Rattle.vs_walk.specs.Walk
 pub use Rattle.vs_walk.specs.Dump
 pub use Rattle.nr_trace.specs.Recording
 pub use Rattle.nr_trace.specs.Spelling
+pub use Rattle.nr_trace.specs.Feed
 pub use Rattle.nr_trace.specs.FirstFault
 pub use Rattle.nr_audit.specs.Verdict
+pub use Rattle.nr_audit.specs.Headline

@@ -15,19 +15,24 @@ pub enum Command<'a> {
 
 impl Command<'_> {
     ghost use Rattle.std.specs.Prelude.{IfOk, IfErr};
-    ghost use Rattle.nr_engines.specs.Answers.{IsAnswer, WritesReport};
+    ghost use Rattle.nr_engines.specs.Answers.{HasReadFew, IsAnswer, WritesReport};
     ghost use Rattle.nr_engines.specs.Refusals.{IsRefusal, WritesAnswersAlone};
 
     /// Runs the command on the input, and gives the exit status.
-    pub fn run<R: Read + Drop, W: Write>(
+    ///
+    /// # Errors
+    ///
+    /// Those of `audit_io`, or of `resolve_io`.
+    pub fn run<R: Read, W: Write>(
         self,
         alloc: Global,
-        reader: R,
+        reader: &mut R,
         writer: &mut W,
     ) -> Result<u8, ProgFault>
-        ensures ok { IfOk result (WritesReport (IsAnswer self.entry) (R.remaining reader) (W.contents writer.old) (W.contents writer.new)) }
-        ensures err { IfErr result (IsRefusal self.entry (R.remaining reader)) }
+        ensures ok { IfOk result (WritesReport (IsAnswer self.entry) (R.remaining reader.old) (W.contents writer.old) (W.contents writer.new)) }
+        ensures err { IfErr result (IsRefusal self.entry (R.remaining reader.old)) }
         ensures alone { WritesAnswersAlone writer.old writer.new result }
+        ensures few { HasReadFew (R.remaining reader.old) (R.remaining reader.new) }
     {
         match self {
             Command::Audit => audit_io(alloc, reader, writer),

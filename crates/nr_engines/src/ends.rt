@@ -1,8 +1,8 @@
 ghost use Rattle.std.specs.Prelude.{◌≡◌, ◌<◌, [], IfOk, IfErr, OnOk, length, string_bytes, take};
 ghost use Rattle.nr_trace.specs.Feed.Fed.{Taken};
 ghost use Rattle.std.specs.Io.{ReadsAtMost};
-ghost use Rattle.std.specs.Io.KnownBytes.{Appends, Consumes, IsAtEnd};
-ghost use Rattle.nr_engines.specs.Answers.{HasRead};
+ghost use Rattle.std.specs.Io.KnownBytes.{Appends, Consumes, IsAtEnd, Keeps};
+ghost use Rattle.nr_engines.specs.Answers.{HasRead, HasReadFew};
 
 use crate::fault::ProgFault;
 use crate::report::Report;
@@ -14,12 +14,16 @@ use vs_types::Fail;
 /// The most bytes that are read at a time.
 const BLOCK: usize = 4096;
 
+/// The most bytes that are read of an input: one more than any trace has, so that the last of them is refused.
+const MOST_BYTES: usize = 70_647_893;
+
 /// Reads into the block: how many bytes, none at the end of the input. A read that was interrupted is tried again.
 fn read_block<R: Read>(reader: &mut R, block: &mut [u8]) -> Result<usize, ProgFault>
     ensures bound { ReadsAtMost result block.new }
     ensures ok { IfOk result (λ count. Consumes (R.remaining reader.old) (R.remaining reader.new) (take count block.new)) }
     ensures end { IfOk result (λ count. count ≡ 0 → 0 < length block.old → IsAtEnd (R.remaining reader.new)) }
     ensures err { IfErr result (λ fault. fault ≡ ProgFault.CannotRead) }
+    ensures kept { IfErr result (λ _. Keeps (R.remaining reader.old) (R.remaining reader.new)) }
 {
     for _ in 0..u64::MAX {
         match reader.read(block) {
@@ -34,38 +38,48 @@ fn read_block<R: Read>(reader: &mut R, block: &mut [u8]) -> Result<usize, ProgFa
     Err(ProgFault::CannotRead)
 }
 
-/// Reads blocks and feeds each, to the end of the input or to the first refusal.
-fn feed_blocks<R: Read + Drop>(
-    mut reader: R,
+/// Reads blocks and feeds each, to the end of the input or to the first refusal, which comes at the latest with the last byte
+/// that there is room for.
+fn feed_blocks<R: Read>(
+    reader: &mut R,
     mut feed: Feed,
     block: &mut [u8],
 ) -> Result<Result<Trace, Fail<Format>>, ProgFault>
     requires empty { feed ≡ Taken [] }
-    requires room { 0 < length block.old }
-    ensures ok { IfOk result (HasRead (R.remaining reader)) }
+    requires block { length block.old ≡ 4096 }
+    ensures ok { IfOk result (HasRead (R.remaining reader.old)) }
     ensures err { IfErr result (λ fault. fault ≡ ProgFault.CannotRead) }
+    ensures few { HasReadFew (R.remaining reader.old) (R.remaining reader.new) }
 {
-    for _ in 0..u64::MAX {
-        let count = read_block(&mut reader, block)?;
+    let mut room = MOST_BYTES;
+    while room > 0 {
+        let piece = &mut block[..room.min(BLOCK)];
+        let count = read_block(reader, piece)?;
         if count == 0 {
             return Ok(feed.end());
         }
-        if let Err(fail) = feed.feed(&block[..count]) {
+        if let Err(fail) = feed.feed(&piece[..count]) {
             return Ok(Err(fail));
         }
+        room -= count;
     }
     Err(ProgFault::CannotRead)
 }
 
 /// Reads the input in blocks of at most 4,096 bytes and feeds each to the reader of traces: the trace that the input
-/// spells, or why it spells none. It stops at the first refusal. Takes memory for the trace, and keeps no other bytes than
-/// one block.
-pub fn read_trace<R: Read + Drop>(
+/// spells, or why it spells none. It reads nothing after the first refusal, and never more than 70,647,893 bytes, one more than
+/// the greatest trace has. Takes memory for the trace, and keeps no other bytes than one block.
+///
+/// # Errors
+///
+/// `CannotRead` where the reader gave an error that is no interruption. That memory ran out stands inside the answer.
+pub fn read_trace<R: Read>(
     alloc: Global,
-    reader: R,
+    reader: &mut R,
 ) -> Result<Result<Trace, Fail<Format>>, ProgFault>
-    ensures ok { IfOk result (HasRead (R.remaining reader)) }
+    ensures ok { IfOk result (HasRead (R.remaining reader.old)) }
     ensures err { IfErr result (λ fault. fault ≡ ProgFault.CannotRead) }
+    ensures few { HasReadFew (R.remaining reader.old) (R.remaining reader.new) }
 {
     feed_blocks(reader, Feed::new(alloc), &mut [0; BLOCK])
 }

@@ -1,5 +1,6 @@
 ghost use Rattle.std.specs.Prelude.{ℕ, IfOk, IfErr, List, MatchResult, string_bytes};
-ghost use Rattle.nr_engines.specs.Answers.{IsReadFrom, IsResolve, IsWalk, WritesReport};
+ghost use Rattle.nr_trace.specs.Feed.{Reads};
+ghost use Rattle.nr_engines.specs.Answers.{HasReadFew, IsResolve, IsWalk, WritesReport};
 ghost use Rattle.nr_engines.specs.Refusals.{IsWalkFault, IsResolveFault, WritesAnswersAlone};
 
 use crate::address::parse_address;
@@ -14,15 +15,19 @@ use vs_types::Fail;
 use vs_walk::translate;
 
 /// What `resolve` answers to what was read of an input: where the walk of the address ends in a replica's dump, with status 0;
-/// or the line of the format fault, with status 1; or `NotCanonical`, where it is not canonical at the trace's depth, and then
-/// `NoSuchReplica`. Takes memory for the text.
+/// or the line of the format fault, with status 1. Takes memory for the text.
+///
+/// # Errors
+///
+/// The first that holds of `NotCanonical`, where the address is not canonical at the trace's depth, and `NoSuchReplica`; `Memory`
+/// where a growth of memory was refused, here or as the input was read.
 pub fn resolve_read(
     alloc: Global,
     read: Result<Trace, Fail<Format>>,
     address: u64,
     replica: u8,
 ) -> Result<Report, ProgFault>
-    ensures { (bytes : List ℕ) → IsReadFrom bytes read → MatchResult result
+    ensures { (bytes : List ℕ) → Reads bytes read → MatchResult result
         (λ report. IsWalk address replica bytes (string_bytes report.text) report.status)
         (IsWalkFault bytes address replica) }
 {
@@ -49,18 +54,24 @@ pub fn resolve_read(
 
 /// Reads a trace, and writes where the walk of an address ends in a replica's dump. It tests the spelling of the
 /// address, then reads, then tests whether the address is canonical at the trace's depth, then the replica. The status is 0,
-/// or 1 where the input spells no trace. It reads in blocks, and stops where the input can't become a trace any more. Where
-/// it gives no answer some input may have been read, and nothing was written but where that failed.
-pub fn resolve_io<R: Read + Drop, W: Write>(
+/// or 1 where the input spells no trace. It reads in blocks, and stops as soon as a whole unit has a fault, or a byte stands
+/// after the last unit. Where it gives no answer some input may have been read, and nothing was written but where that failed.
+///
+/// # Errors
+///
+/// The first that holds of `BadAddress`, `CannotRead`, `NotCanonical`, `NoSuchReplica`, `CannotWrite`; `Memory` where a growth
+/// of memory was refused.
+pub fn resolve_io<R: Read, W: Write>(
     alloc: Global,
-    reader: R,
+    reader: &mut R,
     writer: &mut W,
     address: &str,
     replica: u8,
 ) -> Result<u8, ProgFault>
-    ensures ok { IfOk result (WritesReport (IsResolve address.now replica) (R.remaining reader) (W.contents writer.old) (W.contents writer.new)) }
-    ensures err { IfErr result (IsResolveFault address.now replica (R.remaining reader)) }
+    ensures ok { IfOk result (WritesReport (IsResolve address.now replica) (R.remaining reader.old) (W.contents writer.old) (W.contents writer.new)) }
+    ensures err { IfErr result (IsResolveFault address.now replica (R.remaining reader.old)) }
     ensures alone { WritesAnswersAlone writer.old writer.new result }
+    ensures few { HasReadFew (R.remaining reader.old) (R.remaining reader.new) }
 {
     let address = parse_address(address).ok_or(ProgFault::BadAddress)?;
     let read = read_trace(alloc, reader)?;

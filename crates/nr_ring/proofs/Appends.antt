@@ -33,7 +33,7 @@ keeps_up log words count are room few r lt =
     let present : r < slice_index words 6 = omega (arith, are.replicas_are, lt) in
     omega (arith, room r present, are.tail_is, are.locals_are r (omega arith))
 
-begins : (a b c : List LogEvent) → StartsWith b a → StartsWith c b → StartsWith c a
+pub begins : (a b c : List LogEvent) → StartsWith b a → StartsWith c b → StartsWith c a
 begins a b c first second = (first.0 ++ second.0, second.1 ∙ ap (λ (l : List LogEvent). l ++ second.0) first.1 ∙ append_assoc a first.0 second.0)
 
 no_advances : (replica : ℕ) (a b c : List LogEvent) → HasSeenAdvances replica b a → HasSeenAdvances replica c b → HasSeenAdvances replica c a

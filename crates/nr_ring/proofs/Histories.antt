@@ -122,7 +122,7 @@ local_since replicas replica events seen is =
     ∙ ap (λ (log : Log). local_of log replica) (after_both (new_log replicas) seen is.0)
     ∙ local_stays replica (log_after replicas seen) is.0 is.2
 
-goes_on_before : (depth : Depth) (log : Log) (seen rest : List LogEvent) → MayGoOn depth log (seen ++ rest) → MayGoOn depth log seen
+pub goes_on_before : (depth : Depth) (log : Log) (seen rest : List LogEvent) → MayGoOn depth log (seen ++ rest) → MayGoOn depth log seen
 goes_on_before depth log [] rest may = tt
 goes_on_before depth log (event ∷ seen) rest may = (may.0, goes_on_before depth (log_after_event log event) seen rest may.1)
 

@@ -16,3 +16,4 @@ pub mod Meets
 pub mod Batches
 pub mod Fetches
 pub mod Appends
+pub mod OwnTails

@@ -30,7 +30,7 @@ none_made number pass (m ∷ ms) below =
     rw first (none_made (number + 1) pass ms (λ k d lt. below (suc k) d (omega arith)))
 
 -- what holds of each item holds of one that is contained
-holds_of : (P : ℕ → Type 0) (xs : List ℕ) (x : ℕ) → All P xs → Contains xs x → P x
+pub holds_of : (P : ℕ → Type 0) (xs : List ℕ) (x : ℕ) → All P xs → Contains xs x → P x
 holds_of P xs x all has = subst P has.2 (all has.0 x has.1)
 
 -- who owns a replica after the cut

@@ -2,6 +2,7 @@
 use Rattle.std.specs.Prelude.{◌≡◌, ℕ, ◌≤◌, ◌<◌, ◌+◌, List, ◌++◌, length}
 use Rattle.vs_types.specs.declared.limits.TheConstants.{LOG_PLACES}
 use Rattle.vs_types.specs.declared.log_entry.LogEntry.{LogEntry}
+use Rattle.nr_ring.specs.declared.words.TheConstants.{RING}
 use Rattle.nr_ring.specs.LogHistory.{Log, tail, local_of, completed}
 
 -- the later log begins with the entries of the earlier one, and no tail has fallen
@@ -19,5 +20,5 @@ pub record HasSameTails (p q : Log) : Type 0 where
 -- no replica has taken an entry that is not there, or is more than 16 entries behind
 pub record FitsTheRing (log : Log) : Type 0 where
   pub written : (replica : ℕ) → local_of log replica ≤ tail log
-  pub kept_up : (replica : ℕ) → replica < length log.locals → tail log ≤ local_of log replica + 16
+  pub kept_up : (replica : ℕ) → replica < length log.locals → tail log ≤ local_of log replica + RING
   pub ends : tail log ≤ LOG_PLACES

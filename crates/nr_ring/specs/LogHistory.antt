@@ -6,6 +6,7 @@ use Rattle.vs_types.specs.declared.limits.TheConstants.{LOG_PLACES}
 use Rattle.vs_types.specs.declared.log_entry.LogEntry.{LogEntry}
 use Rattle.nr_ring.specs.declared.log_event.LogEvent.{LogEvent}
 use Rattle.nr_ring.specs.declared.log_event.LogEvent.TheVariants.{Append, Advance}
+use Rattle.nr_ring.specs.declared.words.TheConstants.{RING}
 
 -- all entries since the start, and how many of them each replica has taken: its local tail
 pub record Log : Type 0 where
@@ -37,12 +38,12 @@ HasRoom log n = tail log + n ≤ LOG_PLACES
 
 -- no replica has more than 16 entries to take
 abbrev pub AllKeepUp : Log → ℕ → Type 0
-AllKeepUp log n = (replica : ℕ) → replica < length log.locals → tail log + n ≤ local_of log replica + 16
+AllKeepUp log n = (replica : ℕ) → replica < length log.locals → tail log + n ≤ local_of log replica + RING
 
 -- a batch may be appended: 1 to 16 entries at the log's depth
 pub record MayAppend (depth : Depth) (log : Log) (batch : List LogEntry) : Type 0 where
   pub some : 1 ≤ length batch
-  pub few : length batch ≤ 16
+  pub few : length batch ≤ RING
   pub entries : All (IsLogEntry depth) batch
   pub room : HasRoom log (length batch)
   pub kept_up : AllKeepUp log (length batch)
@@ -85,4 +86,4 @@ abbrev pub IsEnded : Log → ℕ → Type 0
 IsEnded log n = LOG_PLACES < tail log + n
 
 abbrev pub IsFull : Log → ℕ → Type 0
-IsFull log n = (replica : ℕ) × (replica < length log.locals) × (local_of log replica + 16 < tail log + n)
+IsFull log n = (replica : ℕ) × (replica < length log.locals) × (local_of log replica + RING < tail log + n)

@@ -1,6 +1,7 @@
 //! What each event is to the words of the cell. Each function does nothing: its clauses say what holds of every log.
 ghost use Rattle.std.specs.Prelude.{◌≡◌, ℕ, ◌<◌, List};
 ghost use Rattle.vs_types.specs.declared.depth.Depth.{Depth};
+ghost use Rattle.vs_types.specs.declared.limits.TheConstants.{REPLICAS};
 ghost use Rattle.vs_types.specs.declared.log_entry.LogEntry.{LogEntry};
 ghost use Rattle.nr_ring.specs.LogHistory.{Log, MayAdvance, MayAppend, log_after_event};
 ghost use Rattle.nr_ring.specs.Words.{IsAppended, IsWordsOf, advanced_words};
@@ -13,7 +14,7 @@ pub fn words_are_a_function_of_the_log()
 
 /// An advance is two words: the replica's local tail, and the completed tail, which it raises in the same exchange.
 pub fn advances_change_two_words()
-    ensures { (log : Log) (replica to : ℕ) (words : List ℕ) → replica < 4 → IsWordsOf log words → MayAdvance log replica to
+    ensures { (log : Log) (replica to : ℕ) (words : List ℕ) → replica < REPLICAS → IsWordsOf log words → MayAdvance log replica to
         → IsWordsOf (log_after_event log (Advance replica to)) (advanced_words replica to words) }
 {}
 

@@ -1,12 +1,16 @@
 //! Laws of the definitions in `specs/`. Each function does nothing: its clauses say what holds of every history.
-ghost use Rattle.std.specs.Prelude.{◌≡◌, ℕ, ◌<◌, ◌≤◌, ◌⊎◌, List, [], All, length};
+ghost use Rattle.std.specs.Prelude.{◌≡◌, ℕ, ◌<◌, ◌≤◌, ◌⊎◌, List, [], ◌∷◌, All, Contains, length};
 ghost use Rattle.vs_types.specs.LogEntry.{IsLogEntry};
 ghost use Rattle.vs_types.specs.declared.depth.Depth.{Depth};
 ghost use Rattle.vs_types.specs.declared.log_entry.LogEntry.{LogEntry};
 ghost use Rattle.nr_ring.specs.LogHistory.{Log, MayGoOn, MayAppend, IsLogHistory, IsEnded, IsFull, log_after_events, log_after, local_of, completed};
 ghost use Rattle.nr_ring.specs.Laws.{HasGoneOn, HasSameTails, FitsTheRing};
-ghost use Rattle.nr_ring.specs.View.{HasSeenAdvances};
+ghost use Rattle.nr_ring.specs.Calls.{HasLooked, HasTaken};
+ghost use Rattle.nr_ring.specs.Entries.{HasAppended};
+ghost use Rattle.nr_ring.specs.View.{HasSeenAdvances, StartsWith};
 ghost use Rattle.nr_ring.specs.declared.log_event.LogEvent.{LogEvent};
+ghost use Rattle.nr_ring.specs.declared.view.View.{View};
+ghost use Rattle.nr_ring.specs.declared.words.TheConstants.{RING};
 
 pub use crate::cell_words::{
     advances_change_two_words, appends_keep_needed_entries, words_are_a_function_of_the_log,
@@ -32,6 +36,44 @@ pub fn local_tails_rise_by_advances()
         → local_of (log_after replicas events) replica ≡ local_of (log_after replicas seen) replica }
 {}
 
+/// What a history begins with is a history.
+pub fn beginnings_are_histories()
+    ensures { (depth : Depth) (replicas : ℕ) (events seen : List LogEvent) → IsLogHistory depth replicas events → StartsWith events seen
+        → IsLogHistory depth replicas seen }
+{}
+
+/// The log after what a history begins with has gone on to the log after all of it.
+pub fn histories_go_on()
+    ensures { (depth : Depth) (replicas : ℕ) (events seen : List LogEvent) → IsLogHistory depth replicas events → StartsWith events seen
+        → HasGoneOn (log_after replicas seen) (log_after replicas events) }
+{}
+
+/// What a beginning begins with is a beginning.
+pub fn beginnings_of_beginnings()
+    ensures { (events later seen : List LogEvent) → StartsWith events later → StartsWith later seen → StartsWith events seen }
+{}
+
+/// A look leaves the local tail of each replica that the pass owns, as far as the pass has seen.
+pub fn looks_keep_local_tails()
+    ensures { (depth : Depth) (replicas replica : ℕ) (before after : View) → HasLooked depth replicas before after → Contains before.owns replica
+        → local_of (log_after replicas after.seen) replica ≡ local_of (log_after replicas before.seen) replica }
+{}
+
+/// And so does an append.
+pub fn appends_keep_local_tails()
+    ensures { (depth : Depth) (replicas replica place : ℕ) (batch : List LogEntry) (before after : View)
+        → HasAppended depth replicas before batch place after → Contains before.owns replica
+        → local_of (log_after replicas after.seen) replica ≡ local_of (log_after replicas before.seen) replica }
+{}
+
+/// After an advance that succeeded the local tail of the replica is the place, and the entries are those that the pass had seen.
+pub fn advances_set_local_tails()
+    ensures local { (depth : Depth) (replicas replica to : ℕ) (before after : View) → IsLogHistory depth replicas after.seen
+        → HasTaken replicas before to after → before.owns ≡ replica ∷ [] → local_of (log_after replicas after.seen) replica ≡ to }
+    ensures entries { (replicas to : ℕ) (before after : View) → HasTaken replicas before to after
+        → (log_after replicas after.seen).entries ≡ (log_after replicas before.seen).entries }
+{}
+
 /// The entries that a replica has still to take are the last 16 at most.
 pub fn needed_entries_fit_the_ring()
     ensures { (depth : Depth) (replicas : ℕ) (events : List LogEvent) → IsLogHistory depth replicas events → FitsTheRing (log_after replicas events) }
@@ -45,7 +87,7 @@ pub fn completed_is_a_local_tail()
 
 /// A batch of 1 to 16 entries at the log's depth may be appended, unless the log would end or is full.
 pub fn refused_for_a_reason()
-    ensures one { (depth : Depth) (log : Log) (batch : List LogEntry) → 1 ≤ length batch → length batch ≤ 16 → All (IsLogEntry depth) batch
+    ensures one { (depth : Depth) (log : Log) (batch : List LogEntry) → 1 ≤ length batch → length batch ≤ RING → All (IsLogEntry depth) batch
         → MayAppend depth log batch ⊎ (IsEnded log (length batch) ⊎ IsFull log (length batch)) }
     ensures ended { (depth : Depth) (log : Log) (batch : List LogEntry) → MayAppend depth log batch → IsEnded log (length batch) → ⊥ }
     ensures full { (depth : Depth) (log : Log) (batch : List LogEntry) → MayAppend depth log batch → IsFull log (length batch) → ⊥ }

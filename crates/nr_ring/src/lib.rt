@@ -17,6 +17,7 @@ mod rule;
 mod steps;
 mod tails;
 mod view;
+mod words;
 
 pub use log_event::LogEvent;
 pub use name::LogName;
@@ -24,3 +25,4 @@ pub use pass::LogPass;
 pub use ring_log::RingLog;
 pub use tails::{AppendFault, Moved, Tails};
 pub use view::View;
+pub use words::{OTHERS, RING};

@@ -1,13 +1,15 @@
 //! A thread's pass to a log.
-ghost use Rattle.std.specs.Prelude.{◌≡◌};
+ghost use Rattle.std.specs.Prelude.{◌≡◌, ◌<◌, All};
 ghost use Rattle.crossbeam_utils.specs.Seq.{cell_view};
-ghost use Rattle.nr_ring.specs.LogHistory.{log_after};
+ghost use Rattle.nr_ring.specs.LogHistory.{IsLogHistory, log_after};
 ghost use Rattle.nr_ring.specs.Pass.{tails_of};
+ghost use Rattle.nr_ring.specs.View.{StartsWith};
 ghost use Rattle.nr_ring.specs.inside.Held.{Remembers};
 
 use crate::name::LogName;
 use crate::tails::{Tails, tails_in};
 use crate::view::View;
+use crate::words::CELL_WORDS;
 use crossbeam_utils::atomic::seq_cell::Pass;
 use std::marker::{Model, PhantomData};
 
@@ -15,8 +17,8 @@ use std::marker::{Model, PhantomData};
 /// it owns, if any. Contracts see which log it is and what the pass knows of it.
 #[derive(Drop)]
 pub struct LogPass<J: LogName> {
-    pub(crate) pass: Pass<[u64; 39], View>,
-    pub(crate) words: [u64; 39],
+    pub(crate) pass: Pass<[u64; CELL_WORDS], View>,
+    pub(crate) words: [u64; CELL_WORDS],
     pub(crate) mark: Option<u64>,
     pub(crate) replica: Option<u8>,
     pub(crate) of: PhantomData<J>,
@@ -37,8 +39,8 @@ impl<J: LogName> Model for LogPass<J> {
 impl<J: LogName> LogPass<J> {
     /// A pass that saw these words when the log was new.
     pub(crate) fn new(
-        pass: Pass<[u64; 39], View>,
-        words: [u64; 39],
+        pass: Pass<[u64; CELL_WORDS], View>,
+        words: [u64; CELL_WORDS],
         replica: Option<u8>,
     ) -> LogPass<J>
         requires { Remembers J.depth J.replicas words replica (cell_view pass) }
@@ -58,5 +60,15 @@ impl<J: LogName> LogPass<J> {
         ensures { result ≡ tails_of (log_after J.replicas self.now.view.seen) }
     {
         tails_in(&self.words)
+    }
+    /// Does nothing: its clauses say what holds of every pass. What it has seen is a history, which begins with all that it was
+    /// told. Each replica that it owns is one of the log's, and it has one right to make events.
+    pub fn has_seen_a_history(&self)
+        ensures history { IsLogHistory J.depth J.replicas self.now.view.seen }
+        ensures told { All (StartsWith self.now.view.seen) self.now.view.told }
+        ensures owns { All (λ replica. replica < J.replicas) self.now.view.owns }
+        ensures rights { self.now.view.rights ≡ 1 }
+    {
+        let _known = &self.words;
     }
 }

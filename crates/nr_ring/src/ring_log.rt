@@ -1,4 +1,4 @@
-//! The log: one cell of 39 words that its threads share, and how many exchanges of it there have been.
+//! The log: one cell that its threads share, and how many exchanges of it there have been.
 ghost use Rattle.std.specs.Prelude.{◌≡◌, ◌≤◌, ◌+◌, ◌-◌, ◌<◌, ℕ, All, Contains, IfErr, IfOk, OnErr, OnOk, [], ◌∷◌, length};
 ghost use Rattle.std.specs.List.{range_with_len};
 ghost use Rattle.vs_types.specs.LogEntry.{IsLogEntry};
@@ -19,19 +19,20 @@ use crate::pass::LogPass;
 use crate::rule::{Copies, Exchanging, FirstOwned, Happening, LogRule, Looking};
 use crate::tails::{AppendFault, Moved, Tails};
 use crate::view::View;
+use crate::words::{CELL_WORDS, COMPLETED_WORD, COUNT_WORD, LOCAL_WORDS, OTHERS, RING};
 use arrayvec::ArrayVec;
 use crossbeam_utils::atomic::seq_cell::{Pass, RuledSeqCell};
 use std::alloc::Global;
 use std::marker::{Brand, Model, PhantomData};
 use std::sync::Wait;
-use vs_types::{Depth, LogEntry, Memory};
+use vs_types::{Depth, LogEntry, Memory, REPLICAS};
 
-type Cell<J> = RuledSeqCell<[u64; 39], View, LogRule<J>, 39>;
+type Cell<J> = RuledSeqCell<[u64; CELL_WORDS], View, LogRule<J>, CELL_WORDS>;
 
 /// The shared log: a ring of 16 entries and the tails, in one cell. Contracts see which log it is.
 #[derive(Drop)]
 pub struct RingLog<J: LogName> {
-    cell: RuledSeqCell<[u64; 39], View, LogRule<J>, 39>,
+    cell: RuledSeqCell<[u64; CELL_WORDS], View, LogRule<J>, CELL_WORDS>,
     exchanges: ExchangeCount,
     depth: Depth,
     of: PhantomData<J>,
@@ -58,13 +59,13 @@ impl<J: LogName> RingLog<J> {
         others: u8,
     ) -> Result<(RingLog<J>, Vec<LogPass<J>>), Memory>
         requires depth { depth ≡ J.depth }
-        requires replicas { (replicas ≡ J.replicas) × (1 ≤ replicas) × (replicas ≤ 4) }
-        requires others { others ≤ 64 }
+        requires replicas { (replicas ≡ J.replicas) × (1 ≤ replicas) × (replicas ≤ REPLICAS) }
+        requires others { others ≤ OTHERS }
         requires passes { J.passes ≡ replicas + others }
         ensures { IfOk result (λ made. made.1.items ≡ new_passes made.0 replicas others) }
     {
-        let mut words = [0; 39];
-        words[6] = u64::from(replicas);
+        let mut words = [0; CELL_WORDS];
+        words[COUNT_WORD] = u64::from(replicas);
         let (cell, mut first) = Cell::<J>::ruled(alloc, words)?;
         let log = RingLog {
             cell,
@@ -88,15 +89,15 @@ impl<J: LogName> RingLog<J> {
     /// Splits a pass off the first one, which gives it the first replica that it owns and one of its rights.
     fn split_off(
         &self,
-        first: &mut Pass<[u64; 39], View>,
-        words: [u64; 39],
+        first: &mut Pass<[u64; CELL_WORDS], View>,
+        words: [u64; CELL_WORDS],
         replica: Option<u8>,
     ) -> LogPass<J>
         requires first { (first.old.table_id ≡ self.now)
             × (cell_view first.old ≡ new_view (left_from J.replicas replica) (cell_view first.old).rights) }
         requires right { 1 ≤ (cell_view first.old).rights }
         requires words { words ≡ new_words J.replicas }
-        requires few { (J.replicas ≤ 4) × IsBelow J.replicas replica }
+        requires few { (J.replicas ≤ REPLICAS) × IsBelow J.replicas replica }
         ensures first { IsSamePass first.old first.new
             × (cell_view first.new ≡ new_view (rest_of J.replicas replica) ((cell_view first.old).rights - 1)) }
         ensures pass { result ≡ new_pass self.now (owned replica) }
@@ -158,7 +159,7 @@ impl<J: LogName> RingLog<J> {
         let Some(replica) = pass.replica else {
             unreachable!()
         };
-        let local = 2 + usize::from(replica);
+        let local = LOCAL_WORDS + usize::from(replica);
         let place = u64::from(to);
         let words = pass.words;
         if words[local] == place {
@@ -180,15 +181,15 @@ impl<J: LogName> RingLog<J> {
     ) -> bool
         requires log { pass.old.log ≡ self.now }
         requires event { E.event ≡ Advance replica to }
-        requires may { (replica < 4) × MayAdvance (log_after J.replicas pass.old.view.seen) replica to × Contains pass.old.view.owns replica }
+        requires may { (replica < REPLICAS) × MayAdvance (log_after J.replicas pass.old.view.seen) replica to × Contains pass.old.view.owns replica }
         ensures log { pass.new.log ≡ pass.old.log }
         ensures view { MadeOrMoved J.depth J.replicas E.event pass.old.view pass.new.view result }
         ensures history { IsLogHistory J.depth J.replicas pass.new.view.seen }
     {
-        let local = 2 + usize::from(replica);
+        let local = LOCAL_WORDS + usize::from(replica);
         let place = u64::from(to);
         let mut next = pass.words;
-        next[1] = next[1].max(place);
+        next[COMPLETED_WORD] = next[COMPLETED_WORD].max(place);
         next[local] = place;
         self.exchange::<E, R>(rt, pass, next)
     }
@@ -205,7 +206,7 @@ impl<J: LogName> RingLog<J> {
         batch: &[LogEntry],
     ) -> Result<u32, AppendFault>
         requires log { pass.old.log ≡ self.now }
-        requires count { (1 ≤ length batch.now) × (length batch.now ≤ 16) }
+        requires count { (1 ≤ length batch.now) × (length batch.now ≤ RING) }
         requires entries { All (IsLogEntry J.depth) batch.now }
         ensures log { pass.new.log ≡ pass.old.log }
         ensures owns { pass.new.view.owns ≡ pass.old.view.owns }
@@ -249,7 +250,7 @@ impl<J: LogName> RingLog<J> {
         &self,
         rt: &R,
         pass: &mut LogPass<J>,
-        entries: &mut ArrayVec<LogEntry, 16>,
+        entries: &mut ArrayVec<LogEntry, RING>,
     )
         requires log { pass.old.log ≡ self.now }
         requires owner { (replica : ℕ) × (pass.old.view.owns ≡ replica ∷ []) }
@@ -263,7 +264,7 @@ impl<J: LogName> RingLog<J> {
         let Some(replica) = pass.replica else {
             unreachable!()
         };
-        let local = pass.words[2 + usize::from(replica)];
+        let local = pass.words[LOCAL_WORDS + usize::from(replica)];
         read_entries(self.depth, &pass.words, local, entries);
     }
 
@@ -272,7 +273,7 @@ impl<J: LogName> RingLog<J> {
         &self,
         rt: &R,
         pass: &mut LogPass<J>,
-        next: [u64; 39],
+        next: [u64; CELL_WORDS],
     ) -> bool
         requires log { pass.old.log ≡ self.now }
         requires event { MayFollow J.depth (log_after J.replicas pass.old.view.seen) E.event × MayMake pass.old.view E.event }
@@ -316,7 +317,7 @@ impl<J: LogName> RingLog<J> {
     }
 
     /// A pass to the cell that has seen what this one has, and can make no event.
-    fn copy(&self, pass: &mut LogPass<J>) -> Pass<[u64; 39], View>
+    fn copy(&self, pass: &mut LogPass<J>) -> Pass<[u64; CELL_WORDS], View>
         requires { pass.old.log ≡ self.now }
         ensures pass { pass.new ≡ pass.old }
         ensures copy { (result.table_id ≡ self.now) × (cell_view result ≡ copy_of pass.old.view) × (result.me.1 ≡ []) }
@@ -325,7 +326,7 @@ impl<J: LogName> RingLog<J> {
     }
 
     /// Joins a pass to the cell that has made nothing and has no right to one of the log, which then loads the cell.
-    fn join<R: Wait>(&self, rt: &R, pass: &mut LogPass<J>, copy: Pass<[u64; 39], View>)
+    fn join<R: Wait>(&self, rt: &R, pass: &mut LogPass<J>, copy: Pass<[u64; CELL_WORDS], View>)
         requires log { pass.old.log ≡ self.now }
         requires copy { (copy.table_id ≡ self.now) × ((cell_view copy).mine ≡ []) × ((cell_view copy).rights ≡ 0) × (copy.me.1 ≡ []) }
         ensures log { pass.new.log ≡ pass.old.log }

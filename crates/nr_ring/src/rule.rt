@@ -1,6 +1,7 @@
 //! The rule of the cell, and what each kind of step tells its pass.
 use crate::name::LogName;
 use crate::view::View;
+use crate::words::CELL_WORDS;
 use atomic_table::{Join, Split};
 use crossbeam_utils::rule::{Outcome, Protocol};
 use std::marker::{Brand, PhantomData};
@@ -10,7 +11,7 @@ pub struct LogRule<J: LogName> {
     of: PhantomData<J>,
 }
 
-impl<J: LogName> Protocol<[u64; 39], View> for LogRule<J> {
+impl<J: LogName> Protocol<[u64; CELL_WORDS], View> for LogRule<J> {
     ghost use Rattle.nr_ring.specs.Rule.{IsKept};
     ghost use Rattle.nr_ring.specs.inside.Held.{new_view};
     ghost use Rattle.std.specs.List.{range_with_len};
@@ -25,7 +26,7 @@ pub struct Looking<J: LogName> {
     of: PhantomData<J>,
 }
 
-impl<J: LogName> Outcome<[u64; 39], View> for Looking<J> {
+impl<J: LogName> Outcome<[u64; CELL_WORDS], View> for Looking<J> {
     ghost use Rattle.nr_ring.specs.Calls.{Looks};
 
     ghost then = { λ before words words' after. Looks J.depth J.replicas words' before after };
@@ -49,7 +50,7 @@ pub struct Exchanging<J: LogName, E: Happening> {
     of: PhantomData<(J, E)>,
 }
 
-impl<J: LogName, E: Happening> Outcome<[u64; 39], View> for Exchanging<J, E> {
+impl<J: LogName, E: Happening> Outcome<[u64; CELL_WORDS], View> for Exchanging<J, E> {
     ghost use Rattle.nr_ring.specs.inside.Held.{Exchanges};
 
     ghost then = { λ before words words' after. Exchanges J.depth J.replicas E.event words words' before after };

@@ -4,6 +4,7 @@ ghost use mathlib.Core.Option.{some};
 ghost use lib.ListN.{get_elem?};
 ghost use Rattle.crossbeam_utils.specs.Register.{Forks, Merges, Turns};
 ghost use Rattle.vs_types.specs.declared.depth.Depth.{Depth};
+ghost use Rattle.vs_types.specs.declared.limits.TheConstants.{REPLICAS};
 ghost use Rattle.nr_ring.specs.Calls.{AreCut, IsCut, Looks, MayMake, joined, keeping, offshoot, spent, with_event};
 ghost use Rattle.nr_ring.specs.LogHistory.{IsLogHistory, MayFollow, log_after_event, log_after};
 ghost use Rattle.nr_ring.specs.Rule.{IsKept};
@@ -20,14 +21,14 @@ pub fn looks_keep_the_rule()
 
 /// Where the words are those after what a pass has seen, it has seen the whole history.
 pub fn own_words_mean_all_seen()
-    ensures { (depth : Depth) (replicas : ℕ) (history seen : List LogEvent) (words : List ℕ) → replicas ≤ 4 → IsLogHistory depth replicas history
+    ensures { (depth : Depth) (replicas : ℕ) (history seen : List LogEvent) (words : List ℕ) → replicas ≤ REPLICAS → IsLogHistory depth replicas history
         → StartsWith history seen → IsWordsOf (log_after replicas seen) words → IsWordsOf (log_after replicas history) words → history ≡ seen }
 {}
 
 /// An exchange of the words after what a pass has seen, by the words after one event more, keeps the rule: the event may follow,
 /// the pass has a right, and where it is an advance the pass owns the replica.
 pub fn events_keep_the_rule()
-    ensures { (depth : Depth) (replicas passes pass : ℕ) (v : View) (event : LogEvent) (words words' : List ℕ) (views : List View) → replicas ≤ 4
+    ensures { (depth : Depth) (replicas passes pass : ℕ) (v : View) (event : LogEvent) (words words' : List ℕ) (views : List View) → replicas ≤ REPLICAS
         → IsKept depth replicas passes words views → get_elem? views pass ≡ some v → IsWordsOf (log_after replicas v.seen) words
         → MayFollow depth (log_after replicas v.seen) event → MayMake v event → IsWordsOf (log_after_event (log_after replicas v.seen) event) words'
         → IsKept depth replicas passes words' (slice_set views pass (with_event v event)) }

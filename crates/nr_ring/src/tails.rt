@@ -1,6 +1,8 @@
 ghost use Rattle.std.specs.Prelude.{◌≡◌, ◌<◌, ◌^◌, ℕ, slice_index};
 ghost use Rattle.nr_ring.specs.inside.Held.{tails_of_words};
 
+use crate::words::{CELL_WORDS, COMPLETED_WORD, COUNT_WORD, LOCAL_WORDS, TAIL_WORD};
+
 /// The tails of a log: how many entries it has, and how many of them have been taken. All are at most 65,536.
 #[derive(Clone, Copy, Debug, PartialEq, Eq)]
 pub struct Tails {
@@ -28,18 +30,18 @@ pub enum AppendFault {
 }
 
 /// The tails that the words of a log's cell have.
-pub(crate) fn tails_in(words: &[u64; 39]) -> Tails
-    requires { (word : ℕ) → word < 6 → slice_index words.now word < 2 ^ 32 }
+pub(crate) fn tails_in(words: &[u64; CELL_WORDS]) -> Tails
+    requires { (word : ℕ) → word < COUNT_WORD → slice_index words.now word < 2 ^ 32 }
     ensures { result ≡ tails_of_words words.now }
 {
     Tails {
-        tail: words[0] as u32,
-        completed: words[1] as u32,
+        tail: words[TAIL_WORD] as u32,
+        completed: words[COMPLETED_WORD] as u32,
         local: [
-            words[2] as u32,
-            words[3] as u32,
-            words[4] as u32,
-            words[5] as u32,
+            words[LOCAL_WORDS] as u32,
+            words[LOCAL_WORDS + 1] as u32,
+            words[LOCAL_WORDS + 2] as u32,
+            words[LOCAL_WORDS + 3] as u32,
         ],
     }
 }

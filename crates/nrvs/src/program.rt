@@ -43,14 +43,14 @@ fn tell_refusal<W: Write, E: Write>(
 fn try_run<R: Read + Drop, W: Write, E: Write>(
     alloc: Global,
     asked: Result<Command<'_>, Error>,
-    reader: R,
+    mut reader: R,
     output: &mut W,
     errors: &mut E,
 ) -> Result<u8, ProgFault>
     ensures { Runs asked.entry (R.remaining reader) W.contents output.old output.new result }
 {
     match asked {
-        Ok(command) => command.run(alloc, reader, output),
+        Ok(command) => command.run(alloc, &mut reader, output),
         Err(refusal) => tell_refusal(alloc, refusal, output, errors),
     }
 }

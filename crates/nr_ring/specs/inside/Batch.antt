@@ -2,13 +2,14 @@
 use Rattle.std.specs.Prelude.{◌≡◌, ◌⊎◌, ℕ, ◌+◌, ◌<◌, ◌≤◌, All, List, Some, drop, length, take, slice_get, slice_index}
 use Rattle.vs_types.specs.LogEntry.{IsLogEntry, log_words}
 use Rattle.vs_types.specs.declared.depth.Depth.{Depth}
-use Rattle.vs_types.specs.declared.limits.TheConstants.{LOG_PLACES}
+use Rattle.vs_types.specs.declared.limits.TheConstants.{LOG_PLACES, REPLICAS}
 use Rattle.vs_types.specs.declared.log_entry.LogEntry.{LogEntry}
 use Rattle.nr_ring.specs.LogHistory.{Log, AllKeepUp, HasRoom, IsEnded, IsFull, tail}
 use Rattle.nr_ring.specs.Pass.{tails_of}
 use Rattle.nr_ring.specs.Words.{word_of, IsWordsOf}
 use Rattle.nr_ring.specs.declared.tails.AppendFault.{AppendFault}
 use Rattle.nr_ring.specs.declared.tails.AppendFault.TheVariants.{LogEnded, Full, Moved}
+use Rattle.nr_ring.specs.declared.words.TheConstants.{CELL_WORDS, COUNT_WORD, RING, RING_WORDS}
 
 -- the bound that bars so many entries from the log
 abbrev pub Bars : Log → ℕ → AppendFault → Type 0
@@ -24,17 +25,17 @@ Explains log n (Moved tails) = (tails ≡ tails_of log) × HasRoom log n × AllK
 
 -- the first n entries of a batch stand in the words, at their places from one on, and all else is as before
 pub record IsWritten (place n : ℕ) (batch : List LogEntry) (before after : List ℕ) : Type 0 where
-  pub long : length after ≡ 39
-  pub head_stays : (word : ℕ) → word < 7 → slice_index after word ≡ slice_index before word
+  pub long : length after ≡ CELL_WORDS
+  pub head_stays : (word : ℕ) → word < RING_WORDS → slice_index after word ≡ slice_index before word
   pub entries_are : (i : ℕ) (entry : LogEntry) (k : ℕ) → i < n → slice_get batch i ≡ Some entry → k < 2
       → slice_index after (word_of (place + i) + k) ≡ slice_index (log_words entry) k
-  pub others_stay : (word : ℕ) → 7 ≤ word → ((i : ℕ) → i < n → (word < word_of (place + i)) ⊎ (word_of (place + i) + 2 ≤ word))
+  pub others_stay : (word : ℕ) → RING_WORDS ≤ word → ((i : ℕ) → i < n → (word < word_of (place + i)) ⊎ (word_of (place + i) + 2 ≤ word))
       → slice_index after word ≡ slice_index before word
 
 -- the tails that words have are small
 pub record AreSmall (words : List ℕ) : Type 0 where
-  pub tails : (word : ℕ) → word < 6 → slice_index words word ≤ LOG_PLACES
-  pub replicas : slice_index words 6 ≤ 4
+  pub tails : (word : ℕ) → word < COUNT_WORD → slice_index words word ≤ LOG_PLACES
+  pub replicas : slice_index words COUNT_WORD ≤ REPLICAS
 
 -- the words are those of a log at this depth whose entries from a place on are in the ring
 pub record CanBeRead (depth : Depth) (words : List ℕ) (from : ℕ) : Type 0 where
@@ -42,7 +43,7 @@ pub record CanBeRead (depth : Depth) (words : List ℕ) (from : ℕ) : Type 0 wh
   pub are : IsWordsOf log words
   pub fit : All (IsLogEntry depth) log.entries
   pub low : from ≤ tail log
-  pub near : tail log ≤ from + 16
+  pub near : tail log ≤ from + RING
   pub ends : tail log ≤ LOG_PLACES
 
 -- so many entries from a place on were read

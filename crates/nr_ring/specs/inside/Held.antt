@@ -2,6 +2,7 @@
 use Rattle.std.specs.List.{range_with_len}
 use Rattle.std.specs.Prelude.{◌≡◌, ℕ, ◌+◌, ◌-◌, ◌<◌, ◌≤◌, Bool, MatchBool, List, [], ◌∷◌, All, Option, None, Some, length, slice_index}
 use Rattle.vs_types.specs.declared.depth.Depth.{Depth}
+use Rattle.vs_types.specs.declared.limits.TheConstants.{REPLICAS}
 use Rattle.nr_ring.specs.LogHistory.{IsLogHistory, log_after}
 use Rattle.nr_ring.specs.Words.{IsWordsOf}
 use Rattle.nr_ring.specs.View.{StartsWith}
@@ -9,6 +10,7 @@ use Rattle.nr_ring.specs.Calls.{HasLooked, HasMoved, Looks, with_event}
 use Rattle.nr_ring.specs.declared.log_event.LogEvent.{LogEvent}
 use Rattle.nr_ring.specs.declared.view.View.{View}
 use Rattle.nr_ring.specs.declared.tails.Tails.{Tails}
+use Rattle.nr_ring.specs.declared.words.TheConstants.{TAIL_WORD, COMPLETED_WORD, LOCAL_WORDS}
 
 -- the replica that a pass owns, as a list
 abbrev pub owned : Option ℕ → List ℕ
@@ -22,7 +24,7 @@ IsBelow replicas replica = (r : ℕ) → replica ≡ Some r → r < replicas
 -- the words are those of the log after all that the pass has seen, among which are the events that it made; it begins with all that it
 -- was told; and the pass has one right to make events
 pub record Remembers (depth : Depth) (replicas : ℕ) (words : List ℕ) (replica : Option ℕ) (view : View) : Type 0 where
-  pub few : replicas ≤ 4
+  pub few : replicas ≤ REPLICAS
   pub is_history : IsLogHistory depth replicas view.seen
   pub words_are : IsWordsOf (log_after replicas view.seen) words
   pub owns : view.owns ≡ owned replica
@@ -33,10 +35,10 @@ pub record Remembers (depth : Depth) (replicas : ℕ) (words : List ℕ) (replic
 
 abbrev pub tails_of_words : List ℕ → Tails
 tails_of_words words = record {
-  tail = slice_index words 0;
-  completed = slice_index words 1;
+  tail = slice_index words TAIL_WORD;
+  completed = slice_index words COMPLETED_WORD;
   local =
-      slice_index words 2 ∷ slice_index words 3 ∷ slice_index words 4 ∷ slice_index words 5 ∷ [];
+      slice_index words LOCAL_WORDS ∷ slice_index words (LOCAL_WORDS + 1) ∷ slice_index words (LOCAL_WORDS + 2) ∷ slice_index words (LOCAL_WORDS + 3) ∷ [];
 }
 
 -- the view of a pass that has seen and made nothing

@@ -1,33 +1,36 @@
-use Rattle.std.proofs.Common.{◌≡◌, sym, subst}
+use Rattle.std.proofs.Common.{◌≡◌}
 use Rattle.std.proofs.lemmas.Result.{IfOk-weaker}
-use Rattle.nr_trace.specs.FirstFault.{HasFormatFault}
-use Rattle.nr_trace.specs.declared.fault.Fault.TheVariants.{Format}
-use Rattle.nr_audit.specs.Verdict.{IsVerdictOf, IsVerdictOn}
-use Rattle.nr_audit.specs.declared.verdict.Verdict.TheVariants.{No}
-use Rattle.nr_audit.proofs.PartsOfVerdicts.{of_spelled, no_of}
+use Rattle.nr_trace.specs.Orders.{recorded_order, HasTheAnswers, KeepsPrecedence}
+use Rattle.nr_audit.specs.Headline.{IsSpelledWith}
+use Rattle.nr_audit.specs.Verdict.{IfYes, IsVerdictOf}
+use Rattle.nr_audit.specs.declared.verdict.Verdict.TheVariants.{Yes, No}
+use Rattle.nr_audit.proofs.PartsOfVerdicts.{read_so, yes_of, no_of, precedence_of, answers_of}
 use Rattle.nr_audit.proofs.judging.audit.Goals as goal
 
--- src/judging.rt:76:22
-pub returns-in-Ok-clause-verdict : goal.returns-in-Ok-clause-verdict
-returns-in-Ok-clause-verdict c =
-    IfOk-weaker c.judge.result (IsVerdictOn c.in-Ok.trace) (IsVerdictOf c.args.bytes.now)
-    (λ verdict is. of_spelled c.args.bytes.now c.in-Ok.trace verdict c.in-Ok.ensures.spelled is) c.judge.ensures.verdict
+pub returns-clause-yes : goal.returns-clause-yes
+returns-clause-yes c = λ trace spelled faultless.
+    let bytes = c.args.bytes.now in
+    IfOk-weaker c.judge_read.result (IsVerdictOf bytes) (λ verdict. verdict ≡ Yes (recorded_order trace))
+    (λ verdict is. yes_of bytes trace verdict is spelled faultless)
+    (c.judge_read.ensures.verdict bytes (read_so bytes c.read.result c.read.ensures.spelled c.read.ensures.refused))
 
--- src/judging.rt:76:22
-pub returns-in-Ok-clause-no : goal.returns-in-Ok-clause-no
-returns-in-Ok-clause-no c = λ fault first.
-    IfOk-weaker c.judge.result (IsVerdictOn c.in-Ok.trace) (λ verdict. verdict ≡ No fault)
-    (λ verdict is. no_of c.args.bytes.now verdict fault (of_spelled c.args.bytes.now c.in-Ok.trace verdict c.in-Ok.ensures.spelled is) first)
-    c.judge.ensures.verdict
+pub returns-clause-no : goal.returns-clause-no
+returns-clause-no c = λ fault first.
+    let bytes = c.args.bytes.now in
+    IfOk-weaker c.judge_read.result (IsVerdictOf bytes) (λ verdict. verdict ≡ No fault)
+    (λ verdict is. no_of bytes verdict fault is first)
+    (c.judge_read.ensures.verdict bytes (read_so bytes c.read.result c.read.ensures.spelled c.read.ensures.refused))
 
--- src/judging.rt:78:38
-pub returns-in-Err-Refused-clause-verdict : goal.returns-in-Err-Refused-clause-verdict
-returns-in-Err-Refused-clause-verdict c =
-    subst (λ fault. HasFormatFault c.args.bytes.now fault) (sym c.in-Err-Refused.fault-is) (rw c.in-Err-Refused.field-0-is at c.in-Err-Refused.ensures.refused)
+pub returns-clause-precedence : goal.returns-clause-precedence
+returns-clause-precedence c =
+    let bytes = c.args.bytes.now in
+    IfOk-weaker c.judge_read.result (IsVerdictOf bytes) (IfYes (λ order. IsSpelledWith bytes (λ trace. KeepsPrecedence trace order)))
+    (λ verdict is. precedence_of bytes verdict is)
+    (c.judge_read.ensures.verdict bytes (read_so bytes c.read.result c.read.ensures.spelled c.read.ensures.refused))
 
--- src/judging.rt:78:38
-pub returns-in-Err-Refused-clause-no : goal.returns-in-Err-Refused-clause-no
-returns-in-Err-Refused-clause-no c = λ fault first.
-    no_of c.args.bytes.now (No (Format _)) fault
-    (subst (λ found. HasFormatFault c.args.bytes.now found) (sym c.in-Err-Refused.fault-is)
-    (rw c.in-Err-Refused.field-0-is at c.in-Err-Refused.ensures.refused)) first
+pub returns-clause-answers : goal.returns-clause-answers
+returns-clause-answers c =
+    let bytes = c.args.bytes.now in
+    IfOk-weaker c.judge_read.result (IsVerdictOf bytes) (IfYes (λ order. IsSpelledWith bytes (λ trace. HasTheAnswers trace order)))
+    (λ verdict is. answers_of bytes verdict is)
+    (c.judge_read.ensures.verdict bytes (read_so bytes c.read.result c.read.ensures.spelled c.read.ensures.refused))

@@ -1,30 +1,63 @@
 use Rattle.std.proofs.Common.{◌≡◌, ℕ, [], ap, take, arith}
+use Rattle.std.proofs.lemmas.List.{length-take}
 use Rattle.std.specs.Io.KnownBytes.{IsAtEnd}
-use Rattle.nr_engines.proofs.Input.{starts, goes_on, stops, ends}
+use Rattle.nr_engines.proofs.Input.{stops, ends, reads_a_block, reads_no_more, reads_to_here}
 use Rattle.nr_engines.proofs.ends.feed_blocks.Goals as goal
 
-pub loop-init : goal.loop-init
-loop-init g c = starts (g.R.Read.remaining c.args.reader) c.args.feed c.requires.empty
+pub returns-in_err-count-clause-few : goal.returns-in_err-count-clause-few
+returns-in_err-count-clause-few g c =
+    let known = g.R.Read.remaining in
+    reads_no_more (known c.args.reader.now) (known c.loop-room.reader)
+    (known c.read_block.new.reader) c.loop-room.feed c.loop-room.room c.loop-room.invariant c.in_err-count.ensures.kept
 
 pub returns-then-count-eq0-clause-ok : goal.returns-then-count-eq0-clause-ok
 returns-then-count-eq0-clause-ok g c =
     let known = g.R.Read.remaining in
     let piece = take c.in_ok-count.count c.read_block.new.block in
+    let least = c.min.ensures in
+    let room = length-take c.min.result c.loop-room.block in
+    let block = c.read_block.auto.block in
+    let whole = c.loop-room.auto.block in
+    let asked = c.requires.block in
     let nothing : piece ≡ [] = ap (λ (n : ℕ). take n c.read_block.new.block) c.if-count-eq0.true in
     let end : IsAtEnd (known c.read_block.new.reader) = c.in_ok-count.ensures.end c.if-count-eq0.true (omega arith) in
-    ends (known c.args.reader) (known c.loop.reader)
-    (known c.read_block.new.reader) c.loop.feed piece c.end.result c.loop.invariant c.in_ok-count.ensures.ok nothing end c.end.ensures
+    ends (known c.args.reader.now) (known c.loop-room.reader)
+    (known c.read_block.new.reader) c.loop-room.feed piece c.end.result c.loop-room.room c.loop-room.invariant c.in_ok-count.ensures.ok nothing end
+    c.end.ensures
+
+pub returns-then-count-eq0-clause-few : goal.returns-then-count-eq0-clause-few
+returns-then-count-eq0-clause-few g c =
+    let known = g.R.Read.remaining in
+    let piece = take c.in_ok-count.count c.read_block.new.block in
+    let count = length-take c.in_ok-count.count c.read_block.new.block in
+    let least = c.min.ensures in
+    let room = length-take c.min.result c.loop-room.block in
+    let block = c.read_block.auto.block in
+    let bound = c.in_ok-count.ensures.bound in
+    reads_a_block (known c.args.reader.now) (known c.loop-room.reader)
+    (known c.read_block.new.reader) c.loop-room.feed piece c.loop-room.room c.loop-room.invariant c.in_ok-count.ensures.ok (omega arith) (omega arith)
 
 pub returns-in-Err-clause-ok : goal.returns-in-Err-clause-ok
 returns-in-Err-clause-ok g c =
     let known = g.R.Read.remaining in
     let piece = take c.in_ok-count.count c.read_block.new.block in
-    stops (known c.args.reader) (known c.loop.reader)
-    (known c.read_block.new.reader) c.loop.feed c.feed-in-loop.new.self piece c.in-Err.fail c.loop.invariant c.in_ok-count.ensures.ok c.in-Err.ensures
+    stops (known c.args.reader.now) (known c.loop-room.reader)
+    (known c.read_block.new.reader) c.loop-room.feed c.feed-in-loop-room.new.self piece c.in-Err.fail c.loop-room.room c.loop-room.invariant
+    c.in_ok-count.ensures.ok c.in-Err.ensures
 
-pub loop-preserved : goal.loop-preserved
-loop-preserved g c =
+pub returns-in-Err-clause-few : goal.returns-in-Err-clause-few
+returns-in-Err-clause-few g c =
     let known = g.R.Read.remaining in
     let piece = take c.in_ok-count.count c.read_block.new.block in
-    goes_on (known c.args.reader) (known c.loop.reader)
-    (known c.read_block.new.reader) c.loop.feed c.feed-in-loop.new.self piece c.loop.invariant c.in_ok-count.ensures.ok c.in_default.ensures
+    let count = length-take c.in_ok-count.count c.read_block.new.block in
+    let least = c.min.ensures in
+    let room = length-take c.min.result c.loop-room.block in
+    let block = c.read_block.auto.block in
+    let bound = c.in_ok-count.ensures.bound in
+    reads_a_block (known c.args.reader.now) (known c.loop-room.reader)
+    (known c.read_block.new.reader) c.loop-room.feed piece c.loop-room.room c.loop-room.invariant c.in_ok-count.ensures.ok (omega arith) (omega arith)
+
+pub returns-clause-few : goal.returns-clause-few
+returns-clause-few g c =
+    let known = g.R.Read.remaining in
+    reads_to_here (known c.args.reader.now) (known c.loop-room.reader) c.loop-room.feed c.loop-room.room c.loop-room.invariant

@@ -1,4 +1,4 @@
-use Rattle.std.proofs.Common.{◌≡◌, ℕ, ◌+◌, ◌*◌, ◌%◌, List, length, sym, ap, subst, ◌∙◌, rules, arith}
+use Rattle.std.proofs.Common.{◌≡◌, ℕ, ◌+◌, List, length, sym, ap, subst, ◌∙◌, rules, arith}
 use Rattle.std.specs.Prelude.{slice_index}
 use Rattle.std.proofs.lemmas.Option.{slice_get-get_or}
 use Rattle.nr_ring.specs.Words.{word_of}
@@ -17,10 +17,11 @@ loop-entry-preserved c =
     let n = c.loop-entry.entry-index in
     let is = c.loop-entry.invariant in
     let there = slice_get-get_or batch n c.entry-item.result c.loop-entry-test.true ∙ ap Rattle.std.proofs.Common.Some (sym c.entry-item.is) in
-    let At : ℕ → Type 0 = λ place. IsWritten first (n + 1) batch words (with_two (7 + 2 * (place % 16)) c.pack.result c.loop-entry.next) in
+    let at = c.first_word-at.ensures ∙ ap word_of is.0 in
+    let At : ℕ → Type 0 = λ place. IsWritten first (n + 1) batch words (with_two place c.pack.result c.loop-entry.next) in
     let Two : List ℕ → Type 0 = λ two. IsWritten first (n + 1) batch words (with_two (word_of (first + n)) two c.loop-entry.next) in (
       omega (arith, is.0),
-      subst At (sym is.0)
+      subst At (sym at)
           (subst Two (sym c.pack.ensures)
           (one_more_written first n batch c.entry-item.result words c.loop-entry.next is.1 (omega (arith, c.loop-entry-test.true, c.requires.small.1)) there)),
     )

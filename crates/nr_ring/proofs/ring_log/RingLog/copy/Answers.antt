@@ -1,5 +1,4 @@
-use Rattle.std.proofs.Common.{rules, ap, ◌∙◌, sym, subst, []}
-use Rattle.crossbeam_utils.specs.Seq.{cell_view}
+use Rattle.std.proofs.Common.{rules, ap, ◌∙◌, sym, subst}
 use Rattle.nr_ring.specs.Calls.{copy_of}
 use Rattle.nr_ring.specs.declared.view.View.{View}
 use Rattle.nr_ring.specs.Pass.{Known}

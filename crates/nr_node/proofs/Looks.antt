@@ -1,0 +1,173 @@
+-- What looks, and taking entries, leave as it was.
+use Rattle.std.proofs.Common.{◌≡◌, ℕ, ◌+◌, ◌≤◌, List, [], ◌∷◌, ◌++◌, All, length, drop, get_or, ⊎_elim, refl, ap, sym, subst, ◌∙◌, arith}
+use Rattle.std.proofs.Math.ListN.{length-append}
+use Rattle.std.proofs.lemmas.List.{append_assoc, length-drop, get_or-set_same}
+use Rattle.std.proofs.lemmas.List.Elements.{All-append, All-drop}
+use Rattle.std.proofs.lemmas.Bool.{cases_eq}
+use Rattle.vs_types.specs.LogEntry.{IsLogEntry}
+use Rattle.vs_types.specs.declared.depth.Depth.{Depth}
+use Rattle.vs_types.specs.declared.limits.TheConstants.{LOG_PLACES}
+use Rattle.vs_types.specs.declared.log_entry.LogEntry.{LogEntry}
+use Rattle.nr_ring.specs.Calls.{HasLooked, HasMoved, HasTaken, MayTake, with_event}
+use Rattle.nr_ring.specs.Entries.{to_take}
+use Rattle.nr_ring.specs.LogHistory.{Log, IsLogHistory, local_of, log_after, log_after_events, new_log, tail}
+use Rattle.nr_ring.specs.Laws.{HasGoneOn, FitsTheRing}
+use Rattle.nr_ring.specs.View.{HasSeenAdvances, IsElse, StartsWith}
+use Rattle.nr_ring.specs.declared.log_event.LogEvent.{LogEvent}
+use Rattle.nr_ring.specs.declared.log_event.LogEvent.TheVariants.{Advance}
+use Rattle.nr_ring.specs.declared.view.View.{View}
+use Rattle.nr_ring.proofs.Fetches.{history_entries}
+use Rattle.nr_ring.proofs.Histories.{after_both, events_go_on, goes_on_after, history_fits, local_since}
+use Rattle.nr_ring.proofs.Views.{after_one_more}
+use Rattle.nr_node.specs.Node.{replica_of, taken_by}
+use Rattle.nr_node.specs.inside.Node.{HasTakenAll}
+
+-- ---- beginnings
+
+pub begins_begins : (first second third : List LogEvent) → StartsWith second first → StartsWith third second → StartsWith third first
+begins_begins first second third p q =
+    (p.0 ++ q.0, q.1 ∙ ap (λ (l : List LogEvent). l ++ q.0) p.1 ∙ append_assoc first p.0 q.0)
+
+advances_advances : (replica : ℕ) (first second third : List LogEvent) → HasSeenAdvances replica second first → HasSeenAdvances replica third second
+    → HasSeenAdvances replica third first
+advances_advances replica first second third p q =
+    (p.0 ++ q.0, q.1 ∙ ap (λ (l : List LogEvent). l ++ q.0) p.1 ∙ append_assoc first p.0 q.0, All-append (IsElse replica) p.0 q.0 p.2 q.2)
+
+-- a later log has gone on from the earlier one
+pub later_goes_on : (depth : Depth) (replicas : ℕ) (earlier later : List LogEvent) → IsLogHistory depth replicas later → StartsWith later earlier
+    → HasGoneOn (log_after replicas earlier) (log_after replicas later)
+later_goes_on depth replicas earlier later is begins =
+    let all : IsLogHistory depth replicas (earlier ++ begins.0) = subst (IsLogHistory depth replicas) begins.1 is in
+    let on = events_go_on depth (log_after replicas earlier) begins.0 (goes_on_after depth (new_log replicas) earlier begins.0 all) in
+    let same : log_after_events (log_after replicas earlier) begins.0 ≡ log_after replicas later =
+    sym (ap (log_after replicas) begins.1 ∙ after_both (new_log replicas) earlier begins.0) in
+    subst (HasGoneOn (log_after replicas earlier)) same on
+
+-- ---- looks
+
+pub looks_twice : (depth : Depth) (replicas : ℕ) (a b c : View) → HasLooked depth replicas a b → HasLooked depth replicas b c → HasLooked depth replicas a c
+looks_twice depth replicas a b c p q = record {
+  is_history = q.is_history;
+  seen = begins_begins a.seen b.seen c.seen p.seen q.seen;
+  told = subst (All (StartsWith c.seen)) p.told_stays q.told;
+  advances = λ k d lt.
+      let Q : List ℕ → Type 0 = λ l. All (λ replica. HasSeenAdvances replica c.seen b.seen) l in
+      advances_advances (get_or a.owns k d) a.seen b.seen c.seen (p.advances k d lt) (subst Q p.owns q.advances k d lt);
+  told_stays = q.told_stays ∙ p.told_stays;
+  mine = q.mine ∙ p.mine;
+  owns = q.owns ∙ p.owns;
+  rights = q.rights ∙ p.rights;
+}
+
+pub looked_owner : (depth : Depth) (replicas : ℕ) (a b : View) → HasLooked depth replicas a b → a.owns ≡ replica_of a ∷ [] → b.owns ≡ replica_of b ∷ []
+looked_owner depth replicas a b p owner =
+    let P : List ℕ → Type 0 = λ l. l ≡ Rattle.std.specs.Prelude.slice_index l 0 ∷ [] in subst P (sym p.owns) owner
+
+pub looked_replica : (depth : Depth) (replicas : ℕ) (a b : View) → HasLooked depth replicas a b → replica_of b ≡ replica_of a
+looked_replica depth replicas a b p = ap (λ (l : List ℕ). Rattle.std.specs.Prelude.slice_index l 0) p.owns
+
+-- a look leaves the local tail of the replica that a pass owns
+pub looked_taken : (depth : Depth) (replicas : ℕ) (a b : View) → HasLooked depth replicas a b → a.owns ≡ replica_of a ∷ []
+    → taken_by replicas b ≡ taken_by replicas a
+looked_taken depth replicas a b p owner =
+    let Q : List ℕ → Type 0 = λ l. All (λ replica. HasSeenAdvances replica b.seen a.seen) l in
+    ap (λ r. local_of (log_after replicas b.seen) r) (looked_replica depth replicas a b p)
+    ∙ local_since replicas (replica_of a) b.seen a.seen (subst Q owner p.advances 0 0 (omega arith))
+
+pub looked_on : (depth : Depth) (replicas : ℕ) (a b : View) → HasLooked depth replicas a b → HasGoneOn (log_after replicas a.seen) (log_after replicas b.seen)
+looked_on depth replicas a b p = later_goes_on depth replicas a.seen b.seen p.is_history p.seen
+
+pub looked_fits : (depth : Depth) (replicas : ℕ) (a b : View) → HasLooked depth replicas a b → FitsTheRing (log_after replicas b.seen)
+looked_fits depth replicas a b p = history_fits depth replicas b.seen p.is_history
+
+-- ---- fetching and advancing
+
+-- what is fetched after a look are all entries from those that were taken on
+pub fetched_all : (depth : Depth) (replicas : ℕ) (a b : View) (entries : List LogEntry) (applied : ℕ) → HasLooked depth replicas a b
+    → a.owns ≡ replica_of a ∷ [] → taken_by replicas a ≡ applied → entries ≡ to_take (log_after replicas b.seen) (replica_of a)
+    → applied + length entries ≡ tail (log_after replicas b.seen)
+fetched_all depth replicas a b entries applied p owner taken fetched =
+    let log = log_after replicas b.seen in
+    let here : local_of log (replica_of a) ≡ applied =
+    ap (λ r. local_of log r) (sym (looked_replica depth replicas a b p)) ∙ looked_taken depth replicas a b p owner ∙ taken in
+    let low = (looked_fits depth replicas a b p).written (replica_of a) in
+    omega (arith, ap (λ (l : List LogEntry). length l) fetched, length-drop (local_of log (replica_of a)) log.entries, here, low)
+
+pub may_take : (depth : Depth) (replicas : ℕ) (a b : View) (to : ℕ) → HasLooked depth replicas a b → a.owns ≡ replica_of a ∷ []
+    → to ≡ tail (log_after replicas b.seen) → MayTake replicas b to
+may_take depth replicas a b to p owner is = record {
+  replica = replica_of b;
+  owns = looked_owner depth replicas a b p owner;
+  above = let low = (looked_fits depth replicas a b p).written (replica_of b) in omega arith;
+  written = omega arith;
+}
+
+-- what holds where nothing was taken, since nothing was there, and where an event took it, holds after entries were taken
+after_taking : (replicas : ℕ) (b c : View) (to : ℕ) (P : View → Type 0) → HasTaken replicas b to c
+    → ((replica : ℕ) → b.owns ≡ replica ∷ [] → local_of (log_after replicas b.seen) replica ≡ to → P b)
+    → ((replica : ℕ) → b.owns ≡ replica ∷ [] → P (with_event b (Advance replica to))) → P c
+after_taking replicas b c to P taken stays made =
+    ⊎_elim
+    (λ at. subst P (sym (taken.there at)) (stays taken.replica taken.owns at))
+    (λ other. subst P (sym (taken.below other)) (made taken.replica taken.owns))
+    (cases_eq (local_of (log_after replicas b.seen) taken.replica) to)
+
+taken_owns : (replicas : ℕ) (b c : View) (to : ℕ) → HasTaken replicas b to c → c.owns ≡ b.owns
+taken_owns replicas b c to taken = after_taking replicas b c to (λ v. v.owns ≡ b.owns) taken (λ r owns at. refl) (λ r owns. refl)
+
+taken_entries : (replicas : ℕ) (b c : View) (to : ℕ) → HasTaken replicas b to c → (log_after replicas c.seen).entries ≡ (log_after replicas b.seen).entries
+taken_entries replicas b c to taken =
+    after_taking replicas b c to (λ v. (log_after replicas v.seen).entries ≡ (log_after replicas b.seen).entries) taken (λ r owns at. refl)
+    (λ r owns. ap (λ (log : Log). log.entries) (after_one_more (new_log replicas) b.seen (Advance r to)))
+
+taken_local : (depth : Depth) (replicas : ℕ) (b c : View) (to : ℕ) → HasTaken replicas b to c → IsLogHistory depth replicas c.seen → taken_by replicas c ≡ to
+taken_local depth replicas b c to taken =
+    after_taking replicas b c to (λ v. IsLogHistory depth replicas v.seen → taken_by replicas v ≡ to) taken
+    (λ r owns at is. ap (λ p. local_of (log_after replicas b.seen) p) (first_of owns) ∙ at)
+    (λ r owns is.
+    let log = log_after replicas b.seen in
+    let may = (goes_on_after depth (new_log replicas) b.seen (Advance r to ∷ []) is).0 in
+    ap (λ p. local_of (log_after replicas (b.seen ++ Advance r to ∷ [])) p) (first_of owns)
+    ∙ ap (λ (l : Log). local_of l r) (after_one_more (new_log replicas) b.seen (Advance r to))
+    ∙ get_or-set_same log.locals r to 0 may.there) where
+      first_of : {r : ℕ} → b.owns ≡ r ∷ [] → replica_of b ≡ r
+      first_of owns = ap (λ (l : List ℕ). Rattle.std.specs.Prelude.slice_index l 0) owns
+
+-- what a pass has that took all entries
+pub record TookAll (depth : Depth) (replicas : ℕ) (before : View) (entries : List LogEntry) (after : View) : Type 0 where
+  pub owns : after.owns ≡ before.owns
+  pub more : (rest : List LogEntry) × ((log_after replicas after.seen).entries ≡ (log_after replicas before.seen).entries ++ rest)
+  pub all : taken_by replicas after ≡ tail (log_after replicas after.seen)
+  pub count : taken_by replicas before + length entries ≡ tail (log_after replicas after.seen)
+  pub entries_are : entries ≡ drop (taken_by replicas before) (log_after replicas after.seen).entries
+  pub fit : All (IsLogEntry depth) entries
+  pub ends : tail (log_after replicas after.seen) ≤ LOG_PLACES
+
+pub took_all : (depth : Depth) (replicas : ℕ) (a c : View) (entries : List LogEntry) → HasTakenAll depth replicas a entries c → a.owns ≡ replica_of a ∷ []
+    → TookAll depth replicas a entries c
+took_all depth replicas a c entries took owner =
+    let b = took.between in
+    let to = tail (log_after replicas b.seen) in
+    let same : (log_after replicas c.seen).entries ≡ (log_after replicas b.seen).entries = taken_entries replicas b c to took.taken in
+    let on = looked_on depth replicas a b took.looked in
+    let tails : tail (log_after replicas c.seen) ≡ to = ap (λ (l : List LogEntry). length l) same in
+    let log = log_after replicas b.seen in
+    let here : local_of log (replica_of a) ≡ taken_by replicas a =
+    ap (λ r. local_of log r) (sym (looked_replica depth replicas a b took.looked)) ∙ looked_taken depth replicas a b took.looked owner in
+    let are : entries ≡ drop (taken_by replicas a) (log_after replicas c.seen).entries =
+    took.entries_are ∙ ap (λ n. drop n log.entries) here ∙ ap (drop (taken_by replicas a)) (sym same) in
+    let fit = history_entries depth replicas c.seen took.history in
+    record {
+      owns = taken_owns replicas b c to took.taken ∙ took.looked.owns;
+      more = (on.entries.0, same ∙ on.entries.1);
+      all = taken_local depth replicas b c to took.taken took.history ∙ sym tails;
+      count = fetched_all depth replicas a b entries (taken_by replicas a) took.looked owner refl took.entries_are ∙ sym tails;
+      entries_are = are;
+      fit = subst (All (IsLogEntry depth)) (sym are) (All-drop (IsLogEntry depth) (taken_by replicas a) (log_after replicas c.seen).entries fit);
+      ends = (history_fits depth replicas c.seen took.history).ends;
+    }
+
+-- an event that came after a look came after what was seen before it
+pub moved_since : (depth : Depth) (replicas : ℕ) (a b c : View) → HasLooked depth replicas a b → HasMoved b c → HasMoved a c
+moved_since depth replicas a b c p moved =
+    (moved.0, omega (arith, moved.1, ap (λ (l : List LogEvent). length l) p.seen.1, length-append a.seen p.seen.0), moved.2, moved.3)

@@ -1,0 +1,288 @@
+-- What each call leaves of a node.
+use Rattle.std.proofs.Common.{◌≡◌, ℕ, zero, suc, ◌+◌, ◌<◌, ◌≤◌, List, [], ◌∷◌, ◌++◌, All, Option, Some, None, length, take, get_or, option_map, ap, sym, subst}
+use Rattle.std.proofs.Common.{◌∙◌, arith}
+use Rattle.std.specs.Prelude.{slice_get}
+use Rattle.std.proofs.Math.ListN.{length-append, get_or-append}
+use Rattle.std.proofs.Math.Seq.{take-length}
+use Rattle.std.proofs.lemmas.List.{length-take-le, take-append-drop, take-append-le}
+use Rattle.std.proofs.lemmas.Option.{slice_get_within, slice_get-map, get_or_from_slice_get, slice_get-get_or}
+use Rattle.vs_types.specs.LogEntry.{IsLogEntry}
+use Rattle.vs_types.specs.Operation.{IsAction}
+use Rattle.vs_types.specs.declared.depth.Depth.{Depth}
+use Rattle.vs_types.specs.declared.limits.TheConstants.{CALLS, LOG_PLACES}
+use Rattle.vs_types.specs.declared.log_entry.LogEntry.{LogEntry}
+use Rattle.nr_ring.specs.Calls.{HasLooked, with_event}
+use Rattle.nr_ring.specs.Entries.{HasAppended}
+use Rattle.nr_ring.specs.LogHistory.{Log, local_of, log_after, log_after_event, new_log, tail}
+use Rattle.nr_ring.specs.Pass.{Known}
+use Rattle.nr_ring.specs.declared.log_event.LogEvent.TheVariants.{Append}
+use Rattle.nr_ring.specs.declared.view.View.{View}
+use Rattle.nr_ring.proofs.Views.{after_one_more}
+use Rattle.nr_slots.specs.declared.waiting.Waiting.{Waiting}
+use Rattle.nr_node.specs.Calls.{HasCaughtUp, answers_of, entries_of, entry_of, left_of}
+use Rattle.nr_node.specs.Node.{IsNode, NodeState, StandFrom, applied_of, log_of, replica_of, taken_by}
+use Rattle.nr_node.specs.inside.Node.{Follows, HasTakenAll, node_state}
+use Rattle.nr_node.specs.inside.Replica.{ReplicaState}
+use Rattle.nr_node.proofs.Lists.{same_some}
+use Rattle.nr_node.proofs.Looks.{TookAll, looked_fits, looked_on, looked_owner, looked_taken}
+
+-- ---- lists that go on
+
+pub slice_more : {X : Type 0} (xs ys : List X) (i : ℕ) (x : X) → slice_get xs i ≡ Some x → slice_get (xs ++ ys) i ≡ Some x
+slice_more xs ys i x e =
+    let lt = slice_get_within xs i x e in
+    let within : i < length (xs ++ ys) = omega (arith, length-append xs ys) in
+    slice_get-get_or (xs ++ ys) i x within ∙ ap Some (get_or-append xs ys x i lt ∙ get_or_from_slice_get xs i x x e)
+
+slice_after : {X : Type 0} (xs ys : List X) (i : ℕ) → slice_get (xs ++ ys) (length xs + i) ≡ slice_get ys i
+slice_after [] ys i = let n : 0 + i ≡ i = omega arith in ap (slice_get ys) n
+slice_after {X} (x ∷ xs) ys i =
+    let n : length (x ∷ xs) + i ≡ suc (length xs + i) = omega arith in
+    ap (slice_get ((x ∷ xs) ++ ys)) n ∙ slice_after xs ys i
+
+stand_still : (entries more : List LogEntry) (place : ℕ) (batch : List Waiting) → StandFrom entries place batch → StandFrom (entries ++ more) place batch
+stand_still entries more place batch stand i waiting e = slice_more entries more (place + i) (entry_of waiting) (stand i waiting e)
+
+-- a batch that stands among entries ends among them
+ends_within : (entries : List LogEntry) (place : ℕ) (batch : List Waiting) → 1 ≤ length batch → StandFrom entries place batch → place + length batch ≤ length entries
+ends_within entries place (w ∷ ws) some stand =
+    let last = get_or (w ∷ ws) (length ws) w in
+    let at = slice_get-get_or (w ∷ ws) (length ws) w (omega arith) in
+    let lt = slice_get_within entries (place + length ws) (entry_of last) (stand (length ws) last at) in
+    omega arith
+ends_within entries place [] some stand = absurd (omega arith)
+
+-- the first entries are as they were
+pub take_still : (entries later more : List LogEntry) (n : ℕ) → later ≡ entries ++ more → n ≤ length entries → take n later ≡ take n entries
+take_still entries later more n on le = ap (take n) on ∙ take-append-le n entries more le
+
+-- ---- a look
+
+pub looked_node : (depth : Depth) (replicas : ℕ) (known after : Known) (replica : ReplicaState) (batch : List Waiting) (first : Option ℕ)
+    → HasLooked depth replicas known.view after.view
+    → IsNode depth replicas (node_state known replica batch first) → IsNode depth replicas (node_state after replica batch first)
+looked_node depth replicas known after replica batch first p is =
+    let on = looked_on depth replicas known.view after.view p in
+    let same = looked_taken depth replicas known.view after.view p is.owner in
+    record {
+      owner = looked_owner depth replicas known.view after.view p is.owner;
+      written = (looked_fits depth replicas known.view after.view p).written (replica_of after.view);
+      fit = is.fit;
+      few = is.few;
+      placed = λ place at.
+          let was = is.placed place at in
+          record {
+            some = was.some;
+            above = omega (arith, was.above, same);
+            stand = subst (λ l. StandFrom l place batch) (sym on.entries.1) (stand_still (log_after replicas known.view.seen).entries on.entries.0 place batch was.stand);
+          };
+    }
+
+pub looked_follows : (depth : Depth) (replicas : ℕ) (known after : Known) (replica : ReplicaState) (batch : List Waiting) (first : Option ℕ)
+    → HasLooked depth replicas known.view after.view → IsNode depth replicas (node_state known replica batch first)
+    → Follows depth replicas (node_state known replica batch first) replica → Follows depth replicas (node_state after replica batch first) replica
+looked_follows depth replicas known after replica batch first p is follows =
+    let on = looked_on depth replicas known.view after.view p in
+    let same = looked_taken depth replicas known.view after.view p is.owner in
+    let log = log_after replicas known.view.seen in
+    let later = log_after replicas after.view.seen in
+    record {
+      depth_is = follows.depth_is;
+      entries = follows.entries
+          ∙ sym (take_still log.entries later.entries on.entries.0 (taken_by replicas known.view) on.entries.1 is.written)
+          ∙ ap (λ n. take n later.entries) (sym same);
+    }
+
+-- ---- all entries taken
+
+-- the entries that it had and those that it took are all that there are
+pub all_entries : (depth : Depth) (replicas : ℕ) (known after : Known) (replica : ReplicaState) (batch : List Waiting) (first : Option ℕ) (entries : List LogEntry)
+    → TookAll depth replicas known.view entries after.view → IsNode depth replicas (node_state known replica batch first)
+    → Follows depth replicas (node_state known replica batch first) replica
+    → replica.entries ++ entries ≡ (log_after replicas after.view.seen).entries
+all_entries depth replicas known after replica batch first entries took is follows =
+    let n = taken_by replicas known.view in
+    let log = log_after replicas known.view.seen in
+    let later = log_after replicas after.view.seen in
+    ap (λ l. l ++ entries) (follows.entries ∙ sym (take_still log.entries later.entries took.more.0 n took.more.1 is.written))
+    ∙ ap (λ l. take n later.entries ++ l) took.entries_are
+    ∙ take-append-drop n later.entries
+
+-- it had as many entries as it had taken
+pub had_taken : (depth : Depth) (replicas : ℕ) (node : NodeState) (replica : ReplicaState) → IsNode depth replicas node → Follows depth replicas node replica
+    → length replica.entries ≡ applied_of replicas node
+had_taken depth replicas node replica is follows =
+    ap (λ (l : List LogEntry). length l) follows.entries ∙ length-take-le (applied_of replicas node) (log_of replicas node).entries is.written
+
+left_holds : (P : Waiting → Type 0) (first : Option ℕ) (batch : List Waiting) → All P batch → All P (left_of first batch)
+left_holds P None batch all = all
+left_holds P (Some place) batch all = λ k d lt. absurd (omega arith)
+
+left_few : (first : Option ℕ) (batch : List Waiting) → length batch ≤ 16 → length (left_of first batch) ≤ 16
+left_few None batch few = few
+left_few (Some place) batch few = omega arith
+
+pub took_node : (depth : Depth) (replicas : ℕ) (known after : Known) (replica next : ReplicaState) (batch : List Waiting) (first : Option ℕ) (entries : List LogEntry)
+    → TookAll depth replicas known.view entries after.view → IsNode depth replicas (node_state known replica batch first)
+    → IsNode depth replicas (node_state after next (left_of first batch) None)
+took_node depth replicas known after replica next batch first entries took is =
+    let P : List ℕ → Type 0 = λ l. l ≡ Rattle.std.specs.Prelude.slice_index l 0 ∷ [] in
+    record {
+      owner = subst P (sym took.owns) is.owner;
+      written = omega (arith, took.all);
+      fit = left_holds (λ waiting. IsAction depth waiting.op) first batch is.fit;
+      few = left_few first batch is.few;
+      placed = λ place at. absurd (cc);
+    }
+
+pub took_follows : (depth : Depth) (replicas : ℕ) (known after : Known) (replica next : ReplicaState) (batch left : List Waiting) (first now : Option ℕ)
+    (entries : List LogEntry)
+    → TookAll depth replicas known.view entries after.view → IsNode depth replicas (node_state known replica batch first)
+    → Follows depth replicas (node_state known replica batch first) replica → next ≡ record replica { entries = replica.entries ++ entries }
+    → Follows depth replicas (node_state after next left now) next
+took_follows depth replicas known after replica next batch left first now entries took is follows same =
+    let later = log_after replicas after.view.seen in
+    record {
+      depth_is = ap (λ (r : ReplicaState). r.depth) same ∙ follows.depth_is;
+      entries = ap (λ (r : ReplicaState). r.entries) same
+          ∙ all_entries depth replicas known after replica batch first entries took is follows
+          ∙ sym (take-length later.entries)
+          ∙ ap (λ n. take n later.entries) (sym took.all);
+    }
+
+pub caught_up : (depth : Depth) (replicas : ℕ) (known after : Known) (replica next : ReplicaState) (batch : List Waiting) (first : Option ℕ)
+    (entries : List LogEntry)
+    → HasTakenAll depth replicas known.view entries after.view → TookAll depth replicas known.view entries after.view
+    → IsNode depth replicas (node_state known replica batch first) → next ≡ record replica { entries = replica.entries ++ entries }
+    → HasCaughtUp depth replicas (node_state known replica batch first) (length entries) (node_state after next (left_of first batch) None)
+caught_up depth replicas known after replica next batch first entries took all is same =
+    let log = log_after replicas known.view.seen in
+    let later = log_after replicas after.view.seen in
+    let longer : tail log ≤ tail later = omega (arith, ap (λ (l : List LogEntry). length l) all.more.1, length-append log.entries all.more.0) in
+    record {
+      seen_before = took.between;
+      looked = took.looked;
+      taken = took.taken;
+      risen = omega (arith, all.all, all.count);
+      all = all.all;
+      fresh = omega (arith, all.all, longer);
+      held = λ place at.
+          let was = is.placed place at in
+          let ends = ends_within log.entries place batch was.some was.stand in
+          record {
+            above = was.above;
+            below = omega (arith, ends, longer, all.all);
+            stand = subst (λ l. StandFrom l place batch) (sym all.more.1) (stand_still log.entries all.more.0 place batch was.stand);
+          };
+      left = ap (λ (r : ReplicaState). record { known = after; tables = r.tables; batch = left_of first batch; first = None }) same;
+    }
+
+pub next_entries : (depth : Depth) (replicas : ℕ) (known after : Known) (replica next : ReplicaState) (batch : List Waiting) (first : Option ℕ)
+    (entries : List LogEntry)
+    → TookAll depth replicas known.view entries after.view → IsNode depth replicas (node_state known replica batch first)
+    → Follows depth replicas (node_state known replica batch first) replica → next ≡ record replica { entries = replica.entries ++ entries }
+    → next.entries ≡ (log_after replicas after.view.seen).entries
+next_entries depth replicas known after replica next batch first entries took is follows same =
+    ap (λ (r : ReplicaState). r.entries) same ∙ all_entries depth replicas known after replica batch first entries took is follows
+
+pub stands_after : (depth : Depth) (replicas : ℕ) (known after : Known) (replica next : ReplicaState) (batch : List Waiting) (first : Option ℕ)
+    (entries : List LogEntry)
+    → TookAll depth replicas known.view entries after.view → IsNode depth replicas (node_state known replica batch first)
+    → next.entries ≡ (log_after replicas after.view.seen).entries → (place : ℕ) → first ≡ Some place → StandFrom next.entries place batch
+stands_after depth replicas known after replica next batch first entries took is same place at =
+    subst (λ l. StandFrom l place batch) (sym (same ∙ took.more.1))
+    (stand_still (log_after replicas known.view.seen).entries took.more.0 place batch (is.placed place at).stand)
+
+pub answers_after : (depth : Depth) (replica next : ReplicaState) (batch : List Waiting) (first : Option ℕ) (entries later : List LogEntry)
+    → next ≡ record replica { entries = replica.entries ++ entries } → next.entries ≡ later → replica.depth ≡ depth
+    → answers_of next.depth next.tables next.entries first batch ≡ answers_of depth replica.tables later first batch
+answers_after depth replica next batch first entries later same are is =
+    ap (λ (r : ReplicaState). answers_of r.depth r.tables next.entries first batch) same
+    ∙ ap (λ d. answers_of d replica.tables next.entries first batch) is
+    ∙ ap (λ l. answers_of depth replica.tables l first batch) are
+
+-- the entries fit that it took, and there is room for them
+pub took_fit : (depth : Depth) (replicas : ℕ) (a c : View) (entries : List LogEntry) (d : Depth) → TookAll depth replicas a entries c → d ≡ depth
+    → All (λ entry. IsAction d entry.op) entries
+took_fit depth replicas a c entries d took is k e lt =
+    subst (λ z. IsAction z (get_or entries k e).op) (sym is) (took.fit k e lt).well_formed
+
+pub took_room : (depth : Depth) (replicas : ℕ) (known after : Known) (replica : ReplicaState) (batch : List Waiting) (first : Option ℕ) (entries : List LogEntry)
+    → TookAll depth replicas known.view entries after.view → IsNode depth replicas (node_state known replica batch first)
+    → Follows depth replicas (node_state known replica batch first) replica → length replica.entries + length entries ≤ LOG_PLACES
+took_room depth replicas known after replica batch first entries took is follows =
+    let had = had_taken depth replicas (node_state known replica batch first) replica is follows in
+    omega (arith, had, took.count, took.ends)
+
+-- ---- an append
+
+-- the entries of a batch fit
+pub batch_fits : (depth : Depth) (batch : List Waiting) → All (λ waiting. IsAction depth waiting.op) batch → All (λ entry. entry.call < CALLS) (entries_of batch)
+    → All (IsLogEntry depth) (entries_of batch)
+batch_fits depth [] fit calls k d lt = absurd (omega arith)
+batch_fits depth (w ∷ ws) fit calls zero d lt = record { well_formed = fit zero w (omega arith); in_range = calls zero d (omega arith) }
+batch_fits depth (w ∷ ws) fit calls (suc k) d lt =
+    batch_fits depth ws (λ j e l. fit (suc j) e (omega arith)) (λ j e l. calls (suc j) e (omega arith)) k d (omega arith)
+
+pub appended_node : (depth : Depth) (replicas : ℕ) (known after : Known) (replica : ReplicaState) (batch : List Waiting) (first : Option ℕ) (place : ℕ)
+    → HasAppended depth replicas known.view (entries_of batch) place after.view → 1 ≤ length batch
+    → IsNode depth replicas (node_state known replica batch first) → Follows depth replicas (node_state known replica batch first) replica
+    → IsNode depth replicas (node_state after replica batch (Some place)) × Follows depth replicas (node_state after replica batch (Some place)) replica
+appended_node depth replicas known after replica batch first place h some is follows =
+    subst Stays (sym h.appended) (
+      record {
+        owner = now.owner;
+        written = omega (arith, low, now.written, longer);
+        fit = is.fit;
+        few = is.few;
+        placed = λ p at.
+            let here : place ≡ p = same_some at in
+            record {
+              some = some;
+              above = omega (arith, low, now.written, h.place_is, here);
+              stand = λ i waiting e.
+                  let sum : p + i ≡ length log.entries + i = omega (arith, h.place_is, here) in
+                  ap (λ l. slice_get l (p + i)) entries
+                  ∙ ap (slice_get (log.entries ++ entries_of batch)) sum
+                  ∙ slice_after log.entries (entries_of batch) i
+                  ∙ slice_get-map entry_of batch i
+                  ∙ ap (option_map entry_of) e;
+            };
+      },
+      record {
+        depth_is = follows.depth_is;
+        entries = was.entries
+            ∙ sym (take_still log.entries later.entries (entries_of batch) (taken_by replicas h.seen_before) entries now.written)
+            ∙ ap (λ n. take n later.entries) (sym low);
+      },
+    ) where
+      before : Known
+      before = record { log = known.log; view = h.seen_before }
+
+      now : IsNode depth replicas (node_state before replica batch first)
+      now = looked_node depth replicas known before replica batch first h.looked is
+
+      was : Follows depth replicas (node_state before replica batch first) replica
+      was = looked_follows depth replicas known before replica batch first h.looked is follows
+
+      Stays : View → Type 0
+      Stays v = IsNode depth replicas (node_state (record { log = after.log; view = v }) replica batch (Some place))
+          × Follows depth replicas (node_state (record { log = after.log; view = v }) replica batch (Some place)) replica
+
+      log : Log
+      log = log_after replicas h.seen_before.seen
+
+      later : Log
+      later = log_after replicas (with_event h.seen_before (Append (entries_of batch))).seen
+
+      is_later : later ≡ log_after_event log (Append (entries_of batch))
+      is_later = after_one_more (new_log replicas) h.seen_before.seen (Append (entries_of batch))
+
+      entries : later.entries ≡ log.entries ++ entries_of batch
+      entries = ap (λ (l : Log). l.entries) is_later
+
+      low : taken_by replicas (with_event h.seen_before (Append (entries_of batch))) ≡ taken_by replicas h.seen_before
+      low = ap (λ (l : Log). local_of l (replica_of h.seen_before)) is_later
+
+      longer : tail later ≡ tail log + length (entries_of batch)
+      longer = ap (λ (l : List LogEntry). length l) entries ∙ length-append log.entries (entries_of batch)

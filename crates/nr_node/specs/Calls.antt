@@ -1,0 +1,68 @@
+-- What the calls of a node tell.
+use Rattle.std.specs.Prelude.{◌≡◌, ℕ, ◌+◌, ◌≤◌, List, [], ◌∷◌, Option, Some, None, length, map}
+use Rattle.vs_types.specs.declared.depth.Depth.{Depth}
+use Rattle.vs_types.specs.declared.log_entry.LogEntry.{LogEntry}
+use Rattle.nr_ring.specs.LogHistory.{Log, tail, log_after}
+use Rattle.nr_ring.specs.Calls.{HasLooked, HasTaken}
+use Rattle.nr_ring.specs.declared.view.View.{View}
+use Rattle.nr_slots.specs.declared.answered.Answered.{Answered}
+use Rattle.nr_slots.specs.declared.waiting.Waiting.{Waiting}
+use Rattle.nr_node.specs.Spaces.{answer_at}
+use Rattle.nr_node.specs.Node.{NodeState, StandFrom, applied_of, log_of}
+
+-- the entry that a call asks for
+abbrev pub entry_of : Waiting → LogEntry
+entry_of waiting = record { call = waiting.call; op = waiting.op }
+
+-- the entries that a batch asks for
+abbrev pub entries_of : List Waiting → List LogEntry
+entries_of batch = map entry_of batch
+
+-- a call that stands at a place, with what it is answered there
+abbrev pub answered : Depth → ℕ → List LogEntry → ℕ → Waiting → Answered
+answered depth tables entries place waiting = record {
+  thread = waiting.thread;
+  call = waiting.call;
+  op = waiting.op;
+  place = place;
+  answer = answer_at depth tables entries place waiting.op;
+}
+
+-- calls that stand one after another from a place on
+abbrev pub answered_from : Depth → ℕ → List LogEntry → ℕ → List Waiting → List Answered
+answered_from depth tables entries place [] = []
+answered_from depth tables entries place (waiting ∷ batch) = answered depth tables entries place waiting ∷ answered_from depth tables entries (place + 1) batch
+
+-- the answers of a batch, where it has places
+abbrev pub answers_of : Depth → ℕ → List LogEntry → Option ℕ → List Waiting → List Answered
+answers_of depth tables entries None batch = []
+answers_of depth tables entries (Some first) batch = answered_from depth tables entries first batch
+
+-- the calls that are left when those with places are answered
+abbrev pub left_of : Option ℕ → List Waiting → List Waiting
+left_of None batch = batch
+left_of (Some first) batch = []
+
+-- the batch lies among the entries from one place up to another, and stands in the log there
+pub record LiesWithin (log : Log) (from to first : ℕ) (batch : List Waiting) : Type 0 where
+  pub above : from ≤ first
+  pub below : first + length batch ≤ to
+  pub stand : StandFrom log.entries first batch
+
+-- the node looked, and then took so many entries: all that there were. A batch that has places lies among them, and nothing of it is left
+pub record HasCaughtUp (depth : Depth) (replicas : ℕ) (before : NodeState) (count : ℕ) (after : NodeState) : Type 0 where
+  pub seen_before : View
+  pub looked : HasLooked depth replicas before.known.view seen_before
+  pub taken : HasTaken replicas seen_before (tail (log_after replicas seen_before.seen)) after.known.view
+  pub risen : applied_of replicas after ≡ applied_of replicas before + count
+  pub all : applied_of replicas after ≡ tail (log_of replicas after)
+  pub fresh : tail (log_of replicas before) ≤ applied_of replicas after
+  pub held : (first : ℕ) → before.first ≡ Some first
+      → LiesWithin (log_of replicas after) (applied_of replicas before) (applied_of replicas after) first before.batch
+  pub left : after ≡ record { known = after.known; tables = before.tables; batch = left_of before.first before.batch; first = None }
+
+-- another pass's event came, and the node has only looked: what it has applied and holds is as before
+pub record HasStayed (depth : Depth) (replicas : ℕ) (before after : NodeState) : Type 0 where
+  pub looked : HasLooked depth replicas before.known.view after.known.view
+  pub applied : applied_of replicas after ≡ applied_of replicas before
+  pub same : after ≡ record before { known = after.known }

@@ -1,0 +1,262 @@
+ghost use Rattle.std.specs.Prelude.{◌≡◌, ◌≤◌, ◌+◌, ℕ, All, IfErr, IfOk, MatchOption, None, OnErr, OnOk, Some, [], ◌∷◌, length, slice_get};
+ghost use Rattle.std.specs.FinMap as finite;
+ghost use Rattle.vs_types.specs.Depth.{IsCanonical};
+ghost use Rattle.vs_types.specs.Operation.{IsAction};
+ghost use Rattle.vs_types.specs.Refusal.{IfRefused};
+ghost use Rattle.vs_types.specs.Space.{table_count};
+ghost use Rattle.vs_types.specs.Step.{allow, look};
+ghost use Rattle.vs_walk.specs.Walk.{TranslatesAs};
+ghost use Rattle.nr_ring.specs.Calls.{HasLooked, HasMoved, copy_of, joined};
+ghost use Rattle.nr_ring.specs.Entries.{HasAppended, IsReason};
+ghost use Rattle.nr_ring.specs.LogHistory.{log_after};
+ghost use Rattle.nr_ring.specs.View.{HasSeenAdvances, StartsWith};
+ghost use Rattle.nr_node.specs.Calls.{HasCaughtUp, HasStayed, answers_of, entries_of};
+ghost use Rattle.nr_node.specs.Node.{IsNode, applied_of, held_of, log_of, new_node, node_space, replica_of, taken_by};
+ghost use Rattle.nr_node.specs.Spaces.{answer_at};
+ghost use Rattle.nr_node.specs.inside.Node.{HasTakenAll};
+
+use crate::batch::{copy, entries, keep_unplaced};
+use crate::held::Held;
+use crate::replica::Replica;
+use arrayvec::ArrayVec;
+use nr_ring::{AppendFault, LogName, LogPass, Moved, RingLog};
+use nr_slots::{Answered, Waiting};
+use std::alloc::Global;
+use std::marker::Model;
+use std::sync::Wait;
+use vs_arena::FrameStore;
+use vs_space::NoRoot;
+use vs_types::{Access, Answer, Depth, Fail, LogEntry, Memory, Mode};
+use vs_walk::Dump;
+
+/// A replica of the address space with its pass to the log, and at most one batch of updates that are on their way.
+///
+/// Its page table is that of the address space after the first `applied` entries of the log, which are all that its replica
+/// has taken. Contracts see its log, what its pass knows, how many tables it may have, and its batch.
+#[derive(Drop)]
+pub struct Node<S: FrameStore, J: LogName> {
+    pass: LogPass<J>,
+    replica: Replica<S>,
+    batch: ArrayVec<Waiting, 16>,
+    first: Option<u32>,
+}
+
+impl<S: FrameStore, J: LogName> Model for Node<S, J> {
+    ghost use Rattle.std.specs.Prelude.{◌≡◌};
+    ghost use Rattle.nr_node.specs.Node.{IsNode, NodeState};
+    ghost use Rattle.nr_node.specs.inside.Node.{Follows, node_state};
+
+    ghost Value = { NodeState };
+
+    ghost view = { λ n. node_state n.pass n.replica n.batch.items n.first };
+
+    ghost invariant = { λ n. IsNode J.depth J.replicas (node_state n.pass n.replica n.batch.items n.first)
+        × Follows J.depth J.replicas (node_state n.pass n.replica n.batch.items n.first) n.replica };
+}
+
+impl<S: FrameStore + Drop, J: LogName> Node<S, J> {
+    /// A node that has applied nothing and holds nothing. Its tables lie in the store, of which no frame is in use; its pass owns
+    /// a replica that has taken nothing; and the depth is that of the log. It takes all memory that the node ever needs, but for
+    /// its dumps.
+    ///
+    /// # Errors
+    ///
+    /// `NoRoot` only where the store has no frame, or out of memory.
+    pub fn new(
+        alloc: Global,
+        store: S,
+        pass: LogPass<J>,
+        depth: Depth,
+    ) -> Result<Node<S, J>, Fail<NoRoot>>
+        requires store { S.frames store ≡ finite.empty }
+        requires owner { (replica : ℕ) × (pass.view.owns ≡ replica ∷ []) }
+        requires nothing_taken { taken_by J.replicas pass.view ≡ 0 }
+        requires depth { depth ≡ J.depth }
+        ensures made { IfOk result (λ node. node ≡ new_node pass (S.size store)) }
+        ensures no_root { IfErr result (IfRefused (λ _. S.size store ≡ 0)) }
+    {
+        let replica = Replica::new(alloc, store, depth)?;
+        Ok(Node {
+            pass,
+            replica,
+            batch: ArrayVec::new(),
+            first: None,
+        })
+    }
+
+    /// Its pass, which owns its replica. The rest of the node is given up.
+    pub fn into_pass(self) -> LogPass<J>
+        ensures pass { result ≡ self.known }
+        ensures is_node { IsNode J.depth J.replicas self }
+    {
+        self.pass
+    }
+}
+
+impl<S: FrameStore, J: LogName> Node<S, J> {
+    /// How many entries of the log it has applied: its replica's local tail.
+    pub fn applied(&self) -> u32
+        ensures reads { result ≡ applied_of J.replicas self.now }
+        ensures is_node { IsNode J.depth J.replicas self.now }
+    {
+        self.replica.applied()
+    }
+
+    /// What it holds.
+    pub fn held(&self) -> Held
+        ensures { result ≡ held_of self.now.batch self.now.first }
+    {
+        let count = self.batch.len();
+        match self.first {
+            _ if count == 0 => Held::Nothing,
+            None => Held::Unplaced(count),
+            Some(first) => Held::Placed(first, count),
+        }
+    }
+
+    /// Holds a batch of 1 to 16 updates that are well formed at the log's depth; it holds nothing before.
+    pub fn hold(&mut self, batch: &ArrayVec<Waiting, 16>)
+        requires nothing { self.old.batch ≡ [] }
+        requires some { 1 ≤ length batch.now.items }
+        requires fit { All (λ waiting. IsAction J.depth waiting.op) batch.now.items }
+        ensures { self.new ≡ record self.old { batch = batch.now.items } }
+    {
+        self.batch = copy(batch);
+    }
+
+    /// Appends the batch, which has no place yet, to the log: the place of its first update.
+    ///
+    /// Waits for the log's cell.
+    ///
+    /// # Errors
+    ///
+    /// Those of `RingLog::append`. The batch then has no place still, and the node has only looked.
+    pub fn put_batch<R: Wait>(&mut self, rt: &R, log: &RingLog<J>) -> Result<u32, AppendFault>
+        requires log { self.old.known.log ≡ log.now }
+        requires some { 1 ≤ length self.old.batch }
+        requires unplaced { self.old.first ≡ None }
+        ensures log { self.new.known.log ≡ self.old.known.log }
+        ensures appended { IfOk result (λ place.
+            HasAppended J.depth J.replicas self.old.known.view (entries_of self.old.batch) place self.new.known.view) }
+        ensures placed { IfOk result (λ place. self.new ≡ record self.old { known = self.new.known; first = Some place }) }
+        ensures looked { OnErr result (HasStayed J.depth J.replicas self.old self.new) }
+        ensures refused { IfErr result
+            (IsReason (log_of J.replicas self.new) (length self.old.batch) self.old.known.view self.new.known.view) }
+    {
+        let entries = entries(&self.batch);
+        let first = log.append(rt, &mut self.pass, entries.as_slice())?;
+        self.first = Some(first);
+        Ok(first)
+    }
+
+    /// Takes all entries that the log then has and applies them: how many they are. The answers of the held updates among them
+    /// are added to the vector, which is empty, by place.
+    ///
+    /// Waits for the log's cell.
+    ///
+    /// # Errors
+    ///
+    /// `Moved` where another pass's event came between. No answer is given then, and what it has applied and holds is as before.
+    pub fn catch_up<R: Wait>(
+        &mut self,
+        rt: &R,
+        log: &RingLog<J>,
+        answers: &mut ArrayVec<Answered, 16>,
+    ) -> Result<u32, Moved>
+        requires log { self.old.known.log ≡ log.now }
+        requires empty { answers.old.items ≡ [] }
+        ensures log { self.new.known.log ≡ self.old.known.log }
+        ensures caught_up { IfOk result (λ count. HasCaughtUp J.depth J.replicas self.old count self.new) }
+        ensures answered { OnOk result (answers.new.items
+            ≡ answers_of J.depth self.old.tables (log_of J.replicas self.new).entries self.old.first self.old.batch) }
+        ensures stayed { OnErr result (HasStayed J.depth J.replicas self.old self.new) }
+        ensures moved { OnErr result (HasMoved self.old.known.view self.new.known.view) }
+        ensures no_answer { OnErr result (answers.new.items ≡ []) }
+    {
+        let mut entries = ArrayVec::new();
+        let applied = self.replica.applied();
+        take_entries(rt, log, &mut self.pass, applied, &mut entries)?;
+        self.replica.apply_all(&entries);
+        self.replica.answer(self.first, &self.batch, answers);
+        keep_unplaced(&mut self.batch, self.first);
+        self.first = None;
+        Ok(entries.len() as u32)
+    }
+
+    /// How many entries it has applied, and the translation of a canonical address after them, or `NotMapped`.
+    pub fn read(&self, address: u64) -> (u32, Answer)
+        requires { IsCanonical J.depth address }
+        ensures at { result.0 ≡ applied_of J.replicas self.now }
+        ensures answer { result.1 ≡ look (node_space J.depth J.replicas self.now) address }
+    {
+        (self.replica.applied(), self.replica.resolve(address))
+    }
+
+    /// How many entries it has applied, and whether an access of a canonical address is allowed after them: `Allowed` with the
+    /// physical address, or `Fault` with the error code.
+    pub fn access(&self, address: u64, mode: Mode, access: Access) -> (u32, Answer)
+        requires { IsCanonical J.depth address }
+        ensures at { result.0 ≡ applied_of J.replicas self.now }
+        ensures answer { result.1 ≡ allow (node_space J.depth J.replicas self.now) address mode access }
+    {
+        let answer = self.replica.access(address, mode, access);
+        (self.replica.applied(), answer)
+    }
+
+    /// The entry of the log at a place and what it was answered; `None` where it has not applied the place's entry.
+    pub fn told(&self, place: u32) -> Option<(LogEntry, Answer)>
+        ensures { MatchOption result (applied_of J.replicas self.now ≤ place) (λ told.
+            (slice_get (log_of J.replicas self.now).entries place ≡ Some told.0)
+            × (told.1 ≡ answer_at J.depth self.now.tables (log_of J.replicas self.now).entries place told.0.op)
+            × (place + 1 ≤ applied_of J.replicas self.now)) }
+    {
+        self.replica.told(place)
+    }
+
+    /// Its page table, and how many entries it has applied. It takes memory.
+    pub fn dump(&self) -> Result<Dump, Memory>
+        ensures applied { IfOk result (λ dump. dump.applied ≡ applied_of J.replicas self.now) }
+        ensures translates { IfOk result (λ dump.
+            TranslatesAs J.depth dump.frames dump.root (node_space J.depth J.replicas self.now)) }
+        ensures frames { IfOk result (λ dump.
+            finite.len dump.frames ≡ table_count J.depth (node_space J.depth J.replicas self.now)) }
+    {
+        self.replica.dump()
+    }
+
+    /// Tells another pass of its log what it has seen.
+    ///
+    /// Waits for the log's cell.
+    pub fn tell<R: Wait>(&mut self, rt: &R, log: &RingLog<J>, told: &mut LogPass<J>)
+        requires log { (self.old.known.log ≡ log.now) × (told.old.log ≡ log.now) }
+        ensures same { self.new ≡ self.old }
+        ensures log { told.new.log ≡ told.old.log }
+        ensures met { StartsWith told.new.view.seen self.old.known.view.seen × StartsWith told.new.view.seen told.old.view.seen }
+        ensures advances { All (λ replica. HasSeenAdvances replica told.new.view.seen told.old.view.seen) told.old.view.owns }
+        ensures looked { HasLooked J.depth J.replicas (joined told.old.view (copy_of self.old.known.view)) told.new.view }
+    {
+        log.meet(rt, &mut self.pass, told);
+    }
+}
+
+/// Takes all entries that the log then has: fetches them, and advances the replica past them.
+fn take_entries<J: LogName, R: Wait>(
+    rt: &R,
+    log: &RingLog<J>,
+    pass: &mut LogPass<J>,
+    applied: u32,
+    entries: &mut ArrayVec<LogEntry, 16>,
+) -> Result<(), Moved>
+    requires log { pass.old.log ≡ log.now }
+    requires owner { pass.old.view.owns ≡ replica_of pass.old.view ∷ [] }
+    requires applied { taken_by J.replicas pass.old.view ≡ applied }
+    requires empty { entries.old.items ≡ [] }
+    ensures log { pass.new.log ≡ pass.old.log }
+    ensures took { OnOk result (HasTakenAll J.depth J.replicas pass.old.view entries.new.items pass.new.view) }
+    ensures looked { OnErr result (HasLooked J.depth J.replicas pass.old.view pass.new.view) }
+    ensures moved { OnErr result (HasMoved pass.old.view pass.new.view) }
+{
+    log.fetch(rt, pass, entries);
+    let to = applied + entries.len() as u32;
+    log.advance(rt, pass, to)
+}

@@ -1,0 +1,182 @@
+ghost use Rattle.std.specs.Prelude.{◌≡◌, ℕ, ◌+◌, ◌<◌, ◌≤◌, All, [], ◌∷◌, ◌++◌, IfErr, IfOk, IfSome, MatchOption, Some, length, slice_get};
+ghost use Rattle.std.specs.FinMap as finite;
+ghost use Rattle.vs_types.specs.Depth.{IsCanonical};
+ghost use Rattle.vs_types.specs.Operation.{IsAction};
+ghost use Rattle.vs_types.specs.Refusal.{IfRefused};
+ghost use Rattle.vs_types.specs.Space.{table_count};
+ghost use Rattle.vs_types.specs.Step.{allow, look};
+ghost use Rattle.vs_types.specs.declared.limits.TheConstants.{LOG_PLACES};
+ghost use Rattle.vs_walk.specs.Walk.{TranslatesAs};
+ghost use Rattle.nr_node.specs.Calls.{answered_from, answers_of};
+ghost use Rattle.nr_node.specs.Node.{StandFrom};
+ghost use Rattle.nr_node.specs.Spaces.{answer_at, space_of};
+
+use arrayvec::ArrayVec;
+use nr_slots::{Answered, Waiting};
+use std::alloc::Global;
+use std::marker::Model;
+use vs_arena::FrameStore;
+use vs_space::{NoRoot, Space};
+use vs_types::{Access, Answer, Depth, Fail, LOG_PLACES, LogEntry, Memory, Mode};
+use vs_walk::Dump;
+
+/// An entry of the log with what it was answered.
+#[derive(Clone, Copy, Debug)]
+struct Told {
+    entry: LogEntry,
+    answer: Answer,
+}
+
+/// A page table that follows a log, and the entries that it has applied, each with its answer. Contracts see the entries.
+#[derive(Drop)]
+pub(crate) struct Replica<S: FrameStore> {
+    space: Space<S>,
+    told: Vec<Told>,
+    alloc: Global,
+}
+
+impl<S: FrameStore> Model for Replica<S> {
+    ghost use Rattle.std.specs.Prelude.{vec_capacity};
+    ghost use Rattle.nr_node.specs.inside.Replica.{IsReplica, ReplicaState, entries_told};
+
+    ghost Value = { ReplicaState };
+
+    ghost view = { λ r. record { depth = r.space.depth; tables = r.space.limit; entries = entries_told r.told.items } };
+
+    ghost invariant = { λ r. IsReplica r.space r.told.items (vec_capacity r.told) };
+}
+
+impl<S: FrameStore + Drop> Replica<S> {
+    /// A replica without entries, whose tables lie in a store of which no frame is in use. It takes all memory that the replica
+    /// ever needs, but for dumps.
+    pub(crate) fn new(alloc: Global, store: S, depth: Depth) -> Result<Replica<S>, Fail<NoRoot>>
+        requires { S.frames store ≡ finite.empty }
+        ensures made { IfOk result (λ r. r ≡ record { depth = depth; tables = S.size store; entries = [] }) }
+        ensures no_root { IfErr result (IfRefused (λ _. S.size store ≡ 0)) }
+    {
+        let told = Vec::with_capacity(alloc, LOG_PLACES as usize)?;
+        let _capacity = store.capacity();
+        match Space::new(store, depth) {
+            Ok(space) => Ok(Replica { space, told, alloc }),
+            Err(no_root) => Err(Fail::Refused(no_root)),
+        }
+    }
+}
+
+impl<S: FrameStore> Replica<S> {
+    /// How many entries it has applied: at most 65,536.
+    pub(crate) fn applied(&self) -> u32
+        ensures counts { result ≡ length self.now.entries }
+        ensures at_most { result ≤ LOG_PLACES }
+    {
+        self.told.len() as u32
+    }
+
+    /// Applies the next entry of the log.
+    pub(crate) fn apply(&mut self, entry: LogEntry)
+        requires fits { IsAction self.old.depth entry.op }
+        requires room { length self.old.entries < LOG_PLACES }
+        ensures { self.new ≡ record self.old { entries = self.old.entries ++ entry ∷ [] } }
+    {
+        let answer = self.space.apply(entry.op);
+        self.told.push_reserved(Told { entry, answer });
+    }
+
+    /// Applies entries of the log, in order.
+    pub(crate) fn apply_all(&mut self, entries: &ArrayVec<LogEntry, 16>)
+        requires fit { All (λ entry. IsAction self.old.depth entry.op) entries.now.items }
+        requires room { length self.old.entries + length entries.now.items ≤ LOG_PLACES }
+        ensures { self.new ≡ record self.old { entries = self.old.entries ++ entries.now.items } }
+    {
+        for entry in entries.as_slice() {
+            self.apply(*entry);
+        }
+    }
+
+    /// Adds the answers of a batch that has places, of which this is the first: it stands among the entries.
+    pub(crate) fn answer(
+        &self,
+        first: Option<u32>,
+        batch: &ArrayVec<Waiting, 16>,
+        answers: &mut ArrayVec<Answered, 16>,
+    )
+        requires empty { answers.old.items ≡ [] }
+        requires stand { (place : ℕ) → first ≡ Some place → StandFrom self.now.entries place batch.now.items }
+        ensures { answers.new.items ≡ answers_of self.now.depth self.now.tables self.now.entries first batch.now.items }
+    {
+        if let Some(first) = first {
+            self.answer_from(first, batch, answers);
+        }
+    }
+
+    /// Adds the answers of calls that stand one after another among the entries, from this place on.
+    fn answer_from(
+        &self,
+        first: u32,
+        batch: &ArrayVec<Waiting, 16>,
+        answers: &mut ArrayVec<Answered, 16>,
+    )
+        requires empty { answers.old.items ≡ [] }
+        requires stand { StandFrom self.now.entries first batch.now.items }
+        ensures { answers.new.items ≡ answered_from self.now.depth self.now.tables self.now.entries first batch.now.items }
+    {
+        let mut place = first;
+        for waiting in batch.as_slice() {
+            let Some((entry, answer)) = self.told(place) else {
+                unreachable!();
+            };
+            answers.push(Answered {
+                thread: waiting.thread,
+                call: entry.call,
+                op: entry.op,
+                place,
+                answer,
+            });
+            place += 1;
+        }
+    }
+
+    /// The translation of a canonical address, or `NotMapped`.
+    pub(crate) fn resolve(&self, address: u64) -> Answer
+        requires { IsCanonical self.now.depth address }
+        ensures { result ≡ look (space_of self.now.depth self.now.tables self.now.entries) address }
+    {
+        self.space.resolve(address)
+    }
+
+    /// Whether an access of a canonical address is allowed.
+    pub(crate) fn access(&self, address: u64, mode: Mode, access: Access) -> Answer
+        requires { IsCanonical self.now.depth address }
+        ensures { result ≡ allow (space_of self.now.depth self.now.tables self.now.entries) address mode access }
+    {
+        self.space.access(address, mode, access)
+    }
+
+    /// The entry at a place with its answer; `None` where the place is not below the number of entries.
+    pub(crate) fn told(&self, place: u32) -> Option<(LogEntry, Answer)>
+        ensures told { MatchOption result (length self.now.entries ≤ place) (λ told. (slice_get self.now.entries place ≡ Some told.0)
+            × (told.1 ≡ answer_at self.now.depth self.now.tables self.now.entries place told.0.op)) }
+        ensures within { IfSome result (λ _. place < LOG_PLACES) }
+    {
+        let told = self.told.get(place as usize)?;
+        Some((told.entry, told.answer))
+    }
+
+    /// Its page table as it is. It takes memory.
+    pub(crate) fn dump(&self) -> Result<Dump, Memory>
+        ensures applied { IfOk result (λ dump. dump.applied ≡ length self.now.entries) }
+        ensures translates { IfOk result (λ dump. TranslatesAs self.now.depth dump.frames dump.root
+            (space_of self.now.depth self.now.tables self.now.entries)) }
+        ensures frames { IfOk result (λ dump. finite.len dump.frames
+            ≡ table_count self.now.depth (space_of self.now.depth self.now.tables self.now.entries)) }
+    {
+        let _frames = self.space.tables();
+        let root = self.space.root();
+        let depth = self.space.depth();
+        match Dump::gather(self.alloc, &self.space, root, depth, self.applied()) {
+            Ok(dump) => Ok(dump),
+            Err(Fail::Memory) => Err(Memory),
+            Err(Fail::Refused(_)) => unreachable!(),
+        }
+    }
+}

@@ -1,0 +1,5 @@
+use Rattle.nr_ring.proofs.OwnTails.{beginning_is}
+use Rattle.nr_ring.proofs.laws.beginnings_are_histories.Goals as goal
+
+pub returns : goal.returns
+returns c = beginning_is

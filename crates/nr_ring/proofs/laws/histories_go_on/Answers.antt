@@ -1,0 +1,5 @@
+use Rattle.nr_ring.proofs.OwnTails.{beginning_goes_on}
+use Rattle.nr_ring.proofs.laws.histories_go_on.Goals as goal
+
+pub returns : goal.returns
+returns c = beginning_goes_on

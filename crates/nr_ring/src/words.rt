@@ -1,0 +1,25 @@
+//! How much the ring holds, and where each thing stands in the words of the cell. Clauses cite these.
+
+/// The entries of the ring: a batch has no more, and no replica has more to take.
+pub const RING: usize = 16;
+
+/// The most passes of a log that own no replica.
+pub const OTHERS: u8 = 64;
+
+/// The words of the cell.
+pub const CELL_WORDS: usize = 39;
+
+/// The word of the tail.
+pub const TAIL_WORD: usize = 0;
+
+/// The word of the completed tail.
+pub const COMPLETED_WORD: usize = 1;
+
+/// The first of the words of the local tails, of which there are as many as a service may have replicas.
+pub const LOCAL_WORDS: usize = 2;
+
+/// The word of the number of replicas.
+pub const COUNT_WORD: usize = 6;
+
+/// The first of the words of the ring: two for each entry.
+pub const RING_WORDS: usize = 7;
