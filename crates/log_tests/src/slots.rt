@@ -1,105 +1,199 @@
-ghost use Rattle.std.specs.Prelude.{◌≡◌};
+ghost use Rattle.std.specs.Prelude.{◌≡◌, ◌+◌, ◌<◌, ◌≤◌};
+ghost use Rattle.vs_types.specs.declared.limits.TheConstants.{CALLS};
 
 use arrayvec::ArrayVec;
-use nr_slots::{Answered, NotTaken, Occupied, Slots};
+use nr_slots::{Answered, NotTaken, Occupied, Slots, Waiting};
 use std::process::Abort;
 use std::sync::Wait;
 use std::test::Fail;
-use vs_types::{Answer, CALLS, Depth, Op};
+use vs_types::{Answer, CALLS, Depth, Op, Rights, Size};
 
-fn not_mapped(thread: u16, call: u32, op: Op) -> Answered {
+/// What a thread posts and is answered. Each has a call, an operation, a place and an answer of its own; thread 0 has call 0.
+fn own(rt: &impl Abort, thread: u16) -> Answered
+    requires { thread < 64 }
+    ensures { (result.thread ≡ thread) × (result.call < CALLS) }
+{
+    let number = u64::from(thread);
+    let base = 0x200000 * (number + 1);
+    let rights = Rights {
+        write: thread < 32,
+        ..Rights::ALL
+    };
+    let answers = [
+        Answer::Overlap(base),
+        Answer::Done,
+        Answer::Full(number + 4),
+        Answer::Removed(base, Size::M2, rights),
+        Answer::NotMapped,
+        Answer::Inside(base),
+        Answer::Changed(rights),
+    ];
+    let ops = [
+        Op::map(Depth::Four, base, Size::M2, 2 * base, rights),
+        Op::unmap(Depth::Four, base),
+        Op::protect(Depth::Four, base, rights),
+    ];
     Answered {
         thread,
-        call,
-        op,
-        place: 0,
-        answer: Answer::NotMapped,
+        call: 2047 * u32::from(thread),
+        op: ops[usize::from(thread % 3)].expect(rt, "a well-formed operation"),
+        place: 65_535 - 1000 * u32::from(thread),
+        answer: answers[usize::from(thread % 7)],
     }
 }
 
-#[test]
-fn collected_by_rising_thread(rt: HostRuntime) -> Result<(), Fail> {
-    let op = Op::unmap(Depth::Four, 0x400000).expect(&rt, "a well-formed unmap");
-    let slots = Slots::new(rt.alloc(), 20)?;
-    for thread in 0..20 {
-        assert_eq!(rt; slots.post(&rt, 19 - thread, 100, op), Ok(()));
-    }
-    let mut batch = ArrayVec::new();
-    slots.collect(&rt, &mut batch);
-    assert_eq!(rt; batch.len(), 16);
-    for (thread, waiting) in batch.as_slice().iter().enumerate() {
-        assert_eq!(rt; usize::from(waiting.thread), thread);
-    }
-    let mut rest = ArrayVec::new();
-    slots.collect(&rt, &mut rest);
-    assert_eq!(rt; rest.len(), 4);
-    Ok(())
-}
-
-/// A call on two slots, of a thread and the number of its call, and what it must be answered.
-#[derive(Clone, Copy)]
-enum Step {
-    Post(u16, u32, Result<(), Occupied>),
-    Answer(u16, u32, Result<(), NotTaken>),
-    /// The number of the call that was answered.
-    Poll(u16, Option<u32>),
-    /// The updates that are collected: one of this thread and call, or none.
-    Collect(Option<(u16, u32)>),
-}
-
-static ROUND_TRIP: [Step; 15] = [
-    Step::Post(1, 7, Ok(())),
-    Step::Post(1, 7, Err(Occupied)),
-    Step::Poll(1, None),
-    Step::Collect(Some((1, 7))),
-    Step::Collect(None),
-    Step::Answer(1, 8, Err(NotTaken)),
-    Step::Answer(0, 7, Err(NotTaken)),
-    Step::Answer(2, 7, Err(NotTaken)),
-    Step::Answer(1, 7, Ok(())),
-    Step::Answer(1, 7, Err(NotTaken)),
-    Step::Post(1, 9, Err(Occupied)),
-    Step::Poll(1, Some(7)),
-    Step::Poll(1, None),
-    Step::Post(1, 9, Ok(())),
-    Step::Collect(Some((1, 9))),
-];
-
-/// Makes a call on two slots, each with this operation, and holds the answer against what is expected.
-fn run<R: Wait + Abort>(rt: &R, slots: &Slots, op: Op, step: Step)
-    requires { slots.now ≡ 2 }
+/// Posts the thread's update.
+fn post<R: Wait + Abort>(rt: &R, slots: &Slots, thread: u16, wanted: Result<(), Occupied>)
+    requires { (slots.now ≡ 64) × (thread < 64) }
 {
-    match step {
-        Step::Post(thread, call, wanted) => {
-            assert!(rt; thread < 2 && call < CALLS);
-            assert_eq!(rt; slots.post(rt, thread, call, op), wanted);
-        }
-        Step::Answer(thread, call, wanted) => {
-            assert_eq!(rt; slots.answer(rt, not_mapped(thread, call, op)), wanted);
-        }
-        Step::Poll(thread, wanted) => {
-            assert!(rt; thread < 2);
-            let wanted = wanted.map(|call| not_mapped(thread, call, op));
-            assert_eq!(rt; slots.poll(rt, thread), wanted);
-        }
-        Step::Collect(wanted) => {
-            let mut batch = ArrayVec::new();
-            slots.collect(rt, &mut batch);
-            let batch = batch.as_slice();
-            assert!(rt; batch.len() <= 1);
-            let told = batch.first().map(|it| (it.thread, it.call, it.op));
-            let wanted = wanted.map(|it: (u16, u32)| (it.0, it.1, op));
-            assert_eq!(rt; told, wanted);
-        }
+    let Answered { call, op, .. } = own(rt, thread);
+    assert_eq!(rt; slots.post(rt, thread, call, op), wanted, "thread {thread}");
+}
+
+/// Answers the thread's update.
+fn answer<R: Wait + Abort>(rt: &R, slots: &Slots, thread: u16, wanted: Result<(), NotTaken>)
+    requires { thread < 64 }
+{
+    assert_eq!(rt;
+        slots.answer(rt, own(rt, thread)),
+        wanted,
+        "thread {thread}"
+    );
+}
+
+/// The thread's slot has no answer, and another call or one of no thread is not answered.
+fn has_no_answer<R: Wait + Abort>(rt: &R, slots: &Slots, thread: u16)
+    requires { (slots.now ≡ 64) × (thread < 64) }
+{
+    let own = own(rt, thread);
+    let another_call = Answered {
+        call: own.call + 1,
+        ..own
+    };
+    let no_thread = Answered {
+        thread: thread + 64,
+        ..own
+    };
+    for wrong in [another_call, no_thread] {
+        assert_eq!(rt; slots.answer(rt, wrong), Err(NotTaken), "thread {thread}");
     }
+    assert_eq!(rt; slots.poll(rt, thread), None, "thread {thread}");
+}
+
+/// This update of a thread was collected.
+fn is_update_of(rt: &impl Abort, waiting: &Waiting, of: &Answered) {
+    assert_eq!(rt; waiting.thread, of.thread);
+    assert_eq!(rt; (waiting.call, waiting.op), (of.call, of.op));
+}
+
+/// Collects, and gets the updates of so many threads, from the first one on.
+fn collect<R: Wait + Abort>(rt: &R, slots: &Slots, first: u16, count: u16) {
+    let mut batch = ArrayVec::new();
+    slots.collect(rt, &mut batch);
+    assert_eq!(rt; batch.len(), usize::from(count));
+    for (place, waiting) in batch.as_slice().iter().enumerate() {
+        let thread = usize::from(first).saturating_add(place);
+        assert!(rt; thread < 64);
+        is_update_of(rt, waiting, &own(rt, thread as u16));
+    }
+}
+
+/// Collects this one update.
+fn collect_one<R: Wait + Abort>(rt: &R, slots: &Slots, wanted: &Answered) {
+    let mut batch = ArrayVec::new();
+    slots.collect(rt, &mut batch);
+    assert_eq!(rt; batch.len(), 1);
+    for waiting in batch.as_slice() {
+        is_update_of(rt, waiting, wanted);
+    }
+}
+
+/// The threads from the first one on have just been taken, and the later ones wait. They are answered.
+fn answer_taken<R: Wait + Abort>(rt: &R, slots: &Slots, first: u16)
+    requires { (slots.now ≡ 64) × (first + 16 ≤ 64) }
+{
+    for thread in first..first + 16 {
+        post(rt, slots, thread, Err(Occupied));
+        has_no_answer(rt, slots, thread);
+    }
+    for thread in first..first + 16 {
+        answer(rt, slots, thread, Ok(()));
+        answer(rt, slots, thread, Err(NotTaken));
+        post(rt, slots, thread, Err(Occupied));
+    }
+}
+
+/// No clause says what the locked calls do to a slot. Each call is tried on each of 64 slots in each of its states, and what is refused changes nothing.
+#[test]
+fn slots_in_each_state(rt: HostRuntime) -> Result<(), Fail> {
+    let slots = Slots::new(rt.alloc(), 64)?;
+    for thread in 0..64 {
+        has_no_answer(&rt, &slots, thread);
+        answer(&rt, &slots, thread, Err(NotTaken));
+    }
+    collect(&rt, &slots, 0, 0);
+    for thread in 0..64 {
+        post(&rt, &slots, 63 - thread, Ok(()));
+    }
+    for thread in 0..64 {
+        post(&rt, &slots, thread, Err(Occupied));
+        answer(&rt, &slots, thread, Err(NotTaken));
+        has_no_answer(&rt, &slots, thread);
+    }
+    for batch in 0..4 {
+        collect(&rt, &slots, 16 * batch, 16);
+        answer_taken(&rt, &slots, 16 * batch);
+    }
+    collect(&rt, &slots, 0, 0);
+    for thread in 0..64 {
+        assert_eq!(rt;
+            slots.poll(&rt, thread),
+            Some(own(&rt, thread)),
+            "thread {thread}"
+        );
+        answer(&rt, &slots, thread, Err(NotTaken));
+        has_no_answer(&rt, &slots, thread);
+    }
+    collect(&rt, &slots, 0, 0);
+    post(&rt, &slots, 40, Ok(()));
+    collect(&rt, &slots, 40, 1);
+    Ok(())
 }
 
 #[test]
 fn slot_round_trip(rt: HostRuntime) -> Result<(), Fail> {
-    let op = Op::unmap(Depth::Five, 0x800000000000).expect(&rt, "a well-formed unmap");
-    let slots = Slots::new(rt.alloc(), 2)?;
-    for step in &ROUND_TRIP {
-        run(&rt, &slots, op, *step);
-    }
+    let slots: Slots = Slots::new(rt.alloc(), 2)?;
+    let own = own(&rt, 1);
+    assert_eq!(rt; slots.post(&rt, 1, own.call, own.op), Ok(()));
+    assert_eq!(rt; slots.post(&rt, 1, own.call, own.op), Err(Occupied));
+    collect_one(&rt, &slots, &own);
+    assert_eq!(rt; slots.answer(&rt, own), Ok(()));
+    assert_eq!(rt; slots.answer(&rt, own), Err(NotTaken));
+    assert_eq!(rt; slots.poll(&rt, 1), Some(own));
+    assert_eq!(rt; slots.poll(&rt, 1), None);
+    assert_eq!(rt; slots.post(&rt, 1, own.call, own.op), Ok(()));
+    Ok(())
+}
+
+/// The most slots that there can be.
+#[test]
+fn slots_of_all_threads(rt: HostRuntime) -> Result<(), Fail> {
+    let slots: Slots = Slots::new(rt.alloc(), 65_535)?;
+    let last = Answered {
+        thread: 65_534,
+        ..own(&rt, 63)
+    };
+    assert_eq!(rt; slots.post(&rt, last.thread, last.call, last.op), Ok(()));
+    collect_one(&rt, &slots, &last);
+    assert_eq!(rt; slots.answer(&rt, last), Ok(()));
+    assert_eq!(rt; slots.poll(&rt, last.thread), Some(last));
+    Ok(())
+}
+
+#[test]
+fn slots_of_no_thread(rt: HostRuntime) -> Result<(), Fail> {
+    let slots: Slots = Slots::new(rt.alloc(), 0)?;
+    collect(&rt, &slots, 0, 0);
+    assert_eq!(rt; slots.answer(&rt, own(&rt, 0)), Err(NotTaken));
     Ok(())
 }
