@@ -13,26 +13,31 @@ const PHYS: u64 = (1 << 52) - 1;
 /// Frames in one vector; frame i has the number base + i.
 struct Arena {
     base: u64,
+    /// Of each frame that was ever taken, its words and how many of them aren't 0.
     words: Vec<[u64; 512]>,
-    /// Of each frame in use, how many of its words aren't 0.
     counts: Vec<u16>,
+    /// Those that were given back.
     free: Vec<u16>,
 }
 
 impl Arena {
-    /// Each frame is written once, as `VecArena` does. Of memory that is only asked for to be 0 the kernel gives each page when it
-    /// is first used; and the first rounds on frames that are written twice are faster.
+    /// Writes none of the memory that it takes.
     fn new() -> Arena {
-        let mut words = Vec::with_capacity(FRAMES);
-        for _ in 0..FRAMES {
-            words.push([0; 512]);
-        }
-        Arena { base: 1 << 39, words, counts: vec![0; FRAMES], free: (0..FRAMES as u16).collect() }
+        let words = Vec::with_capacity(FRAMES);
+        Arena { base: 1 << 39, words, counts: Vec::with_capacity(FRAMES), free: Vec::with_capacity(FRAMES) }
     }
 
+    /// A frame of zeros: one that was given back, or else one more.
     fn take(&mut self) -> Option<u64> {
-        let index = self.free.pop()?;
-        self.counts[index as usize] = 0;
+        if let Some(index) = self.free.pop() {
+            return Some(self.base + index as u64);
+        }
+        let index = self.words.len();
+        if index == FRAMES {
+            return None;
+        }
+        self.words.push([0; 512]);
+        self.counts.push(0);
         Some(self.base + index as u64)
     }
 
@@ -62,7 +67,7 @@ impl Arena {
     }
 
     fn used(&self) -> usize {
-        FRAMES - self.free.len()
+        self.words.len() - self.free.len()
     }
 
     fn table(&self, number: u64) -> &[u64; 512] {
@@ -363,9 +368,15 @@ fn main() {
         let load = load(page, pages);
         let mut space = Space::new(levels);
         let mut times = [Duration::ZERO; 4];
-        let sum = (0..rounds).fold(0, |sum, _| round(&mut space, &load, sum, &mut times));
+        let sum = (0..rounds).fold(0, |sum, done| {
+            if done == 1 {
+                times = [Duration::ZERO; 4];
+            }
+            round(&mut space, &load, sum, &mut times)
+        });
         println!("{name} {sum}");
-        let rate = |time: Duration| (pages as f64 * rounds as f64 / time.as_secs_f64()) as u64;
+        let timed = rounds.saturating_sub(1).max(1);
+        let rate = |time: Duration| (pages as f64 * timed as f64 / time.as_secs_f64()) as u64;
         eprintln!("{name:<19}  {:>12} {:>12} {:>12} {:>12}", rate(times[0]), rate(times[1]), rate(times[2]), rate(times[3]));
     }
 }

@@ -36,7 +36,7 @@ struct Wanted {
     depth: Depth,
 }
 
-/// The first word is the number of rounds, up to 65,535, or one round where there is none. After it `raw` asks for frames in
+/// The first word is the number of rounds, up to 65,535, or one round where there is none. Where there are more, the first isn't timed. After it `raw` asks for frames in
 /// one block of memory, and then `five` for five levels.
 fn read_words(rt: &HostRuntime) -> Result<Wanted, ProgFault> {
     let words: Vec<String> = env::args(rt)
@@ -100,7 +100,8 @@ fn print(
     let name = workload.name();
     let sum = measured.sum.get();
     println!(rt; "{name} {sum}").map_err(|_| ProgFault::CannotWrite)?;
-    let operations = u64::from(workload.pages()) * u64::from(rounds);
+    let timed = rounds.saturating_sub(1).max(1);
+    let operations = u64::from(workload.pages()) * u64::from(timed);
     let map = rate(operations, measured.times.map);
     let resolve = rate(operations, measured.times.resolve);
     let protect = rate(operations, measured.times.protect);

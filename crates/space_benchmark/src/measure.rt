@@ -29,7 +29,16 @@ pub struct Times {
     pub unmap: Duration,
 }
 
-/// The sum of all answers, and the times, of some rounds of a workload.
+impl Times {
+    const ZERO: Times = Times {
+        map: Duration::ZERO,
+        resolve: Duration::ZERO,
+        protect: Duration::ZERO,
+        unmap: Duration::ZERO,
+    };
+}
+
+/// The sum of all answers of some rounds of a workload, and the times of those after the first.
 #[derive(Clone, Copy, Debug)]
 pub struct Measured {
     pub sum: Sum,
@@ -43,12 +52,17 @@ impl Measured {
     {
         Measured {
             sum: Sum::new(),
-            times: Times {
-                map: Duration::ZERO,
-                resolve: Duration::ZERO,
-                protect: Duration::ZERO,
-                unmap: Duration::ZERO,
-            },
+            times: Times::ZERO,
+        }
+    }
+
+    /// Leaves out the times of the first round, where others follow: it is the first to write the frames, and waits for the
+    /// kernel to give each page of memory.
+    fn begin_round(&mut self, done: u16)
+        ensures { self.new.sum ≡ self.old.sum }
+    {
+        if done == 1 {
+            self.times = Times::ZERO;
         }
     }
 
@@ -114,7 +128,8 @@ pub fn measure<S: FrameStore + Drop>(
         unreachable!();
     };
     let mut measured = Measured::new();
-    for _ in 0..rounds {
+    for done in 0..rounds {
+        measured.begin_round(done);
         measured.round(clock, &mut space, load)?;
     }
     Ok(measured)

@@ -1,10 +1,7 @@
 pub mod Stores
 pub mod Marked
 pub mod MarkedFrames
-pub mod NewArenas
-pub mod VecArenas
 pub mod RawArenas
-pub mod LinkedFrames
 pub mod RegionMemory
 pub mod RegionSteps
 pub mod RegionSharing

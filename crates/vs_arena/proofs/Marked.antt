@@ -1,17 +1,24 @@
 -- What there is at the indexes that are marked, and how a change of marks and values changes it.
-use Rattle.std.proofs.Common.{◌≡◌, ℕ, zero, suc, ◌<◌, ◌≢◌, Bool, true, false, cond, eqb, ltb, List, length, get_or, set, replicate, refl, sym, ap, ◌∙◌, inl, inr, arith}
+use Rattle.std.proofs.Common.{◌≡◌, ℕ, zero, suc, ◌<◌, ◌≢◌, Bool, true, false, cond, eqb, ltb, List, [], ◌∷◌, ◌++◌, length, get_or, set, refl, sym, ap, ◌∙◌, inl, inr, arith}
 use Rattle.std.specs.Prelude.{Option, Some, None, unwrap_or}
 use Rattle.std.specs.FinMap as finite
 use Rattle.std.specs.FinMap.{nat_cmp-IsAntisymmetric}
 use Rattle.std.specs.Ordering.{nat_cmp}
 use Rattle.std.specs.Cmp.{nat_cmp_total}
 use Rattle.std.proofs.lemmas.Grind.{get_or-set_at}
-use Rattle.std.proofs.lemmas.List.{length-replicate, get_or-set_other, get_or_past, get_or-replicate}
+use Rattle.std.proofs.lemmas.List.{length_push, get_or-set_other, get_or_past, get_or_push, get_or_append_left}
 use Rattle.std.proofs.lemmas.Bool.{cases_lt, eqb-true, eqb-false, lt-ltb, le-ltb}
 use Rattle.std.proofs.lemmas.Bool.Decides.{nat_tests}
 use Rattle.vs_arena.specs.Store.{note_of}
 use Rattle.vs_arena.specs.inside.Arena.{with_some, all_below, marked, marked_notes}
 use Rattle.vs_arena.proofs.Stores.{get-insert, get-remove}
+
+-- but for the last place of a list that was pushed to, all is as before
+pub get_or-push_other : {X : Type 0} (xs : List X) (x d : X) (q : ℕ) → q ≢ length xs → get_or (xs ++ x ∷ []) q d ≡ get_or xs q d
+get_or-push_other xs x d q other = elim (cases_lt q (length xs)) as (λ _. get_or (xs ++ x ∷ []) q d ≡ get_or xs q d) [
+  | inl lt ↦ get_or_append_left xs (x ∷ []) d q lt
+  | inr le ↦ get_or_past (xs ++ x ∷ []) q d (omega (arith, length_push xs x, other)) ∙ sym (get_or_past xs q d le)
+]
 
 abbrev Map : Type 0 → Type 0
 Map X = finite.FinMap nat_cmp X
@@ -89,15 +96,22 @@ module _ {X : Type 0} where
               (λ is. let at : q ≡ index = eqb-true q index is in rw (get_or-set_at marks index q false false at in_marks) refl)
               (λ isnt. let other : q ≢ index = eqb-false q index isnt in rw (get_or-set_other marks index q false false other) refl)
 
-    -- no index is marked
-    pub marked-none : (n : ℕ) (xs : List X) → all_marked (replicate n false) xs ≡ finite.empty
-    marked-none n xs = same_at _ _ (λ q. get-marked (replicate n false) xs q ∙ ap (λ b. cond b (Some (get_or xs q blank)) None) (none q)
-        ∙ sym (finite.get-empty nat_cmp q)) where
-          none : (q : ℕ) → get_or (replicate n false) q false ≡ false
-          none q = elim (cases_lt q n) as (λ _. get_or (replicate n false) q false ≡ false) [
-            | inl lt ↦ get_or-replicate n q false false lt
-            | inr le ↦ get_or_past (replicate n false) q false (omega (arith, length-replicate n false))
-          ]
+    -- what comes after the last index with a mark is inserted there
+    pub marked-push : (marks : List Bool) (xs : List X) (own : X) → length xs ≡ length marks
+        → all_marked (marks ++ true ∷ []) (xs ++ own ∷ []) ≡ finite.insert (all_marked marks xs) (length marks) own
+    marked-push marks xs own long =
+        same_at _ _ (λ q. get-marked _ _ q ∙ here q
+        ∙ sym (get-insert _ (length marks) own q ∙ ap (cond (eqb q (length marks)) (Some own)) (get-marked marks xs q))) where
+          here : (q : ℕ) → marked blank (marks ++ true ∷ []) (xs ++ own ∷ []) q ≡ cond (eqb q (length marks)) (Some own) (marked blank marks xs q)
+          here q = same_where (eqb q (length marks)) _ _ _
+              (λ is. let at : q ≡ length marks = eqb-true q (length marks) is in
+              rw (get_or_push marks true false q (sym at), get_or_push xs own blank q (long ∙ sym at)) refl)
+              (λ isnt. let other : q ≢ length marks = eqb-false q (length marks) isnt in
+              rw (get_or-push_other marks true false q other, get_or-push_other xs own blank q (λ e. other (e ∙ long))) refl)
+
+    pub marked-none : (xs : List X) → all_marked [] xs ≡ finite.empty
+    unfolding all_below
+    marked-none xs = refl
 
 -- the note of a frame in use stands at its index
 pub note_of-marked : (marks : List Bool) (notes : List ℕ) (index : ℕ) → get_or marks index false ≡ true

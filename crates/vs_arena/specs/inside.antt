@@ -4,4 +4,3 @@ pub mod RawArena
 pub mod Region
 pub mod RegionLends
 pub mod RegionMemory
-pub mod VecArena

@@ -1,4 +1,4 @@
-ghost use Rattle.std.specs.Prelude.{◌≡◌, ℕ, ◌+◌, ◌<◌, ◌≤◌, true, false, IfSome, IfNone, length, slice_index_or, slice_set};
+ghost use Rattle.std.specs.Prelude.{◌≡◌, ℕ, ◌+◌, ◌<◌, ◌≤◌, true, false, IfSome, IfNone, length, slice_index_or};
 ghost use Rattle.vs_types.specs.declared.limits.TheConstants.{TABLES};
 ghost use Rattle.vs_arena.specs.Store.{zeros};
 
@@ -61,13 +61,4 @@ pub(crate) fn cleared_words() -> [u64; FRAME_WORDS]
     ensures { result ≡ zeros }
 {
     [0; FRAME_WORDS]
-}
-
-/// The words of a frame that isn't in use, the first of which names another.
-pub(crate) fn linked_words(next: u64) -> [u64; FRAME_WORDS]
-    ensures { result ≡ slice_set zeros 0 next }
-{
-    let mut words = cleared_words();
-    words[0] = next;
-    words
 }

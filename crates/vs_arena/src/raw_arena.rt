@@ -2,35 +2,37 @@ ghost use Rattle.std.specs.Prelude.{◌≡◌, ◌+◌, ◌^◌, ◌≤◌, IfOk
 ghost use Rattle.std.specs.FinMap as finite;
 ghost use Rattle.vs_types.specs.declared.limits.TheConstants.{TABLES};
 
-use crate::frame::{Frame, cleared_words, linked_words, marked_at};
+use crate::frame::{Frame, cleared_words, marked_at};
 use crate::region::{Lease, Region, allocate, deallocate};
 use crate::store::FrameStore;
 use std::alloc::Global;
 use std::marker::Model;
 use vs_types::{FRAME_WORDS, Memory};
 
-/// A store of frames that lie in one block of memory. `new` takes all its memory: 4,099 bytes a frame.
+/// A store of frames that lie in one block of memory. `new` takes all its memory, 4,101 bytes a frame, and writes none of it.
 ///
-/// The block is aligned to 8 bytes, as its words are. A frame is cleared as it is given back, when its words have often just
-/// been read, and not as it is taken.
+/// The block is aligned to 8 bytes, as its words are. A frame is cleared as it is first taken, and after that as it is given
+/// back, when its words have often just been read.
 pub struct RawArena {
     base: u64,
+    /// How many frames there can be.
+    size: usize,
+    /// The frames that were ever taken have the first places. The words of one that isn't in use are 0.
     region: Region<[u64; FRAME_WORDS]>,
     lease: Lease<[u64; FRAME_WORDS], Global>,
     alloc: Global,
-    /// Whether each frame is in use.
+    /// Whether each of these frames is in use.
     marks: Vec<bool>,
-    /// The note of each frame in use.
+    /// The note of each of them that is in use.
     notes: Vec<u16>,
-    free_count: usize,
-    /// The free frame to be taken next, if any. Its first word names the one after it, and so on.
-    next_free: u64,
+    /// Those that were given back. The last one is taken next.
+    free: Vec<u16>,
 }
 
 impl Model for RawArena {
-    ghost use Rattle.std.specs.Prelude.{◌≡◌, length};
+    ghost use Rattle.std.specs.Prelude.{◌≡◌, length, vec_capacity};
     ghost use Rattle.vs_arena.specs.Arena.{Arena};
-    ghost use Rattle.vs_arena.specs.inside.Arena.{arena_code, marked_frames, marked_notes};
+    ghost use Rattle.vs_arena.specs.inside.Arena.{arena_code, marked_frames, marked_notes, HasRoom};
     ghost use Rattle.vs_arena.specs.inside.RawArena.{values, IsRawArena};
 
     ghost Value = { Arena };
@@ -39,29 +41,29 @@ impl Model for RawArena {
 
     ghost view = { λ a. record {
       base = a.base;
-      size = length a.marks.items;
+      size = a.size;
       frames = marked_frames a.marks.items (values a.region.places);
       notes = marked_notes a.marks.items a.notes.items;
     } };
 
-    ghost invariant = { λ a. IsRawArena a.base a.region.places a.marks.items a.free_count a.next_free
-        × (a.lease.first ≡ a.region.first) × (a.lease.len ≡ length a.marks.items) × (a.lease.alloc ≡ a.alloc)
-        × (length a.notes.items ≡ length a.marks.items) };
+    ghost invariant = { λ a. IsRawArena a.base a.size a.region.places a.marks.items a.notes.items a.free.items
+        × HasRoom a.size (vec_capacity a.marks) (vec_capacity a.notes) (vec_capacity a.free)
+        × (length a.region.places ≡ a.size) × (a.lease.first ≡ a.region.first) × (a.lease.len ≡ a.size) × (a.lease.alloc ≡ a.alloc) };
 }
 
 impl Drop for RawArena {
     fn drop(self) {
         let RawArena {
             base: _,
+            size,
             region,
             lease,
             alloc,
-            marks,
+            marks: _,
             notes: _,
-            free_count: _,
-            next_free: _,
+            free: _,
         } = self;
-        deallocate(&alloc, region, marks.len(), lease);
+        deallocate(&alloc, region, size, lease);
     }
 }
 
@@ -72,21 +74,19 @@ impl RawArena {
         requires in_range { base + n ≤ 2 ^ 40 }
         ensures { IfOk result (λ a. a ≡ record { base = base; size = n; frames = finite.empty; notes = finite.empty }) }
     {
-        let marks = vec![in alloc; false; n]?;
-        let notes = vec![in alloc; 0; n]?;
-        let (mut region, lease) = allocate(&alloc, n)?;
-        for index in 0..n {
-            region.write(index, linked_words((index as u64).saturating_sub(1)));
-        }
+        let marks = Vec::with_capacity(alloc, n)?;
+        let notes = Vec::with_capacity(alloc, n)?;
+        let free = Vec::with_capacity(alloc, n)?;
+        let (region, lease) = allocate(&alloc, n)?;
         Ok(RawArena {
             base,
+            size: n,
             region,
             lease,
             alloc,
             marks,
             notes,
-            free_count: n,
-            next_free: (n as u64).saturating_sub(1),
+            free,
         })
     }
 }
@@ -101,24 +101,27 @@ impl FrameStore for RawArena {
     ghost size = { λ a. a.size };
 
     fn capacity(&self) -> usize {
-        self.marks.len()
+        self.size
     }
 
     fn used(&self) -> usize {
-        self.marks.len() - self.free_count
+        self.marks.len() - self.free.len()
     }
 
     fn take(&mut self) -> Option<Frame> {
-        if self.free_count == 0 {
+        if let Some(index) = self.free.pop() {
+            let index = index as usize;
+            self.marks[index] = true;
+            self.notes[index] = 0;
+            return Some(Frame::at_index(index));
+        }
+        let index = self.marks.len();
+        if index == self.size {
             return None;
         }
-        let index = self.next_free as usize;
-        let words = self.region.get_mut(index);
-        self.next_free = words[0];
-        words[0] = 0;
-        self.marks[index] = true;
-        self.notes[index] = 0;
-        self.free_count -= 1;
+        self.region.write(index, cleared_words());
+        self.marks.push_reserved(true);
+        self.notes.push_reserved(0);
         Some(Frame::at_index(index))
     }
 
@@ -130,12 +133,8 @@ impl FrameStore for RawArena {
 
     fn give_zeroed(&mut self, frame: Frame) {
         let index = frame.index();
-        let next = self.next_free;
-        let words = self.region.get_mut(index);
-        words[0] = next;
         self.marks[index] = false;
-        self.next_free = index as u64;
-        self.free_count += 1;
+        self.free.push_reserved(index as u16);
     }
 
     fn get(&self, frame: Frame, index: usize) -> u64 {

@@ -8,28 +8,28 @@ use std::alloc::Global;
 use std::marker::Model;
 use vs_types::{FRAME_WORDS, Memory};
 
-/// A store of frames that lie in one vector. `new` takes all its memory: 4,101 bytes a frame.
+/// A store of frames that lie in one vector. `new` takes all its memory, 4,101 bytes a frame, and writes none of it.
 ///
-/// A frame is cleared as it is given back, when its words have often just been read, and not as it is taken.
+/// A frame is cleared as it is first taken, and after that as it is given back, when its words have often just been read.
 #[derive(Debug, Drop)]
 pub struct VecArena {
     base: u64,
-    /// Those of a frame that isn't in use are 0.
+    /// How many frames there can be.
+    size: usize,
+    /// Those of each frame that was ever taken; of one that isn't in use they are 0.
     words: Vec<[u64; FRAME_WORDS]>,
-    /// Whether each frame is in use.
+    /// Whether each of these frames is in use.
     marks: Vec<bool>,
-    /// The note of each frame in use.
+    /// The note of each of them that is in use.
     notes: Vec<u16>,
-    /// Its first `free_count` numbers are the frames that aren't in use.
+    /// Those that were given back. The last one is taken next.
     free: Vec<u16>,
-    free_count: usize,
 }
 
 impl Model for VecArena {
-    ghost use Rattle.std.specs.Prelude.{◌≡◌, length};
+    ghost use Rattle.std.specs.Prelude.{◌≤◌, vec_capacity};
     ghost use Rattle.vs_arena.specs.Arena.{Arena};
-    ghost use Rattle.vs_arena.specs.inside.Arena.{arena_code, marked_frames, marked_notes};
-    ghost use Rattle.vs_arena.specs.inside.VecArena.{IsVecArena};
+    ghost use Rattle.vs_arena.specs.inside.Arena.{arena_code, marked_frames, marked_notes, IsArena, HasRoom};
 
     ghost Value = { Arena };
 
@@ -37,13 +37,13 @@ impl Model for VecArena {
 
     ghost view = { λ a. record {
       base = a.base;
-      size = length a.marks.items;
+      size = a.size;
       frames = marked_frames a.marks.items a.words.items;
       notes = marked_notes a.marks.items a.notes.items;
     } };
 
-    ghost invariant = { λ a. IsVecArena a.base a.words.items a.marks.items a.free.items a.free_count
-        × (length a.notes.items ≡ length a.marks.items) };
+    ghost invariant = { λ a. IsArena a.base a.size a.words.items a.marks.items a.notes.items a.free.items
+        × HasRoom a.size (vec_capacity a.marks) (vec_capacity a.notes) (vec_capacity a.free) × (a.size ≤ vec_capacity a.words) };
 }
 
 impl VecArena {
@@ -53,21 +53,17 @@ impl VecArena {
         requires in_range { base + n ≤ 2 ^ 40 }
         ensures { IfOk result (λ a. a ≡ record { base = base; size = n; frames = finite.empty; notes = finite.empty }) }
     {
-        let mut words = Vec::with_capacity(alloc, n)?;
-        let marks = vec![in alloc; false; n]?;
-        let notes = vec![in alloc; 0; n]?;
-        let mut free = Vec::with_capacity(alloc, n)?;
-        for index in 0..n {
-            words.push(cleared_words())?;
-            free.push(index as u16)?;
-        }
+        let words = Vec::with_capacity(alloc, n)?;
+        let marks = Vec::with_capacity(alloc, n)?;
+        let notes = Vec::with_capacity(alloc, n)?;
+        let free = Vec::with_capacity(alloc, n)?;
         Ok(VecArena {
             base,
+            size: n,
             words,
             marks,
             notes,
             free,
-            free_count: n,
         })
     }
 }
@@ -82,21 +78,27 @@ impl FrameStore for VecArena {
     ghost size = { λ a. a.size };
 
     fn capacity(&self) -> usize {
-        self.words.len()
+        self.size
     }
 
     fn used(&self) -> usize {
-        self.words.len() - self.free_count
+        self.marks.len() - self.free.len()
     }
 
     fn take(&mut self) -> Option<Frame> {
-        if self.free_count == 0 {
+        if let Some(index) = self.free.pop() {
+            let index = index as usize;
+            self.marks[index] = true;
+            self.notes[index] = 0;
+            return Some(Frame::at_index(index));
+        }
+        let index = self.marks.len();
+        if index == self.size {
             return None;
         }
-        self.free_count -= 1;
-        let index = self.free[self.free_count] as usize;
-        self.marks[index] = true;
-        self.notes[index] = 0;
+        self.words.push_reserved(cleared_words());
+        self.marks.push_reserved(true);
+        self.notes.push_reserved(0);
         Some(Frame::at_index(index))
     }
 
@@ -108,8 +110,7 @@ impl FrameStore for VecArena {
     fn give_zeroed(&mut self, frame: Frame) {
         let index = frame.index();
         self.marks[index] = false;
-        self.free[self.free_count] = index as u16;
-        self.free_count += 1;
+        self.free.push_reserved(index as u16);
     }
 
     fn get(&self, frame: Frame, index: usize) -> u64 {

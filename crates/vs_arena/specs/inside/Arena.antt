@@ -6,7 +6,7 @@ use Rattle.std.specs.FinMap as finite
 use Rattle.std.specs.Ordering.{nat_cmp}
 use Rattle.vs_types.specs.declared.limits.TheConstants.{TABLES}
 use Rattle.vs_types.specs.Frame.{IsFrame}
-use Rattle.vs_arena.specs.Store.{Store, Notes}
+use Rattle.vs_arena.specs.Store.{Store, Notes, zeros}
 use Rattle.vs_arena.specs.Arena.{Arena}
 
 abbrev pub arena_code : Coded Arena
@@ -36,14 +36,27 @@ marked_frames marks words = all_below (length marks) (marked [] marks words)
 abbrev pub marked_notes : List Bool → List ℕ → Notes
 marked_notes marks notes = all_below (length marks) (marked 0 marks notes)
 
--- how an arena is laid out: frames in a row, a mark for each, and a list that begins with the frames that aren't in use
-pub record IsArena (base : ℕ) (words : List (List ℕ)) (marks : List Bool) (free : List ℕ) (free_count : ℕ) : Type 0 where
-  pub few_frames : length marks ≤ TABLES
-  pub numbers_fit : base + length marks ≤ 2 ^ 40
+-- a frame that was given back: it isn't in use, and its words are 0
+pub record IsGivenBack (words : List (List ℕ)) (marks : List Bool) (index : ℕ) : Type 0 where
+  pub within : index < length marks
+  pub unmarked : slice_index_or marks index false ≡ false
+  pub clear : slice_index_or words index [] ≡ zeros
+
+-- how an arena is laid out: of the frames that were ever taken, which come first, the words, a mark and the note of each,
+-- and a list of those that were given back
+pub record IsArena (base size : ℕ) (words : List (List ℕ)) (marks : List Bool) (notes free : List ℕ) : Type 0 where
+  pub few_frames : size ≤ TABLES
+  pub numbers_fit : base + size ≤ 2 ^ 40
+  pub ever_taken : length marks ≤ size
   pub words_for_each : length words ≡ length marks
+  pub notes_for_each : length notes ≡ length marks
   pub whole_frames : All IsFrame words
-  pub room_for_each : length free ≡ length marks
-  pub free_within : (k : ℕ) → k < free_count → slice_index free k < length marks
-  pub free_unmarked : (k : ℕ) → k < free_count → slice_index_or marks (slice_index free k) false ≡ false
-  pub free_once : (j k : ℕ) → j < free_count → k < free_count → slice_index free j ≡ slice_index free k → j ≡ k
-  pub counted : finite.len (marked_frames marks words) + free_count ≡ length marks
+  pub given_back : (k : ℕ) → k < length free → IsGivenBack words marks (slice_index free k)
+  pub given_once : (j k : ℕ) → j < length free → k < length free → slice_index free j ≡ slice_index free k → j ≡ k
+  pub counted : finite.len (marked_frames marks words) + length free ≡ length marks
+
+-- vectors of these capacities have room for what is kept of so many frames
+pub record HasRoom (size for_marks for_notes for_free : ℕ) : Type 0 where
+  pub marks : size ≤ for_marks
+  pub notes : size ≤ for_notes
+  pub free : size ≤ for_free

@@ -2,5 +2,5 @@ use Rattle.space_benchmark.specs.Work.{after_rounds, start}
 use Rattle.space_benchmark.proofs.Rounds.{IsAt}
 use Rattle.space_benchmark.proofs.measure.measure.Given as goal
 
-abbrev pub invariant-loop : goal.invariant-loop
-invariant-loop g l = IsAt l.load.depth 4096 (after_rounds l.load.depth 4096 l.load l.counter start) l.space l.measured.sum.value
+abbrev pub invariant-loop-done : goal.invariant-loop-done
+invariant-loop-done g l = IsAt l.load.depth 4096 (after_rounds l.load.depth 4096 l.load l.done start) l.space l.measured.sum.value

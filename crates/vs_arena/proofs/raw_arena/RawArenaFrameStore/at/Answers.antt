@@ -1,12 +1,13 @@
-use Rattle.std.proofs.Common.{◌≡◌, ℕ, ◌+◌, true, false, get_or, IfSome, IfNone, List, Bool, subst}
+use Rattle.std.proofs.Common.{◌≡◌, ℕ, ◌+◌, ◌≤◌, length, arith, true, false, get_or, IfSome, IfNone, List, Bool, subst}
 use Rattle.vs_arena.specs.Store.{IsInUse, IsFree}
 use Rattle.vs_arena.specs.Arena.{Arena}
+use Rattle.vs_types.specs.declared.limits.TheConstants.{TABLES}
 use Rattle.vs_arena.specs.inside.RawArena.{values}
 use Rattle.vs_arena.proofs.MarkedFrames.{used_if_marked, free_if_unmarked}
 use Rattle.vs_arena.proofs.raw_arena.RawArenaFrameStore.at.Goals as goal
 
 pub marked_at-requires : goal.marked_at-requires
-marked_at-requires c = rw c.deref.ensures.value c.self.invariant.0.arena.few_frames
+marked_at-requires c = rw c.deref.ensures.value (let few : length c.self.inside.marks.items ≤ TABLES = omega (arith, c.self.invariant.0.arena.few_frames, c.self.invariant.0.arena.ever_taken) in few)
 
 pub returns-clause-numbered : goal.returns-clause-numbered
 returns-clause-numbered c = subst (λ (a : Arena). IfSome c.marked_at.result (λ f. a.base + f ≡ c.args.number)) c.self.view_is c.marked_at.ensures.numbered

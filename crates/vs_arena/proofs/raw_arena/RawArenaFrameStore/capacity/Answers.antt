@@ -2,4 +2,4 @@ use Rattle.vs_arena.proofs.MarkedFrames.{IsStore-from_arena}
 use Rattle.vs_arena.proofs.raw_arena.RawArenaFrameStore.capacity.Goals as goal
 
 pub returns-clause-is_store : goal.returns-clause-is_store
-returns-clause-is_store c = rw (← c.self.view_is) (IsStore-from_arena _ _ _ _ _ c.self.invariant.0.arena)
+returns-clause-is_store c = rw (← c.self.view_is) (IsStore-from_arena c.self.invariant.0.arena)

@@ -11,7 +11,7 @@ get-requires c =
     let raw = c.self.invariant.0 in let places = c.self.inside.region.places in
     let in_use = subst (λ (a : Arena). IsInUse a.frames c.args.frame) (sym c.self.view_is) c.requires in
     let marked = IsMarked-from_use c.self.inside.marks.items (values places) c.args.frame in_use in
-    IsFilled-within places raw.filled c.index.result [] (omega (arith, marked.in_marks, raw.arena.words_for_each, c.index.ensures.reads))
+    IsFilled-within c.self.inside.size places raw.laid c.index.result [] (omega (arith, marked.in_marks, raw.arena.words_for_each, c.index.ensures.reads))
 
 pub returns : goal.returns
 returns c =
@@ -19,7 +19,7 @@ returns c =
     let in_use = subst (λ (a : Arena). IsInUse a.frames c.args.frame) (sym c.self.view_is) c.requires in
     let marked = IsMarked-from_use c.self.inside.marks.items (values places) c.args.frame in_use in
     let within : c.index.result < length (values places) = omega (arith, marked.in_marks, raw.arena.words_for_each, c.index.ensures.reads) in
-    value_at places raw.filled c.index.result [] c.get.result.now within c.get.ensures
+    value_at c.self.inside.size places raw.laid c.index.result [] c.get.result.now within c.get.ensures
     ∙ ap (λ i. get_or (values places) i []) c.index.ensures.reads
     ∙ sym marked.own
     ∙ ap (λ (a : Arena). words_of a.frames c.args.frame) c.self.view_is

@@ -1,12 +1,10 @@
-use Rattle.std.proofs.Common.{◌≡◌, false, length-set, sym, ap, subst, ◌∙◌, arith}
+use Rattle.std.proofs.Common.{◌≡◌, sym, ap, subst, ◌∙◌, arith}
 use Rattle.std.specs.FinMap as finite
 use Rattle.vs_arena.specs.Store.{words_of, zeros}
 use Rattle.vs_arena.specs.Arena.{Arena}
 use Rattle.vs_arena.specs.inside.Arena.{marked_frames}
-use Rattle.vs_arena.proofs.Stores.{len-remove_used}
 use Rattle.vs_arena.proofs.Marked.{marked-unmark}
-use Rattle.vs_arena.proofs.MarkedFrames.{marked_here, marked_frames-unmark}
-use Rattle.vs_arena.proofs.VecArenas.{IsVecArena-give}
+use Rattle.vs_arena.proofs.MarkedFrames.{marked_here, marked_frames-unmark, room_for_one, IsArena-give}
 use Rattle.vs_arena.proofs.vec_arena.VecArenaFrameStore.give_zeroed.Goals as goal
 
 pub index_mut-requires : goal.index_mut-requires
@@ -14,19 +12,23 @@ index_mut-requires c =
     let here = marked_here c.self.inside.marks.items c.self.inside.words.items (ap (λ (a : Arena). a.frames) c.self.view_is) c.requires.in_use c.index-index.ensures.reads in
     omega (arith, here.in_marks, c.self.inside.marks.ok.0)
 
-pub index_mut-requires-2 : goal.index_mut-requires-2
-index_mut-requires-2 c =
+pub push_reserved-requires : goal.push_reserved-requires
+push_reserved-requires c =
     let here = marked_here c.self.inside.marks.items c.self.inside.words.items (ap (λ (a : Arena). a.frames) c.self.view_is) c.requires.in_use c.index-index.ensures.reads in
-    let one_less = len-remove_used _ c.index-index.result _ here.got in
-    omega (arith, one_less, c.self.invariant.0.arena.counted, c.self.invariant.0.arena.room_for_each, c.self.inside.free.ok.0)
+    omega (arith, room_for_one c.self.invariant.0 here, c.self.invariant.0.ever_taken, c.self.invariant.1.free, c.self.inside.free.ok.0)
 
 pub invariant_of-self : goal.invariant_of-self
 invariant_of-self c =
     let here = marked_here c.self.inside.marks.items c.self.inside.words.items (ap (λ (a : Arena). a.frames) c.self.view_is) c.requires.in_use c.index-index.ensures.reads in
-    let zeroed = subst (λ (a : Arena). words_of a.frames c.args.frame ≡ zeros) (sym c.self.view_is) c.requires.zeroed in (
-      IsVecArena-give _ _ _ _ _ c.self.invariant.0 c.index-index.result here
-          (sym here.own ∙ ap (λ i. words_of (marked_frames c.self.inside.marks.items c.self.inside.words.items) i) c.index-index.ensures.reads ∙ zeroed),
-      c.self.invariant.1 ∙ sym (length-set c.self.inside.marks.items c.index-index.result false),
+    let zeroed = subst (λ (a : Arena). words_of a.frames c.args.frame ≡ zeros) (sym c.self.view_is) c.requires.zeroed in
+    let own = sym here.own ∙ ap (λ i. words_of (marked_frames c.self.inside.marks.items c.self.inside.words.items) i) c.index-index.ensures.reads ∙ zeroed in (
+      rw c.push_reserved.ensures.items (IsArena-give c.self.invariant.0 here own),
+      record {
+        marks = c.self.invariant.1.marks;
+        notes = c.self.invariant.1.notes;
+        free = rw c.push_reserved.ensures.capacity c.self.invariant.1.free;
+      },
+      c.self.invariant.2,
     )
 
 pub returns-clause-removed : goal.returns-clause-removed
