@@ -115,6 +115,36 @@ fn arenas_of_none(rt: HostRuntime) -> Result<(), Fail> {
     Ok(())
 }
 
+// A new store of so many frames from a base on gives each of them once.
+#[tactic(auto, using(vs_arena::proofs::Stores::in_use))]
+fn use_sized<S: FrameStore>(rt: &impl Abort, store: &mut S, base: u64, n: usize) {
+    assert_eq!(rt; store.capacity(), n);
+    let mut sum = 0u64;
+    for _ in 0..n {
+        let frame = take_cleared(rt, store);
+        let number = store.number(frame);
+        assert!(rt; base <= number && number - base < n as u64);
+        sum = sum.wrapping_add(number - base);
+    }
+    let n = n as u64;
+    assert_eq!(rt; sum, n.wrapping_mul(n.wrapping_sub(1)) / 2);
+    assert_eq!(rt; store.take(), None);
+}
+
+// 0 to 64 frames at the least and the greatest bases, and at one between
+#[test]
+fn arenas_at_many_bases(rt: HostRuntime) -> Result<(), Fail> {
+    for base in [0, 1, BASE, (1 << 40) - 64, (1 << 40) - 16] {
+        for n in 0..65 {
+            if base + n as u64 <= 1 << 40 {
+                use_sized(&rt, &mut VecArena::new(rt.alloc(), base, n)?, base, n);
+                use_sized(&rt, &mut RawArena::new(rt.alloc(), base, n)?, base, n);
+            }
+        }
+    }
+    Ok(())
+}
+
 // 16 to 4,096 frames
 #[test]
 fn arenas_of_many_sizes(rt: HostRuntime) -> Result<(), Fail> {

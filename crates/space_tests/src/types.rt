@@ -1,8 +1,8 @@
 use crate::values::{EXEC, WRITE};
 use std::alloc::{AllocError, AllocFailed};
 use vs_types::{
-    Access, Action, Answer, BadConfig, BadOp, Config, Depth, Entry, Fail, Meaning, Memory, Mode,
-    Op, Page, Query, Request, Rights, Size, index_at,
+    Access, Action, Answer, BadConfig, BadOp, Config, Depth, Entry, Fail, LogEntry, Meaning,
+    Memory, Mode, Op, Page, Query, Request, Rights, Size, index_at,
 };
 
 #[test]
@@ -144,12 +144,41 @@ fn accesses(rt: HostRuntime) {
     }
 }
 
+/// No clause speaks of an answer that is none to a resolve: nothing is mapped then.
+#[test]
+fn accesses_of_other_answers(rt: HostRuntime) {
+    let answers = [
+        Answer::Done,
+        Answer::Overlap(0x1000),
+        Answer::Full(4),
+        Answer::Removed(0x1000, Size::K4, Rights::ALL),
+        Answer::Inside(0x1000),
+        Answer::Changed(Rights::ALL),
+        Answer::Allowed(0x1123),
+        Answer::Fault(7),
+    ];
+    for answer in answers {
+        let write = answer.accessed(Mode::User, Access::Write);
+        let fetch = answer.accessed(Mode::Supervisor, Access::Fetch);
+        assert_eq!(rt; (write, fetch), (Answer::Fault(6), Answer::Fault(16)));
+    }
+}
+
+#[test]
+fn unused_entries(rt: HostRuntime) {
+    let op = Op::unmap(Depth::Four, 0).expect(&rt, "an operation");
+    assert_eq!(rt; LogEntry::default(), LogEntry { call: 0, op });
+}
+
 #[test]
 fn configurations(rt: HostRuntime) {
     let cases = [
         (Config::new(Depth::Four, 0, 0, 0), BadConfig::Replicas),
+        (Config::new(Depth::Five, 5, 1, 1), BadConfig::Replicas),
+        (Config::new(Depth::Four, 1, 0, 1), BadConfig::Threads),
         (Config::new(Depth::Four, 1, 65, 1), BadConfig::Threads),
         (Config::new(Depth::Four, 1, 1, 4097), BadConfig::Tables),
+        (Config::new(Depth::Four, 1, 1, 0), BadConfig::Tables),
     ];
     for (config, why) in cases {
         assert_eq!(rt; config, Err(why));
