@@ -99,14 +99,15 @@ fn leaf(level: usize, phys: u64, rights: u64) -> u64 {
 }
 
 #[derive(Clone, Copy)]
-enum Op {
+pub enum Op {
     /// The base, the level of the size, the physical address and the rights.
     Map(u64, usize, u64, u64),
     Unmap(u64),
     Protect(u64, u64),
 }
 
-enum Answer {
+#[derive(Clone, Copy)]
+pub enum Answer {
     Done,
     Overlap,
     Full(u64),
@@ -134,7 +135,7 @@ impl Answer {
     }
 }
 
-struct Space {
+pub struct Space {
     arena: Arena,
     levels: usize,
     root: u64,
@@ -148,7 +149,7 @@ struct Place {
 }
 
 impl Space {
-    fn new(levels: usize) -> Space {
+    pub fn new(levels: usize) -> Space {
         let mut arena = Arena::new();
         let root = arena.take().unwrap();
         Space { arena, levels, root }
@@ -179,7 +180,7 @@ impl Space {
         }
     }
 
-    fn apply(&mut self, op: Op) -> Answer {
+    pub fn apply(&mut self, op: Op) -> Answer {
         match op {
             Op::Map(base, size, phys, rights) => self.map(base, size, phys, rights),
             Op::Unmap(base) => self.unmap(base),
@@ -266,7 +267,7 @@ impl Space {
         Answer::Removed(phys, last, rights(word))
     }
 
-    fn resolve(&self, address: u64) -> Answer {
+    pub fn resolve(&self, address: u64) -> Answer {
         let place = self.descend(address, 1);
         match place.level {
             1 => Space::resolve_at(1, &place, address),

@@ -8,10 +8,10 @@ use std::sync::Mutex;
 use std::time::{Duration, Instant};
 
 const WORDS: usize = 39;
-type Words = [u64; WORDS];
+pub type Words = [u64; WORDS];
 
 /// A cell that is read and exchanged whole. What it gives beside the words is their version.
-trait Cell: Sync {
+pub trait Cell: Sync {
     fn new(words: Words) -> Self;
     fn load(&self) -> (u64, Words);
     /// Puts other words there where the version is still that, and gives theirs.
@@ -36,7 +36,7 @@ trait Cell: Sync {
 }
 
 /// The version is odd while a writer has the cell. A reader reads again if a writer came between.
-struct SeqLock {
+pub struct SeqLock {
     version: AtomicU64,
     words: [AtomicU64; WORDS],
 }
@@ -74,7 +74,7 @@ impl Cell for SeqLock {
 }
 
 /// Each exchange raises `begun` before it and `ended` after it, as `RingLog` does.
-struct Marked {
+pub struct Marked {
     begun: AtomicU64,
     ended: AtomicU64,
     cell: SeqLock,
@@ -135,30 +135,34 @@ impl Cell for Locked {
 }
 
 #[derive(Clone, Copy)]
-struct Entry {
-    call: u64,
-    address: u64,
+pub struct Entry {
+    pub call: u64,
+    /// The address and the codes of the operation.
+    pub operation: u64,
+    /// The frame number of the physical address.
+    pub frame: u64,
 }
 
-enum Fault {
+pub enum Fault {
     LogEnded,
     Full,
     Moved,
 }
 
 #[derive(Clone, Copy)]
-struct Tails {
-    tail: u64,
-    completed: u64,
+pub struct Tails {
+    pub tail: u64,
+    pub completed: u64,
     local: [u64; 4],
 }
 
-struct Log<C: Cell> {
+pub struct Log<C: Cell> {
     cell: C,
 }
 
 /// A thread's pass to the log: what it saw last, and the replica that it owns.
-struct Pass {
+#[derive(Clone)]
+pub struct Pass {
     replica: usize,
     version: u64,
     words: Words,
@@ -166,14 +170,14 @@ struct Pass {
 }
 
 impl<C: Cell> Log<C> {
-    fn new(replicas: usize) -> (Log<C>, Vec<Pass>) {
+    pub fn new(replicas: usize) -> (Log<C>, Vec<Pass>) {
         let mut words = [0; WORDS];
         words[6] = replicas as u64;
         let passes = (0..=replicas).map(|replica| Pass { replica, version: 0, words, mark: Some(0) }).collect();
         (Log { cell: C::new(words) }, passes)
     }
 
-    fn look(&self, pass: &mut Pass) -> Tails {
+    pub fn look(&self, pass: &mut Pass) -> Tails {
         if !self.cell.is_at(pass.mark) {
             self.load(pass);
         }
@@ -201,7 +205,7 @@ impl<C: Cell> Log<C> {
         left.is_some()
     }
 
-    fn append(&self, pass: &mut Pass, batch: &[Entry]) -> Result<u64, Fault> {
+    pub fn append(&self, pass: &mut Pass, batch: &[Entry]) -> Result<u64, Fault> {
         self.load(pass);
         let tail = pass.words[0];
         let end = tail + batch.len() as u64;
@@ -215,23 +219,23 @@ impl<C: Cell> Log<C> {
         let mut next = pass.words;
         for (entry, place) in batch.iter().zip(tail..) {
             let at = 7 + 2 * (place % 16) as usize;
-            next[at] = entry.address + 1;
-            next[at + 1] = entry.call << 39;
+            next[at] = entry.operation;
+            next[at + 1] = entry.frame | entry.call << 39;
         }
         next[0] = end;
         if self.exchange(pass, &next) { Ok(tail) } else { Err(Fault::Moved) }
     }
 
-    fn fetch(&self, pass: &mut Pass, entries: &mut Vec<Entry>) {
+    pub fn fetch(&self, pass: &mut Pass, entries: &mut Vec<Entry>) {
         let tail = self.look(pass).tail;
         let words = &pass.words;
         entries.extend((words[2 + pass.replica]..tail).map(|place| {
             let at = 7 + 2 * (place % 16) as usize;
-            Entry { call: words[at + 1] >> 39, address: words[at] & !4095 }
+            Entry { call: words[at + 1] >> 39, operation: words[at], frame: words[at + 1] % (1 << 39) }
         }));
     }
 
-    fn advance(&self, pass: &mut Pass, to: u64) -> bool {
+    pub fn advance(&self, pass: &mut Pass, to: u64) -> bool {
         let mut next = pass.words;
         next[1] = next[1].max(to);
         next[2 + pass.replica] = to;
@@ -254,7 +258,7 @@ fn append_and_take<C: Cell>(log: &Log<C>, mut pass: Pass, calls: u64, all: u64) 
     let mut taken = Taken { entries: 0, calls: 0 };
     let mut entries = Vec::with_capacity(16);
     for call in 0..calls {
-        append_one(log, &mut pass, Entry { call, address: 0 }, &mut taken, &mut entries);
+        append_one(log, &mut pass, Entry { call, operation: 1, frame: 0 }, &mut taken, &mut entries);
     }
     let mut backoff = Backoff(0);
     while taken.entries != all {
@@ -290,15 +294,15 @@ fn take<C: Cell>(log: &Log<C>, pass: &mut Pass, taken: &mut Taken, entries: &mut
 }
 
 /// The same waiting as that of `crossbeam_utils`.
-struct Backoff(u32);
+pub struct Backoff(pub u32);
 
 impl Backoff {
-    fn spin(&mut self) {
+    pub fn spin(&mut self) {
         (0..1 << self.0.min(6)).for_each(|_| std::hint::spin_loop());
         self.0 += (self.0 <= 6) as u32;
     }
 
-    fn snooze(&mut self) {
+    pub fn snooze(&mut self) {
         if self.0 <= 6 {
             (0..1 << self.0).for_each(|_| std::hint::spin_loop());
         } else {
@@ -322,7 +326,7 @@ fn in_threads<T: Send>(passes: Vec<Pass>, work: impl Fn(Pass) -> T + Sync) -> (V
 fn looks<C: Cell>(threads: usize, calls: u64) -> Duration {
     let (log, mut passes) = Log::<C>::new(threads);
     let mut own = passes.pop().unwrap();
-    let _ = log.append(&mut own, &[Entry { call: 0, address: 0 }; 16]);
+    let _ = log.append(&mut own, &[Entry { call: 0, operation: 1, frame: 0 }; 16]);
     let (tails, time) = in_threads(passes, |pass| look_often(&log, pass, calls));
     println!("looks {}", threads as u64 * calls);
     println!("tails {}", tails.iter().sum::<u64>());

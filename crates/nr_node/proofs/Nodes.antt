@@ -17,6 +17,7 @@ use Rattle.nr_ring.specs.LogHistory.{Log, local_of, log_after, log_after_event, 
 use Rattle.nr_ring.specs.Pass.{Known}
 use Rattle.nr_ring.specs.declared.log_event.LogEvent.TheVariants.{Append}
 use Rattle.nr_ring.specs.declared.view.View.{View}
+use Rattle.nr_ring.specs.declared.words.TheConstants.{RING}
 use Rattle.nr_ring.proofs.Views.{after_one_more}
 use Rattle.nr_slots.specs.declared.waiting.Waiting.{Waiting}
 use Rattle.nr_node.specs.Calls.{HasCaughtUp, answers_of, entries_of, entry_of, left_of}
@@ -118,7 +119,7 @@ left_holds : (P : Waiting → Type 0) (first : Option ℕ) (batch : List Waiting
 left_holds P None batch all = all
 left_holds P (Some place) batch all = λ k d lt. absurd (omega arith)
 
-left_few : (first : Option ℕ) (batch : List Waiting) → length batch ≤ 16 → length (left_of first batch) ≤ 16
+left_few : (first : Option ℕ) (batch : List Waiting) → length batch ≤ RING → length (left_of first batch) ≤ RING
 left_few None batch few = few
 left_few (Some place) batch few = omega arith
 

@@ -7,6 +7,7 @@ use Rattle.vs_types.specs.declared.log_entry.LogEntry.{LogEntry}
 use Rattle.nr_ring.specs.LogHistory.{Log, tail, local_of, log_after}
 use Rattle.nr_ring.specs.Pass.{Known}
 use Rattle.nr_ring.specs.declared.view.View.{View}
+use Rattle.nr_ring.specs.declared.words.TheConstants.{RING}
 use Rattle.nr_slots.specs.declared.waiting.Waiting.{Waiting}
 use Rattle.nr_node.specs.Spaces.{space_at}
 use Rattle.nr_node.specs.declared.held.Held.{Held}
@@ -57,7 +58,7 @@ pub record IsNode (depth : Depth) (replicas : ℕ) (node : NodeState) : Type 0 w
   pub owner : node.known.view.owns ≡ replica_of node.known.view ∷ []
   pub written : applied_of replicas node ≤ tail (log_of replicas node)
   pub fit : All (λ waiting. IsAction depth waiting.op) node.batch
-  pub few : length node.batch ≤ 16
+  pub few : length node.batch ≤ RING
   pub placed : (first : ℕ) → node.first ≡ Some first → IsPlaced (log_of replicas node) (applied_of replicas node) first node.batch
 
 -- a new node, with this pass and this limit of tables, holds nothing

@@ -19,7 +19,7 @@ use crate::batch::{copy, entries, keep_unplaced};
 use crate::held::Held;
 use crate::replica::Replica;
 use arrayvec::ArrayVec;
-use nr_ring::{AppendFault, LogName, LogPass, Moved, RingLog};
+use nr_ring::{AppendFault, LogName, LogPass, Moved, RING, RingLog};
 use nr_slots::{Answered, Waiting};
 use std::alloc::Global;
 use std::marker::Model;
@@ -37,7 +37,7 @@ use vs_walk::Dump;
 pub struct Node<S: FrameStore, J: LogName> {
     pass: LogPass<J>,
     replica: Replica<S>,
-    batch: ArrayVec<Waiting, 16>,
+    batch: ArrayVec<Waiting, RING>,
     first: Option<u32>,
 }
 
@@ -115,7 +115,7 @@ impl<S: FrameStore, J: LogName> Node<S, J> {
     }
 
     /// Holds a batch of 1 to 16 updates that are well formed at the log's depth; it holds nothing before.
-    pub fn hold(&mut self, batch: &ArrayVec<Waiting, 16>)
+    pub fn hold(&mut self, batch: &ArrayVec<Waiting, RING>)
         requires nothing { self.old.batch ≡ [] }
         requires some { 1 ≤ length batch.now.items }
         requires fit { All (λ waiting. IsAction J.depth waiting.op) batch.now.items }
@@ -161,7 +161,7 @@ impl<S: FrameStore, J: LogName> Node<S, J> {
         &mut self,
         rt: &R,
         log: &RingLog<J>,
-        answers: &mut ArrayVec<Answered, 16>,
+        answers: &mut ArrayVec<Answered, RING>,
     ) -> Result<u32, Moved>
         requires log { self.old.known.log ≡ log.now }
         requires empty { answers.old.items ≡ [] }
@@ -245,7 +245,7 @@ fn take_entries<J: LogName, R: Wait>(
     log: &RingLog<J>,
     pass: &mut LogPass<J>,
     applied: u32,
-    entries: &mut ArrayVec<LogEntry, 16>,
+    entries: &mut ArrayVec<LogEntry, RING>,
 ) -> Result<(), Moved>
     requires log { pass.old.log ≡ log.now }
     requires owner { pass.old.view.owns ≡ replica_of pass.old.view ∷ [] }

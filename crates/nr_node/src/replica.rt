@@ -12,6 +12,7 @@ ghost use Rattle.nr_node.specs.Node.{StandFrom};
 ghost use Rattle.nr_node.specs.Spaces.{answer_at, space_of};
 
 use arrayvec::ArrayVec;
+use nr_ring::RING;
 use nr_slots::{Answered, Waiting};
 use std::alloc::Global;
 use std::marker::Model;
@@ -83,7 +84,7 @@ impl<S: FrameStore> Replica<S> {
     }
 
     /// Applies entries of the log, in order.
-    pub(crate) fn apply_all(&mut self, entries: &ArrayVec<LogEntry, 16>)
+    pub(crate) fn apply_all(&mut self, entries: &ArrayVec<LogEntry, RING>)
         requires fit { All (λ entry. IsAction self.old.depth entry.op) entries.now.items }
         requires room { length self.old.entries + length entries.now.items ≤ LOG_PLACES }
         ensures { self.new ≡ record self.old { entries = self.old.entries ++ entries.now.items } }
@@ -97,8 +98,8 @@ impl<S: FrameStore> Replica<S> {
     pub(crate) fn answer(
         &self,
         first: Option<u32>,
-        batch: &ArrayVec<Waiting, 16>,
-        answers: &mut ArrayVec<Answered, 16>,
+        batch: &ArrayVec<Waiting, RING>,
+        answers: &mut ArrayVec<Answered, RING>,
     )
         requires empty { answers.old.items ≡ [] }
         requires stand { (place : ℕ) → first ≡ Some place → StandFrom self.now.entries place batch.now.items }
@@ -113,8 +114,8 @@ impl<S: FrameStore> Replica<S> {
     fn answer_from(
         &self,
         first: u32,
-        batch: &ArrayVec<Waiting, 16>,
-        answers: &mut ArrayVec<Answered, 16>,
+        batch: &ArrayVec<Waiting, RING>,
+        answers: &mut ArrayVec<Answered, RING>,
     )
         requires empty { answers.old.items ≡ [] }
         requires stand { StandFrom self.now.entries first batch.now.items }
