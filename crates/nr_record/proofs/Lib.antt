@@ -1,0 +1,3 @@
+pub mod Seats
+pub mod Draws
+pub mod Notes
