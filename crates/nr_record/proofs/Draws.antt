@@ -45,7 +45,7 @@ times_item (s ∷ ss) (suc k) d lt = let r = times_item ss k d (omega arith) in 
 once_more : (n stamp : ℕ) → once_below (n + 1) stamp ≡ once_below n stamp + cond (eqb n stamp) 1 0
 once_more n stamp = grind (arith, nat_tests)
 
-once_some : (n stamp : ℕ) → 1 ≤ once_below n stamp → stamp < n
+pub once_some : (n stamp : ℕ) → 1 ≤ once_below n stamp → stamp < n
 once_some n stamp h = grind (arith, nat_tests)
 
 twice : (views : List View) → sum_by (λ (v : View). 2 * v.quota) views ≡ 2 * quotas views
@@ -165,3 +165,8 @@ draw_allows slots id me calls left s is long at small =
       subst (λ (k : ℕ). IsKept calls (set s.words 0 k) (set s.views id w)) next (draw_keeps calls id s.words s.views me.0 is at left),
       (draw_tells calls id s.words s.views me.0 is at left, refl),
     )
+
+pub few_stamps : (calls seat : ℕ) (words : List ℕ) (views : List View) (v : View) → IsKept calls words views → get_elem? views seat ≡ some v
+    → v.quota ≡ calls → length v.stamps ≤ CALLS
+few_stamps calls seat words views v is at whole =
+    let few = of_seat (λ (u : View). length u.stamps ≤ 2 * u.quota) views seat v is.within at in omega (arith, few, whole, is.few)

@@ -1,6 +1,6 @@
 -- What contracts see of a clock and of its pens.
-use Rattle.std.specs.Prelude.{◌≡◌, ℕ, ◌+◌, ◌%◌, List, [], ◌∷◌, ◌++◌, All, map, sum, length, Option, Some, None, Bool, true, false}
-use Rattle.std.specs.List.{count_by, range_with_len}
+use Rattle.std.specs.Prelude.{◌≡◌, ℕ, ◌+◌, ◌%◌, List, [], ◌∷◌, ◌++◌, All, map, Option, Some, None, Bool, true, false}
+use Rattle.std.specs.List.{count_by, range_with_len, sum_by}
 use Rattle.atomic_table.specs.Seated.{TableId}
 use Rattle.vs_types.specs.Config.{Layout}
 use Rattle.vs_types.specs.declared.answer.Answer.{Answer}
@@ -83,4 +83,4 @@ with_reply pen stamp call at answer = record {
 pub record AreAllPens (clock : ClockId) (pens : List PenState) : Type 0 where
   pub of_clock : All (λ pen. pen.clock ≡ clock) pens
   pub threads : map (λ pen. pen.thread) pens ≡ range_with_len 0 clock.layout.threads
-  pub quotas : sum (map (λ pen. pen.quota) pens) ≡ clock.calls
+  pub quotas : sum_by (λ pen. pen.quota) pens ≡ clock.calls

@@ -1,11 +1,12 @@
 //! The clock of a run, and how its pens are made.
 ghost use Rattle.std.specs.Prelude.{◌≡◌, ◌*◌, ◌%◌, ◌<◌, ◌≤◌, [], IfOk, length, sum};
-ghost use Rattle.vs_types.specs.declared.limits.TheConstants.{LOG_PLACES};
+ghost use Rattle.vs_types.specs.declared.limits.TheConstants.{CALLS, LOG_PLACES};
 ghost use Rattle.nr_record.specs.Pen.{clock_of, new_pen, new_pens};
-ghost use Rattle.nr_record.specs.Rule.{HasDrawn, keeping};
+ghost use Rattle.nr_record.specs.Stamps.{AreBelow};
+ghost use Rattle.nr_record.specs.Rule.{HasDrawn, joined, keeping};
 
 use crate::pen::Pen;
-use crate::rule::{Draws, Gives, Quota, Stamps};
+use crate::rule::{Draws, Gives, Quota, Stamps, Takes};
 use crate::view::{Plan, View};
 use atomic_table::{Seat, Table};
 use std::alloc::Global;
@@ -62,6 +63,29 @@ impl Clock {
     {
         let seat = self.table.shared.split_seat::<Gives<Q>>(first);
         Pen::new(alloc, seat, replica, thread, quota)
+    }
+
+    /// Joins a seat to another, which takes over its quota and its stamps.
+    pub(crate) fn join(&self, seat: &mut Seat<(), View>, other: Seat<(), View>)
+        requires clock { (seat.old.table_id ≡ self.now.word) × (other.table_id ≡ self.now.word) }
+        requires held { other.me.1 ≡ [] }
+        ensures clock { seat.new.table_id ≡ seat.old.table_id }
+        ensures view { seat.new.me.0 ≡ joined seat.old.me.0 other.me.0 }
+    {
+        self.table.shared.join_seat::<Takes>(seat, other);
+    }
+
+    /// How many stamps were drawn, where the seat has the quotas of all calls: it has them all.
+    pub(crate) fn close(self, seat: Seat<(), View>) -> u64
+        requires clock { seat.table_id ≡ self.word }
+        requires whole { seat.me.0.quota ≡ self.calls }
+        ensures stamps { AreBelow result seat.me.0.stamps }
+        ensures count { (length seat.me.0.stamps ≡ result) × (result ≤ CALLS) }
+    {
+        let closed = self.table.close_with(seat);
+        let count = closed.word(0);
+        closed.free();
+        count
     }
 }
 

@@ -5,12 +5,16 @@
 #![tactic(auto)]
 
 mod clock;
+mod ending;
 pub mod laws;
+mod order;
 mod pen;
 mod rule;
 mod stamped;
+mod version;
 mod view;
 
 pub use clock::{Clock, pens};
+pub use ending::finish;
 pub use pen::Pen;
 pub use stamped::Stamped;

@@ -7,7 +7,7 @@ use Rattle.nr_trace.specs.declared.event.Event.{Event}
 use Rattle.nr_trace.specs.declared.event.Event.TheVariants.{Call, Reply}
 use Rattle.nr_trace.specs.declared.version.Version.TheVariants.{V2}
 use Rattle.nr_record.specs.Stamps.{Rise}
-use Rattle.nr_record.specs.Pen.{call_by, calls_in, replica_of, stamped}
+use Rattle.nr_record.specs.Pen.{PenState, call_by, calls_in, replica_of, stamped, stamps_of}
 use Rattle.nr_record.specs.declared.stamped.Stamped.{Stamped}
 use Rattle.nr_record.specs.declared.view.View.{View}
 
@@ -41,3 +41,9 @@ pub record IsHeld (view : View) (replica thread : ℕ) (waiting : Option ℕ) (r
   pub events : All (λ item. IsEvent V2 view.plan.config item.event) made
   pub own : All (λ item. IsOwn view.plan.config thread made item.event) made
   pub is_waiting : IsWaiting view.plan.config thread made waiting
+
+-- and this is what each pen is seen to be
+pub record IsTrueOf (pen : PenState) : Type 0 where
+  pub rising : Rise (stamps_of pen)
+  pub events : All (λ item. IsEvent V2 pen.clock.layout item.event) pen.made
+  pub own : All (λ item. IsOwn pen.clock.layout pen.thread pen.made item.event) pen.made
