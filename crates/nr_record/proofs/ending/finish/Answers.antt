@@ -1,0 +1,78 @@
+use Rattle.std.proofs.Common.{◌≡◌, ℕ, List, All, length, map, ap, sym, subst, ◌∙◌, arith}
+use Rattle.std.specs.List.{flat_map}
+use Rattle.vs_types.specs.Config.{Layout}
+use Rattle.vs_types.specs.declared.answer.Answer.TheVariants.{Done}
+use Rattle.nr_trace.specs.Recording.{Recording, IsEvent}
+use Rattle.nr_trace.specs.declared.event.Event.{Event}
+use Rattle.nr_trace.specs.declared.event.Event.TheVariants.{Reply}
+use Rattle.nr_trace.specs.declared.version.Version.TheVariants.{V1, V2}
+use Rattle.nr_record.specs.Events.{HasNotes, IsKnown, events_of}
+use Rattle.nr_record.specs.Pen.{PenState, stamps_of}
+use Rattle.nr_record.specs.Stamps.{AreBelow}
+use Rattle.nr_record.proofs.Finished.{length_run, notes_below, run_by_thread, run_fits, run_has_notes, run_is}
+use Rattle.nr_record.proofs.Parts.{known_depth, known_events, whole_parts}
+use Rattle.nr_record.proofs.ending.finish.Goals as goal
+
+pub in_order-requires : goal.in_order-requires
+in_order-requires c =
+    let gathered = c.in_ok-count.ensures in
+    let same = ap (λ lists. flat_map (λ made. made.items) lists) c.deref.ensures.value ∙ gathered.notes in
+    notes_below c.in_ok-count.count c.args.pens.items _ same gathered.stamps.0
+
+pub unreachable-requires : goal.unreachable-requires
+unreachable-requires c =
+    let gathered = c.in_ok-count.ensures in
+    let pens = c.args.pens.items in
+    let n = c.in_ok-count.count in
+    let events = c.in_ok-events.events.items in
+    let config = c.args.config in
+    let least = c.least_version-version.ensures in
+    let version = c.least_version-version.result in
+    let same = ap (λ lists. flat_map (λ made. made.items) lists) c.deref.ensures.value ∙ gathered.notes in
+    let run = run_is n (Reply 0 0 Done) pens events _ c.in_ok-events.ensures same in
+    let fit = run_fits n (Reply 0 0 Done) c.args.clock pens gathered.stamps.0 c.requires.pens gathered.each in
+    let fit' = subst (λ (es : List Event). All (IsEvent V2 c.args.clock.layout) es) (sym run) fit in
+    let fit'' = subst (λ (layout : Layout). All (IsEvent V2 layout) events) (sym c.requires.config) fit' in
+    let parts : Recording = record { version = version; layout = config; log = c.args.log.items; events = events; dumps = c.args.dumps.items } in
+    whole_parts parts c.in-Err.field-0
+    (record {
+      depth = known_depth version config (λ first. (least.0 first).0);
+      places = c.requires.log;
+      few = omega (arith, ap (λ (es : List Event). length es) run, length_run n (Reply 0 0 Done) pens, gathered.stamps.2);
+      dumps = c.requires.dumps.0;
+      events = known_events version config events fit''
+          (λ first. subst (λ (es : List Event). All (IsKnown V1) es) c.deref-2.ensures.value (least.0 first).1);
+      frames = c.requires.dumps.1;
+    }) c.in-Err.ensures
+
+pub returns-clause-stamps : goal.returns-clause-stamps
+returns-clause-stamps c =
+    let gathered = c.in_ok-count.ensures in
+    let pens = c.args.pens.items in
+    let n = c.in_ok-count.count in
+    let same = ap (λ lists. flat_map (λ made. made.items) lists) c.deref.ensures.value ∙ gathered.notes in
+    let run = run_is n (Reply 0 0 Done) pens c.in_ok-events.events.items _ c.in_ok-events.ensures same in
+    let long = sym (length_run n (Reply 0 0 Done) pens) ∙ ap (λ (es : List Event). length es) (sym run)
+    ∙ ap (λ (trace : Recording). length trace.events) (sym c.in-Ok.ensures.0) in
+    subst (λ (m : ℕ). AreBelow m (flat_map stamps_of pens)) long gathered.stamps.0
+
+pub returns-clause-events : goal.returns-clause-events
+returns-clause-events c =
+    let gathered = c.in_ok-count.ensures in
+    let pens = c.args.pens.items in
+    let n = c.in_ok-count.count in
+    let same = ap (λ lists. flat_map (λ made. made.items) lists) c.deref.ensures.value ∙ gathered.notes in
+    let run = run_is n (Reply 0 0 Done) pens c.in_ok-events.events.items _ c.in_ok-events.ensures same in
+    let is = sym run ∙ ap (λ (trace : Recording). trace.events) (sym c.in-Ok.ensures.0) in
+    subst (λ (es : List Event). All (HasNotes es) pens) is (run_has_notes n (Reply 0 0 Done) pens gathered.stamps.0)
+
+pub returns-clause-threads : goal.returns-clause-threads
+returns-clause-threads c =
+    let gathered = c.in_ok-count.ensures in
+    let pens = c.args.pens.items in
+    let n = c.in_ok-count.count in
+    let same = ap (λ lists. flat_map (λ made. made.items) lists) c.deref.ensures.value ∙ gathered.notes in
+    let run = run_is n (Reply 0 0 Done) pens c.in_ok-events.events.items _ c.in_ok-events.ensures same in
+    let is = sym run ∙ ap (λ (trace : Recording). trace.events) (sym c.in-Ok.ensures.0) in
+    subst (λ (es : List Event). All (λ (pen : PenState). events_of pen.thread es ≡ map (λ item. item.event) pen.made) pens) is
+    (run_by_thread n (Reply 0 0 Done) c.args.clock pens gathered.stamps.0 c.requires.pens gathered.each)

@@ -1,0 +1,19 @@
+use std::collections::LinkedList;
+use vs_types::Config;
+
+/// What a clock is told when it is made: how the service is laid out, and how many calls its pens may make in all.
+#[derive(Clone, Copy)]
+pub struct Plan {
+    pub config: Config,
+    pub calls: u32,
+}
+
+/// What a seat at the word of a clock knows. Contracts speak of views; no value of the type is made.
+pub struct View {
+    /// What the clock was told.
+    pub plan: Plan,
+    /// For how many calls it may draw stamps, two for each.
+    pub quota: u64,
+    /// The stamps that it has drawn, in order.
+    pub stamps: LinkedList<u64>,
+}
