@@ -1,1 +1,1 @@
-pub mod faultless
+pub mod reached

@@ -3,8 +3,8 @@ use Rattle.std.proofs.Common.{◌≡◌, ℕ, slice_get, Option, None}
 use Rattle.nr_core.specs.State.{State, Thread, Replica, has_applied_all, with_thread, with_replica}
 use Rattle.nr_core.specs.Steps.{release, when}
 use Rattle.nr_core.specs.inside.Faultless.{IsReached}
-use Rattle.nr_core.proofs.faultless.Kept.{Keeps, keeps_by_holder, keeps_when}
-use Rattle.nr_core.proofs.faultless.Take.{locks_keep}
+use Rattle.nr_core.proofs.reached.Kept.{Keeps, keeps_by_holder, keeps_when}
+use Rattle.nr_core.proofs.reached.Take.{locks_keep}
 
 pub release_keeps : (state : State) (t : ℕ) → IsReached state → Keeps (release state t)
 release_keeps state t reached =

@@ -6,8 +6,8 @@ use Rattle.nr_core.specs.Steps.{post, with_post}
 use Rattle.nr_core.specs.declared.stage.Stage.{Stage}
 use Rattle.nr_core.specs.declared.stage.Stage.TheVariants.{Called, Posted, Taken}
 use Rattle.nr_core.specs.inside.Faultless.{At, FitsStage, open_in, waiting_in, IsReached}
-use Rattle.nr_core.proofs.faultless.Changes.{thread_changes, collected_keep}
-use Rattle.nr_core.proofs.faultless.Kept.{Keeps, keeps_then}
+use Rattle.nr_core.proofs.reached.Changes.{thread_changes, collected_keep}
+use Rattle.nr_core.proofs.reached.Kept.{Keeps, keeps_then}
 
 pub post_keeps : (state : State) (t : ℕ) → IsReached state → Keeps (post state t)
 post_keeps state t reached =

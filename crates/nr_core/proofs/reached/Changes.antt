@@ -19,9 +19,9 @@ use Rattle.nr_core.specs.declared.stage.Stage.{Stage}
 use Rattle.nr_core.specs.declared.stage.Stage.TheVariants.{Idle, Called, Posted, Taken, Ready, Looked, HasRead}
 use Rattle.nr_core.specs.inside.Faultless.{At, call_at, reply_at, RepliesTo, made_of, reach, Behind, calls_of, space_at, IsRight, FitsStage, open_in, waiting_in}
 use Rattle.nr_core.specs.inside.Faultless.{IsOpen, HasOpen, IsTaken, IsFresh, IsCollected, IsReplicaOf, AreCalls, AreReplies, AreEntries, AreCollected, IsReached}
-use Rattle.nr_core.proofs.faultless.Places.{each_set, at_set, at_other, at_front, at_either}
-use Rattle.nr_core.proofs.faultless.Growth.{Longer, Grows, HaveCalls, call_within, replies_have_calls, behind_completed, behind_more, space_stays, right_stays}
-use Rattle.nr_core.proofs.faultless.Growth.{stage_fits, replies_stay}
+use Rattle.nr_core.proofs.reached.Places.{each_set, at_set, at_other, at_front, at_either}
+use Rattle.nr_core.proofs.reached.Growth.{Longer, Grows, HaveCalls, call_within, replies_have_calls, behind_completed, behind_more, space_stays, right_stays}
+use Rattle.nr_core.proofs.reached.Growth.{stage_fits, replies_stay}
 
 pub same_events : (events : List Event) → Longer events events
 same_events events = record { stays = λ i event e. e; stood = λ i event l e. e }
@@ -33,9 +33,11 @@ open_keeps : (threads : List Thread) (t u call : ℕ) (thread next : Thread) →
 open_keeps threads t u call thread next at same (other, there, is) = by_case (cases_eq u t) where
   by_case : (u ≡ t) ⊎ (u ≡ t → ⊥) → HasOpen (slice_set threads t next) u call
   by_case (inl e) =
-      let one : thread ≡ other = same_Some thread other (sym at ∙ ap (slice_get threads) (sym e) ∙ there) in
-      (next, subst (λ (v : ℕ). At (slice_set threads t next) v next) (sym e) (at_set threads t thread next at),
-      same ∙ ap (λ (x : Thread). open_in x.stage) one ∙ is)
+      let one : thread ≡ other = same_Some thread other (sym at ∙ ap (slice_get threads) (sym e) ∙ there) in (
+        next,
+        subst (λ (v : ℕ). At (slice_set threads t next) v next) (sym e) (at_set threads t thread next at),
+        same ∙ ap (λ (x : Thread). open_in x.stage) one ∙ is,
+      )
   by_case (inr out) = (other, at_other threads t u other next out there, is)
 
 pub calls_keep : (events : List Event) (threads : List Thread) (t : ℕ) (thread next : Thread) → At threads t thread
@@ -59,9 +61,11 @@ pub taken_keeps : (threads : List Thread) (t u call : ℕ) (thread next : Thread
 taken_keeps threads t u call thread next at same (other, there, is) = by_case (cases_eq u t) where
   by_case : (u ≡ t) ⊎ (u ≡ t → ⊥) → IsTaken (slice_set threads t next) u call
   by_case (inl e) =
-      let one : thread ≡ other = same_Some thread other (sym at ∙ ap (slice_get threads) (sym e) ∙ there) in
-      (next, subst (λ (v : ℕ). At (slice_set threads t next) v next) (sym e) (at_set threads t thread next at),
-      same e (ap (λ (x : Thread). x.stage) one ∙ is))
+      let one : thread ≡ other = same_Some thread other (sym at ∙ ap (slice_get threads) (sym e) ∙ there) in (
+        next,
+        subst (λ (v : ℕ). At (slice_set threads t next) v next) (sym e) (at_set threads t thread next at),
+        same e (ap (λ (x : Thread). x.stage) one ∙ is),
+      )
   by_case (inr out) = (other, at_other threads t u other next out there, is)
 
 pub collected_stays : (layout : Layout) (events events' : List Event) (log log' : List LogEntry) (completed completed' : ℕ) (replicas replicas' : List Replica)
@@ -80,7 +84,7 @@ collected_stays layout events events' log log' completed completed' replicas rep
       fresh = fresh h.fresh;
     } where
       longer_asks : call_at events' update.entry.call ≡ Some (made_of layout update.thread (Update update.entry.op))
-      longer_asks = Rattle.nr_core.proofs.faultless.Growth.call_stays events events' update.entry.call _ grows.longer h.asks
+      longer_asks = Rattle.nr_core.proofs.reached.Growth.call_stays events events' update.entry.call _ grows.longer h.asks
 
       later : (a : Answered) → (a.call ≡ update.entry.call)
           × IsRight layout events log completed replicas (made_of layout update.thread (Update update.entry.op)) a.call a.at a.answer

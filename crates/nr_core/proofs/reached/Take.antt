@@ -3,8 +3,8 @@ use Rattle.std.proofs.Common.{◌≡◌, ℕ, ◌≤◌, slice_get, Bool, ◌&&�
 use Rattle.nr_core.specs.State.{State, Thread, Replica, with_thread, with_replica}
 use Rattle.nr_core.specs.Steps.{take_lock, when}
 use Rattle.nr_core.specs.inside.Faultless.{At, IsReached}
-use Rattle.nr_core.proofs.faultless.Changes.{thread_changes, replica_changes, still_collected, collected_keep}
-use Rattle.nr_core.proofs.faultless.Kept.{Keeps, keeps_then, keeps_when}
+use Rattle.nr_core.proofs.reached.Changes.{thread_changes, replica_changes, still_collected, collected_keep}
+use Rattle.nr_core.proofs.reached.Kept.{Keeps, keeps_then, keeps_when}
 
 -- locks change nothing else
 pub locks_keep : (state : State) (t r : ℕ) (thread : Thread) (replica : Replica) (holds holder : Option ℕ) → IsReached state → At state.threads t thread

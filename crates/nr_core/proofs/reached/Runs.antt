@@ -10,20 +10,20 @@ use Rattle.nr_core.specs.declared.step.Act.{Act}
 use Rattle.nr_core.specs.declared.step.Act.TheVariants.{Call, Post, Take, Collect, Append, Advance, Apply, Answer, Release, Look, Read, Reply}
 use Rattle.nr_core.specs.declared.step.Step.{Step}
 use Rattle.nr_core.specs.inside.Faultless.{IsReached}
-use Rattle.nr_core.proofs.faultless.Kept.{Keeps}
-use Rattle.nr_core.proofs.faultless.Start.{start_is_reached}
-use Rattle.nr_core.proofs.faultless.Call.{call_keeps}
-use Rattle.nr_core.proofs.faultless.Post.{post_keeps}
-use Rattle.nr_core.proofs.faultless.Take.{take_keeps}
-use Rattle.nr_core.proofs.faultless.Collect.{collect_keeps}
-use Rattle.nr_core.proofs.faultless.Append.{append_keeps}
-use Rattle.nr_core.proofs.faultless.Advance.{advance_keeps}
-use Rattle.nr_core.proofs.faultless.Apply.{apply_keeps}
-use Rattle.nr_core.proofs.faultless.Answer.{answer_keeps}
-use Rattle.nr_core.proofs.faultless.Release.{release_keeps}
-use Rattle.nr_core.proofs.faultless.Look.{look_keeps}
-use Rattle.nr_core.proofs.faultless.Read.{read_keeps}
-use Rattle.nr_core.proofs.faultless.Reply.{reply_keeps}
+use Rattle.nr_core.proofs.reached.Kept.{Keeps}
+use Rattle.nr_core.proofs.reached.Start.{start_is_reached}
+use Rattle.nr_core.proofs.reached.Call.{call_keeps}
+use Rattle.nr_core.proofs.reached.Post.{post_keeps}
+use Rattle.nr_core.proofs.reached.Take.{take_keeps}
+use Rattle.nr_core.proofs.reached.Collect.{collect_keeps}
+use Rattle.nr_core.proofs.reached.Append.{append_keeps}
+use Rattle.nr_core.proofs.reached.Advance.{advance_keeps}
+use Rattle.nr_core.proofs.reached.Apply.{apply_keeps}
+use Rattle.nr_core.proofs.reached.Answer.{answer_keeps}
+use Rattle.nr_core.proofs.reached.Release.{release_keeps}
+use Rattle.nr_core.proofs.reached.Look.{look_keeps}
+use Rattle.nr_core.proofs.reached.Read.{read_keeps}
+use Rattle.nr_core.proofs.reached.Reply.{reply_keeps}
 
 act_keeps : (state : State) (t : ℕ) (what : Act) → IsReached state → Keeps (act state t what)
 act_keeps state t Call reached = call_keeps state t reached

@@ -1,4 +1,4 @@
--- That no list of steps makes a fault.
+-- What holds of each state that steps can reach, and that its recording has no fault.
 pub mod Places
 pub mod Growth
 pub mod Changes
@@ -18,3 +18,9 @@ pub mod Call
 pub mod Reply
 pub mod Start
 pub mod Runs
+pub mod Recorded
+pub mod CleanLog
+pub mod RightAnswers
+pub mod InTime
+pub mod Dumps
+pub mod Laws

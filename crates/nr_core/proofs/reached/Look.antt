@@ -9,9 +9,9 @@ use Rattle.nr_core.specs.Steps.{look, with_look}
 use Rattle.nr_core.specs.declared.stage.Stage.{Stage}
 use Rattle.nr_core.specs.declared.stage.Stage.TheVariants.{Called, Looked, Taken}
 use Rattle.nr_core.specs.inside.Faultless.{At, FitsStage, open_in, waiting_in, IsReached}
-use Rattle.nr_core.proofs.faultless.Changes.{thread_changes, collected_keep}
-use Rattle.nr_core.proofs.faultless.Growth.{behind_completed}
-use Rattle.nr_core.proofs.faultless.Kept.{Keeps, keeps_then}
+use Rattle.nr_core.proofs.reached.Changes.{thread_changes, collected_keep}
+use Rattle.nr_core.proofs.reached.Growth.{behind_completed}
+use Rattle.nr_core.proofs.reached.Kept.{Keeps, keeps_then}
 
 pub look_keeps : (state : State) (t : ℕ) → IsReached state → Keeps (look state t)
 look_keeps state t reached =
@@ -20,8 +20,7 @@ look_keeps state t reached =
           → IsReached (with_thread state t (record thread { stage = Looked call request state.completed }))
       looked thread call request at is reads =
           let next : Thread = record thread { stage = Looked call request state.completed } in
-          thread_changes state t thread next reached at (sym (ap open_in is))
-          (
+          thread_changes state t thread next reached at (sym (ap open_in is)) (
             subst (FitsStage state.layout state.events state.log state.completed state.replicas t) is (reached.threads t thread at),
             reads,
             behind_completed state.layout state.events state.log state.completed state.replicas call reached.replies,

@@ -13,10 +13,10 @@ use Rattle.nr_core.specs.declared.stage.Answered.{Answered}
 use Rattle.nr_core.specs.declared.stage.Stage.{Stage}
 use Rattle.nr_core.specs.declared.stage.Stage.TheVariants.{Idle, Ready, HasRead, Taken}
 use Rattle.nr_core.specs.inside.Faultless.{At, call_at, reply_at, RepliesTo, made_of, FitsStage, IsRight, open_in, IsOpen, HasOpen, AreCalls, IsReached}
-use Rattle.nr_core.proofs.faultless.Places.{each_set, at_other}
-use Rattle.nr_core.proofs.faultless.Growth.{Longer, call_within, reply_within, call_stays, call_stood, answer_stays, answer_stood}
-use Rattle.nr_core.proofs.faultless.Events.{one_longer, call_last, answer_last, last_reply, event_recorded}
-use Rattle.nr_core.proofs.faultless.Kept.{Keeps, keeps_then}
+use Rattle.nr_core.proofs.reached.Places.{each_set, at_other}
+use Rattle.nr_core.proofs.reached.Growth.{Longer, call_within, reply_within, call_stays, call_stood, answer_stays, answer_stood}
+use Rattle.nr_core.proofs.reached.Events.{one_longer, call_last, answer_last, last_reply, event_recorded}
+use Rattle.nr_core.proofs.reached.Kept.{Keeps, keeps_then}
 
 replied : (state : State) (t : ℕ) (thread : Thread) (a : Answered) (request : Query) → IsReached state → At state.threads t thread
     → open_in thread.stage ≡ Some a.call → ((call : ℕ) → thread.stage ≡ Taken call → ⊥)

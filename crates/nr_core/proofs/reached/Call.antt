@@ -14,10 +14,10 @@ use Rattle.nr_core.specs.Steps.{call, with_call}
 use Rattle.nr_core.specs.declared.stage.Stage.{Stage}
 use Rattle.nr_core.specs.declared.stage.Stage.TheVariants.{Idle, Called, Taken}
 use Rattle.nr_core.specs.inside.Faultless.{At, call_at, reply_at, RepliesTo, made_of, open_in, waiting_in, IsOpen, HasOpen, IsFresh, AreCalls, IsReached}
-use Rattle.nr_core.proofs.faultless.Places.{each_set, at_set, at_other, at_in, in_map}
-use Rattle.nr_core.proofs.faultless.Growth.{Longer, call_within, reply_within, call_stays, call_stood, answer_stays}
-use Rattle.nr_core.proofs.faultless.Events.{one_longer, call_last, answer_last, last_call, event_recorded}
-use Rattle.nr_core.proofs.faultless.Kept.{Keeps, keeps_then}
+use Rattle.nr_core.proofs.reached.Places.{each_set, at_set, at_other, at_in, in_map}
+use Rattle.nr_core.proofs.reached.Growth.{Longer, call_within, reply_within, call_stays, call_stood, answer_stays}
+use Rattle.nr_core.proofs.reached.Events.{one_longer, call_last, answer_last, last_call, event_recorded}
+use Rattle.nr_core.proofs.reached.Kept.{Keeps, keeps_then}
 
 called : (state : State) (t : ℕ) (thread : Thread) (request : Query) (left : List Query) → IsReached state → At state.threads t thread
     → thread.stage ≡ Idle

@@ -3,8 +3,8 @@ use Rattle.std.proofs.Common.{◌≡◌, ℕ, ◌≤◌, slice_get, Bool, true, 
 use Rattle.nr_core.specs.State.{State, Thread, Replica, tail, has_applied_all, with_replica}
 use Rattle.nr_core.specs.Steps.{advance, when}
 use Rattle.nr_core.specs.inside.Faultless.{At, IsReached}
-use Rattle.nr_core.proofs.faultless.Changes.{completed_rises, replica_changes, still_collected}
-use Rattle.nr_core.proofs.faultless.Kept.{Keeps, keeps_by_holder, keeps_when}
+use Rattle.nr_core.proofs.reached.Changes.{completed_rises, replica_changes, still_collected}
+use Rattle.nr_core.proofs.reached.Kept.{Keeps, keeps_by_holder, keeps_when}
 
 advanced : (state : State) (r : ℕ) (replica : Replica) → IsReached state → At state.replicas r replica
     → IsReached (with_replica (record state { completed = tail state }) r (record replica { local = tail state }))

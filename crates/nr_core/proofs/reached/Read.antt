@@ -14,9 +14,9 @@ use Rattle.nr_core.specs.declared.stage.Answered.{Answered}
 use Rattle.nr_core.specs.declared.stage.Stage.{Stage}
 use Rattle.nr_core.specs.declared.stage.Stage.TheVariants.{Looked, HasRead, Taken}
 use Rattle.nr_core.specs.inside.Faultless.{At, call_at, made_of, reach, Behind, FitsStage, IsRight, IsReplicaOf, open_in, waiting_in, IsReached}
-use Rattle.nr_core.proofs.faultless.Changes.{thread_changes, collected_keep}
-use Rattle.nr_core.proofs.faultless.Growth.{behind_more}
-use Rattle.nr_core.proofs.faultless.Kept.{Keeps, keeps_then, keeps_when}
+use Rattle.nr_core.proofs.reached.Changes.{thread_changes, collected_keep}
+use Rattle.nr_core.proofs.reached.Growth.{behind_more}
+use Rattle.nr_core.proofs.reached.Kept.{Keeps, keeps_then, keeps_when}
 
 reach_of_read : (o : Option Action) (n : ℕ) → o ≡ None → option_map_or (λ (action : Action). n + 1) o n ≡ n
 reach_of_read o n e = rw e refl
@@ -56,8 +56,7 @@ read_keeps state t reached =
           let next : Thread = record thread { stage = HasRead a } in
           let (asks, reads, behind) = subst (FitsStage state.layout state.events state.log state.completed state.replicas t) is (reached.threads t thread at) in
           keeps_when (is_none replica.holder && nat_le completed replica.applied) (with_thread state t next)
-          (λ test. thread_changes state t thread next reached at (sym (ap open_in is))
-          (
+          (λ test. thread_changes state t thread next reached at (sym (ap open_in is)) (
             request,
             asks,
             right replica call completed request there

@@ -14,9 +14,9 @@ use Rattle.nr_core.specs.declared.stage.Collected.{Collected}
 use Rattle.nr_core.specs.declared.stage.Stage.{Stage}
 use Rattle.nr_core.specs.declared.stage.Stage.TheVariants.{Posted, Taken}
 use Rattle.nr_core.specs.inside.Faultless.{At, FitsStage, IsCollected, open_in, waiting_in, IsReached}
-use Rattle.nr_core.proofs.faultless.Places.{at_set, in_map}
-use Rattle.nr_core.proofs.faultless.Changes.{thread_changes, replica_changes, still_collected, collected_keep}
-use Rattle.nr_core.proofs.faultless.Kept.{Keeps, keeps_by_holder, keeps_then, keeps_when, waiting_not_collected}
+use Rattle.nr_core.proofs.reached.Places.{at_set, in_map}
+use Rattle.nr_core.proofs.reached.Changes.{thread_changes, replica_changes, still_collected, collected_keep}
+use Rattle.nr_core.proofs.reached.Kept.{Keeps, keeps_by_holder, keeps_then, keeps_when, waiting_not_collected}
 
 collected : (state : State) (r s call : ℕ) (replica : Replica) (other : Thread) (action : Action) → IsReached state → At state.replicas r replica
     → At state.threads s other → other.stage ≡ Posted call action → home state s ≡ r

@@ -12,9 +12,9 @@ use Rattle.nr_core.specs.State.{State, Thread, Replica, with_replica}
 use Rattle.nr_core.specs.Steps.{append, has_room, when}
 use Rattle.nr_core.specs.declared.stage.Collected.{Collected}
 use Rattle.nr_core.specs.inside.Faultless.{At, call_at, made_of, calls_of, waiting_in, IsFresh, IsCollected, IsReached}
-use Rattle.nr_core.proofs.faultless.Places.{each_set, in_map}
-use Rattle.nr_core.proofs.faultless.Changes.{replica_changes, still_collected, AreNew, log_grows}
-use Rattle.nr_core.proofs.faultless.Kept.{Keeps, keeps_by_holder, keeps_when, waiting_not_collected, same_thread}
+use Rattle.nr_core.proofs.reached.Places.{each_set, in_map}
+use Rattle.nr_core.proofs.reached.Changes.{replica_changes, still_collected, AreNew, log_grows}
+use Rattle.nr_core.proofs.reached.Kept.{Keeps, keeps_by_holder, keeps_when, waiting_not_collected, same_thread}
 
 calls_of_entries : (batch : List Collected) → calls_of (map (λ (u : Collected). u.entry) batch) ≡ map (λ (u : Collected). u.entry.call) batch
 calls_of_entries [] = refl

@@ -13,10 +13,10 @@ use Rattle.nr_core.specs.declared.stage.Collected.{Collected}
 use Rattle.nr_core.specs.declared.stage.Stage.{Stage}
 use Rattle.nr_core.specs.declared.stage.Stage.TheVariants.{Taken, Ready}
 use Rattle.nr_core.specs.inside.Faultless.{At, call_at, made_of, FitsStage, open_in, waiting_in, IsRight, IsTaken, IsCollected, AreCollected, IsReached}
-use Rattle.nr_core.proofs.faultless.Places.{each_set, in_map, in_mapped}
-use Rattle.nr_core.proofs.faultless.Growth.{call_within, replies_have_calls, right_stays, then_parts}
-use Rattle.nr_core.proofs.faultless.Changes.{thread_changes, replica_changes, replica_grows, nothing_grows, still_collected, collected_stays, taken_keeps}
-use Rattle.nr_core.proofs.faultless.Kept.{Keeps, keeps_by_holder, keeps_then}
+use Rattle.nr_core.proofs.reached.Places.{each_set, in_map, in_mapped}
+use Rattle.nr_core.proofs.reached.Growth.{call_within, replies_have_calls, right_stays, then_parts}
+use Rattle.nr_core.proofs.reached.Changes.{thread_changes, replica_changes, replica_grows, nothing_grows, still_collected, collected_stays, taken_keeps}
+use Rattle.nr_core.proofs.reached.Kept.{Keeps, keeps_by_holder, keeps_then}
 
 found_in : (p : Collected → Bool) (batch : List Collected) (u : Collected) → find p batch ≡ Some u → In u batch × (p u ≡ true)
 found_in p [] u e = absurd (none-some u e)
