@@ -61,11 +61,17 @@ take_lock state t r =
 
 -- Collect s: where s belongs to the replica and its update is posted, and the batch has fewer than 16 and is not placed, the
 -- update is taken, and is the batch's last
+abbrev pub has_place : Replica → Bool
+has_place replica = nat_lt (length replica.batch) 16 && not replica.placed
+
+abbrev pub with_update : Replica → Collected → Replica
+with_update replica update = record replica { batch = replica.batch ++ update ∷ [] }
+
 abbrev pub with_collected : State → ℕ → Replica → ℕ → Thread → Stage → Option State
 with_collected state r replica s other (Posted call action) =
     let update : Collected = record { thread = s; entry = record { call = call; op = action }; noted = None } in
-    when ((home state s == r) && nat_lt (length replica.batch) 16 && not replica.placed)
-    (with_replica (with_thread state s (record other { stage = Taken call })) r (record replica { batch = replica.batch ++ update ∷ [] }))
+    when ((home state s == r) && has_place replica)
+    (with_replica (with_thread state s (record other { stage = Taken call })) r (with_update replica update))
 with_collected state r replica s other stage = None
 
 abbrev pub collect : State → ℕ → ℕ → Option State
@@ -75,11 +81,14 @@ collect state t s = by_holder state t (λ thread r replica. by_thread state s (�
 abbrev pub has_room : State → ℕ → Bool
 has_room state n = nat_le (tail state + n) LOG_PLACES && list_all (λ other. nat_le (tail state + n) (other.local + 16)) state.replicas
 
+abbrev pub may_append : State → Replica → Bool
+may_append state replica = nat_lt 0 (length replica.batch) && not replica.placed && has_room state (length replica.batch)
+
 -- Append: where the batch is not empty nor placed, and there is room, it stands at the log's end
 abbrev pub append : State → ℕ → Option State
 append state t =
     by_holder state t (λ thread r replica.
-    when (nat_lt 0 (length replica.batch) && not replica.placed && has_room state (length replica.batch))
+    when (may_append state replica)
     (with_replica (record state { log = state.log ++ map (λ update. update.entry) replica.batch }) r (record replica { placed = true })))
 
 -- Advance: where all that was fetched is applied and the log has more, all of it is fetched: the local tail and the completed tail

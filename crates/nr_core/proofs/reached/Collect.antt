@@ -9,7 +9,7 @@ use Rattle.vs_types.specs.declared.op.Action.{Action}
 use Rattle.vs_types.specs.declared.request.Query.TheVariants.{Update}
 use Rattle.nr_trace.proofs.LawsOfLists.{In, in_either, distinct_append, option_distinct}
 use Rattle.nr_core.specs.State.{State, Thread, Replica, home, with_thread, with_replica}
-use Rattle.nr_core.specs.Steps.{by_thread, collect, with_collected}
+use Rattle.nr_core.specs.Steps.{by_thread, collect, has_place, with_collected}
 use Rattle.nr_core.specs.declared.stage.Collected.{Collected}
 use Rattle.nr_core.specs.declared.stage.Stage.{Stage}
 use Rattle.nr_core.specs.declared.stage.Stage.TheVariants.{Posted, Taken}
@@ -75,8 +75,7 @@ collect_keeps state t s reached =
       by_stage : (r : ℕ) (replica : Replica) (other : Thread) → At state.replicas r replica → At state.threads s other → (stage : Stage) → other.stage ≡ stage
           → Keeps (with_collected state r replica s other stage)
       by_stage r replica other there here (Posted call action) is =
-          keeps_when ((home state s == r) && nat_lt (length replica.batch) 16 && not replica.placed) _
+          keeps_when ((home state s == r) && has_place replica) _
           (λ test. collected state r s call replica other action reached there here is
-          (eqb-true (home state s) r ((and_parts (home state s == r) (nat_lt (length replica.batch) 16)
-          ((and_parts ((home state s == r) && nat_lt (length replica.batch) 16) (not replica.placed) test).0)).0)))
+          (eqb-true (home state s) r (and_parts (home state s == r) (has_place replica) test).0))
       by_stage r replica other there here stage is = tt
