@@ -11,6 +11,7 @@ use Rattle.nr_trace.specs.declared.fault.Fault.TheVariants.{WrongAnswer, PrefixP
 use Rattle.nr_trace.specs.declared.fault.Fault.TheVariants.{Differs}
 use Rattle.nr_core.specs.State.{State, start}
 use Rattle.nr_core.specs.Run.{after_steps, IsRecordingOf}
+use Rattle.nr_core.specs.Faultless.{IsRecordingOfSteps}
 use Rattle.nr_core.specs.declared.step.Step.{Step}
 use Rattle.nr_core.specs.inside.Faultless.{IsReached}
 use Rattle.nr_core.proofs.reached.CleanLog.{clean_log}
@@ -78,7 +79,12 @@ faultless state trace reached is (ReservedBit r number index) h = reserved state
 faultless state trace reached is (StrayFrame r number) h = stray state trace r number is h
 faultless state trace reached is (Differs r address) h = differs state trace r address reached is h
 
-pub none_of_steps : (layout : Layout) (scripts : List (List Query)) (steps : List Step) (trace : Recording)
-    → IsRecordingOf (after_steps (start layout scripts) steps) trace → IsFaultless trace
-none_of_steps layout scripts steps trace is =
+-- ---- of the state that steps reach
+
+pub well_formed_of_steps : (trace : Recording) → IsRecordingOfSteps trace → HasCleanLog trace
+well_formed_of_steps trace (layout, scripts, steps, is) =
+    well_formed (after_steps (start layout scripts) steps) trace (each_is_reached layout scripts steps) is
+
+pub none_of_steps : (trace : Recording) → IsRecordingOfSteps trace → IsFaultless trace
+none_of_steps trace (layout, scripts, steps, is) =
     faultless (after_steps (start layout scripts) steps) trace (each_is_reached layout scripts steps) is

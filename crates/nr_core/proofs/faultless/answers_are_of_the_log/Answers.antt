@@ -1,8 +1,6 @@
-use Rattle.nr_core.specs.State.{start}
-use Rattle.nr_core.specs.Run.{after_steps}
-use Rattle.nr_core.proofs.reached.Laws.{wrong}
-use Rattle.nr_core.proofs.reached.Runs.{each_is_reached}
+use Rattle.nr_trace.specs.declared.fault.Fault.TheVariants.{WrongAnswer}
+use Rattle.nr_core.proofs.reached.Laws.{none_of_steps}
 use Rattle.nr_core.proofs.faultless.answers_are_of_the_log.Goals as goal
 
 pub returns : goal.returns
-returns c = λ layout scripts steps trace call is. wrong (after_steps (start layout scripts) steps) trace call (each_is_reached layout scripts steps) is
+returns c = λ trace call is. none_of_steps trace is (WrongAnswer call)

@@ -6,7 +6,7 @@ pub returns-clause-faultless : goal.returns-clause-faultless
 returns-clause-faultless c = none_of_steps
 
 pub returns-clause-legal : goal.returns-clause-legal
-returns-clause-legal c = λ layout scripts steps trace is. legal_if_faultless trace (none_of_steps layout scripts steps trace is)
+returns-clause-legal c = λ trace is. legal_if_faultless trace (none_of_steps trace is)
 
 pub returns-clause-fits : goal.returns-clause-fits
-returns-clause-fits c = λ layout scripts steps trace r dump is at. fits_if_faultless trace r dump (none_of_steps layout scripts steps trace is) at
+returns-clause-fits c = λ trace r dump is at. fits_if_faultless trace r dump (none_of_steps trace is) at
