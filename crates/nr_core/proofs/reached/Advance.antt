@@ -1,6 +1,6 @@
 -- Advance.
-use Rattle.std.proofs.Common.{◌≡◌, ℕ, ◌≤◌, slice_get, Bool, true, nat_lt, ◌&&◌, length, Option, Some, None, refl, arith}
-use Rattle.nr_core.specs.State.{State, Thread, Replica, tail, has_applied_all, with_replica}
+use Rattle.std.proofs.Common.{ℕ, ◌≤◌, nat_lt, ◌&&◌, length, arith}
+use Rattle.nr_core.specs.State.{State, Replica, tail, has_applied_all, with_replica}
 use Rattle.nr_core.specs.Steps.{advance, when}
 use Rattle.nr_core.specs.inside.Faultless.{At, IsReached}
 use Rattle.nr_core.proofs.reached.Changes.{completed_rises, replica_changes, still_collected}

@@ -1,8 +1,8 @@
 -- Answer.
-use Rattle.std.proofs.Common.{◌≡◌, ℕ, ◌<◌, ◌≤◌, ◌⊎◌, inl, inr, slice_get, Bool, true, false, cond, nat_eq, ◌==◌, ◌&&◌, not, List, [], ◌∷◌, length, map, filter, Option, Some, None, option_and_then, refl, ap, sym, ◌∙◌, subst, arith, eqb-true, eq-eqb}
+use Rattle.std.proofs.Common.{◌≡◌, ℕ, ◌<◌, inl, inr, slice_get, Bool, true, false, cond, nat_eq, ◌==◌, ◌&&◌, not, List, [], ◌∷◌, length, map, filter, Some, option_and_then, refl, ap, sym, ◌∙◌, subst, arith, eqb-true, eq-eqb}
 use Rattle.std.specs.Prelude.{slice_set, ◌%◌, find}
 use Rattle.std.specs.List.{IsDistinct}
-use Rattle.std.proofs.lemmas.Bool.{cases_eq, false≢true}
+use Rattle.std.proofs.lemmas.Bool.{false≢true}
 use Rattle.std.proofs.lemmas.Option.{same_Some, none-some}
 use Rattle.vs_types.specs.declared.request.Query.TheVariants.{Update}
 use Rattle.nr_trace.proofs.LawsOfLists.{In, in_filter, absent_from, absent_not_in}
@@ -12,7 +12,7 @@ use Rattle.nr_core.specs.declared.stage.Answered.{Answered}
 use Rattle.nr_core.specs.declared.stage.Collected.{Collected}
 use Rattle.nr_core.specs.declared.stage.Stage.{Stage}
 use Rattle.nr_core.specs.declared.stage.Stage.TheVariants.{Taken, Ready}
-use Rattle.nr_core.specs.inside.Faultless.{At, call_at, made_of, FitsStage, open_in, waiting_in, IsRight, IsTaken, IsCollected, AreCollected, IsReached}
+use Rattle.nr_core.specs.inside.Faultless.{At, call_at, made_of, FitsStage, open_in, IsRight, IsTaken, IsCollected, AreCollected, IsReached}
 use Rattle.nr_core.proofs.reached.Places.{each_set, in_map, in_mapped}
 use Rattle.nr_core.proofs.reached.Growth.{call_within, replies_have_calls, right_stays, then_parts}
 use Rattle.nr_core.proofs.reached.Changes.{thread_changes, replica_changes, replica_grows, nothing_grows, still_collected, collected_stays, taken_keeps}

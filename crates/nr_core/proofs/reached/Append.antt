@@ -1,9 +1,8 @@
 -- Append.
-use Rattle.std.proofs.Common.{◌≡◌, ℕ, ◌+◌, ◌≤◌, ◌⊎◌, inl, inr, slice_get, Bool, true, false, nat_eq, nat_lt, ◌==◌, ◌&&◌, not, List, [], ◌∷◌, ◌++◌, length, map, Option, Some, None, refl, ap, ap₂, sym, ◌∙◌, subst, arith}
-use Rattle.std.specs.Prelude.{slice_set, ◌%◌}
+use Rattle.std.proofs.Common.{◌≡◌, ℕ, true, false, nat_eq, nat_lt, ◌&&◌, not, List, [], ◌∷◌, ◌++◌, length, map, Some, refl, ap, sym, ◌∙◌, subst, arith}
+use Rattle.std.specs.Prelude.{◌%◌}
 use Rattle.std.specs.List.{IsDistinct}
 use Rattle.std.proofs.lemmas.Bool.{and_parts, false≢true, not-true}
-use Rattle.std.proofs.lemmas.Option.{none-some}
 use Rattle.vs_types.specs.declared.log_entry.LogEntry.{LogEntry}
 use Rattle.vs_types.specs.declared.request.Query.TheVariants.{Update}
 use Rattle.nr_trace.specs.Calls.{Invocation}
@@ -11,9 +10,9 @@ use Rattle.nr_trace.proofs.LawsOfLists.{In}
 use Rattle.nr_core.specs.State.{State, Thread, Replica, with_replica}
 use Rattle.nr_core.specs.Steps.{append, has_room, when}
 use Rattle.nr_core.specs.declared.stage.Collected.{Collected}
-use Rattle.nr_core.specs.inside.Faultless.{At, call_at, made_of, calls_of, waiting_in, IsFresh, IsCollected, IsReached}
+use Rattle.nr_core.specs.inside.Faultless.{At, call_at, made_of, calls_of, waiting_in, IsFresh, IsReached}
 use Rattle.nr_core.proofs.reached.Places.{each_set, in_map}
-use Rattle.nr_core.proofs.reached.Changes.{replica_changes, still_collected, AreNew, log_grows}
+use Rattle.nr_core.proofs.reached.Changes.{replica_changes, still_collected, log_grows}
 use Rattle.nr_core.proofs.reached.Kept.{Keeps, keeps_by_holder, keeps_when, waiting_not_collected, same_thread}
 
 calls_of_entries : (batch : List Collected) → calls_of (map (λ (u : Collected). u.entry) batch) ≡ map (λ (u : Collected). u.entry.call) batch

@@ -1,26 +1,24 @@
 -- Apply.
-use Rattle.std.proofs.Common.{◌≡◌, ℕ, suc, ◌+◌, ◌<◌, ◌≤◌, ◌⊎◌, inl, inr, slice_get, Bool, true, false, nat_eq, nat_lt, ◌==◌, List, [], ◌∷◌, ◌++◌, length, map, take, Option, Some, None, option_to_list, option_and_then, refl, ap, ap₂, sym, ◌∙◌, subst, arith, add-one, eqb-true}
-use Rattle.std.specs.Prelude.{slice_set, ◌%◌, if◌then◌else◌}
+use Rattle.std.proofs.Common.{◌≡◌, ℕ, ◌+◌, ◌<◌, ◌≤◌, slice_get, Bool, true, false, nat_eq, nat_lt, ◌==◌, List, [], ◌∷◌, ◌++◌, map, take, Option, Some, option_to_list, option_and_then, refl, ap, ap₂, sym, ◌∙◌, subst, arith, add-one, eqb-true}
+use Rattle.std.specs.Prelude.{slice_set, if◌then◌else◌}
 use Rattle.std.specs.List.{IsDistinct}
 use Rattle.std.proofs.lemmas.Bool.{ltb-true}
 use Rattle.std.proofs.lemmas.List.{map-append}
-use Rattle.std.proofs.lemmas.Option.{same_Some, none-some}
+use Rattle.std.proofs.lemmas.Option.{same_Some}
 use Rattle.vs_types.specs.Config.{Layout}
 use Rattle.vs_types.specs.Space.{Space, no_pages}
 use Rattle.vs_types.specs.Step.{step, after_all}
-use Rattle.vs_types.specs.declared.answer.Answer.{Answer}
 use Rattle.vs_types.specs.declared.depth.Depth.{Depth}
 use Rattle.vs_types.specs.declared.log_entry.LogEntry.{LogEntry}
 use Rattle.vs_types.specs.declared.op.Action.{Action}
-use Rattle.vs_types.specs.declared.request.Query.{Query}
 use Rattle.vs_types.specs.declared.request.Query.TheVariants.{Update}
 use Rattle.nr_trace.specs.Calls.{Invocation, operation_in}
 use Rattle.nr_trace.proofs.LawsOfLists.{In, take-next}
-use Rattle.nr_core.specs.State.{State, Thread, Replica, with_replica}
+use Rattle.nr_core.specs.State.{State, Replica, with_replica}
 use Rattle.nr_core.specs.Steps.{apply, when, note, with_entry}
 use Rattle.nr_core.specs.declared.stage.Answered.{Answered}
 use Rattle.nr_core.specs.declared.stage.Collected.{Collected}
-use Rattle.nr_core.specs.inside.Faultless.{At, call_at, made_of, reach, Behind, space_at, IsRight, IsCollected, IsReplicaOf, IsReached}
+use Rattle.nr_core.specs.inside.Faultless.{At, call_at, made_of, space_at, IsRight, IsCollected, IsReplicaOf, IsReached}
 use Rattle.nr_core.proofs.reached.Places.{at_set, in_map}
 use Rattle.nr_core.proofs.reached.Changes.{replica_changes, still_collected}
 use Rattle.nr_core.proofs.reached.Kept.{Keeps, keeps_by_holder, keeps_then, keeps_when}

@@ -1,5 +1,5 @@
 -- Call.
-use Rattle.std.proofs.Common.{◌≡◌, ℕ, ◌<◌, ◌≤◌, ◌⊎◌, inl, inr, List, [], ◌∷◌, ◌++◌, length, slice_get, Option, Some, None, refl, ap, sym, ◌∙◌, subst, arith}
+use Rattle.std.proofs.Common.{◌≡◌, ℕ, ◌<◌, ◌⊎◌, inl, inr, List, [], ◌∷◌, ◌++◌, length, slice_get, Some, refl, ap, sym, ◌∙◌, subst, arith}
 use Rattle.std.specs.Prelude.{slice_set}
 use Rattle.std.proofs.lemmas.Bool.{cases_eq}
 use Rattle.std.proofs.lemmas.Option.{same_Some, none-some}
@@ -12,8 +12,8 @@ use Rattle.nr_trace.proofs.LawsOfLists.{In}
 use Rattle.nr_core.specs.State.{State, Thread, home, with_thread}
 use Rattle.nr_core.specs.Steps.{call, with_call}
 use Rattle.nr_core.specs.declared.stage.Stage.{Stage}
-use Rattle.nr_core.specs.declared.stage.Stage.TheVariants.{Idle, Called, Taken}
-use Rattle.nr_core.specs.inside.Faultless.{At, call_at, reply_at, RepliesTo, made_of, open_in, waiting_in, IsOpen, HasOpen, IsFresh, AreCalls, IsReached}
+use Rattle.nr_core.specs.declared.stage.Stage.TheVariants.{Idle, Called}
+use Rattle.nr_core.specs.inside.Faultless.{At, call_at, RepliesTo, made_of, open_in, IsOpen, HasOpen, IsFresh, AreCalls, IsReached}
 use Rattle.nr_core.proofs.reached.Places.{each_set, at_set, at_other, at_in, in_map}
 use Rattle.nr_core.proofs.reached.Growth.{Longer, call_within, reply_within, call_stays, call_stood, answer_stays}
 use Rattle.nr_core.proofs.reached.Events.{one_longer, call_last, answer_last, last_call, event_recorded}

@@ -1,24 +1,22 @@
 -- A reached state where one thread, one replica, the completed tail or the log changes.
 use Rattle.std.proofs.Common.{◌≡◌, ℕ, zero, suc, ◌+◌, ◌<◌, ◌≤◌, ◌⊎◌, inl, inr, Bool, true, false, nat_eq, List, [], ◌∷◌, ◌++◌, length, take, map, slice_get, Option, Some, None, refl, ap, sym, ◌∙◌, subst, arith}
-use Rattle.std.specs.Prelude.{slice_set, ◌%◌}
+use Rattle.std.specs.Prelude.{slice_set}
 use Rattle.std.specs.List.{IsDistinct}
 use Rattle.std.proofs.lemmas.Bool.{cases_eq}
 use Rattle.std.proofs.lemmas.List.{map-append}
-use Rattle.std.proofs.lemmas.Option.{same_Some, none-some, slice_get_within}
+use Rattle.std.proofs.lemmas.Option.{same_Some}
 use Rattle.vs_types.specs.Config.{Layout}
 use Rattle.vs_types.specs.declared.log_entry.LogEntry.{LogEntry}
-use Rattle.vs_types.specs.declared.request.Query.{Query}
 use Rattle.vs_types.specs.declared.request.Query.TheVariants.{Update}
-use Rattle.nr_trace.specs.Calls.{Invocation, operation_in, Response, reply_in}
+use Rattle.nr_trace.specs.Calls.{Invocation}
 use Rattle.nr_trace.specs.declared.event.Event.{Event}
 use Rattle.nr_trace.proofs.LawsOfLists.{In, in_either, distinct_append}
-use Rattle.nr_core.specs.State.{State, Thread, Replica, tail, with_thread, with_replica}
+use Rattle.nr_core.specs.State.{State, Thread, Replica, with_thread, with_replica}
 use Rattle.nr_core.specs.declared.stage.Collected.{Collected}
 use Rattle.nr_core.specs.declared.stage.Answered.{Answered}
-use Rattle.nr_core.specs.declared.stage.Stage.{Stage}
-use Rattle.nr_core.specs.declared.stage.Stage.TheVariants.{Idle, Called, Posted, Taken, Ready, Looked, HasRead}
-use Rattle.nr_core.specs.inside.Faultless.{At, call_at, reply_at, RepliesTo, made_of, reach, Behind, calls_of, space_at, IsRight, FitsStage, open_in, waiting_in}
-use Rattle.nr_core.specs.inside.Faultless.{IsOpen, HasOpen, IsTaken, IsFresh, IsCollected, IsReplicaOf, AreCalls, AreReplies, AreEntries, AreCollected, IsReached}
+use Rattle.nr_core.specs.declared.stage.Stage.TheVariants.{Taken}
+use Rattle.nr_core.specs.inside.Faultless.{At, call_at, RepliesTo, made_of, Behind, calls_of, IsRight, FitsStage, open_in, waiting_in}
+use Rattle.nr_core.specs.inside.Faultless.{IsOpen, HasOpen, IsTaken, IsFresh, IsCollected, IsReplicaOf, AreCalls, AreCollected, IsReached}
 use Rattle.nr_core.proofs.reached.Places.{each_set, at_set, at_other, at_front, at_either}
 use Rattle.nr_core.proofs.reached.Growth.{Longer, Grows, HaveCalls, call_within, replies_have_calls, behind_completed, behind_more, space_stays, right_stays}
 use Rattle.nr_core.proofs.reached.Growth.{stage_fits, replies_stay}

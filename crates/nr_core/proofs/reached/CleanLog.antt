@@ -1,18 +1,18 @@
 -- No fault of the events by themselves, of the log or of a reply's place.
-use Rattle.std.proofs.Common.{◌≡◌, ℕ, ◌+◌, ◌<◌, ◌≤◌, List, length, map, slice_get, Option, Some, None, IsSome, option_and_then, refl, ap, sym, ◌∙◌, subst, arith}
+use Rattle.std.proofs.Common.{◌≡◌, ℕ, ◌<◌, ◌≤◌, List, length, Some, refl, ap, sym, ◌∙◌, arith}
 use Rattle.std.proofs.lemmas.List.{length-map}
 use Rattle.std.proofs.lemmas.Option.{same_Some}
 use Rattle.vs_types.specs.declared.log_entry.LogEntry.{LogEntry}
 use Rattle.vs_types.specs.declared.op.Action.{Action}
 use Rattle.vs_walk.specs.Dump.{Image}
-use Rattle.nr_trace.specs.Calls.{Invocation, operation_in, operation_of, Response, IsUpdate}
-use Rattle.nr_trace.specs.Faults.{Holds, OpensTwice}
+use Rattle.nr_trace.specs.Calls.{Invocation, operation_in, operation_of, IsUpdate}
+use Rattle.nr_trace.specs.Faults.{Holds}
 use Rattle.nr_trace.specs.Laws.{HasCleanLog}
 use Rattle.nr_trace.specs.declared.version.Version.{Version}
-use Rattle.nr_trace.specs.declared.fault.Fault.TheVariants.{ThreadOpen, NoSuchCall, AnsweredTwice, NotAnUpdate, PlacedTwice, NotPlaced, PastLog}
+use Rattle.nr_trace.specs.declared.fault.Fault.TheVariants.{ThreadOpen, NotPlaced, PastLog}
 use Rattle.nr_trace.proofs.LawsOfCalls.{is_some_from, the_some}
 use Rattle.nr_core.specs.State.{State}
-use Rattle.nr_core.specs.inside.Faultless.{At, call_at, calls_of, reach, IsReached}
+use Rattle.nr_core.specs.inside.Faultless.{At, call_at, calls_of, IsReached}
 use Rattle.nr_core.proofs.reached.Growth.{then_parts, then_from, at_within_reach}
 use Rattle.nr_core.proofs.reached.Recorded.{recording, answered_to, answers_to, at_map, at_mapped, distinct_apart}
 

@@ -1,5 +1,5 @@
 -- No fault of a dump.
-use Rattle.std.proofs.Common.{◌≡◌, ◌≢◌, ℕ, ◌<◌, ◌≤◌, List, length, take, map, slice_get, Option, Some, None, refl, ap, sym, ◌∙◌, subst, arith}
+use Rattle.std.proofs.Common.{◌≡◌, ℕ, ◌<◌, ◌≤◌, List, length, take, slice_get, Option, Some, None, refl, ap, sym, ◌∙◌, subst, arith}
 use Rattle.std.proofs.lemmas.List.{length-map}
 use Rattle.std.specs.Prelude.{MatchOption, IsSomeAnd}
 use Rattle.std.specs.List.{AllZip}
@@ -9,7 +9,7 @@ use Rattle.vs_types.specs.Space.{Space}
 use Rattle.vs_types.specs.Step.{look}
 use Rattle.vs_types.specs.declared.log_entry.LogEntry.{LogEntry}
 use Rattle.vs_walk.specs.Dump.{Image}
-use Rattle.vs_walk.specs.Walk.{walk, as_walk}
+use Rattle.vs_walk.specs.Walk.{as_walk}
 use Rattle.vs_walk.specs.Traversal.{walk_fault}
 use Rattle.vs_walk.specs.declared.walk.WalkFault.{WalkFault}
 use Rattle.nr_trace.specs.Calls.{Invocation}
@@ -19,7 +19,7 @@ use Rattle.nr_trace.specs.declared.version.Version.{Version}
 use Rattle.nr_trace.specs.declared.fault.Fault.TheVariants.{PrefixPastLog, PrefixShort, MissingFrame, SharedFrame, ReservedBit, StrayFrame, Differs}
 use Rattle.nr_core.specs.State.{State, Replica}
 use Rattle.nr_core.specs.Run.{IsDumpOf}
-use Rattle.nr_core.specs.inside.Faultless.{At, call_at, calls_of, space_at, IsReached}
+use Rattle.nr_core.specs.inside.Faultless.{At, calls_of, IsReached}
 use Rattle.nr_core.proofs.reached.Recorded.{recording, known_is_reach}
 use Rattle.nr_core.proofs.reached.RightAnswers.{space_of_log}
 

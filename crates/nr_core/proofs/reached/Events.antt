@@ -1,14 +1,13 @@
 -- One event more.
-use Rattle.std.proofs.Common.{◌≡◌, ℕ, ◌+◌, ◌<◌, ◌≤◌, ◌⊎◌, inl, inr, List, [], ◌∷◌, ◌++◌, length, slice_get, Option, Some, None, refl, ap, sym, ◌∙◌, subst, arith}
+use Rattle.std.proofs.Common.{◌≡◌, ℕ, ◌<◌, ◌≤◌, ◌⊎◌, inl, inr, List, [], ◌∷◌, ◌++◌, length, slice_get, Some, ap, sym, ◌∙◌, subst, arith}
 use Rattle.std.specs.Prelude.{slice_set}
-use Rattle.std.proofs.lemmas.Option.{same_Some, none-some, slice_get_within}
 use Rattle.vs_types.specs.declared.log_entry.LogEntry.{LogEntry}
 use Rattle.vs_types.specs.declared.request.Query.TheVariants.{Update}
 use Rattle.nr_trace.specs.Calls.{Invocation, made_by, Response, reply_in}
 use Rattle.nr_trace.specs.declared.event.Event.{Event}
-use Rattle.nr_core.specs.State.{State, Thread, Replica, with_thread}
+use Rattle.nr_core.specs.State.{State, Thread, with_thread}
 use Rattle.nr_core.specs.declared.stage.Stage.TheVariants.{Taken}
-use Rattle.nr_core.specs.inside.Faultless.{At, call_at, reply_at, RepliesTo, Behind, FitsStage, IsRight, IsFresh, waiting_in, AreCalls, AreReplies, IsReached}
+use Rattle.nr_core.specs.inside.Faultless.{At, call_at, reply_at, RepliesTo, Behind, FitsStage, IsRight, IsFresh, waiting_in, AreCalls, IsReached}
 use Rattle.nr_core.proofs.reached.Places.{each_set, at_front, at_last, at_end}
 use Rattle.nr_core.proofs.reached.Growth.{Longer, Grows, HaveCalls, then_parts, then_from, call_within, call_stays, replies_have_calls, behind_stays, right_stays}
 use Rattle.nr_core.proofs.reached.Growth.{stage_fits}

@@ -1,10 +1,10 @@
 -- No call stands too early.
-use Rattle.std.proofs.Common.{◌≡◌, ℕ, zero, suc, ◌+◌, ◌<◌, ◌≤◌, ◌⊎◌, inl, inr, max, List, map, Option, Some, None, refl, ap, sym, ◌∙◌, subst, arith, add-one}
+use Rattle.std.proofs.Common.{◌≡◌, ℕ, zero, suc, ◌≤◌, inl, inr, List, Option, Some, None, refl, ap, sym, ◌∙◌, subst, arith, add-one}
 use Rattle.vs_types.specs.declared.log_entry.LogEntry.{LogEntry}
 use Rattle.vs_walk.specs.Dump.{Image}
 use Rattle.nr_trace.specs.Recording.{Recording}
-use Rattle.nr_trace.specs.Calls.{Invocation, Response, reply_of, reply_to}
-use Rattle.nr_trace.specs.Orders.{floor, known_by}
+use Rattle.nr_trace.specs.Calls.{Response, reply_of}
+use Rattle.nr_trace.specs.Orders.{floor}
 use Rattle.nr_trace.specs.Faults.{Holds, StandsAfter}
 use Rattle.nr_trace.specs.declared.version.Version.{Version}
 use Rattle.nr_trace.specs.declared.fault.Fault.TheVariants.{Early}

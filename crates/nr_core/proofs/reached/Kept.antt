@@ -1,7 +1,6 @@
 -- A step keeps what holds of each reached state, where it is enabled.
-use Rattle.std.proofs.Common.{◌≡◌, ℕ, ◌<◌, ◌≤◌, ◌⊎◌, inl, inr, Bool, true, false, List, length, slice_get, Option, Some, None, option_and_then, refl, ap, sym, ◌∙◌, subst, arith}
+use Rattle.std.proofs.Common.{◌≡◌, ℕ, Bool, true, false, slice_get, Option, Some, None, option_and_then, refl, ap, sym, ◌∙◌}
 use Rattle.std.specs.Prelude.{⊤, if◌then◌else◌}
-use Rattle.std.proofs.lemmas.Bool.{false≢true}
 use Rattle.std.proofs.lemmas.Option.{same_Some, none-some}
 use Rattle.vs_types.specs.declared.request.Query.TheVariants.{Update}
 use Rattle.nr_trace.specs.Calls.{Invocation}
@@ -11,7 +10,7 @@ use Rattle.nr_core.specs.Steps.{by_holder}
 use Rattle.nr_core.specs.declared.stage.Collected.{Collected}
 use Rattle.nr_core.specs.declared.stage.Stage.{Stage}
 use Rattle.nr_core.specs.declared.stage.Stage.TheVariants.{Idle, Called, Posted, Taken, Ready, Looked, HasRead}
-use Rattle.nr_core.specs.inside.Faultless.{At, call_at, made_of, open_in, waiting_in, IsOpen, IsTaken, IsCollected, IsReached}
+use Rattle.nr_core.specs.inside.Faultless.{At, call_at, made_of, open_in, waiting_in, IsReached}
 
 abbrev pub Keeps : Option State → Type 0
 Keeps None = ⊤

@@ -1,18 +1,14 @@
 -- No list of steps makes a fault.
-use Rattle.std.proofs.Common.{◌≡◌, ℕ, List}
-use Rattle.vs_types.specs.Config.{Layout}
-use Rattle.vs_types.specs.declared.request.Query.{Query}
+use Rattle.std.proofs.Common.{ℕ}
 use Rattle.nr_trace.specs.Recording.{Recording}
 use Rattle.nr_trace.specs.Faults.{Holds}
 use Rattle.nr_trace.specs.Laws.{HasCleanLog, IsFaultless}
-use Rattle.nr_trace.specs.declared.fault.Fault.{Fault}
 use Rattle.nr_trace.specs.declared.fault.Fault.TheVariants.{Format, ThreadOpen, NoSuchCall, AnsweredTwice, NotAnUpdate, PlacedTwice, NotPlaced, PastLog, Early}
 use Rattle.nr_trace.specs.declared.fault.Fault.TheVariants.{WrongAnswer, PrefixPastLog, PrefixShort, MissingFrame, SharedFrame, ReservedBit, StrayFrame}
 use Rattle.nr_trace.specs.declared.fault.Fault.TheVariants.{Differs}
 use Rattle.nr_core.specs.State.{State, start}
 use Rattle.nr_core.specs.Run.{after_steps, IsRecordingOf}
 use Rattle.nr_core.specs.Faultless.{IsRecordingOfSteps}
-use Rattle.nr_core.specs.declared.step.Step.{Step}
 use Rattle.nr_core.specs.inside.Faultless.{IsReached}
 use Rattle.nr_core.proofs.reached.CleanLog.{clean_log}
 use Rattle.nr_core.proofs.reached.Dumps.{none_past_log, none_short, none_missing, none_shared, none_reserved, none_stray, none_differs}

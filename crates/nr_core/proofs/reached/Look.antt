@@ -1,5 +1,5 @@
 -- Look.
-use Rattle.std.proofs.Common.{◌≡◌, ℕ, slice_get, Option, Some, None, refl, ap, sym, ◌∙◌, subst}
+use Rattle.std.proofs.Common.{◌≡◌, ℕ, slice_get, None, refl, ap, sym, subst}
 use Rattle.std.proofs.lemmas.Option.{none-some}
 use Rattle.vs_types.specs.declared.request.Query.{Query}
 use Rattle.vs_types.specs.declared.request.Query.TheVariants.{Resolve, Access}
@@ -7,8 +7,8 @@ use Rattle.nr_trace.specs.Calls.{operation_in}
 use Rattle.nr_core.specs.State.{State, Thread, with_thread}
 use Rattle.nr_core.specs.Steps.{look, with_look}
 use Rattle.nr_core.specs.declared.stage.Stage.{Stage}
-use Rattle.nr_core.specs.declared.stage.Stage.TheVariants.{Called, Looked, Taken}
-use Rattle.nr_core.specs.inside.Faultless.{At, FitsStage, open_in, waiting_in, IsReached}
+use Rattle.nr_core.specs.declared.stage.Stage.TheVariants.{Called, Looked}
+use Rattle.nr_core.specs.inside.Faultless.{At, FitsStage, open_in, IsReached}
 use Rattle.nr_core.proofs.reached.Changes.{thread_changes, collected_keep}
 use Rattle.nr_core.proofs.reached.Growth.{behind_completed}
 use Rattle.nr_core.proofs.reached.Kept.{Keeps, keeps_then}

@@ -1,7 +1,6 @@
 -- Read.
-use Rattle.std.proofs.Common.{◌≡◌, ℕ, ◌+◌, ◌<◌, ◌≤◌, slice_get, Bool, true, ◌&&◌, nat_le, Option, Some, None, is_none, option_and_then, refl, ap, sym, ◌∙◌, subst, arith}
+use Rattle.std.proofs.Common.{◌≡◌, ℕ, ◌+◌, ◌≤◌, slice_get, ◌&&◌, nat_le, Option, None, is_none, option_and_then, refl, ap, sym, ◌∙◌, subst, arith}
 use Rattle.std.specs.Option.{option_map_or}
-use Rattle.std.specs.Prelude.{◌%◌}
 use Rattle.std.proofs.lemmas.Bool.{and_parts, leb-true}
 use Rattle.std.proofs.lemmas.Option.{same_Some, none-some}
 use Rattle.vs_types.specs.declared.op.Action.{Action}
@@ -12,8 +11,8 @@ use Rattle.nr_core.specs.State.{State, Thread, Replica, home, with_thread}
 use Rattle.nr_core.specs.Steps.{read, with_read}
 use Rattle.nr_core.specs.declared.stage.Answered.{Answered}
 use Rattle.nr_core.specs.declared.stage.Stage.{Stage}
-use Rattle.nr_core.specs.declared.stage.Stage.TheVariants.{Looked, HasRead, Taken}
-use Rattle.nr_core.specs.inside.Faultless.{At, call_at, made_of, reach, Behind, FitsStage, IsRight, IsReplicaOf, open_in, waiting_in, IsReached}
+use Rattle.nr_core.specs.declared.stage.Stage.TheVariants.{Looked, HasRead}
+use Rattle.nr_core.specs.inside.Faultless.{At, made_of, reach, Behind, FitsStage, IsRight, IsReplicaOf, open_in, IsReached}
 use Rattle.nr_core.proofs.reached.Changes.{thread_changes, collected_keep}
 use Rattle.nr_core.proofs.reached.Growth.{behind_more}
 use Rattle.nr_core.proofs.reached.Kept.{Keeps, keeps_then, keeps_when}

@@ -3,13 +3,10 @@ use Rattle.std.proofs.Common.{◌≡◌, ℕ, zero, suc, ◌<◌, ◌≤◌, Lis
 use Rattle.std.specs.List.{IsDistinct, AllZip}
 use Rattle.std.specs.Option.{option_map_or}
 use Rattle.std.proofs.lemmas.Option.{same_Some, none-some}
-use Rattle.vs_types.specs.Config.{Layout}
 use Rattle.vs_types.specs.declared.op.Action.{Action}
-use Rattle.vs_types.specs.declared.request.Query.{Query}
-use Rattle.vs_types.specs.declared.request.Query.TheVariants.{Update}
 use Rattle.vs_walk.specs.Dump.{Image}
 use Rattle.nr_trace.specs.Recording.{Recording}
-use Rattle.nr_trace.specs.Calls.{Invocation, operation_in, operation_of, Response, Answers}
+use Rattle.nr_trace.specs.Calls.{Invocation, operation_in, Response, Answers}
 use Rattle.nr_trace.specs.Orders.{known_by}
 use Rattle.nr_trace.specs.declared.version.Version.{Version}
 use Rattle.nr_trace.proofs.LawsOfCalls.{reply_that_answers, answers_from}

@@ -1,5 +1,5 @@
 -- Reply.
-use Rattle.std.proofs.Common.{◌≡◌, ℕ, ◌<◌, ◌≤◌, ◌⊎◌, inl, inr, List, [], ◌∷◌, ◌++◌, length, slice_get, Option, Some, None, refl, ap, sym, ◌∙◌, subst, arith}
+use Rattle.std.proofs.Common.{◌≡◌, ℕ, ◌<◌, ◌⊎◌, inl, inr, List, [], ◌∷◌, ◌++◌, length, slice_get, Some, refl, ap, sym, ◌∙◌, subst, arith}
 use Rattle.std.specs.Prelude.{slice_set}
 use Rattle.std.proofs.lemmas.Bool.{cases_eq}
 use Rattle.std.proofs.lemmas.Option.{same_Some, none-some}
@@ -8,11 +8,11 @@ use Rattle.nr_trace.specs.Calls.{Invocation, made_by, Response, reply_in}
 use Rattle.nr_trace.specs.declared.event.Event.{Event}
 use Rattle.nr_trace.specs.declared.event.Event.TheVariants as events
 use Rattle.nr_core.specs.State.{State, Thread, with_thread}
-use Rattle.nr_core.specs.Steps.{reply, with_reply, reply_at as replied_at}
+use Rattle.nr_core.specs.Steps.{reply, reply_at as replied_at}
 use Rattle.nr_core.specs.declared.stage.Answered.{Answered}
 use Rattle.nr_core.specs.declared.stage.Stage.{Stage}
 use Rattle.nr_core.specs.declared.stage.Stage.TheVariants.{Idle, Ready, HasRead, Taken}
-use Rattle.nr_core.specs.inside.Faultless.{At, call_at, reply_at, RepliesTo, made_of, FitsStage, IsRight, open_in, IsOpen, HasOpen, AreCalls, IsReached}
+use Rattle.nr_core.specs.inside.Faultless.{At, call_at, RepliesTo, made_of, FitsStage, IsRight, open_in, IsOpen, HasOpen, AreCalls, IsReached}
 use Rattle.nr_core.proofs.reached.Places.{each_set, at_other}
 use Rattle.nr_core.proofs.reached.Growth.{Longer, call_within, reply_within, call_stays, call_stood, answer_stays, answer_stood}
 use Rattle.nr_core.proofs.reached.Events.{one_longer, call_last, answer_last, last_reply, event_recorded}

@@ -1,13 +1,12 @@
 -- No answer is wrong.
-use Rattle.std.proofs.Common.{◌≡◌, ℕ, zero, suc, ◌≤◌, ◌⊎◌, inl, inr, List, [], ◌∷◌, length, take, map, Option, Some, None, refl, ap, sym, ◌∙◌, subst, arith}
-use Rattle.std.specs.Prelude.{filter_map}
+use Rattle.std.proofs.Common.{◌≡◌, ℕ, zero, suc, inl, inr, List, [], ◌∷◌, take, map, Some, refl, ap, sym, ◌∙◌}
 use Rattle.std.proofs.lemmas.List.{take-map}
 use Rattle.std.proofs.lemmas.Option.{same_Some}
 use Rattle.vs_types.specs.Space.{no_pages}
 use Rattle.vs_types.specs.Step.{after_all}
 use Rattle.vs_types.specs.declared.log_entry.LogEntry.{LogEntry}
 use Rattle.vs_walk.specs.Dump.{Image}
-use Rattle.nr_trace.specs.Calls.{Invocation, operation_in, operation_of, Response, reply_of, reply_to}
+use Rattle.nr_trace.specs.Calls.{Invocation, operation_in, operation_of, reply_of}
 use Rattle.nr_trace.specs.Orders.{before, space_after, operations, answer_in, recorded_order}
 use Rattle.nr_trace.specs.Faults.{Holds}
 use Rattle.nr_trace.specs.declared.version.Version.{Version}

@@ -1,12 +1,11 @@
 -- The start.
-use Rattle.std.proofs.Common.{◌≡◌, ℕ, zero, suc, ◌≤◌, slice_get, List, [], ◌∷◌, map, replicate, nat_eq, Option, Some, None, refl, ap, sym, ◌∙◌, subst, arith}
+use Rattle.std.proofs.Common.{◌≡◌, ℕ, zero, suc, List, [], ◌∷◌, map, replicate, nat_eq, None, refl, ap, sym, ◌∙◌, subst, arith}
 use Rattle.std.specs.List.{IsDistinct}
 use Rattle.std.proofs.lemmas.Option.{same_Some, none-some}
 use Rattle.vs_types.specs.Config.{Layout}
 use Rattle.vs_types.specs.declared.request.Query.{Query}
 use Rattle.nr_trace.proofs.LawsOfLists.{option_distinct}
 use Rattle.nr_core.specs.State.{Thread, Replica, new_thread, new_replica, start}
-use Rattle.nr_core.specs.declared.stage.Stage.{Stage}
 use Rattle.nr_core.specs.declared.stage.Stage.TheVariants.{Idle}
 use Rattle.nr_core.specs.inside.Faultless.{At, FitsStage, open_in, waiting_in, IsReplicaOf, IsReached}
 

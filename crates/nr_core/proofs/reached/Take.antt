@@ -1,5 +1,5 @@
 -- Take.
-use Rattle.std.proofs.Common.{◌≡◌, ℕ, ◌≤◌, slice_get, Bool, ◌&&◌, Option, Some, None, is_none, option_and_then, refl, arith}
+use Rattle.std.proofs.Common.{ℕ, slice_get, ◌&&◌, Option, Some, is_none, option_and_then, refl, arith}
 use Rattle.nr_core.specs.State.{State, Thread, Replica, with_thread, with_replica}
 use Rattle.nr_core.specs.Steps.{take_lock, when}
 use Rattle.nr_core.specs.inside.Faultless.{At, IsReached}

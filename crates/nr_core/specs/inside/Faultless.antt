@@ -1,5 +1,5 @@
 -- What holds of each state that steps can reach: why its recording has no fault.
-use Rattle.std.specs.Prelude.{◌≡◌, ℕ, ◌+◌, ◌%◌, ◌<◌, ◌≤◌, ◌⊎◌, List, [], ◌++◌, length, map, take, slice_get, Bool, false, Option, Some, None, option_and_then, nat_eq, ⊤}
+use Rattle.std.specs.Prelude.{◌≡◌, ℕ, ◌+◌, ◌%◌, ◌<◌, ◌≤◌, ◌⊎◌, List, length, map, take, slice_get, Bool, false, Option, Some, None, option_and_then, nat_eq, ⊤}
 use Rattle.std.specs.Option.{option_map_or}
 use Rattle.std.specs.List.{IsDistinct}
 use Rattle.vs_types.specs.Config.{Layout}
