@@ -4,12 +4,8 @@
 //! A place is an index of the log; a call's number is the index of its event. No call waits.
 #![tactic(auto)]
 
-mod faultless;
+pub mod faultless;
 mod stage;
 mod step;
 
-pub use faultless::{
-    answers_are_of_the_log, dumps_are_of_the_log, no_call_is_early, no_list_of_steps_makes_a_fault,
-    recorded_calls_are_well_formed,
-};
 pub use step::{Act, Step};
