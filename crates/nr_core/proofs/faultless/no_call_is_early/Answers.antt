@@ -1,0 +1,6 @@
+use Rattle.nr_trace.specs.declared.fault.Fault.TheVariants.{Early}
+use Rattle.nr_core.proofs.reached.Laws.{none_of_steps}
+use Rattle.nr_core.proofs.faultless.no_call_is_early.Goals as goal
+
+pub returns : goal.returns
+returns c = λ trace call is. none_of_steps trace is (Early call)

@@ -1,0 +1,26 @@
+-- What holds of each state that steps can reach, and that its recording has no fault.
+pub mod Places
+pub mod Growth
+pub mod Changes
+pub mod Kept
+pub mod Post
+pub mod Look
+pub mod Read
+pub mod Take
+pub mod Release
+pub mod Collect
+pub mod Append
+pub mod Advance
+pub mod Apply
+pub mod Answer
+pub mod Events
+pub mod Call
+pub mod Reply
+pub mod Start
+pub mod Runs
+pub mod Recorded
+pub mod CleanLog
+pub mod RightAnswers
+pub mod InTime
+pub mod Dumps
+pub mod Laws

@@ -1,0 +1,308 @@
+-- A reached state where one thread, one replica, the completed tail or the log changes.
+use Rattle.std.proofs.Common.{◌≡◌, ℕ, zero, suc, ◌+◌, ◌<◌, ◌≤◌, ◌⊎◌, inl, inr, Bool, true, false, nat_eq, List, [], ◌∷◌, ◌++◌, length, take, map, slice_get, Option, Some, None, refl, ap, sym, ◌∙◌, subst, arith}
+use Rattle.std.specs.Prelude.{slice_set}
+use Rattle.std.specs.List.{IsDistinct}
+use Rattle.std.proofs.lemmas.Bool.{cases_eq}
+use Rattle.std.proofs.lemmas.List.{map-append}
+use Rattle.std.proofs.lemmas.Option.{same_Some}
+use Rattle.vs_types.specs.Config.{Layout}
+use Rattle.vs_types.specs.declared.log_entry.LogEntry.{LogEntry}
+use Rattle.vs_types.specs.declared.request.Query.TheVariants.{Update}
+use Rattle.nr_trace.specs.Calls.{Invocation}
+use Rattle.nr_trace.specs.declared.event.Event.{Event}
+use Rattle.nr_trace.proofs.LawsOfLists.{In, in_either, distinct_append}
+use Rattle.nr_core.specs.State.{State, Thread, Replica, with_thread, with_replica}
+use Rattle.nr_core.specs.declared.stage.Collected.{Collected}
+use Rattle.nr_core.specs.declared.stage.Answered.{Answered}
+use Rattle.nr_core.specs.declared.stage.Stage.TheVariants.{Taken}
+use Rattle.nr_core.specs.inside.Faultless.{At, call_at, RepliesTo, made_of, Behind, calls_of, IsRight, FitsStage, open_in, waiting_in}
+use Rattle.nr_core.specs.inside.Faultless.{IsOpen, HasOpen, IsTaken, IsFresh, IsCollected, IsReplicaOf, AreCalls, AreCollected, IsReached}
+use Rattle.nr_core.proofs.reached.Places.{each_set, at_set, at_other, at_front, at_either}
+use Rattle.nr_core.proofs.reached.Growth.{Longer, Grows, HaveCalls, call_within, replies_have_calls, behind_completed, behind_more, space_stays, right_stays}
+use Rattle.nr_core.proofs.reached.Growth.{stage_fits, replies_stay}
+
+pub same_events : (events : List Event) → Longer events events
+same_events events = record { stays = λ i event e. e; stood = λ i event l e. e }
+
+-- ---- one thread
+
+open_keeps : (threads : List Thread) (t u call : ℕ) (thread next : Thread) → At threads t thread → open_in next.stage ≡ open_in thread.stage
+    → HasOpen threads u call → HasOpen (slice_set threads t next) u call
+open_keeps threads t u call thread next at same (other, there, is) = by_case (cases_eq u t) where
+  by_case : (u ≡ t) ⊎ (u ≡ t → ⊥) → HasOpen (slice_set threads t next) u call
+  by_case (inl e) =
+      let one : thread ≡ other = same_Some thread other (sym at ∙ ap (slice_get threads) (sym e) ∙ there) in (
+        next,
+        subst (λ (v : ℕ). At (slice_set threads t next) v next) (sym e) (at_set threads t thread next at),
+        same ∙ ap (λ (x : Thread). open_in x.stage) one ∙ is,
+      )
+  by_case (inr out) = (other, at_other threads t u other next out there, is)
+
+pub calls_keep : (events : List Event) (threads : List Thread) (t : ℕ) (thread next : Thread) → At threads t thread
+    → open_in next.stage ≡ open_in thread.stage
+    → AreCalls events threads → AreCalls events (slice_set threads t next)
+calls_keep events threads t thread next at same calls = record {
+  opened = λ u other call there is. each_set (λ v (x : Thread). open_in x.stage ≡ Some call → IsOpen events v call) threads t next
+      (λ e. calls.opened t thread call at (sym same ∙ e)) (λ v x out e is. calls.opened v x call e is) u other there is;
+  ended = λ call made e. still call made (calls.ended call made e);
+  once = calls.once;
+  in_turn = calls.in_turn;
+} where
+  still : (call : ℕ) (made : Invocation) → HasOpen threads made.thread call ⊎ ((index : ℕ) × RepliesTo events index call)
+      → HasOpen (slice_set threads t next) made.thread call ⊎ ((index : ℕ) × RepliesTo events index call)
+  still call made (inl h) = inl (open_keeps threads t made.thread call thread next at same h)
+  still call made (inr h) = inr h
+
+pub taken_keeps : (threads : List Thread) (t u call : ℕ) (thread next : Thread) → At threads t thread
+    → (u ≡ t → thread.stage ≡ Taken call → next.stage ≡ Taken call)
+    → IsTaken threads u call → IsTaken (slice_set threads t next) u call
+taken_keeps threads t u call thread next at same (other, there, is) = by_case (cases_eq u t) where
+  by_case : (u ≡ t) ⊎ (u ≡ t → ⊥) → IsTaken (slice_set threads t next) u call
+  by_case (inl e) =
+      let one : thread ≡ other = same_Some thread other (sym at ∙ ap (slice_get threads) (sym e) ∙ there) in (
+        next,
+        subst (λ (v : ℕ). At (slice_set threads t next) v next) (sym e) (at_set threads t thread next at),
+        same e (ap (λ (x : Thread). x.stage) one ∙ is),
+      )
+  by_case (inr out) = (other, at_other threads t u other next out there, is)
+
+pub collected_stays : (layout : Layout) (events events' : List Event) (log log' : List LogEntry) (completed completed' : ℕ) (replicas replicas' : List Replica)
+    (threads threads' : List Thread) (r : ℕ) (placed placed' : Bool) (update : Collected)
+    → Grows events events' log log' completed completed' replicas replicas' → HaveCalls events → completed ≤ length log
+    → (IsTaken threads update.thread update.entry.call → IsTaken threads' update.thread update.entry.call)
+    → ((placed ≡ false → IsFresh log update.entry.call) → placed' ≡ false → IsFresh log' update.entry.call)
+    → IsCollected layout events log completed replicas threads r placed update
+    → IsCollected layout events' log' completed' replicas' threads' r placed' update
+collected_stays layout events events' log log' completed completed' replicas replicas' threads threads' r placed placed' update grows have l taken fresh h =
+    record {
+      home = h.home;
+      taken = taken h.taken;
+      asks = longer_asks;
+      noted = λ a e. later a (h.noted a e);
+      fresh = fresh h.fresh;
+    } where
+      longer_asks : call_at events' update.entry.call ≡ Some (made_of layout update.thread (Update update.entry.op))
+      longer_asks = Rattle.nr_core.proofs.reached.Growth.call_stays events events' update.entry.call _ grows.longer h.asks
+
+      later : (a : Answered) → (a.call ≡ update.entry.call)
+          × IsRight layout events log completed replicas (made_of layout update.thread (Update update.entry.op)) a.call a.at a.answer
+          → (a.call ≡ update.entry.call)
+          × IsRight layout events' log' completed' replicas' (made_of layout update.thread (Update update.entry.op)) a.call a.at a.answer
+      later a (is, right) = (
+        is,
+        right_stays layout events events' log log' completed completed' replicas replicas' (made_of layout update.thread (Update update.entry.op)) a.call a.at
+            a.answer grows have l
+            (subst (λ (n : ℕ). n < length events) (sym is) (call_within events update.entry.call _ h.asks)) right,
+      )
+
+-- nothing goes on but one thread
+pub nothing_grows : (events : List Event) (log : List LogEntry) (completed : ℕ) (replicas : List Replica)
+    → Grows events events log log completed completed replicas replicas
+nothing_grows events log completed replicas = record {
+  longer = same_events events;
+  entry_stays = λ i entry e. e;
+  rises = omega arith;
+  goes_on = λ r later e. (later, e, omega arith);
+}
+
+-- items stay collected where a thread's call stays taken
+pub collected_keep : (state : State) (t : ℕ) (thread next : Thread) → IsReached state → At state.threads t thread
+    → ((call : ℕ) → thread.stage ≡ Taken call → next.stage ≡ Taken call)
+    → AreCollected state.layout state.events state.log state.completed state.replicas (slice_set state.threads t next)
+collected_keep state t thread next reached at same r replica update there i =
+    collected_stays state.layout state.events state.events state.log state.log state.completed state.completed state.replicas state.replicas
+    state.threads (slice_set state.threads t next) r replica.placed replica.placed update
+    (nothing_grows state.events state.log state.completed state.replicas)
+    (replies_have_calls state.layout state.events state.log state.completed state.replicas reached.replies) reached.completed
+    (taken_keeps state.threads t update.thread update.entry.call thread next at (λ _. same update.entry.call)) (λ h. h)
+    (reached.collected r replica update there i)
+
+pub thread_changes : (state : State) (t : ℕ) (thread next : Thread) → IsReached state → At state.threads t thread → open_in next.stage ≡ open_in thread.stage
+    → FitsStage state.layout state.events state.log state.completed state.replicas t next.stage
+    → ((call : ℕ) → waiting_in next.stage ≡ Some call → waiting_in thread.stage ≡ Some call)
+    → AreCollected state.layout state.events state.log state.completed state.replicas (slice_set state.threads t next)
+    → IsReached (with_thread state t next)
+thread_changes state t thread next reached at same fits waits collected = record {
+  calls = calls_keep state.events state.threads t thread next at same reached.calls;
+  replies = reached.replies;
+  threads = each_set (λ u (x : Thread). FitsStage state.layout state.events state.log state.completed state.replicas u x.stage) state.threads t next fits
+      (λ u x out e. reached.threads u x e);
+  waiting = λ u other call there is. each_set (λ v (x : Thread). waiting_in x.stage ≡ Some call → IsFresh state.log call) state.threads t next
+      (λ e. reached.waiting t thread call at (waits call e)) (λ v x out e is. reached.waiting v x call e is) u other there is;
+  entries = reached.entries;
+  distinct = reached.distinct;
+  completed = reached.completed;
+  replicas = reached.replicas;
+  collected = collected;
+  batches = reached.batches;
+}
+
+-- ---- one replica
+
+pub replica_grows : (state : State) (r : ℕ) (replica next : Replica) → At state.replicas r replica → replica.applied ≤ next.applied
+    → Grows state.events state.events state.log state.log state.completed state.completed state.replicas (slice_set state.replicas r next)
+replica_grows state r replica next at more = record {
+  longer = same_events state.events;
+  entry_stays = λ i entry e. e;
+  rises = omega arith;
+  goes_on = each_set (λ q (x : Replica). (first : Replica) × At state.replicas q first × (first.applied ≤ x.applied)) state.replicas r next
+      (replica, at, more) (λ q x out e. (x, e, omega arith));
+}
+
+-- an item of this replica's batch that is in its batch after the change too
+pub still_collected : (state : State) (r : ℕ) (replica next : Replica) (update : Collected) → IsReached state → At state.replicas r replica
+    → replica.applied ≤ next.applied
+    → ((replica.placed ≡ false → IsFresh state.log update.entry.call) → next.placed ≡ false → IsFresh state.log update.entry.call)
+    → In update replica.batch
+    → IsCollected state.layout state.events state.log state.completed (slice_set state.replicas r next) state.threads r next.placed update
+still_collected state r replica next update reached at more fresh i =
+    collected_stays state.layout state.events state.events state.log state.log state.completed state.completed state.replicas
+    (slice_set state.replicas r next) state.threads state.threads r replica.placed next.placed update (replica_grows state r replica next at more)
+    (replies_have_calls state.layout state.events state.log state.completed state.replicas reached.replies) reached.completed (λ h. h) fresh
+    (reached.collected r replica update at i)
+
+pub replica_changes : (state : State) (r : ℕ) (replica next : Replica) → IsReached state → At state.replicas r replica → replica.applied ≤ next.applied
+    → IsReplicaOf state.layout state.log state.completed next
+    → ((update : Collected) → In update next.batch
+    → IsCollected state.layout state.events state.log state.completed (slice_set state.replicas r next) state.threads r next.placed update)
+    → IsDistinct nat_eq (map (λ update. update.entry.call) next.batch)
+    → IsReached (with_replica state r next)
+replica_changes state r replica next reached at more is collected distinct = record {
+  calls = reached.calls;
+  replies = replies_stay state.layout state.events state.log state.log state.completed state.completed state.replicas (slice_set state.replicas r next)
+      grows reached.completed reached.replies;
+  threads = λ t thread e. stage_fits state.layout state.events state.events state.log state.log state.completed state.completed state.replicas
+      (slice_set state.replicas r next) t thread.stage grows have reached.completed (reached.threads t thread e);
+  waiting = reached.waiting;
+  entries = reached.entries;
+  distinct = reached.distinct;
+  completed = reached.completed;
+  replicas = each_set (λ q (x : Replica). IsReplicaOf state.layout state.log state.completed x) state.replicas r next is (λ q x out e. reached.replicas q x e);
+  collected = λ q x update e i. each_set (λ v (y : Replica). In update y.batch
+      → IsCollected state.layout state.events state.log state.completed (slice_set state.replicas r next) state.threads v y.placed update)
+      state.replicas r next (collected update) (λ v y out f j. others v y update f j) q x e i;
+  batches = each_set (λ q (x : Replica). IsDistinct nat_eq (map (λ update. update.entry.call) x.batch)) state.replicas r next distinct
+      (λ q x out e. reached.batches q x e);
+} where
+  grows : Grows state.events state.events state.log state.log state.completed state.completed state.replicas (slice_set state.replicas r next)
+  grows = replica_grows state r replica next at more
+
+  have : HaveCalls state.events
+  have = replies_have_calls state.layout state.events state.log state.completed state.replicas reached.replies
+
+  others : (q : ℕ) (x : Replica) (update : Collected) → At state.replicas q x → In update x.batch
+      → IsCollected state.layout state.events state.log state.completed (slice_set state.replicas r next) state.threads q x.placed update
+  others q x update e i = collected_stays state.layout state.events state.events state.log state.log state.completed state.completed state.replicas
+      (slice_set state.replicas r next) state.threads state.threads q x.placed x.placed update grows have reached.completed (λ h. h) (λ h. h)
+      (reached.collected q x update e i)
+
+-- ---- the completed tail
+
+pub completed_rises : (state : State) (n : ℕ) → IsReached state → state.completed ≤ n → n ≤ length state.log → IsReached (record state { completed = n })
+completed_rises state n reached more l = record {
+  calls = reached.calls;
+  replies = replies_stay state.layout state.events state.log state.log state.completed n state.replicas state.replicas grows reached.completed reached.replies;
+  threads = λ t thread e. stage_fits state.layout state.events state.events state.log state.log state.completed n state.replicas
+      state.replicas t thread.stage grows have reached.completed (reached.threads t thread e);
+  waiting = reached.waiting;
+  entries = reached.entries;
+  distinct = reached.distinct;
+  completed = l;
+  replicas = λ r replica e. later replica (reached.replicas r replica e);
+  collected = λ r replica update e i. collected_stays state.layout state.events state.events state.log state.log state.completed n state.replicas
+      state.replicas state.threads state.threads r replica.placed replica.placed update grows have reached.completed (λ h. h) (λ h. h)
+      (reached.collected r replica update e i);
+  batches = reached.batches;
+} where
+  grows : Grows state.events state.events state.log state.log state.completed n state.replicas state.replicas
+  grows = record {
+    longer = same_events state.events;
+    entry_stays = λ i entry e. e;
+    rises = more;
+    goes_on = λ r replica e. (replica, e, omega arith);
+  }
+
+  have : HaveCalls state.events
+  have = replies_have_calls state.layout state.events state.log state.completed state.replicas reached.replies
+
+  later : (replica : Replica) → IsReplicaOf state.layout state.log state.completed replica → IsReplicaOf state.layout state.log n replica
+  later replica h = let k = h.known in record { fetched = h.fetched; known = omega arith; space = h.space }
+
+-- ---- the log
+
+pub record AreNew (state : State) (entries : List LogEntry) : Type 0 where
+  pub asked : (entry : LogEntry) → In entry entries → (made : Invocation) × (call_at state.events entry.call ≡ Some made) × (made.request ≡ Update entry.op)
+  pub once : IsDistinct nat_eq (calls_of entries)
+  pub fresh : (call : ℕ) → In call (calls_of entries) → IsFresh state.log call
+  pub not_waiting : (t : ℕ) (thread : Thread) (call : ℕ) → At state.threads t thread → waiting_in thread.stage ≡ Some call → In call (calls_of entries) → ⊥
+  pub in_no_other : (r : ℕ) (replica : Replica) (update : Collected) → At state.replicas r replica → In update replica.batch → replica.placed ≡ false
+      → In update.entry.call (calls_of entries) → ⊥
+
+calls_of_both : (log entries : List LogEntry) → calls_of (log ++ entries) ≡ calls_of log ++ calls_of entries
+calls_of_both log entries = map-append (λ (entry : LogEntry). entry.call) log entries
+
+fresh_in_both : (log entries : List LogEntry) (call : ℕ) → IsFresh log call → (In call (calls_of entries) → ⊥) → IsFresh (log ++ entries) call
+fresh_in_both log entries call h k i = nowhere (in_either call (calls_of log) (calls_of entries) (subst (In call) (calls_of_both log entries) i)) where
+  nowhere : In call (calls_of log) ⊎ In call (calls_of entries) → ⊥
+  nowhere (inl j) = h j
+  nowhere (inr j) = k j
+
+pub log_grows : (state : State) (entries : List LogEntry) → IsReached state → AreNew state entries
+    → IsReached (record state { log = state.log ++ entries })
+log_grows state entries reached new = record {
+  calls = reached.calls;
+  replies = replies_stay state.layout state.events state.log (state.log ++ entries) state.completed state.completed state.replicas state.replicas grows
+      reached.completed reached.replies;
+  threads = λ t thread e. stage_fits state.layout state.events state.events state.log (state.log ++ entries) state.completed state.completed state.replicas
+      state.replicas t thread.stage grows have reached.completed (reached.threads t thread e);
+  waiting = λ t thread call e is. fresh_in_both state.log entries call (reached.waiting t thread call e is) (new.not_waiting t thread call e is);
+  entries = λ place entry e. each place entry (at_either state.log entries place entry e);
+  distinct = subst (IsDistinct nat_eq) (sym (calls_of_both state.log entries))
+      (distinct_append (calls_of state.log) (calls_of entries) reached.distinct new.once (λ call i j. new.fresh call j i));
+  completed = longer reached.completed (Rattle.std.proofs.Common.length-append state.log entries);
+  replicas = λ r replica e. later replica (reached.replicas r replica e);
+  collected = λ r replica update e i. collected_stays state.layout state.events state.events state.log (state.log ++ entries) state.completed state.completed
+      state.replicas state.replicas state.threads state.threads r replica.placed replica.placed update grows have reached.completed (λ h. h)
+      (λ h f. fresh_in_both state.log entries update.entry.call (h f) (new.in_no_other r replica update e i f))
+      (reached.collected r replica update e i);
+  batches = reached.batches;
+} where
+  stays : (i : ℕ) (entry : LogEntry) → At state.log i entry → At (state.log ++ entries) i entry
+  stays i entry e = at_front state.log entries i entry e
+
+  grows : Grows state.events state.events state.log (state.log ++ entries) state.completed state.completed state.replicas state.replicas
+  grows = record {
+    longer = same_events state.events;
+    entry_stays = stays;
+    rises = omega arith;
+    goes_on = λ r replica e. (replica, e, omega arith);
+  }
+
+  have : HaveCalls state.events
+  have = replies_have_calls state.layout state.events state.log state.completed state.replicas reached.replies
+
+  longer : state.completed ≤ length state.log → length (state.log ++ entries) ≡ length state.log + length entries → state.completed ≤ length (state.log ++ entries)
+  longer h e = omega arith
+
+  later : (replica : Replica) → IsReplicaOf state.layout state.log state.completed replica → IsReplicaOf state.layout (state.log ++ entries) state.completed replica
+  later replica h = record {
+    fetched = h.fetched;
+    known = h.known;
+    space = h.space ∙ space_stays state.layout state.log (state.log ++ entries) replica.applied stays (within h.fetched h.known reached.completed);
+  } where
+    within : replica.applied ≤ replica.local → replica.local ≤ state.completed → state.completed ≤ length state.log → replica.applied ≤ length state.log
+    within a b c = omega arith
+
+  each : (place : ℕ) (entry : LogEntry) → At state.log place entry ⊎ ((length state.log ≤ place) × In entry entries)
+      → (made : Invocation) × (call_at state.events entry.call ≡ Some made) × (made.request ≡ Update entry.op) × Behind state.events entry.call place
+  each place entry (inl e) = reached.entries place entry e
+  each place entry (inr (l, i)) =
+      let (made, e, asks) = new.asked entry i in (
+        made,
+        e,
+        asks,
+        behind_more state.events entry.call state.completed place (more reached.completed l)
+            (behind_completed state.layout state.events state.log state.completed state.replicas entry.call reached.replies),
+      ) where
+        more : state.completed ≤ length state.log → length state.log ≤ place → state.completed ≤ place
+        more a b = omega arith

@@ -1,0 +1,64 @@
+-- No fault of the events by themselves, of the log or of a reply's place.
+use Rattle.std.proofs.Common.{◌≡◌, ℕ, ◌<◌, ◌≤◌, List, length, Some, refl, ap, sym, ◌∙◌, arith}
+use Rattle.std.proofs.lemmas.List.{length-map}
+use Rattle.std.proofs.lemmas.Option.{same_Some}
+use Rattle.vs_types.specs.declared.log_entry.LogEntry.{LogEntry}
+use Rattle.vs_types.specs.declared.op.Action.{Action}
+use Rattle.vs_walk.specs.Dump.{Image}
+use Rattle.nr_trace.specs.Calls.{Invocation, operation_in, operation_of, IsUpdate}
+use Rattle.nr_trace.specs.Faults.{Holds}
+use Rattle.nr_trace.specs.Laws.{HasCleanLog}
+use Rattle.nr_trace.specs.declared.version.Version.{Version}
+use Rattle.nr_trace.specs.declared.fault.Fault.TheVariants.{ThreadOpen, NotPlaced, PastLog}
+use Rattle.nr_trace.proofs.LawsOfCalls.{is_some_from, the_some}
+use Rattle.nr_core.specs.State.{State}
+use Rattle.nr_core.specs.inside.Faultless.{At, call_at, calls_of, IsReached}
+use Rattle.nr_core.proofs.reached.Growth.{then_parts, then_from, at_within_reach}
+use Rattle.nr_core.proofs.reached.Recorded.{recording, answered_to, answers_to, at_map, at_mapped, distinct_apart}
+
+-- the operation of an update among the calls
+pub operation_at : (state : State) (version : Version) (dumps : List Image) (call : ℕ) (made : Invocation) (action : Action)
+    → call_at state.events call ≡ Some made → operation_in made.request ≡ Some action
+    → operation_of (recording state version dumps) call ≡ Some action
+operation_at state version dumps call made action e f = then_from (λ (m : Invocation). operation_in m.request) (call_at state.events call) made action e f
+
+clean : (state : State) (version : Version) (dumps : List Image) → IsReached state → HasCleanLog (recording state version dumps)
+clean state version dumps reached = record {
+  no_thread_open = thread_open;
+  no_such_call = λ index h. let (made, before, is, right) = reached.replies index h.0 h.1 in h.2 (before, is_some_from (call_at state.events h.0.call) made is);
+  none_twice = λ index h. reached.calls.once h.2.0 index h.0.call h.2.1 (answered_to state version dumps h.2.0 h.0.call h.2.2) (h.0, h.1, refl);
+  updates_alone = λ place h. not_an_update place h.0 h.2 (at_map (λ (entry : LogEntry). entry.call) state.log place h.0 h.1);
+  placed_once = λ place h. distinct_apart (calls_of state.log) h.2.0 place h.0 reached.distinct h.2.1 h.2.2 h.1;
+  all_placed = not_placed;
+  none_past_log = past_log;
+} where
+  thread_open : (index : ℕ) → Holds (recording state version dumps) (ThreadOpen index) → ⊥
+  thread_open index h =
+      let (reply, before, answers) = reached.calls.in_turn h.earlier index h.earlier_made h.made h.is_earlier h.is_earlier_made h.is_made h.same_thread in
+      h.not_answered reply before (answers_to state version dumps reply h.earlier answers)
+
+  not_an_update : (place call : ℕ) → (IsUpdate (recording state version dumps) call → ⊥) → (entry : LogEntry) × At state.log place entry × (entry.call ≡ call) → ⊥
+  not_an_update place call h (entry, at, e) =
+      let (made, is, asks, behind) = reached.entries place entry at in
+      h (is_some_from (operation_of (recording state version dumps) call) entry.op
+      (operation_at state version dumps call made entry.op (ap (call_at state.events) (sym e) ∙ is) (ap operation_in asks)))
+
+  not_placed : (index : ℕ) → Holds (recording state version dumps) (NotPlaced index) → ⊥
+  not_placed index (reply, e, (is_update, out)) =
+      let (made, before, is, right) = reached.replies index reply e in
+      let (action, asks) = the_some (operation_of (recording state version dumps) reply.call) is_update in
+      let (first, is_first, operation) = then_parts (λ (m : Invocation). operation_in m.request) (call_at state.events reply.call) action asks in
+      let one : first ≡ made = same_Some first made (sym is_first ∙ is) in
+      let (entry, at, same) = right.placed action (ap (λ (m : Invocation). operation_in m.request) (sym one) ∙ operation) in
+      out (at_mapped (λ (x : LogEntry). x.call) state.log reply.at entry at ∙ ap Some same)
+
+  past_log : (index : ℕ) → Holds (recording state version dumps) (PastLog index) → ⊥
+  past_log index (reply, e, (is_read, past)) =
+      let (made, before, is, right) = reached.replies index reply e in
+      beyond (at_within_reach made.request reply.at) right.known reached.completed (length-map state.log (λ (entry : LogEntry). entry.call)) past where
+        beyond : {r : ℕ} → reply.at ≤ r → r ≤ state.completed → state.completed ≤ length state.log → length (calls_of state.log) ≡ length state.log
+            → length (calls_of state.log) < reply.at → ⊥
+        beyond a b c d f = omega arith
+
+pub clean_log : (state : State) (version : Version) (dumps : List Image) → IsReached state → HasCleanLog (recording state version dumps)
+clean_log = clean

@@ -1,0 +1,99 @@
+-- No fault of a dump.
+use Rattle.std.proofs.Common.{◌≡◌, ℕ, ◌<◌, ◌≤◌, List, length, take, slice_get, Option, Some, None, refl, ap, sym, ◌∙◌, subst, arith}
+use Rattle.std.proofs.lemmas.List.{length-map}
+use Rattle.std.specs.Prelude.{MatchOption, IsSomeAnd}
+use Rattle.std.specs.List.{AllZip}
+use Rattle.std.proofs.lemmas.Option.{same_Some, none-some}
+use Rattle.std.proofs.lemmas.Slice.Zip.{AllZip-right}
+use Rattle.vs_types.specs.Space.{Space}
+use Rattle.vs_types.specs.Step.{look}
+use Rattle.vs_types.specs.declared.log_entry.LogEntry.{LogEntry}
+use Rattle.vs_walk.specs.Dump.{Image}
+use Rattle.vs_walk.specs.Walk.{as_walk}
+use Rattle.vs_walk.specs.Traversal.{walk_fault}
+use Rattle.vs_walk.specs.declared.walk.WalkFault.{WalkFault}
+use Rattle.nr_trace.specs.Calls.{Invocation}
+use Rattle.nr_trace.specs.Orders.{space_after}
+use Rattle.nr_trace.specs.Faults.{Holds}
+use Rattle.nr_trace.specs.declared.version.Version.{Version}
+use Rattle.nr_trace.specs.declared.fault.Fault.TheVariants.{PrefixPastLog, PrefixShort, MissingFrame, SharedFrame, ReservedBit, StrayFrame, Differs}
+use Rattle.nr_core.specs.State.{State, Replica}
+use Rattle.nr_core.specs.Run.{IsDumpOf}
+use Rattle.nr_core.specs.inside.Faultless.{At, calls_of, IsReached}
+use Rattle.nr_core.proofs.reached.Recorded.{recording, known_is_reach}
+use Rattle.nr_core.proofs.reached.RightAnswers.{space_of_log}
+
+abbrev AreDumps : State → List Image → Type 0
+AreDumps state dumps = AllZip (IsDumpOf state.layout.depth) state.replicas dumps
+
+the_replica : (state : State) (dumps : List Image) (r : ℕ) (dump : Image) → AreDumps state dumps → At dumps r dump
+    → (replica : Replica) × At state.replicas r replica × IsDumpOf state.layout.depth replica dump
+the_replica state dumps r dump are at =
+    in_some (slice_get state.replicas r) refl
+    (subst (λ (o : Option Image). MatchOption o (Unit {0}) (λ (d : Image).
+    IsSomeAnd (slice_get state.replicas r) (λ (replica : Replica). IsDumpOf state.layout.depth replica d))) at
+    (AllZip-right (IsDumpOf state.layout.depth) state.replicas dumps are r)) where
+      in_some : (o : Option Replica) → slice_get state.replicas r ≡ o → IsSomeAnd o (λ (replica : Replica). IsDumpOf state.layout.depth replica dump)
+          → (replica : Replica) × At state.replicas r replica × IsDumpOf state.layout.depth replica dump
+      in_some None e h = absurd h
+      in_some (Some replica) e h = (replica, e, h)
+
+pub none_past_log : (state : State) (version : Version) (dumps : List Image) (r : ℕ) → IsReached state → AreDumps state dumps
+    → Holds (recording state version dumps) (PrefixPastLog r) → ⊥
+none_past_log state version dumps r reached are (dump, at, past) =
+    let (replica, there, is) = the_replica state dumps r dump are at in
+    let of_replica = reached.replicas r replica there in
+    beyond replica.applied replica.local is.applied of_replica.fetched of_replica.known reached.completed
+    (length-map state.log (λ (entry : LogEntry). entry.call)) past where
+      beyond : (applied local : ℕ) → dump.applied ≡ applied → applied ≤ local → local ≤ state.completed → state.completed ≤ length state.log
+          → length (calls_of state.log) ≡ length state.log → length (calls_of state.log) < dump.applied → ⊥
+      beyond applied local a b c d e f = omega arith
+
+pub none_short : (state : State) (version : Version) (dumps : List Image) (r : ℕ) → IsReached state → AreDumps state dumps
+    → Holds (recording state version dumps) (PrefixShort r) → ⊥
+none_short state version dumps r reached are (dump, at, rests) =
+    let (replica, there, is) = the_replica state dumps r dump are at in
+    let (made, before, is_made, right) = reached.replies rests.index rests.reply rests.is_reply in
+    let one : made ≡ rests.made = same_Some made rests.made (sym is_made ∙ rests.is_made) in
+    let known = known_is_reach state version dumps rests.reply made is_made in
+    let enough = right.here replica (ap (λ (m : Invocation). slice_get state.replicas m.replica) one ∙ ap (slice_get state.replicas) rests.here ∙ there) in
+    let same = is.applied in
+    let more = rests.more in
+    absurd (omega arith)
+
+no_fault : (dump : Image) (replica : Replica) (state : State) (fault : WalkFault) → IsDumpOf state.layout.depth replica dump
+    → walk_fault state.layout.depth dump.frames dump.root ≡ Some fault → ⊥
+no_fault dump replica state fault is e = none-some fault (sym is.faultless ∙ e)
+
+pub none_missing : (state : State) (version : Version) (dumps : List Image) (r number : ℕ) → AreDumps state dumps
+    → Holds (recording state version dumps) (MissingFrame r number) → ⊥
+none_missing state version dumps r number are (dump, at, h) =
+    let (replica, there, is) = the_replica state dumps r dump are at in
+    no_fault dump replica state _ is h
+
+pub none_shared : (state : State) (version : Version) (dumps : List Image) (r number : ℕ) → AreDumps state dumps
+    → Holds (recording state version dumps) (SharedFrame r number) → ⊥
+none_shared state version dumps r number are (dump, at, h) =
+    let (replica, there, is) = the_replica state dumps r dump are at in
+    no_fault dump replica state _ is h
+
+pub none_reserved : (state : State) (version : Version) (dumps : List Image) (r number index : ℕ) → AreDumps state dumps
+    → Holds (recording state version dumps) (ReservedBit r number index) → ⊥
+none_reserved state version dumps r number index are (dump, at, h) =
+    let (replica, there, is) = the_replica state dumps r dump are at in
+    no_fault dump replica state _ is h
+
+pub none_stray : (state : State) (version : Version) (dumps : List Image) (r number : ℕ) → AreDumps state dumps
+    → Holds (recording state version dumps) (StrayFrame r number) → ⊥
+none_stray state version dumps r number are (dump, at, h) =
+    let (replica, there, is) = the_replica state dumps r dump are at in
+    is.none_stray number h.0
+
+pub none_differs : (state : State) (version : Version) (dumps : List Image) (r address : ℕ) → IsReached state → AreDumps state dumps
+    → Holds (recording state version dumps) (Differs r address) → ⊥
+none_differs state version dumps r address reached are (dump, at, h) =
+    let (replica, there, is) = the_replica state dumps r dump are at in
+    let same : replica.space ≡ space_after (recording state version dumps) (take dump.applied (calls_of state.log)) =
+    (reached.replicas r replica there).space ∙ sym (space_of_log state version dumps replica.applied reached)
+    ∙ ap (λ n. space_after (recording state version dumps) (take n (calls_of state.log))) (sym is.applied) in
+    h.0.1 (is.translates address h.0.0 ∙ ap (λ (space : Space). as_walk (look space address)) same)

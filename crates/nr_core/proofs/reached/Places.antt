@@ -1,0 +1,82 @@
+-- Elements of a list by their index, where an element is written or more are appended.
+use Rattle.std.proofs.Common.{◌≡◌, ℕ, zero, suc, ◌≤◌, ◌⊎◌, inl, inr, List, [], ◌∷◌, ◌++◌, length, take, map, Some, refl, ap, ap₂, subst, arith}
+use Rattle.std.specs.Prelude.{slice_set}
+use Rattle.std.proofs.lemmas.Option.{same_Some, none-some}
+use Rattle.nr_trace.proofs.LawsOfLists.{In}
+use Rattle.nr_core.specs.inside.Faultless.{At}
+
+pub each_set : {X : Type 0} (P : ℕ → X → Type 0) (xs : List X) (i : ℕ) (y : X) → P i y → ((j : ℕ) (x : X) → (j ≡ i → ⊥) → At xs j x → P j x)
+    → (j : ℕ) (x : X) → At (slice_set xs i y) j x → P j x
+each_set P [] i y h k j x e = absurd (none-some x e)
+each_set P (z ∷ xs) zero y h k zero x e = subst (P 0) (same_Some y x e) h
+each_set P (z ∷ xs) zero y h k (suc j) x e = k (suc j) x (λ q. absurd (omega arith)) e
+each_set P (z ∷ xs) (suc i) y h k zero x e = k 0 x (λ q. absurd (omega arith)) e
+each_set P (z ∷ xs) (suc i) y h k (suc j) x e =
+    each_set (λ n a. P (suc n) a) xs i y h (λ n a out at. k (suc n) a (λ q. out (omega arith)) at) j x e
+
+pub at_set : {X : Type 0} (xs : List X) (i : ℕ) (x y : X) → At xs i x → At (slice_set xs i y) i y
+at_set [] i x y e = absurd (none-some x e)
+at_set (z ∷ xs) zero x y e = refl
+at_set (z ∷ xs) (suc i) x y e = at_set xs i x y e
+
+pub at_other : {X : Type 0} (xs : List X) (i j : ℕ) (x y : X) → (j ≡ i → ⊥) → At xs j x → At (slice_set xs i y) j x
+at_other [] i j x y out e = e
+at_other (z ∷ xs) zero zero x y out e = absurd (out refl)
+at_other (z ∷ xs) zero (suc j) x y out e = e
+at_other (z ∷ xs) (suc i) zero x y out e = e
+at_other (z ∷ xs) (suc i) (suc j) x y out e = at_other xs i j x y (λ q. out (ap suc q)) e
+
+pub at_front : {X : Type 0} (xs ys : List X) (i : ℕ) (x : X) → At xs i x → At (xs ++ ys) i x
+at_front [] ys i x e = absurd (none-some x e)
+at_front (z ∷ xs) ys zero x e = e
+at_front (z ∷ xs) ys (suc i) x e = at_front xs ys i x e
+
+pub at_end : {X : Type 0} (xs : List X) (x : X) → At (xs ++ x ∷ []) (length xs) x
+at_end [] x = refl
+at_end (z ∷ xs) x = at_end xs x
+
+pub in_at : {X : Type 0} (xs : List X) (i : ℕ) (x : X) → At xs i x → In x xs
+in_at [] i x e = absurd (none-some x e)
+in_at (z ∷ xs) zero x e = inl (same_Some z x e)
+in_at (z ∷ xs) (suc i) x e = inr (in_at xs i x e)
+
+pub at_in : {X : Type 0} (xs : List X) (x : X) → In x xs → (i : ℕ) × At xs i x
+at_in [] x e = absurd e
+at_in (z ∷ xs) x (inl e) = (0, ap Some e)
+at_in (z ∷ xs) x (inr h) = let (i, e) = at_in xs x h in (suc i, e)
+
+-- an element of a longer list stands in its front, or is one of those appended
+pub at_either : {X : Type 0} (xs ys : List X) (i : ℕ) (x : X) → At (xs ++ ys) i x → At xs i x ⊎ ((length xs ≤ i) × In x ys)
+at_either [] ys i x e = inr (omega arith, in_at ys i x e)
+at_either (z ∷ xs) ys zero x e = inl e
+at_either (z ∷ xs) ys (suc i) x e = further (at_either xs ys i x e) where
+  further : At xs i x ⊎ ((length xs ≤ i) × In x ys) → At xs i x ⊎ ((length (z ∷ xs) ≤ suc i) × In x ys)
+  further (inl h) = inl h
+  further (inr h) = let l = h.0 in inr (omega arith, h.1)
+
+pub at_last : {X : Type 0} (xs : List X) (y : X) (i : ℕ) (x : X) → At (xs ++ y ∷ []) i x → At xs i x ⊎ ((i ≡ length xs) × (y ≡ x))
+at_last [] y zero x e = inr (refl, same_Some y x e)
+at_last [] y (suc i) x e = absurd (none-some x e)
+at_last (z ∷ xs) y zero x e = inl e
+at_last (z ∷ xs) y (suc i) x e = further (at_last xs y i x e) where
+  further : At xs i x ⊎ ((i ≡ length xs) × (y ≡ x)) → At xs i x ⊎ ((suc i ≡ length (z ∷ xs)) × (y ≡ x))
+  further (inl h) = inl h
+  further (inr h) = let l = h.0 in inr (omega arith, h.1)
+
+-- where one list goes on as another, their fronts are the same
+pub same_front : {X : Type 0} (xs ys : List X) (n : ℕ) → ((i : ℕ) (x : X) → At xs i x → At ys i x) → n ≤ length xs → take n ys ≡ take n xs
+same_front xs ys zero h l = refl
+same_front [] ys (suc n) h l = absurd (omega arith)
+same_front (x ∷ xs) [] (suc n) h l = absurd (none-some x (h 0 x refl))
+same_front (x ∷ xs) (y ∷ ys) (suc n) h l =
+    ap₂ ◌∷◌ (same_Some y x (h 0 x refl)) (same_front xs ys n (λ i a e. h (suc i) a e) (omega arith))
+
+pub in_map : {X Y : Type 0} (f : X → Y) (xs : List X) (y : Y) → In y (map f xs) → (x : X) × In x xs × (f x ≡ y)
+in_map f [] y h = absurd h
+in_map f (x ∷ xs) y (inl e) = (x, inl refl, e)
+in_map f (x ∷ xs) y (inr h) = let (z, i, e) = in_map f xs y h in (z, inr i, e)
+
+pub in_mapped : {X Y : Type 0} (f : X → Y) (xs : List X) (x : X) → In x xs → In (f x) (map f xs)
+in_mapped f [] x i = i
+in_mapped f (y ∷ ys) x (inl e) = inl (ap f e)
+in_mapped f (y ∷ ys) x (inr i) = inr (in_mapped f ys x i)

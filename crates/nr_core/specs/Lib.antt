@@ -1,0 +1,5 @@
+pub mod State
+pub mod Steps
+pub mod Run
+pub mod Faultless
+pub mod inside

@@ -1,0 +1,70 @@
+-- Runs of the protocol: any steps in turn, and what a recording of the state after them is.
+use Rattle.std.specs.Prelude.{◌≡◌, ℕ, ◌≤◌, List, length, map, All, sum_by, Bool, true, false, ◌&&◌, unwrap_or, None, if◌then◌else◌}
+use Rattle.std.specs.List.{fold, list_all, AllZip}
+use Rattle.vs_types.specs.Config.{Layout}
+use Rattle.vs_types.specs.Query.{IsQuery}
+use Rattle.vs_types.specs.declared.depth.Depth.{Depth}
+use Rattle.vs_types.specs.declared.depth.Depth.TheVariants.{Four, Five}
+use Rattle.vs_types.specs.declared.answer.Answer.{Answer}
+use Rattle.vs_types.specs.declared.answer.Answer.TheVariants.{Allowed, Fault}
+use Rattle.vs_types.specs.declared.request.Query.{Query}
+use Rattle.vs_types.specs.declared.request.Query.TheVariants.{Access}
+use Rattle.vs_walk.specs.Differences.{IsStray}
+use Rattle.vs_walk.specs.Dump.{Image}
+use Rattle.vs_walk.specs.Traversal.{walk_fault}
+use Rattle.vs_walk.specs.Walk.{TranslatesAs}
+use Rattle.nr_trace.specs.Recording.{Recording}
+use Rattle.nr_trace.specs.declared.version.Version.{Version}
+use Rattle.nr_trace.specs.declared.version.Version.TheVariants.{V1, V2}
+use Rattle.nr_trace.specs.declared.event.Event.{Event}
+use Rattle.nr_trace.specs.declared.event.Event.TheVariants.{Call, Reply}
+use Rattle.nr_core.specs.State.{State, Replica}
+use Rattle.nr_core.specs.Steps.{after_step}
+use Rattle.nr_core.specs.declared.step.Step.{Step}
+
+-- the state after steps in turn: those that are not enabled are passed over
+abbrev pub after_steps : State → List Step → State
+after_steps state steps = fold (λ before step. unwrap_or (after_step before step) before) state steps
+
+-- one script for each thread, at most 65,536 requests in all, each well formed at the depth
+pub record AreScripts (layout : Layout) (scripts : List (List Query)) : Type 0 where
+  pub one_each : length scripts ≡ layout.threads
+  pub few : sum_by (λ script. length script) scripts ≤ 65536
+  pub well_formed : All (All (IsQuery layout.depth)) scripts
+
+-- whether version 1 of the format has the query, the answer, the event, the depth
+abbrev query_in_first : Query → Bool
+query_in_first (Access address mode access) = false
+query_in_first query = true
+
+abbrev answer_in_first : Answer → Bool
+answer_in_first (Allowed phys) = false
+answer_in_first (Fault code) = false
+answer_in_first answer = true
+
+abbrev event_in_first : Event → Bool
+event_in_first (Call replica thread request) = query_in_first request
+event_in_first (Reply call at answer) = answer_in_first answer
+
+abbrev depth_in_first : Depth → Bool
+depth_in_first Four = true
+depth_in_first Five = false
+
+-- the version of the format in which a state is recorded: the first that has all of it
+abbrev pub version_of : State → Version
+version_of state = if depth_in_first state.layout.depth && list_all event_in_first state.events then V1 else V2
+
+-- a dump of a replica: it translates as its space, and its walk meets no fault and reaches each of its frames
+pub record IsDumpOf (depth : Depth) (replica : Replica) (dump : Image) : Type 0 where
+  pub applied : dump.applied ≡ replica.applied
+  pub translates : TranslatesAs depth dump.frames dump.root replica.space
+  pub faultless : walk_fault depth dump.frames dump.root ≡ None
+  pub none_stray : (number : ℕ) → IsStray depth dump.frames dump.root number → ⊥
+
+-- a recording of a state: its events, the call at each place of its log, and a dump of each replica
+pub record IsRecordingOf (state : State) (trace : Recording) : Type 0 where
+  pub version : trace.version ≡ version_of state
+  pub layout : trace.layout ≡ state.layout
+  pub log : trace.log ≡ map (λ entry. entry.call) state.log
+  pub events : trace.events ≡ state.events
+  pub dumps : AllZip (IsDumpOf state.layout.depth) state.replicas trace.dumps

@@ -1,0 +1,168 @@
+-- What holds of each state that steps can reach: why its recording has no fault.
+use Rattle.std.specs.Prelude.{◌≡◌, ℕ, ◌+◌, ◌%◌, ◌<◌, ◌≤◌, ◌⊎◌, List, length, map, take, slice_get, Bool, false, Option, Some, None, option_and_then, nat_eq, ⊤}
+use Rattle.std.specs.Option.{option_map_or}
+use Rattle.std.specs.List.{IsDistinct}
+use Rattle.vs_types.specs.Config.{Layout}
+use Rattle.vs_types.specs.Space.{Space, no_pages}
+use Rattle.vs_types.specs.Step.{after_all}
+use Rattle.vs_types.specs.declared.answer.Answer.{Answer}
+use Rattle.vs_types.specs.declared.log_entry.LogEntry.{LogEntry}
+use Rattle.vs_types.specs.declared.op.Action.{Action}
+use Rattle.vs_types.specs.declared.request.Query.{Query}
+use Rattle.vs_types.specs.declared.request.Query.TheVariants.{Update}
+use Rattle.nr_trace.specs.Calls.{Invocation, made_by, operation_in, Response, reply_in}
+use Rattle.nr_trace.specs.Orders.{answer_in}
+use Rattle.nr_trace.specs.declared.event.Event.{Event}
+use Rattle.nr_trace.proofs.LawsOfLists.{In}
+use Rattle.nr_core.specs.State.{State, Thread, Replica}
+use Rattle.nr_core.specs.declared.stage.Answered.{Answered}
+use Rattle.nr_core.specs.declared.stage.Collected.{Collected}
+use Rattle.nr_core.specs.declared.stage.Stage.{Stage}
+use Rattle.nr_core.specs.declared.stage.Stage.TheVariants.{Idle, Called, Posted, Taken, Ready, Looked, HasRead}
+
+-- the list has the element at the index
+abbrev pub At : {X : Type 0} → List X → ℕ → X → Type 0
+At xs index x = slice_get xs index ≡ Some x
+
+-- the call and the reply that events have at an index
+abbrev pub call_at : List Event → ℕ → Option Invocation
+call_at events index = option_and_then made_by (slice_get events index)
+
+abbrev pub reply_at : List Event → ℕ → Option Response
+reply_at events index = option_and_then reply_in (slice_get events index)
+
+-- the event of this index replies to the call
+abbrev pub RepliesTo : List Event → ℕ → ℕ → Type 0
+RepliesTo events index call = (reply : Response) × (reply_at events index ≡ Some reply) × (reply.call ≡ call)
+
+-- the call of a thread with this request
+abbrev pub made_of : Layout → ℕ → Query → Invocation
+made_of layout t request = record { replica = t % layout.replicas; thread = t; request = request }
+
+-- how many entries are known by an answer that stands at a place: up to the update's own, or those that the read saw
+abbrev pub reach : Query → ℕ → ℕ
+reach request at = option_map_or (λ action. at + 1) (operation_in request) at
+
+-- by each reply before the call at most so many entries are known
+abbrev pub Behind : List Event → ℕ → ℕ → Type 0
+Behind events call n = (index : ℕ) (reply : Response) (made : Invocation) → index < call → reply_at events index ≡ Some reply
+    → call_at events reply.call ≡ Some made → reach made.request reply.at ≤ n
+
+-- the calls of log entries, and the space after the first n of them
+abbrev pub calls_of : List LogEntry → List ℕ
+calls_of log = map (λ entry. entry.call) log
+
+abbrev pub space_at : Layout → List LogEntry → ℕ → Space
+space_at layout log n = after_all layout.depth layout.tables no_pages (map (λ entry. entry.op) (take n log))
+
+-- an answer of a call: an update's place has the call; all entries that are known by it are completed, and applied at the
+-- call's replica; it is what the space gives before its place; and no more were known when the call was made
+pub record IsRight (layout : Layout) (events : List Event) (log : List LogEntry) (completed : ℕ) (replicas : List Replica) (made : Invocation) (call at : ℕ)
+    (answer : Answer) : Type 0 where
+  pub placed : (action : Action) → operation_in made.request ≡ Some action → (entry : LogEntry) × At log at entry × (entry.call ≡ call)
+  pub known : reach made.request at ≤ completed
+  pub here : (replica : Replica) → At replicas made.replica replica → reach made.request at ≤ replica.applied
+  pub answered : answer ≡ answer_in layout (space_at layout log at) made.request
+  pub in_time : Behind events call at
+
+-- what a stage says of the call, its request and its answer
+abbrev pub FitsStage : Layout → List Event → List LogEntry → ℕ → List Replica → ℕ → Stage → Type 0
+FitsStage layout events log completed replicas t Idle = ⊤
+FitsStage layout events log completed replicas t (Called call request) = call_at events call ≡ Some (made_of layout t request)
+FitsStage layout events log completed replicas t (Posted call action) = call_at events call ≡ Some (made_of layout t (Update action))
+FitsStage layout events log completed replicas t (Taken call) = ⊤
+FitsStage layout events log completed replicas t (Ready a) = (request : Query) × (call_at events a.call ≡ Some (made_of layout t request))
+    × IsRight layout events log completed replicas (made_of layout t request) a.call a.at a.answer
+FitsStage layout events log completed replicas t (Looked call request noted) = (call_at events call ≡ Some (made_of layout t request))
+    × (operation_in request ≡ None) × Behind events call noted
+FitsStage layout events log completed replicas t (HasRead a) = (request : Query) × (call_at events a.call ≡ Some (made_of layout t request))
+    × IsRight layout events log completed replicas (made_of layout t request) a.call a.at a.answer
+
+-- the call that is open in a stage; and the one that no combiner has taken yet
+abbrev pub open_in : Stage → Option ℕ
+open_in Idle = None
+open_in (Called call request) = Some call
+open_in (Posted call action) = Some call
+open_in (Taken call) = Some call
+open_in (Ready a) = Some a.call
+open_in (Looked call request noted) = Some call
+open_in (HasRead a) = Some a.call
+
+abbrev pub waiting_in : Stage → Option ℕ
+waiting_in Idle = None
+waiting_in (Called call request) = Some call
+waiting_in (Posted call action) = Some call
+waiting_in (Taken call) = None
+waiting_in (Ready a) = None
+waiting_in (Looked call request noted) = None
+waiting_in (HasRead a) = None
+
+-- a call of the thread, with no reply
+abbrev pub IsOpen : List Event → ℕ → ℕ → Type 0
+IsOpen events t call = (made : Invocation) × (call_at events call ≡ Some made) × (made.thread ≡ t) × ((index : ℕ) → RepliesTo events index call → ⊥)
+
+-- the thread has the call open
+abbrev pub HasOpen : List Thread → ℕ → ℕ → Type 0
+HasOpen threads t call = (thread : Thread) × At threads t thread × (open_in thread.stage ≡ Some call)
+
+-- the thread's call is taken
+abbrev pub IsTaken : List Thread → ℕ → ℕ → Type 0
+IsTaken threads t call = (thread : Thread) × At threads t thread × (thread.stage ≡ Taken call)
+
+-- the call does not stand in the log
+abbrev pub IsFresh : List LogEntry → ℕ → Type 0
+IsFresh log call = In call (calls_of log) → ⊥
+
+-- an update in the batch of replica r: of a thread of r, whose call is taken; its answer, if one is noted, is right; and it stands
+-- in the log only if the batch does
+pub record IsCollected (layout : Layout) (events : List Event) (log : List LogEntry) (completed : ℕ) (replicas : List Replica) (threads : List Thread) (r : ℕ)
+    (placed : Bool) (update : Collected) : Type 0 where
+  pub home : update.thread % layout.replicas ≡ r
+  pub taken : IsTaken threads update.thread update.entry.call
+  pub asks : call_at events update.entry.call ≡ Some (made_of layout update.thread (Update update.entry.op))
+  pub noted : (a : Answered) → update.noted ≡ Some a → (a.call ≡ update.entry.call)
+      × IsRight layout events log completed replicas (made_of layout update.thread (Update update.entry.op)) a.call a.at a.answer
+  pub fresh : placed ≡ false → IsFresh log update.entry.call
+
+-- a replica has applied no more than it has fetched, and that is completed; its space is that after what is applied
+pub record IsReplicaOf (layout : Layout) (log : List LogEntry) (completed : ℕ) (replica : Replica) : Type 0 where
+  pub fetched : replica.applied ≤ replica.local
+  pub known : replica.local ≤ completed
+  pub space : replica.space ≡ space_at layout log replica.applied
+
+-- a call is open or answered; a reply answers rightly a call before it; none is answered twice; and a thread's calls do not overlap
+pub record AreCalls (events : List Event) (threads : List Thread) : Type 0 where
+  pub opened : (t : ℕ) (thread : Thread) (call : ℕ) → At threads t thread → open_in thread.stage ≡ Some call → IsOpen events t call
+  pub ended : (call : ℕ) (made : Invocation) → call_at events call ≡ Some made
+      → HasOpen threads made.thread call ⊎ ((index : ℕ) × RepliesTo events index call)
+  pub once : (first second call : ℕ) → first < second → RepliesTo events first call → RepliesTo events second call → ⊥
+  pub in_turn : (earlier later : ℕ) (first second : Invocation) → earlier < later → call_at events earlier ≡ Some first → call_at events later ≡ Some second
+      → first.thread ≡ second.thread → (index : ℕ) × (index < later) × RepliesTo events index earlier
+
+abbrev pub AreReplies : Layout → List Event → List LogEntry → ℕ → List Replica → Type 0
+AreReplies layout events log completed replicas = (index : ℕ) (reply : Response) → reply_at events index ≡ Some reply
+    → (made : Invocation) × (reply.call < index) × (call_at events reply.call ≡ Some made)
+    × IsRight layout events log completed replicas made reply.call reply.at reply.answer
+
+-- the log's entries are calls of updates, and none is known at a place after its own when it is called
+abbrev pub AreEntries : List Event → List LogEntry → Type 0
+AreEntries events log = (place : ℕ) (entry : LogEntry) → At log place entry
+    → (made : Invocation) × (call_at events entry.call ≡ Some made) × (made.request ≡ Update entry.op) × Behind events entry.call place
+
+abbrev pub AreCollected : Layout → List Event → List LogEntry → ℕ → List Replica → List Thread → Type 0
+AreCollected layout events log completed replicas threads = (r : ℕ) (replica : Replica) (update : Collected) → At replicas r replica → In update replica.batch
+    → IsCollected layout events log completed replicas threads r replica.placed update
+
+-- of each reachable state
+pub record IsReached (state : State) : Type 0 where
+  pub calls : AreCalls state.events state.threads
+  pub replies : AreReplies state.layout state.events state.log state.completed state.replicas
+  pub threads : (t : ℕ) (thread : Thread) → At state.threads t thread
+      → FitsStage state.layout state.events state.log state.completed state.replicas t thread.stage
+  pub waiting : (t : ℕ) (thread : Thread) (call : ℕ) → At state.threads t thread → waiting_in thread.stage ≡ Some call → IsFresh state.log call
+  pub entries : AreEntries state.events state.log
+  pub distinct : IsDistinct nat_eq (calls_of state.log)
+  pub completed : state.completed ≤ length state.log
+  pub replicas : (r : ℕ) (replica : Replica) → At state.replicas r replica → IsReplicaOf state.layout state.log state.completed replica
+  pub collected : AreCollected state.layout state.events state.log state.completed state.replicas state.threads
+  pub batches : (r : ℕ) (replica : Replica) → At state.replicas r replica → IsDistinct nat_eq (map (λ update. update.entry.call) replica.batch)

@@ -1,0 +1,55 @@
+use vs_types::{Answer, LogEntry, Op, Request};
+
+/// The answer of a call.
+#[derive(Clone, Copy, Debug, PartialEq, Eq)]
+pub(crate) struct Answered {
+    pub(crate) call: u32,
+    /// The place of an update; for a read how many entries its replica had applied.
+    pub(crate) at: u32,
+    pub(crate) answer: Answer,
+}
+
+/// How far a thread has come with its call. Its slot is empty but where the stage says otherwise.
+#[derive(Clone, Copy, Debug, PartialEq, Eq)]
+pub(crate) enum Stage {
+    /// No call is open.
+    Idle,
+    /// The call is made: an update that is not yet posted, or a read that has not yet looked.
+    Called {
+        call: u32,
+        request: Request,
+    },
+    /// The update stands in the slot.
+    Posted {
+        call: u32,
+        op: Op,
+    },
+    /// A combiner has taken the update of this call from the slot.
+    Taken {
+        call: u32,
+    },
+    /// The update's answer stands in the slot.
+    Ready {
+        answered: Answered,
+    },
+    /// The read has looked, and noted the completed tail.
+    Looked {
+        call: u32,
+        request: Request,
+        completed: u32,
+    },
+    /// The read has its answer.
+    HasRead {
+        answered: Answered,
+    },
+}
+
+/// An update in a replica's batch.
+#[derive(Clone, Copy, Debug, PartialEq, Eq)]
+pub(crate) struct Collected {
+    /// The thread from whose slot it was taken.
+    pub(crate) thread: u16,
+    pub(crate) entry: LogEntry,
+    /// Its answer, once the replica has applied it.
+    pub(crate) noted: Option<Answered>,
+}

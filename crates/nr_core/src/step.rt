@@ -1,0 +1,37 @@
+/// One step of one thread. It may name a replica or a thread that is not there; it is not enabled then.
+#[derive(Clone, Copy, Debug, PartialEq, Eq)]
+pub struct Step {
+    /// The thread that steps.
+    pub thread: u16,
+    pub act: Act,
+}
+
+/// What a thread does in one step. Thread `t` belongs to replica `t` modulo the number of replicas.
+#[derive(Clone, Copy, Debug, PartialEq, Eq)]
+pub enum Act {
+    /// It makes the next call of its script. In a running thread: the stamp of the call.
+    Call,
+    /// It puts its update into its slot. In a running thread: one hold of the slot's lock.
+    Post,
+    /// It takes the lock of this replica. In a running thread: the begin of a hold of the replica's lock, as a combiner's.
+    Take(u8),
+    /// It takes the update from the slot of this thread into its replica's batch. In a running thread: one hold of that slot's lock.
+    Collect(u16),
+    /// It appends the batch to the log. In a running thread: the exchange of the log cell that succeeds.
+    Append,
+    /// It fetches the entries of the log that its replica lacks, and raises the replica's local tail and the completed tail. In a
+    /// running thread: the exchange of the log cell that succeeds.
+    Advance,
+    /// It applies the first fetched entry that is left. In a running thread: within a hold of the replica's lock.
+    Apply,
+    /// It puts an answer into the slot of this thread. In a running thread: one hold of that slot's lock.
+    Answer(u16),
+    /// It gives the replica's lock back. In a running thread: the end of a hold of the lock.
+    Release,
+    /// It notes the completed tail for its read. In a running thread: one load of the log cell.
+    Look,
+    /// It reads its replica. In a running thread: a whole hold of the replica's lock, as a reader's.
+    Read,
+    /// It ends its call. In a running thread: the stamp of the reply; an update's slot is emptied just before, by a poll.
+    Reply,
+}
