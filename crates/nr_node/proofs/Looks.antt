@@ -8,7 +8,7 @@ use Rattle.vs_types.specs.LogEntry.{IsLogEntry}
 use Rattle.vs_types.specs.declared.depth.Depth.{Depth}
 use Rattle.vs_types.specs.declared.limits.TheConstants.{LOG_PLACES}
 use Rattle.vs_types.specs.declared.log_entry.LogEntry.{LogEntry}
-use Rattle.nr_ring.specs.Calls.{HasLooked, HasMoved, HasTaken, MayTake, with_event}
+use Rattle.nr_ring.specs.Calls.{HasLooked, HasMoved, HasTaken, LiesAhead, MayTake, with_event}
 use Rattle.nr_ring.specs.Entries.{to_take}
 use Rattle.nr_ring.specs.LogHistory.{Log, IsLogHistory, local_of, log_after, log_after_events, new_log, tail}
 use Rattle.nr_ring.specs.Laws.{HasGoneOn, FitsTheRing}
@@ -171,3 +171,13 @@ took_all depth replicas a c entries took owner =
 pub moved_since : (depth : Depth) (replicas : ℕ) (a b c : View) → HasLooked depth replicas a b → HasMoved b c → HasMoved a c
 moved_since depth replicas a b c p moved =
     (moved.0, omega (arith, moved.1, ap (λ (l : List LogEvent). length l) p.seen.1, length-append a.seen p.seen.0), moved.2, moved.3)
+
+-- where there were entries to take there still are, whatever came since
+pub ahead_since : (depth : Depth) (replicas : ℕ) (b c : View) (to : ℕ) → HasLooked depth replicas b c → b.owns ≡ replica_of b ∷ []
+    → LiesAhead replicas b to → to ≤ tail (log_after replicas b.seen) → taken_by replicas c + 1 ≤ tail (log_after replicas c.seen)
+ahead_since depth replicas b c to p owner ahead le =
+    let on = looked_on depth replicas b c p in
+    let first = log_after replicas b.seen in
+    let longer : tail first ≤ tail (log_after replicas c.seen) =
+    omega (arith, ap (λ (l : List LogEntry). length l) on.entries.1, length-append first.entries on.entries.0) in
+    omega (arith, looked_taken depth replicas b c p owner, ahead (replica_of b) owner, longer)

@@ -8,7 +8,7 @@ ghost use Rattle.vs_types.specs.Step.{allow, look};
 ghost use Rattle.vs_walk.specs.Walk.{TranslatesAs};
 ghost use Rattle.nr_ring.specs.Calls.{HasLooked, HasMoved, copy_of, joined};
 ghost use Rattle.nr_ring.specs.Entries.{HasAppended, IsReason};
-ghost use Rattle.nr_ring.specs.LogHistory.{log_after};
+ghost use Rattle.nr_ring.specs.LogHistory.{log_after, tail};
 ghost use Rattle.nr_ring.specs.View.{HasSeenAdvances, StartsWith};
 ghost use Rattle.nr_node.specs.Calls.{HasCaughtUp, HasStayed, answers_of, entries_of};
 ghost use Rattle.nr_node.specs.Node.{IsNode, applied_of, held_of, log_of, new_node, node_space, replica_of, taken_by};
@@ -156,7 +156,8 @@ impl<S: FrameStore, J: LogName> Node<S, J> {
     ///
     /// # Errors
     ///
-    /// `Moved` where another pass's event came between. No answer is given then, and what it has applied and holds is as before.
+    /// `Moved` where there were entries to take, but another pass's event came between. No answer is given then, and what it has
+    /// applied and holds is as before.
     pub fn catch_up<R: Wait>(
         &mut self,
         rt: &R,
@@ -171,6 +172,7 @@ impl<S: FrameStore, J: LogName> Node<S, J> {
             ≡ answers_of J.depth self.old.tables (log_of J.replicas self.new).entries self.old.first self.old.batch) }
         ensures stayed { OnErr result (HasStayed J.depth J.replicas self.old self.new) }
         ensures moved { OnErr result (HasMoved self.old.known.view self.new.known.view) }
+        ensures ahead { OnErr result (applied_of J.replicas self.new + 1 ≤ tail (log_of J.replicas self.new)) }
         ensures no_answer { OnErr result (answers.new.items ≡ []) }
     {
         let mut entries = ArrayVec::new();
@@ -255,6 +257,8 @@ fn take_entries<J: LogName, R: Wait>(
     ensures took { OnOk result (HasTakenAll J.depth J.replicas pass.old.view entries.new.items pass.new.view) }
     ensures looked { OnErr result (HasLooked J.depth J.replicas pass.old.view pass.new.view) }
     ensures moved { OnErr result (HasMoved pass.old.view pass.new.view) }
+    ensures ahead { OnErr result
+        (taken_by J.replicas pass.new.view + 1 ≤ tail (log_after J.replicas pass.new.view.seen)) }
 {
     log.fetch(rt, pass, entries);
     let to = applied + entries.len() as u32;

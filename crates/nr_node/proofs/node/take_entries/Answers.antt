@@ -2,7 +2,7 @@ use Rattle.std.proofs.Common.{◌+◌, ℕ, ap, subst, ◌∙◌, arith}
 use Rattle.std.proofs.lemmas.Result.{on_ok_weaker, on_err_weaker}
 use Rattle.nr_ring.specs.Calls.{HasTaken}
 use Rattle.nr_node.specs.Node.{replica_of}
-use Rattle.nr_node.proofs.Looks.{fetched_all, looked_fits, looks_twice, may_take, moved_since}
+use Rattle.nr_node.proofs.Looks.{ahead_since, fetched_all, looked_fits, looked_owner, looks_twice, may_take, moved_since}
 use Rattle.nr_node.proofs.node.take_entries.Goals as goal
 
 pub overflow_add-to : goal.overflow_add-to
@@ -41,3 +41,14 @@ returns-clause-looked g c = on_err_weaker c.advance.result (λ moved. looks_twic
 
 pub returns-clause-moved : goal.returns-clause-moved
 returns-clause-moved g c = on_err_weaker c.advance.result (λ moved. moved_since _ _ c.args.pass.now.view c.fetch.new.pass.view c.advance.new.pass.view c.fetch.ensures.looked moved.1) c.advance.ensures.moved
+
+pub returns-clause-ahead : goal.returns-clause-ahead
+returns-clause-ahead g c =
+    let pass = c.args.pass.now.view in
+    let between = c.fetch.new.pass.view in
+    let fetched = c.fetch.ensures.fetched (replica_of pass) c.requires.owner in
+    let all = fetched_all _ _ pass between c.fetch.new.entries.items c.args.applied c.fetch.ensures.looked c.requires.owner c.requires.applied fetched in
+    on_err_weaker c.advance.result
+    (λ moved. ahead_since _ _ between c.advance.new.pass.view _ moved.0 (looked_owner _ _ pass between c.fetch.ensures.looked c.requires.owner) moved.2
+    (omega (arith, all, c.len.ensures.value)))
+    c.advance.ensures.moved

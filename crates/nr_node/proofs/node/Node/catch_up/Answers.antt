@@ -37,6 +37,10 @@ returns-in_err-take_entries-clause-moved g c =
     let Moves : NodeState → Type 0 = λ n. HasMoved n.known.view c.take_entries.new.pass.view in
     rw p.1 (subst Moves c.self.view_is c.in_err-take_entries.ensures.moved)
 
+pub returns-in_err-take_entries-clause-ahead : goal.returns-in_err-take_entries-clause-ahead
+returns-in_err-take_entries-clause-ahead g c =
+    let p = err_from_is_err_and c.from_residual.result c.from_residual.ensures.1 in rw p.1 c.in_err-take_entries.ensures.ahead
+
 pub apply_all-requires-clause-fit : goal.apply_all-requires-clause-fit
 apply_all-requires-clause-fit g c =
     let self = c.self.inside in
