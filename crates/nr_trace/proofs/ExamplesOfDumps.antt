@@ -154,7 +154,7 @@ faultless (StrayFrame replica number) h = no_stray number (of_dump (λ dump. Has
 faultless (Differs replica address) (dump, is, differs) = differs_not (only_dump replica dump is) differs.0 where
   differs_not : dump ≡ empty_dump → TranslatesOtherwise Four dump.frames dump.root (space_after nothing_recorded (take dump.applied [])) address → ⊥
   differs_not e h = let same = subst (λ (d : Image). TranslatesOtherwise Four d.frames d.root (space_after nothing_recorded (take d.applied [])) address) e h in
-    same.1 (nowhere address same.0)
+      same.1 (nowhere address same.0)
 
 pub fits : FitsOrder nothing_recorded [] 0 empty_dump
 fits = record {
