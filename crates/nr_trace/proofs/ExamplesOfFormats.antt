@@ -1,5 +1,5 @@
 -- Bytes that spell no trace.
-use Rattle.std.proofs.Common.{◌≡◌, ◌≢◌, ℕ, [], ◌∷◌, ◌++◌, List, get_or, take, drop, length, inl, inr, refl, ap, sym, subst, ◌∙◌, arith, take-append-drop}
+use Rattle.std.proofs.Common.{◌≡◌, ◌≢◌, ℕ, [], ◌∷◌, ◌++◌, List, get_or, take, drop, length, inl, inr, refl, ap, sym, subst, arith, take-append-drop}
 use Rattle.nr_trace.specs.Examples.{map_then_resolve}
 use Rattle.std.specs.Prelude.{⊤}
 use Rattle.std.proofs.lemmas.List.{length-drop}
