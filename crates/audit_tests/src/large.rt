@@ -1,27 +1,27 @@
 //! One trace of 19 MB through each call that reads, judges, gathers or writes: five levels, version 2, thousands of empty tables.
 
 use nr_audit::{Verdict, audit, judge};
-use nr_trace::{Feed, Fault, Format, Trace, read, write};
+use nr_trace::{Fault, Feed, Format, Trace, read, write};
 use std::alloc::{AllocError, Global};
 use std::test::Fail;
 use vs_types::Depth;
 use vs_walk::{Dump, leaves};
 
 const UPDATES: u32 = 20_000;
+
 const READS: u32 = 10_000;
 /// The root, 8 tables below it, and 510 below each of these.
 const FRAMES: u32 = 4_089;
 
 /// A frame of which the first words lead to tables that come one after another.
-fn push_frame(
-    bytes: &mut Vec<u8>,
-    number: u32,
-    first: u32,
-    tables: u64,
-) -> Result<(), AllocError> {
+fn push_frame(bytes: &mut Vec<u8>, number: u32, first: u32, tables: u64) -> Result<(), AllocError> {
     bytes.extend_from_slice(&(number as u64).to_be_bytes())?;
     for k in 0..512u64 {
-        let word = if k < tables { (first as u64 + k) * 4096 + 7 } else { 0 };
+        let word = if k < tables {
+            (first as u64 + k) * 4096 + 7
+        } else {
+            0
+        };
         bytes.extend_from_slice(&word.to_be_bytes())?;
     }
     Ok(())
@@ -104,7 +104,10 @@ fn gathered(alloc: Global, dump: &Dump) -> Result<(usize, usize), Fail> {
 fn read_and_written(rt: HostRuntime) -> Result<(), Fail> {
     let alloc = rt.alloc();
     let bytes = large_trace(alloc)?;
-    assert_eq!(rt; bytes.len(), 20 + 80_000 + 60_000 * 24 + 2 * 16 + 4_090 * 4_104);
+    assert_eq!(rt;
+        bytes.len(),
+        20 + 80_000 + 60_000 * 24 + 2 * 16 + 4_090 * 4_104
+    );
     let trace = read(alloc, &bytes)?;
     assert!(rt; write(alloc, &trace)?.as_slice() == bytes.as_slice());
     let mut feed = Feed::new(alloc);

@@ -10,6 +10,8 @@ mod ExamplesOfSpelling
 mod ExamplesOfAnswers
 mod ExamplesOfOrders
 mod ExamplesOfFaults
+mod ExamplesOfDumps
+mod ExamplesOfFormats
 mod ExamplesOfRanges
 pub mod LawsOfUnits
 pub mod LawsOfSpelling

@@ -11,6 +11,7 @@ use Rattle.vs_types.specs.declared.access.Mode.TheVariants.{User}
 use Rattle.vs_types.specs.declared.access.Access.TheVariants.{Write}
 use Rattle.vs_types.specs.declared.answer.Answer.{Answer}
 use Rattle.vs_types.specs.declared.answer.Answer.TheVariants.{Done, NotMapped, Mapped, Allowed, Fault}
+use Rattle.vs_walk.specs.Examples.{one_word, one_table, three_tables, one_empty_frame, two_empty_frames}
 use Rattle.vs_walk.specs.Memory.{Memory}
 use Rattle.vs_walk.specs.Walk.{all_rights}
 use Rattle.vs_walk.specs.Dump.{Image}
@@ -139,3 +140,43 @@ map_then_access = with_access (Allowed 0x1123)
 
 abbrev pub access_refused : Recording
 access_refused = with_access (Fault 7)
+
+-- nothing is recorded, and the one dump has these frames, from root 1 on
+abbrev pub dump_of : Memory → Image
+dump_of frames = record { applied = 0; root = 1; frames = frames }
+
+abbrev pub nothing_with : Memory → Recording
+nothing_with frames = record {
+  version = V1;
+  layout = record { depth = Four; replicas = 1; threads = 1; tables = 1 };
+  log = [];
+  events = [];
+  dumps = dump_of frames ∷ [];
+}
+
+-- the root leads to a frame that isn't there, and to itself; a word of frame 3 has a reserved bit set; frame 2 isn't reached
+abbrev pub missing_frame : Recording
+missing_frame = nothing_with (one_table 0x2007)
+
+abbrev pub shared_frame : Recording
+shared_frame = nothing_with (one_table 0x1007)
+
+abbrev pub reserved_bit : Recording
+reserved_bit = nothing_with (three_tables 0x202087)
+
+abbrev pub stray_frame : Recording
+stray_frame = nothing_with two_empty_frames
+
+-- the dump maps a page of 2 MiB at 0, which no space without updates has
+abbrev pub page_at_zero : Memory
+page_at_zero = finite.from_entries ((1, one_word 0 0x2007) ∷ (2, one_word 0 0x3007) ∷ (3, one_word 0 0x87) ∷ [])
+
+abbrev pub unmapped_page : Recording
+unmapped_page = nothing_with page_at_zero
+
+-- the page table is empty, as the space is
+abbrev pub empty_dump : Image
+empty_dump = dump_of one_empty_frame
+
+abbrev pub nothing_recorded : Recording
+nothing_recorded = nothing_with one_empty_frame

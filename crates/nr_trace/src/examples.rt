@@ -1,11 +1,15 @@
 //! Worked examples: what the definitions say of short recordings. Each function does nothing: the prover computes.
 
-ghost use Rattle.std.specs.Prelude.{◌≡◌, [], ◌∷◌, take, drop, length};
+ghost use Rattle.std.specs.Prelude.{◌≡◌, [], ◌∷◌, ◌++◌, take, drop, length};
+ghost use Rattle.nr_trace.specs.Examples.{empty_dump, missing_frame, nothing_recorded, reserved_bit, shared_frame, stray_frame, unmapped_page};
+ghost use Rattle.nr_trace.specs.FirstFault.{HasFormatFault};
+ghost use Rattle.nr_trace.specs.Laws.{IsFaultless};
+ghost use Rattle.nr_trace.specs.declared.fault.Format.TheVariants.{BadMagic, BadVersion, Trailing, Truncated};
 ghost use Rattle.nr_trace.specs.Examples.{access_it, access_refused, as_version_2, looks_mapped, map_it, map_then_access, map_then_resolve};
 ghost use Rattle.nr_trace.specs.Examples.{map_then_resolve_bytes, read_before_and_after, resolve_it, stale_read, unanswered_left_out, unanswered_too_early};
 ghost use Rattle.nr_trace.specs.Examples.{with_applied, with_log, with_replies, without_first_reply};
 ghost use Rattle.nr_trace.specs.Faults.{Holds};
-ghost use Rattle.nr_trace.specs.Orders.{answer_in, before, floor, recorded_order, space_after, IsLegalOrder};
+ghost use Rattle.nr_trace.specs.Orders.{answer_in, before, floor, recorded_order, space_after, FitsOrder, IsLegalOrder};
 ghost use Rattle.nr_trace.specs.Recording.{IsEvent};
 ghost use Rattle.nr_trace.specs.Spelling.{spelling, Spells};
 ghost use Rattle.nr_trace.specs.Versions.{KnowsDepth};
@@ -15,6 +19,7 @@ ghost use Rattle.vs_types.specs.declared.depth.Depth.TheVariants.{Five};
 ghost use Rattle.vs_types.specs.declared.answer.Answer.TheVariants.{Allowed, Done};
 ghost use Rattle.nr_trace.specs.declared.fault.Fault.TheVariants.{AnsweredTwice, Early, NoSuchCall, NotAnUpdate, NotPlaced, PastLog, PlacedTwice};
 ghost use Rattle.nr_trace.specs.declared.fault.Fault.TheVariants.{PrefixPastLog, PrefixShort, ThreadOpen, WrongAnswer};
+ghost use Rattle.nr_trace.specs.declared.fault.Fault.TheVariants.{Differs, MissingFrame, ReservedBit, SharedFrame, StrayFrame};
 
 /// The update stands first, and then the read that saw it.
 pub fn map_then_resolve_order()
@@ -94,4 +99,29 @@ pub fn versions_apart()
     ensures answer { IsEvent V1 map_then_resolve.layout (Reply 2 1 (Allowed 0x1123)) → ⊥ }
     ensures five { KnowsDepth V2 Five }
     ensures not_five { KnowsDepth V1 Five → ⊥ }
+{}
+
+/// Each fault of a dump, where nothing is recorded.
+pub fn one_fault_of_each_dump()
+    ensures missing { Holds missing_frame (MissingFrame 0 2) }
+    ensures shared { Holds shared_frame (SharedFrame 0 1) }
+    ensures reserved { Holds reserved_bit (ReservedBit 0 3 1) }
+    ensures stray { Holds stray_frame (StrayFrame 0 2) }
+    ensures differs { Holds unmapped_page (Differs 0 0) }
+{}
+
+/// Where nothing is recorded and the page table is empty, no fault holds, and the dump fits the order without calls.
+pub fn nothing_recorded_is_faultless()
+    ensures faultless { IsFaultless nothing_recorded }
+    ensures order { recorded_order nothing_recorded ≡ [] }
+    ensures fits { FitsOrder nothing_recorded [] 0 empty_dump }
+{}
+
+/// Bytes that spell no trace: too few, with a fault in their first unit or in their second, and with one byte less or more than a trace.
+pub fn faults_of_the_format()
+    ensures nothing { HasFormatFault [] Truncated }
+    ensures magic { HasFormatFault (0x4e ∷ 0x52 ∷ 0x56 ∷ 0x58 ∷ []) BadMagic }
+    ensures version { HasFormatFault (0x4e ∷ 0x52 ∷ 0x56 ∷ 0x54 ∷ 0 ∷ 3 ∷ []) BadVersion }
+    ensures less { HasFormatFault (take 16551 (spelling map_then_resolve)) Truncated }
+    ensures more { HasFormatFault (spelling map_then_resolve ++ 0 ∷ []) Trailing }
 {}
