@@ -32,7 +32,13 @@ MayMake view (Advance replica to) = (1 ≤ view.rights) × Contains view.owns re
 
 -- the view of a pass that made an event when it had seen all
 abbrev pub with_event : View → LogEvent → View
-with_event view event = record { seen = view.seen ++ event ∷ []; mine = view.mine ++ length view.seen ∷ []; owns = view.owns; rights = view.rights; told = view.told }
+with_event view event = record {
+  seen = view.seen ++ event ∷ [];
+  mine = view.mine ++ length view.seen ∷ [];
+  owns = view.owns;
+  rights = view.rights;
+  told = view.told;
+}
 
 -- what a pass owns is cut in two, of which it keeps the first
 pub record IsCut (owned kept given : List ℕ) : Type 0 where
@@ -45,10 +51,11 @@ pub record AreCut (view : View) (kept given : ℕ) : Type 0 where
   pub all : kept + given ≡ view.rights
   pub of_makers : kept ≡ 0 → view.mine ≡ []
 
--- the view of a pass that keeps these replicas and so many rights, and of the new pass: it has seen as much, and has made nothing
+-- the view of a pass that keeps these replicas and so many rights
 abbrev pub keeping : View → List ℕ → ℕ → View
 keeping view kept rights = record { seen = view.seen; mine = view.mine; owns = kept; rights = rights; told = view.told }
 
+-- and of the new pass: it has seen as much, and has made nothing
 abbrev pub offshoot : View → List ℕ → ℕ → View
 offshoot view given rights = record { seen = view.seen; mine = []; owns = given; rights = rights; told = [] }
 
@@ -56,9 +63,16 @@ offshoot view given rights = record { seen = view.seen; mine = []; owns = given;
 abbrev pub copy_of : View → View
 copy_of view = offshoot view [] 0
 
--- the view of a pass that another was joined to: it was told what the other had seen, and has its rights. What it has seen itself stays
+-- the view of a pass that another was joined to: it was told what the other had seen, and has its rights. What it has seen
+-- itself stays
 abbrev pub joined : View → View → View
-joined view other = record { seen = view.seen; mine = view.mine; owns = view.owns; rights = view.rights + other.rights; told = other.seen ∷ view.told }
+joined view other = record {
+  seen = view.seen;
+  mine = view.mine;
+  owns = view.owns;
+  rights = view.rights + other.rights;
+  told = other.seen ∷ view.told;
+}
 
 -- the view of a pass that was joined away
 abbrev pub spent : View

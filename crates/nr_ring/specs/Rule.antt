@@ -12,9 +12,9 @@ use Rattle.nr_ring.specs.declared.view.View.{View}
 
 -- There is one history, of which the words are a function. What each pass knows is true of it. Each event has one maker, which
 -- is one of the passes; and each replica has one owner at most.
--- There are so many rights to make events, and a pass that made one has a right still. So where each of so many passes has one right, they
--- have all, and no other pass has made an event. A new log hands out its passes so, and each call leaves its pass one right: no call
--- makes an event by a pass that its caller does not know, and one that leaves `mine` as it was has made none
+-- There are so many rights to make events, and a pass that made one has a right still. So where each of so many passes has one right,
+-- they have all, and no other pass has made an event. A new log hands out its passes so, and each call leaves its pass one right:
+-- no call makes an event by a pass that its caller does not know, and one that leaves `mine` as it was has made none
 pub record IsKept (depth : Depth) (replicas passes : ℕ) (words : List ℕ) (views : List View) : Type 0 where
   pub history : List LogEvent
   pub makers : List ℕ

@@ -38,13 +38,15 @@ pub fn local_tails_rise_by_advances()
 
 /// What a history begins with is a history.
 pub fn beginnings_are_histories()
-    ensures { (depth : Depth) (replicas : ℕ) (events seen : List LogEvent) → IsLogHistory depth replicas events → StartsWith events seen
+    ensures { (depth : Depth) (replicas : ℕ) (events seen : List LogEvent)
+        → IsLogHistory depth replicas events → StartsWith events seen
         → IsLogHistory depth replicas seen }
 {}
 
 /// The log after what a history begins with has gone on to the log after all of it.
 pub fn histories_go_on()
-    ensures { (depth : Depth) (replicas : ℕ) (events seen : List LogEvent) → IsLogHistory depth replicas events → StartsWith events seen
+    ensures { (depth : Depth) (replicas : ℕ) (events seen : List LogEvent)
+        → IsLogHistory depth replicas events → StartsWith events seen
         → HasGoneOn (log_after replicas seen) (log_after replicas events) }
 {}
 
@@ -55,7 +57,8 @@ pub fn beginnings_of_beginnings()
 
 /// A look leaves the local tail of each replica that the pass owns, as far as the pass has seen.
 pub fn looks_keep_local_tails()
-    ensures { (depth : Depth) (replicas replica : ℕ) (before after : View) → HasLooked depth replicas before after → Contains before.owns replica
+    ensures { (depth : Depth) (replicas replica : ℕ) (before after : View)
+        → HasLooked depth replicas before after → Contains before.owns replica
         → local_of (log_after replicas after.seen) replica ≡ local_of (log_after replicas before.seen) replica }
 {}
 
@@ -66,10 +69,12 @@ pub fn appends_keep_local_tails()
         → local_of (log_after replicas after.seen) replica ≡ local_of (log_after replicas before.seen) replica }
 {}
 
-/// After an advance that succeeded the local tail of the replica is the place, and the entries are those that the pass had seen.
+/// After an advance that succeeded the local tail of the replica is the place, and the entries are those that the pass had
+/// seen.
 pub fn advances_set_local_tails()
     ensures local { (depth : Depth) (replicas replica to : ℕ) (before after : View) → IsLogHistory depth replicas after.seen
-        → HasTaken replicas before to after → before.owns ≡ replica ∷ [] → local_of (log_after replicas after.seen) replica ≡ to }
+        → HasTaken replicas before to after → before.owns ≡ replica ∷ []
+        → local_of (log_after replicas after.seen) replica ≡ to }
     ensures entries { (replicas to : ℕ) (before after : View) → HasTaken replicas before to after
         → (log_after replicas after.seen).entries ≡ (log_after replicas before.seen).entries }
 {}

@@ -152,8 +152,8 @@ impl<J: LogName> RingLog<J> {
         ensures log { pass.new.log ≡ pass.old.log }
         ensures owns { pass.new.view.owns ≡ pass.old.view.owns }
         ensures taken { OnOk result (HasTaken J.replicas pass.old.view to pass.new.view) }
-        ensures moved { OnErr result (HasLooked J.depth J.replicas pass.old.view pass.new.view × HasMoved pass.old.view pass.new.view
-            × LiesAhead J.replicas pass.old.view to) }
+        ensures moved { OnErr result (HasLooked J.depth J.replicas pass.old.view pass.new.view
+            × HasMoved pass.old.view pass.new.view × LiesAhead J.replicas pass.old.view to) }
         ensures history { IsLogHistory J.depth J.replicas pass.new.view.seen }
     {
         let Some(replica) = pass.replica else {
@@ -328,7 +328,8 @@ impl<J: LogName> RingLog<J> {
     /// Joins a pass to the cell that has made nothing and has no right to one of the log, which then loads the cell.
     fn join<R: Wait>(&self, rt: &R, pass: &mut LogPass<J>, copy: Pass<[u64; CELL_WORDS], View>)
         requires log { pass.old.log ≡ self.now }
-        requires copy { (copy.table_id ≡ self.now) × ((cell_view copy).mine ≡ []) × ((cell_view copy).rights ≡ 0) × (copy.me.1 ≡ []) }
+        requires copy { (copy.table_id ≡ self.now) × ((cell_view copy).mine ≡ []) × ((cell_view copy).rights ≡ 0)
+            × (copy.me.1 ≡ []) }
         ensures log { pass.new.log ≡ pass.old.log }
         ensures looked { HasLooked J.depth J.replicas (joined pass.old.view (cell_view copy)) pass.new.view }
     {

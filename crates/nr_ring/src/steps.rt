@@ -28,7 +28,8 @@ pub fn own_words_mean_all_seen()
 /// An exchange of the words after what a pass has seen, by the words after one event more, keeps the rule: the event may follow,
 /// the pass has a right, and where it is an advance the pass owns the replica.
 pub fn events_keep_the_rule()
-    ensures { (depth : Depth) (replicas passes pass : ℕ) (v : View) (event : LogEvent) (words words' : List ℕ) (views : List View) → replicas ≤ REPLICAS
+    ensures { (depth : Depth) (replicas passes pass : ℕ) (v : View) (event : LogEvent) (words words' : List ℕ) (views : List View)
+        → replicas ≤ REPLICAS
         → IsKept depth replicas passes words views → get_elem? views pass ≡ some v → IsWordsOf (log_after replicas v.seen) words
         → MayFollow depth (log_after replicas v.seen) event → MayMake v event → IsWordsOf (log_after_event (log_after replicas v.seen) event) words'
         → IsKept depth replicas passes words' (slice_set views pass (with_event v event)) }
@@ -37,14 +38,16 @@ pub fn events_keep_the_rule()
 /// Splitting a pass keeps the rule: the new pass has seen as much, has made nothing, and takes some of the replicas and of the
 /// rights that the other had.
 pub fn splits_keep_the_rule()
-    ensures { (depth : Depth) (replicas passes pass : ℕ) (v : View) (kept given : List ℕ) (left right : ℕ) → IsCut v.owns kept given → AreCut v left right
+    ensures { (depth : Depth) (replicas passes pass : ℕ) (v : View) (kept given : List ℕ) (left right : ℕ)
+        → IsCut v.owns kept given → AreCut v left right
         → Forks (IsKept depth replicas passes) pass v (keeping v kept left) (offshoot v given right) }
 {}
 
 /// Joining a pass that has made nothing keeps the rule. It tells nothing of how the two lists that were seen compare; the next
 /// look tells that both are beginnings of what it sees.
 pub fn joins_keep_the_rule()
-    ensures { (depth : Depth) (replicas passes pass other : ℕ) (v w : View) → w.mine ≡ [] → Merges (IsKept depth replicas passes) pass v other w (joined v w) spent }
+    ensures { (depth : Depth) (replicas passes pass other : ℕ) (v w : View) → w.mine ≡ []
+        → Merges (IsKept depth replicas passes) pass v other w (joined v w) spent }
 {}
 
 /// The rule holds of a new log, whose first pass has seen and made nothing and has all rights, whatever it owns.

@@ -29,9 +29,11 @@ loop-replica-preserved g c =
     let log = c.in_ok-cell.cell.table.shared.table_id in
     let fewer : (cell_view c.loop-replica.first).rights - 1 ≡ g.J.LogName.passes - (c.loop-replica.replica + 1) =
     omega (arith, ap (λ (v : View). v.rights) before.1) in
+    let range = range_with_len (c.loop-replica.replica + 1) (g.J.LogName.replicas - (c.loop-replica.replica + 1)) in
+    let left : cell_view c.split_off-pass.new.first ≡ new_view range ((cell_view c.loop-replica.first).rights - 1) = split.first.1 in
     let owners : ℕ → Known = λ r. new_pass log (r ∷ []) in (
       split.first.0.0 ∙ before.0,
-      split.first.1 ∙ ap (new_view (range_with_len (c.loop-replica.replica + 1) (g.J.LogName.replicas - (c.loop-replica.replica + 1)))) fewer,
+      left ∙ ap (new_view range) fewer,
       c.in_ok-push.ensures.items
           ∙ ap (λ (passes : List Known). passes ++ c.split_off-pass.result ∷ []) before.2
           ∙ ap (λ (pass : Known). map owners (range_with_len 0 c.loop-replica.replica) ++ pass ∷ []) split.pass
