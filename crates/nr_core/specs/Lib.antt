@@ -1,5 +1,6 @@
 pub mod State
 pub mod Steps
 pub mod Run
+pub mod Examples
 pub mod Faultless
 pub mod inside

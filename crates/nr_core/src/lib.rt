@@ -4,6 +4,7 @@
 //! A place is an index of the log; a call's number is the index of its event. No call waits.
 #![tactic(auto)]
 
+pub mod examples;
 pub mod faultless;
 mod stage;
 mod step;
