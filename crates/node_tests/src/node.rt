@@ -1,12 +1,12 @@
-ghost use Rattle.std.specs.Prelude.{◌≡◌, All, IfOk, None, [], ◌∷◌};
+ghost use Rattle.std.specs.Prelude.{◌≡◌, ◌≤◌, All, IfOk, None, [], ◌∷◌, length};
 ghost use Rattle.std.specs.FinMap as finite;
-ghost use Rattle.vs_types.specs.Depth.{IsCanonical};
+ghost use Rattle.vs_types.specs.declared.depth.Depth.TheVariants.{Four};
 ghost use Rattle.vs_types.specs.Operation.{IsAction};
 
 use arrayvec::ArrayVec;
 use nr_dump::check;
 use nr_node::{Held, Node};
-use nr_ring::{AppendFault, LogName, LogPass, Moved, RingLog};
+use nr_ring::{AppendFault, LogName, LogPass, RingLog, Tails};
 use nr_slots::{Answered, Waiting};
 use std::alloc::Global;
 use std::process::Abort;
@@ -14,6 +14,7 @@ use std::sync::Wait;
 use std::test::Fail;
 use vs_arena::{FrameStore, RawArena, VecArena};
 use vs_plain::PlainSpace;
+use vs_space::NoRoot;
 use vs_types::{Access, Answer, Depth, LogEntry, Mode, Op, Rights, Size};
 
 /// Names a log of one replica.
@@ -192,4 +193,144 @@ fn node_alone_at_five_levels(rt: HostRuntime) -> Result<(), Fail> {
     node_alone::<RawArena, OneOfFive, HostRuntime>(&rt, rt.alloc(), store, Depth::Five, 5)?;
     let store = VecArena::new(rt.alloc(), 1, 6)?;
     node_alone::<VecArena, OneOfFive, HostRuntime>(&rt, rt.alloc(), store, Depth::Five, 5)
+}
+
+/// Names a log of two replicas.
+struct Two;
+
+impl LogName for Two {
+    ghost use Rattle.vs_types.specs.declared.depth.Depth.TheVariants.{Four};
+
+    ghost depth = { Four };
+
+    ghost replicas = { 2 };
+
+    ghost passes = { 3 };
+}
+
+/// Puts the batch, for which the log with these tails has no room.
+fn refused<R: Wait + Abort>(
+    rt: &R,
+    log: &RingLog<Two>,
+    node: &mut Node<VecArena, Two>,
+    wanted: Tails,
+)
+    requires log { node.old.known.log ≡ log.now }
+    requires some { 1 ≤ length node.old.batch }
+    requires unplaced { node.old.first ≡ None }
+    ensures log { node.new.known.log ≡ node.old.known.log }
+    ensures same { (node.new.batch ≡ node.old.batch) × (node.new.first ≡ None) }
+{
+    let Err(fault) = node.put_batch(rt, log) else {
+        panic!(rt; "appended to a full log")
+    };
+    assert_eq!(rt; fault, AppendFault::Full(wanted));
+}
+
+/// Catches up by so many entries, of which none is of its batch.
+fn catch_up<R: Wait + Abort>(
+    rt: &R,
+    log: &RingLog<Two>,
+    node: &mut Node<VecArena, Two>,
+    wanted: u32,
+)
+    requires log { node.old.known.log ≡ log.now }
+    requires unplaced { node.old.first ≡ None }
+    ensures log { node.new.known.log ≡ node.old.known.log }
+    ensures same { (node.new.batch ≡ node.old.batch) × (node.new.first ≡ None) }
+{
+    let mut answers = ArrayVec::new();
+    let Ok(count) = node.catch_up(rt, log, &mut answers) else {
+        panic!(rt; "another pass's event")
+    };
+    assert_eq!(rt; (count, answers.len()), (wanted, 0));
+}
+
+/// A node whose log is full holds its batch as before, and puts it once both replicas have taken what was there.
+#[test]
+fn full_log_leaves_the_batch(rt: HostRuntime) -> Result<(), Fail> {
+    let alloc = rt.alloc();
+    let (log, mut passes) = RingLog::<Two>::new(alloc, Depth::Four, 2, 1)?;
+    let pass = passes.remove(0);
+    let mut second = passes.remove(0);
+    let mut third = passes.remove(0);
+    let store = VecArena::new(alloc, 1 << 39, 4)?;
+    let mut node = Node::new(alloc, store, pass, Depth::Four)?;
+    let unmap = unmap(&rt);
+    let others = [LogEntry {
+        call: 100,
+        op: unmap,
+    }; 16];
+    assert_eq!(rt; log.append(&rt, &mut third, &others), Ok(0));
+    let op = map_a(&rt, Depth::Four);
+    node.hold(&pair(
+        Waiting::new(0, 7, op),
+        Waiting::new(1, 8, unmap),
+        Depth::Four,
+    ));
+    refused(&rt, &log, &mut node, tails(16, 0, [0, 0, 0, 0]));
+    assert_eq!(rt; node.held(), Held::Unplaced(2));
+    catch_up(&rt, &log, &mut node, 16);
+    assert_eq!(rt; node.held(), Held::Unplaced(2));
+    refused(&rt, &log, &mut node, tails(16, 16, [16, 0, 0, 0]));
+    take(&rt, &log, &mut second);
+    assert_eq!(rt; node.put_batch(&rt, &log), Ok(16));
+    assert_eq!(rt; node.held(), Held::Placed(16, 2));
+    let mut answers = ArrayVec::new();
+    assert_eq!(rt; node.catch_up(&rt, &log, &mut answers), Ok(2));
+    let removed = Answer::Removed(0x1000, Size::K4, Rights::ALL);
+    assert_eq!(rt;
+        answers.as_slice(),
+        [
+            answered(0, 7, op, 16, Answer::Done),
+            answered(1, 8, unmap, 17, removed)
+        ]
+        .as_slice()
+    );
+    let first = LogEntry {
+        call: 100,
+        op: unmap,
+    };
+    assert_eq!(rt; node.told(15), Some((first, Answer::NotMapped)));
+    assert_eq!(rt; (node.applied(), node.told(18)), (18, None));
+    Ok(())
+}
+
+/// The page of `map_a` goes.
+fn unmap(rt: &impl Abort) -> Op
+    ensures { IsAction Four result }
+{
+    let op = Op::unmap(Depth::Four, 0x400000).expect(rt, "an unmap");
+    assert!(rt; op.fits(Depth::Four));
+    op
+}
+
+fn tails(tail: u32, completed: u32, local: [u32; 4]) -> Tails {
+    Tails {
+        tail,
+        completed,
+        local,
+    }
+}
+
+/// Another replica takes the 16 entries that there are.
+fn take<R: Wait + Abort>(rt: &R, log: &RingLog<Two>, pass: &mut LogPass<Two>)
+    requires log { pass.old.log ≡ log.now }
+    requires owner { pass.old.view.owns ≡ 1 ∷ [] }
+    ensures log { pass.new.log ≡ pass.old.log }
+{
+    let tails = log.look(rt, pass);
+    assert!(rt; tails.local[1] <= 16 && 16 <= tails.tail);
+    assert_eq!(rt; log.advance(rt, pass, 16), Ok(()));
+}
+
+#[test]
+fn no_frame_for_the_root(rt: HostRuntime) -> Result<(), Fail> {
+    let (_log, mut passes) = RingLog::<One>::new(rt.alloc(), Depth::Four, 1, 0)?;
+    let pass = passes.remove(0);
+    let store = VecArena::new(rt.alloc(), 1, 0)?;
+    match Node::new(rt.alloc(), store, pass, Depth::Four) {
+        Err(vs_types::Fail::Refused(NoRoot)) => Ok(()),
+        _ => panic!(rt; "a root without a frame"),
+    }
 }
