@@ -1,0 +1,202 @@
+//! Each call on a log of four replicas at five levels, by each party, after an event of each other: a call that tells what its
+//! pass saw before meets every clause.
+ghost use Rattle.std.specs.Prelude.{◌≡◌};
+ghost use Rattle.nr_ring.specs.Pass.{new_passes};
+
+use crate::party::{Four, OfLog, Party, parties};
+use nr_ring::{AppendFault, LogPass, Moved, RingLog, Tails};
+use std::alloc::Global;
+use std::marker::Brand;
+use std::process::Abort;
+use std::sync::Wait;
+use std::test::Fail;
+use vs_types::Depth;
+
+/// An event that one party makes.
+#[derive(Clone, Copy)]
+enum Event {
+    Append,
+    Advance,
+}
+
+/// A call that another makes after it.
+#[derive(Clone, Copy)]
+enum Call {
+    Look,
+    Fetch,
+    Append,
+    AppendFull,
+    AdvanceLate,
+    Tell,
+    BeTold,
+}
+
+static CALLS: [Call; 7] = [
+    Call::Look,
+    Call::Fetch,
+    Call::Append,
+    Call::AppendFull,
+    Call::AdvanceLate,
+    Call::Tell,
+    Call::BeTold,
+];
+
+/// Looks, and is to see these tails.
+fn look<K: OfLog, R: Wait + Abort>(rt: &R, party: &mut Party<K>, tails: &Tails) {
+    assert_eq!(rt; party.look(rt), *tails);
+}
+
+/// Appends an entry, of which the call is its place.
+fn append<K: OfLog, R: Wait + Abort>(rt: &R, party: &mut Party<K>, tails: &mut Tails) {
+    let place = tails.tail;
+    assert_eq!(rt; party.append(rt, place), Ok(place));
+    tails.tail = place.saturating_add(1);
+}
+
+/// Its replica takes all entries.
+fn advance<K: OfLog, R: Wait + Abort>(rt: &R, party: &mut Party<K>, tails: &mut Tails) {
+    assert_eq!(rt; party.advance(rt), Ok(()));
+    let tail = tails.tail;
+    let Some(replica) = party.replica() else {
+        return;
+    };
+    assert!(rt; replica < 4);
+    tails.local[replica] = tail;
+    tails.completed = tail;
+}
+
+/// Fetches, and is to get all entries that its replica has still to take.
+fn fetch<K: OfLog, R: Wait + Abort>(rt: &R, party: &mut Party<K>, tails: &Tails) {
+    let entries = party.fetch(rt);
+    let Some(replica) = party.replica() else {
+        return;
+    };
+    assert!(rt; replica < 4);
+    let local = tails.local[replica];
+    assert_eq!(rt; entries.len() as u32, tails.tail.saturating_sub(local));
+    for (at, entry) in entries.as_slice().iter().enumerate() {
+        assert_eq!(rt; entry.call, local.saturating_add(at as u32));
+    }
+}
+
+/// The other makes its call, after the first has made an event.
+fn make_call<'a, K: OfLog, R: Wait + Abort>(
+    rt: &R,
+    first: &mut Party<'a, K>,
+    other: &mut Party<'a, K>,
+    call: Call,
+    tails: &mut Tails,
+) {
+    match call {
+        Call::Look => look(rt, other, tails),
+        Call::Fetch => fetch(rt, other, tails),
+        Call::Append => append(rt, other, tails),
+        Call::AppendFull => {
+            let full = AppendFault::Full(*tails);
+            assert_eq!(rt; other.append_all(rt, tails.tail), Err(full));
+        }
+        Call::AdvanceLate => {
+            let place = tails.tail;
+            let late = other.advance_late(rt, first, place);
+            tails.tail = place.saturating_add(1);
+            let owns = other.replica().is_some();
+            assert_eq!(rt; late, if owns { Err(Moved) } else { Ok(()) });
+        }
+        Call::Tell => {
+            other.tell(rt, first);
+            append(rt, other, tails);
+            look(rt, first, tails);
+        }
+        Call::BeTold => {
+            first.tell(rt, other);
+            look(rt, other, tails);
+            append(rt, first, tails);
+        }
+    }
+    look(rt, other, tails);
+    look(rt, first, tails);
+}
+
+/// The first party makes an event: an append, or an advance past an entry that the other appended.
+fn make_event<'a, K: OfLog, R: Wait + Abort>(
+    rt: &R,
+    first: &mut Party<'a, K>,
+    other: &mut Party<'a, K>,
+    event: Event,
+    tails: &mut Tails,
+) {
+    match event {
+        Event::Append => append(rt, first, tails),
+        Event::Advance => {
+            append(rt, other, tails);
+            advance(rt, first, tails);
+        }
+    }
+}
+
+/// All replicas take all entries, and all parties look.
+fn settle<'a, K: OfLog, R: Wait + Abort>(
+    rt: &R,
+    first: &mut Party<'a, K>,
+    others: &mut [Party<'a, K>],
+    tails: &mut Tails,
+) {
+    advance(rt, first, tails);
+    for other in others.iter_mut() {
+        advance(rt, other, tails);
+    }
+    look(rt, first, tails);
+    for other in others.iter_mut() {
+        look(rt, other, tails);
+    }
+}
+
+/// The first party makes each event, and one of the others each call after it.
+fn all_calls<'a, K: OfLog, R: Wait + Abort>(
+    rt: &R,
+    first: &mut Party<'a, K>,
+    others: &mut [Party<'a, K>],
+    at: usize,
+    tails: &mut Tails,
+) {
+    for event in [Event::Append, Event::Advance] {
+        for next in &CALLS {
+            let other = others.get_mut(at).expect(rt, "a party");
+            make_event(rt, first, other, event, tails);
+            make_call(rt, first, other, *next, tails);
+            settle(rt, first, others, tails);
+        }
+    }
+}
+
+fn each_call<K: OfLog, R: Wait + Abort>(
+    rt: &R,
+    alloc: Global,
+    log: &RingLog<Four>,
+    passes: Vec<LogPass<Four>>,
+) -> Result<(), Fail>
+    requires log { log.now ≡ K.log }
+    requires passes { passes.items ≡ new_passes K.log 4 4 }
+{
+    let mut all = parties::<K>(log, alloc, passes)?;
+    let mut tails = Tails {
+        tail: 0,
+        completed: 0,
+        local: [0; 4],
+    };
+    for _ in 0..8 {
+        assert!(rt; all.len() > 0);
+        let mut first = all.remove(0);
+        for at in 0..all.len() {
+            all_calls(rt, &mut first, all.as_mut_slice(), at, &mut tails);
+        }
+        all.push(first)?;
+    }
+    Ok(())
+}
+
+#[test]
+fn each_call_after_each_event(rt: HostRuntime) -> Result<(), Fail> {
+    let (log, passes) = RingLog::<Four>::new(rt.alloc(), Depth::Five, 4, 4)?;
+    each_call::<Brand, HostRuntime>(&rt, rt.alloc(), &log, passes)
+}

@@ -1,0 +1,155 @@
+//! No look is older than what had returned before it began. No clause says so: a pass that tells what it saw before meets them all.
+ghost use Rattle.std.specs.Prelude.{◌≡◌};
+ghost use Rattle.nr_ring.specs.Pass.{new_passes};
+
+use crate::party::{Four, OfLog, Party, parties};
+use nr_ring::{AppendFault, LogPass, RingLog, Tails};
+use std::alloc::Global;
+use std::marker::Brand;
+use std::process::Abort;
+use std::sync::Wait;
+use std::sync::atomic::{AtomicU32, Ordering};
+use std::test::Fail;
+use std::thread;
+use std::thread::Threads;
+use vs_types::Depth;
+
+/// How many logs there are.
+const LOGS: u32 = 1;
+
+/// How many rounds each of four threads makes on each. Each round appends an entry at most, and a log has 65,536 at most.
+const ROUNDS: u32 = 10_000;
+
+/// The tails that some call has told: each is raised after the call returns.
+#[derive(Drop)]
+struct Told {
+    tail: AtomicU32,
+    completed: AtomicU32,
+    local: [AtomicU32; 4],
+}
+
+impl Told {
+    fn new() -> Told {
+        Told {
+            tail: AtomicU32::new(0),
+            completed: AtomicU32::new(0),
+            local: [
+                AtomicU32::new(0),
+                AtomicU32::new(0),
+                AtomicU32::new(0),
+                AtomicU32::new(0),
+            ],
+        }
+    }
+
+    fn raise(&self, tails: Tails) {
+        self.tail.fetch_max(tails.tail, Ordering::SeqCst);
+        self.completed.fetch_max(tails.completed, Ordering::SeqCst);
+        for (told, local) in self.local.iter().zip(tails.local.iter()) {
+            told.fetch_max(*local, Ordering::SeqCst);
+        }
+    }
+
+    /// Looks, and sees at least what was told before.
+    fn look<K: OfLog, R: Wait + Abort>(&self, rt: &R, party: &mut Party<K>) -> Tails {
+        let tail = self.tail.load(Ordering::SeqCst);
+        let completed = self.completed.load(Ordering::SeqCst);
+        let mut before = [0; 4];
+        for (local, told) in before.iter_mut().zip(self.local.iter()) {
+            *local = told.load(Ordering::SeqCst);
+        }
+        let tails = party.look(rt);
+        assert!(rt; tail <= tails.tail);
+        assert!(rt; completed <= tails.completed);
+        for (now, local) in tails.local.iter().zip(before.iter()) {
+            assert!(rt; local <= now);
+        }
+        self.raise(tails);
+        tails
+    }
+}
+
+/// A thread's parties: one that owns the replica of the thread's number, and one that owns none.
+#[derive(Drop)]
+struct Worker<'a, K: OfLog> {
+    number: u32,
+    owner: Party<'a, K>,
+    other: Party<'a, K>,
+}
+
+/// An append, which may be refused where the replicas are late or another's event comes between.
+fn append<K: OfLog, R: Wait + Abort>(rt: &R, party: &mut Party<K>, call: u32, told: &Told) {
+    match party.append(rt, call) {
+        Ok(place) => {
+            told.tail
+                .fetch_max(place.saturating_add(1), Ordering::SeqCst);
+        }
+        Err(AppendFault::Full(tails) | AppendFault::Moved(tails)) => told.raise(tails),
+        Err(AppendFault::LogEnded) => panic!(rt; "the log ended"),
+    }
+}
+
+impl<'a, K: OfLog> Worker<'a, K> {
+    /// One call of eight kinds, and then a look by each party.
+    fn act<R: Wait + Abort>(&mut self, rt: &R, round: u32, told: &Told) {
+        match (self.number % 8 + round % 8) % 8 {
+            0 => append(rt, &mut self.owner, round, told),
+            1 | 5 => {
+                let _moved = self.owner.advance(rt);
+            }
+            2 => self.owner.tell(rt, &mut self.other),
+            4 => append(rt, &mut self.other, round, told),
+            6 => self.other.tell(rt, &mut self.owner),
+            _ => {
+                told.look(rt, &mut self.other);
+            }
+        }
+        told.look(rt, &mut self.owner);
+        told.look(rt, &mut self.other);
+    }
+}
+
+fn all_rounds<K: OfLog, R: Wait + Abort>(rt: &R, mut worker: Worker<K>, told: &Told) {
+    for round in 0..ROUNDS {
+        worker.act(rt, round, told);
+    }
+}
+
+fn run_rounds<K: OfLog + Send + Sync, R: Wait + Abort + Threads + Sync>(
+    rt: &R,
+    alloc: Global,
+    log: &RingLog<Four>,
+    passes: Vec<LogPass<Four>>,
+) -> Result<(), Fail>
+    requires log { log.now ≡ K.log }
+    requires passes { passes.items ≡ new_passes K.log 4 4 }
+{
+    let mut all = parties::<K>(log, alloc, passes)?;
+    let mut workers = Vec::new(alloc);
+    for number in 0..4 {
+        assert!(rt; all.len() == 8 - 2 * number as usize);
+        let owner = all.remove(0);
+        let other = all.remove(all.len() - 1);
+        workers.push(Worker {
+            number,
+            owner,
+            other,
+        })?;
+    }
+    let told = Told::new();
+    thread::map_vec(
+        rt,
+        workers,
+        &|worker: Worker<K>| all_rounds(rt, worker, &told),
+    )?;
+    Ok(())
+}
+
+#[test]
+fn no_look_is_old(rt: HostRuntime) -> Result<(), Fail> {
+    for _ in 0..LOGS {
+        let (log, passes) = RingLog::<Four>::new(rt.alloc(), Depth::Five, 4, 4)?;
+        run_rounds::<Brand, HostRuntime>(&rt, rt.alloc(), &log, passes)?;
+    }
+    Ok(())
+}

@@ -1,0 +1,145 @@
+//! Short rounds in which four threads make calls at the same time. After each round all of them look, while nobody makes an event:
+//! a pass that took its words for those of the cell though another's exchange was under way then tells old tails.
+ghost use Rattle.std.specs.Prelude.{◌≡◌, ◌≤◌};
+ghost use Rattle.nr_ring.specs.Pass.{new_passes};
+
+use crate::party::{Four, OfLog, Party, parties};
+use crate::start::Start;
+use crossbeam_utils::Backoff;
+use nr_ring::{LogPass, Moved, RingLog, Tails};
+use std::alloc::Global;
+use std::marker::Brand;
+use std::process::Abort;
+use std::sync::Wait;
+use std::test::Fail;
+use std::thread;
+use std::thread::Threads;
+use vs_types::Depth;
+
+/// How many logs there are.
+const LOGS: u32 = 1;
+
+/// How many rounds there are on each. Each round appends two entries, and a log has 65,536 at most.
+const ROUNDS: u32 = 1_000;
+
+/// A thread's parties: one that owns the replica of the thread's number, and one that owns none.
+#[derive(Drop)]
+struct Racer<'a, K: OfLog> {
+    number: u32,
+    owner: Party<'a, K>,
+    other: Party<'a, K>,
+}
+
+impl<'a, K: OfLog> Racer<'a, K> {
+    /// What the thread does in a round, from 0 to 3.
+    fn part(&self, round: u32) -> u32 {
+        (self.number % 4 + round % 4) % 4
+    }
+
+    /// One thread appends an entry, so that what the others know is old. Then, at the same time, it appends another, and one
+    /// thread advances, one looks, and one tells its other party.
+    fn race<R: Wait + Abort>(&mut self, rt: &R, start: &Start, round: u32)
+        requires { round ≤ 65536 }
+    {
+        let tail = 2 * round;
+        if self.part(round) == 1 {
+            let moved = self.owner.advance_after(rt, start, round % 61);
+            assert_eq!(rt; moved, if round == 0 { Ok(()) } else { Err(Moved) });
+            return;
+        }
+        start.wait(rt);
+        if self.part(round) == 0 {
+            assert_eq!(rt; self.owner.append(rt, tail), Ok(tail));
+        }
+        start.wait(rt);
+        match self.part(round) {
+            0 => assert_eq!(rt; self.owner.append(rt, tail + 1), Ok(tail + 1)),
+            2 => {
+                start.linger(round % 53);
+                self.other.look(rt);
+            }
+            _ => {
+                start.linger(round % 59);
+                self.owner.tell(rt, &mut self.other);
+            }
+        }
+    }
+
+    /// Both parties see all of the round. The replica of the thread that advanced in vain has taken less than the others.
+    fn look<R: Wait + Abort>(&mut self, rt: &R, round: u32)
+        requires { round ≤ 65536 }
+    {
+        let taken = 2 * round;
+        let mut local = [taken; 4];
+        let late = (5 - round % 4) % 4;
+        local[late as usize] = taken.saturating_sub(2);
+        let tails = Tails {
+            tail: taken + 2,
+            completed: taken,
+            local,
+        };
+        assert_eq!(rt; self.owner.look(rt), tails, "round {round}");
+        assert_eq!(rt; self.other.look(rt), tails, "round {round}");
+    }
+
+    /// Its replica takes all entries, but where it is to be late in the next round.
+    fn catch_up<R: Wait>(&mut self, rt: &R, round: u32) {
+        if self.part(round) == 0 {
+            return;
+        }
+        let backoff = Backoff::new();
+        for _ in rt.forever() {
+            if self.owner.advance(rt).is_ok() {
+                return;
+            }
+            backoff.spin();
+        }
+        unreachable!()
+    }
+}
+
+/// One thread's rounds.
+fn all_rounds<K: OfLog, R: Wait + Abort>(rt: &R, mut racer: Racer<K>, start: &Start) {
+    for round in 0..ROUNDS {
+        racer.race(rt, start, round);
+        start.wait(rt);
+        racer.look(rt, round);
+        start.wait(rt);
+        racer.catch_up(rt, round);
+    }
+}
+
+fn run_races<K: OfLog + Send + Sync, R: Wait + Abort + Threads + Sync>(
+    rt: &R,
+    alloc: Global,
+    log: &RingLog<Four>,
+    passes: Vec<LogPass<Four>>,
+) -> Result<(), Fail>
+    requires log { log.now ≡ K.log }
+    requires passes { passes.items ≡ new_passes K.log 4 4 }
+{
+    let mut all = parties::<K>(log, alloc, passes)?;
+    let mut racers = Vec::new(alloc);
+    for number in 0..4 {
+        assert!(rt; all.len() == 8 - 2 * number as usize);
+        let owner = all.remove(0);
+        let other = all.remove(all.len() - 1);
+        racers.push(Racer {
+            number,
+            owner,
+            other,
+        })?;
+    }
+    let start = Start::new();
+    thread::map_vec(rt, racers, &|racer: Racer<K>| all_rounds(rt, racer, &start))?;
+    Ok(())
+}
+
+#[test]
+fn looks_after_races(rt: HostRuntime) -> Result<(), Fail> {
+    for _ in 0..LOGS {
+        let (log, passes) = RingLog::<Four>::new(rt.alloc(), Depth::Five, 4, 4)?;
+        run_races::<Brand, HostRuntime>(&rt, rt.alloc(), &log, passes)?;
+    }
+    Ok(())
+}
