@@ -23,25 +23,25 @@ abbrev when : Bool → State → Option State
 when condition state = if condition then Some state else None
 
 -- what a step of thread t makes of the state, where there is such a thread
-abbrev by_thread : State → ℕ → (Thread → Option State) → Option State
+abbrev pub by_thread : State → ℕ → (Thread → Option State) → Option State
 by_thread state t go = option_and_then go (slice_get state.threads t)
 
-abbrev at_replica : State → ℕ → (Replica → Option State) → Option State
+abbrev pub at_replica : State → ℕ → (Replica → Option State) → Option State
 at_replica state r go = option_and_then go (slice_get state.replicas r)
 
 -- where thread t holds the lock of a replica r
-abbrev by_holder : State → ℕ → (Thread → ℕ → Replica → Option State) → Option State
+abbrev pub by_holder : State → ℕ → (Thread → ℕ → Replica → Option State) → Option State
 by_holder state t go = by_thread state t (λ thread. option_and_then (λ r. at_replica state r (go thread r)) thread.holds)
 
 -- Call: where no call is open and the script has a request left, it is recorded
-abbrev with_call : State → ℕ → Thread → List Query → Stage → Option State
+abbrev pub with_call : State → ℕ → Thread → List Query → Stage → Option State
 with_call state t thread (request ∷ left) Idle =
     let call = length state.events in
     Some (record (with_thread state t (record thread { script = left; stage = Called call request }))
     { events = state.events ++ events.Call (home state t) t request ∷ [] })
 with_call state t thread script stage = None
 
-abbrev call : State → ℕ → Option State
+abbrev pub call : State → ℕ → Option State
 call state t = by_thread state t (λ thread. with_call state t thread thread.script thread.stage)
 
 -- Post: where the open call is an update that is not yet posted, it stands in the slot
@@ -49,11 +49,11 @@ abbrev with_post : State → ℕ → Thread → Stage → Option State
 with_post state t thread (Called call (Update action)) = Some (with_thread state t (record thread { stage = Posted call action }))
 with_post state t thread stage = None
 
-abbrev post : State → ℕ → Option State
+abbrev pub post : State → ℕ → Option State
 post state t = by_thread state t (λ thread. with_post state t thread thread.stage)
 
 -- Take r: where the thread holds no lock and r's is free, it holds r's
-abbrev take_lock : State → ℕ → ℕ → Option State
+abbrev pub take_lock : State → ℕ → ℕ → Option State
 take_lock state t r =
     by_thread state t (λ thread. at_replica state r (λ replica.
     when (is_none thread.holds && is_none replica.holder)
@@ -61,41 +61,50 @@ take_lock state t r =
 
 -- Collect s: where s belongs to the replica and its update is posted, and the batch has fewer than 16 and is not placed, the
 -- update is taken, and is the batch's last
+abbrev pub has_place : Replica → Bool
+has_place replica = nat_lt (length replica.batch) 16 && not replica.placed
+
+abbrev pub with_update : Replica → Collected → Replica
+with_update replica update = record replica { batch = replica.batch ++ update ∷ [] }
+
 abbrev with_collected : State → ℕ → Replica → ℕ → Thread → Stage → Option State
 with_collected state r replica s other (Posted call action) =
     let update : Collected = record { thread = s; entry = record { call = call; op = action }; noted = None } in
-    when ((home state s == r) && nat_lt (length replica.batch) 16 && not replica.placed)
-    (with_replica (with_thread state s (record other { stage = Taken call })) r (record replica { batch = replica.batch ++ update ∷ [] }))
+    when ((home state s == r) && has_place replica)
+    (with_replica (with_thread state s (record other { stage = Taken call })) r (with_update replica update))
 with_collected state r replica s other stage = None
 
-abbrev collect : State → ℕ → ℕ → Option State
+abbrev pub collect : State → ℕ → ℕ → Option State
 collect state t s = by_holder state t (λ thread r replica. by_thread state s (λ other. with_collected state r replica s other other.stage))
 
 -- the log has room for so many entries more, and no replica would have more than 16 to fetch
 abbrev pub has_room : State → ℕ → Bool
 has_room state n = nat_le (tail state + n) LOG_PLACES && list_all (λ other. nat_le (tail state + n) (other.local + 16)) state.replicas
 
+abbrev pub may_append : State → Replica → Bool
+may_append state replica = nat_lt 0 (length replica.batch) && not replica.placed && has_room state (length replica.batch)
+
 -- Append: where the batch is not empty nor placed, and there is room, it stands at the log's end
-abbrev append : State → ℕ → Option State
+abbrev pub append : State → ℕ → Option State
 append state t =
     by_holder state t (λ thread r replica.
-    when (nat_lt 0 (length replica.batch) && not replica.placed && has_room state (length replica.batch))
+    when (may_append state replica)
     (with_replica (record state { log = state.log ++ map (λ update. update.entry) replica.batch }) r (record replica { placed = true })))
 
 -- Advance: where all that was fetched is applied and the log has more, all of it is fetched: the local tail and the completed tail
 -- are the tail
-abbrev advance : State → ℕ → Option State
+abbrev pub advance : State → ℕ → Option State
 advance state t =
     by_holder state t (λ thread r replica.
     when (has_applied_all replica && nat_lt replica.local (tail state))
     (with_replica (record state { completed = tail state }) r (record replica { local = tail state })))
 
 -- the answer is noted for the update of its call
-abbrev note : Answered → Collected → Collected
+abbrev pub note : Answered → Collected → Collected
 note answered update = if update.entry.call == answered.call then record update { noted = Some answered } else update
 
 -- the replica after the entry at the place that it has come to
-abbrev with_entry : State → Replica → LogEntry → Replica
+abbrev pub with_entry : State → Replica → LogEntry → Replica
 with_entry state replica entry =
     let next = spaces.step state.layout.depth state.layout.tables replica.space entry.op in
     record replica {
@@ -105,31 +114,39 @@ with_entry state replica entry =
     }
 
 -- Apply: where a fetched entry is left, the first is applied, and its answer noted in the batch
-abbrev apply : State → ℕ → Option State
+abbrev pub apply : State → ℕ → Option State
 apply state t =
     by_holder state t (λ thread r replica. option_and_then (λ entry.
     when (nat_lt replica.applied replica.local) (with_replica state r (with_entry state replica entry)))
     (slice_get state.log replica.applied))
 
 -- the batch without the update of a thread; an empty batch is not placed
-abbrev is_some_left : List Collected → Bool
+abbrev pub is_some_left : List Collected → Bool
 is_some_left [] = false
 is_some_left (update ∷ batch) = true
 
-abbrev without : ℕ → Replica → Replica
+abbrev pub without : ℕ → Replica → Replica
 without s replica =
     let left = filter (λ update. not (update.thread == s)) replica.batch in
     record replica { batch = left; placed = replica.placed && is_some_left left }
 
--- Answer s: where an answer is noted for s, it stands in the slot of s, and the update leaves the batch
-abbrev answer : State → ℕ → ℕ → Option State
+-- the answer that is noted for the update of s
+abbrev pub noted_for : ℕ → Replica → Option Answered
+noted_for s replica = option_and_then (λ update. update.noted) (find (λ update. update.thread == s) replica.batch)
+
+-- Answer s: where an answer is noted for s, whose update is taken, it stands in the slot of s, and the update leaves the batch
+abbrev with_answer : State → ℕ → Replica → ℕ → Thread → Answered → Stage → Option State
+with_answer state r replica s other answered (Taken call) =
+    Some (with_replica (with_thread state s (record other { stage = Ready answered })) r (without s replica))
+with_answer state r replica s other answered stage = None
+
+abbrev pub answer : State → ℕ → ℕ → Option State
 answer state t s =
-    by_holder state t (λ thread r replica. by_thread state s (λ other. option_and_then (λ answered.
-    Some (with_replica (with_thread state s (record other { stage = Ready answered })) r (without s replica)))
-    (option_and_then (λ update. update.noted) (find (λ update. update.thread == s) replica.batch))))
+    by_holder state t (λ thread r replica. by_thread state s (λ other.
+    option_and_then (λ answered. with_answer state r replica s other answered other.stage) (noted_for s replica)))
 
 -- Release: where all that was fetched is applied, the lock is free
-abbrev release : State → ℕ → Option State
+abbrev pub release : State → ℕ → Option State
 release state t =
     by_holder state t (λ thread r replica.
     when (has_applied_all replica)
@@ -141,7 +158,7 @@ with_look state t thread (Called call (Update action)) = None
 with_look state t thread (Called call request) = Some (with_thread state t (record thread { stage = Looked call request state.completed }))
 with_look state t thread stage = None
 
-abbrev look : State → ℕ → Option State
+abbrev pub look : State → ℕ → Option State
 look state t = by_thread state t (λ thread. with_look state t thread thread.stage)
 
 -- Read: where the thread has looked, its replica's lock is free, and as much is applied there as it noted, it has its answer
@@ -151,11 +168,11 @@ with_read state t thread replica (Looked call request completed) =
     when (is_none replica.holder && nat_le completed replica.applied) (with_thread state t (record thread { stage = HasRead read }))
 with_read state t thread replica stage = None
 
-abbrev read : State → ℕ → Option State
+abbrev pub read : State → ℕ → Option State
 read state t = by_thread state t (λ thread. at_replica state (home state t) (λ replica. with_read state t thread replica thread.stage))
 
 -- Reply: where the answer stands in the slot, or the thread has read, the reply is recorded, and no call is open
-abbrev with_reply : State → ℕ → Thread → Answered → Option State
+abbrev pub with_reply : State → ℕ → Thread → Answered → Option State
 with_reply state t thread answered =
     Some (record (with_thread state t (record thread { stage = Idle }))
     { events = state.events ++ events.Reply answered.call answered.at answered.answer ∷ [] })
@@ -165,7 +182,7 @@ reply_at state t thread (Ready answered) = with_reply state t thread answered
 reply_at state t thread (HasRead answered) = with_reply state t thread answered
 reply_at state t thread stage = None
 
-abbrev reply : State → ℕ → Option State
+abbrev pub reply : State → ℕ → Option State
 reply state t = by_thread state t (λ thread. reply_at state t thread thread.stage)
 
 abbrev act : State → ℕ → Act → Option State

@@ -1,0 +1,4 @@
+-- Loop invariants and the insides of models: no public clause cites them.
+pub mod OneSpace
+pub mod Parts
+pub mod Views
