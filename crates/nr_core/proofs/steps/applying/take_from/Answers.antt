@@ -6,7 +6,7 @@ use Rattle.nr_core.specs.declared.stage.Collected.{Collected}
 use Rattle.nr_core.proofs.steps.applying.take_from.Goals as goal
 
 pub returns-clause-seen : goal.returns-clause-seen
-returns-clause-seen c = rw (c.is_placed.ensures, c.deref.ensures.value, c.keep_others.ensures) refl
+returns-clause-seen c = rw (c.is_placed-stored.ensures, c.deref.ensures.value, c.keep_others.ensures) refl
 
 pub returns-clause-each : goal.returns-clause-each
 returns-clause-each c layout good = record {
