@@ -1,7 +1,7 @@
 -- The parts of a state: what is read of one, and that a change of one keeps the others.
-use Rattle.std.proofs.Common.{◌≡◌, ℕ, ◌+◌, ◌*◌, ◌<◌, ◌≤◌, List, [], ◌∷◌, ◌++◌, length, map, drop, Option, Some, None, slice_set, slice_index_or, refl, sym, ap, subst, ◌∙◌, arith, nat_lt, true, false, inl, inr}
+use Rattle.std.proofs.Common.{◌≡◌, ℕ, ◌+◌, ◌<◌, ◌≤◌, List, [], ◌∷◌, ◌++◌, length, map, Some, None, slice_set, slice_index_or, refl, sym, ap, subst, ◌∙◌, arith, nat_lt, true, false, inl, inr}
 use Rattle.std.proofs.lemmas.Bool.{false≢true}
-use Rattle.std.specs.Prelude.{All, slice_get, sum_by, option_map, IsSome, MatchBool}
+use Rattle.std.specs.Prelude.{All, slice_get, option_map, IsSome, MatchBool}
 use Rattle.std.proofs.lemmas.Bool.Decides.{nat_tests}
 use Rattle.std.proofs.lemmas.List.{length-set, map-set, length-map, length-append, set-get_or}
 use Rattle.std.proofs.lemmas.List.Elements.{All-set, All-get_or, All-push, All-append}
@@ -52,10 +52,10 @@ with_other_thread {layout} {events} {log} {replicas} {threads} t x y parts withi
   few_entries = parts.few_entries;
   recorded = parts.recorded;
   few_events =
-    let sums = sum_by-set events_left threads t y x within in
-    let same : events_left (slice_index_or threads t x) ≡ events_left x = ap events_left (sym is) in
-    let few = parts.few_events in
-    omega (arith, sums, same, few, fewer);
+      let sums = sum_by-set events_left threads t y x within in
+      let same : events_left (slice_index_or threads t x) ≡ events_left x = ap events_left (sym is) in
+      let few = parts.few_events in
+      omega (arith, sums, same, few, fewer);
 }
 
 -- another replica in the place of one
@@ -129,11 +129,11 @@ with_other_event {layout} {events} {log} {replicas} {threads} t x y event parts 
   few_entries = parts.few_entries;
   recorded = All-push (IsEvent V2 layout) events event parts.recorded fits;
   few_events =
-    let sums = sum_by-set events_left threads t y x within in
-    let same : events_left (slice_index_or threads t x) ≡ events_left x = ap events_left (sym is) in
-    let few = parts.few_events in
-    let more = length-append events (event ∷ []) in
-    omega (arith, sums, same, few, fewer, more);
+      let sums = sum_by-set events_left threads t y x within in
+      let same : events_left (slice_index_or threads t x) ≡ events_left x = ap events_left (sym is) in
+      let few = parts.few_events in
+      let more = length-append events (event ∷ []) in
+      omega (arith, sums, same, few, fewer, more);
 }
 
 -- the state, where one thread is another, and an event more is recorded

@@ -1,5 +1,5 @@
 -- The parts of the state at the start.
-use Rattle.std.proofs.Common.{◌≡◌, ℕ, ◌+◌, ◌*◌, ◌<◌, ◌≤◌, List, [], ◌∷◌, length, map, get_or, replicate, refl, sym, ap, subst, ◌∙◌, arith}
+use Rattle.std.proofs.Common.{◌≡◌, ◌*◌, ◌<◌, List, [], ◌∷◌, length, map, replicate, refl, sym, ap, subst, ◌∙◌, arith}
 use Rattle.std.specs.Global.{Vec}
 use Rattle.std.specs.Prelude.{All, sum_by}
 use Rattle.std.proofs.lemmas.List.{get_or-map, length-map, length-replicate}
@@ -9,8 +9,7 @@ use Rattle.vs_types.specs.Config.{Layout}
 use Rattle.vs_types.specs.Query.{IsQuery}
 use Rattle.vs_types.specs.declared.request.Query.{Query}
 use Rattle.nr_core.specs.Run.{AreScripts}
-use Rattle.nr_core.specs.State.{Thread, new_thread, new_replica}
-use Rattle.nr_core.specs.declared.parts.ThreadState.{ThreadState}
+use Rattle.nr_core.specs.State.{new_thread, new_replica}
 use Rattle.nr_core.specs.declared.parts.ReplicaState.{ReplicaState}
 use Rattle.nr_core.specs.inside.Parts.{thread_in, thread_of, replica_in, events_left, IsThread, IsReplica, AreParts}
 

@@ -19,11 +19,7 @@ impl Core {
     /// # Errors
     ///
     /// Out of memory.
-    pub fn new(
-        alloc: Global,
-        config: Config,
-        scripts: Vec<Vec<Request>>,
-    ) -> Result<Core, Memory>
+    pub fn new(alloc: Global, config: Config, scripts: Vec<Vec<Request>>) -> Result<Core, Memory>
         requires { AreScripts config (map (λ script. script.items) scripts.items) }
         ensures { IfOk result (λ core. core ≡ start config (map (λ script. script.items) scripts.items)) }
     {

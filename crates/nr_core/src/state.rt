@@ -1,8 +1,8 @@
 use crate::parts::{ReplicaState, ThreadState};
+use nr_trace::Recorded;
 use std::alloc::Global;
 use std::marker::Model;
 use vs_types::{Config, LogEntry};
-use nr_trace::Recorded;
 
 /// The state of the protocol. Contracts see it with the space of each replica in place of its page table.
 #[derive(Drop)]

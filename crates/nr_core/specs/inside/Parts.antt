@@ -1,7 +1,7 @@
 -- How the code keeps the parts of a state.
 use Rattle.std.specs.Prelude.{ℕ, ◌≡◌, ◌+◌, ◌*◌, ◌≤◌, List, None, length, drop, map, All, sum_by}
 use Rattle.std.specs.Global.{Vec}
-use Rattle.vs_types.specs.Config.{Layout, IsLayout}
+use Rattle.vs_types.specs.Config.{Layout}
 use Rattle.vs_types.specs.Operation.{IsAction}
 use Rattle.vs_types.specs.Query.{IsQuery}
 use Rattle.vs_types.specs.declared.depth.Depth.{Depth}

@@ -1,6 +1,5 @@
 -- What the code reads of a state.
 use Rattle.std.specs.Prelude.{◌≡◌, ℕ, ◌<◌, ◌≤◌, List, ◌∷◌, slice_get, Option, Some}
-use Rattle.vs_types.specs.declared.depth.Depth.{Depth}
 use Rattle.vs_types.specs.Operation.{IsAction}
 use Rattle.vs_types.specs.Query.{IsQuery}
 use Rattle.vs_types.specs.declared.limits.TheConstants.{LOG_PLACES}

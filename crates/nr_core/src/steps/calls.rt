@@ -2,7 +2,6 @@
 ghost use Rattle.std.specs.Prelude.{◌≡◌, Some, None, MatchOption, MatchResult};
 ghost use Rattle.nr_core.specs.Run.{IsStepped};
 ghost use Rattle.nr_core.specs.Steps as steps;
-
 ghost use Rattle.nr_core.specs.inside.Views.{MayCall};
 
 use crate::stage::Stage;

@@ -1,5 +1,4 @@
-use Rattle.std.proofs.Common.{◌≡◌, ◌==◌, ◌<◌, true, false, Some, None, length, get_or, take, refl, ap, sym, subst, ◌∙◌, rules, arith}
-use Rattle.std.specs.Prelude.{find, option_and_then}
+use Rattle.std.proofs.Common.{◌≡◌, ◌==◌, true, false, get_or, refl, rules}
 use Rattle.nr_core.specs.declared.stage.Collected.{Collected}
 use Rattle.nr_core.proofs.Lists.{found_at, none_more}
 use Rattle.nr_core.proofs.batch.find_noted.Goals as goal

@@ -1,4 +1,4 @@
-use Rattle.std.proofs.Common.{◌≡◌, ◌+◌, ◌≤◌, true, take}
+use Rattle.std.proofs.Common.{◌≡◌, ◌+◌, true, take}
 use Rattle.std.specs.Prelude.{nat_le}
 use Rattle.std.specs.List.{list_all}
 use Rattle.nr_core.proofs.batch.keep_up.Given as goal

@@ -1,5 +1,4 @@
-use Rattle.std.proofs.Common.{◌≡◌, ◌<◌, ◌++◌, length, map, get_or, take, drop, refl, sym, ap, ◌∙◌, rules, arith}
-use Rattle.std.proofs.lemmas.List.{length-map, length-append, length-drop, length-take}
+use Rattle.std.proofs.Common.{◌≡◌, ◌<◌, ◌++◌, length, map, get_or, take, drop, rules}
 use Rattle.nr_core.specs.Steps as steps
 use Rattle.nr_core.proofs.Lists.{mapped_more}
 use Rattle.nr_core.proofs.batch.note.Goals as goal

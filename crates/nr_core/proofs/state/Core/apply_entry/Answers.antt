@@ -1,8 +1,8 @@
-use Rattle.std.proofs.Common.{◌≡◌, ◌<◌, length, slice_index_or, refl, sym, subst, ap, ◌∙◌, rules}
-use Rattle.std.specs.Prelude.{IsSome, slice_get}
+use Rattle.std.proofs.Common.{◌≡◌, slice_index_or, sym, subst, ap, ◌∙◌, rules}
+use Rattle.std.specs.Prelude.{slice_get}
 use Rattle.nr_core.specs.Steps as steps
 use Rattle.nr_core.specs.inside.Parts.{replica_in, IsReplica}
-use Rattle.nr_core.proofs.Keeping.{some_seen, seen_within, seen_is, one_of, with_other_replica, set_replica}
+use Rattle.nr_core.proofs.Keeping.{seen_within, seen_is, one_of, with_other_replica, set_replica}
 use Rattle.nr_core.proofs.state.Core.apply_entry.Goals as goal
 
 pub invariant_of-self : goal.invariant_of-self
@@ -25,5 +25,5 @@ returns c before there =
     let good = one_of (IsReplica c.self.inside.config) replicas c.args.replica x within at c.self.invariant.each_replica in
     let good' = subst (λ s. IsReplica s.layout x) c.self.view_is good in
     let seen : replica_in c.apply_to.new.stored ≡ steps.with_entry c.args.self.now before c.args.entry =
-        c.apply_to.ensures.seen c.args.self.now good' ∙ ap (λ r. steps.with_entry c.args.self.now r c.args.entry) (sym is) in
+    c.apply_to.ensures.seen c.args.self.now good' ∙ ap (λ r. steps.with_entry c.args.self.now r c.args.entry) (sym is) in
     set_replica c.self.inside _ _ c.self.view_is c.from.ensures seen

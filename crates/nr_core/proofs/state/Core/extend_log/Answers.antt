@@ -17,11 +17,11 @@ invariant_of-self c =
     let x = c.index.result.now in
     let at : x ≡ slice_index_or replicas c.args.replica x = search rules in
     let within : c.args.replica < length replicas =
-        some_seen replica_in replicas c.args.replica (subst (λ s. IsSome (slice_get s.replicas c.args.replica)) (sym c.self.view_is) c.requires.there) in
+    some_seen replica_in replicas c.args.replica (subst (λ s. IsSome (slice_get s.replicas c.args.replica)) (sym c.self.view_is) c.requires.there) in
     let good = one_of (IsReplica c.self.inside.config) replicas c.args.replica x within at c.self.invariant.each_replica in
     let there = ap (λ s. slice_get s.replicas c.args.replica) (sym c.self.view_is) ∙ seen_at replica_in replicas c.args.replica x within at in
     let room : length c.self.inside.log.items + length x.batch.items ≤ LOG_PLACES =
-        subst (λ s. length s.log + length x.batch.items ≤ LOG_PLACES) (sym c.self.view_is) (c.requires.room (replica_in x) there) in
+    subst (λ s. length s.log + length x.batch.items ≤ LOG_PLACES) (sym c.self.view_is) (c.requires.room (replica_in x) there) in
     let depth = c.self.inside.config.depth in
     elim c.match-push_entries.branch [
       | in-Ok w ↦

@@ -1,4 +1,4 @@
-use Rattle.std.proofs.Common.{◌≡◌, length, rules}
+use Rattle.std.proofs.Common.{rules}
 use Rattle.nr_core.specs.inside.Parts.{replica_in}
 use Rattle.nr_core.proofs.Keeping.{there_or_not}
 use Rattle.nr_core.proofs.state.Core.has_replica.Goals as goal

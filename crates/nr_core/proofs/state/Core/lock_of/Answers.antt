@@ -1,5 +1,4 @@
-use Rattle.std.proofs.Common.{◌≡◌, Some, rules, ◌∙◌}
-use Rattle.nr_core.specs.State as states
+use Rattle.std.proofs.Common.{Some, rules}
 use Rattle.nr_core.specs.inside.Views.{HoldsJust}
 use Rattle.nr_core.proofs.state.Core.lock_of.Goals as goal
 

@@ -1,6 +1,4 @@
-use Rattle.std.proofs.Common.{◌≡◌, ◌<◌, ◌∷◌, [], suc, Some, None, drop, length, slice_index_or, refl, sym, ap, ◌∙◌, rules}
-use Rattle.std.specs.Prelude.{slice_get, All}
-use Rattle.std.proofs.lemmas.List.Elements.{All-get_or}
+use Rattle.std.proofs.Common.{◌≡◌, ◌<◌, [], suc, drop, length, slice_index_or, refl, rules}
 use Rattle.std.proofs.lemmas.Option.{slice_get_read, slice_get_past}
 use Rattle.vs_types.specs.Query.{IsQuery}
 use Rattle.nr_core.specs.inside.Parts.{thread_in, IsThread}

@@ -15,7 +15,7 @@ invariant_of-self c =
     let x = c.index_mut.result.now in
     let at : x ≡ slice_index_or replicas c.args.replica x = search rules in
     let within : c.args.replica < length replicas =
-        some_seen replica_in replicas c.args.replica (subst (λ s. IsSome (slice_get s.replicas c.args.replica)) (sym c.self.view_is) c.requires.there) in
+    some_seen replica_in replicas c.args.replica (subst (λ s. IsSome (slice_get s.replicas c.args.replica)) (sym c.self.view_is) c.requires.there) in
     let good = one_of (IsReplica c.self.inside.config) replicas c.args.replica x within at c.self.invariant.each_replica in
     let update : IsAction c.self.inside.config.depth c.args.update.entry.op = subst (λ s. IsAction s.layout.depth c.args.update.entry.op) (sym c.self.view_is) c.requires.fits in
     let batch : All (λ (u : Collected). IsAction c.self.inside.config.depth u.entry.op) c.push.new.self.items = elim c.match-push.branch [

@@ -1,9 +1,9 @@
-use Rattle.std.proofs.Common.{◌≡◌, ◌<◌, ◌≤◌, ◌+◌, ◌*◌, ◌^◌, ◌%◌, ◌++◌, [], ◌∷◌, Some, length, drop, map, slice_index_or, arith, refl, sym, subst, ap, ◌∙◌, rules}
+use Rattle.std.proofs.Common.{◌≡◌, ◌<◌, ◌+◌, ◌%◌, ◌++◌, [], ◌∷◌, Some, length, drop, slice_index_or, arith, refl, sym, subst, ap, ◌∙◌, rules}
 use Rattle.std.specs.Prelude.{slice_get}
 use Rattle.vs_types.specs.Query.{IsQuery}
 use Rattle.nr_trace.specs.declared.event.Event.TheVariants.{Call}
 use Rattle.nr_core.specs.declared.stage.Stage.TheVariants.{Called}
-use Rattle.nr_core.specs.inside.Parts.{thread_in, stage_left, events_left, IsThread}
+use Rattle.nr_core.specs.inside.Parts.{thread_in, stage_left, IsThread}
 use Rattle.nr_core.specs.State.{home, Thread}
 use Rattle.std.proofs.Math.Nat.{mod-lt}
 use Rattle.nr_trace.specs.Recording.{IsEvent}
@@ -43,9 +43,12 @@ invariant_of-self-2 c =
     let old : length (drop x.made x.script.items) ≡ length c.requires.left + 1 = ap length script ∙ (omega arith) in
     let none : stage_left x.stage ≡ 0 = ap stage_left idle in
     let some_replica = c.replicas.ensures.in_range.some_replica in
-    let known : IsEvent V2 c.self.inside.config (Call (c.args.thread % c.self.inside.config.replicas) c.args.thread c.args.request) =
-        (mod-lt c.args.thread (omega (arith, some_replica)),
-        subst (λ s. c.args.thread < s.layout.threads) (sym c.self.view_is) c.requires.in_range, fits, tt) in
+    let known : IsEvent V2 c.self.inside.config (Call (c.args.thread % c.self.inside.config.replicas) c.args.thread c.args.request) = (
+      mod-lt c.args.thread (omega (arith, some_replica)),
+      subst (λ s. c.args.thread < s.layout.threads) (sym c.self.view_is) c.requires.in_range,
+      fits,
+      tt,
+    ) in
     rw (c.from-2.ensures, pushed) (with_other_event c.args.thread x _ _ c.self.invariant within at
     (record { script = good.script; stage = fits }) (omega (arith, now, old, none)) known)
 

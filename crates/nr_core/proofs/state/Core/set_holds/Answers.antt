@@ -1,4 +1,4 @@
-use Rattle.std.proofs.Common.{◌≡◌, ◌<◌, ◌≤◌, Some, length, map, slice_index_or, arith, refl, sym, subst, ap, ◌∙◌, rules}
+use Rattle.std.proofs.Common.{◌≡◌, ◌<◌, length, slice_index_or, arith, refl, sym, subst, ap, ◌∙◌, rules}
 use Rattle.std.specs.Prelude.{IsSome, slice_get}
 use Rattle.nr_core.specs.inside.Parts.{thread_in, IsThread}
 use Rattle.nr_core.proofs.Keeping.{some_seen, seen_is, one_of, with_other_thread, set_thread}

@@ -1,4 +1,4 @@
-use Rattle.std.proofs.Common.{◌≡◌, ◌<◌, ◌≤◌, Some, length, map, slice_index_or, arith, refl, sym, ap, ◌∙◌, rules, subst}
+use Rattle.std.proofs.Common.{◌≡◌, ◌≤◌, Some, map, slice_index_or, arith, refl, sym, ap, ◌∙◌, rules, subst}
 use Rattle.std.specs.Prelude.{slice_get}
 use Rattle.nr_core.specs.inside.Parts.{thread_in, stage_left, FitsStage, IsThread}
 use Rattle.nr_core.proofs.Keeping.{seen_within, seen_is, one_of, with_other_thread, set_thread}

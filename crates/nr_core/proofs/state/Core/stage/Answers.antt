@@ -1,4 +1,4 @@
-use Rattle.std.proofs.Common.{◌≡◌, ◌<◌, length, slice_index_or, arith, refl, rules}
+use Rattle.std.proofs.Common.{◌≡◌, ◌<◌, length, slice_index_or, refl, rules}
 use Rattle.nr_core.specs.inside.Parts.{thread_in, IsThread}
 use Rattle.nr_core.proofs.Keeping.{seen_at, seen_past, one_of}
 use Rattle.nr_core.proofs.state.Core.stage.Goals as goal

@@ -1,8 +1,8 @@
-use Rattle.std.proofs.Common.{◌≡◌, ◌<◌, length, slice_index_or, refl, sym, subst, ap, ◌∙◌, rules}
+use Rattle.std.proofs.Common.{◌≡◌, slice_index_or, sym, subst, ap, ◌∙◌, rules}
 use Rattle.std.specs.Prelude.{IsSome, slice_get}
 use Rattle.nr_core.specs.Steps as steps
 use Rattle.nr_core.specs.inside.Parts.{replica_in, IsReplica}
-use Rattle.nr_core.proofs.Keeping.{some_seen, seen_within, seen_is, one_of, with_other_replica, set_replica}
+use Rattle.nr_core.proofs.Keeping.{some_seen, seen_is, one_of, with_other_replica, set_replica}
 use Rattle.nr_core.proofs.state.Core.take_out.Goals as goal
 
 pub invariant_of-self : goal.invariant_of-self

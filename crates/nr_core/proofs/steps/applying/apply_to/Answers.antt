@@ -1,4 +1,4 @@
-use Rattle.std.proofs.Common.{◌≡◌, refl, sym, subst, ap, ◌∙◌, rules}
+use Rattle.std.proofs.Common.{refl, sym, subst, ◌∙◌}
 use Rattle.std.specs.Prelude.{All}
 use Rattle.vs_types.specs.Operation.{IsAction}
 use Rattle.nr_core.specs.declared.stage.Collected.{Collected}

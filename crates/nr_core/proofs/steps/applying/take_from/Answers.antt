@@ -1,4 +1,4 @@
-use Rattle.std.proofs.Common.{◌≡◌, ◌==◌, not, refl, sym, subst, ap, ◌∙◌, rules}
+use Rattle.std.proofs.Common.{◌==◌, not, refl, sym, subst}
 use Rattle.std.specs.Prelude.{All}
 use Rattle.std.proofs.lemmas.List.Elements.{All-filter}
 use Rattle.vs_types.specs.Operation.{IsAction}
@@ -13,5 +13,5 @@ returns-clause-each c layout good = record {
   depth = good.depth;
   limit = good.limit;
   batch = subst (λ items. All (λ (u : Collected). IsAction layout.depth u.entry.op) items) (sym c.keep_others.ensures)
-  (All-filter (λ (u : Collected). not (u.thread == c.args.thread)) (λ (u : Collected). IsAction layout.depth u.entry.op) _ good.batch);
+      (All-filter (λ (u : Collected). not (u.thread == c.args.thread)) (λ (u : Collected). IsAction layout.depth u.entry.op) _ good.batch);
 }
