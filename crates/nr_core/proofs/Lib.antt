@@ -1,1 +1,4 @@
 pub mod reached
+mod Keeping
+mod Lists
+mod Starting

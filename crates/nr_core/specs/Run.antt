@@ -1,5 +1,5 @@
 -- Runs of the protocol: any steps in turn, and what a recording of the state after them is.
-use Rattle.std.specs.Prelude.{◌≡◌, ℕ, ◌≤◌, List, length, map, All, sum_by, Bool, true, false, ◌&&◌, unwrap_or, None, if◌then◌else◌}
+use Rattle.std.specs.Prelude.{◌≡◌, ℕ, ◌≤◌, List, length, map, All, sum_by, Bool, true, false, ◌&&◌, unwrap_or, Option, Some, None, if◌then◌else◌}
 use Rattle.std.specs.List.{fold, list_all, AllZip}
 use Rattle.vs_types.specs.Config.{Layout}
 use Rattle.vs_types.specs.Query.{IsQuery}
@@ -21,6 +21,11 @@ use Rattle.nr_trace.specs.declared.event.Event.TheVariants.{Call, Reply}
 use Rattle.nr_core.specs.State.{State, Replica}
 use Rattle.nr_core.specs.Steps.{after_step}
 use Rattle.nr_core.specs.declared.step.Step.{Step}
+
+-- a call that makes a step: it has made it where that is enabled, and else nothing
+abbrev pub IsStepped : State → Option State → Bool → State → Type 0
+IsStepped old None done new = (done ≡ false) × (new ≡ old)
+IsStepped old (Some next) done new = (done ≡ true) × (new ≡ next)
 
 -- the state after steps in turn: those that are not enabled are passed over
 abbrev pub after_steps : State → List Step → State

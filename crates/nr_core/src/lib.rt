@@ -4,9 +4,19 @@
 //! A place is an index of the log; a call's number is the index of its event. No call waits.
 #![tactic(auto)]
 
+mod batch;
 pub mod examples;
 pub mod faultless;
+mod parts;
+mod replicas;
 mod stage;
+mod start;
+mod state;
 mod step;
+mod stepping;
+mod steps;
+mod table;
+mod threads;
 
+pub use state::Core;
 pub use step::{Act, Step};

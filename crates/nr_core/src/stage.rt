@@ -1,3 +1,6 @@
+ghost use Rattle.std.specs.Prelude.{◌≡◌};
+
+use nr_trace::Event;
 use vs_types::{Answer, LogEntry, Op, Request};
 
 /// The answer of a call.
@@ -7,6 +10,25 @@ pub(crate) struct Answered {
     /// The place of an update; for a read how many entries its replica had applied.
     pub(crate) at: u32,
     pub(crate) answer: Answer,
+}
+
+impl Answered {
+    ghost use Rattle.vs_types.specs.Config.{Layout};
+    ghost use Rattle.nr_trace.specs.Recording.{IsEvent};
+    ghost use Rattle.nr_trace.specs.declared.event.Event.TheVariants.{Reply};
+    ghost use Rattle.nr_trace.specs.declared.version.Version.TheVariants.{V2};
+
+    /// The reply as it is recorded. Its numbers are in the ranges of any trace of version 2.
+    pub(crate) fn reply(self) -> Event
+        ensures is { result ≡ Reply self.call self.at self.answer }
+        ensures in_range { (layout : Layout) → IsEvent V2 layout result }
+    {
+        Event::Reply {
+            call: self.call,
+            at: self.at,
+            answer: self.answer,
+        }
+    }
 }
 
 /// How far a thread has come with its call. Its slot is empty but where the stage says otherwise.

@@ -1,0 +1,107 @@
+-- Loops over lists.
+use Rattle.std.proofs.Common.{◌≡◌, ℕ, zero, suc, ◌+◌, ◌<◌, Bool, true, false, cond, List, [], ◌∷◌, ◌++◌, length, map, take, drop, get_or, set, Some, None, refl, ap, arith, sym, subst, ◌&&◌, nat_eq}
+use Rattle.std.specs.Prelude.{find, slice_get, All}
+use Rattle.std.proofs.lemmas.List.Elements.{All-map}
+use Rattle.vs_types.specs.Operation.{IsAction}
+use Rattle.vs_types.specs.declared.depth.Depth.{Depth}
+use Rattle.nr_core.specs.Steps.{is_some_left, note}
+use Rattle.nr_core.specs.declared.stage.Answered.{Answered}
+use Rattle.nr_core.specs.declared.stage.Collected.{Collected}
+use Rattle.std.specs.List.{list_all}
+
+more : (i : ℕ) → suc i ≡ i + 1
+more i = omega arith
+
+-- one element more is mapped in place
+mapped_next : {A : Type 0} (f : A → A) (xs : List A) (i : ℕ) (d : A) → i < length xs
+    → set (map f (take i xs) ++ drop i xs) i (f (get_or (map f (take i xs) ++ drop i xs) i d)) ≡ map f (take (suc i) xs) ++ drop (suc i) xs
+mapped_next f [] i d within = absurd (omega (arith, within))
+mapped_next f (x ∷ xs) zero d within = refl
+mapped_next f (x ∷ xs) (suc i) d within = ap (λ ys. f x ∷ ys) (mapped_next f xs i d (omega (arith, within)))
+
+pub mapped_more : {A : Type 0} (f : A → A) (xs : List A) (i : ℕ) (d : A) → i < length xs
+    → set (map f (take i xs) ++ drop i xs) i (f (get_or (map f (take i xs) ++ drop i xs) i d)) ≡ map f (take (i + 1) xs) ++ drop (i + 1) xs
+mapped_more f xs i d within =
+    subst (λ n. set (map f (take i xs) ++ drop i xs) i (f (get_or (map f (take i xs) ++ drop i xs) i d)) ≡ map f (take n xs) ++ drop n xs) (more i)
+    (mapped_next f xs i d within)
+
+-- the first element that passes stands here
+pub found_at : {A : Type 0} (p : A → Bool) (xs : List A) (i : ℕ) (d : A) → find p (take i xs) ≡ None → i < length xs → p (get_or xs i d) ≡ true
+    → find p xs ≡ Some (get_or xs i d)
+found_at p [] i d none within passes = absurd (omega (arith, within))
+found_at p (x ∷ xs) zero d none within passes = rw passes refl
+found_at p (x ∷ xs) (suc i) d none within passes =
+    elim (p x) as (λ b. p x ≡ b → cond b (Some x) (find p (take i xs)) ≡ None → cond b (Some x) (find p xs) ≡ Some (get_or xs i d)) [
+      | true ↦ λ e wrong. let wrong' : Some x ≡ None = wrong in cc
+      | false ↦ λ e rest. found_at p xs i d rest (omega (arith, within)) passes
+    ] refl none
+
+-- and none stands before
+none_next : {A : Type 0} (p : A → Bool) (xs : List A) (i : ℕ) (d : A) → find p (take i xs) ≡ None → i < length xs → p (get_or xs i d) ≡ false
+    → find p (take (suc i) xs) ≡ None
+none_next p [] i d none within fails = absurd (omega (arith, within))
+none_next p (x ∷ xs) zero d none within fails = rw fails refl
+none_next p (x ∷ xs) (suc i) d none within fails =
+    elim (p x) as (λ b. p x ≡ b → cond b (Some x) (find p (take i xs)) ≡ None → cond b (Some x) (find p (take (suc i) xs)) ≡ None) [
+      | true ↦ λ e wrong. wrong
+      | false ↦ λ e rest. none_next p xs i d rest (omega (arith, within)) fails
+    ] refl none
+
+pub none_more : {A : Type 0} (p : A → Bool) (xs : List A) (i : ℕ) (d : A) → find p (take i xs) ≡ None → i < length xs → p (get_or xs i d) ≡ false
+    → find p (take (i + 1) xs) ≡ None
+none_more p xs i d none within fails = subst (λ n. find p (take n xs) ≡ None) (more i) (none_next p xs i d none within fails)
+
+-- one that fails is enough
+pub fails_at : {A : Type 0} (p : A → Bool) (xs : List A) (i : ℕ) (d : A) → i < length xs → p (get_or xs i d) ≡ false → list_all p xs ≡ false
+fails_at p [] i d within fails = absurd (omega (arith, within))
+fails_at p (x ∷ xs) zero d within fails = rw fails refl
+fails_at p (x ∷ xs) (suc i) d within fails =
+    elim (p x) as (λ b. (b && list_all p xs) ≡ false) [
+      | true ↦ fails_at p xs i d (omega (arith, within)) fails
+      | false ↦ refl
+    ]
+
+pub list_all-map : {A B : Type 0} (p : B → Bool) (f : A → B) (xs : List A) → list_all p (map f xs) ≡ list_all (λ x. p (f x)) xs
+list_all-map p f [] = refl
+list_all-map p f (x ∷ xs) = ap (λ b. p (f x) && b) (list_all-map p f xs)
+
+-- what is left of a list, and its first
+next_left : {A : Type 0} (xs : List A) (n : ℕ) (x : A) (ys : List A) → drop n xs ≡ x ∷ ys → (n < length xs) × (drop (suc n) xs ≡ ys)
+next_left [] zero x ys is = let wrong : [] ≡ x ∷ ys = is in cc
+next_left [] (suc n) x ys is = let wrong : [] ≡ x ∷ ys = is in cc
+next_left (z ∷ zs) zero x ys is = let it : z ∷ zs ≡ x ∷ ys = is in (omega arith, cc)
+next_left (z ∷ zs) (suc n) x ys is = let rest = next_left zs n x ys is in (omega (arith, rest.0), rest.1)
+
+pub drop_next : {A : Type 0} (xs : List A) (n : ℕ) (x : A) (ys : List A) → drop n xs ≡ x ∷ ys → (n < length xs) × (drop (n + 1) xs ≡ ys)
+drop_next xs n x ys is = let next = next_left xs n x ys is in (next.0, subst (λ m. drop m xs ≡ ys) (more n) next.1)
+
+pub drop_first : {A : Type 0} (xs : List A) (n : ℕ) (x : A) → slice_get xs n ≡ Some x → drop n xs ≡ x ∷ drop (suc n) xs
+drop_first [] n x is = let wrong : None ≡ Some x = is in cc
+drop_first (z ∷ zs) zero x is = let it : Some z ≡ Some x = is in cc
+drop_first (z ∷ zs) (suc n) x is = drop_first zs n x is
+
+pub drop_none : {A : Type 0} (xs : List A) (n : ℕ) → slice_get xs n ≡ None → drop n xs ≡ []
+drop_none [] zero is = refl
+drop_none [] (suc n) is = refl
+drop_none (z ∷ zs) zero is = let wrong : Some z ≡ None = is in cc
+drop_none (z ∷ zs) (suc n) is = drop_none zs n is
+
+-- what is left of a batch
+pub some_left : (batch : List Collected) → (length batch ≡ 0 → ⊥) → is_some_left batch ≡ true
+some_left [] some = absurd (some refl)
+some_left (u ∷ batch) some = refl
+
+pub none_left : (batch : List Collected) → length batch ≡ 0 → is_some_left batch ≡ false
+none_left [] none = refl
+none_left (u ∷ batch) none = absurd (omega (arith, none))
+
+-- a note leaves the entries
+note_entry : (answered : Answered) (u : Collected) → (note answered u).entry ≡ u.entry
+note_entry answered u =
+    elim (nat_eq u.entry.call answered.call) as (λ b. (cond b (record u { noted = Some answered }) u).entry ≡ u.entry) [ true ↦ refl | false ↦ refl ]
+
+pub noted_good : (depth : Depth) (answered : Answered) (batch : List Collected) → All (λ u. IsAction depth u.entry.op) batch
+    → All (λ u. IsAction depth u.entry.op) (map (note answered) batch)
+noted_good depth answered batch all =
+    All-map (λ (u : Collected). IsAction depth u.entry.op) (note answered) batch
+    (λ k d within. subst (λ e. IsAction depth e.op) (sym (note_entry answered (get_or batch k d))) (all k d within))

@@ -1,0 +1,38 @@
+use Rattle.std.proofs.Common.{◌≡◌, ◌<◌, [], suc, drop, length, slice_index_or, refl, rules}
+use Rattle.std.proofs.lemmas.Option.{slice_get_read, slice_get_past}
+use Rattle.vs_types.specs.Query.{IsQuery}
+use Rattle.nr_core.specs.inside.Parts.{thread_in, IsThread}
+use Rattle.nr_core.proofs.Keeping.{seen_at, one_of}
+use Rattle.nr_core.proofs.Lists.{drop_first, drop_none}
+use Rattle.nr_core.proofs.state.Core.next_request.Goals as goal
+
+pub returns-then-made-len : goal.returns-then-made-len
+returns-then-made-len c =
+    let threads = c.self.inside.threads.items in
+    let x = c.index-state.result.now in
+    let within : c.args.thread < length threads = search rules in
+    let at : x ≡ slice_index_or threads c.args.thread x = search rules in
+    let below : x.made < length x.script.items = search rules in
+    let read : c.index.result.now ≡ slice_index_or x.script.items x.made c.index.result.now = search rules in
+    let got = slice_get_read x.script.items (length x.script.items) x.made c.index.result.now refl below read in
+    let good = one_of (IsThread c.self.inside.config.depth) threads c.args.thread x within at c.self.invariant.each_thread in
+    let one = one_of (IsQuery c.self.inside.config.depth) x.script.items x.made c.index.result.now below read good.script in
+    rw (← c.self.view_is) record {
+      thread = thread_in x;
+      left = drop (suc x.made) x.script.items;
+      there = seen_at thread_in threads c.args.thread x within at;
+      idle = c.in-Idle.is;
+      next = drop_first x.script.items x.made _ got;
+      fits = one;
+      in_range = search rules;
+    }
+
+pub returns-else-made-len : goal.returns-else-made-len
+returns-else-made-len c =
+    let threads = c.self.inside.threads.items in
+    let x = c.index-state.result.now in
+    let within : c.args.thread < length threads = search rules in
+    let at : x ≡ slice_index_or threads c.args.thread x = search rules in
+    let got = slice_get_past x.script.items x.made (search rules) in
+    let nothing : (thread_in x).script ≡ [] = drop_none x.script.items x.made got in
+    rw (← c.self.view_is, seen_at thread_in threads c.args.thread x within at, nothing) refl

@@ -1,0 +1,98 @@
+-- How the code keeps the parts of a state.
+use Rattle.std.specs.Prelude.{ℕ, ◌≡◌, ◌+◌, ◌*◌, ◌≤◌, List, None, length, drop, map, All, sum_by}
+use Rattle.std.specs.Global.{Vec}
+use Rattle.vs_types.specs.Config.{Layout}
+use Rattle.vs_types.specs.Operation.{IsAction}
+use Rattle.vs_types.specs.Query.{IsQuery}
+use Rattle.vs_types.specs.declared.depth.Depth.{Depth}
+use Rattle.vs_types.specs.declared.request.Query.{Query}
+use Rattle.vs_types.specs.declared.request.Query.TheVariants.{Update}
+use Rattle.vs_types.specs.declared.limits.TheConstants.{LOG_PLACES, CALLS}
+use Rattle.vs_types.specs.declared.log_entry.LogEntry.{LogEntry}
+use Rattle.nr_trace.specs.Recording.{IsEvent}
+use Rattle.nr_trace.specs.declared.event.Event.{Event}
+use Rattle.nr_trace.specs.declared.version.Version.TheVariants.{V2}
+use Rattle.nr_core.specs.State.{State, Thread, Replica}
+use Rattle.nr_core.specs.declared.parts.ThreadState.{ThreadState}
+use Rattle.nr_core.specs.declared.parts.ReplicaState.{ReplicaState}
+use Rattle.nr_core.specs.declared.parts.Marks.{Marks}
+use Rattle.nr_core.specs.declared.stage.Stage.{Stage}
+use Rattle.nr_core.specs.declared.stage.Stage.TheVariants.{Idle, Called, Posted, Taken, Ready, Looked, HasRead}
+
+abbrev pub thread_in : ThreadState → Thread
+thread_in t = record { script = drop t.made t.script.items; stage = t.stage; holds = t.holds }
+
+abbrev pub replica_in : ReplicaState → Replica
+replica_in r = record {
+  holder = r.marks.holder;
+  batch = r.batch.items;
+  placed = r.marks.placed;
+  local = r.marks.local;
+  applied = r.marks.applied;
+  space = r.table.of.0;
+}
+
+-- how far a replica has come; and the replica that has come so far
+abbrev pub marks_of : Replica → Marks
+marks_of replica = record { holder = replica.holder; placed = replica.placed; local = replica.local; applied = replica.applied }
+
+abbrev pub with_marks : Replica → Marks → Replica
+with_marks replica marks = record replica { holder = marks.holder; placed = marks.placed; local = marks.local; applied = marks.applied }
+
+-- the state of which these are the parts
+abbrev pub state_in : Layout → List Event → List LogEntry → ℕ → List ReplicaState → List ThreadState → State
+state_in layout events log completed replicas threads = record {
+  layout = layout;
+  events = events;
+  log = log;
+  completed = completed;
+  replicas = map replica_in replicas;
+  threads = map thread_in threads;
+}
+
+-- a well-formed read
+abbrev pub FitsRead : Depth → Query → Type 0
+FitsRead depth (Update action) = ⊥
+FitsRead depth request = IsQuery depth request
+
+-- the thread of a script, at the start
+abbrev pub thread_of : Vec Query → ThreadState
+thread_of script = record { script = script; made = 0; stage = Idle; holds = None }
+
+-- what a stage has of a call is well formed at the depth
+abbrev pub FitsStage : Depth → Stage → Type 0
+FitsStage depth Idle = Unit {0}
+FitsStage depth (Called call request) = IsQuery depth request
+FitsStage depth (Posted call action) = IsAction depth action
+FitsStage depth (Taken call) = Unit {0}
+FitsStage depth (Ready answered) = Unit {0}
+FitsStage depth (Looked call request completed) = FitsRead depth request
+FitsStage depth (HasRead answered) = Unit {0}
+
+-- how many events the open call has still to record
+abbrev pub stage_left : Stage → ℕ
+stage_left Idle = 0
+stage_left stage = 1
+
+abbrev pub events_left : ThreadState → ℕ
+events_left t = 2 * length (drop t.made t.script.items) + stage_left t.stage
+
+pub record IsThread (depth : Depth) (t : ThreadState) : Type 0 where
+  pub script : All (IsQuery depth) t.script.items
+  pub stage : FitsStage depth t.stage
+
+pub record IsReplica (layout : Layout) (r : ReplicaState) : Type 0 where
+  pub depth : r.table.pages.depth ≡ layout.depth
+  pub limit : r.table.pages.limit ≡ layout.tables
+  pub batch : All (λ update. IsAction layout.depth update.entry.op) r.batch.items
+
+-- what holds of the parts of each state
+pub record AreParts (layout : Layout) (events : List Event) (log : List LogEntry) (replicas : List ReplicaState) (threads : List ThreadState) : Type 0 where
+  pub each_thread : All (IsThread layout.depth) threads
+  pub each_replica : All (IsReplica layout) replicas
+  pub one_replica_each : length replicas ≡ layout.replicas
+  pub one_thread_each : length threads ≡ layout.threads
+  pub entries : All (λ entry. IsAction layout.depth entry.op) log
+  pub few_entries : length log ≤ LOG_PLACES
+  pub recorded : All (IsEvent V2 layout) events
+  pub few_events : length events + sum_by events_left threads ≤ CALLS
