@@ -8,7 +8,7 @@ use Rattle.log_tests.proofs.party.Party.advance_to.Goals as goal
 pub advance-requires-clause-to : goal.advance-requires-clause-to
 advance-requires-clause-to g c =
     let history : IsLogHistory Five 4 c.self.inside.pass.view.seen =
-        subst (λ (k : Known). IsLogHistory Five 4 k.view.seen) (sym c.self.view_is) c.requires.history in
+    subst (λ (k : Known). IsLogHistory Five 4 k.view.seen) (sym c.self.view_is) c.requires.history in
     let fits = c.needed_entries_fit_the_ring.ensures Five 4 c.self.inside.pass.view.seen history in
     let there : c.args.tails.tail ≡ tail (log_after 4 c.self.inside.pass.view.seen) = cc in
     record {
