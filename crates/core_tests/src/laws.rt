@@ -1,0 +1,16 @@
+//! Laws of the definitions. Each function does nothing: its clause says what holds.
+
+ghost use Rattle.std.specs.Prelude.{◌≡◌, ℕ, List};
+ghost use Rattle.nr_audit.specs.Verdict.{IsVerdictOf};
+ghost use Rattle.nr_audit.specs.declared.verdict.Verdict.{Verdict};
+ghost use Rattle.nr_audit.specs.declared.verdict.Verdict.TheVariants.{Yes};
+ghost use Rattle.nr_core.specs.Faultless.{IsRecordingOfSteps};
+ghost use Rattle.nr_trace.specs.Orders.{recorded_order};
+ghost use Rattle.nr_trace.specs.Recording.{Recording};
+ghost use Rattle.nr_trace.specs.Spelling.{Spells};
+
+/// Whatever the steps: the verdict on the spelling of a recording of them is yes, with its recorded order.
+pub fn steps_are_judged_yes()
+    ensures { (trace : Recording) (bytes : List ℕ) (verdict : Verdict) → IsRecordingOfSteps trace → Spells bytes trace → IsVerdictOf bytes verdict
+        → verdict ≡ Yes (recorded_order trace) }
+{}

@@ -1,0 +1,13 @@
+//! What the auditor says of the protocol's recordings: the law that it says yes, and worked examples of the public calls of the
+//! core. No crate stands on this one, so that the core does not stand on the auditor.
+#![tactic(auto)]
+
+#[cfg(test)]
+mod cases;
+#[cfg(test)]
+mod growths;
+pub mod laws;
+#[cfg(test)]
+mod lists;
+#[cfg(test)]
+mod scripts;

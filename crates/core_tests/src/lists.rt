@@ -1,0 +1,253 @@
+//! Lists of 200 steps from a fixed seed: the auditor says yes to the recording of each.
+ghost use Rattle.std.specs.Prelude.{◌<◌, map};
+ghost use Rattle.nr_core.specs.Run.{AreScripts};
+
+use crate::scripts::{assert_scripts, order_of, step};
+use nr_core::{Act, Core, Step, run_steps};
+use nr_trace::{Trace, write};
+use std::alloc::Global;
+use std::process::Abort;
+use std::test::Fail;
+use vs_types::{Access, Config, Depth, Memory, Mode, Op, Request, Rights, Size};
+
+/// A linear congruential generator (Knuth's MMIX), of which the upper 32 bits are taken.
+#[derive(Drop)]
+struct Draws {
+    state: u64,
+}
+
+impl Draws {
+    /// A number below `end`.
+    fn below(&mut self, end: u32) -> u32
+        requires { 0 < end }
+        ensures { result < end }
+    {
+        self.state = self
+            .state
+            .wrapping_mul(6364136223846793005)
+            .wrapping_add(1442695040888963407);
+        ((self.state >> 32) as u32) % end
+    }
+}
+
+fn rights_of(bits: u32) -> Rights {
+    Rights {
+        write: bits & 1 != 0,
+        user: bits & 2 != 0,
+        exec: bits & 4 != 0,
+    }
+}
+
+fn size_of(number: u32) -> Size {
+    match number {
+        0 => Size::M2,
+        1 => Size::G1,
+        _ => Size::K4,
+    }
+}
+
+/// One of a few bases, near one another, in either half of the address space.
+fn base_of(draws: &mut Draws, depth: Depth, size: Size) -> u64 {
+    let high = match depth {
+        Depth::Four => 0xFFFF_8000_0000_0000,
+        Depth::Five => 0xFF00_0000_0000_0000,
+    };
+    let half = if draws.below(4) == 0 { high } else { 0 };
+    half + u64::from(draws.below(3)) * size.bytes()
+}
+
+fn request_of(rt: &impl Abort, draws: &mut Draws, depth: Depth) -> Request {
+    let size = size_of(draws.below(6));
+    let base = base_of(draws, depth, size);
+    let rights = rights_of(draws.below(8));
+    let mode = if draws.below(2) == 0 {
+        Mode::User
+    } else {
+        Mode::Supervisor
+    };
+    let access = match draws.below(3) {
+        0 => Access::Read,
+        1 => Access::Write,
+        _ => Access::Fetch,
+    };
+    let op = match draws.below(7) {
+        0 | 1 | 2 => Op::map(
+            depth,
+            base,
+            size,
+            u64::from(draws.below(4)) * size.bytes(),
+            rights,
+        ),
+        3 => Op::unmap(depth, base),
+        4 => Op::protect(depth, base, rights),
+        5 => return Request::resolve(depth, base).expect(rt, "a resolve"),
+        _ => return Request::access(depth, base, mode, access).expect(rt, "an access"),
+    };
+    Request::update(op.expect(rt, "an update"))
+}
+
+fn scripts_of(
+    rt: &impl Abort,
+    alloc: Global,
+    draws: &mut Draws,
+    config: Config,
+) -> Result<Vec<Vec<Request>>, Memory> {
+    let mut scripts = Vec::new(alloc);
+    for _ in 0..config.threads() {
+        let mut script = Vec::new(alloc);
+        for _ in 0..draws.below(12) {
+            script.push(request_of(rt, draws, config.depth()))?;
+        }
+        scripts.push(script)?;
+    }
+    Ok(scripts)
+}
+
+/// What the next step of a thread that goes the whole way of an update or a read would be, or any step at all.
+fn act_of(draws: &mut Draws, config: Config, thread: u16, turn: u32) -> Act {
+    let threads = u32::from(config.threads());
+    let replicas = u32::from(config.replicas());
+    let other = draws.below(threads + 1) as u16;
+    let replica = draws.below(replicas + 1) as u8;
+    let kind = if draws.below(4) == 0 {
+        draws.below(13)
+    } else {
+        turn
+    };
+    match kind {
+        0 => Act::Call,
+        1 => Act::Post,
+        2 => Act::Look,
+        3 => Act::Take(if draws.below(4) == 0 {
+            replica
+        } else {
+            (thread % u16::from(config.replicas())) as u8
+        }),
+        4 => Act::Collect(thread),
+        5 => Act::Collect(other),
+        6 => Act::Append,
+        7 => Act::Advance,
+        8 => Act::Apply,
+        9 => Act::Answer(if draws.below(4) == 0 { other } else { thread }),
+        10 => Act::Release,
+        11 => Act::Read,
+        _ => Act::Reply,
+    }
+}
+
+/// 200 steps of drawn threads.
+fn steps_of(alloc: Global, draws: &mut Draws, config: Config) -> Result<Vec<Step>, Memory> {
+    let mut turns = [0u32; 64];
+    let mut steps = Vec::new(alloc);
+    for _ in 0..200 {
+        let thread = draws.below(u32::from(config.threads())) as u16;
+        let turn = &mut turns[usize::from(thread)];
+        steps.push(step(thread, act_of(draws, config, thread, *turn)))?;
+        *turn = turn.wrapping_add(1) % 13;
+    }
+    Ok(steps)
+}
+
+/// A number for each kind of step, from 0.
+fn kind_of(act: Act) -> usize
+    ensures { result < 12 }
+{
+    match act {
+        Act::Call => 0,
+        Act::Post => 1,
+        Act::Take(_) => 2,
+        Act::Collect(_) => 3,
+        Act::Append => 4,
+        Act::Advance => 5,
+        Act::Apply => 6,
+        Act::Answer(_) => 7,
+        Act::Release => 8,
+        Act::Look => 9,
+        Act::Read => 10,
+        Act::Reply => 11,
+    }
+}
+
+/// How often a step of each kind was enabled, and was not.
+#[derive(Drop)]
+struct Counts {
+    enabled: [u64; 12],
+    refused: [u64; 12],
+}
+
+impl Counts {
+    fn count(&mut self, act: Act, done: bool) {
+        let kind = kind_of(act);
+        if done {
+            self.enabled[kind] = self.enabled[kind].wrapping_add(1);
+        } else {
+            self.refused[kind] = self.refused[kind].wrapping_add(1);
+        }
+    }
+}
+
+/// The recording of the core after the steps, which are counted.
+fn recording_of(
+    alloc: Global,
+    config: Config,
+    scripts: Vec<Vec<Request>>,
+    steps: &[Step],
+    counts: &mut Counts,
+) -> Result<Trace, Memory>
+    requires { AreScripts config (map (λ script. script.items) scripts.items) }
+{
+    let mut core = Core::new(alloc, config, scripts)?;
+    for step in steps {
+        let done = core.step(*step)?;
+        counts.count(step.act, done);
+    }
+    core.trace()
+}
+
+/// A drawn list is run twice, step by step and at once: the recordings are the same, and the auditor says yes.
+fn one_list(
+    rt: &impl Abort,
+    alloc: Global,
+    draws: &mut Draws,
+    counts: &mut Counts,
+) -> Result<(), Fail> {
+    let depth = if draws.below(2) == 0 {
+        Depth::Four
+    } else {
+        Depth::Five
+    };
+    let replicas = draws.below(4) as u8 + 1;
+    let threads = draws.below(8) as u16 + 1;
+    let tables = draws.below(24) as u16 + 1;
+    let config = Config::new(depth, replicas, threads, tables)?;
+    let mut same = Draws { state: draws.state };
+    let scripts = scripts_of(rt, alloc, draws, config)?;
+    let again = scripts_of(rt, alloc, &mut same, config)?;
+    assert_scripts(rt, config, &scripts);
+    assert_scripts(rt, config, &again);
+    let steps = steps_of(alloc, draws, config)?;
+    let by_steps = recording_of(alloc, config, scripts, &steps, counts)?;
+    let at_once = run_steps(alloc, config, again, &steps)?;
+    assert!(rt; write(alloc, &by_steps)? == write(alloc, &at_once)?);
+    order_of(rt, alloc, &at_once)?;
+    Ok(())
+}
+
+#[test]
+fn a_thousand_lists(rt: HostRuntime) -> Result<(), Fail> {
+    let mut draws = Draws { state: 1 };
+    let mut counts = Counts {
+        enabled: [0; 12],
+        refused: [0; 12],
+    };
+    for _ in 0..1000 {
+        one_list(&rt, rt.alloc(), &mut draws, &mut counts)?;
+    }
+    println!(rt; "enabled {:?}", counts.enabled)?;
+    println!(rt; "refused {:?}", counts.refused)?;
+    for kind in 0..12 {
+        assert!(rt; counts.enabled[kind] >= 500, "kind {kind}");
+        assert!(rt; counts.refused[kind] >= 500, "kind {kind}");
+    }
+    Ok(())
+}
