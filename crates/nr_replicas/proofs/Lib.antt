@@ -1,0 +1,5 @@
+pub mod Logs
+pub mod EntryEquality
+pub mod Hearing
+pub mod Rests
+pub mod NewPasses
