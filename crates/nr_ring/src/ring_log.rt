@@ -94,12 +94,14 @@ impl<J: LogName> RingLog<J> {
         replica: Option<u8>,
     ) -> LogPass<J>
         requires first { (first.old.table_id ≡ self.now)
-            × (cell_view first.old ≡ new_view (left_from J.replicas replica) (cell_view first.old).rights) }
+            × (cell_view first.old
+            ≡ new_view (left_from J.replicas replica) (cell_view first.old).rights) }
         requires right { 1 ≤ (cell_view first.old).rights }
         requires words { words ≡ new_words J.replicas }
         requires few { (J.replicas ≤ REPLICAS) × IsBelow J.replicas replica }
         ensures first { IsSamePass first.old first.new
-            × (cell_view first.new ≡ new_view (rest_of J.replicas replica) ((cell_view first.old).rights - 1)) }
+            × (cell_view first.new
+            ≡ new_view (rest_of J.replicas replica) ((cell_view first.old).rights - 1)) }
         ensures pass { result ≡ new_pass self.now (owned replica) }
     {
         let pass = self.cell.split_pass::<FirstOwned>(first);
@@ -181,7 +183,9 @@ impl<J: LogName> RingLog<J> {
     ) -> bool
         requires log { pass.old.log ≡ self.now }
         requires event { E.event ≡ Advance replica to }
-        requires may { (replica < REPLICAS) × MayAdvance (log_after J.replicas pass.old.view.seen) replica to × Contains pass.old.view.owns replica }
+        requires may { (replica < REPLICAS)
+            × MayAdvance (log_after J.replicas pass.old.view.seen) replica to
+            × Contains pass.old.view.owns replica }
         ensures log { pass.new.log ≡ pass.old.log }
         ensures view { MadeOrMoved J.depth J.replicas E.event pass.old.view pass.new.view result }
         ensures history { IsLogHistory J.depth J.replicas pass.new.view.seen }
@@ -210,9 +214,12 @@ impl<J: LogName> RingLog<J> {
         requires entries { All (IsLogEntry J.depth) batch.now }
         ensures log { pass.new.log ≡ pass.old.log }
         ensures owns { pass.new.view.owns ≡ pass.old.view.owns }
-        ensures appended { IfOk result (λ place. HasAppended J.depth J.replicas pass.old.view batch.now place pass.new.view) }
-        ensures refused { IfErr result (λ fault. HasLooked J.depth J.replicas pass.old.view pass.new.view
-            × IsReason (log_after J.replicas pass.new.view.seen) (length batch.now) pass.old.view pass.new.view fault) }
+        ensures appended { IfOk result (λ place.
+            HasAppended J.depth J.replicas pass.old.view batch.now place pass.new.view) }
+        ensures refused { IfErr result (λ fault.
+            HasLooked J.depth J.replicas pass.old.view pass.new.view
+            × IsReason (log_after J.replicas pass.new.view.seen) (length batch.now)
+            pass.old.view pass.new.view fault) }
         ensures history { IsLogHistory J.depth J.replicas pass.new.view.seen }
     {
         let count = batch.len() as u64;
@@ -276,8 +283,10 @@ impl<J: LogName> RingLog<J> {
         next: [u64; CELL_WORDS],
     ) -> bool
         requires log { pass.old.log ≡ self.now }
-        requires event { MayFollow J.depth (log_after J.replicas pass.old.view.seen) E.event × MayMake pass.old.view E.event }
-        requires next { IsWordsOf (log_after_event (log_after J.replicas pass.old.view.seen) E.event) next }
+        requires event { MayFollow J.depth (log_after J.replicas pass.old.view.seen) E.event
+            × MayMake pass.old.view E.event }
+        requires next { IsWordsOf
+            (log_after_event (log_after J.replicas pass.old.view.seen) E.event) next }
         ensures log { pass.new.log ≡ pass.old.log }
         ensures view { MadeOrMoved J.depth J.replicas E.event pass.old.view pass.new.view result }
         ensures history { IsLogHistory J.depth J.replicas pass.new.view.seen }
@@ -308,9 +317,13 @@ impl<J: LogName> RingLog<J> {
         requires log { (pass.old.log ≡ self.now) × (told.old.log ≡ self.now) }
         ensures pass { pass.new ≡ pass.old }
         ensures log { told.new.log ≡ told.old.log }
-        ensures met { StartsWith told.new.view.seen pass.old.view.seen × StartsWith told.new.view.seen told.old.view.seen }
-        ensures advances { All (λ replica. HasSeenAdvances replica told.new.view.seen told.old.view.seen) told.old.view.owns }
-        ensures looked { HasLooked J.depth J.replicas (joined told.old.view (copy_of pass.old.view)) told.new.view }
+        ensures met { StartsWith told.new.view.seen pass.old.view.seen
+            × StartsWith told.new.view.seen told.old.view.seen }
+        ensures advances { All
+            (λ replica. HasSeenAdvances replica told.new.view.seen told.old.view.seen)
+            told.old.view.owns }
+        ensures looked { HasLooked J.depth J.replicas
+            (joined told.old.view (copy_of pass.old.view)) told.new.view }
     {
         let copy = self.copy(pass);
         self.join(rt, told, copy);
@@ -320,7 +333,8 @@ impl<J: LogName> RingLog<J> {
     fn copy(&self, pass: &mut LogPass<J>) -> Pass<[u64; CELL_WORDS], View>
         requires { pass.old.log ≡ self.now }
         ensures pass { pass.new ≡ pass.old }
-        ensures copy { (result.table_id ≡ self.now) × (cell_view result ≡ copy_of pass.old.view) × (result.me.1 ≡ []) }
+        ensures copy { (result.table_id ≡ self.now) × (cell_view result ≡ copy_of pass.old.view)
+            × (result.me.1 ≡ []) }
     {
         self.cell.split_pass::<Copies>(&mut pass.pass)
     }
@@ -328,10 +342,11 @@ impl<J: LogName> RingLog<J> {
     /// Joins a pass to the cell that has made nothing and has no right to one of the log, which then loads the cell.
     fn join<R: Wait>(&self, rt: &R, pass: &mut LogPass<J>, copy: Pass<[u64; CELL_WORDS], View>)
         requires log { pass.old.log ≡ self.now }
-        requires copy { (copy.table_id ≡ self.now) × ((cell_view copy).mine ≡ []) × ((cell_view copy).rights ≡ 0)
-            × (copy.me.1 ≡ []) }
+        requires copy { (copy.table_id ≡ self.now) × ((cell_view copy).mine ≡ [])
+            × ((cell_view copy).rights ≡ 0) × (copy.me.1 ≡ []) }
         ensures log { pass.new.log ≡ pass.old.log }
-        ensures looked { HasLooked J.depth J.replicas (joined pass.old.view (cell_view copy)) pass.new.view }
+        ensures looked { HasLooked J.depth J.replicas
+            (joined pass.old.view (cell_view copy)) pass.new.view }
     {
         self.cell.join_pass::<Copies>(&mut pass.pass, copy);
         pass.mark = self.exchanges.mark();

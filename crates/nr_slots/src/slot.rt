@@ -44,8 +44,10 @@ impl Slot {
 
     /// Takes the update that waits, if one does.
     pub fn take(&mut self) -> Option<Waiting>
-        ensures taken { IfSome result (λ waiting. (self.old ≡ Posted waiting) × (self.new ≡ Taken waiting.call)) }
-        ensures none { IfNone result (((waiting : _) → self.old ≢ Posted waiting) × (self.new ≡ self.old)) }
+        ensures taken { IfSome result (λ waiting.
+            (self.old ≡ Posted waiting) × (self.new ≡ Taken waiting.call)) }
+        ensures none { IfNone result
+            (((waiting : _) → self.old ≢ Posted waiting) × (self.new ≡ self.old)) }
     {
         match *self {
             Slot::Posted(waiting) => {
@@ -58,8 +60,10 @@ impl Slot {
 
     /// Leaves the answer to the call that was taken.
     pub fn answer(&mut self, answered: Answered) -> Result<(), NotTaken>
-        ensures answered { OnOk result ((self.old ≡ Taken answered.call) × (self.new ≡ Ready answered)) }
-        ensures not_taken { OnErr result ((self.old ≢ Taken answered.call) × (self.new ≡ self.old)) }
+        ensures answered { OnOk result
+            ((self.old ≡ Taken answered.call) × (self.new ≡ Ready answered)) }
+        ensures not_taken { OnErr result
+            ((self.old ≢ Taken answered.call) × (self.new ≡ self.old)) }
     {
         match *self {
             Slot::Taken(call) if call == answered.call => {
@@ -72,8 +76,10 @@ impl Slot {
 
     /// Takes the answer, if there is one, and leaves the slot empty.
     pub fn poll(&mut self) -> Option<Answered>
-        ensures ready { IfSome result (λ answered. (self.old ≡ Ready answered) × (self.new ≡ Empty)) }
-        ensures none { IfNone result (((answered : _) → self.old ≢ Ready answered) × (self.new ≡ self.old)) }
+        ensures ready { IfSome result (λ answered.
+            (self.old ≡ Ready answered) × (self.new ≡ Empty)) }
+        ensures none { IfNone result
+            (((answered : _) → self.old ≢ Ready answered) × (self.new ≡ self.old)) }
     {
         match *self {
             Slot::Ready(answered) => {

@@ -60,7 +60,8 @@ impl<P: SlotRule> Slots<P> {
         requires { batch.old.items ≡ [] }
         ensures rising { Rises batch.new.items }
         ensures below { All (λ waiting. waiting.thread < self.now) batch.new.items }
-        ensures rule { All (λ waiting. ∥ P.posted waiting.thread waiting.call waiting.op ∥₁) batch.new.items }
+        ensures rule { All (λ waiting. ∥ P.posted waiting.thread waiting.call waiting.op ∥₁)
+            batch.new.items }
     {
         for (thread, slot) in self.slots.iter().enumerate() {
             if batch.is_full() {
