@@ -51,7 +51,12 @@ impl<J: LogName> Model for RingLog<J> {
 
 impl<J: LogName> RingLog<J> {
     /// A log without entries, of 1 to 4 replicas, and its passes: pass r owns replica r, and `others` further passes own none,
-    /// of which there may be 64. Each has one of the rights to make events. It takes all memory that the log ever needs.
+    /// of which there may be 64. Each has one of the rights to make events. It takes all memory that the log ever needs, and
+    /// never waits.
+    ///
+    /// # Errors
+    ///
+    /// `Memory` where the allocator gives none.
     pub fn new(
         alloc: Global,
         depth: Depth,
@@ -144,10 +149,13 @@ impl<J: LogName> RingLog<J> {
     }
 
     /// Raises the local tail of the replica that the pass owns to a place, and the completed tail to it where that is lower.
-    /// Where the local tail is there already, nothing is exchanged. `Moved` where another pass's event has come since this pass
-    /// last saw the cell.
+    /// Where the local tail is there already, nothing is exchanged.
     ///
     /// Waits for the cell.
+    ///
+    /// # Errors
+    ///
+    /// `Moved` where another pass's event has come since this pass last saw the cell. The pass has made no event then.
     pub fn advance<R: Wait>(&self, rt: &R, pass: &mut LogPass<J>, to: u32) -> Result<(), Moved>
         requires log { pass.old.log ≡ self.now }
         requires to { MayTake J.replicas pass.old.view to }
@@ -198,11 +206,15 @@ impl<J: LogName> RingLog<J> {
         self.exchange::<E, R>(rt, pass, next)
     }
 
-    /// Loads the cell, and then appends 1 to 16 entries at the log's depth: the place of the first. `LogEnded` where the log would
-    /// go past 65,536 entries; `Full` where some replica would have more than 16 entries to take; `Moved` where neither holds, but
-    /// another pass's event came after the load. The tails are those of the log that the pass has then seen.
+    /// Loads the cell, and then appends 1 to 16 entries at the log's depth: the place of the first.
     ///
     /// Waits for the cell.
+    ///
+    /// # Errors
+    ///
+    /// `LogEnded` where the log would go past 65,536 entries; `Full` where some replica would have more than 16 entries to take;
+    /// `Moved` where neither holds, but another pass's event came after the load. The tails are those of the log that the pass
+    /// has then seen, and it has made no event.
     pub fn append<R: Wait>(
         &self,
         rt: &R,

@@ -29,6 +29,10 @@ impl Slot {
     ghost use Rattle.nr_slots.specs.declared.slot.Slot.TheVariants.{Empty, Posted, Taken, Ready};
 
     /// Puts an update into an empty slot.
+    ///
+    /// # Errors
+    ///
+    /// `Occupied` where the slot is not empty; it stays as it was.
     pub fn post(&mut self, waiting: Waiting) -> Result<(), Occupied>
         ensures posted { OnOk result ((self.old ≡ Empty) × (self.new ≡ Posted waiting)) }
         ensures occupied { OnErr result ((self.old ≢ Empty) × (self.new ≡ self.old)) }
@@ -59,6 +63,10 @@ impl Slot {
     }
 
     /// Leaves the answer to the call that was taken.
+    ///
+    /// # Errors
+    ///
+    /// `NotTaken` where the slot is not taken with that call; it stays as it was.
     pub fn answer(&mut self, answered: Answered) -> Result<(), NotTaken>
         ensures answered { OnOk result
             ((self.old ≡ Taken answered.call) × (self.new ≡ Ready answered)) }
