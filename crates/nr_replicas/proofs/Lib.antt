@@ -3,3 +3,4 @@ pub mod EntryEquality
 pub mod Hearing
 pub mod Rests
 pub mod NewPasses
+pub mod Settled

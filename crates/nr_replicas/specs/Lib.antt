@@ -1,4 +1,5 @@
 pub mod Replicas
+pub mod Settled
 -- models and loops
 pub mod inside
 pub use Rattle.vs_types.specs.Operation

@@ -10,6 +10,7 @@ mod name;
 mod opened;
 mod question;
 mod replicas;
+mod settling;
 mod shared;
 mod update_fault;
 
