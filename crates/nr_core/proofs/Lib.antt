@@ -1,4 +1,7 @@
 pub mod reached
+mod Dumped
+mod InTurn
 mod Keeping
 mod Lists
+mod Recorded
 mod Starting

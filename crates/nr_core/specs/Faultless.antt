@@ -1,8 +1,10 @@
--- What the laws of `src/faultless.rt` speak of.
-use Rattle.std.specs.Prelude.{List}
+-- What the laws of `src/faultless.rt` and the contract of `run_steps` speak of.
+use Rattle.std.specs.Prelude.{ℕ, List}
 use Rattle.vs_types.specs.Config.{Layout}
 use Rattle.vs_types.specs.declared.request.Query.{Query}
+use Rattle.nr_trace.specs.Faults.{Holds}
 use Rattle.nr_trace.specs.Recording.{Recording}
+use Rattle.nr_trace.specs.declared.fault.Fault.TheVariants.{PrefixPastLog, PrefixShort, MissingFrame, SharedFrame, ReservedBit, StrayFrame, Differs}
 use Rattle.nr_core.specs.State.{start}
 use Rattle.nr_core.specs.Run.{after_steps, IsRecordingOf}
 use Rattle.nr_core.specs.declared.step.Step.{Step}
@@ -11,3 +13,13 @@ use Rattle.nr_core.specs.declared.step.Step.{Step}
 abbrev pub IsRecordingOfSteps : Recording → Type 0
 IsRecordingOfSteps trace =
     (layout : Layout) × (scripts : List (List Query)) × (steps : List Step) × IsRecordingOf (after_steps (start layout scripts) steps) trace
+
+-- no fault holds of a dump: of how many entries it says, of its table, of what it translates
+pub record HasRightDumps (trace : Recording) : Type 0 where
+  pub within : (replica : ℕ) → Holds trace (PrefixPastLog replica) → ⊥
+  pub enough : (replica : ℕ) → Holds trace (PrefixShort replica) → ⊥
+  pub none_missing : (replica number : ℕ) → Holds trace (MissingFrame replica number) → ⊥
+  pub none_shared : (replica number : ℕ) → Holds trace (SharedFrame replica number) → ⊥
+  pub none_reserved : (replica number index : ℕ) → Holds trace (ReservedBit replica number index) → ⊥
+  pub none_stray : (replica number : ℕ) → Holds trace (StrayFrame replica number) → ⊥
+  pub translates : (replica address : ℕ) → Holds trace (Differs replica address) → ⊥

@@ -38,20 +38,20 @@ pub record AreScripts (layout : Layout) (scripts : List (List Query)) : Type 0 w
   pub well_formed : All (All (IsQuery layout.depth)) scripts
 
 -- whether version 1 of the format has the query, the answer, the event, the depth
-abbrev query_in_first : Query → Bool
+abbrev pub query_in_first : Query → Bool
 query_in_first (Access address mode access) = false
 query_in_first query = true
 
-abbrev answer_in_first : Answer → Bool
+abbrev pub answer_in_first : Answer → Bool
 answer_in_first (Allowed phys) = false
 answer_in_first (Fault code) = false
 answer_in_first answer = true
 
-abbrev event_in_first : Event → Bool
+abbrev pub event_in_first : Event → Bool
 event_in_first (Call replica thread request) = query_in_first request
 event_in_first (Reply call at answer) = answer_in_first answer
 
-abbrev depth_in_first : Depth → Bool
+abbrev pub depth_in_first : Depth → Bool
 depth_in_first Four = true
 depth_in_first Five = false
 

@@ -8,7 +8,9 @@ mod batch;
 pub mod examples;
 pub mod faultless;
 mod parts;
+mod recording;
 mod replicas;
+mod running;
 mod stage;
 mod start;
 mod state;
@@ -18,5 +20,6 @@ mod steps;
 mod table;
 mod threads;
 
+pub use running::run_steps;
 pub use state::Core;
 pub use step::{Act, Step};

@@ -1,3 +1,4 @@
+ghost use Rattle.std.specs.FinMap as finite;
 ghost use Rattle.std.specs.Prelude.{◌≡◌, ◌+◌, ◌*◌, ◌^◌, ◌<◌, ◌≤◌, IfOk};
 ghost use Rattle.vs_types.specs.Config.{IsLayout};
 ghost use Rattle.vs_types.specs.Depth.{IsCanonical};
@@ -5,13 +6,16 @@ ghost use Rattle.vs_types.specs.Operation.{IsAction};
 ghost use Rattle.vs_types.specs.Query.{IsQuery};
 ghost use Rattle.vs_types.specs.Space as spaces;
 ghost use Rattle.vs_types.specs.Step.{step, look, allow};
+ghost use Rattle.vs_types.specs.declared.limits.TheConstants.{TABLES};
 ghost use Rattle.vs_space.specs.Table.{IsTableOf};
+ghost use Rattle.nr_core.specs.Run.{IsDumpOf};
+ghost use Rattle.nr_core.specs.State.{Replica};
 ghost use Rattle.nr_core.specs.inside.OneSpace.{one_space};
 
 use std::alloc::Global;
 use vs_arena::VecArena;
 use vs_space::Space;
-use vs_types::{Access, Answer, Config, Memory, Mode, Op};
+use vs_types::{Access, Answer, Config, Fail, Memory, Mode, Op};
 use vs_walk::Dump;
 
 /// The frame number of the first table that a replica may have: the frames of tables begin at physical 2^51, and each replica has
@@ -66,5 +70,22 @@ impl Table {
         ensures { result ≡ allow self.now.of.0 address mode access }
     {
         self.pages.access(address, mode, access)
+    }
+
+    /// Its frames, after `applied` entries of the log.
+    pub(crate) fn dump(&self, alloc: Global, applied: u32) -> Result<Dump, Memory>
+        requires { self.now.pages.limit ≤ TABLES }
+        ensures is { (replica : Replica) → replica.applied ≡ applied → replica.space ≡ self.now.of.0
+            → IfOk result (IsDumpOf self.now.pages.depth replica) }
+        ensures frames { IfOk result (λ dump. 1 ≤ finite.len dump.frames) }
+    {
+        let _tables = self.pages.tables();
+        let root = self.pages.root();
+        let depth = self.pages.depth();
+        match Dump::gather(alloc, &self.pages, root, depth, applied) {
+            Ok(dump) => Ok(dump),
+            Err(Fail::Memory) => Err(Memory),
+            Err(Fail::Refused(_)) => unreachable!(),
+        }
     }
 }

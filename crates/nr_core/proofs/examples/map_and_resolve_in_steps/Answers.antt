@@ -1,9 +1,8 @@
-use Rattle.std.proofs.Common.{◌≡◌, List, [], ◌∷◌, refl, ap₂}
+use Rattle.std.proofs.Common.{List, [], ◌∷◌, refl, ap₂}
 use Rattle.vs_types.specs.declared.answer.Answer.{Answer}
-use Rattle.nr_trace.specs.Examples.{map_it, resolve_it, map_then_resolve}
+use Rattle.nr_trace.specs.Examples.{map_it, resolve_it}
 use Rattle.nr_trace.specs.declared.event.Event.{Event}
 use Rattle.nr_trace.specs.declared.event.Event.TheVariants.{Call, Reply}
-use Rattle.nr_core.specs.Examples.{after_both}
 use Rattle.nr_core.proofs.examples.map_and_resolve_in_steps.Goals as goal
 
 two_calls : Answer → Answer → List Event

@@ -1,0 +1,76 @@
+-- The dump that is gathered from a page table is one of its space.
+use Rattle.std.proofs.Common.{◌≡◌, ℕ, ◌≤◌, List, Option, Some, None, Contains, IsTrue, is_some, refl, sym, ap, subst, ◌∙◌, arith}
+use Rattle.std.specs.Prelude.{IsSome}
+use Rattle.std.specs.Cmp.{nat_cmp_total}
+use Rattle.std.specs.FinMap as finite
+use Rattle.std.specs.FinMap.{nat_cmp-IsAntisymmetric}
+use Rattle.vs_types.specs.Space.{Space, table_count}
+use Rattle.vs_types.specs.declared.depth.Depth.{Depth}
+use Rattle.vs_walk.specs.Dump.{Image}
+use Rattle.vs_walk.specs.Memory.{Memory}
+use Rattle.vs_walk.specs.Traversal.{traversal, reached, walk_fault}
+use Rattle.vs_walk.specs.Walk.{TranslatesAs}
+use Rattle.vs_space.specs.Table.{PageTable, IsTableOf}
+use Rattle.nr_core.specs.State.{Replica}
+use Rattle.nr_core.specs.Run.{IsDumpOf}
+
+-- the frames that are reached, where each frame is
+all_gathered : (memory dump : Memory) (reached : List ℕ) → ((number : ℕ) → Contains reached number → IsTrue (finite.contains_key memory number))
+    → ((number : ℕ) → IsTrue (finite.contains_key memory number) → Contains reached number)
+    → ((number : ℕ) → Contains reached number → finite.get dump number ≡ finite.get memory number)
+    → ((number : ℕ) → IsTrue (finite.contains_key dump number) → Contains reached number) → dump ≡ memory
+all_gathered memory dump reached in_use each held only =
+    finite.same_map nat_cmp_total nat_cmp-IsAntisymmetric dump memory (λ q. by_get q (finite.get memory q) (finite.get dump q) refl refl) where
+      by_get : (q : ℕ) (here there : Option (List ℕ)) → finite.get memory q ≡ here → finite.get dump q ≡ there → finite.get dump q ≡ finite.get memory q
+      by_get q (Some words) there e f = held q (each q (let P : Option (List ℕ) → Type 0 = λ o. IsTrue (is_some o) in subst P (sym e) refl))
+      by_get q None None e f = f ∙ sym e
+      by_get q None (Some words) e f = held q (only q (let P : Option (List ℕ) → Type 0 = λ o. IsTrue (is_some o) in subst P (sym f) refl))
+
+-- what is known of a table, and of the dump that is gathered from it
+pub record IsGathered (table : PageTable) (depth : Depth) (root : ℕ) (dump : Image) : Type 0 where
+  pub depth_is : depth ≡ table.depth
+  pub root_is : root ≡ table.root
+  pub in_use : (number : ℕ) → Contains (reached (traversal table.depth table.memory table.root)) number → IsTrue (finite.contains_key table.memory number)
+  pub each : (number : ℕ) → IsTrue (finite.contains_key table.memory number) → Contains (reached (traversal table.depth table.memory table.root)) number
+  pub dump_root : dump.root ≡ root
+  pub held : (number : ℕ) → Contains (reached (traversal depth table.memory root)) number → finite.get dump.frames number ≡ finite.get table.memory number
+  pub only : (number : ℕ) → IsTrue (finite.contains_key dump.frames number) → Contains (reached (traversal depth table.memory root)) number
+
+pub same_reached : (memory : Memory) (depth d : Depth) (root r : ℕ) → d ≡ depth → r ≡ root → reached (traversal d memory r) ≡ reached (traversal depth memory root)
+same_reached memory depth d root r ed er = ap (λ z. reached (traversal z memory r)) ed ∙ ap (λ z. reached (traversal depth memory z)) er
+
+same_frames : (table : PageTable) (depth : Depth) (root : ℕ) (dump : Image) → IsGathered table depth root dump → dump.frames ≡ table.memory
+same_frames table depth root dump is =
+    let same = same_reached table.memory table.depth depth table.root root is.depth_is is.root_is in
+    all_gathered table.memory dump.frames (reached (traversal table.depth table.memory table.root)) is.in_use is.each
+    (λ n h. is.held n (subst (λ l. Contains l n) (sym same) h)) (λ n h. subst (λ l. Contains l n) same (is.only n h))
+
+some_get : (memory : Memory) (number : ℕ) → IsSome (finite.get memory number) → IsTrue (finite.contains_key memory number)
+some_get memory number some = some
+
+pub is_dump : (table : PageTable) (space : Space) (replica : Replica) (depth : Depth) (root : ℕ) (dump : Image) → IsTableOf table space
+    → replica.space ≡ space → dump.applied ≡ replica.applied → walk_fault table.depth table.memory table.root ≡ None
+    → IsGathered table depth root dump → IsDumpOf table.depth replica dump
+is_dump table space replica depth root dump of space_is applied faultless is =
+    let frames = same_frames table depth root dump is in
+    let root_is = is.dump_root ∙ is.root_is in
+    let ByRoot : ℕ → Type 0 = λ r. TranslatesAs table.depth table.memory r replica.space in
+    let ByFrames : Memory → Type 0 = λ m. TranslatesAs table.depth m dump.root replica.space in
+    record {
+      applied = applied;
+      translates = subst ByFrames (sym frames) (subst ByRoot (sym root_is) (subst (TranslatesAs table.depth table.memory table.root) (sym space_is) of.translates));
+      faultless = ap (λ m. walk_fault table.depth m dump.root) frames ∙ ap (walk_fault table.depth table.memory) root_is ∙ faultless;
+      none_stray = λ number stray.
+          let in_table : IsTrue (finite.contains_key table.memory number) = subst (λ (m : Memory). IsTrue (finite.contains_key m number)) frames (some_get dump.frames number stray.0) in
+          let there : Contains (reached (traversal table.depth dump.frames dump.root)) number =
+          subst (λ l. Contains l number) (sym (ap (λ m. reached (traversal table.depth m dump.root)) frames ∙ ap (λ r. reached (traversal table.depth table.memory r)) root_is))
+          (is.each number in_table) in
+          stray.1 there;
+    }
+
+-- and has a frame, as each space has a table
+pub has_frame : (table : PageTable) (space : Space) (depth : Depth) (root tables : ℕ) (dump : Image) → IsGathered table depth root dump
+    → tables ≡ finite.len table.memory → tables ≡ table_count table.depth space → 1 ≤ finite.len dump.frames
+has_frame table space depth root tables dump is reads counts =
+    let frames = ap (λ (m : Memory). finite.len m) (same_frames table depth root dump is) in
+    omega (arith, frames, reads, counts)

@@ -1,0 +1,46 @@
+-- Steps in turn.
+use Rattle.std.proofs.Common.{◌≡◌, ℕ, zero, suc, ◌+◌, ◌<◌, ◌≤◌, Bool, List, [], ◌∷◌, length, take, get_or, Option, Some, None, refl, subst, ap, sym, ◌∙◌, arith}
+use Rattle.std.proofs.lemmas.List.{take_all}
+use Rattle.std.specs.Prelude.{unwrap_or}
+use Rattle.vs_types.specs.Config.{Layout}
+use Rattle.vs_types.specs.declared.request.Query.{Query}
+use Rattle.nr_trace.specs.Recording.{Recording}
+use Rattle.nr_core.specs.State.{State, start}
+use Rattle.nr_core.specs.Steps.{after_step}
+use Rattle.nr_core.specs.Run.{after_steps, IsRecordingOf, IsStepped}
+use Rattle.nr_core.specs.Faultless.{IsRecordingOfSteps}
+use Rattle.nr_core.specs.declared.step.Step.{Step}
+
+stepped : (old : State) (o : Option State) (done : Bool) (new : State) → IsStepped old o done new → new ≡ unwrap_or o old
+stepped old None done new is = is.1
+stepped old (Some next) done new is = is.1
+
+one_more : (state : State) (steps : List Step) (i : ℕ) (d : Step) → i < length steps
+    → after_steps state (take (suc i) steps) ≡ unwrap_or (after_step (after_steps state (take i steps)) (get_or steps i d)) (after_steps state (take i steps))
+one_more state [] i d within = absurd (omega (arith, within))
+one_more state (step ∷ steps) zero d within = refl
+one_more state (step ∷ steps) (suc i) d within = one_more (unwrap_or (after_step state step) state) steps i d (omega (arith, within))
+
+more : (i : ℕ) → suc i ≡ i + 1
+more i = omega arith
+
+-- one step more
+pub stepped_more : (first core next : State) (steps : List Step) (i : ℕ) (d : Step) (done : Bool) → i < length steps → core ≡ after_steps first (take i steps)
+    → IsStepped core (after_step core (get_or steps i d)) done next → next ≡ after_steps first (take (i + 1) steps)
+stepped_more first core next steps i d done within before taken =
+    let begun = after_steps first (take i steps) in
+    let one : after_steps first (take (i + 1) steps) ≡ unwrap_or (after_step begun (get_or steps i d)) begun =
+    subst (λ n. after_steps first (take n steps) ≡ unwrap_or (after_step begun (get_or steps i d)) begun) (more i) (one_more first steps i d within) in
+    stepped core (after_step core (get_or steps i d)) done next taken
+    ∙ ap (λ s. unwrap_or (after_step s (get_or steps i d)) s) before ∙ sym one
+
+-- after all of them
+pub is_after_all : (layout : Layout) (scripts : List (List Query)) (steps : List Step) (core : State) (trace : Recording) (i : ℕ) → length steps ≤ i
+    → core ≡ after_steps (start layout scripts) (take i steps) → IsRecordingOf core trace → IsRecordingOf (after_steps (start layout scripts) steps) trace
+is_after_all layout scripts steps core trace i past before is =
+    subst (λ s. IsRecordingOf s trace) (before ∙ ap (after_steps (start layout scripts)) (take_all i steps past)) is
+
+pub is_of_steps : (layout : Layout) (scripts : List (List Query)) (steps : List Step) (core : State) (trace : Recording) (i : ℕ) → length steps ≤ i
+    → core ≡ after_steps (start layout scripts) (take i steps) → IsRecordingOf core trace → IsRecordingOfSteps trace
+is_of_steps layout scripts steps core trace i past before is =
+    (layout, scripts, steps, is_after_all layout scripts steps core trace i past before is)

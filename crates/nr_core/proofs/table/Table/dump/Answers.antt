@@ -1,0 +1,52 @@
+use Rattle.std.proofs.Common.{Contains, get_or, sym, subst, ◌∙◌, arith}
+use Rattle.std.proofs.lemmas.List.Elements.{Contains-get_or}
+use Rattle.vs_walk.specs.Traversal.{traversal, reached}
+use Rattle.vs_walk.proofs.Gathered.{reached_few}
+use Rattle.nr_core.proofs.Dumped.{has_frame, is_dump, same_reached}
+use Rattle.nr_core.proofs.table.Table.dump.Goals as goal
+
+pub gather-requires-clause-few : goal.gather-requires-clause-few
+gather-requires-clause-few c none =
+    let few = reached_few c.depth-depth.result c.args.self.now.pages.memory c.root-root.result none in
+    omega (arith, few, c.tables-tables.ensures.reads, c.tables-tables.ensures.at_most, c.requires)
+
+pub gather-requires-clause-in_range : goal.gather-requires-clause-in_range
+gather-requires-clause-in_range c none k d within =
+    let pages = c.args.self.now.pages in
+    let all = c.root-root.ensures in
+    let numbers = reached (traversal c.depth-depth.result pages.memory c.root-root.result) in
+    let same = same_reached pages.memory pages.depth c.depth-depth.result pages.root c.root-root.result c.depth-depth.ensures all.reads in
+    let number = get_or numbers k d in
+    all.in_range number (all.in_use number (subst (λ l. Contains l number) same (Contains-get_or numbers k d within)))
+
+pub returns-in-Ok-clause-is : goal.returns-in-Ok-clause-is
+returns-in-Ok-clause-is c replica applied space =
+    let pages = c.args.self.now.pages in
+    let all = c.root-root.ensures in
+    let made = c.in-Ok.ensures in
+    is_dump pages c.args.self.now.of.0 replica c.depth-depth.result c.root-root.result c.in-Ok.dump c.args.self.now.of.1 space (made.applied ∙ sym applied) all.faultless
+    (record {
+      depth_is = c.depth-depth.ensures;
+      root_is = all.reads;
+      in_use = all.in_use;
+      each = all.each;
+      dump_root = made.root;
+      held = made.held;
+      only = made.only;
+    })
+
+pub returns-in-Ok-clause-frames : goal.returns-in-Ok-clause-frames
+returns-in-Ok-clause-frames c =
+    let pages = c.args.self.now.pages in
+    let all = c.root-root.ensures in
+    let made = c.in-Ok.ensures in
+    has_frame pages c.args.self.now.of.0 c.depth-depth.result c.root-root.result c.tables-tables.result c.in-Ok.dump
+    (record {
+      depth_is = c.depth-depth.ensures;
+      root_is = all.reads;
+      in_use = all.in_use;
+      each = all.each;
+      dump_root = made.root;
+      held = made.held;
+      only = made.only;
+    }) c.tables-tables.ensures.reads (c.tables-tables.ensures.counts c.args.self.now.of.0 c.args.self.now.of.1)

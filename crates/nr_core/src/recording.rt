@@ -1,0 +1,104 @@
+//! A recording of the state.
+ghost use Rattle.std.specs.Prelude.{◌≡◌, ◌≤◌, ◌&&◌, All, IfOk, map, if◌then◌else◌};
+ghost use Rattle.std.specs.FinMap as finite;
+ghost use Rattle.std.specs.List.{list_all, AllZip};
+ghost use Rattle.nr_trace.specs.Recording.{IsRecording};
+ghost use Rattle.nr_trace.specs.declared.version.Version.TheVariants.{V1, V2};
+ghost use Rattle.nr_core.specs.Run.{depth_in_first, event_in_first, IsDumpOf, IsRecordingOf};
+ghost use Rattle.nr_core.specs.inside.Parts.{replica_in, IsReplica};
+
+use crate::parts::ReplicaState;
+use crate::state::Core;
+use nr_trace::{Event, Recorded, Trace, Version};
+use std::alloc::Global;
+use vs_types::{Answer, Config, Depth, LogEntry, Memory, Query};
+use vs_walk::Dump;
+
+impl Core {
+    /// A recording of the state as it is: the events, the call at each place of the log, and a dump of each replica, in the first
+    /// version of the format that has all of it. It takes memory: 24 bytes for each event, 4 for each place and 4,104 for each table.
+    ///
+    /// # Errors
+    ///
+    /// Out of memory.
+    pub fn trace(&self) -> Result<Trace, Memory>
+        ensures recording { IfOk result (IsRecordingOf self.now) }
+        ensures in_range { IfOk result IsRecording }
+    {
+        let version = version_of(self.config, &self.events);
+        let log = calls_in(self.alloc, &self.log)?;
+        let mut events = Vec::new(self.alloc);
+        events.extend_from_slice(&self.events)?;
+        let dumps = dumps_of(self.alloc, self.config, &self.replicas)?;
+        match Trace::new(version, self.config, log, events, dumps) {
+            Ok(trace) => Ok(trace),
+            Err(_) => unreachable!(),
+        }
+    }
+}
+
+/// Whether version 1 of the format has the event.
+fn is_in_first(event: Event) -> bool
+    ensures { result ≡ event_in_first event }
+{
+    match event {
+        Event::Call { request, .. } => !matches!(request.query(), Query::Access(_, _, _)),
+        Event::Reply { answer, .. } => !matches!(answer, Answer::Allowed(_) | Answer::Fault(_)),
+    }
+}
+
+/// Whether version 1 of the format has all events.
+fn all_in_first(events: &[Recorded]) -> bool
+    ensures { result ≡ list_all event_in_first events.now }
+{
+    for event in events {
+        if !is_in_first(event.event()) {
+            return false;
+        }
+    }
+    true
+}
+
+/// Version 1 where it has the depth and all events, else version 2.
+fn version_of(config: Config, events: &[Recorded]) -> Version
+    ensures { result ≡ (if depth_in_first config.depth && list_all event_in_first events.now then V1 else V2) }
+{
+    match config.depth() {
+        Depth::Four if all_in_first(events) => Version::V1,
+        _ => Version::V2,
+    }
+}
+
+/// The call at each place of the log.
+fn calls_in(alloc: Global, log: &[LogEntry]) -> Result<Vec<u32>, Memory>
+    ensures { IfOk result (λ calls. calls.items ≡ map (λ entry. entry.call) log.now) }
+{
+    let mut calls = Vec::with_capacity(alloc, log.len())?;
+    for entry in log {
+        calls.push(entry.call)?;
+    }
+    Ok(calls)
+}
+
+/// A dump of each replica.
+fn dumps_of(alloc: Global, config: Config, replicas: &[ReplicaState]) -> Result<Vec<Dump>, Memory>
+    requires { All (IsReplica config) replicas.now }
+    ensures each { IfOk result (λ dumps. AllZip (IsDumpOf config.depth) (map replica_in replicas.now) dumps.items) }
+    ensures frames { IfOk result (λ dumps. All (λ dump. 1 ≤ finite.len dump.frames) dumps.items) }
+{
+    let mut dumps = Vec::with_capacity(alloc, replicas.len())?;
+    for replica in replicas {
+        dumps.push(dump_of(alloc, config, replica)?)?;
+    }
+    Ok(dumps)
+}
+
+/// A dump of a replica.
+fn dump_of(alloc: Global, config: Config, replica: &ReplicaState) -> Result<Dump, Memory>
+    requires { IsReplica config replica.now }
+    ensures is { IfOk result (IsDumpOf config.depth (replica_in replica.now)) }
+    ensures frames { IfOk result (λ dump. 1 ≤ finite.len dump.frames) }
+{
+    let _tables = config.tables();
+    replica.table.dump(alloc, replica.marks.applied)
+}
