@@ -6,3 +6,4 @@ pub mod Alone
 pub mod ByName
 pub mod InLines
 pub mod Gathered
+pub mod Shares

@@ -1,5 +1,7 @@
-ghost use Rattle.std.specs.Prelude.{◌≡◌, ◌≤◌, IfOk, IfErr, length};
+ghost use Rattle.std.specs.Prelude.{◌≡◌, ◌≤◌, IfOk, IfErr, length, map};
+ghost use Rattle.vs_types.specs.Config.{Layout};
 ghost use Rattle.vs_types.specs.Refusal.{IfRefused};
+ghost use Rattle.nr_core.specs.Run.{AreScripts};
 ghost use Rattle.nr_script.specs.Script.{IsBadLine, IsScript};
 ghost use Rattle.nr_script.specs.inside.Reading.{IsAllRead};
 ghost use Rattle.nr_script.specs.declared.script.TheConstants.{SCRIPT_BYTES};
@@ -70,14 +72,18 @@ fn read_lines(alloc: Global, depth: Depth, bytes: &[u8]) -> Result<Reading, Fail
 pub fn read_script(alloc: Global, depth: Depth, bytes: &[u8]) -> Result<Script, Fail<BadLine>>
     requires { length bytes.now ≤ SCRIPT_BYTES }
     ensures ok { IfOk result (IsScript depth bytes.now) }
+    ensures threads { IfOk result (λ script. (1 ≤ script.threads) × (script.threads ≤ 64)) }
+    ensures scripts { IfOk result (λ script. (layout : Layout) → layout.depth ≡ depth → layout.threads ≡ script.threads
+        → AreScripts layout (map (λ list. list.items) script.requests.items)) }
     ensures err { IfErr result (IfRefused (λ bad. IsBadLine depth bytes.now bad.0)) }
 {
     let reading = read_lines(alloc, depth, bytes)?;
     let requests = by_thread(alloc, reading.asked.as_slice(), reading.threads)?;
-    Ok(Script {
+    let script = Script {
         threads: reading.threads,
         requests,
         steps: reading.steps,
         first_step: reading.first_step,
-    })
+    };
+    Ok(script)
 }
