@@ -4,7 +4,7 @@
 #[path = "../nrvs_trace.rs"]
 mod nrvs_trace;
 
-use nrvs_trace::{Answer, Config, Event, Failed, Frame, Memory, Refusal, Request, Rights, Size, Trace};
+use nrvs_trace::{Access, Answer, Config, Event, Failed, Frame, Memory, Mode, Refusal, Request, Rights, Size, Trace};
 use std::collections::HashMap;
 use std::io::Write;
 use std::sync::atomic::AtomicU32;
@@ -58,6 +58,14 @@ fn rights(code: u64) -> Result<Rights, Refusal> {
     }
 }
 
+fn mode(code: u64) -> Result<Mode, Refusal> {
+    [Mode::Supervisor, Mode::User].get(code as usize).copied().ok_or(Refusal::BadEvent)
+}
+
+fn access(code: u64) -> Result<Access, Refusal> {
+    [Access::Read, Access::Write, Access::Fetch].get(code as usize).copied().ok_or(Refusal::BadEvent)
+}
+
 fn request(n: &[u64]) -> Result<Request, Refusal> {
     let (size, rights, address) = (size(n[3])?, rights(n[4])?, n[5]);
     match n[2] {
@@ -65,6 +73,7 @@ fn request(n: &[u64]) -> Result<Request, Refusal> {
         1 => Ok(Request::Unmap { address }),
         2 => Ok(Request::Protect { address, rights }),
         3 => Ok(Request::Resolve { address }),
+        4 => Ok(Request::Access { address, mode: mode(n[4])?, access: access(n[3])? }),
         _ => Err(Refusal::BadEvent),
     }
 }
@@ -80,6 +89,8 @@ fn answer(n: &[u64]) -> Result<Answer, Refusal> {
         5 => Ok(Answer::Inside(value)),
         6 => Ok(Answer::Changed(rights)),
         7 => Ok(Answer::Mapped { phys: value, size, rights }),
+        8 => Ok(Answer::Allowed(value)),
+        9 => Ok(Answer::Fault(value)),
         _ => Err(Refusal::BadEvent),
     }
 }

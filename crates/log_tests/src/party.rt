@@ -1,5 +1,5 @@
 //! A log of four replicas at five levels, and its passes, each beside what a test has to know of it.
-ghost use Rattle.std.specs.Prelude.{◌≡◌, ◌<◌, ◌≤◌, ℕ, IfOk, Some, [], ◌∷◌};
+ghost use Rattle.std.specs.Prelude.{◌≡◌, ◌<◌, ◌≤◌, ℕ, IfOk, Some, [], ◌∷◌, vec_len};
 ghost use Rattle.vs_types.specs.LogEntry.{IsLogEntry};
 ghost use Rattle.vs_types.specs.declared.depth.Depth.TheVariants.{Five};
 ghost use Rattle.vs_types.specs.declared.limits.TheConstants.{CALLS};
@@ -74,6 +74,18 @@ impl<'a, K: OfLog> Model for Party<'a, K> {
         × ((owned : ℕ) → p.replica ≡ Some owned → p.pass.view.owns ≡ owned ∷ []) };
 }
 
+/// A log of four replicas at five levels, and its eight passes.
+pub struct NewLog {
+    pub log: RingLog<Four>,
+    pub passes: Vec<LogPass<Four>>,
+    ghost new: { passes.items ≡ new_passes log 4 4 },
+}
+
+pub fn new_log(alloc: Global) -> Result<NewLog, Fail> {
+    let (log, passes) = RingLog::<Four>::new(alloc, Depth::Five, 4, 4)?;
+    Ok(NewLog { log, passes })
+}
+
 /// The eight parties of a log: party r owns replica r, and those from 4 on own none.
 pub fn parties<'a, K: OfLog>(
     log: &'a RingLog<Four>,
@@ -82,6 +94,7 @@ pub fn parties<'a, K: OfLog>(
 ) -> Result<Vec<Party<'a, K>>, Fail>
     requires log { log.now ≡ K.log }
     requires passes { passes.items ≡ new_passes K.log 4 4 }
+    ensures { IfOk result (λ parties. vec_len parties ≡ 8) }
 {
     let parties = [
         Party::new(log, passes.remove(0), Some(0)),
@@ -94,6 +107,37 @@ pub fn parties<'a, K: OfLog>(
         Party::new(log, passes.remove(0), None),
     ];
     Ok(Vec::from_array(alloc, parties)?)
+}
+
+/// A thread's parties: one that owns the replica of the thread's number, and one that owns none.
+#[derive(Drop)]
+pub struct Pair<'a, K: OfLog> {
+    pub number: u32,
+    pub owner: Party<'a, K>,
+    pub other: Party<'a, K>,
+}
+
+/// The parties of a log, two for each of four threads.
+pub fn pairs<'a, K: OfLog>(
+    log: &'a RingLog<Four>,
+    alloc: Global,
+    passes: Vec<LogPass<Four>>,
+) -> Result<Vec<Pair<'a, K>>, Fail>
+    requires log { log.now ≡ K.log }
+    requires passes { passes.items ≡ new_passes K.log 4 4 }
+{
+    let mut all = parties::<K>(log, alloc, passes)?;
+    let mut pairs = Vec::new(alloc);
+    for number in 0..4 {
+        let owner = all.remove(0);
+        let other = all.remove(all.len() - 1);
+        pairs.push(Pair {
+            number,
+            owner,
+            other,
+        })?;
+    }
+    Ok(pairs)
 }
 
 impl<'a, K: OfLog> Party<'a, K> {

@@ -1,16 +1,14 @@
 //! Each call on a log of four replicas at five levels, by each party, after an event of each other: a call that tells what its
 //! pass saw before meets every clause.
 ghost use Rattle.std.specs.Prelude.{◌≡◌};
-ghost use Rattle.nr_ring.specs.Pass.{new_passes};
 
-use crate::party::{Four, OfLog, Party, parties};
-use nr_ring::{AppendFault, LogPass, Moved, RingLog, Tails};
+use crate::party::{NewLog, OfLog, Party, new_log, parties};
+use nr_ring::{AppendFault, Moved, Tails};
 use std::alloc::Global;
 use std::marker::Brand;
 use std::process::Abort;
 use std::sync::Wait;
 use std::test::Fail;
-use vs_types::Depth;
 
 /// An event that one party makes.
 #[derive(Clone, Copy)]
@@ -169,16 +167,11 @@ fn all_calls<'a, K: OfLog, R: Wait + Abort>(
     }
 }
 
-fn each_call<K: OfLog, R: Wait + Abort>(
-    rt: &R,
-    alloc: Global,
-    log: &RingLog<Four>,
-    passes: Vec<LogPass<Four>>,
-) -> Result<(), Fail>
-    requires log { log.now ≡ K.log }
-    requires passes { passes.items ≡ new_passes K.log 4 4 }
+fn each_call<K: OfLog, R: Wait + Abort>(rt: &R, alloc: Global, new: NewLog) -> Result<(), Fail>
+    requires { new.log ≡ K.log }
 {
-    let mut all = parties::<K>(log, alloc, passes)?;
+    let NewLog { log, passes } = new;
+    let mut all = parties::<K>(&log, alloc, passes)?;
     let mut tails = Tails {
         tail: 0,
         completed: 0,
@@ -197,6 +190,6 @@ fn each_call<K: OfLog, R: Wait + Abort>(
 
 #[test]
 fn each_call_after_each_event(rt: HostRuntime) -> Result<(), Fail> {
-    let (log, passes) = RingLog::<Four>::new(rt.alloc(), Depth::Five, 4, 4)?;
-    each_call::<Brand, HostRuntime>(&rt, rt.alloc(), &log, passes)
+    let new = new_log(rt.alloc())?;
+    each_call::<Brand, HostRuntime>(&rt, rt.alloc(), new)
 }

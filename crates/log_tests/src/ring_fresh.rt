@@ -1,9 +1,8 @@
 //! No look is older than what had returned before it began. No clause says so: a pass that tells what it saw before meets them all.
 ghost use Rattle.std.specs.Prelude.{◌≡◌};
-ghost use Rattle.nr_ring.specs.Pass.{new_passes};
 
-use crate::party::{Four, OfLog, Party, parties};
-use nr_ring::{AppendFault, LogPass, RingLog, Tails};
+use crate::party::{NewLog, OfLog, Pair, Party, new_log, pairs};
+use nr_ring::{AppendFault, Tails};
 use std::alloc::Global;
 use std::marker::Brand;
 use std::process::Abort;
@@ -12,7 +11,6 @@ use std::sync::atomic::{AtomicU32, Ordering};
 use std::test::Fail;
 use std::thread;
 use std::thread::Threads;
-use vs_types::Depth;
 
 /// How many logs there are.
 const LOGS: u32 = 1;
@@ -69,14 +67,6 @@ impl Told {
     }
 }
 
-/// A thread's parties: one that owns the replica of the thread's number, and one that owns none.
-#[derive(Drop)]
-struct Worker<'a, K: OfLog> {
-    number: u32,
-    owner: Party<'a, K>,
-    other: Party<'a, K>,
-}
-
 /// An append, which may be refused where the replicas are late or another's event comes between.
 fn append<K: OfLog, R: Wait + Abort>(rt: &R, party: &mut Party<K>, call: u32, told: &Told) {
     match party.append(rt, call) {
@@ -89,7 +79,7 @@ fn append<K: OfLog, R: Wait + Abort>(rt: &R, party: &mut Party<K>, call: u32, to
     }
 }
 
-impl<'a, K: OfLog> Worker<'a, K> {
+impl<'a, K: OfLog> Pair<'a, K> {
     /// One call of eight kinds, and then a look by each party.
     fn act<R: Wait + Abort>(&mut self, rt: &R, round: u32, told: &Told) {
         match (self.number % 8 + round % 8) % 8 {
@@ -109,47 +99,31 @@ impl<'a, K: OfLog> Worker<'a, K> {
     }
 }
 
-fn all_rounds<K: OfLog, R: Wait + Abort>(rt: &R, mut worker: Worker<K>, told: &Told) {
+fn all_rounds<K: OfLog, R: Wait + Abort>(rt: &R, mut pair: Pair<K>, told: &Told) {
     for round in 0..ROUNDS {
-        worker.act(rt, round, told);
+        pair.act(rt, round, told);
     }
 }
 
 fn run_rounds<K: OfLog + Send + Sync, R: Wait + Abort + Threads + Sync>(
     rt: &R,
     alloc: Global,
-    log: &RingLog<Four>,
-    passes: Vec<LogPass<Four>>,
+    new: NewLog,
 ) -> Result<(), Fail>
-    requires log { log.now ≡ K.log }
-    requires passes { passes.items ≡ new_passes K.log 4 4 }
+    requires { new.log ≡ K.log }
 {
-    let mut all = parties::<K>(log, alloc, passes)?;
-    let mut workers = Vec::new(alloc);
-    for number in 0..4 {
-        assert!(rt; all.len() == 8 - 2 * number as usize);
-        let owner = all.remove(0);
-        let other = all.remove(all.len() - 1);
-        workers.push(Worker {
-            number,
-            owner,
-            other,
-        })?;
-    }
+    let NewLog { log, passes } = new;
+    let all = pairs::<K>(&log, alloc, passes)?;
     let told = Told::new();
-    thread::map_vec(
-        rt,
-        workers,
-        &|worker: Worker<K>| all_rounds(rt, worker, &told),
-    )?;
+    thread::map_vec(rt, all, &|pair: Pair<K>| all_rounds(rt, pair, &told))?;
     Ok(())
 }
 
 #[test]
 fn no_look_is_old(rt: HostRuntime) -> Result<(), Fail> {
     for _ in 0..LOGS {
-        let (log, passes) = RingLog::<Four>::new(rt.alloc(), Depth::Five, 4, 4)?;
-        run_rounds::<Brand, HostRuntime>(&rt, rt.alloc(), &log, passes)?;
+        let new = new_log(rt.alloc())?;
+        run_rounds::<Brand, HostRuntime>(&rt, rt.alloc(), new)?;
     }
     Ok(())
 }

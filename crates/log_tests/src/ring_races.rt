@@ -1,12 +1,11 @@
 //! Short rounds in which four threads make calls at the same time. After each round all of them look, while nobody makes an event:
 //! a pass that took its words for those of the cell though another's exchange was under way then tells old tails.
 ghost use Rattle.std.specs.Prelude.{◌≡◌, ◌≤◌};
-ghost use Rattle.nr_ring.specs.Pass.{new_passes};
 
-use crate::party::{Four, OfLog, Party, parties};
+use crate::party::{NewLog, OfLog, Pair, new_log, pairs};
 use crate::start::Start;
 use crossbeam_utils::Backoff;
-use nr_ring::{LogPass, Moved, RingLog, Tails};
+use nr_ring::{Moved, Tails};
 use std::alloc::Global;
 use std::marker::Brand;
 use std::process::Abort;
@@ -14,7 +13,6 @@ use std::sync::Wait;
 use std::test::Fail;
 use std::thread;
 use std::thread::Threads;
-use vs_types::Depth;
 
 /// How many logs there are.
 const LOGS: u32 = 1;
@@ -22,15 +20,7 @@ const LOGS: u32 = 1;
 /// How many rounds there are on each. Each round appends two entries, and a log has 65,536 at most.
 const ROUNDS: u32 = 1_000;
 
-/// A thread's parties: one that owns the replica of the thread's number, and one that owns none.
-#[derive(Drop)]
-struct Racer<'a, K: OfLog> {
-    number: u32,
-    owner: Party<'a, K>,
-    other: Party<'a, K>,
-}
-
-impl<'a, K: OfLog> Racer<'a, K> {
+impl<'a, K: OfLog> Pair<'a, K> {
     /// What the thread does in a round, from 0 to 3.
     fn part(&self, round: u32) -> u32 {
         (self.number % 4 + round % 4) % 4
@@ -99,47 +89,35 @@ impl<'a, K: OfLog> Racer<'a, K> {
 }
 
 /// One thread's rounds.
-fn all_rounds<K: OfLog, R: Wait + Abort>(rt: &R, mut racer: Racer<K>, start: &Start) {
+fn all_rounds<K: OfLog, R: Wait + Abort>(rt: &R, mut pair: Pair<K>, start: &Start) {
     for round in 0..ROUNDS {
-        racer.race(rt, start, round);
+        pair.race(rt, start, round);
         start.wait(rt);
-        racer.look(rt, round);
+        pair.look(rt, round);
         start.wait(rt);
-        racer.catch_up(rt, round);
+        pair.catch_up(rt, round);
     }
 }
 
 fn run_races<K: OfLog + Send + Sync, R: Wait + Abort + Threads + Sync>(
     rt: &R,
     alloc: Global,
-    log: &RingLog<Four>,
-    passes: Vec<LogPass<Four>>,
+    new: NewLog,
 ) -> Result<(), Fail>
-    requires log { log.now ≡ K.log }
-    requires passes { passes.items ≡ new_passes K.log 4 4 }
+    requires { new.log ≡ K.log }
 {
-    let mut all = parties::<K>(log, alloc, passes)?;
-    let mut racers = Vec::new(alloc);
-    for number in 0..4 {
-        assert!(rt; all.len() == 8 - 2 * number as usize);
-        let owner = all.remove(0);
-        let other = all.remove(all.len() - 1);
-        racers.push(Racer {
-            number,
-            owner,
-            other,
-        })?;
-    }
+    let NewLog { log, passes } = new;
+    let all = pairs::<K>(&log, alloc, passes)?;
     let start = Start::new();
-    thread::map_vec(rt, racers, &|racer: Racer<K>| all_rounds(rt, racer, &start))?;
+    thread::map_vec(rt, all, &|pair: Pair<K>| all_rounds(rt, pair, &start))?;
     Ok(())
 }
 
 #[test]
 fn looks_after_races(rt: HostRuntime) -> Result<(), Fail> {
     for _ in 0..LOGS {
-        let (log, passes) = RingLog::<Four>::new(rt.alloc(), Depth::Five, 4, 4)?;
-        run_races::<Brand, HostRuntime>(&rt, rt.alloc(), &log, passes)?;
+        let new = new_log(rt.alloc())?;
+        run_races::<Brand, HostRuntime>(&rt, rt.alloc(), new)?;
     }
     Ok(())
 }

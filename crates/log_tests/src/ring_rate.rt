@@ -1,9 +1,8 @@
 //! What a look costs. No clause speaks of it.
 ghost use Rattle.std.specs.Prelude.{◌≡◌};
-ghost use Rattle.nr_ring.specs.Pass.{new_passes};
 
-use crate::party::{Four, OfLog, Party, parties};
-use nr_ring::{LogPass, Moved, RingLog};
+use crate::party::{NewLog, OfLog, Party, new_log, parties};
+use nr_ring::Moved;
 use std::alloc::Global;
 use std::marker::Brand;
 use std::process::Abort;
@@ -11,7 +10,6 @@ use std::rt::Clock;
 use std::sync::Wait;
 use std::test::Fail;
 use std::time::Instant;
-use vs_types::Depth;
 
 /// How long 1,000 looks take, in nanoseconds.
 fn time_looks<K: OfLog, R: Wait + Abort + Clock>(rt: &R, party: &mut Party<K>) -> u64 {
@@ -43,14 +41,12 @@ fn nanos(end: Instant, start: Instant) -> u64 {
 fn compare<K: OfLog, R: Wait + Abort + Clock>(
     rt: &R,
     alloc: Global,
-    log: &RingLog<Four>,
-    passes: Vec<LogPass<Four>>,
+    new: NewLog,
 ) -> Result<(), Fail>
-    requires log { log.now ≡ K.log }
-    requires passes { passes.items ≡ new_passes K.log 4 4 }
+    requires { new.log ≡ K.log }
 {
-    let mut all = parties::<K>(log, alloc, passes)?;
-    assert!(rt; all.len() == 8);
+    let NewLog { log, passes } = new;
+    let mut all = parties::<K>(&log, alloc, passes)?;
     let mut first = all.remove(0);
     let mut second = all.remove(0);
     assert_eq!(rt; second.append(rt, 0), Ok(0));
@@ -71,6 +67,6 @@ fn compare<K: OfLog, R: Wait + Abort + Clock>(
 /// Where an exchange that was refused is never counted as ended, each look after it loads the cell.
 #[test]
 fn looks_after_a_refusal_load_nothing(rt: HostRuntime) -> Result<(), Fail> {
-    let (log, passes) = RingLog::<Four>::new(rt.alloc(), Depth::Five, 4, 4)?;
-    compare::<Brand, HostRuntime>(&rt, rt.alloc(), &log, passes)
+    let new = new_log(rt.alloc())?;
+    compare::<Brand, HostRuntime>(&rt, rt.alloc(), new)
 }

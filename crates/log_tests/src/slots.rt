@@ -8,7 +8,8 @@ use std::sync::Wait;
 use std::test::Fail;
 use vs_types::{Answer, CALLS, Depth, Op, Rights, Size};
 
-/// What a thread posts and is answered. Each has a call, an operation, a place and an answer of its own; thread 0 has call 0.
+/// What a thread posts and is answered. Each has a call, an operation, a place and an answer of its own; thread 0 has call 0
+/// and the last place, thread 63 place 0.
 fn own(rt: &impl Abort, thread: u16) -> Answered
     requires { thread < 64 }
     ensures { (result.thread ≡ thread) × (result.call < CALLS) }
@@ -37,7 +38,7 @@ fn own(rt: &impl Abort, thread: u16) -> Answered
         thread,
         call: 2047 * u32::from(thread),
         op: ops[usize::from(thread % 3)].expect(rt, "a well-formed operation"),
-        place: 65_535 - 1000 * u32::from(thread),
+        place: 65_535 * (63 - u32::from(thread)) / 63,
         answer: answers[usize::from(thread % 7)],
     }
 }

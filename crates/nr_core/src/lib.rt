@@ -1,5 +1,5 @@
-//! The protocol by itself (Node Replication, ASPLOS 2017): one state, and the steps that running threads make of it, taken one by
-//! one in any order.
+//! The protocol by itself (Node Replication, ASPLOS 2017): one state, and the steps that running threads take, here one by one in
+//! any order.
 //!
 //! A place is an index of the log; a call's number is the index of its event. No call waits.
 #![tactic(auto)]

@@ -13,24 +13,27 @@ pub enum Act {
     Call,
     /// It puts its update into its slot. In a running thread: one hold of the slot's lock.
     Post,
-    /// It takes the lock of this replica. In a running thread: the begin of a hold of the replica's lock, as a combiner's.
+    /// It takes the lock of this replica. In a running thread: the beginning of a hold of the replica's lock, a combiner's or that of
+    /// a reader that catches up. The hold under which an update is confirmed is no step.
     Take(u8),
-    /// It takes the update from the slot of this thread into its replica's batch. In a running thread: one hold of that slot's lock.
+    /// It takes the update from the slot of this thread into the batch of the replica whose lock it holds. In a running thread: one
+    /// hold of that slot's lock.
     Collect(u16),
-    /// It appends the batch to the log. In a running thread: the exchange of the log cell that succeeds.
+    /// It appends the batch of the replica whose lock it holds to the log. In a running thread: the exchange of the log cell that succeeds.
     Append,
-    /// It fetches the entries of the log that its replica lacks, and raises the replica's local tail and the completed tail. In a
-    /// running thread: the exchange of the log cell that succeeds.
+    /// It fetches the entries of the log that the replica whose lock it holds lacks, and raises that replica's local tail and the
+    /// completed tail to the tail of just that moment. In a running thread: the exchange of the log cell that succeeds.
     Advance,
-    /// It applies the first fetched entry that is left. In a running thread: within a hold of the replica's lock.
+    /// It applies the first entry that is fetched and left at the replica whose lock it holds. In a running thread: within a hold of the replica's lock.
     Apply,
-    /// It puts an answer into the slot of this thread. In a running thread: one hold of that slot's lock.
+    /// It puts an answer of the replica whose lock it holds into the slot of this thread. In a running thread: one hold of that slot's lock.
     Answer(u16),
-    /// It gives the replica's lock back. In a running thread: the end of a hold of the lock.
+    /// It gives the lock that it holds back. In a running thread: the end of a hold of the lock.
     Release,
-    /// It notes the completed tail for its read. In a running thread: one load of the log cell.
+    /// It notes the completed tail for its read. In a running thread: one load of the log cell. The look before an update is posted is
+    /// no step.
     Look,
-    /// It reads its replica. In a running thread: a whole hold of the replica's lock, as a reader's.
+    /// It reads its replica. In a running thread: a whole hold of the replica's lock, in which the read is answered.
     Read,
     /// It ends its call. In a running thread: the stamp of the reply; an update's slot is emptied just before, by a poll.
     Reply,

@@ -17,3 +17,4 @@ pub mod Batches
 pub mod Fetches
 pub mod Appends
 pub mod OwnTails
+pub mod Makers

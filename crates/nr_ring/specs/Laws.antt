@@ -1,7 +1,10 @@
--- What the laws of `src/laws.rt` say of two logs.
-use Rattle.std.specs.Prelude.{◌≡◌, ℕ, ◌≤◌, ◌<◌, ◌+◌, List, ◌++◌, length}
+-- What the laws of `src/laws.rt` say of two logs, and of who makes events.
+use Rattle.std.specs.Prelude.{◌≡◌, ℕ, ◌≤◌, ◌<◌, ◌+◌, List, ◌++◌, Contains, length}
+use mathlib.Core.Option.{some}
+use lib.ListN.{get_elem?}
 use Rattle.vs_types.specs.declared.limits.TheConstants.{LOG_PLACES}
 use Rattle.vs_types.specs.declared.log_entry.LogEntry.{LogEntry}
+use Rattle.nr_ring.specs.declared.view.View.{View}
 use Rattle.nr_ring.specs.declared.words.TheConstants.{RING}
 use Rattle.nr_ring.specs.LogHistory.{Log, tail, local_of, completed}
 
@@ -22,3 +25,10 @@ pub record FitsTheRing (log : Log) : Type 0 where
   pub written : (replica : ℕ) → local_of log replica ≤ tail log
   pub kept_up : (replica : ℕ) → replica < length log.locals → tail log ≤ local_of log replica + RING
   pub ends : tail log ≤ LOG_PLACES
+
+-- the pass made the event of this number, and has a right to make events
+pub record IsMaker (views : List View) (number pass : ℕ) : Type 0 where
+  pub view : View
+  pub is_there : get_elem? views pass ≡ some view
+  pub made : Contains view.mine number
+  pub right : 1 ≤ view.rights

@@ -14,7 +14,8 @@ use vs_types::{Depth, LOG_PLACES, LogEntry, pack, unpack};
 /// Tests that so many entries may be appended: the log does not end before, and each replica has the room.
 pub(crate) fn test_room(words: &[u64; CELL_WORDS], count: u64) -> Result<(), AppendFault>
     requires { AreSmall words.now × (count ≤ RING) }
-    ensures { (log : Log) → IsWordsOf log words.now → MatchResult result (λ _. HasRoom log count × AllKeepUp log count) (Bars log count) }
+    ensures { (log : Log) → IsWordsOf log words.now
+        → MatchResult result (λ _. HasRoom log count × AllKeepUp log count) (Bars log count) }
 {
     let end = words[TAIL_WORD] + count;
     if end > u64::from(LOG_PLACES) {
@@ -50,7 +51,8 @@ fn first_word(place: u64) -> usize
 pub(crate) fn with_batch(words: &[u64; CELL_WORDS], batch: &[LogEntry]) -> [u64; CELL_WORDS]
     requires small { (slice_index words.now TAIL_WORD ≤ LOG_PLACES) × (length batch.now ≤ RING) }
     requires calls { All (λ entry. entry.call < CALLS) batch.now }
-    ensures { (log : Log) → IsWordsOf log words.now → IsAppended log batch.now words.now result }
+    ensures { (log : Log) → IsWordsOf log words.now
+        → IsAppended log batch.now words.now result }
 {
     let mut next = *words;
     let mut place = words[TAIL_WORD];
@@ -74,7 +76,8 @@ pub(crate) fn read_entries(
 )
     requires words { CanBeRead depth words.now from }
     requires empty { entries.old.items ≡ [] }
-    ensures { (log : Log) → IsWordsOf log words.now → All (IsLogEntry depth) log.entries → entries.new.items ≡ drop from log.entries }
+    ensures { (log : Log) → IsWordsOf log words.now → All (IsLogEntry depth) log.entries
+        → entries.new.items ≡ drop from log.entries }
 {
     for n in 0..words[TAIL_WORD] - from {
         let at = first_word(from + n);

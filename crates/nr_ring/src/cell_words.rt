@@ -14,12 +14,14 @@ pub fn words_are_a_function_of_the_log()
 
 /// An advance is two words: the replica's local tail, and the completed tail, which it raises in the same exchange.
 pub fn advances_change_two_words()
-    ensures { (log : Log) (replica to : ℕ) (words : List ℕ) → replica < REPLICAS → IsWordsOf log words → MayAdvance log replica to
+    ensures { (log : Log) (replica to : ℕ) (words : List ℕ) → replica < REPLICAS
+        → IsWordsOf log words → MayAdvance log replica to
         → IsWordsOf (log_after_event log (Advance replica to)) (advanced_words replica to words) }
 {}
 
 /// An append that writes its entries at their places changes no entry that a replica has still to take.
 pub fn appends_keep_needed_entries()
-    ensures { (depth : Depth) (log : Log) (batch : List LogEntry) (before words : List ℕ) → IsWordsOf log before → MayAppend depth log batch
-        → IsAppended log batch before words → IsWordsOf (log_after_event log (Append batch)) words }
+    ensures { (depth : Depth) (log : Log) (batch : List LogEntry) (before words : List ℕ)
+        → IsWordsOf log before → MayAppend depth log batch → IsAppended log batch before words
+        → IsWordsOf (log_after_event log (Append batch)) words }
 {}

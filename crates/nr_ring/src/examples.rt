@@ -17,7 +17,8 @@ pub fn ring_fills_and_frees()
     ensures tail { tail (log_after 2 (freed ++ Append (batch_of 1) ∷ [])) ≡ 17 }
     ensures completed { completed (log_after 2 (freed ++ Append (batch_of 1) ∷ [])) ≡ 16 }
     ensures locals { (log_after 2 (freed ++ Append (batch_of 1) ∷ [])).locals ≡ 16 ∷ 1 ∷ [] }
-    ensures to_take { length (drop 1 (log_after 2 (freed ++ Append (batch_of 1) ∷ [])).entries) ≡ 16 }
+    ensures to_take { length
+        (drop 1 (log_after 2 (freed ++ Append (batch_of 1) ∷ [])).entries) ≡ 16 }
 {}
 
 /// A log of one replica has room for 4,096 rounds of 16 entries, and then for none.

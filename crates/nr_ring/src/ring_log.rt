@@ -51,7 +51,12 @@ impl<J: LogName> Model for RingLog<J> {
 
 impl<J: LogName> RingLog<J> {
     /// A log without entries, of 1 to 4 replicas, and its passes: pass r owns replica r, and `others` further passes own none,
-    /// of which there may be 64. Each has one of the rights to make events. It takes all memory that the log ever needs.
+    /// of which there may be 64. Each has one of the rights to make events. It takes all memory that the log ever needs, and
+    /// never waits.
+    ///
+    /// # Errors
+    ///
+    /// `Memory` where the allocator gives none.
     pub fn new(
         alloc: Global,
         depth: Depth,
@@ -94,12 +99,14 @@ impl<J: LogName> RingLog<J> {
         replica: Option<u8>,
     ) -> LogPass<J>
         requires first { (first.old.table_id ≡ self.now)
-            × (cell_view first.old ≡ new_view (left_from J.replicas replica) (cell_view first.old).rights) }
+            × (cell_view first.old
+            ≡ new_view (left_from J.replicas replica) (cell_view first.old).rights) }
         requires right { 1 ≤ (cell_view first.old).rights }
         requires words { words ≡ new_words J.replicas }
         requires few { (J.replicas ≤ REPLICAS) × IsBelow J.replicas replica }
         ensures first { IsSamePass first.old first.new
-            × (cell_view first.new ≡ new_view (rest_of J.replicas replica) ((cell_view first.old).rights - 1)) }
+            × (cell_view first.new
+            ≡ new_view (rest_of J.replicas replica) ((cell_view first.old).rights - 1)) }
         ensures pass { result ≡ new_pass self.now (owned replica) }
     {
         let pass = self.cell.split_pass::<FirstOwned>(first);
@@ -142,10 +149,13 @@ impl<J: LogName> RingLog<J> {
     }
 
     /// Raises the local tail of the replica that the pass owns to a place, and the completed tail to it where that is lower.
-    /// Where the local tail is there already, nothing is exchanged. `Moved` where another pass's event has come since this pass
-    /// last saw the cell.
+    /// Where the local tail is there already, nothing is exchanged.
     ///
     /// Waits for the cell.
+    ///
+    /// # Errors
+    ///
+    /// `Moved` where another pass's event has come since this pass last saw the cell. The pass has made no event then.
     pub fn advance<R: Wait>(&self, rt: &R, pass: &mut LogPass<J>, to: u32) -> Result<(), Moved>
         requires log { pass.old.log ≡ self.now }
         requires to { MayTake J.replicas pass.old.view to }
@@ -181,7 +191,9 @@ impl<J: LogName> RingLog<J> {
     ) -> bool
         requires log { pass.old.log ≡ self.now }
         requires event { E.event ≡ Advance replica to }
-        requires may { (replica < REPLICAS) × MayAdvance (log_after J.replicas pass.old.view.seen) replica to × Contains pass.old.view.owns replica }
+        requires may { (replica < REPLICAS)
+            × MayAdvance (log_after J.replicas pass.old.view.seen) replica to
+            × Contains pass.old.view.owns replica }
         ensures log { pass.new.log ≡ pass.old.log }
         ensures view { MadeOrMoved J.depth J.replicas E.event pass.old.view pass.new.view result }
         ensures history { IsLogHistory J.depth J.replicas pass.new.view.seen }
@@ -194,11 +206,15 @@ impl<J: LogName> RingLog<J> {
         self.exchange::<E, R>(rt, pass, next)
     }
 
-    /// Loads the cell, and then appends 1 to 16 entries at the log's depth: the place of the first. `LogEnded` where the log would
-    /// go past 65,536 entries; `Full` where some replica would have more than 16 entries to take; `Moved` where neither holds, but
-    /// another pass's event came after the load. The tails are those of the log that the pass has then seen.
+    /// Loads the cell, and then appends 1 to 16 entries at the log's depth: the place of the first.
     ///
     /// Waits for the cell.
+    ///
+    /// # Errors
+    ///
+    /// `LogEnded` where the log would go past 65,536 entries; `Full` where some replica would have more than 16 entries to take;
+    /// `Moved` where neither holds, but another pass's event came after the load. The tails are those of the log that the pass
+    /// has then seen, and it has made no event.
     pub fn append<R: Wait>(
         &self,
         rt: &R,
@@ -210,9 +226,12 @@ impl<J: LogName> RingLog<J> {
         requires entries { All (IsLogEntry J.depth) batch.now }
         ensures log { pass.new.log ≡ pass.old.log }
         ensures owns { pass.new.view.owns ≡ pass.old.view.owns }
-        ensures appended { IfOk result (λ place. HasAppended J.depth J.replicas pass.old.view batch.now place pass.new.view) }
-        ensures refused { IfErr result (λ fault. HasLooked J.depth J.replicas pass.old.view pass.new.view
-            × IsReason (log_after J.replicas pass.new.view.seen) (length batch.now) pass.old.view pass.new.view fault) }
+        ensures appended { IfOk result (λ place.
+            HasAppended J.depth J.replicas pass.old.view batch.now place pass.new.view) }
+        ensures refused { IfErr result (λ fault.
+            HasLooked J.depth J.replicas pass.old.view pass.new.view
+            × IsReason (log_after J.replicas pass.new.view.seen) (length batch.now)
+            pass.old.view pass.new.view fault) }
         ensures history { IsLogHistory J.depth J.replicas pass.new.view.seen }
     {
         let count = batch.len() as u64;
@@ -276,8 +295,10 @@ impl<J: LogName> RingLog<J> {
         next: [u64; CELL_WORDS],
     ) -> bool
         requires log { pass.old.log ≡ self.now }
-        requires event { MayFollow J.depth (log_after J.replicas pass.old.view.seen) E.event × MayMake pass.old.view E.event }
-        requires next { IsWordsOf (log_after_event (log_after J.replicas pass.old.view.seen) E.event) next }
+        requires event { MayFollow J.depth (log_after J.replicas pass.old.view.seen) E.event
+            × MayMake pass.old.view E.event }
+        requires next { IsWordsOf
+            (log_after_event (log_after J.replicas pass.old.view.seen) E.event) next }
         ensures log { pass.new.log ≡ pass.old.log }
         ensures view { MadeOrMoved J.depth J.replicas E.event pass.old.view pass.new.view result }
         ensures history { IsLogHistory J.depth J.replicas pass.new.view.seen }
@@ -308,9 +329,13 @@ impl<J: LogName> RingLog<J> {
         requires log { (pass.old.log ≡ self.now) × (told.old.log ≡ self.now) }
         ensures pass { pass.new ≡ pass.old }
         ensures log { told.new.log ≡ told.old.log }
-        ensures met { StartsWith told.new.view.seen pass.old.view.seen × StartsWith told.new.view.seen told.old.view.seen }
-        ensures advances { All (λ replica. HasSeenAdvances replica told.new.view.seen told.old.view.seen) told.old.view.owns }
-        ensures looked { HasLooked J.depth J.replicas (joined told.old.view (copy_of pass.old.view)) told.new.view }
+        ensures met { StartsWith told.new.view.seen pass.old.view.seen
+            × StartsWith told.new.view.seen told.old.view.seen }
+        ensures advances { All
+            (λ replica. HasSeenAdvances replica told.new.view.seen told.old.view.seen)
+            told.old.view.owns }
+        ensures looked { HasLooked J.depth J.replicas
+            (joined told.old.view (copy_of pass.old.view)) told.new.view }
     {
         let copy = self.copy(pass);
         self.join(rt, told, copy);
@@ -320,7 +345,8 @@ impl<J: LogName> RingLog<J> {
     fn copy(&self, pass: &mut LogPass<J>) -> Pass<[u64; CELL_WORDS], View>
         requires { pass.old.log ≡ self.now }
         ensures pass { pass.new ≡ pass.old }
-        ensures copy { (result.table_id ≡ self.now) × (cell_view result ≡ copy_of pass.old.view) × (result.me.1 ≡ []) }
+        ensures copy { (result.table_id ≡ self.now) × (cell_view result ≡ copy_of pass.old.view)
+            × (result.me.1 ≡ []) }
     {
         self.cell.split_pass::<Copies>(&mut pass.pass)
     }
@@ -328,10 +354,11 @@ impl<J: LogName> RingLog<J> {
     /// Joins a pass to the cell that has made nothing and has no right to one of the log, which then loads the cell.
     fn join<R: Wait>(&self, rt: &R, pass: &mut LogPass<J>, copy: Pass<[u64; CELL_WORDS], View>)
         requires log { pass.old.log ≡ self.now }
-        requires copy { (copy.table_id ≡ self.now) × ((cell_view copy).mine ≡ []) × ((cell_view copy).rights ≡ 0)
-            × (copy.me.1 ≡ []) }
+        requires copy { (copy.table_id ≡ self.now) × ((cell_view copy).mine ≡ [])
+            × ((cell_view copy).rights ≡ 0) × (copy.me.1 ≡ []) }
         ensures log { pass.new.log ≡ pass.old.log }
-        ensures looked { HasLooked J.depth J.replicas (joined pass.old.view (cell_view copy)) pass.new.view }
+        ensures looked { HasLooked J.depth J.replicas
+            (joined pass.old.view (cell_view copy)) pass.new.view }
     {
         self.cell.join_pass::<Copies>(&mut pass.pass, copy);
         pass.mark = self.exchanges.mark();

@@ -53,7 +53,8 @@ pub struct Exchanging<J: LogName, E: Happening> {
 impl<J: LogName, E: Happening> Outcome<[u64; CELL_WORDS], View> for Exchanging<J, E> {
     ghost use Rattle.nr_ring.specs.inside.Held.{Exchanges};
 
-    ghost then = { λ before words words' after. Exchanges J.depth J.replicas E.event words words' before after };
+    ghost then = { λ before words words' after.
+        Exchanges J.depth J.replicas E.event words words' before after };
 }
 
 /// The new pass takes the first replica that the other owns, and one right.

@@ -12,8 +12,10 @@ use std::marker::PhantomData;
 pub(crate) struct RuledSlot<P: SlotRule> {
     slot: Slot,
     of: PhantomData<P>,
-    ghost posted: { (waiting : _) → slot ≡ Posted waiting → ∥ P.posted waiting.thread waiting.call waiting.op ∥₁ },
-    ghost answered: { (answered : _) → slot ≡ Ready answered → ∥ P.answered answered ∥₁ },
+    ghost posted: { (waiting : _) → slot ≡ Posted waiting
+        → ∥ P.posted waiting.thread waiting.call waiting.op ∥₁ },
+    ghost answered: { (answered : _) → slot ≡ Ready answered
+        → ∥ P.answered answered ∥₁ },
 }
 
 impl<P: SlotRule> RuledSlot<P> {
@@ -31,16 +33,20 @@ impl<P: SlotRule> RuledSlot<P> {
     pub(crate) fn post(&mut self, waiting: Waiting) -> Result<(), Occupied>
         requires { ∥ P.posted waiting.thread waiting.call waiting.op ∥₁ }
         ensures posted { OnOk result ((self.old.slot ≡ Empty) × (self.new.slot ≡ Posted waiting)) }
-        ensures occupied { OnErr result ((self.old.slot ≢ Empty) × (self.new.slot ≡ self.old.slot)) }
+        ensures occupied { OnErr result
+            ((self.old.slot ≢ Empty) × (self.new.slot ≡ self.old.slot)) }
     {
         self.slot.post(waiting)
     }
 
     /// As `Slot::take`.
     pub(crate) fn take(&mut self) -> Option<Waiting>
-        ensures taken { IfSome result (λ waiting. (self.old.slot ≡ Posted waiting) × (self.new.slot ≡ Taken waiting.call)) }
-        ensures rule { IfSome result (λ waiting. ∥ P.posted waiting.thread waiting.call waiting.op ∥₁) }
-        ensures none { IfNone result (((waiting : _) → self.old.slot ≢ Posted waiting) × (self.new.slot ≡ self.old.slot)) }
+        ensures taken { IfSome result (λ waiting.
+            (self.old.slot ≡ Posted waiting) × (self.new.slot ≡ Taken waiting.call)) }
+        ensures rule { IfSome result (λ waiting.
+            ∥ P.posted waiting.thread waiting.call waiting.op ∥₁) }
+        ensures none { IfNone result
+            (((waiting : _) → self.old.slot ≢ Posted waiting) × (self.new.slot ≡ self.old.slot)) }
     {
         self.slot.take()
     }
@@ -48,17 +54,21 @@ impl<P: SlotRule> RuledSlot<P> {
     /// As `Slot::answer`.
     pub(crate) fn answer(&mut self, answered: Answered) -> Result<(), NotTaken>
         requires { ∥ P.answered answered ∥₁ }
-        ensures answered { OnOk result ((self.old.slot ≡ Taken answered.call) × (self.new.slot ≡ Ready answered)) }
-        ensures not_taken { OnErr result ((self.old.slot ≢ Taken answered.call) × (self.new.slot ≡ self.old.slot)) }
+        ensures answered { OnOk result
+            ((self.old.slot ≡ Taken answered.call) × (self.new.slot ≡ Ready answered)) }
+        ensures not_taken { OnErr result
+            ((self.old.slot ≢ Taken answered.call) × (self.new.slot ≡ self.old.slot)) }
     {
         self.slot.answer(answered)
     }
 
     /// As `Slot::poll`.
     pub(crate) fn poll(&mut self) -> Option<Answered>
-        ensures ready { IfSome result (λ answered. (self.old.slot ≡ Ready answered) × (self.new.slot ≡ Empty)) }
+        ensures ready { IfSome result (λ answered.
+            (self.old.slot ≡ Ready answered) × (self.new.slot ≡ Empty)) }
         ensures rule { IfSome result (λ answered. ∥ P.answered answered ∥₁) }
-        ensures none { IfNone result (((answered : _) → self.old.slot ≢ Ready answered) × (self.new.slot ≡ self.old.slot)) }
+        ensures none { IfNone result (((answered : _) → self.old.slot ≢ Ready answered)
+            × (self.new.slot ≡ self.old.slot)) }
     {
         self.slot.poll()
     }

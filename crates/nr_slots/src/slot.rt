@@ -29,6 +29,10 @@ impl Slot {
     ghost use Rattle.nr_slots.specs.declared.slot.Slot.TheVariants.{Empty, Posted, Taken, Ready};
 
     /// Puts an update into an empty slot.
+    ///
+    /// # Errors
+    ///
+    /// `Occupied` where the slot is not empty; it stays as it was.
     pub fn post(&mut self, waiting: Waiting) -> Result<(), Occupied>
         ensures posted { OnOk result ((self.old ≡ Empty) × (self.new ≡ Posted waiting)) }
         ensures occupied { OnErr result ((self.old ≢ Empty) × (self.new ≡ self.old)) }
@@ -44,8 +48,10 @@ impl Slot {
 
     /// Takes the update that waits, if one does.
     pub fn take(&mut self) -> Option<Waiting>
-        ensures taken { IfSome result (λ waiting. (self.old ≡ Posted waiting) × (self.new ≡ Taken waiting.call)) }
-        ensures none { IfNone result (((waiting : _) → self.old ≢ Posted waiting) × (self.new ≡ self.old)) }
+        ensures taken { IfSome result (λ waiting.
+            (self.old ≡ Posted waiting) × (self.new ≡ Taken waiting.call)) }
+        ensures none { IfNone result
+            (((waiting : _) → self.old ≢ Posted waiting) × (self.new ≡ self.old)) }
     {
         match *self {
             Slot::Posted(waiting) => {
@@ -57,9 +63,15 @@ impl Slot {
     }
 
     /// Leaves the answer to the call that was taken.
+    ///
+    /// # Errors
+    ///
+    /// `NotTaken` where the slot is not taken with that call; it stays as it was.
     pub fn answer(&mut self, answered: Answered) -> Result<(), NotTaken>
-        ensures answered { OnOk result ((self.old ≡ Taken answered.call) × (self.new ≡ Ready answered)) }
-        ensures not_taken { OnErr result ((self.old ≢ Taken answered.call) × (self.new ≡ self.old)) }
+        ensures answered { OnOk result
+            ((self.old ≡ Taken answered.call) × (self.new ≡ Ready answered)) }
+        ensures not_taken { OnErr result
+            ((self.old ≢ Taken answered.call) × (self.new ≡ self.old)) }
     {
         match *self {
             Slot::Taken(call) if call == answered.call => {
@@ -72,8 +84,10 @@ impl Slot {
 
     /// Takes the answer, if there is one, and leaves the slot empty.
     pub fn poll(&mut self) -> Option<Answered>
-        ensures ready { IfSome result (λ answered. (self.old ≡ Ready answered) × (self.new ≡ Empty)) }
-        ensures none { IfNone result (((answered : _) → self.old ≢ Ready answered) × (self.new ≡ self.old)) }
+        ensures ready { IfSome result (λ answered.
+            (self.old ≡ Ready answered) × (self.new ≡ Empty)) }
+        ensures none { IfNone result
+            (((answered : _) → self.old ≢ Ready answered) × (self.new ≡ self.old)) }
     {
         match *self {
             Slot::Ready(answered) => {

@@ -30,6 +30,10 @@ impl<P: SlotRule> Slots<P> {
     ghost use Rattle.nr_slots.specs.Batch.{Rises};
 
     /// Empty slots for threads 0 to n - 1. It takes all memory that the slots ever need.
+    ///
+    /// # Errors
+    ///
+    /// `Memory` where the allocator gives none.
     pub fn new(alloc: Global, n: u16) -> Result<Slots<P>, Memory>
         ensures { IfOk result (λ slots. slots ≡ n) }
     {
@@ -41,9 +45,13 @@ impl<P: SlotRule> Slots<P> {
         Ok(Slots { slots })
     }
 
-    /// Puts an update into the thread's slot, or says that the slot is not empty.
+    /// Puts an update into the thread's slot.
     ///
     /// Waits for the slot's lock.
+    ///
+    /// # Errors
+    ///
+    /// `Occupied` where the slot is not empty.
     pub fn post<R: Wait>(&self, rt: &R, thread: u16, call: u32, op: Op) -> Result<(), Occupied>
         requires thread { thread < self.now }
         requires call { call < CALLS }
@@ -60,7 +68,8 @@ impl<P: SlotRule> Slots<P> {
         requires { batch.old.items ≡ [] }
         ensures rising { Rises batch.new.items }
         ensures below { All (λ waiting. waiting.thread < self.now) batch.new.items }
-        ensures rule { All (λ waiting. ∥ P.posted waiting.thread waiting.call waiting.op ∥₁) batch.new.items }
+        ensures rule { All (λ waiting. ∥ P.posted waiting.thread waiting.call waiting.op ∥₁)
+            batch.new.items }
     {
         for (thread, slot) in self.slots.iter().enumerate() {
             if batch.is_full() {
@@ -76,9 +85,13 @@ impl<P: SlotRule> Slots<P> {
         }
     }
 
-    /// Leaves an answer in its thread's slot, if the slot is taken with its call.
+    /// Leaves an answer in its thread's slot.
     ///
     /// Waits for the slot's lock.
+    ///
+    /// # Errors
+    ///
+    /// `NotTaken` where there is no such slot, or it is not taken with the call that is answered.
     pub fn answer<R: Wait>(&self, rt: &R, answered: Answered) -> Result<(), NotTaken>
         requires { ∥ P.answered answered ∥₁ }
         ensures { self.now ≤ answered.thread → IsErr result }

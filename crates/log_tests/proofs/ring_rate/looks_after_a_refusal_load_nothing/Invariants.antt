@@ -2,4 +2,4 @@ use Rattle.log_tests.proofs.ring_rate.looks_after_a_refusal_load_nothing.Given a
 
 -- the parties are of this log
 abbrev pub ghosts-compare : goal.ghosts-compare
-ghosts-compare g a = record { log = a.log.now }
+ghosts-compare g a = record { log = a.new.log }

@@ -1,7 +1,6 @@
-use Rattle.std.proofs.Common.{◌≡◌, ◌≤◌, subst, sym, arith}
+use Rattle.std.proofs.Common.{◌≡◌, subst, sym, arith}
 use Rattle.vs_types.specs.declared.depth.Depth.TheVariants.{Five}
-use Rattle.nr_ring.specs.Calls.{MayTake}
-use Rattle.nr_ring.specs.LogHistory.{IsLogHistory, local_of, log_after, tail}
+use Rattle.nr_ring.specs.LogHistory.{IsLogHistory, log_after, tail}
 use Rattle.nr_ring.specs.Pass.{Known}
 use Rattle.log_tests.proofs.party.Party.advance_to.Goals as goal
 

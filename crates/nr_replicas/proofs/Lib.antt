@@ -1,0 +1,6 @@
+pub mod Logs
+pub mod EntryEquality
+pub mod Hearing
+pub mod Rests
+pub mod NewPasses
+pub mod Settled

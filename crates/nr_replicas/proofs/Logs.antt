@@ -1,0 +1,54 @@
+-- What was answered in a log is so in each later one; and what a pass hears that is told.
+use Rattle.std.proofs.Common.{◌≡◌, ℕ, ◌+◌, ◌<◌, ◌≤◌, List, ◌++◌, Some, length, ap, sym, ◌∙◌, arith}
+use Rattle.std.proofs.Math.ListN.{length-append}
+use Rattle.std.proofs.lemmas.Option.{slice_get_within}
+use Rattle.vs_types.specs.Space.{Space}
+use Rattle.vs_types.specs.declared.answer.Answer.{Answer}
+use Rattle.vs_types.specs.declared.depth.Depth.{Depth}
+use Rattle.vs_types.specs.declared.log_entry.LogEntry.{LogEntry}
+use Rattle.nr_ring.specs.Calls.{HasLooked, copy_of, joined}
+use Rattle.nr_ring.specs.Laws.{HasGoneOn}
+use Rattle.nr_ring.specs.LogHistory.{Log, log_after, tail}
+use Rattle.nr_ring.specs.View.{StartsWith}
+use Rattle.nr_ring.specs.declared.view.View.{View}
+use Rattle.nr_node.proofs.LaterLogs.{same_answer, same_entry, same_space}
+use Rattle.nr_node.proofs.Looks.{later_goes_on}
+use Rattle.nr_replicas.specs.Replicas.{HasHeard, IsAnsweredAt, IsReadAt}
+
+pub tail_rises : (p q : Log) → HasGoneOn p q → tail p ≤ tail q
+tail_rises p q on = omega (arith, ap (λ (l : List LogEntry). length l) on.entries.1, length-append p.entries on.entries.0)
+
+pub answer_stays : (depth : Depth) (tables from : ℕ) (p q : Log) (entry : LogEntry) (place : ℕ) (answer : Answer) → HasGoneOn p q
+    → IsAnsweredAt depth tables from p entry place answer → IsAnsweredAt depth tables from q entry place answer
+answer_stays depth tables from p q entry place answer on is = record {
+  fresh = is.fresh;
+  stands = same_entry p q place entry on is.stands;
+  answered = is.answered ∙ sym (same_answer depth tables place entry.op p q on (omega (arith, slice_get_within p.entries place entry is.stands)));
+}
+
+pub read_stays : (depth : Depth) (tables from : ℕ) (p q : Log) (answer_in : Space → Answer) (at : ℕ) (answer : Answer) → HasGoneOn p q
+    → IsReadAt depth tables from p answer_in at answer → IsReadAt depth tables from q answer_in at answer
+read_stays depth tables from p q answer_in at answer on is = record {
+  fresh = is.fresh;
+  known = omega (arith, is.known, tail_rises p q on);
+  answered = is.answered ∙ ap answer_in (sym (same_space depth tables at p q on is.known));
+}
+
+-- a pass that was told what another had seen, and then looked, has heard of more
+pub told_heard : (depth : Depth) (replicas : ℕ) (before other after : View) → HasLooked depth replicas (joined before (copy_of other)) after
+    → HasHeard depth replicas before after
+told_heard depth replicas before other after is = record {
+  is_history = is.is_history;
+  seen = is.seen;
+  advances = is.advances;
+  mine = is.mine;
+  owns = is.owns;
+  rights = omega (arith, is.rights);
+}
+
+-- its log has gone on from that of the other
+pub told_goes_on : (depth : Depth) (replicas : ℕ) (before other after : View) → HasLooked depth replicas (joined before (copy_of other)) after
+    → StartsWith after.seen other.seen → HasGoneOn (log_after replicas other.seen) (log_after replicas after.seen)
+told_goes_on depth replicas before other after is begins = later_goes_on depth replicas other.seen after.seen is.is_history begins
+
+-- hearing twice

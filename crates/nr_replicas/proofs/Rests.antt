@@ -1,0 +1,23 @@
+-- Lists that are gone through one by one.
+use Rattle.std.proofs.Common.{◌≡◌, ℕ, suc, ◌+◌, ◌<◌, List, [], ◌∷◌, ◌++◌, All, length, ap, sym, subst, arith}
+use Rattle.std.proofs.Math.ListN.{length-append}
+use Rattle.std.proofs.lemmas.List.Elements.{All-append}
+use Rattle.nr_node.proofs.Lists.{all_one}
+
+-- what holds of all holds of the first, and of the rest
+pub first_and_rest : {X : Type 0} (P : X → Type 0) (all rest : List X) (x : X) → all ≡ x ∷ rest → All P all → P x × All P rest
+first_and_rest P all rest x is holds =
+    let here = subst (All P) is holds in (here 0 x (omega arith), λ k d lt. here (suc k) d (omega (arith, lt)))
+
+pub holds_of_none : {X : Type 0} (P : X → Type 0) (all : List X) → all ≡ [] → All P all
+holds_of_none P all is = subst (All P) (sym is) (λ k d lt. absurd (omega (arith, lt)))
+
+-- and of one more
+pub holds_of_more : {X : Type 0} (P : X → Type 0) (before after : List X) (x : X) → after ≡ before ++ x ∷ [] → All P before → P x → All P after
+holds_of_more P before after x is holds here = subst (All P) (sym is) (All-append P before (x ∷ []) holds (all_one P x here))
+
+-- one is taken from the front of one list, and another put at the end of the other
+pub one_over : {X Y : Type 0} (xs xs' : List X) (x : X) (ys ys' : List Y) (y : Y) (n : ℕ) → xs' ≡ xs ++ x ∷ [] → ys ≡ y ∷ ys'
+    → length xs + length ys ≡ n → length xs' + length ys' ≡ n
+one_over xs xs' x ys ys' y n more less is =
+    omega (arith, ap (λ (l : List _). length l) more, ap (λ (l : List _). length l) less, length-append xs (x ∷ []), is)

@@ -1,0 +1,147 @@
+-- What the dumps and the calls of a log are in each later one.
+use Rattle.std.proofs.Common.{◌≡◌, ℕ, zero, suc, ◌<◌, ◌≤◌, List, [], ◌∷◌, ◌++◌, All, length, map, take, drop, get_or, ap, sym, subst, ◌∙◌, arith}
+use Rattle.std.specs.List.{remove}
+use Rattle.std.proofs.lemmas.List.{map-append, take-append-drop}
+use Rattle.std.proofs.lemmas.List.Elements.{All-append, All-map}
+use Rattle.vs_types.specs.Space.{table_count}
+use Rattle.vs_types.specs.declared.depth.Depth.{Depth}
+use Rattle.vs_types.specs.declared.log_entry.LogEntry.{LogEntry}
+use Rattle.vs_walk.specs.Dump.{Image}
+use Rattle.vs_walk.specs.Walk.{TranslatesAs}
+use Rattle.nr_ring.specs.Laws.{HasGoneOn}
+use Rattle.nr_ring.specs.LogHistory.{Log, IsLogHistory, local_of, log_after, tail}
+use Rattle.nr_ring.specs.Pass.{Known, TableId}
+use Rattle.nr_ring.specs.View.{HasSeenAdvances, StartsWith}
+use Rattle.nr_ring.specs.declared.log_event.LogEvent.{LogEvent}
+use Rattle.nr_ring.specs.declared.view.View.{View}
+use Rattle.nr_ring.proofs.Histories.{local_since}
+use Rattle.nr_node.specs.Node.{IsNode, NodeState, applied_of, log_of, replica_of, taken_by}
+use Rattle.nr_node.proofs.LaterLogs.{same_space}
+use Rattle.nr_node.proofs.Lists.{all_one}
+use Rattle.nr_node.proofs.Looks.{begins_begins, later_goes_on}
+use Rattle.nr_node.proofs.Nodes.{take_still}
+use Rattle.nr_replicas.specs.Replicas.{HasHeard}
+use Rattle.nr_replicas.specs.Settled.{IsDumpOf, IsSettled}
+use Rattle.nr_replicas.specs.inside.Replicas.{IsNodeOf}
+use Rattle.nr_replicas.specs.inside.Settling.{AreDumpsOf}
+use Rattle.nr_replicas.proofs.Hearing.{heard_on, heard_twice}
+use Rattle.nr_replicas.proofs.Logs.{tail_rises}
+
+-- ---- what passes have seen
+
+-- what begins with all that they have seen goes on to a longer list that does
+pub all_begin_later : (seen later : List LogEvent) (passes : List Known) → StartsWith later seen → All (λ pass. StartsWith seen pass.view.seen) passes
+    → All (λ pass. StartsWith later pass.view.seen) passes
+all_begin_later seen later passes on all k d lt = begins_begins (get_or passes k d).view.seen seen later (all k d lt) on
+
+-- a pass that has heard of more has taken as many entries for its replica
+pub heard_taken : (depth : Depth) (replicas : ℕ) (a b : View) → HasHeard depth replicas a b → a.owns ≡ replica_of a ∷ []
+    → taken_by replicas b ≡ taken_by replicas a
+heard_taken depth replicas a b is owner =
+    let Q : List ℕ → Type 0 = λ l. All (λ replica. HasSeenAdvances replica b.seen a.seen) l in
+    ap (λ (l : List ℕ). local_of (log_after replicas b.seen) (Rattle.std.specs.Prelude.slice_index l 0)) is.owns
+    ∙ local_since replicas (replica_of a) b.seen a.seen (subst Q owner is.advances 0 0 (omega arith))
+
+-- ---- dumps
+
+-- one node more with its dump
+pub one_dump_more : (depth : Depth) (replicas tables : ℕ) (passes : List Known) (dumps : List Image) (node : NodeState) (dump : Image)
+    → AreDumpsOf depth replicas tables passes dumps → node.tables ≡ tables → IsDumpOf depth node.tables (log_of replicas node) dump
+    → AreDumpsOf depth replicas tables (passes ++ node.known ∷ []) (dumps ++ dump ∷ [])
+one_dump_more depth replicas tables [] [] node dump are limit is =
+    let P : ℕ → Type 0 = λ n. IsDumpOf depth n (log_of replicas node) dump in (subst P limit is, tt)
+one_dump_more depth replicas tables (p ∷ ps) (d ∷ ds) node dump are limit is = (are.0, one_dump_more depth replicas tables ps ds node dump are.1 limit is)
+one_dump_more depth replicas tables [] (d ∷ ds) node dump are limit is = absurd are
+one_dump_more depth replicas tables (p ∷ ps) [] node dump are limit is = absurd are
+
+dump_stays : (depth : Depth) (tables : ℕ) (p q : Log) (dump : Image) → HasGoneOn p q → IsDumpOf depth tables p dump → IsDumpOf depth tables q dump
+dump_stays depth tables p q dump on is =
+    let same = same_space depth tables dump.applied p q on is.applied in
+    record {
+      applied = omega (arith, is.applied, tail_rises p q on);
+      translates = subst (TranslatesAs depth dump.frames dump.root) (sym same) is.translates;
+      frames = is.frames ∙ ap (table_count depth) (sym same);
+    }
+
+-- the dumps are of each log that begins with all that the passes have seen
+pub all_dumps_stay : (depth : Depth) (replicas tables : ℕ) (history : List LogEvent) (passes : List Known) (dumps : List Image)
+    → IsLogHistory depth replicas history → All (λ pass. StartsWith history pass.view.seen) passes → AreDumpsOf depth replicas tables passes dumps
+    → All (IsDumpOf depth tables (log_after replicas history)) dumps
+all_dumps_stay depth replicas tables history [] [] is begins are k d lt = absurd (omega (arith, lt))
+all_dumps_stay depth replicas tables history (p ∷ ps) (dump ∷ dumps) is begins are zero d lt =
+    dump_stays depth tables (log_after replicas p.view.seen) (log_after replicas history) dump
+    (later_goes_on depth replicas p.view.seen history is (begins 0 p (omega arith))) are.0
+all_dumps_stay depth replicas tables history (p ∷ ps) (dump ∷ dumps) is begins are (suc k) d lt =
+    all_dumps_stay depth replicas tables history ps dumps is (λ j e l. begins (suc j) e (omega (arith, l))) are.1 k d (omega (arith, lt))
+all_dumps_stay depth replicas tables history [] (dump ∷ dumps) is begins are k d lt = absurd are
+all_dumps_stay depth replicas tables history (p ∷ ps) [] is begins are k d lt = absurd are
+
+-- ---- calls
+
+abbrev call_of : LogEntry → ℕ
+call_of entry = entry.call
+
+-- the calls of the first n entries, as the earlier log has them, and of the rest of the later one
+pub all_calls : (p q : Log) (n : ℕ) → HasGoneOn p q → n ≤ tail p
+    → map (λ entry. entry.call) (take n p.entries) ++ map (λ entry. entry.call) (drop n q.entries) ≡ map (λ entry. entry.call) q.entries
+all_calls p q n on le =
+    ap (λ (l : List LogEntry). map call_of l ++ map call_of (drop n q.entries)) (sym (take_still p.entries q.entries on.entries.0 n on.entries.1 le))
+    ∙ sym (map-append call_of (take n q.entries) (drop n q.entries))
+    ∙ ap (map call_of) (take-append-drop n q.entries)
+
+-- ---- the nodes' passes
+
+abbrev known_of : NodeState → Known
+known_of node = node.known
+
+-- the first node's pass, and the others
+pub first_known : (nodes : List NodeState) (passes others : List Known) (node : NodeState) (first : Known) → 0 < length nodes
+    → passes ≡ map (λ node. node.known) nodes → node ≡ get_or nodes 0 node → first ≡ get_or passes 0 first → others ≡ remove passes 0
+    → (first ≡ node.known) × (passes ≡ node.known ∷ others)
+first_known [] passes others node first lt are here taken left = absurd (omega (arith, lt))
+first_known (n ∷ ns) passes others node first lt are here taken left =
+    let same : n.known ≡ node.known = ap known_of (sym here) in
+    let is : first ≡ n.known = taken ∙ ap (λ (l : List Known). get_or l 0 first) are in
+    let rest : others ≡ map known_of ns = left ∙ ap (λ (l : List Known). remove l 0) are in
+    (is ∙ same, are ∙ ap (λ (k : Known). k ∷ map known_of ns) same ∙ ap (λ (l : List Known). node.known ∷ l) (sym rest))
+
+pub all_of_log : (log : TableId) (tables : ℕ) (nodes : List NodeState) (passes : List Known) → passes ≡ map (λ node. node.known) nodes
+    → All (IsNodeOf log tables) nodes → All (λ pass. pass.log ≡ log) passes
+all_of_log log tables nodes passes are each =
+    let Of : Known → Type 0 = λ pass. pass.log ≡ log in
+    subst (All Of) (sym are) (All-map Of known_of nodes (λ k d lt. (each k d lt).log_is))
+
+-- ---- settling
+
+-- the first node's pass heard of all that the others, then the handed ones, then nobody had seen, and then the rest of the log was added
+pub settled : (depth : Depth) (replicas tables : ℕ) (handed passes others : List Known) (first : NodeState) (dumps : List Image) (calls all : List ℕ)
+    (a b c : View) → IsNode depth replicas first → passes ≡ first.known ∷ others
+    → HasHeard depth replicas first.known.view a → All (λ pass. StartsWith a.seen pass.view.seen) others
+    → HasHeard depth replicas a b → All (λ pass. StartsWith b.seen pass.view.seen) handed
+    → HasHeard depth replicas b c
+    → AreDumpsOf depth replicas tables passes dumps → length dumps ≡ replicas
+    → calls ≡ map (λ entry. entry.call) (take (applied_of replicas first) (log_of replicas first).entries)
+    → all ≡ calls ++ map (λ entry. entry.call) (drop (taken_by replicas c) (log_after replicas c.seen).entries)
+    → IsSettled depth replicas tables handed all dumps
+settled depth replicas tables handed passes others first dumps calls all a b c is_node split heard_a begin_a heard_b begin_b heard_c are count first_calls all_are =
+    let v = first.known.view in
+    let ab = heard_twice depth replicas a b c heard_b heard_c in
+    let whole = heard_twice depth replicas v a c heard_a ab in
+    let log = log_of replicas first in
+    let later = log_after replicas c.seen in
+    let n = applied_of replicas first in
+    let same : taken_by replicas c ≡ n = heard_taken depth replicas v c whole is_node.owner in
+    let Begins : Known → Type 0 = λ pass. StartsWith c.seen pass.view.seen in
+    let others_begin : All Begins others = all_begin_later a.seen c.seen others ab.seen begin_a in
+    let every : All Begins passes = subst (All Begins) (sym split) (All-append Begins (first.known ∷ []) others (all_one Begins first.known whole.seen) others_begin) in
+    record {
+      history = c.seen;
+      is_history = whole.is_history;
+      begins = all_begin_later b.seen c.seen handed heard_c.seen begin_b;
+      calls_are = all_are
+          ∙ ap (λ (l : List ℕ). l ++ map call_of (drop (taken_by replicas c) later.entries)) first_calls
+          ∙ ap (λ (k : ℕ). map call_of (take n log.entries) ++ map call_of (drop k later.entries)) same
+          ∙ all_calls log later n (heard_on depth replicas v c whole) is_node.written;
+      one_each = count;
+      dumps_are = all_dumps_stay depth replicas tables c.seen passes dumps whole.is_history every are;
+    }

@@ -1,0 +1,17 @@
+use Rattle.std.proofs.Common.{◌≡◌, ℕ, All, List, [], ◌∷◌, ◌++◌, map, ap, sym, subst, ◌∙◌, arith}
+use Rattle.std.proofs.lemmas.List.{map-append}
+use Rattle.nr_replicas.specs.inside.Replicas.{IsNodeOf}
+use Rattle.nr_replicas.proofs.Rests.{first_and_rest, holds_of_more, one_over}
+use Rattle.nr_replicas.proofs.opened.share.Goals as goal
+
+pub loop-node-preserved : goal.loop-node-preserved
+loop-node-preserved g c =
+    let Of = IsNodeOf g.K.ReplicasName.log g.K.ReplicasName.tables in
+    let of = first_and_rest Of _ _ c.in-Some.node c.in-Some.ensures.steps.0 c.loop-node.invariant.0 in
+    let more = c.in_ok-push.ensures.items in (
+      of.1,
+      one_over c.loop-node.shared.items c.push.new.self.items _ _ _ c.in-Some.node _ more c.in-Some.ensures.steps.0 c.loop-node.invariant.1,
+      holds_of_more (λ (n : ℕ). n ≡ c.args.config.threads) (map (λ (s : _). s.slots) c.loop-node.shared.items) _ _
+          (ap (λ (l : List _). map (λ (s : _). s.slots) l) more ∙ map-append (λ (s : _). s.slots) c.loop-node.shared.items _)
+          c.loop-node.invariant.2 (c.in_ok-slots.ensures ∙ c.threads.ensures.reads),
+    )

@@ -1,0 +1,88 @@
+use Rattle.std.proofs.Common.{◌≡◌, ◌<◌, List, ◌∷◌, All, length, ap, sym, subst, ◌∙◌, arith}
+use Rattle.std.proofs.lemmas.List.{length-map}
+use Rattle.nr_ring.specs.Pass.{Known}
+use Rattle.nr_ring.specs.View.{StartsWith}
+use Rattle.nr_replicas.specs.Replicas.{HasHeard}
+use Rattle.nr_replicas.proofs.Rests.{first_and_rest}
+use Rattle.nr_replicas.proofs.Settled.{all_of_log, first_known, settled}
+use Rattle.nr_replicas.proofs.replicas.Replicas.settle.Goals as goal
+
+pub hear_all-requires : goal.hear_all-requires
+hear_all-requires g c =
+    let nodes = c.in_ok-nodes.nodes.items in
+    let passes = c.in_ok-others.others.items in
+    let others = c.remove-first.new.self.items in
+    let node = c.index.result.now in
+    let shared = c.self.inside.shared.items in
+    let many : 0 < length nodes =
+    omega (arith, c.in_ok-nodes.ensures.count, length-map shared (λ (s : _). s.slots), c.self.invariant.1.count, c.self.invariant.1.some) in
+    let split = first_known nodes passes others node c.remove-first.result many c.in_ok-others.ensures.passes c.index.ensures c.remove-first.ensures.value
+    c.remove-first.ensures.items in
+    let Of : Known → Type 0 = λ pass. pass.log ≡ g.K.ReplicasName.log in
+    let all = all_of_log g.K.ReplicasName.log g.K.ReplicasName.tables nodes passes c.in_ok-others.ensures.passes c.in_ok-nodes.ensures.each in
+    let parts = first_and_rest Of passes others node.known split.1 all in
+    let Here : Known → Type 0 = λ pass. pass.log ≡ c.self.inside.log in
+    let rest : All Here others = λ k d lt. parts.1 k d lt ∙ sym c.self.invariant.0 in
+    record { log = (ap (λ (k : Known). k.log) split.0 ∙ parts.0 ∙ sym c.self.invariant.0, subst (All Here) (sym c.deref_mut.ensures.value) rest) }
+
+pub hear_all-requires-2 : goal.hear_all-requires-2
+hear_all-requires-2 g c =
+    let nodes = c.in_ok-nodes.nodes.items in
+    let passes = c.in_ok-others.others.items in
+    let others = c.remove-first.new.self.items in
+    let node = c.index.result.now in
+    let shared = c.self.inside.shared.items in
+    let many : 0 < length nodes =
+    omega (arith, c.in_ok-nodes.ensures.count, length-map shared (λ (s : _). s.slots), c.self.invariant.1.count, c.self.invariant.1.some) in
+    let split = first_known nodes passes others node c.remove-first.result many c.in_ok-others.ensures.passes c.index.ensures c.remove-first.ensures.value
+    c.remove-first.ensures.items in
+    let Of : Known → Type 0 = λ pass. pass.log ≡ g.K.ReplicasName.log in
+    let all = all_of_log g.K.ReplicasName.log g.K.ReplicasName.tables nodes passes c.in_ok-others.ensures.passes c.in_ok-nodes.ensures.each in
+    let own = (first_and_rest Of passes others node.known split.1 all).0 in
+    let first : c.remove-first.result.log ≡ c.self.inside.log = ap (λ (k : Known). k.log) split.0 ∙ own ∙ sym c.self.invariant.0 in
+    record { log = (c.hear_all.ensures.log ∙ first, λ k d lt. c.requires k d lt ∙ sym c.self.invariant.0) }
+
+pub add_rest-requires-clause-log : goal.add_rest-requires-clause-log
+add_rest-requires-clause-log g c =
+    let nodes = c.in_ok-nodes.nodes.items in
+    let passes = c.in_ok-others.others.items in
+    let others = c.remove-first.new.self.items in
+    let node = c.index.result.now in
+    let shared = c.self.inside.shared.items in
+    let many : 0 < length nodes =
+    omega (arith, c.in_ok-nodes.ensures.count, length-map shared (λ (s : _). s.slots), c.self.invariant.1.count, c.self.invariant.1.some) in
+    let split = first_known nodes passes others node c.remove-first.result many c.in_ok-others.ensures.passes c.index.ensures c.remove-first.ensures.value
+    c.remove-first.ensures.items in
+    let Of : Known → Type 0 = λ pass. pass.log ≡ g.K.ReplicasName.log in
+    let all = all_of_log g.K.ReplicasName.log g.K.ReplicasName.tables nodes passes c.in_ok-others.ensures.passes c.in_ok-nodes.ensures.each in
+    let own = (first_and_rest Of passes others node.known split.1 all).0 in
+    let first : c.remove-first.result.log ≡ c.self.inside.log = ap (λ (k : Known). k.log) split.0 ∙ own ∙ sym c.self.invariant.0 in
+    c.hear_all-2.ensures.log ∙ c.hear_all.ensures.log ∙ first
+
+pub returns-clause-settled : goal.returns-clause-settled
+returns-clause-settled g c =
+    let depth = g.J.LogName.depth in
+    let replicas = g.J.LogName.replicas in
+    let tables = g.K.ReplicasName.tables in
+    let nodes = c.in_ok-nodes.nodes.items in
+    let passes = c.in_ok-others.others.items in
+    let others = c.remove-first.new.self.items in
+    let node = c.index.result.now in
+    let shared = c.self.inside.shared.items in
+    let many : 0 < length nodes =
+    omega (arith, c.in_ok-nodes.ensures.count, length-map shared (λ (s : _). s.slots), c.self.invariant.1.count, c.self.invariant.1.some) in
+    let split = first_known nodes passes others node c.remove-first.result many c.in_ok-others.ensures.passes c.index.ensures c.remove-first.ensures.value
+    c.remove-first.ensures.items in
+    let a = c.hear_all.new.first.view in
+    let b = c.hear_all-2.new.first.view in
+    let last = c.add_rest.new.pass.view in
+    let Heard : Known → Type 0 = λ pass. HasHeard depth replicas pass.view a in
+    let heard : HasHeard depth replicas node.known.view a = subst Heard split.0 c.hear_all.ensures.heard in
+    let Begins : Known → Type 0 = λ pass. StartsWith a.seen pass.view.seen in
+    let begins : All Begins others = subst (All Begins) c.deref_mut.ensures.value c.hear_all.ensures.begins in
+    let count : length c.in_ok-others.dumps.items ≡ replicas =
+    c.in_ok-others.ensures.count ∙ c.in_ok-nodes.ensures.count ∙ sym (length-map shared (λ (s : _). s.slots)) ∙ c.self.invariant.1.count
+    ∙ c.self.invariant.1.replicas_are in
+    settled depth replicas tables c.args.passes.now passes others node c.in_ok-others.dumps.items c.in_ok-calls.calls.items c.add_rest.new.calls.items a b last
+    c.in_ok-calls.ensures.is_node split.1 heard begins c.hear_all-2.ensures.heard c.hear_all-2.ensures.begins c.in_ok-add_rest.ensures.heard
+    c.in_ok-others.ensures.dumps count c.in_ok-calls.ensures.calls c.in_ok-add_rest.ensures.rest

@@ -1,0 +1,43 @@
+use Rattle.std.proofs.Common.{◌≡◌, ◌≤◌, ap, sym, subst, ◌∙◌, arith}
+use Rattle.nr_ring.specs.LogHistory.{log_after, tail}
+use Rattle.nr_ring.specs.Pass.{Known}
+use Rattle.nr_ring.specs.declared.tails.Tails.{Tails}
+use Rattle.nr_replicas.specs.Replicas.{HasHeard, IsAnsweredAt}
+use Rattle.nr_replicas.proofs.Hearing.{heard_on, heard_twice, later_than, looked_heard}
+use Rattle.nr_replicas.proofs.Logs.{tail_rises}
+use Rattle.nr_replicas.proofs.replicas.Replicas.update.Goals as goal
+
+pub returns-in_err-told-clause-heard : goal.returns-in_err-told-clause-heard
+returns-in_err-told-clause-heard g c =
+    let depth = g.J.LogName.depth in
+    let replicas = g.J.LogName.replicas in
+    heard_twice depth replicas c.args.pass.now.view c.look-from.new.pass.view c.wait.new.pass.view
+    (looked_heard depth replicas c.args.pass.now.view c.look-from.new.pass.view c.look-from.ensures.looked) c.wait.ensures.heard
+
+pub returns-in-Some-clause-heard : goal.returns-in-Some-clause-heard
+returns-in-Some-clause-heard g c =
+    let depth = g.J.LogName.depth in
+    let replicas = g.J.LogName.replicas in
+    let waited = heard_twice depth replicas c.args.pass.now.view c.look-from.new.pass.view c.wait.new.pass.view
+    (looked_heard depth replicas c.args.pass.now.view c.look-from.new.pass.view c.look-from.ensures.looked) c.wait.ensures.heard in
+    heard_twice depth replicas c.args.pass.now.view c.wait.new.pass.view c.confirm.new.pass.view waited c.in-Some.ensures.heard
+
+pub returns-in-Some-clause-answered : goal.returns-in-Some-clause-answered
+returns-in-Some-clause-answered g c =
+    let depth = g.J.LogName.depth in
+    let replicas = g.J.LogName.replicas in
+    let on = heard_on depth replicas c.args.pass.now.view c.look-from.new.pass.view
+    (looked_heard depth replicas c.args.pass.now.view c.look-from.new.pass.view c.look-from.ensures.looked) in
+    let knew : tail (log_after replicas c.args.pass.now.view.seen) ≤ c.look-from.result.tail =
+    omega (arith, tail_rises _ _ on, ap (λ (t : Tails). t.tail) c.look-from.ensures.tails) in
+    let confirmed = c.in-Some.ensures.confirmed in
+    record { fresh = later_than knew confirmed.fresh; stands = confirmed.stands; answered = confirmed.answered }
+
+pub returns-clause-heard : goal.returns-clause-heard
+returns-clause-heard g c =
+    let depth = g.J.LogName.depth in
+    let replicas = g.J.LogName.replicas in
+    let waited = heard_twice depth replicas c.args.pass.now.view c.look-from.new.pass.view c.wait.new.pass.view
+    (looked_heard depth replicas c.args.pass.now.view c.look-from.new.pass.view c.look-from.ensures.looked) c.wait.ensures.heard in
+    let Here : Known → Type 0 = λ k. HasHeard depth replicas c.args.pass.now.view k.view in
+    subst Here (sym c.in-None.ensures.unheard) waited

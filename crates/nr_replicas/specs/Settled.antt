@@ -1,0 +1,27 @@
+-- What is left of the replicas when all is done.
+use Rattle.std.specs.Prelude.{◌≡◌, ℕ, ◌≤◌, List, All, length, map}
+use Rattle.std.specs.FinMap as finite
+use Rattle.vs_types.specs.Space.{table_count}
+use Rattle.vs_types.specs.declared.depth.Depth.{Depth}
+use Rattle.vs_walk.specs.Dump.{Image}
+use Rattle.vs_walk.specs.Walk.{TranslatesAs}
+use Rattle.nr_ring.specs.LogHistory.{Log, IsLogHistory, log_after, tail}
+use Rattle.nr_ring.specs.Pass.{Known}
+use Rattle.nr_ring.specs.View.{StartsWith}
+use Rattle.nr_ring.specs.declared.log_event.LogEvent.{LogEvent}
+use Rattle.nr_node.specs.Spaces.{space_at}
+
+-- a dump of a replica: a page table that translates as the space after the entries that it has applied, with a frame for each table
+pub record IsDumpOf (depth : Depth) (tables : ℕ) (log : Log) (dump : Image) : Type 0 where
+  pub applied : dump.applied ≤ tail log
+  pub translates : TranslatesAs depth dump.frames dump.root (space_at depth tables log.entries dump.applied)
+  pub frames : finite.len dump.frames ≡ table_count depth (space_at depth tables log.entries dump.applied)
+
+-- the calls of one log, which begins with all that each of these passes has seen, and a dump of each replica
+pub record IsSettled (depth : Depth) (replicas tables : ℕ) (passes : List Known) (calls : List ℕ) (dumps : List Image) : Type 0 where
+  pub history : List LogEvent
+  pub is_history : IsLogHistory depth replicas history
+  pub begins : All (λ pass. StartsWith history pass.view.seen) passes
+  pub calls_are : calls ≡ map (λ entry. entry.call) (log_after replicas history).entries
+  pub one_each : length dumps ≡ replicas
+  pub dumps_are : All (IsDumpOf depth tables (log_after replicas history)) dumps

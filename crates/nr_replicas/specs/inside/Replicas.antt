@@ -1,0 +1,42 @@
+-- What holds inside the calls of the replicas.
+use Rattle.std.specs.Prelude.{◌≡◌, ℕ, ◌≤◌, List, [], ◌∷◌, All, length}
+use Rattle.vs_types.specs.Config.{Layout}
+use Rattle.vs_types.specs.Space.{Space}
+use Rattle.vs_types.specs.Step.{allow, look}
+use Rattle.vs_types.specs.declared.answer.Answer.{Answer}
+use Rattle.vs_types.specs.declared.depth.Depth.{Depth}
+use Rattle.nr_node.specs.Node.{NodeState}
+use Rattle.nr_ring.specs.Pass.{Known, TableId, new_pass}
+use Rattle.nr_replicas.specs.declared.question.Question.{Question}
+use Rattle.nr_replicas.specs.declared.question.Question.TheVariants.{Resolve, Access}
+
+-- what a question about an address is answered in a space
+abbrev pub answer_in : Question → ℕ → Space → Answer
+answer_in Resolve address space = look space address
+answer_in (Access mode access) address space = allow space address mode access
+
+-- the layout of some replicas is that of their names, and each has a slot for each thread
+pub record AreShared (depth : Depth) (replicas tables : ℕ) (layout : Layout) (slots : List ℕ) : Type 0 where
+  pub depth_is : layout.depth ≡ depth
+  pub replicas_are : layout.replicas ≡ replicas
+  pub tables_are : layout.tables ≡ tables
+  pub some : 1 ≤ layout.replicas
+  pub count : length slots ≡ layout.replicas
+  pub for_each : All (λ n. n ≡ layout.threads) slots
+
+-- the pass of a new log that owns some replica
+abbrev pub IsNewPass : TableId → Known → Type 0
+IsNewPass log pass = (replica : ℕ) × (pass ≡ new_pass log (replica ∷ []))
+
+-- a node is of this log and may have so many tables
+pub record IsNodeOf (log : TableId) (tables : ℕ) (node : NodeState) : Type 0 where
+  pub log_is : node.known.log ≡ log
+  pub tables_are : node.tables ≡ tables
+
+-- the nodes of new replicas: one for each, of this log
+pub record AreNodes (depth : Depth) (replicas : ℕ) (log : TableId) (layout : Layout) (nodes : List NodeState) : Type 0 where
+  pub depth_is : layout.depth ≡ depth
+  pub replicas_are : layout.replicas ≡ replicas
+  pub some : 1 ≤ layout.replicas
+  pub count : length nodes ≡ layout.replicas
+  pub each : All (IsNodeOf log layout.tables) nodes

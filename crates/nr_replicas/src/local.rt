@@ -1,0 +1,231 @@
+//! What lies under the lock of a replica.
+ghost use Rattle.std.specs.Prelude.{◌≡◌, ◌≤◌, ◌<◌, All, IfErr, IfNone, IfSome, []};
+ghost use Rattle.vs_types.specs.Depth.{IsCanonical};
+ghost use Rattle.vs_types.specs.Operation.{IsAction};
+ghost use Rattle.nr_ring.specs.LogHistory.{log_after, tail};
+ghost use Rattle.nr_ring.specs.declared.tails.AppendFault.TheVariants.{LogEnded};
+ghost use Rattle.nr_node.specs.Node.{applied_of, log_of, node_space};
+ghost use Rattle.nr_replicas.specs.Replicas.{HasHeard, IsAnsweredAt, IsReadAt};
+ghost use Rattle.nr_replicas.specs.inside.Replicas.{answer_in};
+
+use crate::name::ReplicasName;
+use crate::question::Question;
+use arrayvec::ArrayVec;
+use nr_node::{Held, Node};
+use nr_ring::{AppendFault, LogName, LogPass, RingLog};
+use nr_slots::{Answered, Slots, Waiting};
+use std::marker::{Model, PhantomData};
+use std::sync::Wait;
+use vs_arena::RawArena;
+use vs_types::{Answer, Depth, LogEntry};
+
+/// The node of a replica, which is of the log that the name says and may have as many tables.
+#[derive(Drop)]
+pub(crate) struct Local<J: LogName, K: ReplicasName> {
+    node: Node<RawArena, J>,
+    of: PhantomData<K>,
+}
+
+impl<J: LogName, K: ReplicasName> Model for Local<J, K> {
+    ghost use Rattle.std.specs.Prelude.{◌≡◌};
+    ghost use Rattle.nr_node.specs.Node.{NodeState};
+
+    ghost Value = { NodeState };
+
+    ghost view = { λ l. l.node };
+
+    ghost invariant = { λ l. (l.node.known.log ≡ K.log) × (l.node.tables ≡ K.tables) };
+}
+
+impl<J: LogName, K: ReplicasName> Local<J, K> {
+    pub(crate) fn new(node: Node<RawArena, J>) -> Local<J, K>
+        requires log { node.known.log ≡ K.log }
+        requires tables { node.tables ≡ K.tables }
+        ensures { result ≡ node }
+    {
+        Local {
+            node,
+            of: PhantomData,
+        }
+    }
+
+    pub(crate) fn into_node(self) -> Node<RawArena, J>
+        ensures node { result ≡ self }
+        ensures log { result.known.log ≡ K.log }
+        ensures tables { result.tables ≡ K.tables }
+    {
+        self.node
+    }
+
+    /// A combiner's turn: takes a batch from the slots where the node holds none, appends it where it has no place yet, and
+    /// catches up once. Whether it appended one.
+    pub(crate) fn combine<R: Wait>(
+        &mut self,
+        rt: &R,
+        log: &RingLog<J>,
+        slots: &Slots,
+        depth: Depth,
+    ) -> Result<bool, AppendFault>
+        requires log { log.now ≡ K.log }
+        requires depth { depth ≡ J.depth }
+        ensures ended { IfErr result (λ fault. fault ≡ LogEnded → 65520 < tail (log_of J.replicas self.new)) }
+    {
+        if self.node.held() == Held::Nothing {
+            self.collect(rt, slots, depth);
+        }
+        match self.put_batch(rt, log) {
+            Ok(appended) => {
+                self.catch_up(rt, log, slots);
+                Ok(appended)
+            }
+            Err(fault) => Err(fault),
+        }
+    }
+
+    /// Appends the batch, where it has no place yet. Whether it did.
+    fn put_batch<R: Wait>(&mut self, rt: &R, log: &RingLog<J>) -> Result<bool, AppendFault>
+        requires log { log.now ≡ K.log }
+        ensures ended { IfErr result (λ fault. fault ≡ LogEnded → 65520 < tail (log_of J.replicas self.new)) }
+    {
+        let _applied = self.node.applied();
+        match self.node.held() {
+            Held::Unplaced(_) => match self.node.put_batch(rt, log) {
+                Ok(_) => Ok(true),
+                Err(fault) => Err(fault),
+            },
+            _ => Ok(false),
+        }
+    }
+
+    /// Takes the updates that wait in the slots into a batch. One that is not well formed at the log's depth is passed over.
+    fn collect<R: Wait>(&mut self, rt: &R, slots: &Slots, depth: Depth)
+        requires nothing { self.old.batch ≡ [] }
+        requires depth { depth ≡ J.depth }
+        ensures log { self.new.known ≡ self.old.known }
+    {
+        let mut waiting = ArrayVec::new();
+        slots.collect(rt, &mut waiting);
+        let fitting = fitting(&waiting, depth);
+        if !fitting.is_empty() {
+            self.node.hold(&fitting);
+        }
+    }
+
+    /// Takes all entries that the log has, and leaves the answers of the held updates in their slots.
+    pub(crate) fn catch_up<R: Wait>(&mut self, rt: &R, log: &RingLog<J>, slots: &Slots)
+        requires log { log.now ≡ K.log }
+    {
+        let mut answers = ArrayVec::new();
+        if self.node.catch_up(rt, log, &mut answers).is_err() {
+            return;
+        }
+        for answered in answers.as_slice() {
+            let _taken = slots.answer(rt, *answered);
+        }
+    }
+
+    /// The answer of an update, where the log has it at the place that was told, which is not below that one, and answers it so.
+    fn recall(&self, from: u32, answered: Answered) -> Option<Answer>
+        ensures { IfSome result (λ answer. IsAnsweredAt J.depth K.tables from (log_of J.replicas self.now)
+            (record { call = answered.call; op = answered.op }) answered.place answer) }
+    {
+        let (entry, answer) = self.node.told(answered.place)?;
+        let wanted = LogEntry {
+            call: answered.call,
+            op: answered.op,
+        };
+        if answered.place < from || entry != wanted || answer != answered.answer {
+            return None;
+        }
+        Some(answer)
+    }
+
+    /// The place and the answer of an update, where the log has it at the place that was told, which is not below that one, and
+    /// answers it so. The pass is told then what the node has seen.
+    pub(crate) fn confirm<R: Wait>(
+        &mut self,
+        rt: &R,
+        log: &RingLog<J>,
+        pass: &mut LogPass<J>,
+        from: u32,
+        answered: Answered,
+    ) -> Option<(u32, Answer)>
+        requires log { (log.now ≡ K.log) × (pass.old.log ≡ K.log) }
+        ensures log { pass.new.log ≡ pass.old.log }
+        ensures heard { IfSome result (λ _. HasHeard J.depth J.replicas pass.old.view pass.new.view) }
+        ensures unheard { IfNone result (pass.new ≡ pass.old) }
+        ensures confirmed { IfSome result (λ update. IsAnsweredAt J.depth K.tables from (log_after J.replicas pass.new.view.seen)
+            (record { call = answered.call; op = answered.op }) update.0 update.1) }
+    {
+        let place = answered.place;
+        let answer = self.recall(from, answered)?;
+        self.node.tell(rt, log, pass);
+        Some((place, answer))
+    }
+
+    /// Reads, where the node has applied so many entries, and tells the pass what the node has seen; else it catches up.
+    pub(crate) fn read<R: Wait>(
+        &mut self,
+        rt: &R,
+        log: &RingLog<J>,
+        slots: &Slots,
+        pass: &mut LogPass<J>,
+        completed: u32,
+        address: u64,
+        question: Question,
+    ) -> Option<(u32, Answer)>
+        requires log { (log.now ≡ K.log) × (pass.old.log ≡ K.log) }
+        requires canonical { IsCanonical J.depth address }
+        ensures log { pass.new.log ≡ pass.old.log }
+        ensures heard { IfSome result (λ _. HasHeard J.depth J.replicas pass.old.view pass.new.view) }
+        ensures unheard { IfNone result (pass.new ≡ pass.old) }
+        ensures read { IfSome result (λ read. IsReadAt J.depth K.tables completed (log_after J.replicas pass.new.view.seen)
+            (answer_in question address) read.0 read.1) }
+    {
+        if self.node.applied() < completed {
+            self.catch_up(rt, log, slots);
+            return None;
+        }
+        let read = self.answer(address, question);
+        self.node.tell(rt, log, pass);
+        Some(read)
+    }
+
+    /// How many entries the node has applied, and what a question is answered after them.
+    fn answer(&self, address: u64, question: Question) -> (u32, Answer)
+        requires { IsCanonical J.depth address }
+        ensures at { result.0 ≡ applied_of J.replicas self.now }
+        ensures written { result.0 ≤ tail (log_of J.replicas self.now) }
+        ensures answer { result.1 ≡ answer_in question address (node_space J.depth J.replicas self.now) }
+    {
+        let _applied = self.node.applied();
+        match question {
+            Question::Resolve => self.node.read(address),
+            Question::Access(mode, access) => self.node.access(address, mode, access),
+        }
+    }
+
+    /// Tells a pass what the node has seen.
+    pub(crate) fn tell<R: Wait>(&mut self, rt: &R, log: &RingLog<J>, pass: &mut LogPass<J>)
+        requires log { (log.now ≡ K.log) × (pass.old.log ≡ K.log) }
+        ensures same { self.new ≡ self.old }
+        ensures log { pass.new.log ≡ pass.old.log }
+        ensures heard { HasHeard J.depth J.replicas pass.old.view pass.new.view }
+        ensures more { tail (log_of J.replicas self.old) ≤ tail (log_after J.replicas pass.new.view.seen) }
+    {
+        self.node.tell(rt, log, pass);
+    }
+}
+
+/// Those of a batch that are well formed at a depth.
+fn fitting(waiting: &ArrayVec<Waiting, 16>, depth: Depth) -> ArrayVec<Waiting, 16>
+    ensures { All (λ update. IsAction depth update.op) result.items }
+{
+    let mut fitting = ArrayVec::new();
+    for update in waiting.as_slice() {
+        if update.op.fits(depth) {
+            fitting.push(*update);
+        }
+    }
+    fitting
+}

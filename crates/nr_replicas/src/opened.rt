@@ -1,0 +1,161 @@
+//! Replicas whose log has no name yet.
+ghost use Rattle.std.specs.Prelude.{◌≡◌, ◌+◌, ◌<◌, ◌≤◌, All, IfOk, [], length, map, replicate};
+ghost use Rattle.nr_ring.specs.Pass.{new_pass};
+ghost use Rattle.nr_replicas.specs.inside.Replicas.{IsNewPass, IsNodeOf};
+
+use crate::local::Local;
+use crate::name::ReplicasName;
+use crate::replicas::Replicas;
+use crate::shared::Shared;
+use nr_node::Node;
+use nr_ring::{LogName, LogPass, RingLog};
+use nr_slots::Slots;
+use std::alloc::Global;
+use std::marker::Model;
+use std::sync::Mutex;
+use vs_arena::RawArena;
+use vs_types::{Config, Fail, Memory, TABLES};
+
+/// New replicas and their log, which has no name yet. Contracts see which log it is, and the configuration.
+#[derive(Drop)]
+pub struct OpenReplicas<J: LogName> {
+    log: RingLog<J>,
+    config: Config,
+    nodes: Vec<Node<RawArena, J>>,
+    alloc: Global,
+}
+
+impl<J: LogName> Model for OpenReplicas<J> {
+    ghost use Rattle.std.specs.Prelude.{◌≡◌, ◌≤◌};
+    ghost use Rattle.nr_replicas.specs.Replicas.{OpenState};
+    ghost use Rattle.nr_replicas.specs.inside.Replicas.{AreNodes};
+
+    ghost Value = { OpenState };
+
+    ghost view = { λ o. record { log = o.log; layout = o.config } };
+
+    ghost invariant = { λ o. AreNodes J.depth J.replicas o.log o.config o.nodes.items };
+}
+
+impl<J: LogName> OpenReplicas<J> {
+    /// The replicas of a configuration with a new log, and a pass for each thread. The log's name has the depth, the replicas
+    /// and as many passes as there are replicas and threads. It takes the memory of all replicas, but for their slots.
+    ///
+    /// # Errors
+    ///
+    /// Out of memory.
+    pub fn new(alloc: Global, config: Config) -> Result<(OpenReplicas<J>, Vec<LogPass<J>>), Memory>
+        requires depth { config.depth ≡ J.depth }
+        requires replicas { config.replicas ≡ J.replicas }
+        requires passes { J.passes ≡ config.replicas + config.threads }
+        ensures layout { IfOk result (λ made. made.0.layout ≡ config) }
+        ensures passes { IfOk result (λ made. made.1.items ≡ replicate config.threads (new_pass made.0.log [])) }
+    {
+        let replicas = config.replicas();
+        let (log, mut passes) = RingLog::new(
+            alloc,
+            config.depth(),
+            replicas,
+            config.threads() as u8,
+        )?;
+        let others = passes.split_off(usize::from(replicas))?;
+        let nodes = new_nodes(alloc, config, &log, passes)?;
+        let opened = OpenReplicas {
+            log,
+            config,
+            nodes,
+            alloc,
+        };
+        Ok((opened, others))
+    }
+
+    /// The replicas, when their log has its name. It takes the memory of the slots.
+    ///
+    /// # Errors
+    ///
+    /// Out of memory.
+    pub fn named<K: ReplicasName>(self) -> Result<Replicas<J, K>, Memory>
+        requires log { self.log ≡ K.log }
+        requires tables { self.layout.tables ≡ K.tables }
+        ensures { IfOk result (λ replicas. replicas ≡ self.layout) }
+    {
+        let OpenReplicas {
+            log,
+            config,
+            nodes,
+            alloc,
+        } = self;
+        let shared = share(alloc, config, nodes)?;
+        Ok(Replicas {
+            log,
+            config,
+            shared,
+            alloc,
+        })
+    }
+}
+
+/// The node of a replica, whose frames are numbered from `2^39 + 4096 * replica` on.
+fn new_node<J: LogName>(
+    alloc: Global,
+    config: Config,
+    replica: u64,
+    pass: LogPass<J>,
+) -> Result<Node<RawArena, J>, Memory>
+    requires depth { config.depth ≡ J.depth }
+    requires few { replica < 4 }
+    requires pass { IsNewPass pass.log pass }
+    ensures log { IfOk result (λ node. node.known.log ≡ pass.log) }
+    ensures tables { IfOk result (λ node. node.tables ≡ config.tables) }
+{
+    let tables = usize::from(config.tables());
+    let store = RawArena::new(alloc, (1 << 39) + u64::from(TABLES) * replica, tables)?;
+    match Node::new(alloc, store, pass, config.depth()) {
+        Ok(node) => Ok(node),
+        Err(Fail::Memory) => Err(Memory),
+        Err(Fail::Refused(_)) => unreachable!(),
+    }
+}
+
+/// The nodes of new replicas, each with its pass.
+fn new_nodes<J: LogName>(
+    alloc: Global,
+    config: Config,
+    log: &RingLog<J>,
+    passes: Vec<LogPass<J>>,
+) -> Result<Vec<Node<RawArena, J>>, Memory>
+    requires depth { config.depth ≡ J.depth }
+    requires few { length passes.items ≤ 4 }
+    requires passes { All (IsNewPass log.now) passes.items }
+    ensures count { IfOk result (λ nodes. length nodes.items ≡ length passes.items) }
+    ensures each { IfOk result (λ nodes. All (IsNodeOf log.now config.tables) nodes.items) }
+{
+    let mut nodes = Vec::new(alloc);
+    for pass in passes {
+        let replica = nodes.len() as u64;
+        let node = new_node(alloc, config, replica, pass)?;
+        nodes.push(node)?;
+    }
+    Ok(nodes)
+}
+
+/// The nodes, each under a lock and with a slot for each thread.
+fn share<J: LogName, K: ReplicasName>(
+    alloc: Global,
+    config: Config,
+    nodes: Vec<Node<RawArena, J>>,
+) -> Result<Vec<Shared<J, K>>, Memory>
+    requires { All (IsNodeOf K.log K.tables) nodes.items }
+    ensures count { IfOk result (λ shared. length shared.items ≡ length nodes.items) }
+    ensures slots { IfOk result (λ shared. All (λ n. n ≡ config.threads) (map (λ s. s.slots) shared.items)) }
+{
+    let mut shared = Vec::new(alloc);
+    for node in nodes {
+        let slots = Slots::new(alloc, config.threads())?;
+        shared.push(Shared {
+            local: Mutex::new(Local::new(node)),
+            slots,
+        })?;
+    }
+    Ok(shared)
+}

@@ -1,0 +1,351 @@
+//! The replicas of an address space, which threads share.
+ghost use Rattle.std.specs.Prelude.{◌≡◌, ◌≢◌, ◌<◌, IfErr, IfOk};
+ghost use Rattle.vs_types.specs.Depth.{IsCanonical};
+ghost use Rattle.vs_types.specs.Operation.{IsAction};
+ghost use Rattle.vs_types.specs.Step.{allow, look};
+ghost use Rattle.vs_types.specs.declared.limits.TheConstants.{CALLS};
+ghost use Rattle.nr_ring.specs.LogHistory.{completed, log_after, tail};
+ghost use Rattle.nr_replicas.specs.Replicas.{HasHeard, IsAnsweredAt, IsFaultOf, IsReadAt};
+ghost use Rattle.nr_replicas.specs.declared.replicas.Combined.TheVariants.{Ended};
+ghost use Rattle.nr_replicas.specs.inside.Replicas.{answer_in};
+
+use crate::gate::{Gate, Point, Signal};
+use crate::local::Local;
+use crate::name::ReplicasName;
+use crate::question::Question;
+use crate::shared::Shared;
+use crate::update_fault::{Stopped, UpdateFault};
+use crossbeam_utils::Backoff;
+use nr_ring::{AppendFault, LogName, LogPass, RingLog};
+use nr_slots::Answered;
+use std::alloc::Global;
+use std::marker::Model;
+use std::sync::{Mutex, MutexGuard, Wait};
+use vs_types::{Access, Answer, Config, Mode, Op};
+
+/// An address space with one copy for each memory node (Node Replication, ASPLOS 2017): a shared log of updates, and for each
+/// replica a node under a lock and a slot for each thread. Contracts see the configuration.
+///
+/// Thread `t` belongs to replica `t` modulo the number of replicas. No lock is held where a gate is asked, and never those of
+/// two replicas at once. A turn is one poll of the thread's slot, or one attempt at a replica's lock with at most one append
+/// and one catch-up, or one read.
+#[derive(Drop)]
+pub struct Replicas<J: LogName, K: ReplicasName> {
+    pub(crate) log: RingLog<J>,
+    pub(crate) config: Config,
+    pub(crate) shared: Vec<Shared<J, K>>,
+    pub(crate) alloc: Global,
+}
+
+impl<J: LogName, K: ReplicasName> Model for Replicas<J, K> {
+    ghost use Rattle.std.specs.Prelude.{◌≡◌, map};
+    ghost use Rattle.vs_types.specs.Config.{Layout};
+    ghost use Rattle.nr_replicas.specs.inside.Replicas.{AreShared};
+
+    ghost Value = { Layout };
+
+    ghost view = { λ r. r.config };
+
+    ghost invariant = { λ r. (r.log ≡ K.log) × AreShared J.depth J.replicas K.tables r.config (map (λ s. s.slots) r.shared.items) };
+}
+
+/// What an update does next.
+#[derive(Clone, Copy)]
+enum Turn {
+    /// Polls its slot.
+    Poll,
+    /// Combines at its replica.
+    Combine,
+    /// Has this replica catch up.
+    CatchUp(usize),
+}
+
+/// What came of a combiner's turn.
+enum Combined {
+    /// It appended a batch.
+    Appended,
+    /// It did not, or did not have the lock.
+    Went,
+    /// The ring is full.
+    Full,
+    /// The log has ended.
+    Ended,
+}
+
+impl<J: LogName, K: ReplicasName> Replicas<J, K> {
+    /// The replica to which a thread belongs.
+    fn home(&self, thread: u16) -> &Shared<J, K>
+        requires { thread < self.now.threads }
+        ensures { result.now.slots ≡ self.now.threads }
+    {
+        &self.shared[usize::from(thread) % self.shared.len()]
+    }
+
+    /// Updates the address space: the place of the update in the log, and its answer.
+    ///
+    /// The thread's update waits in its slot until a combiner of its replica has appended and applied it; the thread combines
+    /// itself where no other does. It takes at most so many turns, and then holds its replica's lock once more, which confirms
+    /// the answer. The gate is asked after each batch that this thread appends.
+    ///
+    /// Waits for locks and for the log's cell. Takes no memory.
+    ///
+    /// # Errors
+    ///
+    /// `Occupied` where an earlier update of the thread was not answered. `Ended` where the log has no room for a batch, which
+    /// this thread found when it appended. `Stopped` where the turns are used up, the gate says stop, or the replica does not
+    /// confirm the answer. After `Ended` and `Stopped` the update may still be placed, and the slot may stay occupied.
+    pub fn update<G: Gate, R: Wait>(
+        &self,
+        rt: &R,
+        pass: &mut LogPass<J>,
+        thread: u16,
+        call: u32,
+        op: Op,
+        turns: u32,
+        gate: &G,
+    ) -> Result<(u32, Answer), UpdateFault>
+        requires log { pass.old.log ≡ K.log }
+        requires thread { thread < self.now.threads }
+        requires call { call < CALLS }
+        requires fits { IsAction J.depth op }
+        ensures log { pass.new.log ≡ pass.old.log }
+        ensures heard { HasHeard J.depth J.replicas pass.old.view pass.new.view }
+        ensures answered { IfOk result (λ update. IsAnsweredAt J.depth K.tables (tail (log_after J.replicas pass.old.view.seen))
+            (log_after J.replicas pass.new.view.seen) (record { call = call; op = op }) update.0 update.1) }
+        ensures refused { IfErr result (IsFaultOf call (log_after J.replicas pass.new.view.seen)) }
+    {
+        let from = self.log.look(rt, pass).tail;
+        let home = self.home(thread);
+        if home.slots.post(rt, thread, call, op).is_err() {
+            return Err(UpdateFault::Occupied);
+        }
+        let told = self.wait(rt, pass, thread, call, turns, gate)?;
+        let answered = Answered {
+            thread,
+            call,
+            op,
+            ..told
+        };
+        match home
+            .local
+            .lock(rt)
+            .confirm(rt, &self.log, pass, from, answered)
+        {
+            Some(update) => Ok(update),
+            None => Err(UpdateFault::Stopped(call)),
+        }
+    }
+
+    /// Takes turns until the thread's slot has an answer.
+    fn wait<G: Gate, R: Wait>(
+        &self,
+        rt: &R,
+        pass: &mut LogPass<J>,
+        thread: u16,
+        call: u32,
+        turns: u32,
+        gate: &G,
+    ) -> Result<Answered, UpdateFault>
+        requires log { pass.old.log ≡ K.log }
+        requires thread { thread < self.now.threads }
+        ensures log { pass.new.log ≡ pass.old.log }
+        ensures heard { HasHeard J.depth J.replicas pass.old.view pass.new.view }
+        ensures refused { IfErr result (IsFaultOf call (log_after J.replicas pass.new.view.seen)) }
+    {
+        pass.has_seen_a_history();
+        let home = self.home(thread);
+        let backoff = Backoff::new();
+        let mut turn = Turn::Poll;
+        for _ in 0..turns {
+            turn = match turn {
+                Turn::Poll => {
+                    if let Some(answered) = home.slots.poll(rt, thread) {
+                        return Ok(answered);
+                    }
+                    Turn::Combine
+                }
+                Turn::Combine => match self.combine(rt, pass, home, &backoff) {
+                    Combined::Appended => {
+                        if gate.at(thread, Point::Appended) == Signal::Stop {
+                            return Err(UpdateFault::Stopped(call));
+                        }
+                        Turn::Poll
+                    }
+                    Combined::Went => Turn::Poll,
+                    Combined::Full => Turn::CatchUp(0),
+                    Combined::Ended => {
+                        let answered = home.slots.poll(rt, thread);
+                        return answered.ok_or(UpdateFault::Ended(call));
+                    }
+                },
+                Turn::CatchUp(replica) => self.catch_up(rt, replica, &backoff),
+            };
+        }
+        Err(UpdateFault::Stopped(call))
+    }
+
+    /// One attempt at a replica's lock, with at most one append and one catch-up. Where the log has ended the pass is told so.
+    fn combine<R: Wait>(
+        &self,
+        rt: &R,
+        pass: &mut LogPass<J>,
+        home: &Shared<J, K>,
+        backoff: &Backoff,
+    ) -> Combined
+        requires log { pass.old.log ≡ K.log }
+        ensures log { pass.new.log ≡ pass.old.log }
+        ensures heard { result ≡ Ended → HasHeard J.depth J.replicas pass.old.view pass.new.view × (65520 < tail (log_after J.replicas pass.new.view.seen)) }
+        ensures unheard { result ≢ Ended → pass.new ≡ pass.old }
+    {
+        let Some(mut local) = attempt(rt, &home.local, backoff) else {
+            return Combined::Went;
+        };
+        match local.combine(rt, &self.log, &home.slots, self.config.depth()) {
+            Ok(true) => Combined::Appended,
+            Ok(false) | Err(AppendFault::Moved(_)) => Combined::Went,
+            Err(AppendFault::Full(_)) => Combined::Full,
+            Err(AppendFault::LogEnded) => {
+                local.tell(rt, &self.log, pass);
+                Combined::Ended
+            }
+        }
+    }
+
+    /// One attempt at the lock of a replica, to have it catch up; and what comes next: the same for the next replica, if there is
+    /// one.
+    fn catch_up<R: Wait>(&self, rt: &R, replica: usize, backoff: &Backoff) -> Turn {
+        let Some(shared) = self.shared.get(replica) else {
+            return Turn::Poll;
+        };
+        if let Some(mut local) = attempt(rt, &shared.local, backoff) {
+            local.catch_up(rt, &self.log, &shared.slots);
+        }
+        if replica + 1 < self.shared.len() {
+            Turn::CatchUp(replica + 1)
+        } else {
+            Turn::Poll
+        }
+    }
+
+    /// Reads a canonical address: how many entries of the log the thread's replica had applied, and the translation after them,
+    /// or `NotMapped`. They are all that was completed when the call began, or more. The number of the call is not used: a read
+    /// leaves nothing behind.
+    ///
+    /// Waits for locks and for the log's cell. Takes no memory.
+    ///
+    /// # Errors
+    ///
+    /// `Stopped` where the turns are used up.
+    pub fn read<R: Wait>(
+        &self,
+        rt: &R,
+        pass: &mut LogPass<J>,
+        thread: u16,
+        call: u32,
+        address: u64,
+        turns: u32,
+    ) -> Result<(u32, Answer), Stopped>
+        requires log { pass.old.log ≡ K.log }
+        requires thread { thread < self.now.threads }
+        requires canonical { IsCanonical J.depth address }
+        ensures log { pass.new.log ≡ pass.old.log }
+        ensures heard { HasHeard J.depth J.replicas pass.old.view pass.new.view }
+        ensures read { IfOk result (λ read. IsReadAt J.depth K.tables (completed (log_after J.replicas pass.old.view.seen))
+            (log_after J.replicas pass.new.view.seen) (λ space. look space address) read.0 read.1) }
+    {
+        self.ask(rt, pass, thread, address, Question::Resolve, turns)
+    }
+
+    /// Whether an access of a canonical address is allowed: how many entries of the log the thread's replica had applied, and
+    /// `Allowed` with the physical address, or `Fault` with the page fault's error code. Else as `read`.
+    ///
+    /// Waits for locks and for the log's cell. Takes no memory.
+    ///
+    /// # Errors
+    ///
+    /// `Stopped` where the turns are used up.
+    pub fn access<R: Wait>(
+        &self,
+        rt: &R,
+        pass: &mut LogPass<J>,
+        thread: u16,
+        call: u32,
+        address: u64,
+        mode: Mode,
+        access: Access,
+        turns: u32,
+    ) -> Result<(u32, Answer), Stopped>
+        requires log { pass.old.log ≡ K.log }
+        requires thread { thread < self.now.threads }
+        requires canonical { IsCanonical J.depth address }
+        ensures log { pass.new.log ≡ pass.old.log }
+        ensures heard { HasHeard J.depth J.replicas pass.old.view pass.new.view }
+        ensures read { IfOk result (λ read. IsReadAt J.depth K.tables (completed (log_after J.replicas pass.old.view.seen))
+            (log_after J.replicas pass.new.view.seen) (λ space. allow space address mode access) read.0 read.1) }
+    {
+        self.ask(
+            rt,
+            pass,
+            thread,
+            address,
+            Question::Access(mode, access),
+            turns,
+        )
+    }
+
+    /// Asks a question about an address, once the thread's replica has applied all that was completed.
+    fn ask<R: Wait>(
+        &self,
+        rt: &R,
+        pass: &mut LogPass<J>,
+        thread: u16,
+        address: u64,
+        question: Question,
+        turns: u32,
+    ) -> Result<(u32, Answer), Stopped>
+        requires log { pass.old.log ≡ K.log }
+        requires thread { thread < self.now.threads }
+        requires canonical { IsCanonical J.depth address }
+        ensures log { pass.new.log ≡ pass.old.log }
+        ensures heard { HasHeard J.depth J.replicas pass.old.view pass.new.view }
+        ensures read { IfOk result (λ read. IsReadAt J.depth K.tables (completed (log_after J.replicas pass.old.view.seen))
+            (log_after J.replicas pass.new.view.seen) (answer_in question address) read.0 read.1) }
+    {
+        let completed = self.log.look(rt, pass).completed;
+        let home = self.home(thread);
+        let backoff = Backoff::new();
+        for _ in 0..turns {
+            if let Some(mut local) = attempt(rt, &home.local, &backoff) {
+                let read = local.read(
+                    rt,
+                    &self.log,
+                    &home.slots,
+                    pass,
+                    completed,
+                    address,
+                    question,
+                );
+                if let Some(read) = read {
+                    return Ok(read);
+                }
+            }
+        }
+        Err(Stopped)
+    }
+}
+
+/// A lock, where it is free. Where it was not for some time it is waited for, so that a thread that has it may run.
+fn attempt<'a, T, R: Wait>(
+    rt: &R,
+    lock: &'a Mutex<T>,
+    backoff: &Backoff,
+) -> Option<MutexGuard<'a, T>> {
+    if backoff.is_completed() {
+        return Some(lock.lock(rt));
+    }
+    let guard = lock.try_lock();
+    if guard.is_none() {
+        backoff.snooze();
+    }
+    guard
+}

@@ -1,0 +1,157 @@
+//! What is left of the replicas when all is done: the calls of the log, and a dump of each replica.
+ghost use Rattle.std.specs.Prelude.{◌≡◌, ◌++◌, ◌∷◌, [], ℕ, All, IfOk, OnOk, drop, length, map, take};
+ghost use Rattle.nr_ring.specs.LogHistory.{log_after};
+ghost use Rattle.nr_ring.specs.View.{StartsWith};
+ghost use Rattle.nr_node.specs.Node.{IsNode, applied_of, log_of, taken_by};
+ghost use Rattle.nr_replicas.specs.Replicas.{HasHeard};
+ghost use Rattle.nr_replicas.specs.Settled.{IsDumpOf, IsSettled};
+ghost use Rattle.nr_replicas.specs.inside.Replicas.{IsNodeOf};
+ghost use Rattle.nr_replicas.specs.inside.Settling.{AreDumpsOf};
+
+use crate::name::ReplicasName;
+use crate::replicas::Replicas;
+use crate::shared::Shared;
+use arrayvec::ArrayVec;
+use nr_node::Node;
+use nr_ring::{LogName, LogPass, RingLog};
+use std::alloc::Global;
+use std::sync::Wait;
+use vs_arena::RawArena;
+use vs_types::Memory;
+use vs_walk::Dump;
+
+impl<J: LogName, K: ReplicasName> Replicas<J, K> {
+    /// What is left when all is done: the call numbers of all entries of the log, by place, and a dump of each replica, by number.
+    /// The log begins with all that each of these passes has seen; they are left as they were.
+    ///
+    /// Waits for the log's cell. It takes memory for the nodes, passes, calls and dumps.
+    ///
+    /// # Errors
+    ///
+    /// Out of memory. The replicas are given up then too.
+    pub fn settle<R: Wait>(
+        self,
+        rt: &R,
+        passes: &mut [LogPass<J>],
+    ) -> Result<(Vec<u32>, Vec<Dump>), Memory>
+        requires { All (λ pass. pass.log ≡ K.log) passes.old }
+        ensures passes { passes.new ≡ passes.old }
+        ensures settled { IfOk result (λ settled.
+            IsSettled J.depth J.replicas K.tables passes.old settled.0.items settled.1.items) }
+    {
+        let Replicas {
+            log,
+            shared,
+            alloc,
+            ..
+        } = self;
+        let nodes = nodes_of(alloc, shared)?;
+        let mut calls = calls_of(alloc, &nodes[0])?;
+        let (mut others, dumps) = passes_of::<J, K>(alloc, nodes)?;
+        let mut first = others.remove(0);
+        hear_all(rt, &log, &mut first, &mut others);
+        hear_all(rt, &log, &mut first, passes);
+        add_rest(rt, &log, &mut first, &mut calls)?;
+        Ok((calls, dumps))
+    }
+}
+
+/// The nodes of the replicas.
+fn nodes_of<J: LogName, K: ReplicasName>(
+    alloc: Global,
+    shared: Vec<Shared<J, K>>,
+) -> Result<Vec<Node<RawArena, J>>, Memory>
+    ensures count { IfOk result (λ nodes. length nodes.items ≡ length shared.items) }
+    ensures each { IfOk result (λ nodes. All (IsNodeOf K.log K.tables) nodes.items) }
+{
+    let mut nodes = Vec::new(alloc);
+    for replica in shared {
+        let Shared { local, slots: _ } = replica;
+        nodes.push(local.into_inner().into_node())?;
+    }
+    Ok(nodes)
+}
+
+/// The call numbers of the entries that a node has applied.
+fn calls_of<J: LogName>(alloc: Global, node: &Node<RawArena, J>) -> Result<Vec<u32>, Memory>
+    ensures calls { IfOk result (λ calls.
+        calls.items ≡ map (λ entry. entry.call) (take (applied_of J.replicas node.now) (log_of J.replicas node.now).entries)) }
+    ensures is_node { IsNode J.depth J.replicas node.now }
+{
+    let mut calls = Vec::new(alloc);
+    for place in 0..node.applied() {
+        match node.told(place) {
+            Some((entry, _)) => calls.push(entry.call)?,
+            None => unreachable!(),
+        }
+    }
+    Ok(calls)
+}
+
+/// The passes of nodes, and a dump of each.
+fn passes_of<J: LogName, K: ReplicasName>(
+    alloc: Global,
+    nodes: Vec<Node<RawArena, J>>,
+) -> Result<(Vec<LogPass<J>>, Vec<Dump>), Memory>
+    requires { All (IsNodeOf K.log K.tables) nodes.items }
+    ensures passes { IfOk result (λ all. all.0.items ≡ map (λ node. node.known) nodes.items) }
+    ensures count { IfOk result (λ all. length all.1.items ≡ length nodes.items) }
+    ensures dumps { IfOk result (λ all. AreDumpsOf J.depth J.replicas K.tables all.0.items all.1.items) }
+{
+    let mut passes = Vec::new(alloc);
+    let mut dumps = Vec::new(alloc);
+    for node in nodes {
+        let dump = dump_of(&node)?;
+        dumps.push(dump)?;
+        passes.push(node.into_pass())?;
+    }
+    Ok((passes, dumps))
+}
+
+/// A node's dump.
+fn dump_of<J: LogName>(node: &Node<RawArena, J>) -> Result<Dump, Memory>
+    ensures { IfOk result (IsDumpOf J.depth node.now.tables (log_of J.replicas node.now)) }
+{
+    let _applied = node.applied();
+    node.dump()
+}
+
+/// Tells a pass what all these have seen.
+fn hear_all<J: LogName, R: Wait>(
+    rt: &R,
+    log: &RingLog<J>,
+    first: &mut LogPass<J>,
+    passes: &mut [LogPass<J>],
+)
+    requires log { (first.old.log ≡ log.now) × All (λ pass. pass.log ≡ log.now) passes.old }
+    ensures log { first.new.log ≡ first.old.log }
+    ensures passes { passes.new ≡ passes.old }
+    ensures heard { HasHeard J.depth J.replicas first.old.view first.new.view }
+    ensures begins { All (λ pass. StartsWith first.new.view.seen pass.view.seen) passes.old }
+{
+    first.has_seen_a_history();
+    for i in 0..passes.len() {
+        log.meet(rt, &mut passes[i], first);
+    }
+}
+
+/// Adds the call numbers of the entries that a replica has still to take.
+fn add_rest<J: LogName, R: Wait>(
+    rt: &R,
+    log: &RingLog<J>,
+    pass: &mut LogPass<J>,
+    calls: &mut Vec<u32>,
+) -> Result<(), Memory>
+    requires log { pass.old.log ≡ log.now }
+    requires owner { (replica : ℕ) × (pass.old.view.owns ≡ replica ∷ []) }
+    ensures heard { HasHeard J.depth J.replicas pass.old.view pass.new.view }
+    ensures rest { OnOk result (calls.new.items ≡ calls.old.items
+        ++ map (λ entry. entry.call) (drop (taken_by J.replicas pass.new.view) (log_after J.replicas pass.new.view.seen).entries)) }
+{
+    let mut entries = ArrayVec::new();
+    log.fetch(rt, pass, &mut entries);
+    for entry in entries.as_slice() {
+        calls.push(entry.call)?;
+    }
+    Ok(())
+}

@@ -1,0 +1,211 @@
+-- What a line more makes of what was kept.
+use Rattle.std.proofs.Common.{◌≡◌, ℕ, ◌+◌, ◌<◌, ◌≤◌, ◌++◌, max, Bool, true, false, cond, List, [], ◌∷◌, length, refl, sym, ap, subst, ◌∙◌, arith, append-nil, length-append}
+use Rattle.std.proofs.Common.{Option, Some, None, suc, add-zero}
+use Rattle.std.specs.List.{fold, position_from, AllZip}
+use Rattle.std.specs.Option.{option_or}
+use Rattle.std.proofs.lemmas.Grind.{flat_map-append}
+use Rattle.std.proofs.lemmas.List.Sums.{fold-append}
+use Rattle.vs_types.specs.declared.depth.Depth.{Depth}
+use Rattle.vs_types.specs.declared.request.Query.{Query}
+use Rattle.nr_core.specs.declared.step.Step.{Step}
+use Rattle.nr_script.specs.Lines.{Says}
+use Rattle.nr_script.specs.Script.{asked, first_step_in, is_step, request_in, step_in, steps_of, thread_count, IsWithinLimits}
+use Rattle.nr_script.specs.declared.line.Line.{Line}
+use Rattle.nr_script.specs.declared.reading.Reading.{Reading}
+use Rattle.nr_script.specs.Words.{lines, parts}
+use Rattle.nr_script.specs.Script.{IsBadAfter, IsBadLine}
+use Rattle.nr_script.specs.declared.line.Line.TheVariants as says
+use Rattle.nr_script.specs.inside.Left.{parts_left}
+use Rattle.nr_script.specs.inside.Reading.{IsReadSoFar, IsReadUpTo}
+use Rattle.std.specs.Borrow.{Bor}
+use Rattle.std.specs.declared.vec.Vec.{Vec}
+use Rattle.std.specs.declared.alloc.Global.{Global}
+use Rattle.std.proofs.lemmas.List.Splits.{length-slice_split}
+use Rattle.std.proofs.lemmas.List.Sums.{count_by-le-length}
+use Rattle.std.proofs.lemmas.Slice.Zip.{AllZip-long}
+use Rattle.std.proofs.Common.{◌==◌, append_assoc, filter, map}
+use Rattle.std.specs.List.{range_with_len}
+use Rattle.std.proofs.lemmas.List.{map-append}
+use Rattle.std.proofs.lemmas.List.FromFn.{map-range_with_len_more}
+use Rattle.vs_types.specs.Refusal.{IfRefused}
+use Rattle.vs_types.specs.declared.refusal.Fail.{Fail}
+use Rattle.vs_types.specs.declared.refusal.Fail.TheVariants.{Memory, Refused}
+use Rattle.nr_script.specs.Script.{requests_by}
+use Rattle.nr_script.specs.declared.script.BadLine.{BadLine}
+
+pub asked_more : (said : List Line) (it : Line) → asked (said ++ it ∷ []) ≡ asked said ++ request_in it
+asked_more said it = flat_map-append request_in said (it ∷ []) ∙ ap (λ (more : List (ℕ × Query)). asked said ++ more) (append-nil (request_in it))
+
+pub steps_more : (said : List Line) (it : Line) → steps_of (said ++ it ∷ []) ≡ steps_of said ++ step_in it
+steps_more said it = flat_map-append step_in said (it ∷ []) ∙ ap (λ (more : List Step). steps_of said ++ more) (append-nil (step_in it))
+
+higher : ℕ → ℕ × Query → ℕ
+higher most it = max most (it.0 + 1)
+
+threads_more : (said : List Line) (it : Line) → thread_count (said ++ it ∷ []) ≡ fold higher (thread_count said) (request_in it)
+unfolding higher
+threads_more said it =
+    ap (λ (them : List (ℕ × Query)). fold higher 1 them) (asked_more said it) ∙ fold-append higher 1 (asked said) (request_in it)
+
+-- the first that passes, with one more at the end
+from_more : {X : Type 0} (p : X → Bool) (i : ℕ) (xs : List X) (y : X)
+    → position_from p i (xs ++ y ∷ []) ≡ option_or (position_from p i xs) (cond (p y) (Some (i + length xs)) None)
+from_more p i [] y = ap (λ (at : ℕ). cond (p y) (Some at) None) (sym (add-zero i))
+from_more p i (x ∷ xs) y =
+    elim (p x) as (λ passes. cond passes (Some i) (position_from p (i + 1) (xs ++ y ∷ []))
+    ≡ option_or (cond passes (Some i) (position_from p (i + 1) xs)) (cond (p y) (Some (i + suc (length xs))) None)) [
+      | true ↦ refl
+      | false ↦ from_more p (i + 1) xs y
+          ∙ ap (λ (at : ℕ). option_or (position_from p (i + 1) xs) (cond (p y) (Some at) None)) (omega arith)
+    ]
+
+first_more : (said : List Line) (it : Line) (number : ℕ) → number ≡ length said + 1
+    → first_step_in (said ++ it ∷ []) ≡ option_or (first_step_in said) (cond (is_step it) (Some number) None)
+first_more said it number is =
+    from_more is_step 1 said it ∙ ap (λ (at : ℕ). option_or (first_step_in said) (cond (is_step it) (Some at) None)) (omega arith)
+
+pub or_none : {X : Type 0} (o : Option X) → option_or o None ≡ o
+or_none None = refl
+or_none (Some x) = refl
+
+-- what is kept with one line more
+pub read_more : (said : List Line) (old new : Reading) (it : Line) (number : ℕ) → IsReadSoFar said old → number ≡ length said + 1
+    → new.asked.items ≡ old.asked.items ++ request_in it → new.threads ≡ fold (λ most asked. max most (asked.0 + 1)) old.threads (request_in it)
+    → new.steps.items ≡ old.steps.items ++ step_in it → new.first_step ≡ option_or old.first_step (cond (is_step it) (Some number) None)
+    → length new.asked.items ≤ 65536 → length new.steps.items ≤ 1000000 → IsReadSoFar (said ++ it ∷ []) new
+unfolding higher
+read_more said old new it number kept is asked_is threads_is steps_is first_is few_asked few_steps =
+    let all_asked : new.asked.items ≡ asked (said ++ it ∷ []) =
+    asked_is ∙ ap (λ (them : List (ℕ × Query)). them ++ request_in it) kept.asked_are ∙ sym (asked_more said it) in
+    let all_steps : new.steps.items ≡ steps_of (said ++ it ∷ []) =
+    steps_is ∙ ap (λ (them : List Step). them ++ step_in it) kept.steps_are ∙ sym (steps_more said it) in
+    record {
+      threads_are = threads_is ∙ ap (λ (most : ℕ). fold higher most (request_in it)) kept.threads_are ∙ sym (threads_more said it);
+      asked_are = all_asked;
+      steps_are = all_steps;
+      first_step_is =
+          first_is ∙ ap (λ (first : Option ℕ). option_or first (cond (is_step it) (Some number) None)) kept.first_step_is ∙ sym (first_more said it number is);
+      within_limits = record {
+        requests = subst (λ (them : List (ℕ × Query)). length them ≤ 65536) all_asked few_asked;
+        steps = subst (λ (them : List Step). length them ≤ 1000000) all_steps few_steps;
+      };
+    }
+
+-- a request or a step past the limit
+pub past_requests : (said : List Line) (old : Reading) (thread : ℕ) (query : Query) (it : Line) → request_in it ≡ (thread, query) ∷ [] → IsReadSoFar said old → 65536 ≤ length old.asked.items
+    → IsWithinLimits (said ++ it ∷ []) → ⊥
+past_requests said old thread query it is kept full within =
+    omega (arith, ap length (asked_more said it), ap length is, ap length kept.asked_are, within.requests, length-append {A = ℕ × Query})
+
+pub past_steps : (said : List Line) (old : Reading) (step : Step) (it : Line) → step_in it ≡ step ∷ [] → IsReadSoFar said old → 1000000 ≤ length old.steps.items
+    → IsWithinLimits (said ++ it ∷ []) → ⊥
+past_steps said old step it is kept full within =
+    omega (arith, ap length (steps_more said it), ap length is, ap length kept.steps_are, within.steps, length-append {A = Step})
+
+pub zip_more : {A B : Type 0} (R : A → B → Type 0) (xs : List A) (ys : List B) (x : A) (y : B) → AllZip R xs ys → R x y
+    → AllZip R (xs ++ x ∷ []) (ys ++ y ∷ [])
+zip_more R [] [] x y all last = (last, tt)
+zip_more R [] (y' ∷ ys) x y all last = absurd all
+zip_more R (x' ∷ xs) [] x y all last = absurd all
+zip_more R (x' ∷ xs) (y' ∷ ys) x y all last = (all.0, zip_more R xs ys x y all.1 last)
+
+few_steps_kept : (said : List Line) (reading : Reading) → IsReadSoFar said reading → length reading.steps.items ≤ 1000000
+few_steps_kept said reading kept = subst (λ (them : List Step). length them ≤ 1000000) (sym kept.steps_are) kept.within_limits.steps
+
+few_asked_kept : (said : List Line) (reading : Reading) → IsReadSoFar said reading → length reading.asked.items ≤ 65536
+few_asked_kept said reading kept = subst (λ (them : List (ℕ × Query)). length them ≤ 65536) (sym kept.asked_are) kept.within_limits.requests
+
+pub read_nothing : (said : List Line) (reading : Reading) (number : ℕ) → IsReadSoFar said reading → number ≡ length said + 1
+    → IsReadSoFar (said ++ says.Nothing ∷ []) reading
+read_nothing said reading number kept is =
+    read_more said reading reading says.Nothing number kept is (sym (append-nil reading.asked.items)) refl (sym (append-nil reading.steps.items))
+    (sym (or_none reading.first_step)) (few_asked_kept said reading kept) (few_steps_kept said reading kept)
+
+pub read_request : (said : List Line) (old new : Reading) (thread : ℕ) (query : Query) (number : ℕ) → IsReadSoFar said old → number ≡ length said + 1
+    → new.threads ≡ max old.threads (thread + 1) → new.asked.items ≡ old.asked.items ++ (thread, query) ∷ []
+    → new.steps ≡ old.steps → new.first_step ≡ old.first_step → length old.asked.items < 65536
+    → IsReadSoFar (said ++ says.Request thread query ∷ []) new
+read_request said old new thread query number kept is threads_is asked_is steps_is first_is few =
+    read_more said old new (says.Request thread query) number kept is asked_is threads_is
+    (ap (λ (them : Vec Step Global). them.items) steps_is ∙ sym (append-nil old.steps.items)) (first_is ∙ sym (or_none old.first_step))
+    (omega (arith, ap length asked_is, length-append {A = ℕ × Query}))
+    (subst (λ (them : Vec Step Global). length them.items ≤ 1000000) (sym steps_is) (few_steps_kept said old kept))
+
+pub read_step : (said : List Line) (old new : Reading) (step : Step) (number : ℕ) → IsReadSoFar said old → number ≡ length said + 1
+    → new.threads ≡ old.threads → new.asked ≡ old.asked → new.steps.items ≡ old.steps.items ++ step ∷ []
+    → new.first_step ≡ option_or old.first_step (Some number) → length old.steps.items < 1000000
+    → IsReadSoFar (said ++ says.Step step ∷ []) new
+read_step said old new step number kept is threads_is asked_is steps_is first_is few =
+    read_more said old new (says.Step step) number kept is
+    (ap (λ (them : Vec (ℕ × Query) Global). them.items) asked_is ∙ sym (append-nil old.asked.items)) threads_is steps_is first_is
+    (subst (λ (them : Vec (ℕ × Query) Global). length them.items ≤ 65536) (sym asked_is) (few_asked_kept said old kept))
+    (omega (arith, ap length steps_is, length-append {A = Step}))
+
+-- no text has more lines than bytes, but for one
+pub few_lines : (bytes : List ℕ) (done rest : List (List ℕ)) → lines bytes ≡ done ++ rest → length done ≤ length bytes + 1
+few_lines bytes done rest same =
+    omega (arith, ap length same, length-append {A = List ℕ}, length-slice_split (λ byte. byte == 10) bytes, count_by-le-length (λ byte. byte == 10) bytes)
+
+moved : {A : Type 0} (done : List A) (line : A) (rest : List A) → done ++ line ∷ rest ≡ (done ++ line ∷ []) ++ rest
+moved done line rest = simp append_assoc
+
+pub line_more : (depth : Depth) (bytes line : List ℕ) (left : Bor (List ℕ)) (rest : Option (Bor (List ℕ))) (number : ℕ) (old new : Reading)
+    → (up : IsReadUpTo depth bytes (Some left) number old) → parts 10 left.now ≡ line ∷ parts_left 10 rest
+    → (it : Line) → Says depth line it → IsReadSoFar (up.said ++ it ∷ []) new → IsReadUpTo depth bytes rest (number + 1) new
+line_more depth bytes line left rest number old new up cut it said kept = record {
+  done = up.done ++ line ∷ [];
+  lines_are = up.lines_are ∙ ap (λ (them : List (List ℕ)). up.done ++ them) cut ∙ moved up.done line (parts_left 10 rest);
+  number_is = omega (arith, up.number_is, length-append {A = List ℕ});
+  said = up.said ++ it ∷ [];
+  each_says = zip_more (Says depth) up.done up.said line it up.each_says said;
+  kept = kept;
+}
+
+pub bad_line : (depth : Depth) (bytes line : List ℕ) (left : Bor (List ℕ)) (rest : Option (Bor (List ℕ))) (number bad : ℕ) (old : Reading)
+    → (up : IsReadUpTo depth bytes (Some left) number old) → parts 10 left.now ≡ line ∷ parts_left 10 rest
+    → bad ≡ number + 1 → IsBadAfter depth up.said line → IsBadLine depth bytes bad
+bad_line depth bytes line left rest number bad old up cut is after = record {
+  before = up.done;
+  line = line;
+  rest = parts_left 10 rest;
+  lines_are = up.lines_are ∙ ap (λ (them : List (List ℕ)). up.done ++ them) cut;
+  number_is = is ∙ ap (λ (n : ℕ). n + 1) up.number_is;
+  said = up.said;
+  each_says = up.each_says;
+  within_limits = up.kept.within_limits;
+  is_bad = after;
+}
+
+-- the number of the next line
+pub next_number : (depth : Depth) (bytes : List ℕ) (left : Option (Bor (List ℕ))) (number : ℕ) (reading : Reading)
+    → (up : IsReadUpTo depth bytes left number reading) → number + 1 ≡ length up.said + 1
+next_number depth bytes left number reading up = omega (arith, up.number_is, AllZip-long (Says depth) up.done up.said up.each_says)
+
+pub number_fits : (depth : Depth) (bytes : List ℕ) (left : Option (Bor (List ℕ))) (number : ℕ) (reading : Reading)
+    → IsReadUpTo depth bytes left number reading → number ≤ length bytes + 1
+number_fits depth bytes left number reading up = omega (arith, up.number_is, few_lines bytes up.done (parts_left 10 left) up.lines_are)
+
+pub refused_at : (depth : Depth) (bytes line : List ℕ) (left : Bor (List ℕ)) (rest : Option (Bor (List ℕ))) (number : ℕ) (old : Reading)
+    → (up : IsReadUpTo depth bytes (Some left) number old) → parts 10 left.now ≡ line ∷ parts_left 10 rest
+    → (fail : Fail BadLine) → IfRefused (λ bad. (bad.0 ≡ number + 1) × IsBadAfter depth up.said line) fail
+    → IfRefused (λ bad. IsBadLine depth bytes bad.0) fail
+refused_at depth bytes line left rest number old up cut Memory h = tt
+refused_at depth bytes line left rest number old up cut (Refused bad) h = bad_line depth bytes line left rest number bad.0 old up cut h.0 h.1
+
+-- a list more
+pub lists_more : (f : ℕ → List Query) (old new : List (Vec Query Global)) (list : Vec Query Global) (n : ℕ) → new ≡ old ++ list ∷ []
+    → map (λ it. it.items) old ≡ map f (range_with_len 0 n) → list.items ≡ f n → map (λ it. it.items) new ≡ map f (range_with_len 0 (n + 1))
+lists_more f old new list n is so_far last =
+    ap (λ (them : List (Vec Query Global)). map (λ it. it.items) them) is
+    ∙ map-append (λ (it : Vec Query Global). it.items) old (list ∷ [])
+    ∙ ap (λ (them : List (List Query)). them ++ list.items ∷ []) so_far
+    ∙ ap (λ (it : List Query). map f (range_with_len 0 n) ++ it ∷ []) last
+    ∙ sym (map-range_with_len_more f 0 n n (omega arith))
+
+-- what each thread asks
+pub all_by_thread : (said : List Line) (them : List (ℕ × Query)) (n : ℕ) (lists : List (List Query)) → them ≡ asked said → n ≡ thread_count said
+    → lists ≡ map (λ thread. map (λ it. it.1) (filter (λ it. it.0 == thread) them)) (range_with_len 0 n)
+    → lists ≡ map (requests_by said) (range_with_len 0 (thread_count said))
+all_by_thread said them n lists same count are =
+    are ∙ ap (λ (it : List (ℕ × Query)). map (λ thread. map (λ it. it.1) (filter (λ it. it.0 == thread) it)) (range_with_len 0 n)) same
+    ∙ ap (λ (count : ℕ). map (requests_by said) (range_with_len 0 count)) count

@@ -1,0 +1,5 @@
+pub mod Words
+pub mod Requests
+pub mod Lines
+pub mod Script
+pub mod inside

@@ -1,0 +1,62 @@
+-- What a line of a script says, by its words: a request of a thread, or a step of a thread. An empty line and a comment say
+-- nothing.
+use Rattle.std.specs.Prelude.{◌≡◌, ◌<◌, ◌⊎◌, ◌++◌, ℕ, List, [], ◌∷◌, codes, decimal}
+use Rattle.vs_types.specs.Query.{IsQuery}
+use Rattle.vs_types.specs.declared.depth.Depth.{Depth}
+use Rattle.vs_types.specs.declared.request.Query.{Query}
+use Rattle.nr_core.specs.declared.step.Act.{Act}
+use Rattle.nr_core.specs.declared.step.Act.TheVariants.{Call, Post, Take, Collect, Append, Advance, Apply, Answer, Release, Look, Read, Reply}
+use Rattle.nr_core.specs.declared.step.Step.{Step}
+use Rattle.nr_script.specs.Requests.{name_of, name_text, AreArguments}
+use Rattle.nr_script.specs.Words.{words}
+use Rattle.nr_script.specs.declared.line.Line.{Line}
+use Rattle.nr_script.specs.declared.line.Line.TheVariants as says
+
+-- T NAME and the arguments, where T is below 64 and the request is well formed at the depth
+pub record SpellsRequest (depth : Depth) (words : List (List ℕ)) (thread : ℕ) (query : Query) : Type 0 where
+  pub arguments : List (List ℕ)
+  pub words_are : words ≡ decimal thread ∷ name_text (name_of query) ∷ arguments
+  pub thread_fits : thread < 64
+  pub arguments_are : AreArguments arguments query
+  pub well_formed : IsQuery depth query
+
+abbrev pub act_words : Act → List (List ℕ)
+act_words Call = codes "call" ∷ []
+act_words Post = codes "post" ∷ []
+act_words (Take replica) = codes "take" ∷ decimal replica ∷ []
+act_words (Collect from) = codes "collect" ∷ decimal from ∷ []
+act_words Append = codes "append" ∷ []
+act_words Advance = codes "advance" ∷ []
+act_words Apply = codes "apply" ∷ []
+act_words (Answer to) = codes "answer" ∷ decimal to ∷ []
+act_words Release = codes "release" ∷ []
+act_words Look = codes "look" ∷ []
+act_words Read = codes "read" ∷ []
+act_words Reply = codes "reply" ∷ []
+
+-- the number of the replica or of the other thread, and 0 where an act has none
+abbrev pub act_number : Act → ℕ
+act_number (Take replica) = replica
+act_number (Collect from) = from
+act_number (Answer to) = to
+act_number act = 0
+
+pub record SpellsAct (words : List (List ℕ)) (act : Act) : Type 0 where
+  pub words_are : words ≡ act_words act
+  pub number_fits : act_number act < 64
+
+-- step T and an act, where each number is below 64
+pub record SpellsStep (words : List (List ℕ)) (step : Step) : Type 0 where
+  pub acts : List (List ℕ)
+  pub words_are : words ≡ codes "step" ∷ decimal step.thread ∷ acts
+  pub thread_fits : step.thread < 64
+  pub act_is : SpellsAct acts step.act
+
+-- an empty line, or a comment
+abbrev pub IsPassedOver : List ℕ → Type 0
+IsPassedOver line = (line ≡ []) ⊎ ((rest : List ℕ) × (line ≡ codes "#" ++ rest))
+
+abbrev pub Says : Depth → List ℕ → Line → Type 0
+Says depth line says.Nothing = IsPassedOver line
+Says depth line (says.Request thread query) = SpellsRequest depth (words line) thread query
+Says depth line (says.Step step) = SpellsStep (words line) step

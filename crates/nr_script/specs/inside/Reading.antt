@@ -1,0 +1,34 @@
+-- What is kept of the lines so far.
+use Rattle.std.specs.Prelude.{◌≡◌, ℕ, ◌++◌, List, length, Option}
+use Rattle.std.specs.List.{AllZip}
+use Rattle.std.specs.Borrow.{Bor}
+use Rattle.vs_types.specs.declared.depth.Depth.{Depth}
+use Rattle.nr_script.specs.Lines.{Says}
+use Rattle.nr_script.specs.Script.{asked, first_step_in, steps_of, thread_count, IsWithinLimits}
+use Rattle.nr_script.specs.Words.{lines}
+use Rattle.nr_script.specs.inside.Left.{parts_left}
+use Rattle.nr_script.specs.declared.line.Line.{Line}
+use Rattle.nr_script.specs.declared.reading.Reading.{Reading}
+
+-- the lines said this
+pub record IsReadSoFar (said : List Line) (reading : Reading) : Type 0 where
+  pub threads_are : reading.threads ≡ thread_count said
+  pub asked_are : reading.asked.items ≡ asked said
+  pub steps_are : reading.steps.items ≡ steps_of said
+  pub first_step_is : reading.first_step ≡ first_step_in said
+  pub within_limits : IsWithinLimits said
+
+-- so many lines are taken off, each says something, and that is what is kept
+pub record IsReadUpTo (depth : Depth) (bytes : List ℕ) (left : Option (Bor (List ℕ))) (number : ℕ) (reading : Reading) : Type 0 where
+  pub done : List (List ℕ)
+  pub lines_are : lines bytes ≡ done ++ parts_left 10 left
+  pub number_is : number ≡ length done
+  pub said : List Line
+  pub each_says : AllZip (Says depth) done said
+  pub kept : IsReadSoFar said reading
+
+-- all lines are taken off
+pub record IsAllRead (depth : Depth) (bytes : List ℕ) (reading : Reading) : Type 0 where
+  pub said : List Line
+  pub each_says : AllZip (Says depth) (lines bytes) said
+  pub kept : IsReadSoFar said reading

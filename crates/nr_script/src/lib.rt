@@ -1,0 +1,12 @@
+//! The reader of scripts: what each thread asks, and the steps of a schedule.
+#![tactic(auto)]
+
+mod line;
+mod parts;
+mod reading;
+mod request;
+mod script;
+mod step;
+mod words;
+
+pub use script::{BadLine, SCRIPT_BYTES, SCRIPT_REQUESTS, SCRIPT_STEPS, Script, read_script};

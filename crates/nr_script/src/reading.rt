@@ -1,0 +1,116 @@
+//! What is kept of the lines of a script as they are read.
+ghost use Rattle.std.specs.Prelude.{◌≡◌, ◌+◌, ◌==◌, ◌<◌, max, [], ◌∷◌, ◌++◌, List, length, map, filter, IfOk, MatchResult, OnOk, Some};
+ghost use Rattle.std.specs.List.{range_with_len};
+ghost use Rattle.std.specs.Option.{option_or};
+ghost use Rattle.vs_types.specs.Refusal.{IfRefused};
+ghost use Rattle.nr_script.specs.Lines.{Says};
+ghost use Rattle.nr_script.specs.Script.{IsBadAfter};
+ghost use Rattle.nr_script.specs.declared.line.Line.{Line};
+
+use crate::line::{Line, parse_line};
+use crate::script::{BadLine, SCRIPT_REQUESTS, SCRIPT_STEPS};
+use nr_core::Step;
+use std::alloc::Global;
+use vs_types::{Depth, Fail, Memory, Request};
+
+/// What the lines so far have said.
+#[derive(Debug, Drop)]
+pub(crate) struct Reading {
+    /// 1 plus the greatest thread of a request.
+    pub(crate) threads: u16,
+    /// Each request with its thread, in the order of the lines.
+    pub(crate) asked: Vec<(u16, Request)>,
+    /// The steps, in the order of the lines.
+    pub(crate) steps: Vec<Step>,
+    /// The first line that is a step.
+    pub(crate) first_step: Option<u32>,
+}
+
+impl Reading {
+    ghost use Rattle.nr_script.specs.inside.Reading.{IsReadSoFar};
+
+    /// A request more.
+    pub(crate) fn ask(&mut self, thread: u16, request: Request) -> Result<(), Memory>
+        requires { thread < 64 }
+        ensures threads { OnOk result (self.new.threads ≡ max self.old.threads (thread + 1)) }
+        ensures asked { OnOk result (self.new.asked.items ≡ self.old.asked.items ++ (thread, request) ∷ []) }
+        ensures steps { OnOk result (self.new.steps ≡ self.old.steps) }
+        ensures first { OnOk result (self.new.first_step ≡ self.old.first_step) }
+    {
+        self.asked.push((thread, request))?;
+        self.threads = self.threads.max(thread + 1);
+        Ok(())
+    }
+
+    /// A step more, in the line of this number.
+    pub(crate) fn step(&mut self, step: Step, number: u32) -> Result<(), Memory>
+        ensures threads { OnOk result (self.new.threads ≡ self.old.threads) }
+        ensures asked { OnOk result (self.new.asked ≡ self.old.asked) }
+        ensures steps { OnOk result (self.new.steps.items ≡ self.old.steps.items ++ step ∷ []) }
+        ensures first { OnOk result (self.new.first_step ≡ option_or self.old.first_step (Some number)) }
+    {
+        self.steps.push(step)?;
+        self.first_step = self.first_step.or(Some(number));
+        Ok(())
+    }
+
+    /// The next line, which has this number.
+    pub(crate) fn take_line(
+        &mut self,
+        depth: Depth,
+        line: &[u8],
+        number: u32,
+    ) -> Result<(), Fail<BadLine>>
+        ensures { (said : List Line) → IsReadSoFar said self.old → number ≡ length said + 1 → MatchResult result
+            (λ _. (it : Line) × Says depth line.now it × IsReadSoFar (said ++ it ∷ []) self.new)
+            (IfRefused (λ bad. (bad.0 ≡ number) × IsBadAfter depth said line.now)) }
+    {
+        let Some(said) = parse_line(depth, line) else {
+            return Err(Fail::Refused(BadLine(number)));
+        };
+        match said {
+            Line::Nothing => {}
+            Line::Request(thread, request) => {
+                if self.asked.len() >= SCRIPT_REQUESTS {
+                    return Err(Fail::Refused(BadLine(number)));
+                }
+                self.ask(thread, request)?;
+            }
+            Line::Step(step) => {
+                if self.steps.len() >= SCRIPT_STEPS {
+                    return Err(Fail::Refused(BadLine(number)));
+                }
+                self.step(step, number)?;
+            }
+        }
+        Ok(())
+    }
+}
+
+/// What this thread asks.
+fn asked_by(alloc: Global, asked: &[(u16, Request)], thread: u16) -> Result<Vec<Request>, Memory>
+    ensures { IfOk result (λ list. list.items ≡ map (λ it. it.1) (filter (λ it. it.0 == thread) asked.now)) }
+{
+    let list = asked
+        .iter()
+        .filter(|it| it.0 == thread)
+        .map(|it| it.1)
+        .collect(alloc)?;
+    Ok(list)
+}
+
+/// What each thread asks.
+pub(crate) fn by_thread(
+    alloc: Global,
+    asked: &[(u16, Request)],
+    threads: u16,
+) -> Result<Vec<Vec<Request>>, Memory>
+    ensures { IfOk result (λ lists. map (λ list. list.items) lists.items
+        ≡ map (λ thread. map (λ it. it.1) (filter (λ it. it.0 == thread) asked.now)) (range_with_len 0 threads)) }
+{
+    let mut lists = Vec::new(alloc);
+    for thread in 0..threads {
+        lists.push(asked_by(alloc, asked, thread)?)?;
+    }
+    Ok(lists)
+}
