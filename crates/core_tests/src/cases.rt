@@ -311,7 +311,7 @@ fn names_nothing_that_is_there(rt: HostRuntime) -> Result<(), Fail> {
     Ok(())
 }
 
-/// A combiner of one replica, the other of which takes what the log has before it gives its lock back.
+/// A whole update of a thread of replica 0, which combines its own.
 const UPDATE: [Act; 10] = [
     Act::Call,
     Act::Post,
