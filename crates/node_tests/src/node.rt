@@ -1,6 +1,7 @@
 ghost use Rattle.std.specs.Prelude.{◌≡◌, ◌≤◌, All, IfOk, None, [], ◌∷◌, length};
 ghost use Rattle.std.specs.FinMap as finite;
 ghost use Rattle.vs_types.specs.declared.depth.Depth.TheVariants.{Four};
+ghost use Rattle.vs_types.specs.LogEntry.{IsLogEntry};
 ghost use Rattle.vs_types.specs.Operation.{IsAction};
 
 use arrayvec::ArrayVec;
@@ -246,6 +247,45 @@ fn catch_up<R: Wait + Abort>(
     assert_eq!(rt; (count, answers.len()), (wanted, 0));
 }
 
+/// What the other passes append to the log of a full one: 16 entries of call 100.
+fn other_entry(op: Op) -> LogEntry
+    requires { IsAction Four op }
+    ensures { IsLogEntry Four result }
+{
+    LogEntry { call: 100, op }
+}
+
+/// The node puts its two updates behind 16 entries that it has applied, and catches up: the page is mapped, and goes.
+fn put_and_catch_up<R: Wait + Abort>(
+    rt: &R,
+    log: &RingLog<Two>,
+    node: &mut Node<VecArena, Two>,
+    map: Op,
+    unmap: Op,
+)
+    requires log { node.old.known.log ≡ log.now }
+    requires some { 1 ≤ length node.old.batch }
+    requires unplaced { node.old.first ≡ None }
+    requires fits { IsAction Four unmap }
+{
+    assert_eq!(rt; node.put_batch(rt, log), Ok(16));
+    assert_eq!(rt; node.held(), Held::Placed(16, 2));
+    let mut answers = ArrayVec::new();
+    assert_eq!(rt; node.catch_up(rt, log, &mut answers), Ok(2));
+    let removed = Answer::Removed(0x1000, Size::K4, Rights::ALL);
+    assert_eq!(rt;
+        answers.as_slice(),
+        [
+            answered(0, 7, map, 16, Answer::Done),
+            answered(1, 8, unmap, 17, removed)
+        ]
+        .as_slice()
+    );
+    let first = (other_entry(unmap), Answer::NotMapped);
+    assert_eq!(rt; node.told(15), Some(first));
+    assert_eq!(rt; (node.applied(), node.told(18)), (18, None));
+}
+
 /// A node whose log is full holds its batch as before, and puts it once both replicas have taken what was there.
 #[test]
 fn full_log_leaves_the_batch(rt: HostRuntime) -> Result<(), Fail> {
@@ -256,43 +296,19 @@ fn full_log_leaves_the_batch(rt: HostRuntime) -> Result<(), Fail> {
     let mut third = passes.remove(0);
     let store = VecArena::new(alloc, 1 << 39, 4)?;
     let mut node = Node::new(alloc, store, pass, Depth::Four)?;
+    let map = map_a(&rt, Depth::Four);
     let unmap = unmap(&rt);
-    let others = [LogEntry {
-        call: 100,
-        op: unmap,
-    }; 16];
+    let others = [other_entry(unmap); 16];
     assert_eq!(rt; log.append(&rt, &mut third, &others), Ok(0));
-    let op = map_a(&rt, Depth::Four);
-    node.hold(&pair(
-        Waiting::new(0, 7, op),
-        Waiting::new(1, 8, unmap),
-        Depth::Four,
-    ));
+    let first = Waiting::new(0, 7, map);
+    node.hold(&pair(first, Waiting::new(1, 8, unmap), Depth::Four));
     refused(&rt, &log, &mut node, tails(16, 0, [0, 0, 0, 0]));
     assert_eq!(rt; node.held(), Held::Unplaced(2));
     catch_up(&rt, &log, &mut node, 16);
     assert_eq!(rt; node.held(), Held::Unplaced(2));
     refused(&rt, &log, &mut node, tails(16, 16, [16, 0, 0, 0]));
     take(&rt, &log, &mut second);
-    assert_eq!(rt; node.put_batch(&rt, &log), Ok(16));
-    assert_eq!(rt; node.held(), Held::Placed(16, 2));
-    let mut answers = ArrayVec::new();
-    assert_eq!(rt; node.catch_up(&rt, &log, &mut answers), Ok(2));
-    let removed = Answer::Removed(0x1000, Size::K4, Rights::ALL);
-    assert_eq!(rt;
-        answers.as_slice(),
-        [
-            answered(0, 7, op, 16, Answer::Done),
-            answered(1, 8, unmap, 17, removed)
-        ]
-        .as_slice()
-    );
-    let first = LogEntry {
-        call: 100,
-        op: unmap,
-    };
-    assert_eq!(rt; node.told(15), Some((first, Answer::NotMapped)));
-    assert_eq!(rt; (node.applied(), node.told(18)), (18, None));
+    put_and_catch_up(&rt, &log, &mut node, map, unmap);
     Ok(())
 }
 
