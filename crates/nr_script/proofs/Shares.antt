@@ -26,7 +26,7 @@ all_asked : (depth : Depth) (texts : List (List ℕ)) (said : List Line) → All
 all_asked depth [] [] all = tt
 all_asked depth [] (it ∷ said) all = absurd all
 all_asked depth (text ∷ texts) [] all = absurd all
-all_asked depth (text ∷ texts) (says.Nothing ∷ said) all = all_asked depth texts said all.1
+all_asked depth (text ∷ texts) (says.PassedOver ∷ said) all = all_asked depth texts said all.1
 all_asked depth (text ∷ texts) (says.Step step ∷ said) all = all_asked depth texts said all.1
 all_asked depth (text ∷ texts) (says.Request thread query ∷ said) all = ((all.0.thread_fits, all.0.well_formed), all_asked depth texts said all.1)
 
