@@ -1,0 +1,14 @@
+//! A run of the replicated address space: one thread for each script, whose calls and replies are stamped, recorded and audited.
+//!
+//! A run that is verified has a trace that the auditor found right, and that trace is what its threads asked and were answered.
+#![tactic(auto)]
+
+mod always_go;
+mod no_thread;
+mod said;
+mod worker;
+
+pub use always_go::AlwaysGo;
+pub use no_thread::NoThread;
+pub use said::Said;
+pub use worker::Worker;
