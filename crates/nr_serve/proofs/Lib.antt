@@ -1,0 +1,4 @@
+pub mod Numbers
+pub mod Notes
+pub mod Made
+pub mod Shown

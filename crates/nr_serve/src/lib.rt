@@ -4,11 +4,14 @@
 #![tactic(auto)]
 
 mod always_go;
+mod ending;
 mod no_thread;
+mod outcome;
 mod said;
 mod worker;
 
 pub use always_go::AlwaysGo;
 pub use no_thread::NoThread;
+pub use outcome::{Answers, Outcome, Passes, TraceBytes};
 pub use said::Said;
 pub use worker::Worker;

@@ -1,0 +1,37 @@
+use Rattle.std.proofs.Common.{◌≡◌, ℕ, List, length, map, ap, sym, subst, ◌∙◌, arith}
+use Rattle.std.proofs.lemmas.List.{length-map}
+use Rattle.vs_types.specs.declared.request.Query.{Query}
+use Rattle.nr_trace.specs.Recording.{Recording}
+use Rattle.nr_ring.specs.Pass.{Known}
+use Rattle.nr_record.specs.Pen.{PenState}
+use Rattle.nr_audit.specs.Headline.{IsSpelledWith}
+use Rattle.nr_serve.specs.Calls.{WorkerState}
+use Rattle.nr_serve.specs.Run.{AreAllCallsOf, HaveSeenAnswers, IsLogOf}
+use Rattle.nr_serve.specs.declared.said.Said.{Said}
+use Rattle.nr_serve.specs.inside.Ending.{AreRecorded, IsWrittenOf, answers_of, passes_of, pens_of}
+use Rattle.nr_serve.proofs.Made.{are_calls, have_seen}
+use Rattle.nr_serve.proofs.Shown.{shown_with, spelled_with}
+use Rattle.nr_serve.proofs.ending.ending.Goals as goal
+
+pub returns-clause-calls : goal.returns-clause-calls
+returns-clause-calls g c scripts served =
+    let workers = c.args.workers.items in
+    let parts = c.in_ok-pens.ensures in
+    let written = c.in_ok-bytes.ensures.written in
+    let recorded = subst (λ (pens : List PenState). AreRecorded written.trace.events pens) parts.pens written.recorded in
+    let all : AreAllCallsOf written.trace scripts (answers_of workers) =
+    are_calls c.args.clock g.K.ReplicasName.log scripts workers written.trace served recorded (written.layout_is ∙ c.requires.config) in
+    let Q : List (List Said) → List ℕ → List Known → Type 0 = λ a t p. IsSpelledWith t (λ trace. AreAllCallsOf trace scripts a) in
+    shown_with c.judged.result _ _ _ Q c.judged.ensures.answers c.judged.ensures.bytes c.judged.ensures.passes
+    (subst (λ (a : List (List Said)). IsSpelledWith c.in_ok-bytes.bytes.items (λ trace. AreAllCallsOf trace scripts a)) (sym parts.answers)
+    (spelled_with c.in_ok-bytes.bytes.items written.trace (λ trace. AreAllCallsOf trace scripts (answers_of workers)) written.spelled all))
+
+pub returns-clause-passes : goal.returns-clause-passes
+returns-clause-passes g c =
+    let h = c.judged.ensures.passes in let w = c.deref_mut.ensures.writes_back in let v = c.deref_mut.ensures.value in ?
+
+pub returns-clause-log : goal.returns-clause-log
+returns-clause-log g c = ?
+
+pub returns-clause-seen : goal.returns-clause-seen
+returns-clause-seen g c = ?
