@@ -1,5 +1,5 @@
 -- What a run is given, and what it has to show for it.
-use Rattle.std.specs.Prelude.{◌≡◌, ℕ, ◌<◌, ◌≤◌, ◌==◌, ◌%◌, List, All, Option, Some, None, length, map, take, filter, slice_get, option_and_then, sum_by}
+use Rattle.std.specs.Prelude.{◌≡◌, ℕ, ◌≤◌, ◌==◌, List, All, Some, false, length, map, take, filter, slice_get, sum_by}
 use Rattle.std.specs.Option.{option_map_or}
 use Rattle.vs_types.specs.Config.{Layout}
 use Rattle.vs_types.specs.Query.{IsQuery}
@@ -42,12 +42,12 @@ said_of trace call = option_map_or (λ reply. Answer reply.at reply.answer) (rep
 
 -- the thread's calls ask a beginning of its script, in order, at its replica. There is an item for each of them: where it was answered
 -- and how, or that it was stopped, which only the last was; and an item for every request, or the last was stopped
-pub record AreCallsOf (trace : Recording) (thread : ℕ) (script : List Query) (said : List Said) : Type 0 where
+pub record AreCallsOf (trace : Recording) (thread : ℕ) (script : List Query) (items : List Said) : Type 0 where
   pub asked : map (call_of trace) (calls_of trace thread)
       ≡ map (λ request. Some (asked_by trace.layout thread request)) (take (length (calls_of trace thread)) script)
-  pub said : said ≡ map (said_of trace) (calls_of trace thread)
-  pub stops_last : StopsLast said
-  pub to_the_end : HasAllOrStopped script said
+  pub said : items ≡ map (said_of trace) (calls_of trace thread)
+  pub stops_last : StopsLast items
+  pub to_the_end : HasAllOrStopped script items
 
 -- a thread's pass has seen all on which the thread's answers rest: of each answered update its place, where that call stands with its
 -- operation; and as many entries as each answered read saw

@@ -4,8 +4,12 @@
 #![tactic(auto)]
 
 mod always_go;
+mod job;
 mod no_thread;
+mod promise;
 mod said;
+mod team;
+mod threads;
 mod worker;
 
 pub use always_go::AlwaysGo;
