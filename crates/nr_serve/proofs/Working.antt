@@ -1,27 +1,32 @@
 -- A thread that works through its script, request by request.
-use Rattle.std.proofs.Common.{◌≡◌, ℕ, ◌+◌, ◌<◌, ◌≤◌, List, [], ◌∷◌, ◌++◌, All, length, map, take, get_or, refl, ap, sym, subst, inl, inr, ◌∙◌, arith}
+use Rattle.std.proofs.Common.{◌≡◌, ℕ, ◌+◌, ◌<◌, ◌≤◌, List, [], ◌∷◌, ◌++◌, All, length, map, take, get_or, cond, refl, ap, sym, subst, inl, inr, ◌∙◌, arith}
 use Rattle.std.specs.Prelude.{None, Some, slice_get, flat_map}
 use Rattle.std.proofs.Math.ListN.{length-append, length-map, get_or-append}
-use Rattle.std.proofs.lemmas.List.{flat_map_more, map-append, take_more}
-use Rattle.std.proofs.lemmas.List.Elements.{All-append, All-push}
+use Rattle.std.proofs.lemmas.List.{append_assoc, flat_map_more, map-append, take_more}
+use Rattle.std.proofs.lemmas.List.Elements.{All-push}
 use Rattle.std.proofs.lemmas.List.Sums.{sum_by-append}
 use Rattle.std.proofs.lemmas.Option.{get_or_from_slice_get, slice_get_within}
 use Rattle.vs_types.specs.Config.{Layout}
+use Rattle.vs_types.specs.declared.answer.Answer as answers
+use Rattle.vs_types.specs.declared.depth.Depth.{Depth}
 use Rattle.vs_types.specs.declared.request.Query.{Query}
 use Rattle.vs_types.specs.declared.request.Query.TheVariants.{Update, Resolve, Access}
 use Rattle.vs_types.specs.Step.{allow, look}
 use Rattle.nr_ring.specs.Laws.{HasGoneOn}
 use Rattle.nr_ring.specs.LogHistory.{IsLogHistory, Log, log_after}
 use Rattle.nr_ring.specs.Pass.{Known, TableId}
-use Rattle.nr_record.specs.Pen.{ClockId, PenState, calls_in, is_call, new_pen}
+use Rattle.nr_ring.specs.declared.log_event.LogEvent.{LogEvent}
+use Rattle.nr_ring.specs.declared.view.View.{View}
+use Rattle.nr_trace.specs.declared.event.Event.TheVariants.{Reply}
+use Rattle.nr_record.specs.Pen.{ClockId, PenState, call_by, calls_in, is_call, stamped, with_call, with_reply}
 use Rattle.nr_record.specs.declared.stamped.Stamped.{Stamped}
 use Rattle.nr_replicas.specs.Replicas.{HasHeard}
 use Rattle.nr_replicas.proofs.Hearing.{heard_on}
 use Rattle.nr_replicas.proofs.Logs.{answer_stays, read_stays}
-use Rattle.nr_serve.specs.Calls.{HasAllOrStopped, IsServed, IsTrueOf, MadeCall, StopsLast, WorkerState, notes_of}
+use Rattle.nr_serve.specs.Calls.{IsServed, IsTrueOf, MadeCall, StopsLast, notes_of}
 use Rattle.nr_serve.specs.declared.said.Said.{Said}
 use Rattle.nr_serve.specs.declared.said.Said.TheVariants.{Answer, Stopped}
-use Rattle.nr_serve.specs.inside.Working.{HasCalled, IsAnswer, IsReady, IsUnderWay}
+use Rattle.nr_serve.specs.inside.Working.{HasCalled, IsAnswer, IsNamed, IsReady, IsUnderWay}
 
 -- ---- what is true of a log is true of each later one
 
@@ -51,7 +56,7 @@ stops_last_none said answered index is =
     absurd (subst IsAnswer (get_or_from_slice_get said index Stopped Stopped is) (answered index Stopped (slice_get_within said index Stopped is)))
 
 calls_in_both : (xs ys : List Stamped) → calls_in (xs ++ ys) ≡ calls_in xs + calls_in ys
-calls_in_both xs ys = omega (arith, sum_by-append (λ (item : Stamped). Rattle.std.proofs.Common.cond (is_call item.event) 1 0) xs ys)
+calls_in_both xs ys = omega (arith, sum_by-append (λ (item : Stamped). cond (is_call item.event) 1 0) xs ys)
 
 -- ---- request by request
 
@@ -198,3 +203,40 @@ ends clock log thread script done pen pass said is all = record {
   to_the_end = inl (omega (arith, ap (λ (l : List Said). length l) is.said_is, length-map is.calls (λ (made : MadeCall). made.said), is.count, all));
   true_calls = is.true_calls;
 }
+
+-- ---- the names of a log and its replicas say how the service is laid out
+
+pub named_history : (layout : Layout) (depth : Depth) (replicas tables : ℕ) (seen : List LogEvent) → IsNamed layout depth replicas tables
+    → IsLogHistory depth replicas seen → IsLogHistory layout.depth layout.replicas seen
+named_history layout depth replicas tables seen named is =
+    subst (λ (d : Depth). IsLogHistory d layout.replicas seen) (sym named.depth_is)
+    (subst (λ (r : ℕ). IsLogHistory depth r seen) (sym named.replicas_are) is)
+
+pub named_heard : (layout : Layout) (depth : Depth) (replicas tables : ℕ) (a b : View) → IsNamed layout depth replicas tables
+    → HasHeard depth replicas a b → HasHeard layout.depth layout.replicas a b
+named_heard layout depth replicas tables a b named is =
+    subst (λ (d : Depth). HasHeard d layout.replicas a b) (sym named.depth_is)
+    (subst (λ (r : ℕ). HasHeard depth r a b) (sym named.replicas_are) is)
+
+-- ---- one call
+
+-- a call, and its reply
+pub called_and_answered : (clock : ClockId) (request : Query) (before middle after : PenState) (pass : Known) (number replied at : ℕ) (answer : answers.Answer)
+    (replicas : ℕ) → before.clock ≡ clock → middle ≡ with_call before number request → after ≡ with_reply middle replied number at answer
+    → clock.layout.replicas ≡ replicas → IsTrueOf clock.layout (log_after replicas pass.view.seen) number request (Answer at answer)
+    → HasCalled clock.layout request before after pass (Answer at answer)
+called_and_answered clock request before middle after pass number replied at answer replicas of called answered same is =
+    let reply : Stamped = stamped replied (Reply number at answer) in
+    record {
+      number = number;
+      replied = replied;
+      of_clock = ap (λ (p : PenState). p.clock) answered ∙ ap (λ (p : PenState). p.clock) called;
+      of_thread = ap (λ (p : PenState). p.thread) answered ∙ ap (λ (p : PenState). p.thread) called;
+      quota = ap (λ (p : PenState). p.quota) answered ∙ ap (λ (p : PenState). p.quota) called;
+      notes = ap (λ (p : PenState). p.made) answered
+          ∙ ap (λ (p : PenState). p.made ++ reply ∷ []) called
+          ∙ append_assoc before.made (stamped number (call_by before.clock.layout before.thread request) ∷ []) (reply ∷ [])
+          ∙ ap (λ (c : ClockId). before.made ++ stamped number (call_by c.layout before.thread request) ∷ reply ∷ []) of;
+      none_waits = λ _. ap (λ (p : PenState). p.waiting) answered;
+      true_call = subst (λ (r : ℕ). IsTrueOf clock.layout (log_after r pass.view.seen) number request (Answer at answer)) (sym same) is;
+    }

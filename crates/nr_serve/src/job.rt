@@ -78,8 +78,9 @@ fn work_through<J: LogName, K: ReplicasName, G: Gate, R: Wait>(
     for done in 0..script.len() {
         let item = team.call(rt, pen, pass, thread, script[done]);
         note(said, item);
-        if item == Said::Stopped {
-            return;
+        match item {
+            Said::Answer(_, _) => {}
+            Said::Stopped => return,
         }
     }
 }
