@@ -1,5 +1,7 @@
 -- What a run has to show, once its bytes are audited.
-use Rattle.std.proofs.Common.{◌≡◌, ℕ, List, map, ap, sym, subst, ◌∙◌}
+use Rattle.std.proofs.Common.{◌≡◌, ℕ, List, Vec, length, ap, sym, subst, ◌∙◌, arith}
+use Rattle.std.specs.Vec.{with_items}
+use Rattle.std.proofs.lemmas.List.{with_items_is}
 use Rattle.std.specs.Prelude.{IfOk, Result, Ok, Err}
 use Rattle.nr_trace.specs.Recording.{Recording}
 use Rattle.nr_trace.specs.Spelling.{Spells}
@@ -25,3 +27,8 @@ shown_with (Err e) answers bytes passes Q same_answers same_bytes same_passes is
 -- bytes that spell a trace spell it alone
 pub spelled_with : (bytes : List ℕ) (trace : Recording) (P : Recording → Type 0) → Spells bytes trace → P trace → IsSpelledWith bytes P
 spelled_with bytes trace P spelled is = (trace, record { spelled = spelled; no_other = λ other same. one_trace bytes other trace same spelled }, is)
+
+-- a vector whose elements are written back as they were has them still
+pub back_is : {X Z : Type 0} (v : Vec X Z) (ws : List X) → ws ≡ v.items → (with_items v ws).items ≡ v.items
+back_is {X} v ws same =
+    let long : length ws ≡ v.len = omega (arith, ap (λ (xs : List X). length xs) same, v.ok.0) in with_items_is v ws long ∙ same

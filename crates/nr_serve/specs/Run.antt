@@ -1,5 +1,5 @@
 -- What a run is given, and what it has to show for it.
-use Rattle.std.specs.Prelude.{◌≡◌, ℕ, ◌<◌, ◌≤◌, ◌==◌, ◌%◌, List, All, Option, Some, None, length, map, take, filter, slice_get, option_and_then, sum_by, false, ⊤}
+use Rattle.std.specs.Prelude.{◌≡◌, ℕ, ◌≤◌, ◌==◌, List, All, Some, false, length, map, take, filter, slice_get, sum_by, ⊤}
 use Rattle.std.specs.Option.{option_map_or}
 use Rattle.vs_types.specs.Config.{Layout}
 use Rattle.vs_types.specs.Query.{IsQuery}

@@ -5,13 +5,19 @@
 
 mod always_go;
 mod ending;
+mod job;
 mod no_thread;
 mod outcome;
+mod promise;
+mod running;
 mod said;
+mod team;
+mod threads;
 mod worker;
 
 pub use always_go::AlwaysGo;
 pub use no_thread::NoThread;
 pub use outcome::{Answers, Outcome, Passes, TraceBytes};
+pub use running::run;
 pub use said::Said;
 pub use worker::Worker;
