@@ -98,7 +98,7 @@ served_from clock log thread (s ∷ scripts) (pen ∷ pens) (pass ∷ passes) (w
     let n : thread ≡ thread + 0 = omega arith in
     subst (λ (t : ℕ). IsServed clock log t script worker) n
     (subst (λ (v : WorkerState). IsServed clock log thread script v) (same_some there)
-        (subst (λ (l : List Query). IsServed clock log thread l w) (same_some here) each.0))
+    (subst (λ (l : List Query). IsServed clock log thread l w) (same_some here) each.0))
 served_from clock log thread (s ∷ scripts) (pen ∷ pens) (pass ∷ passes) (w ∷ workers) p q each (suc index) script worker here there =
     let n : thread + 1 + index ≡ thread + suc index = omega arith in
     subst (λ (t : ℕ). IsServed clock log t script worker) n

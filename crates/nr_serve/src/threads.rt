@@ -109,7 +109,12 @@ fn job_of<J: LogName>(
 }
 
 /// Does all jobs, each in a thread of its own, or none where a thread could not be started.
-fn run_all<J: LogName + Send + Sync, K: ReplicasName + Send + Sync, G: Gate + Sync, R: Threads + Wait + Sync>(
+fn run_all<
+    J: LogName + Send + Sync,
+    K: ReplicasName + Send + Sync,
+    G: Gate + Sync,
+    R: Threads + Wait + Sync,
+>(
     rt: &R,
     team: &Team<'_, J, K, G>,
     jobs: Vec<Job<J>>,
@@ -127,13 +132,11 @@ fn run_all<J: LogName + Send + Sync, K: ReplicasName + Send + Sync, G: Gate + Sy
         thread::scope_env(),
         rt,
         |scope| -> Option<Vec<Worker<J>>>
-            requires {
-                (team.now.replicas.now ≡ team.now.clock.now.layout)
+            requires { (team.now.replicas.now ≡ team.now.clock.now.layout)
                 × IsNamed team.now.clock.now.layout J.depth J.replicas K.tables
                 × All (IsReadyJob team.now.clock.now K.log) jobs.items
                 × ((handles.items ≡ []) × (length jobs.items ≤ vec_capacity handles))
-                × ((workers.items ≡ []) × (length jobs.items ≤ vec_capacity workers))
-            }
+                × ((workers.items ≡ []) × (length jobs.items ≤ vec_capacity workers)) }
             ensures { IfSome result (λ workers. AllZip (IsDone team.entry.now.clock.now K.log) jobs.items workers.items) }
         {
             let (all, handles) = start_all(rt, scope, team, jobs, handles);
@@ -144,7 +147,14 @@ fn run_all<J: LogName + Send + Sync, K: ReplicasName + Send + Sync, G: Gate + Sy
 }
 
 /// Starts a thread for each job, up to the first that cannot be started: whether all were, and those that were.
-fn start_all<'s, E, J: LogName + Send + Sync, K: ReplicasName + Send + Sync, G: Gate + Sync, R: Threads + Wait + Sync>(
+fn start_all<
+    's,
+    E,
+    J: LogName + Send + Sync,
+    K: ReplicasName + Send + Sync,
+    G: Gate + Sync,
+    R: Threads + Wait + Sync,
+>(
     rt: &'s R,
     scope: &Scope<'s, E>,
     team: &'s Team<'s, J, K, G>,
@@ -162,11 +172,9 @@ fn start_all<'s, E, J: LogName + Send + Sync, K: ReplicasName + Send + Sync, G: 
     for job in jobs {
         let promise = Finished::of(&job);
         let worker = move || -> Worker<J>
-            requires {
-                (team.now.replicas.now ≡ team.now.clock.now.layout)
+            requires { (team.now.replicas.now ≡ team.now.clock.now.layout)
                 × IsNamed team.now.clock.now.layout J.depth J.replicas K.tables
-                × IsReadyJob team.now.clock.now K.log job
-            }
+                × IsReadyJob team.now.clock.now K.log job }
             ensures { IsDone team.entry.now.clock.now K.log job result }
         { job.work(rt, team) };
         let Ok(handle) = scope.spawn_with(promise, worker) else {
