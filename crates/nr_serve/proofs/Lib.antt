@@ -4,3 +4,4 @@ pub mod Notes
 pub mod Made
 pub mod Shown
 pub mod Teams
+pub mod Jobs

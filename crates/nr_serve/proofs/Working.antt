@@ -48,7 +48,7 @@ stops_last_push said item answered index is =
     let within = slice_get_within (said ++ item ∷ []) index Stopped is in
     let here : get_or (said ++ item ∷ []) index Stopped ≡ Stopped = get_or_from_slice_get (said ++ item ∷ []) index Stopped Stopped is in
     let not_before : index < length said → ⊥ = λ lt.
-        subst IsAnswer (sym (get_or-append said (item ∷ []) Stopped index lt) ∙ here) (answered index Stopped lt) in
+    subst IsAnswer (sym (get_or-append said (item ∷ []) Stopped index lt) ∙ here) (answered index Stopped lt) in
     omega (arith, long, within, not_before)
 
 pub stops_last_none : (said : List Said) → All IsAnswer said → StopsLast said
@@ -135,9 +135,9 @@ module _ (clock : ClockId) (log : TableId) (thread : ℕ) (script : List Query) 
       let on = heard_on clock.layout.depth clock.layout.replicas pass.view pass'.view next.heard in
       All-push IsTrueNow old call
       (λ k d lt.
-          let made = get_or old k d in
-          true_stays clock.layout (log_after clock.layout.replicas pass.view.seen) (log_after clock.layout.replicas pass'.view.seen) made.number made.request
-          made.said on (next.under_way.true_calls k d lt))
+      let made = get_or old k d in
+      true_stays clock.layout (log_after clock.layout.replicas pass.view.seen) (log_after clock.layout.replicas pass'.view.seen) made.number made.request
+      made.said on (next.under_way.true_calls k d lt))
       next.called.true_call
 
   count_more : length (old ++ call ∷ []) ≡ done + 1

@@ -85,9 +85,7 @@ impl<J: LogName, K: ReplicasName, G: Gate> Team<'_, J, K, G> {
             Query::Update(op) => replicas
                 .update(rt, pass, thread, number, op, turns, self.gate)
                 .ok(),
-            Query::Resolve(address) => replicas
-                .read(rt, pass, thread, number, address, turns)
-                .ok(),
+            Query::Resolve(address) => replicas.read(rt, pass, thread, number, address, turns).ok(),
             Query::Access(address, mode, access) => replicas
                 .access(rt, pass, thread, number, address, mode, access, turns)
                 .ok(),

@@ -1,6 +1,7 @@
 //! One thread for each script.
 ghost use Rattle.std.specs.Prelude.{◌≡◌, ◌≤◌, [], All, IfOk, IfSome, length, map, true, vec_capacity};
 ghost use Rattle.std.specs.List.{AllZip};
+ghost use Rattle.vs_types.specs.declared.limits.TheConstants.{THREADS};
 ghost use Rattle.nr_record.specs.Pen.{new_pens};
 ghost use Rattle.nr_serve.specs.Calls.{AreServed};
 ghost use Rattle.nr_serve.specs.Run.{AreScripts};
@@ -46,6 +47,7 @@ pub(crate) fn serve_all<
 ) -> Result<Vec<Worker<J>>, Fail<NoThread>>
     requires layout { team.now.replicas.now ≡ team.now.clock.now.layout }
     requires names { IsNamed team.now.clock.now.layout J.depth J.replicas K.tables }
+    requires few { team.now.clock.now.layout.threads ≤ THREADS }
     requires scripts { AreScripts team.now.clock.now.layout (map (λ script. script.items) scripts.items) }
     requires pens { pens.items ≡ new_pens team.now.clock.now 0 (map (λ script. length script.items) scripts.items) }
     requires passes { length passes.items ≡ length scripts.items }
@@ -107,7 +109,12 @@ fn job_of<J: LogName>(
 }
 
 /// Does all jobs, each in a thread of its own, or none where a thread could not be started.
-fn run_all<J: LogName + Send + Sync, K: ReplicasName + Send + Sync, G: Gate + Sync, R: Threads + Wait + Sync>(
+fn run_all<
+    J: LogName + Send + Sync,
+    K: ReplicasName + Send + Sync,
+    G: Gate + Sync,
+    R: Threads + Wait + Sync,
+>(
     rt: &R,
     team: &Team<'_, J, K, G>,
     jobs: Vec<Job<J>>,
@@ -125,14 +132,12 @@ fn run_all<J: LogName + Send + Sync, K: ReplicasName + Send + Sync, G: Gate + Sy
         thread::scope_env(),
         rt,
         |scope| -> Option<Vec<Worker<J>>>
-            requires {
-                (team.now.replicas.now ≡ team.now.clock.now.layout)
+            requires { (team.now.replicas.now ≡ team.now.clock.now.layout)
                 × IsNamed team.now.clock.now.layout J.depth J.replicas K.tables
                 × All (IsReadyJob team.now.clock.now K.log) jobs.items
                 × ((handles.items ≡ []) × (length jobs.items ≤ vec_capacity handles))
-                × ((workers.items ≡ []) × (length jobs.items ≤ vec_capacity workers))
-            }
-            ensures { IfSome result (λ workers. AllZip (IsDone team.entry.now.clock.now K.log) jobs.entry.items workers.items) }
+                × ((workers.items ≡ []) × (length jobs.items ≤ vec_capacity workers)) }
+            ensures { IfSome result (λ workers. AllZip (IsDone team.entry.now.clock.now K.log) jobs.items workers.items) }
         {
             let (all, handles) = start_all(rt, scope, team, jobs, handles);
             let workers = join_all(rt, handles, workers);
@@ -142,7 +147,14 @@ fn run_all<J: LogName + Send + Sync, K: ReplicasName + Send + Sync, G: Gate + Sy
 }
 
 /// Starts a thread for each job, up to the first that cannot be started: whether all were, and those that were.
-fn start_all<'s, E, J: LogName + Send + Sync, K: ReplicasName + Send + Sync, G: Gate + Sync, R: Threads + Wait + Sync>(
+fn start_all<
+    's,
+    E,
+    J: LogName + Send + Sync,
+    K: ReplicasName + Send + Sync,
+    G: Gate + Sync,
+    R: Threads + Wait + Sync,
+>(
     rt: &'s R,
     scope: &Scope<'s, E>,
     team: &'s Team<'s, J, K, G>,
@@ -155,17 +167,14 @@ fn start_all<'s, E, J: LogName + Send + Sync, K: ReplicasName + Send + Sync, G: 
     requires handles { (handles.items ≡ []) × (length jobs.items ≤ vec_capacity handles) }
     ensures few { length result.1.items ≤ length jobs.items }
     ensures all { result.0 ≡ true → map (λ handle. handle.promise.job.value) result.1.items ≡ jobs.items }
-    ensures of_clock { All (λ handle. handle.promise.job.value.pen.clock ≡ team.now.clock.now) result.1.items }
 {
     let mut handles = handles;
     for job in jobs {
         let promise = Finished::of(&job);
         let worker = move || -> Worker<J>
-            requires {
-                (team.now.replicas.now ≡ team.now.clock.now.layout)
+            requires { (team.now.replicas.now ≡ team.now.clock.now.layout)
                 × IsNamed team.now.clock.now.layout J.depth J.replicas K.tables
-                × IsReadyJob team.now.clock.now K.log job
-            }
+                × IsReadyJob team.now.clock.now K.log job }
             ensures { IsDone team.entry.now.clock.now K.log job result }
         { job.work(rt, team) };
         let Ok(handle) = scope.spawn_with(promise, worker) else {
@@ -185,7 +194,7 @@ fn join_all<J: LogName, K: ReplicasName, R: Threads>(
     workers: Vec<Worker<J>>,
 ) -> Vec<Worker<J>>
     requires { (workers.items ≡ []) × (length handles.items ≤ vec_capacity workers) }
-    ensures { AllZip (λ handle worker. IsDone handle.promise.job.value.pen.clock K.log handle.promise.job.value worker) handles.items result.items }
+    ensures { AllZip (λ job worker. IsDone job.pen.clock K.log job worker) (map (λ handle. handle.promise.job.value) handles.items) result.items }
 {
     let mut workers = workers;
     for handle in handles {

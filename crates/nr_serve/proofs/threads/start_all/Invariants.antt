@@ -7,5 +7,4 @@ abbrev pub invariant-loop-job : goal.invariant-loop-job
 invariant-loop-job g l =
     (map (λ handle. handle.promise.job.value) l.handles.items ++ l.job-iterator.rest.items ≡ l.fn.jobs.items)
     × All (IsReadyJob l.team.clock.now g.K.ReplicasName.log) l.job-iterator.rest.items
-    × All (λ handle. handle.promise.job.value.pen.clock ≡ l.team.clock.now) l.handles.items
     × (length l.handles.items + length l.job-iterator.rest.items ≤ vec_capacity l.handles)
