@@ -1,8 +1,7 @@
 -- The calls of a trace are those of the threads whose pens it was made of.
-use Rattle.std.proofs.Common.{◌≡◌, ℕ, zero, suc, ◌+◌, ◌<◌, ◌≤◌, Bool, true, false, List, [], ◌∷◌, ◌++◌, All, Contains, length, get_or, map, cond, eqb, eq-eqb, refl, ap, sym, ◌∙◌, subst, arith}
-use Rattle.std.specs.Prelude.{Option, None, Some, IsSome, slice_get, option_and_then, filter, take}
+use Rattle.std.proofs.Common.{◌≡◌, ℕ, zero, suc, ◌<◌, ◌≤◌, Bool, true, false, List, [], ◌∷◌, All, Contains, length, get_or, map, eqb, eq-eqb, refl, ap, sym, ◌∙◌, subst, arith}
+use Rattle.std.specs.Prelude.{Option, None, Some, IsSome, slice_get, option_and_then, take}
 use Rattle.std.specs.Option.{option_map_or}
-use Rattle.std.specs.List.{flat_map}
 use Rattle.std.proofs.lemmas.List.{get_or-map, length-map}
 use Rattle.std.proofs.lemmas.List.Elements.{All-contains, All-head, All-map, All-tail}
 use Rattle.std.proofs.lemmas.Option.{get_or_from_slice_get, slice_get-get_or, slice_get_within}
@@ -13,14 +12,13 @@ use Rattle.vs_types.specs.declared.request.Query.{Query}
 use Rattle.vs_types.specs.declared.request.Query.TheVariants.{Update, Resolve, Access}
 use Rattle.nr_ring.specs.LogHistory.{Log, log_after}
 use Rattle.nr_ring.specs.Pass.{Known, TableId}
-use Rattle.nr_trace.specs.Calls.{Invocation, IsRead, Response, address_in, call_of, made_by, operation_in, operation_of, reply_to}
-use Rattle.nr_trace.specs.Orders.{below}
+use Rattle.nr_trace.specs.Calls.{Invocation, Response, address_in, call_of, made_by, operation_in, reply_to}
 use Rattle.nr_trace.specs.Recording.{Recording}
 use Rattle.nr_trace.specs.declared.event.Event.{Event}
 use Rattle.nr_trace.specs.declared.event.Event.TheVariants.{Call, Reply}
 use Rattle.nr_record.specs.Events.{HasNotes, events_of}
 use Rattle.nr_record.specs.Pen.{ClockId, PenState, call_by, stamps_of}
-use Rattle.nr_record.specs.Stamps.{AreBelow, Rise, once_below, times}
+use Rattle.nr_record.specs.Stamps.{Rise, once_below}
 use Rattle.nr_record.specs.declared.stamped.Stamped.{Stamped}
 use Rattle.nr_record.proofs.Finished.{pen_of_stamp}
 use Rattle.nr_serve.specs.Calls.{AreServed, HasAllOrStopped, IsServed, IsTrueOf, MadeCall, StopsLast, WorkerState}
@@ -28,7 +26,7 @@ use Rattle.nr_serve.specs.Run.{AreCallsOf, HasSeenAnswers, asked_by, calls_of, s
 use Rattle.nr_serve.specs.inside.Ending.{AreRecorded, pens_of}
 use Rattle.nr_serve.specs.declared.said.Said.{Said}
 use Rattle.nr_serve.specs.declared.said.Said.TheVariants.{Answer, Stopped}
-use Rattle.nr_serve.proofs.Notes.{AreNoted, answers_are, made_calls, note_is_call, notes, numbers, response, rise_numbers, spoken, stamps}
+use Rattle.nr_serve.proofs.Notes.{AreNoted, answers_are, made_calls, note_is_call, numbers, response, rise_numbers, spoken, stamps}
 use Rattle.nr_serve.proofs.Numbers.{passes_below}
 
 pub unmapped : {X Y : Type 0} (f : X → Y) (xs : List X) (k : ℕ) (y : Y) → slice_get (map f xs) k ≡ Some y → (x : X) × (slice_get xs k ≡ Some x) × (f x ≡ y)

@@ -1,22 +1,21 @@
 -- What the notes of a thread's calls tell of the events in which they stand.
-use Rattle.std.proofs.Common.{◌≡◌, ℕ, zero, suc, ◌+◌, ◌<◌, ◌≤◌, Bool, true, false, List, [], ◌∷◌, ◌++◌, All, Contains, length, get_or, map, cond, eqb, eq-eqb, refl, ap, sym, ◌∙◌, subst, arith, ⊎_elim}
+use Rattle.std.proofs.Common.{◌≡◌, ℕ, zero, suc, ◌<◌, Bool, true, false, List, [], ◌∷◌, ◌++◌, All, Contains, length, get_or, map, cond, eqb, eq-eqb, refl, ap, sym, ◌∙◌, subst, arith, ⊎_elim}
 use Rattle.std.specs.Prelude.{Option, None, Some, slice_get, option_and_then, filter, filter_map, ◌==◌, if◌then◌else◌}
 use Rattle.std.specs.Option.{option_map_or}
 use Rattle.std.specs.List.{cons_option, flat_map}
-use Rattle.std.proofs.lemmas.List.{map-append, get_or-map, get_or_default, length-map}
-use Rattle.std.proofs.lemmas.List.Elements.{All-cons, All-head, All-tail, All-contains, Contains-append_cases}
+use Rattle.std.proofs.lemmas.List.{get_or-map, length-map}
+use Rattle.std.proofs.lemmas.List.Elements.{All-cons, All-head, All-tail, Contains-append_cases}
 use Rattle.std.proofs.lemmas.List.Concat.{flat_map-cons}
-use Rattle.std.proofs.lemmas.Option.{slice_get_within, slice_get-get_or, get_or_from_slice_get}
-use Rattle.std.proofs.lemmas.Bool.Decides.{Decides-eqb, nat_tests}
+use Rattle.std.proofs.lemmas.Bool.Decides.{nat_tests}
 use mathlib.Core.Logic.{dite}
 use native.Mathlib.Decide.{ℕ_discrete}
 use Rattle.vs_types.specs.Config.{Layout}
 use Rattle.vs_types.specs.declared.answer.Answer as given
 use Rattle.vs_types.specs.declared.request.Query.{Query}
-use Rattle.nr_trace.specs.Calls.{Invocation, Response, made_by, reply_in}
+use Rattle.nr_trace.specs.Calls.{Response, reply_in}
 use Rattle.nr_trace.specs.declared.event.Event.{Event}
 use Rattle.nr_trace.specs.declared.event.Event.TheVariants.{Call, Reply}
-use Rattle.nr_record.specs.Events.{caller, events_of, is_of, thread_of}
+use Rattle.nr_record.specs.Events.{caller, events_of, is_of}
 use Rattle.nr_record.specs.Pen.{call_by, stamped}
 use Rattle.nr_record.specs.Stamps.{Rise}
 use Rattle.nr_record.specs.declared.stamped.Stamped.{Stamped}
@@ -96,6 +95,7 @@ in_call layout thread c item replica who request has is = at has.0 has.1 has.2 w
       not_reply c.number at answer replica who request (ap (λ (s : Stamped). s.event) same ∙ is)
   second (Answer at answer) (suc k) lt same = absurd (omega arith)
   second Stopped k lt same = absurd (omega arith)
+
   at : (k : ℕ) → k < length (notes_of layout thread c) → get_or (notes_of layout thread c) k item ≡ item → (who ≡ thread) × (c.number ≡ item.stamp)
   at zero lt same =
       let event : call_by layout thread c.request ≡ Call replica who request = ap (λ (s : Stamped). s.event) same ∙ is in

@@ -1,5 +1,5 @@
 -- Numbers in a rising list are those below a bound that pass its test.
-use Rattle.std.proofs.Common.{◌≡◌, ℕ, zero, suc, ◌+◌, ◌<◌, ◌≤◌, Bool, true, false, List, [], ◌∷◌, ◌++◌, All, Contains, length, get_or, cond, ltb, refl, ap, sym, ◌∙◌, subst, arith}
+use Rattle.std.proofs.Common.{◌≡◌, ℕ, zero, suc, ◌<◌, ◌≤◌, Bool, true, false, List, [], ◌∷◌, ◌++◌, All, Contains, length, get_or, cond, ltb, refl, ap, sym, ◌∙◌, arith}
 use Rattle.std.specs.Prelude.{filter}
 use Rattle.std.proofs.lemmas.List.{append-nil}
 use Rattle.std.proofs.lemmas.List.Elements.{filter-append, All-head, All-tail, All-contains}
@@ -80,12 +80,12 @@ filter_cut p xs rise only all zero = sym (none_below 0 xs (λ k d lt. omega arit
 filter_cut p xs rise only all (suc n) =
     let before = filter-append p (below n) (n ∷ []) ∙ ap (λ (ys : List ℕ). ys ++ filter p (n ∷ [])) (filter_cut p xs rise only all n) in
     let by : (b : Bool) → p n ≡ b → filter p (below (suc n)) ≡ cut (suc n) xs = cases before in by (p n) refl where
-  cases : filter p (below (suc n)) ≡ cut n xs ++ filter p (n ∷ []) → (b : Bool) → p n ≡ b → filter p (below (suc n)) ≡ cut (suc n) xs
-  cases before true holds =
-      before ∙ ap (λ b. cut n xs ++ cond b (n ∷ []) []) holds ∙ sym (cut_more n xs rise (only n holds))
-  cases before false fails =
-      let none : All (λ x. x ≡ n → ⊥) xs = λ k d lt same. absurd (false_true (sym fails ∙ all n (item_of xs k d n lt same))) in
-      before ∙ ap (λ b. cut n xs ++ cond b (n ∷ []) []) fails ∙ append-nil (cut n xs) ∙ sym (cut_same n xs none)
+      cases : filter p (below (suc n)) ≡ cut n xs ++ filter p (n ∷ []) → (b : Bool) → p n ≡ b → filter p (below (suc n)) ≡ cut (suc n) xs
+      cases before true holds =
+          before ∙ ap (λ b. cut n xs ++ cond b (n ∷ []) []) holds ∙ sym (cut_more n xs rise (only n holds))
+      cases before false fails =
+          let none : All (λ x. x ≡ n → ⊥) xs = λ k d lt same. absurd (false_true (sym fails ∙ all n (item_of xs k d n lt same))) in
+          before ∙ ap (λ b. cut n xs ++ cond b (n ∷ []) []) fails ∙ append-nil (cut n xs) ∙ sym (cut_same n xs none)
 
 -- where just the numbers of a rising list pass a test, and all are below n, these are what passes below n
 pub passes_below : (p : ℕ → Bool) (xs : List ℕ) (n : ℕ) → Rise xs → All (λ x. x < n) xs → ((i : ℕ) → p i ≡ true → Contains xs i)

@@ -7,7 +7,7 @@ use Rattle.nr_trace.specs.Recording.{Recording}
 use Rattle.nr_trace.specs.Spelling.{Spells}
 use Rattle.nr_trace.proofs.LawsOfSpelling.{one_trace}
 use Rattle.nr_ring.specs.Pass.{Known}
-use Rattle.nr_audit.specs.Headline.{IsSpelledWith, SpellsAlone}
+use Rattle.nr_audit.specs.Headline.{IsSpelledWith}
 use Rattle.nr_serve.specs.Run.{IfVerified}
 use Rattle.nr_serve.specs.declared.outcome.Outcome.{Outcome}
 use Rattle.nr_serve.specs.declared.outcome.Outcome.TheVariants.{Refused, Verified}

@@ -112,5 +112,8 @@ pub enum Outcome<J: LogName> {
         passes: Passes<J>,
     },
     /// The first fault of the trace.
-    Refused { trace: TraceBytes, fault: Fault },
+    Refused {
+        trace: TraceBytes,
+        fault: Fault,
+    },
 }

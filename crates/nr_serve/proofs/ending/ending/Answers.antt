@@ -1,14 +1,12 @@
-use Rattle.std.proofs.Common.{◌≡◌, ℕ, List, length, map, ap, sym, subst, ◌∙◌, arith}
+use Rattle.std.proofs.Common.{◌≡◌, ℕ, List, length, ap, sym, subst, ◌∙◌}
 use Rattle.std.proofs.lemmas.List.{length-map}
-use Rattle.vs_types.specs.declared.request.Query.{Query}
-use Rattle.nr_trace.specs.Recording.{Recording}
 use Rattle.nr_ring.specs.Pass.{Known}
 use Rattle.nr_record.specs.Pen.{PenState}
 use Rattle.nr_audit.specs.Headline.{IsSpelledWith}
 use Rattle.nr_serve.specs.Calls.{WorkerState}
 use Rattle.nr_serve.specs.Run.{AreAllCallsOf, HaveSeenAnswers, IsLogOf}
 use Rattle.nr_serve.specs.declared.said.Said.{Said}
-use Rattle.nr_serve.specs.inside.Ending.{AreRecorded, IsWrittenOf, answers_of, passes_of, pens_of}
+use Rattle.nr_serve.specs.inside.Ending.{AreRecorded, answers_of, passes_of}
 use Rattle.nr_serve.proofs.Made.{are_calls, have_seen}
 use Rattle.nr_serve.proofs.Shown.{back_is, shown_with, spelled_with}
 use Rattle.nr_serve.proofs.ending.ending.Goals as goal
