@@ -1,5 +1,5 @@
 -- What a parse by clap tells of the command that is asked for.
-use Rattle.std.proofs.Common.{◌≡◌, ℕ, List, [], ◌∷◌, Option, Some, None, Result, Ok, Err, ap, inl, inr, sym, ◌∙◌, refl, subst, codes, option_map, unwrap_or}
+use Rattle.std.proofs.Common.{◌≡◌, ℕ, Bool, true, false, List, [], ◌∷◌, Option, Some, None, Result, Ok, Err, ap, inl, inr, sym, ◌∙◌, refl, subst, codes, option_map, unwrap_or}
 use Rattle.std.proofs.Common.{Bor, Box, IfErr}
 use Rattle.std.specs.Result.{IsErrAnd}
 use Rattle.std.specs.Box.{box_value}
@@ -10,8 +10,9 @@ use Rattle.clap.specs.declared.error.Error.{Error}
 use Rattle.clap.specs.declared.error.kind.ErrorKind.{ErrorKind}
 use Rattle.clap.specs.declared.parser.matches.SubCommand.{SubCommand}
 use Rattle.clap.specs.declared.parser.matches.ArgMatches.TheViews.{out-SubCommand}
-use Rattle.nrvs.specs.CommandLine.{Asks, IsReplica}
-use Rattle.nr_engines.specs.declared.command.Command.TheVariants.{Resolve}
+use Rattle.nrvs.specs.CommandLine.{Asks, IsFlag, IsNumber, IsReplica, IsSetup}
+use Rattle.nr_engines.specs.declared.command.Command.TheVariants.{Resolve, Simulate}
+use Rattle.nr_engines.specs.declared.setup.Setup.{Setup}
 
 -- one kind more may come
 pub one_more : (k : ErrorKind) (kinds : Kinds) (e : Error) → HasKind kinds e → HasKind (k ∷ kinds) e
@@ -47,3 +48,16 @@ pub replica_read : {E : Type 0} (gives : List ℕ → Result ℕ E → Type 0) �
 replica_read gives weaker None result none value = ap (λ r. unwrap_or r 0) (none refl)
 replica_read gives weaker (Some text) (Some n) none value = inl (weaker text (Ok n) (value text refl))
 replica_read gives weaker (Some text) None none value = let h = value text refl in inr (refl, weaker text (Err h.0) h.1)
+
+-- the same text has the same number
+pub number_of : (least most default : ℕ) (t u : Option Text) (number : ℕ) → t ≡ u → IsNumber least most default t number → IsNumber least most default u number
+number_of least most default t u number same h = subst (λ (text : Option Text). IsNumber least most default text number) same h
+
+-- and is the same flag
+pub flag_of : (t u : Option Text) (flag : Bool) → t ≡ u → (t ≡ None → flag ≡ false) → (t ≡ Some (codes "true") → flag ≡ true)
+    → (t ≡ Some (codes "false") → flag ≡ false) → IsFlag u flag
+flag_of t u flag same absent set unset = record { none = λ e. absent (same ∙ e); yes = λ e. set (same ∙ e); no = λ e. unset (same ∙ e) }
+
+pub asks_simulate : (sub : Option (Text × List Row)) (rows : List Row) (setup : Setup) (as_trace : Bool) → sub ≡ Some (codes "simulate", rows)
+    → IsSetup rows setup → IsFlag (one_of (codes "trace") rows) as_trace → Asks sub (Simulate setup as_trace)
+asks_simulate sub rows setup as_trace is laid flag = subst (λ s. Asks s (Simulate setup as_trace)) (sym is) (refl, laid, flag)

@@ -4,8 +4,9 @@ use Rattle.clap.specs.Words.{kind_of}
 use Rattle.clap.specs.declared.error.Error.{Error}
 use Rattle.clap.specs.declared.error.kind.ErrorKind.{ErrorKind}
 use Rattle.clap.specs.declared.error.kind.ErrorKind.TheVariants as kind
-use Rattle.nr_engines.specs.Answers.{IsAnswer, WritesReport}
-use Rattle.nr_engines.specs.Refusals.{IsEndFault, IsRefusal, WritesAnswersAlone, exit_status}
+use Rattle.nr_engines.specs.Answers.{WritesReport}
+use Rattle.nr_engines.specs.Commands.{IsAnswer, IsRefusal}
+use Rattle.nr_engines.specs.Refusals.{IsEndFault, WritesAnswersAlone, exit_status}
 use Rattle.nr_engines.specs.declared.command.Command.{Command}
 use Rattle.nr_engines.specs.declared.fault.ProgFault.{ProgFault}
 use Rattle.nr_engines.specs.declared.fault.ProgFault.TheVariants.{Memory}

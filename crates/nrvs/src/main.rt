@@ -1,6 +1,8 @@
-//! The program: `nrvs audit` says whether a trace is right, and `nrvs resolve` where an address leads in one of its dumps.
+//! The program: `nrvs audit` says whether a trace is right, `nrvs resolve` where an address leads in one of its dumps, and
+//! `nrvs simulate` takes the steps of a script.
 #![tactic(auto)]
 
+mod command_line;
 mod program;
 mod words;
 

@@ -62,8 +62,7 @@ fn end<E: Write>(outcome: Result<u8, ProgFault>, errors: &mut E) -> u8
     match outcome {
         Ok(status) => status,
         Err(fault) => {
-            let text = fault.text();
-            let _ = writeln!(errors, "{text}");
+            let _ = fault.tell(errors);
             fault.status()
         }
     }

@@ -1,15 +1,15 @@
-ghost use Rattle.std.specs.Prelude.{◌≡◌, ◌∷◌, [], false, IfOk, IfErr, MatchResult, map, string_bytes};
-ghost use Rattle.clap.specs.Words.{app_of, fault_of, kind_of, subcommand_of, HasKind};
-ghost use Rattle.nrvs.specs.CommandLine.{command_line, kinds_of_no_words, Asks};
+ghost use Rattle.std.specs.Prelude.{◌≡◌, ◌≤◌, ◌∷◌, [], false, IfOk, IfErr, MatchResult, map, string_bytes};
+ghost use Rattle.vs_types.specs.Depth.{levels};
+ghost use Rattle.clap.specs.Words.{fault_of, found_of, kind_of, one_text, rows_of, subcommand_of, HasKind};
+ghost use Rattle.nrvs.specs.CommandLine.{command_line, kinds_of_no_words, Asks, IsNumber, IsSetup};
 
+use crate::command_line::command_line;
 use clap::error::ErrorKind;
-use clap::{Arg, Error, value_parser};
-use nr_engines::Command;
+use clap::{ArgMatches, Error};
+use nr_engines::{Command, Setup};
 use std::alloc::{AllocError, Global};
 use std::{env, io};
-
-/// The version that `--version` prints.
-const VERSION: &str = "0.1.0";
+use vs_types::Depth;
 
 /// Why the program doesn't know its own words.
 #[derive(Debug, Drop)]
@@ -29,32 +29,40 @@ pub fn program_words(rt: &HostRuntime) -> Result<Vec<String>, NoWords> {
     }
 }
 
-fn command_line<'a>(alloc: Global) -> Result<clap::Command<'a>, AllocError>
-    ensures app { IfOk result (λ command. app_of command ≡ command_line) }
+/// The number that was given, which lies within its limits since clap has tested it; or the default.
+fn read_number(given: &ArgMatches<'_>, id: &str, least: u16, most: u16, default: u16) -> u16
+    requires low { least ≤ default }
+    requires high { default ≤ most }
+    ensures number { IsNumber least most default (one_text (found_of given.now) id.now) result }
+    ensures least { least ≤ result }
+    ensures most { result ≤ most }
 {
-    let audit = clap::Command::new(alloc, "audit").about(
-        "Reads a trace from standard input and prints whether it is right",
-    );
-    let address = Arg::new(alloc, "address")
-        .long("address")
-        .required(true)
-        .help("A canonical address: 0x and 1 to 16 hexadecimal digits");
-    let replica = Arg::new(alloc, "replica")
-        .long("replica")
-        .value_parser(value_parser!(u8))
-        .default_value("0")
-        .help("The number of the replica whose dump is looked into");
-    let resolve = clap::Command::new(alloc, "resolve")
-        .about("Reads a trace from standard input and prints where an address leads in a dump")
-        .arg(address)?
-        .arg(replica)?;
-    clap::Command::new(alloc, "nrvs")
-        .about("Checks recorded runs of replicated address spaces")
-        .version(VERSION)
-        .subcommand_required(true)
-        .disable_help_subcommand(true)
-        .subcommand(audit)?
-        .subcommand(resolve)
+    match given.get_one::<u16>(id) {
+        Some(number) if least <= number && number <= most => number,
+        _ => default,
+    }
+}
+
+fn depth_of(count: u16) -> Depth
+    requires low { 4 ≤ count }
+    requires high { count ≤ 5 }
+    ensures { levels result ≡ count }
+{
+    if count == 5 { Depth::Five } else { Depth::Four }
+}
+
+/// How a simulation is laid out.
+fn read_setup(given: &ArgMatches<'_>) -> Setup
+    ensures { IsSetup (rows_of (found_of given.now)) result }
+{
+    let depth = depth_of(read_number(given, "levels", 4, 5, 4));
+    let replicas = read_number(given, "replicas", 1, 4, 1);
+    let tables = read_number(given, "tables", 1, 4096, 4096);
+    Setup {
+        depth,
+        replicas: replicas as u8,
+        tables,
+    }
 }
 
 /// What the words ask for, or what clap answers to them.
@@ -71,6 +79,11 @@ fn read_words<'a>(alloc: Global, words: &'a [String]) -> Result<Command<'a>, Err
             let address = given.get_str("address").unwrap_or("");
             let replica = given.get_one::<u8>("replica").unwrap_or(0);
             Ok(Command::Resolve(address, replica))
+        }
+        Some(("simulate", given)) => {
+            let setup = read_setup(given);
+            let as_trace = given.get_flag("trace");
+            Ok(Command::Simulate(setup, as_trace))
         }
         _ => Err(line.error(ErrorKind::MissingSubcommand, "a subcommand is required")?),
     }

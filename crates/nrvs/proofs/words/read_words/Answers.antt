@@ -5,7 +5,7 @@ use Rattle.clap.specs.Faults.{fault_of, is_simple_and_free}
 use Rattle.std.specs.Str.Parse.{ParsesUnsigned, ExplainsUnsignedError, HasUnsignedDigitsIfOk}
 use Rattle.clap.proofs.WalkLemmas.{first_value-rows, one_text-rows}
 use Rattle.nrvs.specs.CommandLine.{command_line, IsReplica}
-use Rattle.nrvs.proofs.CommandLines.{one_more, same_error, entered, text_or_none, replica_read, asks_resolve}
+use Rattle.nrvs.proofs.CommandLines.{one_more, same_error, entered, text_or_none, replica_read, asks_resolve, asks_simulate, flag_of}
 use Rattle.nrvs.proofs.words.read_words.Goals as goal
 
 pub returns-in_err-matches-clause-fault : goal.returns-in_err-matches-clause-fault
@@ -48,3 +48,23 @@ returns-in-Some-resolve-default-clause-asks c =
     asks_resolve _ (rows_of found) c.unwrap_or-address.result c.unwrap_or-replica.result sub_is address_is
     (subst (λ t. IsReplica t c.unwrap_or-replica.result) (one_text-rows found (codes "replica"))
     (subst (IsReplica (one_text found (codes "replica"))) (sym c.unwrap_or-replica.ensures) replica_is))
+
+pub returns-in-Some-simulate-default-clause-faultless : goal.returns-in-Some-simulate-default-clause-faultless
+returns-in-Some-simulate-default-clause-faultless c =
+    let app_is : app_of c.in_ok-line.line ≡ command_line = c.in_ok-line.ensures.app in
+    subst (λ (a : App). fault_of a (map (λ word. string_bytes word) c.args.words.now) ≡ []) app_is
+    (c.in_ok-matches.ensures.kinds (ap is_simple_and_free app_is))
+
+pub returns-in-Some-simulate-default-clause-asks : goal.returns-in-Some-simulate-default-clause-asks
+returns-in-Some-simulate-default-clause-asks c =
+    let app_is : app_of c.in_ok-line.line ≡ command_line = c.in_ok-line.ensures.app in
+    let arm = c.in-Some-simulate-default in
+    let found = found_of arm.given.now in
+    let texts = map (λ word. string_bytes word) c.args.words.now in
+    let parsed : subcommand_rows_of c.in_ok-matches.matches ≡ subcommand_of command_line texts =
+    (c.in_ok-matches.ensures.ok.2 (ap is_simple app_is)).1 ∙ ap (λ (a : App). subcommand_of a texts) app_is in
+    let name_is = ap Some (sym arm.is-simulate) ∙ arm.ensures.name in
+    let sub_is = sym parsed ∙ entered _ (codes "simulate") (rows_of found) name_is arm.ensures.rows in
+    let flag = c.get_flag-as_trace.ensures in
+    asks_simulate _ (rows_of found) c.read_setup-setup.result c.get_flag-as_trace.result sub_is c.read_setup-setup.ensures
+    (flag_of _ _ _ (one_text-rows found (codes "trace")) flag.none flag.value flag.other)

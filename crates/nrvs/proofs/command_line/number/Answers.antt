@@ -1,0 +1,16 @@
+use Rattle.std.proofs.Common.{◌≡◌, ◌∙◌, ap, ap₂, Some, [], ◌∷◌}
+use Rattle.clap.specs.Words.{Rule, rule_of}
+use Rattle.clap.specs.declared.builder.arg.Arg.{Arg}
+use Rattle.nrvs.proofs.command_line.number.Goals as goal
+
+pub returns : goal.returns
+returns c =
+    let given = c.value_parser.ensures.given in
+    let parser_is : c.value_parser.result.value_parser ≡ Some c.args.parser = given.1 ∙ ap Some given.2 in
+    let long_is = ap rule_of c.long.ensures ∙ ap (λ (r : Rule). record r { long = Some c.args.id.now }) c.new.ensures.rule in
+    let parsed_is = ap rule_of c.value_parser.ensures.others ∙ ap₂ (λ (r : Rule) p. record r { parser = p }) long_is parser_is in
+    let global = λ (a : Arg). a.global in
+    record {
+      rule = ap rule_of c.default_value.ensures ∙ ap (λ (r : Rule). record r { defaults = c.args.default.now ∷ [] }) parsed_is;
+      local = ap global c.default_value.ensures ∙ ap global c.value_parser.ensures.others ∙ ap global c.long.ensures ∙ c.new.ensures.optional.1;
+    }
