@@ -16,7 +16,7 @@ REQUESTS, STEPS, PLACES, BATCH, RING = 65536, 1000000, 65536, 16, 16
 
 Script = collections.namedtuple("Script", "threads requests steps first_step")
 Step = collections.namedtuple("Step", "thread act of", defaults=(None,))
-Recording = collections.namedtuple("Recording", "version log events applied")
+Recording = collections.namedtuple("Recording", "version levels replicas threads tables log events applied")
 
 
 # ---- scripts ----
@@ -220,7 +220,8 @@ class Core:
         later = any(each.kind == model.ACCESS if isinstance(each, Call) else each.answer.code in (model.ALLOWED, model.PAGE_FAULT)
                     for each in self.events)
         version = 1 if self.levels == 4 and not later else 2
-        return Recording(version, self.log, self.events, [each.applied for each in self.replicas])
+        return Recording(version, self.levels, len(self.replicas), len(self.threads), self.tables, self.log, self.events,
+                         [each.applied for each in self.replicas])
 
 
 def simulate(levels, replicas, tables, data):
