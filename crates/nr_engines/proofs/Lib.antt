@@ -3,3 +3,5 @@ pub mod Input
 pub mod Reports
 pub mod WholeInput
 pub mod Simulations
+pub mod ServedRuns
+pub mod RunTexts

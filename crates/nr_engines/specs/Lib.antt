@@ -1,8 +1,10 @@
 pub mod Text
+pub mod RunText
 pub mod Addresses
 pub mod Answers
 pub mod Refusals
 pub mod Simulation
+pub mod ServedRun
 pub mod Commands
 pub use Rattle.vs_types.specs.Config
 pub use Rattle.vs_types.specs.Depth

@@ -4,7 +4,7 @@ use Rattle.nr_engines.specs.Addresses.{SpellsAddress}
 use Rattle.nr_engines.specs.Text.{line_end}
 use Rattle.nr_engines.specs.Answers.{IsReadOf, IsOutOfItsDepth, LacksReplica}
 use Rattle.nr_engines.specs.declared.fault.ProgFault.{ProgFault}
-use Rattle.nr_engines.specs.declared.fault.ProgFault.TheVariants.{BadAddress, NotCanonical, NoSuchReplica, InputTooLong, BadLine, CannotRead, CannotWrite, Memory}
+use Rattle.nr_engines.specs.declared.fault.ProgFault.TheVariants.{BadAddress, NotCanonical, NoSuchReplica, InputTooLong, BadLine, NoThread, CannotRead, CannotWrite, Memory}
 
 -- 3 where memory ran out, else 2
 abbrev pub refusal_status : ProgFault → ℕ
@@ -13,6 +13,7 @@ refusal_status NotCanonical = 2
 refusal_status NoSuchReplica = 2
 refusal_status InputTooLong = 2
 refusal_status (BadLine number) = 2
+refusal_status NoThread = 2
 refusal_status CannotRead = 2
 refusal_status CannotWrite = 2
 refusal_status Memory = 3
@@ -23,6 +24,7 @@ refusal_words NotCanonical = codes "not canonical"
 refusal_words NoSuchReplica = codes "no such replica"
 refusal_words InputTooLong = codes "input too long"
 refusal_words (BadLine number) = codes "bad line "
+refusal_words NoThread = codes "no thread"
 refusal_words CannotRead = codes "cannot read"
 refusal_words CannotWrite = codes "cannot write"
 refusal_words Memory = codes "out of memory"

@@ -1,10 +1,13 @@
 use crate::audit::audit_io;
 use crate::fault::ProgFault;
 use crate::resolve::resolve_io;
+use crate::served_run::run_io;
 use crate::setup::Setup;
 use crate::simulate::simulate_io;
 use std::alloc::Global;
 use std::io::{Read, Write};
+use std::sync::Wait;
+use std::thread::Threads;
 
 /// What the program can be asked to do.
 #[derive(Debug, Drop)]
@@ -15,6 +18,8 @@ pub enum Command<'a> {
     Resolve(&'a str, u8),
     /// Take the protocol's core through the steps of the script; and write the recording instead of the verdict on it.
     Simulate(Setup, bool),
+    /// Run the threads of the script, each call with up to so many turns; and write the trace instead of the answers.
+    Run(Setup, u32, bool),
 }
 
 impl Command<'_> {
@@ -23,13 +28,14 @@ impl Command<'_> {
     ghost use Rattle.nr_engines.specs.Refusals.{WritesAnswersAlone};
     ghost use Rattle.nr_engines.specs.Commands.{IsAnswer, IsRefusal, ReadsFew};
 
-    /// Runs the command on the input, and gives the exit status.
+    /// Runs the command on the input, and gives the exit status. Only `Run` waits and starts threads.
     ///
     /// # Errors
     ///
-    /// Those of `audit_io`, of `resolve_io`, or of `simulate_io`.
-    pub fn run<R: Read, W: Write>(
+    /// Those of `audit_io`, of `resolve_io`, of `simulate_io`, or of `run_io`.
+    pub fn run<T: Threads + Wait + Sync, R: Read, W: Write>(
         self,
+        rt: &T,
         alloc: Global,
         reader: &mut R,
         writer: &mut W,
@@ -46,6 +52,9 @@ impl Command<'_> {
             }
             Command::Simulate(setup, as_trace) => {
                 simulate_io(alloc, reader, writer, setup, as_trace)
+            }
+            Command::Run(setup, turns, as_trace) => {
+                run_io(rt, alloc, reader, writer, setup, turns, as_trace)
             }
         }
     }

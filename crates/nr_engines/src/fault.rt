@@ -25,6 +25,9 @@ pub enum ProgFault {
     /// The script's line of this number, counted from 1, is the first that has no form, is not well formed, or goes past a limit.
     #[error("bad line {0}")]
     BadLine(u32),
+    /// A thread could not be started.
+    #[error("no thread")]
+    NoThread,
     /// The input gave an error.
     #[error("cannot read")]
     CannotRead,
@@ -52,6 +55,7 @@ impl ProgFault {
             | ProgFault::NoSuchReplica
             | ProgFault::InputTooLong
             | ProgFault::BadLine(_)
+            | ProgFault::NoThread
             | ProgFault::CannotRead
             | ProgFault::CannotWrite => 2,
         }
@@ -67,6 +71,7 @@ impl ProgFault {
             ProgFault::NoSuchReplica => "no such replica",
             ProgFault::InputTooLong => "input too long",
             ProgFault::BadLine(_) => "bad line ",
+            ProgFault::NoThread => "no thread",
             ProgFault::CannotRead => "cannot read",
             ProgFault::CannotWrite => "cannot write",
             ProgFault::Memory => "out of memory",

@@ -24,7 +24,7 @@ fn format_text(alloc: Global, fault: Format) -> Result<String, AllocError>
 }
 
 #[tactic(auto, unfolding(crate::specs::Text::fault_text))]
-fn fault_text(alloc: Global, fault: Fault) -> Result<String, AllocError>
+pub(crate) fn fault_text(alloc: Global, fault: Fault) -> Result<String, AllocError>
     ensures { IfOk result (λ text. string_bytes text ≡ fault_text fault) }
 {
     match fault {
@@ -98,7 +98,7 @@ pub(crate) fn verdict_text(alloc: Global, verdict: &Verdict) -> Result<String, A
     }
 }
 
-fn size_text(size: Size) -> &'static str
+pub(crate) fn size_text(size: Size) -> &'static str
     ensures { result.now ≡ size_text size }
 {
     match size {
@@ -109,7 +109,7 @@ fn size_text(size: Size) -> &'static str
 }
 
 /// The letter of a right, or a dash where it is not given.
-fn mark(given: bool, letter: &'static str) -> &'static str
+pub(crate) fn mark(given: bool, letter: &'static str) -> &'static str
     ensures { result.now ≡ mark given letter.entry.now }
 {
     if given { letter } else { "-" }

@@ -10,8 +10,8 @@ use Rattle.clap.specs.declared.error.Error.{Error}
 use Rattle.clap.specs.declared.error.kind.ErrorKind.{ErrorKind}
 use Rattle.clap.specs.declared.parser.matches.SubCommand.{SubCommand}
 use Rattle.clap.specs.declared.parser.matches.ArgMatches.TheViews.{out-SubCommand}
-use Rattle.nrvs.specs.CommandLine.{Asks, IsFlag, IsNumber, IsReplica, IsSetup}
-use Rattle.nr_engines.specs.declared.command.Command.TheVariants.{Resolve, Simulate}
+use Rattle.nrvs.specs.CommandLine.{Asks, IsFlag, IsNumber, IsReplica, IsSetup, IsTurns}
+use Rattle.nr_engines.specs.declared.command.Command.TheVariants.{Resolve, Run, Simulate}
 use Rattle.nr_engines.specs.declared.setup.Setup.{Setup}
 
 -- one kind more may come
@@ -61,3 +61,7 @@ flag_of t u flag same absent set unset = record { none = λ e. absent (same ∙ 
 pub asks_simulate : (sub : Option (Text × List Row)) (rows : List Row) (setup : Setup) (as_trace : Bool) → sub ≡ Some (codes "simulate", rows)
     → IsSetup rows setup → IsFlag (one_of (codes "trace") rows) as_trace → Asks sub (Simulate setup as_trace)
 asks_simulate sub rows setup as_trace is laid flag = subst (λ s. Asks s (Simulate setup as_trace)) (sym is) (refl, laid, flag)
+
+pub asks_run : (sub : Option (Text × List Row)) (rows : List Row) (setup : Setup) (turns : ℕ) (as_trace : Bool) → sub ≡ Some (codes "run", rows)
+    → IsSetup rows setup → IsTurns (one_of (codes "turns") rows) turns → IsFlag (one_of (codes "trace") rows) as_trace → Asks sub (Run setup turns as_trace)
+asks_run sub rows setup turns as_trace is laid counted flag = subst (λ s. Asks s (Run setup turns as_trace)) (sym is) (refl, laid, counted, flag)

@@ -11,7 +11,7 @@ use Rattle.clap.specs.declared.builder.value_parser.ValueParser.TheVariants as p
 use Rattle.clap.specs.declared.builder.action.ArgAction.TheVariants.{SetTrue}
 use Rattle.clap.specs.declared.error.kind.ErrorKind.TheVariants as kind
 use Rattle.nr_engines.specs.declared.command.Command.{Command}
-use Rattle.nr_engines.specs.declared.command.Command.TheVariants.{Audit, Resolve, Simulate}
+use Rattle.nr_engines.specs.declared.command.Command.TheVariants.{Audit, Resolve, Simulate, Run}
 use Rattle.nr_engines.specs.declared.setup.Setup.{Setup}
 use Rattle.nrvs.specs.declared.words.NoWords.{NoWords}
 use Rattle.nrvs.specs.declared.words.NoWords.TheVariants.{Memory, NotText}
@@ -52,6 +52,10 @@ tables_option = number_option (codes "tables") (parsers.Signed (pos 1) (pos 4096
 abbrev pub trace_option : Rule
 trace_option = record (new_rule (codes "trace")) { long = Some (codes "trace"); action = Some SetTrue }
 
+-- the most turns of a call
+abbrev pub turns_option : Rule
+turns_option = number_option (codes "turns") (parsers.Signed (pos 1) (pos 4294967295)) (codes "100000")
+
 abbrev pub audit_app : App
 audit_app = new_app (codes "audit")
 
@@ -61,6 +65,9 @@ resolve_app = with_rule (with_rule (new_app (codes "resolve")) address_option) r
 abbrev pub simulate_app : App
 simulate_app = with_rule (with_rule (with_rule (with_rule (new_app (codes "simulate")) levels_option) replicas_option) tables_option) trace_option
 
+abbrev pub run_app : App
+run_app = with_rule (with_rule (with_rule (with_rule (with_rule (new_app (codes "run")) levels_option) replicas_option) tables_option) turns_option) trace_option
+
 -- the program, which has a version, and of which one of its subcommands is required
 abbrev pub program_app : App
 program_app = record (new_app (codes "nrvs")) {
@@ -68,7 +75,7 @@ program_app = record (new_app (codes "nrvs")) {
 }
 
 abbrev pub command_line : App
-command_line = with_subcommand (with_subcommand (with_subcommand program_app audit_app.top) resolve_app.top) simulate_app.top
+command_line = with_subcommand (with_subcommand (with_subcommand (with_subcommand program_app audit_app.top) resolve_app.top) simulate_app.top) run_app.top
 
 -- the number that a text is, or 0 where it is none below 256, or there is none
 abbrev pub IsReplica : Option Text → ℕ → Type 0
@@ -80,6 +87,12 @@ abbrev pub IsNumber : ℕ → ℕ → ℕ → Option Text → ℕ → Type 0
 IsNumber least most default None number = number ≡ default
 IsNumber least most default (Some text) number = ParsesUnsigned {E = Unit {0}} 16 10 text (Ok number)
     ⊎ ((number ≡ default) × ((given : ℕ) → ParsesUnsigned {E = Unit {0}} 16 10 text (Ok given) → least ≤ given → given ≤ most → ⊥))
+
+-- the number that a text is, or 100,000 where it is none from 1 to 4,294,967,295, or there is none
+abbrev pub IsTurns : Option Text → ℕ → Type 0
+IsTurns None number = number ≡ 100000
+IsTurns (Some text) number = ParsesUnsigned {E = Unit {0}} 32 10 text (Ok number)
+    ⊎ ((number ≡ 100000) × ((given : ℕ) → ParsesUnsigned {E = Unit {0}} 32 10 text (Ok given) → 1 ≤ given → ⊥))
 
 -- whether a flag was given, as clap tells it: it has the value `true`, else `false`
 pub record IsFlag (given : Option Text) (flag : Bool) : Type 0 where
@@ -101,6 +114,8 @@ Asks (Some given) (Resolve address replica) =
     (given.0 ≡ codes "resolve") × (unwrap_or (first_of (codes "address") given.1) [] ≡ address.now) × IsReplica (one_of (codes "replica") given.1) replica
 Asks (Some given) (Simulate setup as_trace) =
     (given.0 ≡ codes "simulate") × IsSetup given.1 setup × IsFlag (one_of (codes "trace") given.1) as_trace
+Asks (Some given) (Run setup turns as_trace) =
+    (given.0 ≡ codes "run") × IsSetup given.1 setup × IsTurns (one_of (codes "turns") given.1) turns × IsFlag (one_of (codes "trace") given.1) as_trace
 
 -- where the words are not known: memory ran out, or one of them is no text, which is a fault of the command line
 abbrev pub kinds_of_no_words : NoWords → Kinds

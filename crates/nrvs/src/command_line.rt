@@ -1,7 +1,7 @@
 //! The words that the program knows.
 ghost use Rattle.std.specs.Prelude.{◌≡◌, false, IfOk};
 ghost use Rattle.clap.specs.Words.{app_of, rule_of};
-ghost use Rattle.nrvs.specs.CommandLine.{command_line, number_option, resolve_app, simulate_app, IsLocal};
+ghost use Rattle.nrvs.specs.CommandLine.{command_line, number_option, resolve_app, run_app, simulate_app, IsLocal};
 
 use clap::builder::ValueParser;
 use clap::{Arg, ArgAction, Command, value_parser};
@@ -67,6 +67,41 @@ fn simulate<'a>(alloc: Global) -> Result<Command<'a>, AllocError>
         .arg(trace)
 }
 
+fn run<'a>(alloc: Global) -> Result<Command<'a>, AllocError>
+    ensures app { IfOk result (λ command. app_of command ≡ run_app) }
+    ensures local { IfOk result IsLocal }
+{
+    let levels = number(alloc, "levels", ValueParser::signed(4, 5), "4").help(
+        "The levels of paging: 4 or 5",
+    );
+    let replicas = number(alloc, "replicas", ValueParser::signed(1, 4), "1").help(
+        "The number of replicas: 1 to 4",
+    );
+    let tables = number(alloc, "tables", ValueParser::signed(1, 4096), "4096").help(
+        "The most tables of each replica: 1 to 4096",
+    );
+    let turns = number(
+        alloc,
+        "turns",
+        ValueParser::signed(1, 4_294_967_295),
+        "100000",
+    )
+    .help("The most turns of each call, before it is stopped: 1 to 4294967295");
+    let trace = Arg::new(alloc, "trace")
+        .long("trace")
+        .action(ArgAction::SetTrue)
+        .help("Prints the trace of the run instead of the answers");
+    Command::new(alloc, "run")
+        .about(
+            "Reads a script from standard input, runs its threads on the replicas, and prints the answers and whether the run is verified",
+        )
+        .arg(levels)?
+        .arg(replicas)?
+        .arg(tables)?
+        .arg(turns)?
+        .arg(trace)
+}
+
 /// The program's words.
 pub fn command_line<'a>(alloc: Global) -> Result<Command<'a>, AllocError>
     ensures app { IfOk result (λ command. app_of command ≡ command_line) }
@@ -76,6 +111,7 @@ pub fn command_line<'a>(alloc: Global) -> Result<Command<'a>, AllocError>
     );
     let resolve = resolve(alloc)?;
     let simulate = simulate(alloc)?;
+    let run = run(alloc)?;
     Command::new(alloc, "nrvs")
         .about("Checks recorded runs of replicated address spaces")
         .version(VERSION)
@@ -83,5 +119,6 @@ pub fn command_line<'a>(alloc: Global) -> Result<Command<'a>, AllocError>
         .disable_help_subcommand(true)
         .subcommand(audit)?
         .subcommand(resolve)?
-        .subcommand(simulate)
+        .subcommand(simulate)?
+        .subcommand(run)
 }

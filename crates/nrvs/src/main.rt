@@ -1,5 +1,5 @@
-//! The program: `nrvs audit` says whether a trace is right, `nrvs resolve` where an address leads in one of its dumps, and
-//! `nrvs simulate` takes the steps of a script.
+//! The program: `nrvs audit` says whether a trace is right, `nrvs resolve` where an address leads in one of its dumps,
+//! `nrvs simulate` takes the steps of a script, and `nrvs run` runs the threads of one.
 #![tactic(auto)]
 
 mod command_line;
@@ -14,6 +14,13 @@ fn main(rt: HostRuntime) -> ExitCode {
     let words = words::program_words(&rt);
     let asked = words::read_program_words(alloc, &words);
     let mut output = io::writer(&rt);
-    let status = program::run(alloc, asked, rt.reader(), &mut output, &mut rt.stderr());
+    let status = program::run(
+        &rt,
+        alloc,
+        asked,
+        rt.reader(),
+        &mut output,
+        &mut rt.stderr(),
+    );
     ExitCode::from(status)
 }

@@ -8,6 +8,8 @@ use clap::error::ErrorKind;
 use nr_engines::{Command, ProgFault, write_text};
 use std::alloc::Global;
 use std::io::{Read, Write};
+use std::sync::Wait;
+use std::thread::Threads;
 
 /// Whether help or the version was asked for, which go to the output.
 fn is_shown(kind: ErrorKind) -> bool
@@ -39,8 +41,9 @@ fn tell_refusal<W: Write, E: Write>(
     }
 }
 
-/// Runs what was asked for.
-fn try_run<R: Read + Drop, W: Write, E: Write>(
+/// Runs what was asked for. It may wait, where that is a run.
+fn try_run<T: Threads + Wait + Sync, R: Read + Drop, W: Write, E: Write>(
+    rt: &T,
     alloc: Global,
     asked: Result<Command<'_>, Error>,
     mut reader: R,
@@ -50,7 +53,7 @@ fn try_run<R: Read + Drop, W: Write, E: Write>(
     ensures { Runs asked.entry (R.remaining reader) W.contents output.old output.new result }
 {
     match asked {
-        Ok(command) => command.run(alloc, &mut reader, output),
+        Ok(command) => command.run(rt, alloc, &mut reader, output),
         Err(refusal) => tell_refusal(alloc, refusal, output, errors),
     }
 }
@@ -69,7 +72,8 @@ fn end<E: Write>(outcome: Result<u8, ProgFault>, errors: &mut E) -> u8
 }
 
 /// The whole program over what its words ask for and its three ends: gives the exit status.
-pub fn run<R: Read + Drop, W: Write, E: Write>(
+pub fn run<T: Threads + Wait + Sync, R: Read + Drop, W: Write, E: Write>(
+    rt: &T,
     alloc: Global,
     asked: Result<Command<'_>, Error>,
     reader: R,
@@ -78,6 +82,6 @@ pub fn run<R: Read + Drop, W: Write, E: Write>(
 ) -> u8
     ensures { EndsWith asked.entry (R.remaining reader) W.contents output.old output.new result }
 {
-    let outcome = try_run(alloc, asked, reader, output, errors);
+    let outcome = try_run(rt, alloc, asked, reader, output, errors);
     end(outcome, errors)
 }

@@ -1,7 +1,7 @@
-ghost use Rattle.std.specs.Prelude.{◌≡◌, ◌≤◌, ◌∷◌, [], false, IfOk, IfErr, MatchResult, map, string_bytes};
+ghost use Rattle.std.specs.Prelude.{◌≡◌, ◌≤◌, ◌∷◌, [], false, IfOk, IfErr, MatchResult, codes, map, string_bytes};
 ghost use Rattle.vs_types.specs.Depth.{levels};
 ghost use Rattle.clap.specs.Words.{fault_of, found_of, kind_of, one_text, rows_of, subcommand_of, HasKind};
-ghost use Rattle.nrvs.specs.CommandLine.{command_line, kinds_of_no_words, Asks, IsNumber, IsSetup};
+ghost use Rattle.nrvs.specs.CommandLine.{command_line, kinds_of_no_words, Asks, IsNumber, IsSetup, IsTurns};
 
 use crate::command_line::command_line;
 use clap::error::ErrorKind;
@@ -51,7 +51,17 @@ fn depth_of(count: u16) -> Depth
     if count == 5 { Depth::Five } else { Depth::Four }
 }
 
-/// How a simulation is laid out.
+/// The most turns of a call: what was given, where it is at least 1, or the default.
+fn read_turns(given: &ArgMatches<'_>) -> u32
+    ensures { IsTurns (one_text (found_of given.now) (codes "turns")) result }
+{
+    match given.get_one::<u32>("turns") {
+        Some(turns) if 1 <= turns => turns,
+        _ => 100_000,
+    }
+}
+
+/// How a simulation or a run is laid out.
 fn read_setup(given: &ArgMatches<'_>) -> Setup
     ensures { IsSetup (rows_of (found_of given.now)) result }
 {
@@ -84,6 +94,12 @@ fn read_words<'a>(alloc: Global, words: &'a [String]) -> Result<Command<'a>, Err
             let setup = read_setup(given);
             let as_trace = given.get_flag("trace");
             Ok(Command::Simulate(setup, as_trace))
+        }
+        Some(("run", given)) => {
+            let setup = read_setup(given);
+            let turns = read_turns(given);
+            let as_trace = given.get_flag("trace");
+            Ok(Command::Run(setup, turns, as_trace))
         }
         _ => Err(line.error(ErrorKind::MissingSubcommand, "a subcommand is required")?),
     }

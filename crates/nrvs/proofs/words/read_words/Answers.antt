@@ -4,8 +4,8 @@ use Rattle.clap.specs.declared.error.kind.ErrorKind.TheVariants.{MissingSubcomma
 use Rattle.clap.specs.Faults.{fault_of, is_simple_and_free}
 use Rattle.std.specs.Str.Parse.{ParsesUnsigned, ExplainsUnsignedError, HasUnsignedDigitsIfOk}
 use Rattle.clap.proofs.WalkLemmas.{first_value-rows, one_text-rows}
-use Rattle.nrvs.specs.CommandLine.{command_line, IsReplica}
-use Rattle.nrvs.proofs.CommandLines.{one_more, same_error, entered, text_or_none, replica_read, asks_resolve, asks_simulate, flag_of}
+use Rattle.nrvs.specs.CommandLine.{command_line, IsReplica, IsTurns}
+use Rattle.nrvs.proofs.CommandLines.{one_more, same_error, entered, text_or_none, replica_read, asks_resolve, asks_run, asks_simulate, flag_of}
 use Rattle.nrvs.proofs.words.read_words.Goals as goal
 
 pub returns-in_err-matches-clause-fault : goal.returns-in_err-matches-clause-fault
@@ -67,4 +67,25 @@ returns-in-Some-simulate-default-clause-asks c =
     let sub_is = sym parsed ∙ entered _ (codes "simulate") (rows_of found) name_is arm.ensures.rows in
     let flag = c.get_flag-as_trace.ensures in
     asks_simulate _ (rows_of found) c.read_setup-setup.result c.get_flag-as_trace.result sub_is c.read_setup-setup.ensures
+    (flag_of _ _ _ (one_text-rows found (codes "trace")) flag.none flag.value flag.other)
+
+pub returns-in-Some-run-default-clause-faultless : goal.returns-in-Some-run-default-clause-faultless
+returns-in-Some-run-default-clause-faultless c =
+    let app_is : app_of c.in_ok-line.line ≡ command_line = c.in_ok-line.ensures.app in
+    subst (λ (a : App). fault_of a (map (λ word. string_bytes word) c.args.words.now) ≡ []) app_is
+    (c.in_ok-matches.ensures.kinds (ap is_simple_and_free app_is))
+
+pub returns-in-Some-run-default-clause-asks : goal.returns-in-Some-run-default-clause-asks
+returns-in-Some-run-default-clause-asks c =
+    let app_is : app_of c.in_ok-line.line ≡ command_line = c.in_ok-line.ensures.app in
+    let arm = c.in-Some-run-default in
+    let found = found_of arm.given.now in
+    let texts = map (λ word. string_bytes word) c.args.words.now in
+    let parsed : subcommand_rows_of c.in_ok-matches.matches ≡ subcommand_of command_line texts =
+    (c.in_ok-matches.ensures.ok.2 (ap is_simple app_is)).1 ∙ ap (λ (a : App). subcommand_of a texts) app_is in
+    let name_is = ap Some (sym arm.is-run) ∙ arm.ensures.name in
+    let sub_is = sym parsed ∙ entered _ (codes "run") (rows_of found) name_is arm.ensures.rows in
+    let turns = subst (λ t. IsTurns t c.read_turns-turns.result) (one_text-rows found (codes "turns")) c.read_turns-turns.ensures in
+    let flag = c.get_flag-as_trace-2.ensures in
+    asks_run _ (rows_of found) c.read_setup-setup-2.result c.read_turns-turns.result c.get_flag-as_trace-2.result sub_is c.read_setup-setup-2.ensures turns
     (flag_of _ _ _ (one_text-rows found (codes "trace")) flag.none flag.value flag.other)

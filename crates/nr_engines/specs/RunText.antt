@@ -1,0 +1,49 @@
+-- What `run` prints: what came of each call, by thread and then by call, and that the run is verified; or that it is refused, and why.
+use Rattle.std.specs.Prelude.{ℕ, ◌++◌, List, codes, decimal}
+use Rattle.std.specs.List.{enumerate_from, flat_map}
+use Rattle.vs_types.specs.declared.answer.Answer.{Answer}
+use Rattle.vs_types.specs.declared.answer.Answer.TheVariants as answers
+use Rattle.vs_types.specs.declared.page.Rights.{Rights}
+use Rattle.vs_types.specs.declared.page.Size.{Size}
+use Rattle.nr_trace.specs.declared.fault.Fault.{Fault}
+use Rattle.nr_serve.specs.declared.said.Said.{Said}
+use Rattle.nr_serve.specs.declared.said.Said.TheVariants.{Answer as Answered, Stopped}
+use Rattle.nr_engines.specs.Text.{fault_text, hexadecimal, line_end, rights_text, size_text, space}
+
+-- a page's physical address, its size and its rights
+abbrev pub page_text : ℕ → Size → Rights → List ℕ
+page_text phys size rights = hexadecimal phys ++ (space ++ (size_text size ++ (space ++ rights_text rights)))
+
+-- the name of an answer, and what it tells
+unfoldable pub answer_text : Answer → List ℕ
+answer_text answers.Done = codes "done"
+answer_text (answers.Overlap base) = codes "overlap " ++ hexadecimal base
+answer_text (answers.Full need) = codes "full " ++ decimal need
+answer_text (answers.Removed phys size rights) = codes "removed " ++ page_text phys size rights
+answer_text answers.NotMapped = codes "not mapped"
+answer_text (answers.Inside base) = codes "inside " ++ hexadecimal base
+answer_text (answers.Changed rights) = codes "changed " ++ rights_text rights
+answer_text (answers.Mapped phys size rights) = codes "mapped " ++ page_text phys size rights
+answer_text (answers.Allowed phys) = codes "allowed " ++ hexadecimal phys
+answer_text (answers.Fault code) = codes "fault " ++ decimal code
+
+-- the answer of a call, or that it was stopped
+abbrev pub said_text : Said → List ℕ
+said_text (Answered at answer) = answer_text answer
+said_text Stopped = codes "stopped"
+
+-- the line of a call: its thread, and what came of it
+abbrev pub call_line : ℕ → Said → List ℕ
+call_line thread said = decimal thread ++ (space ++ (said_text said ++ line_end))
+
+-- the lines of a thread's calls
+abbrev pub thread_lines : ℕ × List Said → List ℕ
+thread_lines (thread, said) = flat_map (call_line thread) said
+
+-- the lines of all threads, the first of which is thread 0; and that the run is verified
+abbrev pub verified_text : List (List Said) → List ℕ
+verified_text said = flat_map thread_lines (enumerate_from 0 said) ++ codes "verified\n"
+
+-- the line of a run that is refused, with the first fault of its trace
+abbrev pub refused_text : Fault → List ℕ
+refused_text fault = codes "refused " ++ (fault_text fault ++ line_end)
