@@ -12,7 +12,7 @@ returns-in-Some-clause-err g c =
     inr (record { input = has.input; is_read = has.is_read; script = c.in_ok-script.script; is_script = has.is_script; first = c.in-Some.is })
 
 pub run_named-requires-clause-scripts : goal.run_named-requires-clause-scripts
-run_named-requires-clause-scripts g c κs =
+run_named-requires-clause-scripts g c κs lives =
     let is = c.in-Ok.ensures.1 in
     let scripts = c.in_ok-script.ensures.scripts c.in-Ok.config (ap (λ (l : Layout). l.depth) is) (ap (λ (l : Layout). l.threads) is) in
     let made : AreScripts c.in-Ok.config (scripts_of c.in_ok-script.script) =
