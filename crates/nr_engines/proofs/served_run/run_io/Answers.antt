@@ -26,16 +26,16 @@ returns-clause-ok g c =
     let as_trace = c.args.as_trace in
     IfOk-weaker c.run_named.result _ _
     (λ status h. record {
-        input = has.input;
-        is_read = has.is_read;
-        text = h.0;
-        is_report = record {
-          script = script;
-          runnable = record { is_script = has.is_script; no_step = c.in_default.is };
-          told = subst (λ (l : Layout). TellsRun l (scripts_of script) as_trace h.0 status) c.in-Ok.ensures.1 h.1;
-        };
-        written = h.2;
-      })
+      input = has.input;
+      is_read = has.is_read;
+      text = h.0;
+      is_report = record {
+        script = script;
+        runnable = record { is_script = has.is_script; no_step = c.in_default.is };
+        told = subst (λ (l : Layout). TellsRun l (scripts_of script) as_trace h.0 status) c.in-Ok.ensures.1 h.1;
+      };
+      written = h.2;
+    })
     c.run_named.ensures.ok
 
 pub returns-clause-err : goal.returns-clause-err

@@ -86,6 +86,6 @@ returns-in-Some-run-default-clause-asks c =
     let name_is = ap Some (sym arm.is-run) ∙ arm.ensures.name in
     let sub_is = sym parsed ∙ entered _ (codes "run") (rows_of found) name_is arm.ensures.rows in
     let turns = subst (λ t. IsTurns t c.read_turns-turns.result) (one_text-rows found (codes "turns")) c.read_turns-turns.ensures in
-    let flag = c.get_flag-as_trace-2.ensures in
-    asks_run _ (rows_of found) c.read_setup-setup-2.result c.read_turns-turns.result c.get_flag-as_trace-2.result sub_is c.read_setup-setup-2.ensures turns
+    let flag = c.get_flag-as_trace-in-Some-run-default.ensures in
+    asks_run _ (rows_of found) c.read_setup-setup-in-Some-run-default.result c.read_turns-turns.result c.get_flag-as_trace-in-Some-run-default.result sub_is c.read_setup-setup-in-Some-run-default.ensures turns
     (flag_of _ _ _ (one_text-rows found (codes "trace")) flag.none flag.value flag.other)
