@@ -1,6 +1,7 @@
 -- What a parse by clap tells of the command that is asked for.
 use Rattle.std.proofs.Common.{◌≡◌, ℕ, Bool, true, false, List, [], ◌∷◌, Option, Some, None, Result, Ok, Err, ap, inl, inr, sym, ◌∙◌, refl, subst, codes, option_map, unwrap_or}
 use Rattle.std.proofs.Common.{Bor, Box, IfErr}
+use Rattle.std.specs.Prelude.{⊤}
 use Rattle.std.specs.Result.{IsErrAnd}
 use Rattle.std.specs.Box.{box_value}
 use Rattle.std.specs.Str.Parse.{ParsesUnsigned}
@@ -11,7 +12,7 @@ use Rattle.clap.specs.declared.error.kind.ErrorKind.{ErrorKind}
 use Rattle.clap.specs.declared.parser.matches.SubCommand.{SubCommand}
 use Rattle.clap.specs.declared.parser.matches.ArgMatches.TheViews.{out-SubCommand}
 use Rattle.nrvs.specs.CommandLine.{Asks, IsFlag, IsNumber, IsReplica, IsSetup, IsTurns}
-use Rattle.nr_engines.specs.declared.command.Command.TheVariants.{Resolve, Run, Simulate}
+use Rattle.nr_engines.specs.declared.command.Command.TheVariants.{Audit, Resolve, Run, Simulate}
 use Rattle.nr_engines.specs.declared.setup.Setup.{Setup}
 
 -- one kind more may come
@@ -31,6 +32,18 @@ pub text_or_none : (o : Option (Bor (List ℕ))) (d : Bor (List ℕ)) (t : Optio
     → unwrap_or t [] ≡ (unwrap_or o d).now
 text_or_none None d t e empty = ap (λ x. unwrap_or x []) (sym e) ∙ sym empty
 text_or_none (Some s) d t e empty = ap (λ x. unwrap_or x []) (sym e)
+
+abbrev Is : Option Text → Type 0
+Is None = ⊥
+Is (Some text) = ⊤
+
+-- a subcommand of this name asks for an audit
+pub asks_audit : {Z : Type 0} (o : Option (Box SubCommand Z)) (sub : Option (Text × List Row)) → subcommand_rows o ≡ sub
+    → Some (codes "audit") ≡ option_map (λ b. (out-SubCommand (box_value b)).name.now) o → Asks sub Audit
+asks_audit None sub is n = absurd (subst Is n tt)
+asks_audit (Some b) sub is n =
+    let name_is : (out-SubCommand (box_value b)).name.now ≡ codes "audit" = cc in
+    subst (λ s. Asks s Audit) is name_is
 
 pub asks_resolve : (sub : Option (Text × List Row)) (rows : List Row) (address : Bor (List ℕ)) (replica : ℕ) → sub ≡ Some (codes "resolve", rows)
     → unwrap_or (first_of (codes "address") rows) [] ≡ address.now → IsReplica (one_of (codes "replica") rows) replica → Asks sub (Resolve address replica)
