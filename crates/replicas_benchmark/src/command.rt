@@ -71,8 +71,9 @@ fn print_done<R: Print>(rt: &R, all: &[Done]) -> Result<(), ProgFault> {
             updates,
             sum,
         } = *done;
-        println!(rt; "reads {reads} updates {updates} sum {sum}")
-            .map_err(|_| ProgFault::CannotWrite)?;
+        println!(rt; "reads {reads} updates {updates} sum {sum}").map_err(
+            |_| ProgFault::CannotWrite,
+        )?;
     }
     Ok(())
 }
@@ -93,6 +94,7 @@ fn print_rate<R: Eprint>(
         .saturating_add(u64::from(measured.time.subsec_nanos()));
     let rate = all.saturating_mul(1_000_000_000) / nanos.max(1);
     eprintln!(rt; "operations a second  {:>12}", "call").map_err(|_| ProgFault::CannotWrite)?;
-    eprintln!(rt; "reads_{reads}_{threads}_{replicas}  {rate:>12}")
-        .map_err(|_| ProgFault::CannotWrite)
+    eprintln!(rt; "reads_{reads}_{threads}_{replicas}  {rate:>12}").map_err(
+        |_| ProgFault::CannotWrite,
+    )
 }

@@ -83,9 +83,11 @@ fn measure_named<
         map_pages(rt, first)?;
     }
     let start = Instant::now(rt).map_err(|_| ProgFault::NoClock)?;
-    let results = thread::map_vec(rt, callers, &|caller: Caller<J, K>| -> Result<Done, ProgFault> {
-        call_often(rt, caller, work)
-    })?;
+    let results = thread::map_vec(
+        rt,
+        callers,
+        &|caller: Caller<J, K>| -> Result<Done, ProgFault> { call_often(rt, caller, work) },
+    )?;
     let end = Instant::now(rt).map_err(|_| ProgFault::NoClock)?;
     let mut done = Vec::new(alloc);
     for result in results {
