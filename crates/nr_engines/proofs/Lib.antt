@@ -1,3 +1,5 @@
 pub mod Addresses
 pub mod Input
 pub mod Reports
+pub mod WholeInput
+pub mod Simulations

@@ -16,8 +16,6 @@ use Rattle.nr_audit.specs.Verdict.{IfYes, IsVerdictOf}
 use Rattle.nr_audit.specs.declared.verdict.Verdict.{Verdict}
 use Rattle.nr_engines.specs.Text.{no_text, verdict_text, verdict_status, walk_text}
 use Rattle.nr_engines.specs.Addresses.{SpellsAddress}
-use Rattle.nr_engines.specs.declared.command.Command.{Command}
-use Rattle.nr_engines.specs.declared.command.Command.TheVariants.{Audit, Resolve}
 
 -- of `audit`: the text and the status are those of the verdict of these bytes; where it is yes they are right with its order
 pub record IsAudit (bytes text : List ℕ) (status : ℕ) : Type 0 where
@@ -66,11 +64,6 @@ pub record IsResolve (word : List ℕ) (replica : ℕ) (bytes text : List ℕ) (
   pub address : ℕ
   pub spelled : SpellsAddress word address
   pub is_walk : IsWalk address replica bytes text status
-
--- the text and the status that are those of the command on these bytes
-abbrev pub IsAnswer : Command → List ℕ → List ℕ → ℕ → Type 0
-IsAnswer Audit = IsAudit
-IsAnswer (Resolve word replica) = IsResolve word.now replica
 
 -- the input is that of the reader, where the reader's contract specifies its bytes
 abbrev pub IsReadOf : Option (List ℕ) → List ℕ → Type 0

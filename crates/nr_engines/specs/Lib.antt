@@ -2,6 +2,8 @@ pub mod Text
 pub mod Addresses
 pub mod Answers
 pub mod Refusals
+pub mod Simulation
+pub mod Commands
 pub use Rattle.vs_types.specs.Config
 pub use Rattle.vs_types.specs.Depth
 pub use Rattle.vs_types.specs.Refusal
@@ -13,3 +15,6 @@ pub use Rattle.nr_trace.specs.Feed
 pub use Rattle.nr_trace.specs.FirstFault
 pub use Rattle.nr_audit.specs.Verdict
 pub use Rattle.nr_audit.specs.Headline
+pub use Rattle.nr_core.specs.State
+pub use Rattle.nr_core.specs.Run
+pub use Rattle.nr_script.specs.Script

@@ -1,28 +1,40 @@
 -- The program ends with no answer: why, its exit status, and what it tells standard error.
-use Rattle.std.specs.Prelude.{◌≡◌, ◌≢◌, ℕ, List, codes, Option, Result, Ok, Err, IfErr, ⊤}
+use Rattle.std.specs.Prelude.{◌≡◌, ◌≢◌, ◌++◌, ℕ, List, codes, decimal, Option, Result, Ok, Err, IfErr, ⊤}
 use Rattle.nr_engines.specs.Addresses.{SpellsAddress}
+use Rattle.nr_engines.specs.Text.{line_end}
 use Rattle.nr_engines.specs.Answers.{IsReadOf, IsOutOfItsDepth, LacksReplica}
-use Rattle.nr_engines.specs.declared.command.Command.{Command}
-use Rattle.nr_engines.specs.declared.command.Command.TheVariants.{Audit, Resolve}
 use Rattle.nr_engines.specs.declared.fault.ProgFault.{ProgFault}
-use Rattle.nr_engines.specs.declared.fault.ProgFault.TheVariants.{BadAddress, NotCanonical, NoSuchReplica, CannotRead, CannotWrite, Memory}
+use Rattle.nr_engines.specs.declared.fault.ProgFault.TheVariants.{BadAddress, NotCanonical, NoSuchReplica, InputTooLong, BadLine, CannotRead, CannotWrite, Memory}
 
 -- 3 where memory ran out, else 2
 abbrev pub refusal_status : ProgFault → ℕ
 refusal_status BadAddress = 2
 refusal_status NotCanonical = 2
 refusal_status NoSuchReplica = 2
+refusal_status InputTooLong = 2
+refusal_status (BadLine number) = 2
 refusal_status CannotRead = 2
 refusal_status CannotWrite = 2
 refusal_status Memory = 3
 
+abbrev pub refusal_words : ProgFault → List ℕ
+refusal_words BadAddress = codes "bad address"
+refusal_words NotCanonical = codes "not canonical"
+refusal_words NoSuchReplica = codes "no such replica"
+refusal_words InputTooLong = codes "input too long"
+refusal_words (BadLine number) = codes "bad line "
+refusal_words CannotRead = codes "cannot read"
+refusal_words CannotWrite = codes "cannot write"
+refusal_words Memory = codes "out of memory"
+
+-- these words, and for a bad line its number
 abbrev pub refusal_text : ProgFault → List ℕ
-refusal_text BadAddress = codes "bad address"
-refusal_text NotCanonical = codes "not canonical"
-refusal_text NoSuchReplica = codes "no such replica"
-refusal_text CannotRead = codes "cannot read"
-refusal_text CannotWrite = codes "cannot write"
-refusal_text Memory = codes "out of memory"
+refusal_text (BadLine number) = refusal_words (BadLine number) ++ decimal number
+refusal_text fault = refusal_words fault
+
+-- what standard error is told
+abbrev pub refusal_line : ProgFault → List ℕ
+refusal_line fault = refusal_text fault ++ line_end
 
 -- an end gave an error, or memory ran out: no contract says when
 abbrev pub IsEndFault : ProgFault → Type 0
@@ -46,11 +58,6 @@ IsResolveFault word replica known NotCanonical =
 IsResolveFault word replica known NoSuchReplica =
     (address : ℕ) × SpellsAddress word address × ((input : List ℕ) × IsReadOf known input × LacksReplica input address replica)
 IsResolveFault word replica known _ = (address : ℕ) × SpellsAddress word address
-
--- the fault of the command, where the input is known
-abbrev pub IsRefusal : Command → Option (List ℕ) → ProgFault → Type 0
-IsRefusal Audit known = IsEndFault
-IsRefusal (Resolve word replica) known = IsResolveFault word.now replica known
 
 -- where there is no answer, the writer is as it was, but where it could not be written to
 abbrev pub WritesAnswersAlone : {W : Type 0} → W → W → Result ℕ ProgFault → Type 0

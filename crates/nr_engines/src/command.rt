@@ -1,6 +1,8 @@
 use crate::audit::audit_io;
 use crate::fault::ProgFault;
 use crate::resolve::resolve_io;
+use crate::setup::Setup;
+use crate::simulate::simulate_io;
 use std::alloc::Global;
 use std::io::{Read, Write};
 
@@ -11,18 +13,21 @@ pub enum Command<'a> {
     Audit,
     /// Walk at this address, as the command line spells it, in the dump of this replica.
     Resolve(&'a str, u8),
+    /// Take the protocol's core through the steps of the script; and write the recording instead of the verdict on it.
+    Simulate(Setup, bool),
 }
 
 impl Command<'_> {
     ghost use Rattle.std.specs.Prelude.{IfOk, IfErr};
-    ghost use Rattle.nr_engines.specs.Answers.{HasReadFew, IsAnswer, WritesReport};
-    ghost use Rattle.nr_engines.specs.Refusals.{IsRefusal, WritesAnswersAlone};
+    ghost use Rattle.nr_engines.specs.Answers.{WritesReport};
+    ghost use Rattle.nr_engines.specs.Refusals.{WritesAnswersAlone};
+    ghost use Rattle.nr_engines.specs.Commands.{IsAnswer, IsRefusal, ReadsFew};
 
     /// Runs the command on the input, and gives the exit status.
     ///
     /// # Errors
     ///
-    /// Those of `audit_io`, or of `resolve_io`.
+    /// Those of `audit_io`, of `resolve_io`, or of `simulate_io`.
     pub fn run<R: Read, W: Write>(
         self,
         alloc: Global,
@@ -32,12 +37,15 @@ impl Command<'_> {
         ensures ok { IfOk result (WritesReport (IsAnswer self.entry) (R.remaining reader.old) (W.contents writer.old) (W.contents writer.new)) }
         ensures err { IfErr result (IsRefusal self.entry (R.remaining reader.old)) }
         ensures alone { WritesAnswersAlone writer.old writer.new result }
-        ensures few { HasReadFew (R.remaining reader.old) (R.remaining reader.new) }
+        ensures few { ReadsFew self.entry (R.remaining reader.old) (R.remaining reader.new) }
     {
         match self {
             Command::Audit => audit_io(alloc, reader, writer),
             Command::Resolve(address, replica) => {
                 resolve_io(alloc, reader, writer, address, replica)
+            }
+            Command::Simulate(setup, as_trace) => {
+                simulate_io(alloc, reader, writer, setup, as_trace)
             }
         }
     }

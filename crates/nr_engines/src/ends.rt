@@ -12,13 +12,13 @@ use std::io::{ErrorKind, Read, Write};
 use vs_types::Fail;
 
 /// The most bytes that are read at a time.
-const BLOCK: usize = 4096;
+pub(crate) const BLOCK: usize = 4096;
 
 /// The most bytes that are read of an input: one more than any trace has, so that the last of them is refused.
 const MOST_BYTES: usize = 70_647_893;
 
 /// Reads into the block: how many bytes, none at the end of the input. A read that was interrupted is tried again.
-fn read_block<R: Read>(reader: &mut R, block: &mut [u8]) -> Result<usize, ProgFault>
+pub(crate) fn read_block<R: Read>(reader: &mut R, block: &mut [u8]) -> Result<usize, ProgFault>
     ensures bound { ReadsAtMost result block.new }
     ensures ok { IfOk result (λ count. Consumes (R.remaining reader.old) (R.remaining reader.new) (take count block.new)) }
     ensures end { IfOk result (λ count. count ≡ 0 → 0 < length block.old → IsAtEnd (R.remaining reader.new)) }

@@ -1,5 +1,6 @@
-//! The engines of the program, each over a reader and a writer: `audit_io` writes the verdict on a trace, and `resolve_io`
-//! where an address leads in one of its dumps. What is written is a function of what is read.
+//! The engines of the program, each over a reader and a writer: `audit_io` writes the verdict on a trace, `resolve_io` where an
+//! address leads in one of its dumps, and `simulate_io` the verdict on the protocol's core after the steps of a script. What is
+//! written is a function of what is read.
 #![tactic(auto)]
 
 mod address;
@@ -9,6 +10,9 @@ mod ends;
 mod fault;
 mod report;
 mod resolve;
+mod script_input;
+mod setup;
+mod simulate;
 mod text;
 
 pub use audit::{audit_io, audit_read};
@@ -17,3 +21,6 @@ pub use ends::{read_trace, write_text};
 pub use fault::ProgFault;
 pub use report::Report;
 pub use resolve::{resolve_io, resolve_read};
+pub use script_input::input_script;
+pub use setup::Setup;
+pub use simulate::simulate_io;

@@ -115,10 +115,10 @@ few_steps_kept said reading kept = subst (λ (them : List Step). length them ≤
 few_asked_kept : (said : List Line) (reading : Reading) → IsReadSoFar said reading → length reading.asked.items ≤ 65536
 few_asked_kept said reading kept = subst (λ (them : List (ℕ × Query)). length them ≤ 65536) (sym kept.asked_are) kept.within_limits.requests
 
-pub read_nothing : (said : List Line) (reading : Reading) (number : ℕ) → IsReadSoFar said reading → number ≡ length said + 1
-    → IsReadSoFar (said ++ says.Nothing ∷ []) reading
-read_nothing said reading number kept is =
-    read_more said reading reading says.Nothing number kept is (sym (append-nil reading.asked.items)) refl (sym (append-nil reading.steps.items))
+pub read_passed_over : (said : List Line) (reading : Reading) (number : ℕ) → IsReadSoFar said reading → number ≡ length said + 1
+    → IsReadSoFar (said ++ says.PassedOver ∷ []) reading
+read_passed_over said reading number kept is =
+    read_more said reading reading says.PassedOver number kept is (sym (append-nil reading.asked.items)) refl (sym (append-nil reading.steps.items))
     (sym (or_none reading.first_step)) (few_asked_kept said reading kept) (few_steps_kept said reading kept)
 
 pub read_request : (said : List Line) (old new : Reading) (thread : ℕ) (query : Query) (number : ℕ) → IsReadSoFar said old → number ≡ length said + 1

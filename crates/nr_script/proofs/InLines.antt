@@ -39,7 +39,7 @@ split_off them d some =
 -- after "step" there is no request
 pub no_step : (depth : Depth) (them rest : List (List ℕ)) → them ≡ codes "step" ∷ rest → ((step : Step) → SpellsStep (codes "step" ∷ rest) step → ⊥)
     → (it : Line) → SaysInWords depth them it → ⊥
-no_step depth them rest same none says.Nothing said = said
+no_step depth them rest same none says.PassedOver said = said
 no_step depth them rest same none (says.Request thread query) said =
     let joined = sym same ∙ said.words_are in
     not_number thread said.thread_fits (cc joined)
@@ -48,7 +48,7 @@ no_step depth them rest same none (says.Step step) said = none step (subst (λ (
 -- after another word there is no step
 pub no_request : (depth : Depth) (first : List ℕ) (them rest : List (List ℕ)) → them ≡ first ∷ rest → (first ≡ codes "step" → ⊥)
     → ((it : ℕ × Query) → SpellsRequest depth them it.0 it.1 → ⊥) → (it : Line) → SaysInWords depth them it → ⊥
-no_request depth first them rest same other none says.Nothing said = said
+no_request depth first them rest same other none says.PassedOver said = said
 no_request depth first them rest same other none (says.Request thread query) said = none (thread, query) said
 no_request depth first them rest same other none (says.Step step) said =
     let joined = sym same ∙ said.words_are in
@@ -77,7 +77,7 @@ few_acts Read = omega arith
 few_acts Reply = omega arith
 
 few_words : (depth : Depth) (them : List (List ℕ)) (it : Line) → SaysInWords depth them it → length them < 7
-few_words depth them says.Nothing said = absurd said
+few_words depth them says.PassedOver said = absurd said
 few_words depth them (says.Request thread query) said =
     let few = few_arguments query said.arguments said.arguments_are in
     omega (arith, ap length said.words_are)
@@ -93,13 +93,13 @@ InWords depth line it = SaysInWords depth (words line) it
 
 -- a line that is neither empty nor a comment says what its words say
 by_words : (depth : Depth) (line : List ℕ) (it : Line) → 0 < length line → (get_or line 0 0 ≡ 35 → ⊥) → Says depth line it → InWords depth line it
-by_words depth line says.Nothing some other (inl empty) = absurd (omega (arith, ap length empty))
-by_words depth line says.Nothing some other (inr comment) = absurd (other (ap (λ (text : List ℕ). get_or text 0 0) comment.1))
+by_words depth line says.PassedOver some other (inl empty) = absurd (omega (arith, ap length empty))
+by_words depth line says.PassedOver some other (inr comment) = absurd (other (ap (λ (text : List ℕ). get_or text 0 0) comment.1))
 by_words depth line (says.Request thread query) some other said = said
 by_words depth line (says.Step step) some other said = said
 
 from_words : (depth : Depth) (line : List ℕ) (it : Line) → InWords depth line it → Says depth line it
-from_words depth line says.Nothing said = absurd said
+from_words depth line says.PassedOver said = absurd said
 from_words depth line (says.Request thread query) said = said
 from_words depth line (says.Step step) said = said
 

@@ -7,3 +7,4 @@ pub mod ByName
 pub mod InLines
 pub mod Gathered
 pub mod Shares
+pub mod OneReading

@@ -1,10 +1,9 @@
 -- What each thread asks is its share of what is asked: the shares are no more than the whole, and well formed.
-use Rattle.std.proofs.Common.{◌≡◌, ◌≢◌, ℕ, ◌+◌, ◌<◌, ◌≤◌, ◌++◌, ◌==◌, max, Bool, true, false, cond, List, [], ◌∷◌, zero, suc, length, map, filter, refl, sym, ap, subst, ◌∙◌, arith}
-use Rattle.std.proofs.Common.{get_or}
+use Rattle.std.proofs.Common.{◌≡◌, ℕ, ◌+◌, ◌<◌, ◌≤◌, ◌==◌, max, Bool, true, false, cond, List, [], ◌∷◌, zero, suc, length, map, filter, refl, sym, ap, subst, ◌∙◌, arith}
 use Rattle.std.specs.List.{All, AllByRecursion, AllZip, fold, range_with_len, sum_by}
 use Rattle.std.proofs.lemmas.Bool.Decides.{nat_tests}
 use Rattle.std.proofs.lemmas.List.Elements.{All-from_recursion}
-use Rattle.std.proofs.lemmas.List.FromFn.{get_or-map-range_with_len, length-map-range_with_len}
+use Rattle.std.proofs.lemmas.List.FromFn.{length-map-range_with_len}
 use Rattle.std.proofs.lemmas.List.Sums.{sum_by-cons}
 use Rattle.vs_types.specs.Config.{Layout}
 use Rattle.vs_types.specs.Query.{IsQuery}
@@ -12,7 +11,7 @@ use Rattle.vs_types.specs.declared.depth.Depth.{Depth}
 use Rattle.vs_types.specs.declared.request.Query.{Query}
 use Rattle.nr_core.specs.Run.{AreScripts}
 use Rattle.nr_script.specs.Lines.{Says}
-use Rattle.nr_script.specs.Script.{asked, request_in, requests_by, thread_count, IsScript, IsWithinLimits}
+use Rattle.nr_script.specs.Script.{asked, requests_by, thread_count, IsScript}
 use Rattle.nr_script.specs.Words.{lines}
 use Rattle.nr_script.specs.declared.line.Line.{Line}
 use Rattle.nr_script.specs.declared.line.Line.TheVariants as says
@@ -26,7 +25,7 @@ all_asked : (depth : Depth) (texts : List (List ℕ)) (said : List Line) → All
 all_asked depth [] [] all = tt
 all_asked depth [] (it ∷ said) all = absurd all
 all_asked depth (text ∷ texts) [] all = absurd all
-all_asked depth (text ∷ texts) (says.Nothing ∷ said) all = all_asked depth texts said all.1
+all_asked depth (text ∷ texts) (says.PassedOver ∷ said) all = all_asked depth texts said all.1
 all_asked depth (text ∷ texts) (says.Step step ∷ said) all = all_asked depth texts said all.1
 all_asked depth (text ∷ texts) (says.Request thread query ∷ said) all = ((all.0.thread_fits, all.0.well_formed), all_asked depth texts said all.1)
 

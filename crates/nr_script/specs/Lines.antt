@@ -1,5 +1,5 @@
--- What a line of a script says, by its words: a request of a thread, or a step of a thread. An empty line and a comment say
--- nothing.
+-- What a line of a script says, by its words: a request of a thread, or a step of a thread. An empty line and a comment are
+-- passed over.
 use Rattle.std.specs.Prelude.{◌≡◌, ◌<◌, ◌⊎◌, ◌++◌, ℕ, List, [], ◌∷◌, codes, decimal}
 use Rattle.vs_types.specs.Query.{IsQuery}
 use Rattle.vs_types.specs.declared.depth.Depth.{Depth}
@@ -57,6 +57,6 @@ abbrev pub IsPassedOver : List ℕ → Type 0
 IsPassedOver line = (line ≡ []) ⊎ ((rest : List ℕ) × (line ≡ codes "#" ++ rest))
 
 abbrev pub Says : Depth → List ℕ → Line → Type 0
-Says depth line says.Nothing = IsPassedOver line
+Says depth line says.PassedOver = IsPassedOver line
 Says depth line (says.Request thread query) = SpellsRequest depth (words line) thread query
 Says depth line (says.Step step) = SpellsStep (words line) step

@@ -46,7 +46,7 @@ pub record IsWithinLimits (said : List Line) : Type 0 where
   pub requests : length (asked said) ≤ 65536
   pub steps : length (steps_of said) ≤ 1000000
 
--- each line says something, which is within the limits, and the script is what they say
+-- each line has a form, all of them are within the limits, and the script is what they say
 pub record IsScript (depth : Depth) (bytes : List ℕ) (script : Script) : Type 0 where
   pub said : List Line
   pub each_says : AllZip (Says depth) (lines bytes) said
@@ -56,7 +56,7 @@ pub record IsScript (depth : Depth) (bytes : List ℕ) (script : Script) : Type 
   pub steps_are : script.steps.items ≡ steps_of said
   pub first_step_is : script.first_step ≡ first_step_in said
 
--- a line that says nothing at all, or what goes past the limits after what the lines before it say
+-- a line that has no form, or what goes past the limits after what the lines before it say
 abbrev pub IsBadAfter : Depth → List Line → List ℕ → Type 0
 IsBadAfter depth said line =
     ((it : Line) → Says depth line it → ⊥) ⊎ ((it : Line) × Says depth line it × (IsWithinLimits (said ++ it ∷ []) → ⊥))

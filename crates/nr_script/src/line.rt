@@ -15,8 +15,8 @@ use vs_types::{Depth, Request};
 /// What a line says.
 #[derive(Clone, Copy, Debug, PartialEq, Eq)]
 pub enum Line {
-    /// It is empty, or a comment.
-    Nothing,
+    /// It is empty or a comment, and is passed over.
+    PassedOver,
     /// This thread asks this.
     Request(u16, Request),
     /// A step.
@@ -62,7 +62,7 @@ pub(crate) fn parse_line(depth: Depth, line: &[u8]) -> Option<Line>
     ensures { Finds (Says depth line.now) result }
 {
     if line.is_empty() || line[0] == b'#' {
-        return Some(Line::Nothing);
+        return Some(Line::PassedOver);
     }
     let words = split_words(line);
     parse_words(depth, words.as_slice())

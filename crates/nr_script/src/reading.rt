@@ -69,7 +69,7 @@ impl Reading {
             return Err(Fail::Refused(BadLine(number)));
         };
         match said {
-            Line::Nothing => {}
+            Line::PassedOver => {}
             Line::Request(thread, request) => {
                 if self.asked.len() >= SCRIPT_REQUESTS {
                     return Err(Fail::Refused(BadLine(number)));

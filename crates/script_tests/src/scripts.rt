@@ -60,9 +60,8 @@ const REQUESTS: &[u8] = b"# each request
 1 map 4K 0x1000 0x7FFFFFFFFF000 wux";
 
 #[test]
-fn each_request(rt: HostRuntime) -> Result<(), Fail> {
-    let four = Depth::Four;
-    let script = script_of(rt.alloc(), four, REQUESTS).expect(&rt, "it is a script");
+fn requests_of_each_thread(rt: HostRuntime) -> Result<(), Fail> {
+    let script = script_of(rt.alloc(), Depth::Four, REQUESTS).expect(&rt, "it is a script");
     assert_eq!(rt; script.threads, 64);
     assert_eq!(rt; script.requests.len(), 64);
     for (thread, list) in script.requests.iter().enumerate() {
@@ -73,6 +72,15 @@ fn each_request(rt: HostRuntime) -> Result<(), Fail> {
         };
         assert_eq!(rt; list.len(), many);
     }
+    assert!(rt; script.steps.is_empty());
+    assert_eq!(rt; script.first_step, None);
+    Ok(())
+}
+
+#[test]
+fn each_update(rt: HostRuntime) -> Result<(), Fail> {
+    let four = Depth::Four;
+    let script = script_of(rt.alloc(), four, REQUESTS).expect(&rt, "it is a script");
     let high = Op::map(
         four,
         0xFFFF_FFFF_C000_0000,
@@ -85,6 +93,18 @@ fn each_request(rt: HostRuntime) -> Result<(), Fail> {
     assert!(rt;
         asked(&script, 0, 1) == update(Op::protect(four, 0xAB_C000, rights(false, true, false)))
     );
+    assert!(rt;
+        asked(&script, 0, 5) == update(Op::map(four, 0x4000_0000, Size::G1, 0, Rights::NONE))
+    );
+    let last = Op::map(four, 0x1000, Size::K4, 0x7_FFFF_FFFF_F000, Rights::ALL);
+    assert!(rt; asked(&script, 1, 0) == update(last));
+    Ok(())
+}
+
+#[test]
+fn each_read(rt: HostRuntime) -> Result<(), Fail> {
+    let four = Depth::Four;
+    let script = script_of(rt.alloc(), four, REQUESTS).expect(&rt, "it is a script");
     assert!(rt; asked(&script, 0, 2) == Request::resolve(four, 0).ok());
     assert!(rt;
         asked(&script, 63, 0)
@@ -96,13 +116,6 @@ fn each_request(rt: HostRuntime) -> Result<(), Fail> {
     assert!(rt;
         asked(&script, 0, 4) == Request::access(four, 11, Mode::Supervisor, Access::Fetch).ok()
     );
-    assert!(rt;
-        asked(&script, 0, 5) == update(Op::map(four, 0x4000_0000, Size::G1, 0, Rights::NONE))
-    );
-    let last = Op::map(four, 0x1000, Size::K4, 0x7_FFFF_FFFF_F000, Rights::ALL);
-    assert!(rt; asked(&script, 1, 0) == update(last));
-    assert!(rt; script.steps.is_empty());
-    assert_eq!(rt; script.first_step, None);
     Ok(())
 }
 

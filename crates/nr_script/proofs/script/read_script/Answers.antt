@@ -1,5 +1,5 @@
 use Rattle.std.proofs.Common.{◌∙◌}
-use Rattle.std.proofs.Common.{◌≤◌, arith}
+use Rattle.std.proofs.Common.{arith}
 use Rattle.nr_script.specs.Words.{lines}
 use Rattle.nr_script.proofs.Gathered.{all_by_thread}
 use Rattle.nr_script.proofs.Shares.{scripts_of, threads_in_range}

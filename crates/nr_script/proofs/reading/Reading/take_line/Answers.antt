@@ -2,7 +2,7 @@ use Rattle.std.proofs.Common.{◌<◌, ◌≤◌, length, ap, subst, refl, inr, 
 use Rattle.nr_script.specs.Lines.{Says}
 use Rattle.nr_script.specs.Script.{request_in}
 use Rattle.nr_script.specs.declared.line.Line.{Line}
-use Rattle.nr_script.proofs.Gathered.{past_requests, read_nothing, read_request, read_step}
+use Rattle.nr_script.proofs.Gathered.{past_requests, read_passed_over, read_request, read_step}
 use Rattle.nr_script.proofs.reading.Reading.take_line.Goals as goal
 
 pub returns-then-len-ge-SCRIPT_REQUESTS : goal.returns-then-len-ge-SCRIPT_REQUESTS
@@ -17,11 +17,11 @@ returns-then-len-ge-SCRIPT_REQUESTS c = λ said kept is.
       ),
     )
 
-pub returns-in-Nothing : goal.returns-in-Nothing
-returns-in-Nothing c = λ said kept is. (
+pub returns-in-PassedOver : goal.returns-in-PassedOver
+returns-in-PassedOver c = λ said kept is. (
   _,
-  subst (λ (it : Line). Says c.args.depth c.args.line.now it) c.in-Nothing.is c.in-Some.ensures,
-  read_nothing said c.args.self.now c.args.number kept is,
+  subst (λ (it : Line). Says c.args.depth c.args.line.now it) c.in-PassedOver.is c.in-Some.ensures,
+  read_passed_over said c.args.self.now c.args.number kept is,
 )
 
 pub returns-in_ok-ask-in-Request : goal.returns-in_ok-ask-in-Request
