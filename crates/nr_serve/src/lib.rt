@@ -15,4 +15,3 @@ mod worker;
 pub use always_go::AlwaysGo;
 pub use no_thread::NoThread;
 pub use said::Said;
-pub use worker::Worker;
