@@ -1,4 +1,4 @@
-use Rattle.std.proofs.Common.{◌≡◌, ◌+◌, ◌≤◌, List, [], sym, subst, arith}
+use Rattle.std.proofs.Common.{◌+◌, List, sym, subst, arith}
 use Rattle.nr_serve.specs.Calls.{IsServed}
 use Rattle.nr_serve.specs.declared.said.Said.{Said}
 use Rattle.nr_serve.specs.inside.Working.{IsAnswer, IsUnderWay}

@@ -1,4 +1,4 @@
-use Rattle.std.proofs.Common.{◌≡◌, ◌≤◌, length}
+use Rattle.std.proofs.Common.{◌≤◌, length}
 use Rattle.std.specs.Prelude.{vec_capacity}
 use Rattle.nr_serve.specs.inside.Working.{IsUnderWay}
 use Rattle.nr_serve.proofs.job.work_through.Given as goal

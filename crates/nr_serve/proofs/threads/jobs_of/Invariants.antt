@@ -1,4 +1,4 @@
-use Rattle.std.proofs.Common.{◌≡◌, ◌+◌, ◌≤◌, ◌++◌, length, map}
+use Rattle.std.proofs.Common.{◌≡◌, ◌+◌, ◌++◌, length, map}
 use Rattle.nr_serve.specs.inside.Working.{jobs_from}
 use Rattle.nr_serve.proofs.threads.jobs_of.Given as goal
 

@@ -1,4 +1,4 @@
-use Rattle.std.proofs.Common.{◌≡◌, List, map, subst}
+use Rattle.std.proofs.Common.{List, subst}
 use Rattle.std.specs.List.{AllZip}
 use Rattle.nr_serve.specs.Calls.{WorkerState}
 use Rattle.nr_serve.specs.inside.Working.{IsDone, JobState}
