@@ -1,24 +1,23 @@
 -- What a run is given, and what it has to show for it.
-use Rattle.std.specs.Prelude.{◌≡◌, ℕ, ◌≤◌, ◌==◌, List, All, Some, false, length, map, take, filter, slice_get, sum_by}
+use Rattle.std.specs.Prelude.{◌≡◌, ℕ, ◌≤◌, ◌==◌, List, All, Some, false, length, map, take, filter, slice_get, sum_by, ⊤}
 use Rattle.std.specs.Option.{option_map_or}
 use Rattle.vs_types.specs.Config.{Layout}
 use Rattle.vs_types.specs.Query.{IsQuery}
 use Rattle.vs_types.specs.declared.limits.TheConstants.{LOG_PLACES}
-use Rattle.vs_types.specs.declared.log_entry.LogEntry.{LogEntry}
 use Rattle.vs_types.specs.declared.op.Action.{Action}
 use Rattle.vs_types.specs.declared.request.Query.{Query}
 use Rattle.nr_trace.specs.Calls.{Invocation, IsRead, Response, call_of, operation_of, reply_to}
-use Rattle.nr_trace.specs.Laws.{IsFaultless}
-use Rattle.nr_trace.specs.Orders.{below, recorded_order}
+use Rattle.nr_trace.specs.Orders.{below}
 use Rattle.nr_trace.specs.Recording.{Recording}
-use Rattle.nr_trace.specs.Spelling.{Spells}
+use Rattle.nr_trace.specs.declared.fault.Fault.{Fault}
 use Rattle.nr_ring.specs.LogHistory.{IsLogHistory, log_after}
 use Rattle.nr_ring.specs.Pass.{Known}
 use Rattle.nr_ring.specs.View.{StartsWith}
 use Rattle.nr_ring.specs.declared.log_event.LogEvent.{LogEvent}
 use Rattle.nr_record.specs.Pen.{replica_of}
-use Rattle.nr_audit.specs.Headline.{AreRightWith}
 use Rattle.nr_serve.specs.Calls.{HasAllOrStopped, StopsLast}
+use Rattle.nr_serve.specs.declared.outcome.Outcome.{Outcome}
+use Rattle.nr_serve.specs.declared.outcome.Outcome.TheVariants.{Refused, Verified}
 use Rattle.nr_serve.specs.declared.said.Said.{Said}
 use Rattle.nr_serve.specs.declared.said.Said.TheVariants.{Answer, Stopped}
 
@@ -65,19 +64,21 @@ pub record IsLogOf (layout : Layout) (calls : List ℕ) (passes : List Known) : 
   pub begins : All (λ pass. StartsWith history pass.view.seen) passes
   pub calls_are : calls ≡ map (λ entry. entry.call) (log_after layout.replicas history).entries
 
--- a verified run of these scripts: its bytes spell a trace of its configuration, which has just the calls of its threads; its answers
--- are those of the trace; its passes have seen all on which these rest; and the trace is right, with this order
-pub record IsVerified (layout : Layout) (scripts : List (List Query)) (answers : List (List Said)) (bytes order : List ℕ) (passes : List Known)
-    : Type 0 where
-  pub trace : Recording
-  pub spelled : Spells bytes trace
-  pub layout_is : trace.layout ≡ layout
-  pub answers_each : length answers ≡ layout.threads
-  pub calls : (thread : ℕ) (script : List Query) (said : List Said) → slice_get scripts thread ≡ Some script → slice_get answers thread ≡ Some said
-      → AreCallsOf trace thread script said
-  pub passes_each : length passes ≡ layout.threads
-  pub log : IsLogOf layout trace.log passes
-  pub seen : (thread : ℕ) (pass : Known) → slice_get passes thread ≡ Some pass → HasSeenAnswers trace thread pass
-  pub faultless : IsFaultless trace
-  pub order_is : order ≡ recorded_order trace
-  pub right : AreRightWith bytes order
+-- each thread's calls are those of its script, and its answers what came of them
+abbrev pub AreAllCallsOf : Recording → List (List Query) → List (List Said) → Type 0
+AreAllCallsOf trace scripts answers = (thread : ℕ) (script : List Query) (items : List Said) → slice_get scripts thread ≡ Some script
+    → slice_get answers thread ≡ Some items → AreCallsOf trace thread script items
+
+-- each thread's pass has seen all on which its answers rest
+abbrev pub HaveSeenAnswers : Recording → List Known → Type 0
+HaveSeenAnswers trace passes = (thread : ℕ) (pass : Known) → slice_get passes thread ≡ Some pass → HasSeenAnswers trace thread pass
+
+-- where the outcome is a verified run, its answers, trace, order and passes have the property
+abbrev pub IfVerified : {J : Type 0} → (List (List Said) → List ℕ → List ℕ → List Known → Type 0) → Outcome J → Type 0
+IfVerified P (Verified answers trace order passes) = P answers trace order passes
+IfVerified P (Refused trace fault) = ⊤
+
+-- where it is refused, the trace and its fault have the property
+abbrev pub IfRefused : {J : Type 0} → (List ℕ → Fault → Type 0) → Outcome J → Type 0
+IfRefused P (Verified answers trace order passes) = ⊤
+IfRefused P (Refused trace fault) = P trace fault

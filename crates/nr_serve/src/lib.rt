@@ -4,9 +4,12 @@
 #![tactic(auto)]
 
 mod always_go;
+mod ending;
 mod job;
 mod no_thread;
+mod outcome;
 mod promise;
+mod running;
 mod said;
 mod team;
 mod threads;
@@ -14,4 +17,6 @@ mod worker;
 
 pub use always_go::AlwaysGo;
 pub use no_thread::NoThread;
+pub use outcome::{Answers, Outcome, Passes, TraceBytes};
+pub use running::run;
 pub use said::Said;

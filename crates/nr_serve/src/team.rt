@@ -16,6 +16,7 @@ use std::sync::Wait;
 use vs_types::{Answer, Query, Request};
 
 /// What all threads of a run share: the replicas, the clock, the gate, and how many turns each call has.
+#[derive(Drop)]
 pub(crate) struct Team<'a, J: LogName, K: ReplicasName, G: Gate> {
     pub(crate) replicas: &'a Replicas<J, K>,
     pub(crate) clock: &'a Clock,
