@@ -6,7 +6,7 @@ ghost use Rattle.vs_types.specs.declared.limits.TheConstants.{CALLS, LOG_PLACES}
 ghost use Rattle.nr_trace.specs.declared.version.Version.TheVariants.{V1};
 ghost use Rattle.nr_record.specs.Events.{FitsFirst, HasNotes, events_of};
 ghost use Rattle.nr_record.specs.Pen.{AreAllPens, stamps_of};
-ghost use Rattle.nr_record.specs.Stamps.{AreBelow};
+ghost use Rattle.nr_record.specs.Stamps.{AreBelow, Rise};
 ghost use Rattle.nr_record.specs.inside.Held.{IsTrueOf};
 
 use crate::clock::Clock;
@@ -65,6 +65,7 @@ pub fn finish(
     requires log { length log.items ≤ LOG_PLACES }
     requires dumps { (length dumps.items ≡ config.replicas) × All (λ dump. 1 ≤ finite.len dump.frames) dumps.items }
     ensures stamps { IfOk result (λ trace. AreBelow (length trace.events) (flat_map stamps_of pens.items)) }
+    ensures rising { OnOk result (All (λ pen. Rise (stamps_of pen)) pens.items) }
     ensures events { IfOk result (λ trace. All (HasNotes trace.events) pens.items) }
     ensures threads { IfOk result (λ trace. All (λ pen. events_of pen.thread trace.events ≡ map (λ item. item.event) pen.made) pens.items) }
     ensures handed_in { IfOk result (λ trace. (trace.layout ≡ config) × (trace.log ≡ log.items) × (trace.dumps ≡ dumps.items)) }

@@ -76,3 +76,6 @@ returns-clause-threads c =
     let is = sym run ∙ ap (λ (trace : Recording). trace.events) (sym c.in-Ok.ensures.0) in
     subst (λ (es : List Event). All (λ (pen : PenState). events_of pen.thread es ≡ map (λ item. item.event) pen.made) pens) is
     (run_by_thread n (Reply 0 0 Done) c.args.clock pens gathered.stamps.0 c.requires.pens gathered.each)
+
+pub returns-clause-rising : goal.returns-clause-rising
+returns-clause-rising c = λ k d lt. (c.in_ok-count.ensures.each k d lt).rising

@@ -1,0 +1,300 @@
+-- The calls of a trace are those of the threads whose pens it was made of.
+use Rattle.std.proofs.Common.{◌≡◌, ℕ, zero, suc, ◌<◌, ◌≤◌, Bool, true, false, List, [], ◌∷◌, All, Contains, length, get_or, map, eqb, eq-eqb, refl, ap, sym, ◌∙◌, subst, arith}
+use Rattle.std.specs.Prelude.{Option, None, Some, IsSome, slice_get, option_and_then, take}
+use Rattle.std.specs.Option.{option_map_or}
+use Rattle.std.proofs.lemmas.List.{get_or-map, length-map}
+use Rattle.std.proofs.lemmas.List.Elements.{All-contains, All-head, All-map, All-tail}
+use Rattle.std.proofs.lemmas.Option.{get_or_from_slice_get, slice_get-get_or, slice_get_within}
+use Rattle.std.proofs.lemmas.Bool.Decides.{Decides-eqb, nat_tests}
+use Rattle.vs_types.specs.Config.{Layout}
+use Rattle.vs_types.specs.declared.op.Action.{Action}
+use Rattle.vs_types.specs.declared.request.Query.{Query}
+use Rattle.vs_types.specs.declared.request.Query.TheVariants.{Update, Resolve, Access}
+use Rattle.nr_ring.specs.LogHistory.{Log, log_after}
+use Rattle.nr_ring.specs.Pass.{Known, TableId}
+use Rattle.nr_trace.specs.Calls.{Invocation, Response, address_in, call_of, made_by, operation_in, reply_to}
+use Rattle.nr_trace.specs.Recording.{Recording}
+use Rattle.nr_trace.specs.declared.event.Event.{Event}
+use Rattle.nr_trace.specs.declared.event.Event.TheVariants.{Call, Reply}
+use Rattle.nr_record.specs.Events.{HasNotes, events_of}
+use Rattle.nr_record.specs.Pen.{ClockId, PenState, call_by, stamps_of}
+use Rattle.nr_record.specs.Stamps.{Rise, once_below}
+use Rattle.nr_record.specs.declared.stamped.Stamped.{Stamped}
+use Rattle.nr_record.proofs.Finished.{pen_of_stamp}
+use Rattle.nr_serve.specs.Calls.{AreServed, HasAllOrStopped, IsServed, IsTrueOf, MadeCall, StopsLast, WorkerState}
+use Rattle.nr_serve.specs.Run.{AreCallsOf, HasSeenAnswers, asked_by, calls_of, said_of}
+use Rattle.nr_serve.specs.inside.Ending.{AreRecorded, pens_of}
+use Rattle.nr_serve.specs.declared.said.Said.{Said}
+use Rattle.nr_serve.specs.declared.said.Said.TheVariants.{Answer, Stopped}
+use Rattle.nr_serve.proofs.Notes.{AreNoted, answers_are, made_calls, note_is_call, numbers, response, rise_numbers, spoken, stamps}
+use Rattle.nr_serve.proofs.Numbers.{passes_below}
+
+pub unmapped : {X Y : Type 0} (f : X → Y) (xs : List X) (k : ℕ) (y : Y) → slice_get (map f xs) k ≡ Some y → (x : X) × (slice_get xs k ≡ Some x) × (f x ≡ y)
+unmapped f [] k y at = absurd cc
+unmapped f (x ∷ xs) zero y at = (x, refl, cc)
+unmapped f (x ∷ xs) (suc k) y at = unmapped f xs k y at
+
+pub present : {X : Type 0} (xs : List X) (k : ℕ) → k < length xs → (x : X) × (slice_get xs k ≡ Some x)
+present [] k lt = absurd (omega arith)
+present (x ∷ xs) zero lt = (x, refl)
+present (x ∷ xs) (suc k) lt = present xs k (omega arith)
+
+all_at : {X : Type 0} (P : X → Type 0) (xs : List X) (k : ℕ) (x : X) → All P xs → slice_get xs k ≡ Some x → P x
+all_at P xs k x all at = subst P (get_or_from_slice_get xs k x x at) (all k x (slice_get_within xs k x at))
+
+mapped : {X Y : Type 0} (f : X → Y) (xs : List X) (k : ℕ) (x : X) → slice_get xs k ≡ Some x → slice_get (map f xs) k ≡ Some (f x)
+mapped f [] k x at = absurd cc
+mapped f (y ∷ ys) zero x at = let same : y ≡ x = cc in ap (λ z. Some (f z)) same
+mapped f (y ∷ ys) (suc k) x at = mapped f ys k x at
+
+-- a thread's calls stand in the events as its notes say
+noted_of : (clock : ClockId) (log : TableId) (thread : ℕ) (script : List Query) (worker : WorkerState) (workers : List WorkerState) (events : List Event)
+    → AreRecorded events (pens_of workers) → slice_get workers thread ≡ Some worker → (served : IsServed clock log thread script worker)
+    → AreNoted events clock.layout thread served.calls
+noted_of clock log thread script worker workers events are at served =
+    let pens = pens_of workers in
+    let pen = worker.pen in
+    let here : slice_get pens thread ≡ Some pen = mapped (λ (w : WorkerState). w.pen) workers thread worker at in
+    record {
+      rising = subst (λ (made : List Stamped). Rise (stamps made)) served.notes (all_at (λ (p : PenState). Rise (stamps_of p)) pens thread pen are.rising here);
+      noted = subst (λ (made : List Stamped). All (λ (item : Stamped). slice_get events item.stamp ≡ Some item.event) made) served.notes
+          (all_at (HasNotes events) pens thread pen are.noted here);
+      own = ap (λ (t : ℕ). events_of t events) (sym served.of_thread)
+          ∙ all_at (λ (p : PenState). events_of p.thread events ≡ map (λ (item : Stamped). item.event) p.made) pens thread pen are.own here
+          ∙ ap spoken served.notes;
+    }
+
+-- whether the event of this index is a call of the thread
+abbrev makes : ℕ → List Event → ℕ → Bool
+makes thread events call = option_map_or (λ made. eqb made.thread thread) (option_and_then made_by (slice_get events call)) false
+
+abbrev tested : ℕ → Option Event → Bool
+tested thread event = option_map_or (λ (made : Invocation). eqb made.thread thread) (option_and_then made_by event) false
+
+false_true : false ≡ true → ⊥
+false_true e = cc
+
+record IsCallAt (events : List Event) (thread i : ℕ) : Type 0 where
+  replica : ℕ
+  request : Query
+  at : slice_get events i ≡ Some (Call replica thread request)
+
+called_by : (events : List Event) (thread i : ℕ) → makes thread events i ≡ true → (o : Option Event) → slice_get events i ≡ o → IsCallAt events thread i
+called_by events thread i holds None at = absurd (false_true (sym (ap (tested thread) at) ∙ holds))
+called_by events thread i holds (Some (Reply call place answer)) at = absurd (false_true (sym (ap (tested thread) at) ∙ holds))
+called_by events thread i holds (Some (Call replica who request)) at =
+    let test : eqb who thread ≡ true = sym (ap (tested thread) at) ∙ holds in
+    let same : who ≡ thread = (Decides-eqb who thread).0 test in
+    record { replica = replica; request = request; at = at ∙ ap (λ (t : ℕ). Some (Call replica t request)) same }
+
+called : (events : List Event) (thread i : ℕ) → makes thread events i ≡ true → IsCallAt events thread i
+called events thread i holds = called_by events thread i holds (slice_get events i) refl
+
+all_make : (events : List Event) (layout : Layout) (thread : ℕ) (calls : List MadeCall) → AreNoted events layout thread calls
+    → All (λ i. makes thread events i ≡ true) (numbers calls)
+all_make events layout thread calls are =
+    All-map (λ (i : ℕ). makes thread events i ≡ true) (λ (call : MadeCall). call.number) calls
+    (λ k d lt. ap (tested thread) (made_calls events layout thread calls are k d lt) ∙ eq-eqb thread thread refl)
+
+all_within : (events : List Event) (layout : Layout) (thread : ℕ) (calls : List MadeCall) → AreNoted events layout thread calls
+    → All (λ i. i < length events) (numbers calls)
+all_within events layout thread calls are =
+    All-map (λ (i : ℕ). i < length events) (λ (call : MadeCall). call.number) calls
+    (λ k d lt. slice_get_within events (get_or calls k d).number (call_by layout thread (get_or calls k d).request)
+    (made_calls events layout thread calls are k d lt))
+
+once_in : (n stamp : ℕ) → stamp < n → once_below n stamp ≡ suc zero
+once_in n stamp lt = grind (arith, nat_tests)
+
+-- an event that is a call of the thread is one of the calls that its notes say
+only_own : (clock : ClockId) (log : TableId) (scripts : List (List Query)) (workers : List WorkerState) (events : List Event)
+    → AreServed clock log scripts workers → AreRecorded events (pens_of workers) → (thread : ℕ) (script : List Query) (worker : WorkerState)
+    → slice_get workers thread ≡ Some worker → (served : IsServed clock log thread script worker)
+    → (i : ℕ) → makes thread events i ≡ true → Contains (numbers served.calls) i
+only_own clock log scripts workers events all are thread script worker at served i holds =
+    let pens = pens_of workers in
+    let call = called events thread i holds in
+    let lt = slice_get_within events i (Call call.replica thread call.request) call.at in
+    let found = pen_of_stamp pens i (omega (arith, are.stamps i, once_in (length events) i lt)) in
+    let pen = found.0 in
+    let item = found.2.0 in
+    let stands = All-contains (λ (other : Stamped). slice_get events other.stamp ≡ Some other.event) pen.made item
+    (All-contains (HasNotes events) pens pen are.noted found.1) found.2.1 in
+    let stands' : slice_get events i ≡ Some item.event = subst (λ (s : ℕ). slice_get events s ≡ Some item.event) found.2.2 stands in
+    let both : Some item.event ≡ Some (Call call.replica thread call.request) = sym stands' ∙ call.at in
+    let event : item.event ≡ Call call.replica thread call.request = cc in
+    let k : ℕ = found.1.0 in
+    let long = length-map workers (λ (w : WorkerState). w.pen) in
+    let within : k < length workers = omega (arith, found.1.1, long) in
+    let other : WorkerState = get_or workers k worker in
+    let other_at : slice_get workers k ≡ Some other = slice_get-get_or workers k worker within in
+    let pen_is : pen ≡ other.pen = sym found.1.2 ∙ get_or-map (λ (w : WorkerState). w.pen) workers k worker pen within in
+    let its = present scripts k (omega (arith, within, all.one_each)) in
+    let others = all.each k its.0 other its.1 other_at in
+    let theirs = subst (λ (made : List Stamped). Contains made item) (ap (λ (p : PenState). p.made) pen_is ∙ others.notes) found.2.1 in
+    let one = note_is_call clock.layout k others.calls item call.replica thread call.request theirs event in
+    let same : Some other ≡ Some worker = sym other_at ∙ ap (λ (j : ℕ). slice_get workers j) (sym one.by_thread) ∙ at in
+    let worker_is : other ≡ worker = cc in
+    let mine = subst (λ (made : List Stamped). Contains made item)
+    (ap (λ (p : PenState). p.made) (pen_is ∙ ap (λ (w : WorkerState). w.pen) worker_is) ∙ served.notes) found.2.1 in
+    subst (λ (s : ℕ). Contains (numbers served.calls) s) found.2.2
+    (note_is_call clock.layout thread served.calls item call.replica thread call.request mine event).is_call
+
+calls_are : (clock : ClockId) (log : TableId) (scripts : List (List Query)) (workers : List WorkerState) (trace : Recording)
+    → AreServed clock log scripts workers → AreRecorded trace.events (pens_of workers) → (thread : ℕ) (script : List Query) (worker : WorkerState)
+    → slice_get workers thread ≡ Some worker → (served : IsServed clock log thread script worker)
+    → calls_of trace thread ≡ numbers served.calls
+calls_are clock log scripts workers trace all are thread script worker at served =
+    let noted = noted_of clock log thread script worker workers trace.events are at served in
+    let calls = served.calls in
+    passes_below (makes thread trace.events) (numbers calls) (length trace.events) (rise_numbers clock.layout thread calls noted.rising)
+    (all_within trace.events clock.layout thread calls noted)
+    (only_own clock log scripts workers trace.events all are thread script worker at served)
+    (λ i has. All-contains (λ (j : ℕ). makes thread trace.events j ≡ true) (numbers calls) i (all_make trace.events clock.layout thread calls noted) has)
+
+map_both : {Y : Type 0} (f : ℕ → Y) (g : MadeCall → Y) (calls : List MadeCall) → All (λ c. f c.number ≡ g c) calls → map f (numbers calls) ≡ map g calls
+map_both f g [] all = refl
+map_both f g (c ∷ cs) all =
+    ap (λ y. y ∷ map f (numbers cs)) (All-head (λ (d : MadeCall). f d.number ≡ g d) c cs all)
+    ∙ ap (λ ys. g c ∷ ys) (map_both f g cs (All-tail (λ (d : MadeCall). f d.number ≡ g d) c cs all))
+
+map_requests : {Y : Type 0} (f : Query → Y) (calls : List MadeCall) → map (λ c. f c.request) calls ≡ map f (map (λ c. c.request) calls)
+map_requests f [] = refl
+map_requests f (c ∷ cs) = ap (λ ys. f c.request ∷ ys) (map_requests f cs)
+
+said_back : (number : ℕ) (said : Said) → option_map_or (λ reply. Answer reply.at reply.answer) (response number said) Stopped ≡ said
+said_back number (Answer at answer) = refl
+said_back number Stopped = refl
+
+-- the calls of each thread are those that it made, and its answers theirs
+pub are_calls : (clock : ClockId) (log : TableId) (scripts : List (List Query)) (workers : List WorkerState) (trace : Recording)
+    → AreServed clock log scripts workers → AreRecorded trace.events (pens_of workers) → trace.layout ≡ clock.layout
+    → (thread : ℕ) (script : List Query) (said : List Said) → slice_get scripts thread ≡ Some script
+    → slice_get (map (λ w. w.said) workers) thread ≡ Some said → AreCallsOf trace thread script said
+are_calls clock log scripts workers trace all are layout thread script said at_script at_said =
+    let there = unmapped (λ (w : WorkerState). w.said) workers thread said at_said in
+    let worker = there.0 in
+    let served = all.each thread script worker at_script there.1 in
+    let calls = served.calls in
+    let noted = noted_of clock log thread script worker workers trace.events are there.1 served in
+    let is = calls_are clock log scripts workers trace all are thread script worker there.1 served in
+    let asked : Query → Option Invocation = λ request. Some (asked_by trace.layout thread request) in
+    let long : length calls ≡ length (calls_of trace thread) =
+    sym (length-map calls (λ (c : MadeCall). c.number)) ∙ ap (λ (xs : List ℕ). length xs) (sym is) in
+    record {
+      asked = ap (λ (xs : List ℕ). map (call_of trace) xs) is
+          ∙ map_both (call_of trace) (λ (c : MadeCall). asked c.request) calls
+          (λ k d lt.
+          ap (λ o. option_and_then made_by o) (made_calls trace.events clock.layout thread calls noted k d lt)
+          ∙ ap (λ (l : Layout). Some (asked_by l thread (get_or calls k d).request)) (sym layout))
+          ∙ map_requests asked calls ∙ ap (λ (rs : List Query). map asked rs) served.requests
+          ∙ ap (λ (n : ℕ). map asked (take n script)) long;
+      said = sym there.2 ∙ served.said
+          ∙ sym (ap (λ (xs : List ℕ). map (said_of trace) xs) is ∙ map_both (said_of trace) (λ (c : MadeCall). c.said) calls
+          (λ k d lt.
+          ap (λ o. option_map_or (λ (reply : Response). Answer reply.at reply.answer) o Stopped)
+          (answers_are trace.events clock.layout thread calls noted k d lt)
+          ∙ said_back (get_or calls k d).number (get_or calls k d).said));
+      stops_last = subst (λ (s : List Said). StopsLast s) there.2 served.stops_last;
+      to_the_end = subst (λ (s : List Said). HasAllOrStopped script s) there.2 served.to_the_end;
+    }
+
+call_of_number : (calls : List MadeCall) (n : ℕ) → Contains (numbers calls) n → (c : MadeCall) × Contains calls c × (c.number ≡ n)
+call_of_number [] n has = absurd (omega (arith, has.1))
+call_of_number (c ∷ cs) n has = at has.0 has.1 has.2 (λ rest. call_of_number cs n rest) where
+  at : (k : ℕ) → k < length (numbers (c ∷ cs)) → get_or (numbers (c ∷ cs)) k n ≡ n
+      → (Contains (numbers cs) n → (d : MadeCall) × Contains cs d × (d.number ≡ n)) → (d : MadeCall) × Contains (c ∷ cs) d × (d.number ≡ n)
+  at zero lt is more = (c, (zero, omega arith, refl), is)
+  at (suc k) lt is more =
+      let rest = more (k, omega arith, is) in (rest.0, (suc rest.1.0, omega (arith, rest.1.1), rest.1.2), rest.2)
+
+-- where what came of a call is true of a log, an answered update stands at its place
+stands : (layout : Layout) (log : Log) (number : ℕ) (request : Query) (said : Said) → IsTrueOf layout log number request said
+    → (action : Action) (reply : Response) → operation_in request ≡ Some action → response number said ≡ Some reply
+    → slice_get log.entries reply.at ≡ Some (record { call = number; op = action })
+stands layout log number (Update act) (Answer at answer) is action reply op rep =
+    let same : act ≡ action = cc in
+    let r : Response = record { call = number; at = at; answer = answer } in
+    let reply_is : r ≡ reply = cc in
+    subst (λ (p : ℕ). slice_get log.entries p ≡ Some (record { call = number; op = action })) (ap (λ (x : Response). x.at) reply_is)
+    (is.stands ∙ ap (λ (a : Action). Some (record { call = number; op = a })) same)
+stands layout log number (Update act) Stopped is action reply op rep = absurd cc
+stands layout log number (Resolve address) said is action reply op rep = absurd cc
+stands layout log number (Access address mode access) said is action reply op rep = absurd cc
+
+-- and an answered read saw no more entries than there are
+known : (layout : Layout) (log : Log) (number : ℕ) (request : Query) (said : Said) → IsTrueOf layout log number request said
+    → (reply : Response) → IsSome (address_in request) → response number said ≡ Some reply → reply.at ≤ length log.entries
+known layout log number (Update act) said is reply read rep = absurd (false_true read)
+known layout log number (Resolve address) (Answer at answer) is reply read rep =
+    let r : Response = record { call = number; at = at; answer = answer } in
+    let reply_is : r ≡ reply = cc in
+    subst (λ (p : ℕ). p ≤ length log.entries) (ap (λ (x : Response). x.at) reply_is) is.known
+known layout log number (Resolve address) Stopped is reply read rep = absurd cc
+known layout log number (Access address mode access) (Answer at answer) is reply read rep =
+    let r : Response = record { call = number; at = at; answer = answer } in
+    let reply_is : r ≡ reply = cc in
+    subst (λ (p : ℕ). p ≤ length log.entries) (ap (λ (x : Response). x.at) reply_is) is.known
+known layout log number (Access address mode access) Stopped is reply read rep = absurd cc
+
+-- a call of the thread, with what is known of it
+record IsKnownCall (trace : Recording) (layout : Layout) (log : Log) (thread call : ℕ) : Type 0 where
+  request : Query
+  said : Said
+  asked : slice_get trace.events call ≡ Some (call_by layout thread request)
+  replied : reply_to trace call ≡ response call said
+  is_true : IsTrueOf layout log call request said
+
+known_call : (clock : ClockId) (log : TableId) (scripts : List (List Query)) (workers : List WorkerState) (trace : Recording)
+    → AreServed clock log scripts workers → AreRecorded trace.events (pens_of workers) → (thread : ℕ) (worker : WorkerState)
+    → slice_get workers thread ≡ Some worker → (call : ℕ) (made : Invocation) → call_of trace call ≡ Some made → made.thread ≡ thread
+    → IsKnownCall trace clock.layout (log_after clock.layout.replicas worker.pass.view.seen) thread call
+known_call clock log scripts workers trace all are thread worker at call made is_made who =
+    let its = present scripts thread (omega (arith, slice_get_within workers thread worker at, all.one_each)) in
+    let served = all.each thread its.0 worker its.1 at in
+    let calls = served.calls in
+    let noted = noted_of clock log thread its.0 worker workers trace.events are at served in
+    let holds : makes thread trace.events call ≡ true =
+    ap (λ o. option_map_or (λ (m : Invocation). eqb m.thread thread) o false) is_made ∙ eq-eqb made.thread thread who in
+    let found = call_of_number calls call (only_own clock log scripts workers trace.events all are thread its.0 worker at served call holds) in
+    let c = found.0 in
+    record {
+      request = c.request;
+      said = c.said;
+      asked = subst (λ (n : ℕ). slice_get trace.events n ≡ Some (call_by clock.layout thread c.request)) found.2
+          (All-contains (λ (d : MadeCall). slice_get trace.events d.number ≡ Some (call_by clock.layout thread d.request)) calls c
+          (made_calls trace.events clock.layout thread calls noted) found.1);
+      replied = subst (λ (n : ℕ). reply_to trace n ≡ response n c.said) found.2
+          (All-contains (λ (d : MadeCall). reply_to trace d.number ≡ response d.number d.said) calls c
+          (answers_are trace.events clock.layout thread calls noted) found.1);
+      is_true = subst (λ (n : ℕ). IsTrueOf clock.layout (log_after clock.layout.replicas worker.pass.view.seen) n c.request c.said) found.2
+          (All-contains (λ (d : MadeCall). IsTrueOf clock.layout (log_after clock.layout.replicas worker.pass.view.seen) d.number d.request d.said)
+          calls c served.true_calls found.1);
+    }
+
+-- each thread's pass has seen all on which its answers rest
+pub have_seen : (clock : ClockId) (log : TableId) (scripts : List (List Query)) (workers : List WorkerState) (trace : Recording)
+    → AreServed clock log scripts workers → AreRecorded trace.events (pens_of workers) → trace.layout ≡ clock.layout
+    → (thread : ℕ) (pass : Known) → slice_get (map (λ w. w.pass) workers) thread ≡ Some pass → HasSeenAnswers trace thread pass
+have_seen clock log scripts workers trace all are layout thread pass at_pass =
+    let there = unmapped (λ (w : WorkerState). w.pass) workers thread pass at_pass in
+    let worker = there.0 in
+    let here : log_after clock.layout.replicas worker.pass.view.seen ≡ log_after trace.layout.replicas pass.view.seen =
+    ap (λ (l : Layout). log_after l.replicas worker.pass.view.seen) (sym layout)
+    ∙ ap (λ (p : Known). log_after trace.layout.replicas p.view.seen) there.2 in
+    record {
+      updates = λ call made action reply is_made who op rep.
+          let its = known_call clock log scripts workers trace all are thread worker there.1 call made is_made who in
+          let op' : operation_in its.request ≡ Some action =
+          sym (ap (λ o. option_and_then (λ (m : Invocation). operation_in m.request) (option_and_then made_by o)) its.asked) ∙ op in
+          subst (λ (l : Log). slice_get l.entries reply.at ≡ Some (record { call = call; op = action })) here
+          (stands clock.layout (log_after clock.layout.replicas worker.pass.view.seen) call its.request its.said its.is_true action reply op'
+          (sym its.replied ∙ rep));
+      reads = λ call made reply is_made who read rep.
+          let its = known_call clock log scripts workers trace all are thread worker there.1 call made is_made who in
+          let read' : IsSome (address_in its.request) =
+          subst (λ o. IsSome (option_and_then (λ (m : Invocation). address_in m.request) (option_and_then made_by o))) its.asked read in
+          subst (λ (l : Log). reply.at ≤ length l.entries) here
+          (known clock.layout (log_after clock.layout.replicas worker.pass.view.seen) call its.request its.said its.is_true reply read'
+          (sym its.replied ∙ rep));
+    }

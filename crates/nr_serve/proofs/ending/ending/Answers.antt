@@ -1,0 +1,62 @@
+use Rattle.std.proofs.Common.{◌≡◌, ℕ, List, length, ap, sym, subst, ◌∙◌}
+use Rattle.std.proofs.lemmas.List.{length-map}
+use Rattle.nr_ring.specs.Pass.{Known}
+use Rattle.nr_record.specs.Pen.{PenState}
+use Rattle.nr_audit.specs.Headline.{IsSpelledWith}
+use Rattle.nr_serve.specs.Calls.{WorkerState}
+use Rattle.nr_serve.specs.Run.{AreAllCallsOf, HaveSeenAnswers, IsLogOf}
+use Rattle.nr_serve.specs.declared.said.Said.{Said}
+use Rattle.nr_serve.specs.inside.Ending.{AreRecorded, answers_of, passes_of}
+use Rattle.nr_serve.proofs.Made.{are_calls, have_seen}
+use Rattle.nr_serve.proofs.Shown.{back_is, shown_with, spelled_with}
+use Rattle.nr_serve.proofs.ending.ending.Goals as goal
+
+pub returns-clause-calls : goal.returns-clause-calls
+returns-clause-calls g c scripts served =
+    let workers = c.args.workers.items in
+    let parts = c.in_ok-pens.ensures in
+    let written = c.in_ok-bytes.ensures.written in
+    let recorded = subst (λ (pens : List PenState). AreRecorded written.trace.events pens) parts.pens written.recorded in
+    let all : AreAllCallsOf written.trace scripts (answers_of workers) =
+    are_calls c.args.clock g.K.ReplicasName.log scripts workers written.trace served recorded (written.layout_is ∙ c.requires.config) in
+    let Q : List (List Said) → List ℕ → List Known → Type 0 = λ a t p. IsSpelledWith t (λ trace. AreAllCallsOf trace scripts a) in
+    shown_with c.judged.result _ _ _ Q c.judged.ensures.answers c.judged.ensures.bytes c.judged.ensures.passes
+    (subst (λ (a : List (List Said)). IsSpelledWith c.in_ok-bytes.bytes.items (λ trace. AreAllCallsOf trace scripts a)) (sym parts.answers)
+    (spelled_with c.in_ok-bytes.bytes.items written.trace (λ trace. AreAllCallsOf trace scripts (answers_of workers)) written.spelled all))
+
+-- the passes that are shown are those that were handed back
+pub returns-clause-passes : goal.returns-clause-passes
+returns-clause-passes g c =
+    let workers = c.args.workers.items in
+    let same = c.in_ok-bytes.ensures.passes ∙ c.deref_mut.ensures.value in
+    let back = back_is c.in_ok-pens.field-0.passes c.written.new.passes same in
+    let all = back ∙ c.in_ok-pens.ensures.passes in
+    let Q : List (List Said) → List ℕ → List Known → Type 0 = λ a t p. length p ≡ length workers in
+    shown_with c.judged.result _ _ _ Q c.judged.ensures.answers c.judged.ensures.bytes c.judged.ensures.passes
+    (ap (λ (ps : List Known). length ps) all ∙ length-map workers (λ (w : WorkerState). w.pass))
+
+pub returns-clause-log : goal.returns-clause-log
+returns-clause-log g c =
+    let written = c.in_ok-bytes.ensures.written in
+    let same = c.in_ok-bytes.ensures.passes ∙ c.deref_mut.ensures.value in
+    let back = back_is c.in_ok-pens.field-0.passes c.written.new.passes same in
+    let known = c.deref_mut.ensures.value ∙ sym back in
+    let is = subst (λ (ps : List Known). IsLogOf c.args.config written.trace.log ps) known written.log in
+    let Q : List (List Said) → List ℕ → List Known → Type 0 = λ a t p. IsSpelledWith t (λ trace. IsLogOf c.args.config trace.log p) in
+    shown_with c.judged.result _ _ _ Q c.judged.ensures.answers c.judged.ensures.bytes c.judged.ensures.passes
+    (spelled_with c.in_ok-bytes.bytes.items written.trace (λ trace. IsLogOf c.args.config trace.log _) written.spelled is)
+
+pub returns-clause-seen : goal.returns-clause-seen
+returns-clause-seen g c scripts served =
+    let workers = c.args.workers.items in
+    let written = c.in_ok-bytes.ensures.written in
+    let same = c.in_ok-bytes.ensures.passes ∙ c.deref_mut.ensures.value in
+    let back = back_is c.in_ok-pens.field-0.passes c.written.new.passes same in
+    let all = back ∙ c.in_ok-pens.ensures.passes in
+    let recorded = subst (λ (pens : List PenState). AreRecorded written.trace.events pens) c.in_ok-pens.ensures.pens written.recorded in
+    let seen : HaveSeenAnswers written.trace (passes_of workers) =
+    have_seen c.args.clock g.K.ReplicasName.log scripts workers written.trace served recorded (written.layout_is ∙ c.requires.config) in
+    let is = subst (λ (ps : List Known). HaveSeenAnswers written.trace ps) (sym all) seen in
+    let Q : List (List Said) → List ℕ → List Known → Type 0 = λ a t p. IsSpelledWith t (λ trace. HaveSeenAnswers trace p) in
+    shown_with c.judged.result _ _ _ Q c.judged.ensures.answers c.judged.ensures.bytes c.judged.ensures.passes
+    (spelled_with c.in_ok-bytes.bytes.items written.trace (λ trace. HaveSeenAnswers trace _) written.spelled is)

@@ -1,0 +1,78 @@
+use Rattle.std.proofs.Common.{◌+◌, List, sym, subst, arith}
+use Rattle.nr_serve.specs.Calls.{IsServed}
+use Rattle.nr_serve.specs.declared.said.Said.{Said}
+use Rattle.nr_serve.specs.inside.Working.{IsAnswer, IsUnderWay}
+use Rattle.nr_serve.proofs.Working.{IsNext, begins, ends, goes_on, named_heard, named_history, stops}
+use Rattle.nr_serve.proofs.job.work_through.Goals as goal
+
+pub loop-done-init : goal.loop-done-init
+loop-done-init g c =
+    let clock = c.args.team.now.clock.now in
+    let depth = g.J.LogName.depth in
+    let replicas = g.J.LogName.replicas in
+    let tables = g.K.ReplicasName.tables in
+    let log = g.K.ReplicasName.log in
+    let history = named_history clock.layout depth replicas tables c.args.pass.now.view.seen c.requires.names c.has_seen_a_history.ensures.history in
+    let Here : List Said → Type 0 = λ l. IsUnderWay clock log c.args.thread c.args.script.now 0 c.args.pen.now c.args.pass.now l in (
+      subst Here (sym c.requires.said.0) (begins clock log c.args.thread c.args.script.now c.args.pen.now c.args.pass.now c.requires.ready history),
+      c.requires.said.1,
+    )
+
+pub returns-in-Stopped : goal.returns-in-Stopped
+returns-in-Stopped g c =
+    let clock = c.args.team.now.clock.now in
+    let log = g.K.ReplicasName.log in
+    let script = c.args.script.now in
+    let pen = c.call-item.new.pen in
+    let pass = c.call-item.new.pass in
+    let item = c.call-item.result in
+    let request = c.index-script-done.result in
+    let was = c.loop-done in
+    let next : IsNext clock log c.args.thread script was.done request was.pen pen was.pass pass was.said.items item =
+    record {
+      under_way = was.invariant.0;
+      within = c.loop-done-test.true;
+      request_is = c.index-script-done.is;
+      same_log = c.call-item.ensures.log;
+      heard = named_heard clock.layout g.J.LogName.depth g.J.LogName.replicas g.K.ReplicasName.tables was.pass.view pass.view c.requires.names
+          c.call-item.ensures.heard;
+      called = c.call-item.ensures.called;
+    }
+    in
+    let Here : List Said → Type 0 = λ l. IsServed clock log c.args.thread script (record { pen = pen; pass = pass; said = l }) in
+    subst Here (sym c.note.ensures.0)
+    (stops clock log c.args.thread script was.done request was.pen pen was.pass pass was.said.items item next c.in-Stopped.is)
+
+pub loop-done-preserved : goal.loop-done-preserved
+loop-done-preserved g c =
+    let clock = c.args.team.now.clock.now in
+    let log = g.K.ReplicasName.log in
+    let script = c.args.script.now in
+    let pen = c.call-item.new.pen in
+    let pass = c.call-item.new.pass in
+    let item = c.call-item.result in
+    let request = c.index-script-done.result in
+    let was = c.loop-done in
+    let next : IsNext clock log c.args.thread script was.done request was.pen pen was.pass pass was.said.items item =
+    record {
+      under_way = was.invariant.0;
+      within = c.loop-done-test.true;
+      request_is = c.index-script-done.is;
+      same_log = c.call-item.ensures.log;
+      heard = named_heard clock.layout g.J.LogName.depth g.J.LogName.replicas g.K.ReplicasName.tables was.pass.view pass.view c.requires.names
+          c.call-item.ensures.heard;
+      called = c.call-item.ensures.called;
+    }
+    in
+    let answered : IsAnswer item = subst IsAnswer (sym c.in-Answer.is) tt in
+    let Here : List Said → Type 0 = λ l. IsUnderWay clock log c.args.thread script (was.done + 1) pen pass l in (
+      subst Here (sym c.note.ensures.0)
+          (goes_on clock log c.args.thread script was.done request was.pen pen was.pass pass was.said.items item next answered),
+      omega (arith, was.invariant.1, c.note.ensures.1),
+    )
+
+pub returns : goal.returns
+returns g c =
+    let was = c.loop-done in
+    ends c.args.team.now.clock.now g.K.ReplicasName.log c.args.thread c.args.script.now was.done was.pen was.pass was.said.items was.invariant.0
+    (omega (arith, c.loop-done-test.false, was.auto.done-end))

@@ -1,0 +1,11 @@
+use Rattle.std.proofs.Common.{ap}
+use Rattle.nr_record.specs.Pen.{PenState}
+use Rattle.nr_serve.proofs.Working.{called_and_answered}
+use Rattle.nr_serve.proofs.team.Team.call.Goals as goal
+
+pub returns-clause-called : goal.returns-clause-called
+returns-clause-called g c =
+    let called = c.call-number.ensures.made in
+    called_and_answered c.args.self.now.clock.now c.args.request c.args.pen.now c.call-number.new.self c.reply.new.self c.ask.new.pass c.call-number.result
+    c.reply.result c.in-Some.at c.in-Some.answer g.J.LogName.replicas c.requires.pen.0 called
+    (c.reply.ensures.made c.call-number.result (ap (λ (p : PenState). p.waiting) called)) c.requires.names.replicas_are c.in-Some.ensures.told

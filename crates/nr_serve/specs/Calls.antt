@@ -1,0 +1,78 @@
+-- What the calls of one thread were, what came of them, and what the thread knows of the log.
+use Rattle.std.specs.Prelude.{◌≡◌, ℕ, ◌+◌, ◌⊎◌, List, [], ◌∷◌, ◌++◌, All, Some, flat_map, length, map, slice_get, take, ⊤}
+use Rattle.vs_types.specs.Config.{Layout}
+use Rattle.vs_types.specs.Step.{allow, look}
+use Rattle.vs_types.specs.declared.request.Query.{Query}
+use Rattle.vs_types.specs.declared.request.Query.TheVariants.{Update, Resolve, Access}
+use Rattle.nr_trace.specs.declared.event.Event.TheVariants.{Reply}
+use Rattle.nr_ring.specs.LogHistory.{Log, IsLogHistory, log_after}
+use Rattle.nr_ring.specs.Pass.{Known, TableId}
+use Rattle.nr_replicas.specs.Replicas.{IsAnsweredAt, IsReadAt}
+use Rattle.nr_record.specs.Pen.{ClockId, PenState, call_by, stamped}
+use Rattle.nr_record.specs.declared.stamped.Stamped.{Stamped}
+use Rattle.nr_serve.specs.declared.said.Said.{Said}
+use Rattle.nr_serve.specs.declared.said.Said.TheVariants.{Answer, Stopped}
+
+-- what a thread hands back: its pen, its pass, and what came of each of its calls
+pub record WorkerState : Type 0 where
+  pub pen : PenState
+  pub pass : Known
+  pub said : List Said
+
+-- a call that a thread made: what it asked, the call's number, what came of it, and the stamp of the reply where there is one
+pub record MadeCall : Type 0 where
+  pub request : Query
+  pub number : ℕ
+  pub said : Said
+  pub replied : ℕ
+
+-- the note of the reply to a call
+abbrev pub reply_notes : ℕ → ℕ → Said → List Stamped
+reply_notes number replied (Answer at answer) = stamped replied (Reply number at answer) ∷ []
+reply_notes number replied Stopped = []
+
+-- the notes of a call: that it is made, and behind that its reply, where it was answered
+abbrev pub notes_of : Layout → ℕ → MadeCall → List Stamped
+notes_of layout thread call =
+    stamped call.number (call_by layout thread call.request) ∷ reply_notes call.number call.replied call.said
+
+-- what came of a call is true of a log: an update stands at its place, with its call's number; a read saw no more entries than there
+-- are; and the answer is what the address space gives there
+abbrev pub IsTrueOf : Layout → Log → ℕ → Query → Said → Type 0
+IsTrueOf layout log number request Stopped = ⊤
+IsTrueOf layout log number (Update action) (Answer at answer) =
+    IsAnsweredAt layout.depth layout.tables 0 log (record { call = number; op = action }) at answer
+IsTrueOf layout log number (Resolve address) (Answer at answer) =
+    IsReadAt layout.depth layout.tables 0 log (λ space. look space address) at answer
+IsTrueOf layout log number (Access address mode access) (Answer at answer) =
+    IsReadAt layout.depth layout.tables 0 log (λ space. allow space address mode access) at answer
+
+-- only the last call was stopped
+abbrev pub StopsLast : List Said → Type 0
+StopsLast said = (index : ℕ) → slice_get said index ≡ Some Stopped → index + 1 ≡ length said
+
+-- there is an item for every request, or the items end with a call that was stopped
+abbrev pub HasAllOrStopped : List Query → List Said → Type 0
+HasAllOrStopped script said = (length said ≡ length script) ⊎ ((front : List Said) × (said ≡ front ++ Stopped ∷ []))
+
+-- a thread has done what its script asks. Its calls are a beginning of the script, in order; its pen has noted them, each with its
+-- reply; what came of each is true of the log that its pass has seen
+pub record IsServed (clock : ClockId) (log : TableId) (thread : ℕ) (script : List Query) (worker : WorkerState) : Type 0 where
+  pub of_clock : worker.pen.clock ≡ clock
+  pub of_thread : worker.pen.thread ≡ thread
+  pub quota : worker.pen.quota ≡ length script
+  pub of_log : worker.pass.log ≡ log
+  pub history : IsLogHistory clock.layout.depth clock.layout.replicas worker.pass.view.seen
+  pub calls : List MadeCall
+  pub requests : map (λ call. call.request) calls ≡ take (length calls) script
+  pub said : worker.said ≡ map (λ call. call.said) calls
+  pub notes : worker.pen.made ≡ flat_map (notes_of clock.layout thread) calls
+  pub stops_last : StopsLast worker.said
+  pub to_the_end : HasAllOrStopped script worker.said
+  pub true_calls : All (λ call. IsTrueOf clock.layout (log_after clock.layout.replicas worker.pass.view.seen) call.number call.request call.said) calls
+
+-- each thread has done what its script asks
+pub record AreServed (clock : ClockId) (log : TableId) (scripts : List (List Query)) (workers : List WorkerState) : Type 0 where
+  pub one_each : length workers ≡ length scripts
+  pub each : (thread : ℕ) (script : List Query) (worker : WorkerState) → slice_get scripts thread ≡ Some script → slice_get workers thread ≡ Some worker
+      → IsServed clock log thread script worker

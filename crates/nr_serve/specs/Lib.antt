@@ -1,0 +1,4 @@
+pub mod Calls
+pub mod Run
+-- models and loops
+pub mod inside

@@ -1,0 +1,84 @@
+-- What a run is given, and what it has to show for it.
+use Rattle.std.specs.Prelude.{◌≡◌, ℕ, ◌≤◌, ◌==◌, List, All, Some, false, length, map, take, filter, slice_get, sum_by, ⊤}
+use Rattle.std.specs.Option.{option_map_or}
+use Rattle.vs_types.specs.Config.{Layout}
+use Rattle.vs_types.specs.Query.{IsQuery}
+use Rattle.vs_types.specs.declared.limits.TheConstants.{LOG_PLACES}
+use Rattle.vs_types.specs.declared.op.Action.{Action}
+use Rattle.vs_types.specs.declared.request.Query.{Query}
+use Rattle.nr_trace.specs.Calls.{Invocation, IsRead, Response, call_of, operation_of, reply_to}
+use Rattle.nr_trace.specs.Orders.{below}
+use Rattle.nr_trace.specs.Recording.{Recording}
+use Rattle.nr_trace.specs.declared.fault.Fault.{Fault}
+use Rattle.nr_ring.specs.LogHistory.{IsLogHistory, log_after}
+use Rattle.nr_ring.specs.Pass.{Known}
+use Rattle.nr_ring.specs.View.{StartsWith}
+use Rattle.nr_ring.specs.declared.log_event.LogEvent.{LogEvent}
+use Rattle.nr_record.specs.Pen.{replica_of}
+use Rattle.nr_serve.specs.Calls.{HasAllOrStopped, StopsLast}
+use Rattle.nr_serve.specs.declared.outcome.Outcome.{Outcome}
+use Rattle.nr_serve.specs.declared.outcome.Outcome.TheVariants.{Refused, Verified}
+use Rattle.nr_serve.specs.declared.said.Said.{Said}
+use Rattle.nr_serve.specs.declared.said.Said.TheVariants.{Answer, Stopped}
+
+-- a script for each thread, at most 65,536 requests in all, each well formed at the depth
+pub record AreScripts (layout : Layout) (scripts : List (List Query)) : Type 0 where
+  pub one_each : length scripts ≡ layout.threads
+  pub few : sum_by (λ script. length script) scripts ≤ LOG_PLACES
+  pub well_formed : All (All (IsQuery layout.depth)) scripts
+
+-- the calls of a thread, in order
+abbrev pub calls_of : Recording → ℕ → List ℕ
+calls_of trace thread = filter (λ call. option_map_or (λ made. made.thread == thread) (call_of trace call) false) (below (length trace.events))
+
+-- a thread asks something, at its replica
+abbrev pub asked_by : Layout → ℕ → Query → Invocation
+asked_by layout thread request = record { replica = replica_of layout thread; thread = thread; request = request }
+
+-- what came of a call: its reply's answer, and where it was reached; or it has none
+abbrev pub said_of : Recording → ℕ → Said
+said_of trace call = option_map_or (λ reply. Answer reply.at reply.answer) (reply_to trace call) Stopped
+
+-- the thread's calls ask a beginning of its script, in order, at its replica. There is an item for each of them: where it was answered
+-- and how, or that it was stopped, which only the last was; and an item for every request, or the last was stopped
+pub record AreCallsOf (trace : Recording) (thread : ℕ) (script : List Query) (items : List Said) : Type 0 where
+  pub asked : map (call_of trace) (calls_of trace thread)
+      ≡ map (λ request. Some (asked_by trace.layout thread request)) (take (length (calls_of trace thread)) script)
+  pub said : items ≡ map (said_of trace) (calls_of trace thread)
+  pub stops_last : StopsLast items
+  pub to_the_end : HasAllOrStopped script items
+
+-- a thread's pass has seen all on which the thread's answers rest: of each answered update its place, where that call stands with its
+-- operation; and as many entries as each answered read saw
+pub record HasSeenAnswers (trace : Recording) (thread : ℕ) (pass : Known) : Type 0 where
+  pub updates : (call : ℕ) (made : Invocation) (action : Action) (reply : Response) → call_of trace call ≡ Some made → made.thread ≡ thread
+      → operation_of trace call ≡ Some action → reply_to trace call ≡ Some reply
+      → slice_get (log_after trace.layout.replicas pass.view.seen).entries reply.at ≡ Some (record { call = call; op = action })
+  pub reads : (call : ℕ) (made : Invocation) (reply : Response) → call_of trace call ≡ Some made → made.thread ≡ thread
+      → IsRead trace call → reply_to trace call ≡ Some reply → reply.at ≤ length (log_after trace.layout.replicas pass.view.seen).entries
+
+-- the calls are those of one log, which begins with all that each of these passes has seen
+pub record IsLogOf (layout : Layout) (calls : List ℕ) (passes : List Known) : Type 0 where
+  pub history : List LogEvent
+  pub is_history : IsLogHistory layout.depth layout.replicas history
+  pub begins : All (λ pass. StartsWith history pass.view.seen) passes
+  pub calls_are : calls ≡ map (λ entry. entry.call) (log_after layout.replicas history).entries
+
+-- each thread's calls are those of its script, and its answers what came of them
+abbrev pub AreAllCallsOf : Recording → List (List Query) → List (List Said) → Type 0
+AreAllCallsOf trace scripts answers = (thread : ℕ) (script : List Query) (items : List Said) → slice_get scripts thread ≡ Some script
+    → slice_get answers thread ≡ Some items → AreCallsOf trace thread script items
+
+-- each thread's pass has seen all on which its answers rest
+abbrev pub HaveSeenAnswers : Recording → List Known → Type 0
+HaveSeenAnswers trace passes = (thread : ℕ) (pass : Known) → slice_get passes thread ≡ Some pass → HasSeenAnswers trace thread pass
+
+-- where the outcome is a verified run, its answers, trace, order and passes have the property
+abbrev pub IfVerified : {J : Type 0} → (List (List Said) → List ℕ → List ℕ → List Known → Type 0) → Outcome J → Type 0
+IfVerified P (Verified answers trace order passes) = P answers trace order passes
+IfVerified P (Refused trace fault) = ⊤
+
+-- where it is refused, the trace and its fault have the property
+abbrev pub IfRefused : {J : Type 0} → (List ℕ → Fault → Type 0) → Outcome J → Type 0
+IfRefused P (Verified answers trace order passes) = ⊤
+IfRefused P (Refused trace fault) = P trace fault

@@ -1,0 +1,3 @@
+-- Loop invariants and the insides of models: no public clause cites them.
+pub mod Working
+pub mod Ending

@@ -1,0 +1,79 @@
+-- What holds while a thread works through its script.
+use Rattle.std.specs.Prelude.{◌≡◌, ℕ, ◌+◌, ◌<◌, List, [], ◌∷◌, ◌++◌, All, None, flat_map, length, map, take, ⊤}
+use Rattle.vs_types.specs.Config.{Layout}
+use Rattle.vs_types.specs.Query.{IsQuery}
+use Rattle.vs_types.specs.declared.depth.Depth.{Depth}
+use Rattle.vs_types.specs.declared.request.Query.{Query}
+use Rattle.nr_ring.specs.LogHistory.{IsLogHistory, log_after}
+use Rattle.nr_ring.specs.Pass.{Known, TableId}
+use Rattle.nr_record.specs.Pen.{ClockId, PenState, calls_in, new_pen}
+use Rattle.nr_serve.specs.Calls.{IsServed, IsTrueOf, MadeCall, WorkerState, notes_of}
+use Rattle.nr_serve.specs.declared.said.Said.{Said}
+use Rattle.nr_serve.specs.declared.said.Said.TheVariants.{Answer, Stopped}
+
+-- the layout is that of the names of a log and its replicas
+pub record IsNamed (layout : Layout) (depth : Depth) (replicas tables : ℕ) : Type 0 where
+  pub depth_is : layout.depth ≡ depth
+  pub replicas_are : layout.replicas ≡ replicas
+  pub tables_are : layout.tables ≡ tables
+
+-- what a thread is given
+pub record JobState : Type 0 where
+  pub thread : ℕ
+  pub script : List Query
+  pub pen : PenState
+  pub pass : Known
+
+-- the jobs of these scripts, pens and passes, from this thread on
+abbrev pub jobs_from : ℕ → List (List Query) → List PenState → List Known → List JobState
+jobs_from thread (script ∷ scripts) (pen ∷ pens) (pass ∷ passes) =
+    record { thread = thread; script = script; pen = pen; pass = pass } ∷ jobs_from (thread + 1) scripts pens passes
+jobs_from thread scripts pens passes = []
+
+-- a thread may work through its script: its pen is new and may make as many calls, and its requests are well formed
+pub record IsReady (clock : ClockId) (log : TableId) (thread : ℕ) (script : List Query) (pen : PenState) (pass : Known) : Type 0 where
+  pub pen_is : pen ≡ new_pen clock thread (length script)
+  pub of_log : pass.log ≡ log
+  pub is_thread : thread < clock.layout.threads
+  pub well_formed : All (IsQuery clock.layout.depth) script
+
+abbrev pub IsReadyJob : ClockId → TableId → JobState → Type 0
+IsReadyJob clock log job = IsReady clock log job.thread job.script job.pen job.pass
+
+-- what a job's thread hands back
+abbrev pub IsDone : ClockId → TableId → JobState → WorkerState → Type 0
+IsDone clock log job worker = IsServed clock log job.thread job.script worker
+
+abbrev pub IsAnswer : Said → Type 0
+IsAnswer (Answer at answer) = ⊤
+IsAnswer Stopped = ⊥
+
+-- a pen has noted one call more, and its reply where there is one; what came of it is true of the log that the pass has seen
+pub record HasCalled (layout : Layout) (request : Query) (before after : PenState) (pass : Known) (said : Said) : Type 0 where
+  pub number : ℕ
+  pub replied : ℕ
+  pub of_clock : after.clock ≡ before.clock
+  pub of_thread : after.thread ≡ before.thread
+  pub quota : after.quota ≡ before.quota
+  pub notes : after.made
+      ≡ before.made ++ notes_of layout before.thread (record { request = request; number = number; said = said; replied = replied })
+  pub none_waits : IsAnswer said → after.waiting ≡ None
+  pub true_call : IsTrueOf layout (log_after layout.replicas pass.view.seen) number request said
+
+-- so many requests of the script are answered
+pub record IsUnderWay (clock : ClockId) (log : TableId) (thread : ℕ) (script : List Query) (done : ℕ) (pen : PenState) (pass : Known) (said : List Said)
+    : Type 0 where
+  pub of_clock : pen.clock ≡ clock
+  pub of_thread : pen.thread ≡ thread
+  pub quota : pen.quota ≡ length script
+  pub of_log : pass.log ≡ log
+  pub history : IsLogHistory clock.layout.depth clock.layout.replicas pass.view.seen
+  pub calls : List MadeCall
+  pub count : length calls ≡ done
+  pub requests : map (λ call. call.request) calls ≡ take done script
+  pub said_is : said ≡ map (λ call. call.said) calls
+  pub notes : pen.made ≡ flat_map (notes_of clock.layout thread) calls
+  pub answered : All IsAnswer said
+  pub none_waits : pen.waiting ≡ None
+  pub calls_noted : calls_in pen.made ≡ done
+  pub true_calls : All (λ call. IsTrueOf clock.layout (log_after clock.layout.replicas pass.view.seen) call.number call.request call.said) calls
