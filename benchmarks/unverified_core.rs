@@ -1,8 +1,8 @@
 //! The states and steps of the protocol in plain Rust, with no proof, to compare with `Core`:
 //!     rustc -O -C target-cpu=x86-64-v2 benchmarks/unverified_core.rs
-//!     ./unverified_core THREADS REPLICAS REQUESTS
+//!     ./unverified_core THREADS REPLICAS CALLS
 //! Each thread in turn makes a call with all its steps, a map, a resolve, an unmap and a resolve of a page of its own; the replica
-//! catches up before each read. Prints how many steps were enabled and the sum of where the calls were answered.
+//! catches up before each read. There are so many calls in all, and a whole number of threads for each replica.
 #[allow(dead_code)]
 #[path = "unverified.rs"]
 mod table;
@@ -319,7 +319,9 @@ fn main() {
     let enabled = steps.iter().filter(|(thread, act)| core.step(*thread, *act)).count();
     let seconds = begin.elapsed().as_secs_f64();
     let at = |event: &Event| if let Event::Reply(answered) = event { answered.at as u64 } else { 0 };
-    println!("{enabled} of {} steps, {} events, {} entries, {}", steps.len(), core.events.len(), core.log.len(), core.events.iter().map(at).sum::<u64>());
-    eprintln!("workload operations a second step");
-    eprintln!("threads-{threads}-{replicas} {}", (steps.len() as f64 / seconds) as u64);
+    let places: u64 = core.events.iter().map(at).sum();
+    println!("steps {} enabled {enabled}", steps.len());
+    println!("events {} entries {} places {places}", core.events.len(), core.log.len());
+    eprintln!("operations a second  {:>12}", "step");
+    eprintln!("threads_{threads}_{replicas}          {:>12}", (steps.len() as f64 / seconds) as u64);
 }

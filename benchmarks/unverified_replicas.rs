@@ -4,59 +4,30 @@
 //! 16,384 pages of 4 KiB are mapped first. Then each thread makes so many calls, of which READS in a hundred are resolves of
 //! drawn addresses, and the rest protects of drawn pages. The log has 65,536 places, so that there may be 49,152 protects in all.
 #[allow(dead_code)]
-#[path = "unverified_ring.rs"]
-mod ring;
-#[allow(dead_code)]
 #[path = "unverified.rs"]
 mod table;
 
-use ring::{Backoff, Entry, Fault, Log, Marked, Pass};
+use std::sync::atomic::{AtomicU64, Ordering};
 use std::sync::{Mutex, MutexGuard, RwLock};
 use std::time::{Duration, Instant};
 use table::{Answer, Op, Space};
 
 const PAGES: u64 = 16_384;
+const PLACES: u64 = 65_536;
 const RING: usize = 16;
 
+/// An update as two words.
 #[derive(Clone, Copy)]
-struct Waiting {
-    thread: usize,
-    entry: Entry,
+struct Entry {
+    operation: u64,
+    frame: u64,
 }
 
-#[derive(Clone, Copy)]
-enum Slot {
-    Empty,
-    Posted(Waiting),
-    Taken(u64),
-    Ready(u64, Answer),
-}
-
-/// A replica with its pass, the entries that it has applied with their answers, and at most one batch.
-struct Node {
-    space: Space,
-    pass: Pass,
-    told: Vec<(Entry, Answer)>,
-    batch: Vec<Waiting>,
-    first: Option<u64>,
-    entries: Vec<Entry>,
-}
-
-struct Replica {
-    node: Mutex<Node>,
-    slots: Vec<Mutex<Slot>>,
-}
-
-struct Replicas {
-    log: Log<Marked>,
-    replicas: Vec<Replica>,
-}
-
-fn entry_of(call: u64, op: Op) -> Entry {
+fn entry_of(op: Op) -> Entry {
     match op {
-        Op::Map(base, _, phys, rights) => Entry { call, operation: base | rights << 4, frame: phys / 4096 },
-        Op::Unmap(base) => Entry { call, operation: base | 1, frame: 0 },
-        Op::Protect(base, rights) => Entry { call, operation: base | 2 | rights << 4, frame: 0 },
+        Op::Map(base, _, phys, rights) => Entry { operation: base | rights << 4, frame: phys / 4096 },
+        Op::Unmap(base) => Entry { operation: base | 1, frame: 0 },
+        Op::Protect(base, rights) => Entry { operation: base | 2 | rights << 4, frame: 0 },
     }
 }
 
@@ -69,152 +40,228 @@ fn op_of(entry: Entry) -> Op {
     }
 }
 
-impl Node {
+/// A word with a cache line of its own.
+#[repr(align(64))]
+#[derive(Default)]
+struct Word(AtomicU64);
+
+/// A cell of the ring: an entry, and one more than the place where it stands.
+#[repr(align(64))]
+#[derive(Default)]
+struct Cell {
+    after: AtomicU64,
+    operation: AtomicU64,
+    frame: AtomicU64,
+}
+
+/// The log: places are taken by an exchange of the tail, and filled one after another.
+struct Log {
+    tail: Word,
+    completed: Word,
+    local: Vec<Word>,
+    cells: [Cell; RING],
+}
+
+impl Log {
+    fn new(replicas: usize) -> Log {
+        let local = (0..replicas).map(|_| Word::default()).collect();
+        Log { tail: Word::default(), completed: Word::default(), local, cells: Default::default() }
+    }
+
+    /// Appends the entries, if no replica would have more than 16 to take. Where they stand.
+    fn append(&self, entries: &[Entry]) -> Option<u64> {
+        let mut first = self.tail.0.load(Ordering::Acquire);
+        loop {
+            let end = first + entries.len() as u64;
+            assert!(end <= PLACES, "the log has ended");
+            if self.local.iter().any(|local| end > local.0.load(Ordering::Acquire) + RING as u64) {
+                return None;
+            }
+            match self.tail.0.compare_exchange_weak(first, end, Ordering::AcqRel, Ordering::Acquire) {
+                Ok(_) => break,
+                Err(tail) => first = tail,
+            }
+        }
+        for (place, entry) in (first..).zip(entries) {
+            let cell = &self.cells[place as usize % RING];
+            cell.operation.store(entry.operation, Ordering::Relaxed);
+            cell.frame.store(entry.frame, Ordering::Relaxed);
+            cell.after.store(place + 1, Ordering::Release);
+        }
+        Some(first)
+    }
+
+    /// The entry at a place that is taken, once it is filled.
+    fn entry(&self, place: u64) -> Entry {
+        let cell = &self.cells[place as usize % RING];
+        let mut waits = Waits(0);
+        while cell.after.load(Ordering::Acquire) != place + 1 {
+            waits.wait();
+        }
+        Entry { operation: cell.operation.load(Ordering::Relaxed), frame: cell.frame.load(Ordering::Relaxed) }
+    }
+
+    /// A replica has taken all entries below this place.
+    fn advance(&self, replica: usize, to: u64) {
+        self.local[replica].0.store(to, Ordering::Release);
+        self.completed.0.fetch_max(to, Ordering::AcqRel);
+    }
+}
+
+#[derive(Clone, Copy)]
+enum Slot {
+    Empty,
+    Posted(Entry),
+    Taken,
+    Ready(u64, Answer),
+}
+
+/// A replica's table, how many entries it has applied, and the threads and entries of a batch, with its place if it has one.
+struct Node {
+    space: Space,
+    applied: u64,
+    threads: Vec<usize>,
+    entries: Vec<Entry>,
+    first: Option<u64>,
+}
+
+struct Replica {
+    number: usize,
+    node: Mutex<Node>,
+    slots: Vec<Mutex<Slot>>,
+}
+
+struct Replicas {
+    log: Log,
+    replicas: Vec<Replica>,
+}
+
+impl Replica {
     /// Takes all entries and applies them, and leaves the answers of the batch in the slots.
-    fn catch_up(&mut self, log: &Log<Marked>, slots: &[Mutex<Slot>]) {
-        self.entries.clear();
-        log.fetch(&mut self.pass, &mut self.entries);
-        let to = (self.told.len() + self.entries.len()) as u64;
-        if self.entries.is_empty() || !log.advance(&mut self.pass, to) {
+    fn catch_up(&self, node: &mut Node, log: &Log) {
+        let (from, to) = (node.applied, log.tail.0.load(Ordering::Acquire));
+        if from == to {
             return;
         }
-        for entry in &self.entries {
-            let answer = self.space.apply(op_of(*entry));
-            self.told.push((*entry, answer));
+        let mut taken = [Entry { operation: 0, frame: 0 }; RING];
+        let taken = &mut taken[..(to - from) as usize];
+        for (place, entry) in (from..).zip(taken.iter_mut()) {
+            *entry = log.entry(place);
         }
-        if let Some(first) = self.first.take() {
-            for (waiting, place) in self.batch.drain(..).zip(first..) {
-                let mut slot = slots[waiting.thread].lock().unwrap();
-                if matches!(*slot, Slot::Taken(call) if call == waiting.entry.call) {
-                    *slot = Slot::Ready(place, self.told[place as usize].1);
-                }
+        log.advance(self.number, to);
+        let own = node.first.unwrap_or(to);
+        for (place, entry) in (from..).zip(taken.iter()) {
+            let answer = node.space.apply(op_of(*entry));
+            if let Some(thread) = place.checked_sub(own).and_then(|n| node.threads.get(n as usize)) {
+                *self.slots[*thread].lock().unwrap() = Slot::Ready(place, answer);
             }
+        }
+        node.applied = to;
+        if node.first.take().is_some() {
+            node.threads.clear();
+            node.entries.clear();
         }
     }
 
     /// Collects updates, puts them into the log and catches up. Answers whether the log was full.
-    fn combine(&mut self, log: &Log<Marked>, slots: &[Mutex<Slot>]) -> bool {
-        if self.batch.is_empty() {
-            for slot in slots {
+    fn combine(&self, node: &mut Node, log: &Log) -> bool {
+        if node.threads.is_empty() {
+            for (thread, slot) in self.slots.iter().enumerate() {
                 let mut slot = slot.lock().unwrap();
-                if let Slot::Posted(waiting) = *slot {
-                    *slot = Slot::Taken(waiting.entry.call);
-                    self.batch.push(waiting);
+                if let Slot::Posted(entry) = *slot {
+                    *slot = Slot::Taken;
+                    node.threads.push(thread);
+                    node.entries.push(entry);
                 }
-                if self.batch.len() == RING {
+                if node.threads.len() == RING {
                     break;
                 }
             }
         }
         let mut full = false;
-        if self.first.is_none() && !self.batch.is_empty() {
-            let mut entries = [self.batch[0].entry; RING];
-            for (entry, waiting) in entries.iter_mut().zip(&self.batch) {
-                *entry = waiting.entry;
-            }
-            match log.append(&mut self.pass, &entries[..self.batch.len()]) {
-                Ok(first) => self.first = Some(first),
-                Err(Fault::Full) => full = true,
-                Err(Fault::Moved) => {}
-                Err(Fault::LogEnded) => panic!("the log has ended"),
-            }
+        if node.first.is_none() && !node.entries.is_empty() {
+            node.first = log.append(&node.entries);
+            full = node.first.is_none();
         }
-        self.catch_up(log, slots);
+        self.catch_up(node, log);
         full
     }
 }
 
 /// Spins a little, then yields, then sleeps for longer each time.
-struct Waits(Backoff);
+struct Waits(u32);
 
 impl Waits {
     fn wait(&mut self) {
-        if self.0.0 <= 10 {
-            self.0.snooze();
-        } else {
-            std::thread::sleep(Duration::from_micros(1 << (self.0.0 - 10).min(6)));
-            self.0.0 += 1;
+        match self.0 {
+            0..=6 => (0..1 << self.0).for_each(|_| std::hint::spin_loop()),
+            7..=10 => std::thread::yield_now(),
+            _ => std::thread::sleep(Duration::from_micros(1 << (self.0 - 10).min(6))),
         }
+        self.0 += 1;
     }
 
     /// The lock, which is tried while waiting is short, and then waited for.
     fn lock<'a, T>(&mut self, lock: &'a Mutex<T>) -> Option<MutexGuard<'a, T>> {
-        if self.0.0 > 10 { lock.lock().ok() } else { lock.try_lock().ok() }
+        if self.0 > 10 { lock.lock().ok() } else { lock.try_lock().ok() }
     }
 }
 
 impl Replicas {
-    fn new(replicas: usize, threads: usize) -> (Replicas, Vec<Pass>) {
-        let (log, mut passes) = Log::<Marked>::new(replicas);
-        let others = (0..threads).map(|_| passes.last().unwrap().clone()).collect();
-        passes.truncate(replicas);
-        let node = |pass| Node {
+    fn new(replicas: usize, threads: usize) -> Replicas {
+        let node = || Node {
             space: Space::new(4),
-            pass,
-            told: Vec::with_capacity(65_536),
-            batch: Vec::with_capacity(RING),
-            first: None,
+            applied: 0,
+            threads: Vec::with_capacity(RING),
             entries: Vec::with_capacity(RING),
+            first: None,
         };
-        let replica = |pass| Replica {
-            node: Mutex::new(node(pass)),
+        let replica = |number| Replica {
+            number,
+            node: Mutex::new(node()),
             slots: (0..threads).map(|_| Mutex::new(Slot::Empty)).collect(),
         };
-        (Replicas { log, replicas: passes.into_iter().map(replica).collect() }, others)
+        Replicas { log: Log::new(replicas), replicas: (0..replicas).map(replica).collect() }
     }
 
-    /// Each replica in turn takes what there is.
-    fn help_all(&self) {
-        for replica in &self.replicas {
-            replica.node.lock().unwrap().catch_up(&self.log, &replica.slots);
+    fn update(&self, thread: usize, op: Op) -> (u64, Answer) {
+        let home = &self.replicas[thread % self.replicas.len()];
+        *home.slots[thread].lock().unwrap() = Slot::Posted(entry_of(op));
+        let mut waits = Waits(0);
+        loop {
+            let mut slot = home.slots[thread].lock().unwrap();
+            if let Slot::Ready(place, answer) = *slot {
+                *slot = Slot::Empty;
+                return (place, answer);
+            }
+            drop(slot);
+            let Some(mut node) = waits.lock(&home.node) else {
+                waits.wait();
+                continue;
+            };
+            let full = home.combine(&mut node, &self.log);
+            drop(node);
+            if full {
+                for replica in &self.replicas {
+                    replica.catch_up(&mut replica.node.lock().unwrap(), &self.log);
+                }
+            }
         }
     }
 
-    fn update(&self, pass: &mut Pass, thread: usize, call: u64, op: Op) -> (u64, Answer) {
-        let Replica { node, slots } = &self.replicas[thread % self.replicas.len()];
-        let tail = self.log.look(pass).tail;
-        let entry = entry_of(call, op);
-        *slots[thread].lock().unwrap() = Slot::Posted(Waiting { thread, entry });
-        let mut waits = Waits(Backoff(0));
-        let (place, answer) = loop {
-            let mut slot = slots[thread].lock().unwrap();
-            if let Slot::Ready(place, answer) = *slot {
-                *slot = Slot::Empty;
-                break (place, answer);
-            }
-            drop(slot);
-            match waits.lock(node) {
-                Some(mut node) => {
-                    let full = node.combine(&self.log, slots);
-                    drop(node);
-                    if full {
-                        self.help_all();
-                    }
-                }
-                None => waits.wait(),
-            }
-        };
-        let node = node.lock().unwrap();
-        assert!(tail <= place && node.told[place as usize].0.call == call);
-        pass.clone_from(&node.pass);
-        (place, answer)
-    }
-
-    fn read(&self, pass: &mut Pass, thread: usize, address: u64) -> (u64, Answer) {
-        let Replica { node, slots } = &self.replicas[thread % self.replicas.len()];
-        let completed = self.log.look(pass).completed;
-        let mut waits = Waits(Backoff(0));
+    fn read(&self, thread: usize, address: u64) -> (u64, Answer) {
+        let home = &self.replicas[thread % self.replicas.len()];
+        let completed = self.log.completed.0.load(Ordering::Acquire);
+        let mut waits = Waits(0);
         loop {
-            match waits.lock(node) {
-                Some(mut node) => {
-                    let applied = node.told.len() as u64;
-                    if applied >= completed {
-                        return (applied, node.space.resolve(address));
-                    }
-                    node.catch_up(&self.log, slots);
-                }
-                None => waits.wait(),
+            let Some(mut node) = waits.lock(&home.node) else {
+                waits.wait();
+                continue;
+            };
+            if node.applied < completed {
+                home.catch_up(&mut node, &self.log);
             }
+            return (node.applied, node.space.resolve(address));
         }
     }
 }
@@ -251,12 +298,12 @@ fn maps() -> impl Iterator<Item = Op> {
     (0..PAGES).map(|n| Op::Map(n * 4096, 1, n * 4096, 7))
 }
 
-/// One thread for each of the passes; what they did, and the time of all together.
-fn in_threads<P: Send>(passes: Vec<P>, work: impl Fn(usize, P) -> Done + Sync) -> (Vec<Done>, Duration) {
+/// What so many threads did, and the time of all together.
+fn in_threads(threads: usize, work: impl Fn(usize) -> Done + Sync) -> (Vec<Done>, Duration) {
     let work = &work;
     let start = Instant::now();
     let done = std::thread::scope(|scope| {
-        let threads: Vec<_> = passes.into_iter().enumerate().map(|(n, pass)| scope.spawn(move || work(n, pass))).collect();
+        let threads: Vec<_> = (0..threads).map(|thread| scope.spawn(move || work(thread))).collect();
         threads.into_iter().map(|thread| thread.join().unwrap()).collect()
     });
     (done, start.elapsed())
@@ -268,18 +315,14 @@ fn main() {
     let (threads, replicas, each, reads) = (number(2) as usize, number(3) as usize, number(4), number(5));
     let (done, time) = match words[1].as_str() {
         "replicas" => {
-            let (service, mut passes) = Replicas::new(replicas, threads);
-            for (call, op) in maps().enumerate() {
-                service.update(&mut passes[0], 0, call as u64, op);
-            }
-            in_threads(passes, |thread, mut pass| {
-                let mut number = PAGES + thread as u64;
-                calls(thread, each, reads, |op, address| {
-                    number += threads as u64;
-                    match op {
-                        Some(op) => service.update(&mut pass, thread, number, op).1,
-                        None => service.read(&mut pass, thread, address).1,
-                    }
+            let service = Replicas::new(replicas, threads);
+            maps().for_each(|op| {
+                service.update(0, op);
+            });
+            in_threads(threads, |thread| {
+                calls(thread, each, reads, |op, address| match op {
+                    Some(op) => service.update(thread, op).1,
+                    None => service.read(thread, address).1,
                 })
             })
         }
@@ -288,7 +331,7 @@ fn main() {
             maps().for_each(|op| {
                 space.lock().unwrap().apply(op);
             });
-            in_threads(vec![(); threads], |thread, _| {
+            in_threads(threads, |thread| {
                 calls(thread, each, reads, |op, address| match op {
                     Some(op) => space.lock().unwrap().apply(op),
                     None => space.lock().unwrap().resolve(address),
@@ -300,7 +343,7 @@ fn main() {
             maps().for_each(|op| {
                 space.write().unwrap().apply(op);
             });
-            in_threads(vec![(); threads], |thread, _| {
+            in_threads(threads, |thread| {
                 calls(thread, each, reads, |op, address| match op {
                     Some(op) => space.write().unwrap().apply(op),
                     None => space.read().unwrap().resolve(address),
@@ -309,8 +352,9 @@ fn main() {
         }
         _ => panic!("replicas, mutex or rwlock"),
     };
-    for (thread, done) in done.iter().enumerate() {
-        println!("thread {thread} reads {} updates {} sum {}", done.reads, done.updates, done.sum);
+    for done in done {
+        println!("reads {} updates {} sum {}", done.reads, done.updates, done.sum);
     }
-    eprintln!("operations a second  {}", (threads as f64 * each as f64 / time.as_secs_f64()) as u64);
+    eprintln!("operations a second  {:>12}", "call");
+    eprintln!("reads_{reads}_{threads}_{replicas}  {:>12}", (threads as f64 * each as f64 / time.as_secs_f64()) as u64);
 }

@@ -1,8 +1,9 @@
 -- Lists that are gone through one by one.
-use Rattle.std.proofs.Common.{◌≡◌, ℕ, suc, ◌+◌, ◌<◌, List, [], ◌∷◌, ◌++◌, All, length, ap, sym, subst, arith}
+use Rattle.std.proofs.Common.{◌≡◌, ℕ, suc, ◌+◌, ◌<◌, List, [], ◌∷◌, ◌++◌, All, length, take, drop, refl, ap, sym, subst, ◌∙◌, arith}
 use Rattle.std.proofs.Math.ListN.{length-append}
+use Rattle.std.proofs.lemmas.List.{append-nil, take_all}
 use Rattle.std.proofs.lemmas.List.Elements.{All-append}
-use Rattle.nr_node.proofs.Lists.{all_one}
+use Rattle.nr_node.proofs.Lists.{all_one, drop_whole}
 
 -- what holds of all holds of the first, and of the rest
 pub first_and_rest : {X : Type 0} (P : X → Type 0) (all rest : List X) (x : X) → all ≡ x ∷ rest → All P all → P x × All P rest
@@ -21,3 +22,11 @@ pub one_over : {X Y : Type 0} (xs xs' : List X) (x : X) (ys ys' : List Y) (y : Y
     → length xs + length ys ≡ n → length xs' + length ys' ≡ n
 one_over xs xs' x ys ys' y n more less is =
     omega (arith, ap (λ (l : List _). length l) more, ap (λ (l : List _). length l) less, length-append xs (x ∷ []), is)
+
+-- a list into which it was written what it was
+pub written_back : {X : Type 0} (n : ℕ) (new items : List X) → new ≡ items → n ≡ length items → take n (new ++ drop (length new) items) ≡ items
+written_back {X} n new items same long =
+    ap (λ (l : List X). take n (l ++ drop (length l) items)) same
+    ∙ ap (λ (l : List X). take n (items ++ l)) (drop_whole items (length items) refl)
+    ∙ ap (λ (l : List X). take n l) (append-nil items)
+    ∙ take_all n items (omega arith)

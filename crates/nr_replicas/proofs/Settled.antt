@@ -1,7 +1,9 @@
 -- What the dumps and the calls of a log are in each later one.
-use Rattle.std.proofs.Common.{◌≡◌, ℕ, zero, suc, ◌<◌, ◌≤◌, List, [], ◌∷◌, ◌++◌, All, length, map, take, drop, get_or, ap, sym, subst, ◌∙◌, arith}
+use Rattle.std.proofs.Common.{◌≡◌, ℕ, zero, suc, ◌<◌, ◌≤◌, List, [], ◌∷◌, ◌++◌, All, length, map, take, drop, get_or, refl, ap, sym, subst, ◌∙◌, arith}
+use Rattle.std.specs.Prelude.{slice_index}
 use Rattle.std.specs.List.{remove}
-use Rattle.std.proofs.lemmas.List.{map-append, take-append-drop}
+use Rattle.std.proofs.Math.ListN.{length-append}
+use Rattle.std.proofs.lemmas.List.{append_assoc, append_cancel_left, get_or_append_left, map-append, take-append-drop}
 use Rattle.std.proofs.lemmas.List.Elements.{All-append, All-map}
 use Rattle.vs_types.specs.Space.{table_count}
 use Rattle.vs_types.specs.declared.depth.Depth.{Depth}
@@ -11,7 +13,7 @@ use Rattle.vs_walk.specs.Walk.{TranslatesAs}
 use Rattle.nr_ring.specs.Laws.{HasGoneOn}
 use Rattle.nr_ring.specs.LogHistory.{Log, IsLogHistory, local_of, log_after, tail}
 use Rattle.nr_ring.specs.Pass.{Known, TableId}
-use Rattle.nr_ring.specs.View.{HasSeenAdvances, StartsWith}
+use Rattle.nr_ring.specs.View.{HasSeenAdvances, IsElse, StartsWith}
 use Rattle.nr_ring.specs.declared.log_event.LogEvent.{LogEvent}
 use Rattle.nr_ring.specs.declared.view.View.{View}
 use Rattle.nr_ring.proofs.Histories.{local_since}
@@ -21,9 +23,9 @@ use Rattle.nr_node.proofs.Lists.{all_one}
 use Rattle.nr_node.proofs.Looks.{begins_begins, later_goes_on}
 use Rattle.nr_node.proofs.Nodes.{take_still}
 use Rattle.nr_replicas.specs.Replicas.{HasHeard}
-use Rattle.nr_replicas.specs.Settled.{IsDumpOf, IsSettled}
+use Rattle.nr_replicas.specs.Settled.{HasAppliedAllTaken, IsDumpOf, IsSettled}
 use Rattle.nr_replicas.specs.inside.Replicas.{IsNodeOf}
-use Rattle.nr_replicas.specs.inside.Settling.{AreDumpsOf}
+use Rattle.nr_replicas.specs.inside.Settling.{AreDumpsOf, HasAppliedOwn, HasSeenOwnAdvances}
 use Rattle.nr_replicas.proofs.Hearing.{heard_on, heard_twice}
 use Rattle.nr_replicas.proofs.Logs.{tail_rises}
 
@@ -39,20 +41,50 @@ pub heard_taken : (depth : Depth) (replicas : ℕ) (a b : View) → HasHeard dep
     → taken_by replicas b ≡ taken_by replicas a
 heard_taken depth replicas a b is owner =
     let Q : List ℕ → Type 0 = λ l. All (λ replica. HasSeenAdvances replica b.seen a.seen) l in
-    ap (λ (l : List ℕ). local_of (log_after replicas b.seen) (Rattle.std.specs.Prelude.slice_index l 0)) is.owns
+    ap (λ (l : List ℕ). local_of (log_after replicas b.seen) (slice_index l 0)) is.owns
     ∙ local_since replicas (replica_of a) b.seen a.seen (subst Q owner is.advances 0 0 (omega arith))
+
+-- what has no advance of a replica up to a later history has none up to one between
+advances_between : (replica : ℕ) (seen history later : List LogEvent) → StartsWith history seen → StartsWith later history
+    → HasSeenAdvances replica later seen → HasSeenAdvances replica history seen
+advances_between replica seen history later on further is =
+    let whole : seen ++ is.0 ≡ seen ++ (on.0 ++ further.0) =
+    sym is.1 ∙ further.1 ∙ ap (λ (l : List LogEvent). l ++ further.0) on.1 ∙ append_assoc seen on.0 further.0 in
+    let same : is.0 ≡ on.0 ++ further.0 = append_cancel_left seen is.0 (on.0 ++ further.0) whole in
+    let all : All (IsElse replica) (on.0 ++ further.0) = subst (All (IsElse replica)) same is.2 in (
+      on.0,
+      on.1,
+      λ k d lt.
+          let long : k < length (on.0 ++ further.0) = omega (arith, lt, length-append on.0 further.0) in
+          subst (IsElse replica) (get_or_append_left on.0 further.0 d k lt) (all k d long),
+    )
+
+-- a pass that hears of all this history, and that nobody has advanced its replica, knows that nobody has in this history
+pub own_between : (history : List LogEvent) (pass : Known) (later : View) → StartsWith history pass.view.seen → StartsWith later.seen history
+    → All (λ replica. HasSeenAdvances replica later.seen pass.view.seen) pass.view.owns → HasSeenOwnAdvances history pass
+own_between history pass later on further all k d lt =
+    advances_between (get_or pass.view.owns k d) pass.view.seen history later.seen on further (all k d lt)
+
+-- in such a history the replica of a pass has taken no more than the pass has seen
+own_taken : (replicas : ℕ) (history : List LogEvent) (pass : Known) (dump : Image) → HasAppliedOwn replicas pass dump
+    → HasSeenOwnAdvances history pass → HasAppliedAllTaken replicas (log_after replicas history) dump
+own_taken replicas history pass dump is all =
+    let Q : List ℕ → Type 0 = λ l. All (λ r. HasSeenAdvances r history pass.view.seen) l in
+    let still = local_since replicas is.0 history pass.view.seen (subst Q is.2 all 0 0 (omega arith)) in
+    (is.0, is.1, is.3 ∙ sym still)
 
 -- ---- dumps
 
 -- one node more with its dump
 pub one_dump_more : (depth : Depth) (replicas tables : ℕ) (passes : List Known) (dumps : List Image) (node : NodeState) (dump : Image)
     → AreDumpsOf depth replicas tables passes dumps → node.tables ≡ tables → IsDumpOf depth node.tables (log_of replicas node) dump
-    → AreDumpsOf depth replicas tables (passes ++ node.known ∷ []) (dumps ++ dump ∷ [])
-one_dump_more depth replicas tables [] [] node dump are limit is =
-    let P : ℕ → Type 0 = λ n. IsDumpOf depth n (log_of replicas node) dump in (subst P limit is, tt)
-one_dump_more depth replicas tables (p ∷ ps) (d ∷ ds) node dump are limit is = (are.0, one_dump_more depth replicas tables ps ds node dump are.1 limit is)
-one_dump_more depth replicas tables [] (d ∷ ds) node dump are limit is = absurd are
-one_dump_more depth replicas tables (p ∷ ps) [] node dump are limit is = absurd are
+    → HasAppliedOwn replicas node.known dump → AreDumpsOf depth replicas tables (passes ++ node.known ∷ []) (dumps ++ dump ∷ [])
+one_dump_more depth replicas tables [] [] node dump are limit is applied =
+    let P : ℕ → Type 0 = λ n. IsDumpOf depth n (log_of replicas node) dump in (subst P limit is, applied, tt)
+one_dump_more depth replicas tables (p ∷ ps) (d ∷ ds) node dump are limit is applied =
+    (are.0, are.1, one_dump_more depth replicas tables ps ds node dump are.2 limit is applied)
+one_dump_more depth replicas tables [] (d ∷ ds) node dump are limit is applied = absurd are
+one_dump_more depth replicas tables (p ∷ ps) [] node dump are limit is applied = absurd are
 
 dump_stays : (depth : Depth) (tables : ℕ) (p q : Log) (dump : Image) → HasGoneOn p q → IsDumpOf depth tables p dump → IsDumpOf depth tables q dump
 dump_stays depth tables p q dump on is =
@@ -72,9 +104,21 @@ all_dumps_stay depth replicas tables history (p ∷ ps) (dump ∷ dumps) is begi
     dump_stays depth tables (log_after replicas p.view.seen) (log_after replicas history) dump
     (later_goes_on depth replicas p.view.seen history is (begins 0 p (omega arith))) are.0
 all_dumps_stay depth replicas tables history (p ∷ ps) (dump ∷ dumps) is begins are (suc k) d lt =
-    all_dumps_stay depth replicas tables history ps dumps is (λ j e l. begins (suc j) e (omega (arith, l))) are.1 k d (omega (arith, lt))
+    all_dumps_stay depth replicas tables history ps dumps is (λ j e l. begins (suc j) e (omega (arith, l))) are.2 k d (omega (arith, lt))
 all_dumps_stay depth replicas tables history [] (dump ∷ dumps) is begins are k d lt = absurd are
 all_dumps_stay depth replicas tables history (p ∷ ps) [] is begins are k d lt = absurd are
+
+-- where each pass has seen all advances of its replica, its dump has applied what the replica has taken
+all_taken : (depth : Depth) (replicas tables : ℕ) (history : List LogEvent) (passes : List Known) (dumps : List Image)
+    → AreDumpsOf depth replicas tables passes dumps → All (HasSeenOwnAdvances history) passes
+    → All (HasAppliedAllTaken replicas (log_after replicas history)) dumps
+all_taken depth replicas tables history [] [] are own k d lt = absurd (omega (arith, lt))
+all_taken depth replicas tables history (p ∷ ps) (dump ∷ dumps) are own zero d lt =
+    own_taken replicas history p dump are.1 (own 0 p (omega arith))
+all_taken depth replicas tables history (p ∷ ps) (dump ∷ dumps) are own (suc k) d lt =
+    all_taken depth replicas tables history ps dumps are.2 (λ j e l. own (suc j) e (omega (arith, l))) k d (omega (arith, lt))
+all_taken depth replicas tables history [] (dump ∷ dumps) are own k d lt = absurd are
+all_taken depth replicas tables history (p ∷ ps) [] are own k d lt = absurd are
 
 -- ---- calls
 
@@ -122,8 +166,9 @@ pub settled : (depth : Depth) (replicas tables : ℕ) (handed passes others : Li
     → AreDumpsOf depth replicas tables passes dumps → length dumps ≡ replicas
     → calls ≡ map (λ entry. entry.call) (take (applied_of replicas first) (log_of replicas first).entries)
     → all ≡ calls ++ map (λ entry. entry.call) (drop (taken_by replicas c) (log_after replicas c.seen).entries)
+    → All (HasSeenOwnAdvances c.seen) others
     → IsSettled depth replicas tables handed all dumps
-settled depth replicas tables handed passes others first dumps calls all a b c is_node split heard_a begin_a heard_b begin_b heard_c are count first_calls all_are =
+settled depth replicas tables handed passes others first dumps calls all a b c is_node split heard_a begin_a heard_b begin_b heard_c are count first_calls all_are known =
     let v = first.known.view in
     let ab = heard_twice depth replicas a b c heard_b heard_c in
     let whole = heard_twice depth replicas v a c heard_a ab in
@@ -133,6 +178,8 @@ settled depth replicas tables handed passes others first dumps calls all a b c i
     let same : taken_by replicas c ≡ n = heard_taken depth replicas v c whole is_node.owner in
     let Begins : Known → Type 0 = λ pass. StartsWith c.seen pass.view.seen in
     let others_begin : All Begins others = all_begin_later a.seen c.seen others ab.seen begin_a in
+    let Own : Known → Type 0 = HasSeenOwnAdvances c.seen in
+    let all_own : All Own passes = subst (All Own) (sym split) (All-append Own (first.known ∷ []) others (all_one Own first.known whole.advances) known) in
     let every : All Begins passes = subst (All Begins) (sym split) (All-append Begins (first.known ∷ []) others (all_one Begins first.known whole.seen) others_begin) in
     record {
       history = c.seen;
@@ -144,4 +191,5 @@ settled depth replicas tables handed passes others first dumps calls all a b c i
           ∙ all_calls log later n (heard_on depth replicas v c whole) is_node.written;
       one_each = count;
       dumps_are = all_dumps_stay depth replicas tables c.seen passes dumps whole.is_history every are;
+      taken = all_taken depth replicas tables c.seen passes dumps are all_own;
     }

@@ -1,11 +1,11 @@
 -- What is left of the replicas when all is done.
-use Rattle.std.specs.Prelude.{◌≡◌, ℕ, ◌≤◌, List, All, length, map}
+use Rattle.std.specs.Prelude.{◌≡◌, ℕ, ◌<◌, ◌≤◌, List, All, length, map}
 use Rattle.std.specs.FinMap as finite
 use Rattle.vs_types.specs.Space.{table_count}
 use Rattle.vs_types.specs.declared.depth.Depth.{Depth}
 use Rattle.vs_walk.specs.Dump.{Image}
 use Rattle.vs_walk.specs.Walk.{TranslatesAs}
-use Rattle.nr_ring.specs.LogHistory.{Log, IsLogHistory, log_after, tail}
+use Rattle.nr_ring.specs.LogHistory.{Log, IsLogHistory, local_of, log_after, tail}
 use Rattle.nr_ring.specs.Pass.{Known}
 use Rattle.nr_ring.specs.View.{StartsWith}
 use Rattle.nr_ring.specs.declared.log_event.LogEvent.{LogEvent}
@@ -17,7 +17,12 @@ pub record IsDumpOf (depth : Depth) (tables : ℕ) (log : Log) (dump : Image) : 
   pub translates : TranslatesAs depth dump.frames dump.root (space_at depth tables log.entries dump.applied)
   pub frames : finite.len dump.frames ≡ table_count depth (space_at depth tables log.entries dump.applied)
 
--- the calls of one log, which begins with all that each of these passes has seen, and a dump of each replica
+-- a dump has applied just the entries that one of the replicas has taken
+abbrev pub HasAppliedAllTaken : ℕ → Log → Image → Type 0
+HasAppliedAllTaken replicas log dump = (replica : ℕ) × (replica < replicas) × (dump.applied ≡ local_of log replica)
+
+-- the calls of one log, which begins with all that each of these passes has seen, and a dump of each replica, after just the entries
+-- that it has taken
 pub record IsSettled (depth : Depth) (replicas tables : ℕ) (passes : List Known) (calls : List ℕ) (dumps : List Image) : Type 0 where
   pub history : List LogEvent
   pub is_history : IsLogHistory depth replicas history
@@ -25,3 +30,4 @@ pub record IsSettled (depth : Depth) (replicas tables : ℕ) (passes : List Know
   pub calls_are : calls ≡ map (λ entry. entry.call) (log_after replicas history).entries
   pub one_each : length dumps ≡ replicas
   pub dumps_are : All (IsDumpOf depth tables (log_after replicas history)) dumps
+  pub taken : All (HasAppliedAllTaken replicas (log_after replicas history)) dumps

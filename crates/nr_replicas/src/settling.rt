@@ -6,7 +6,7 @@ ghost use Rattle.nr_node.specs.Node.{IsNode, applied_of, log_of, taken_by};
 ghost use Rattle.nr_replicas.specs.Replicas.{HasHeard};
 ghost use Rattle.nr_replicas.specs.Settled.{IsDumpOf, IsSettled};
 ghost use Rattle.nr_replicas.specs.inside.Replicas.{IsNodeOf};
-ghost use Rattle.nr_replicas.specs.inside.Settling.{AreDumpsOf};
+ghost use Rattle.nr_replicas.specs.inside.Settling.{AreDumpsOf, HasSeenOwnAdvances};
 
 use crate::name::ReplicasName;
 use crate::replicas::Replicas;
@@ -21,8 +21,9 @@ use vs_types::Memory;
 use vs_walk::Dump;
 
 impl<J: LogName, K: ReplicasName> Replicas<J, K> {
-    /// What is left when all is done: the call numbers of all entries of the log, by place, and a dump of each replica, by number.
-    /// The log begins with all that each of these passes has seen; they are left as they were.
+    /// What is left when all is done: the call numbers of all entries of the log, by place, and a dump of each replica, by number,
+    /// after just the entries that it has taken. The log begins with all that each of these passes has seen; they are left as
+    /// they were.
     ///
     /// Waits for the log's cell. It takes memory for the nodes, passes, calls and dumps.
     ///
@@ -52,6 +53,7 @@ impl<J: LogName, K: ReplicasName> Replicas<J, K> {
         hear_all(rt, &log, &mut first, &mut others);
         hear_all(rt, &log, &mut first, passes);
         add_rest(rt, &log, &mut first, &mut calls)?;
+        tell_all(rt, &log, &mut first, others);
         Ok((calls, dumps))
     }
 }
@@ -103,14 +105,17 @@ fn passes_of<J: LogName, K: ReplicasName>(
     for node in nodes {
         let dump = dump_of(&node)?;
         dumps.push(dump)?;
-        passes.push(node.into_pass())?;
+        let pass = node.into_pass();
+        pass.has_seen_a_history();
+        passes.push(pass)?;
     }
     Ok((passes, dumps))
 }
 
 /// A node's dump.
 fn dump_of<J: LogName>(node: &Node<RawArena, J>) -> Result<Dump, Memory>
-    ensures { IfOk result (IsDumpOf J.depth node.now.tables (log_of J.replicas node.now)) }
+    ensures applied { IfOk result (λ dump. dump.applied ≡ applied_of J.replicas node.now) }
+    ensures dump { IfOk result (IsDumpOf J.depth node.now.tables (log_of J.replicas node.now)) }
 {
     let _applied = node.applied();
     node.dump()
@@ -144,6 +149,7 @@ fn add_rest<J: LogName, R: Wait>(
 ) -> Result<(), Memory>
     requires log { pass.old.log ≡ log.now }
     requires owner { (replica : ℕ) × (pass.old.view.owns ≡ replica ∷ []) }
+    ensures log { pass.new.log ≡ pass.old.log }
     ensures heard { HasHeard J.depth J.replicas pass.old.view pass.new.view }
     ensures rest { OnOk result (calls.new.items ≡ calls.old.items
         ++ map (λ entry. entry.call) (drop (taken_by J.replicas pass.new.view) (log_after J.replicas pass.new.view.seen).entries)) }
@@ -154,4 +160,21 @@ fn add_rest<J: LogName, R: Wait>(
         calls.push(entry.call)?;
     }
     Ok(())
+}
+
+/// Tells passes what the first has seen. Each of them then sees no advance of its own replica there that it had not seen before.
+fn tell_all<J: LogName, R: Wait>(
+    rt: &R,
+    log: &RingLog<J>,
+    first: &mut LogPass<J>,
+    others: Vec<LogPass<J>>,
+)
+    requires log { (first.old.log ≡ log.now) × All (λ pass. pass.log ≡ log.now) others.items }
+    requires begins { All (λ pass. StartsWith first.old.view.seen pass.view.seen) others.items }
+    ensures first { first.new ≡ first.old }
+    ensures taken { All (HasSeenOwnAdvances first.old.view.seen) others.items }
+{
+    for mut other in others {
+        log.meet(rt, first, &mut other);
+    }
 }

@@ -20,4 +20,3 @@ pub use no_thread::NoThread;
 pub use outcome::{Answers, Outcome, Passes, TraceBytes};
 pub use running::run;
 pub use said::Said;
-pub use worker::Worker;

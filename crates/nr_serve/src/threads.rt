@@ -27,7 +27,7 @@ type Started<J, K> = PromisedHandle<Worker<J>, Finished<J, K>>;
 
 /// Works through all scripts, each in a thread of its own: the workers, by thread. All threads have ended.
 ///
-/// Waits for the threads. It takes 24 bytes for each request.
+/// Waits for the threads. It takes all memory that they need: for what comes of each request, and for a handle of each thread.
 ///
 /// # Errors
 ///

@@ -5,7 +5,7 @@ use std::marker::Model;
 
 /// What a thread hands back when it has ended: its pen, its pass, and what came of each of its calls, in order.
 #[derive(Drop)]
-pub struct Worker<J: LogName> {
+pub(crate) struct Worker<J: LogName> {
     pub(crate) pen: Pen,
     pub(crate) pass: LogPass<J>,
     pub(crate) said: Vec<Said>,

@@ -3,8 +3,10 @@ use Rattle.std.proofs.lemmas.List.{length-map}
 use Rattle.nr_ring.specs.Pass.{Known}
 use Rattle.nr_ring.specs.View.{StartsWith}
 use Rattle.nr_replicas.specs.Replicas.{HasHeard}
-use Rattle.nr_replicas.proofs.Rests.{first_and_rest}
-use Rattle.nr_replicas.proofs.Settled.{all_of_log, first_known, settled}
+use Rattle.nr_replicas.specs.inside.Settling.{HasSeenOwnAdvances}
+use Rattle.nr_replicas.proofs.Hearing.{heard_twice}
+use Rattle.nr_replicas.proofs.Rests.{first_and_rest, written_back}
+use Rattle.nr_replicas.proofs.Settled.{all_begin_later, all_of_log, first_known, settled}
 use Rattle.nr_replicas.proofs.replicas.Replicas.settle.Goals as goal
 
 pub hear_all-requires : goal.hear_all-requires
@@ -59,6 +61,43 @@ add_rest-requires-clause-log g c =
     let first : c.remove-first.result.log ≡ c.self.inside.log = ap (λ (k : Known). k.log) split.0 ∙ own ∙ sym c.self.invariant.0 in
     c.hear_all-2.ensures.log ∙ c.hear_all.ensures.log ∙ first
 
+pub tell_all-requires-clause-log : goal.tell_all-requires-clause-log
+tell_all-requires-clause-log g c =
+    let nodes = c.in_ok-nodes.nodes.items in
+    let passes = c.in_ok-others.others.items in
+    let others = c.remove-first.new.self.items in
+    let node = c.index.result.now in
+    let shared = c.self.inside.shared.items in
+    let many : 0 < length nodes =
+    omega (arith, c.in_ok-nodes.ensures.count, length-map shared (λ (s : _). s.slots), c.self.invariant.1.count, c.self.invariant.1.some) in
+    let split = first_known nodes passes others node c.remove-first.result many c.in_ok-others.ensures.passes c.index.ensures c.remove-first.ensures.value
+    c.remove-first.ensures.items in
+    let Of : Known → Type 0 = λ pass. pass.log ≡ g.K.ReplicasName.log in
+    let all = all_of_log g.K.ReplicasName.log g.K.ReplicasName.tables nodes passes c.in_ok-others.ensures.passes c.in_ok-nodes.ensures.each in
+    let parts = first_and_rest Of passes others node.known split.1 all in
+    let first : c.remove-first.result.log ≡ c.self.inside.log = ap (λ (k : Known). k.log) split.0 ∙ parts.0 ∙ sym c.self.invariant.0 in
+    let Here : Known → Type 0 = λ pass. pass.log ≡ c.self.inside.log in
+    let rest : All Here others = λ k d lt. parts.1 k d lt ∙ sym c.self.invariant.0 in
+    let back = written_back c.remove-first.new.self.len c.hear_all.new.passes others (c.hear_all.ensures.passes ∙ c.deref_mut.ensures.value)
+    c.remove-first.new.self.ok.0 in
+    (c.add_rest.ensures.log ∙ c.hear_all-2.ensures.log ∙ c.hear_all.ensures.log ∙ first, subst (All Here) (sym back) rest)
+
+pub tell_all-requires-clause-begins : goal.tell_all-requires-clause-begins
+tell_all-requires-clause-begins g c =
+    let depth = g.J.LogName.depth in
+    let replicas = g.J.LogName.replicas in
+    let others = c.remove-first.new.self.items in
+    let a = c.hear_all.new.first.view in
+    let b = c.hear_all-2.new.first.view in
+    let last = c.add_rest.new.pass.view in
+    let Begins : Known → Type 0 = λ pass. StartsWith a.seen pass.view.seen in
+    let Last : Known → Type 0 = λ pass. StartsWith last.seen pass.view.seen in
+    let begins : All Begins others = subst (All Begins) c.deref_mut.ensures.value c.hear_all.ensures.begins in
+    let on = heard_twice depth replicas a b last c.hear_all-2.ensures.heard c.in_ok-add_rest.ensures.heard in
+    let back = written_back c.remove-first.new.self.len c.hear_all.new.passes others (c.hear_all.ensures.passes ∙ c.deref_mut.ensures.value)
+    c.remove-first.new.self.ok.0 in
+    subst (All Last) (sym back) (all_begin_later a.seen last.seen others on.seen begins)
+
 pub returns-clause-settled : goal.returns-clause-settled
 returns-clause-settled g c =
     let depth = g.J.LogName.depth in
@@ -83,6 +122,10 @@ returns-clause-settled g c =
     let count : length c.in_ok-others.dumps.items ≡ replicas =
     c.in_ok-others.ensures.count ∙ c.in_ok-nodes.ensures.count ∙ sym (length-map shared (λ (s : _). s.slots)) ∙ c.self.invariant.1.count
     ∙ c.self.invariant.1.replicas_are in
+    let back = written_back c.remove-first.new.self.len c.hear_all.new.passes others (c.hear_all.ensures.passes ∙ c.deref_mut.ensures.value)
+    c.remove-first.new.self.ok.0 in
+    let own_advances = subst (All (HasSeenOwnAdvances last.seen)) back c.tell_all.ensures.taken in
     settled depth replicas tables c.args.passes.now passes others node c.in_ok-others.dumps.items c.in_ok-calls.calls.items c.add_rest.new.calls.items a b last
     c.in_ok-calls.ensures.is_node split.1 heard begins c.hear_all-2.ensures.heard c.hear_all-2.ensures.begins c.in_ok-add_rest.ensures.heard
     c.in_ok-others.ensures.dumps count c.in_ok-calls.ensures.calls c.in_ok-add_rest.ensures.rest
+    own_advances

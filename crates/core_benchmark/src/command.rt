@@ -1,0 +1,101 @@
+use crate::calls::steps;
+use crate::fault::ProgFault;
+use crate::measure::{Measured, measure};
+use crate::scripts::{are_scripts, scripts};
+use std::env;
+use std::rt::{Clock, Env};
+use std::time::Duration;
+use vs_types::{Config, Depth, TABLES};
+
+/// Runs the program on its words, and gives the exit status.
+pub fn run<R: Env + AllocGlobal + Print + Eprint + Clock>(rt: &R) -> u8 {
+    match try_run(rt) {
+        Ok(()) => 0,
+        Err(fault) => {
+            let _ = eprintln!(rt; "{fault}");
+            fault.status()
+        }
+    }
+}
+
+/// What the program's words ask for.
+#[derive(Clone, Copy)]
+struct Wanted {
+    config: Config,
+    /// How many calls each thread makes.
+    requests: u32,
+}
+
+/// The words are the number of threads, that of replicas, and how many calls all threads make together.
+fn read_words<R: Env + AllocGlobal>(rt: &R) -> Result<Wanted, ProgFault> {
+    let words: Vec<String> = env::args(rt)
+        .map_err(|_| ProgFault::Memory)?
+        .collect(rt.alloc())?;
+    let [_, threads, replicas, calls] = words.as_slice() else {
+        return Err(ProgFault::BadWords);
+    };
+    let threads = threads.parse::<u16>().map_err(|_| ProgFault::BadWords)?;
+    let replicas = replicas.parse::<u8>().map_err(|_| ProgFault::BadWords)?;
+    let calls = calls.parse::<u32>().map_err(|_| ProgFault::BadWords)?;
+    let config = Config::new(Depth::Four, replicas, threads, TABLES)?;
+    if threads % u16::from(replicas.max(1)) != 0 || calls > 65_536 {
+        return Err(ProgFault::BadWords);
+    }
+    Ok(Wanted {
+        config,
+        requests: calls / u32::from(threads.max(1)),
+    })
+}
+
+/// Takes the steps, and prints what they came to and how many there were in a second.
+fn try_run<R: Env + AllocGlobal + Print + Eprint + Clock>(rt: &R) -> Result<(), ProgFault> {
+    let Wanted { config, requests } = read_words(rt)?;
+    let alloc = rt.alloc();
+    let scripts = scripts(alloc, config.threads(), requests)?;
+    let steps = steps(alloc, config.threads(), config.replicas(), requests)?;
+    if !are_scripts(config, &scripts) {
+        return Err(ProgFault::BadWords);
+    }
+    let measured = measure(rt, alloc, config, scripts, &steps)?;
+    let taken = steps.len() as u64;
+    print_measured(rt, taken, measured)?;
+    print_rate(rt, config, taken, measured.time)
+}
+
+fn print_measured<R: Print>(rt: &R, steps: u64, measured: Measured) -> Result<(), ProgFault> {
+    let Measured {
+        enabled,
+        events,
+        entries,
+        places,
+        ..
+    } = measured;
+    println!(rt; "steps {steps} enabled {enabled}").map_err(|_| ProgFault::CannotWrite)?;
+    println!(rt; "events {events} entries {entries} places {places}").map_err(
+        |_| ProgFault::CannotWrite,
+    )
+}
+
+/// Steps a second.
+fn print_rate<R: Eprint>(
+    rt: &R,
+    config: Config,
+    steps: u64,
+    time: Duration,
+) -> Result<(), ProgFault> {
+    let (threads, replicas) = (config.threads(), config.replicas());
+    let rate = rate(steps, time);
+    eprintln!(rt; "operations a second  {:>12}", "step").map_err(|_| ProgFault::CannotWrite)?;
+    eprintln!(rt; "threads_{threads}_{replicas}          {rate:>12}").map_err(
+        |_| ProgFault::CannotWrite,
+    )
+}
+
+/// How many steps fit into a second, where this many took this time.
+fn rate(steps: u64, time: Duration) -> u64 {
+    let nanos = time
+        .as_secs()
+        .saturating_mul(1_000_000_000)
+        .saturating_add(u64::from(time.subsec_nanos()));
+    steps.saturating_mul(1_000_000_000) / nanos.max(1)
+}

@@ -1,0 +1,59 @@
+use std::alloc::{AllocError, AllocFailed};
+use thiserror::Error;
+
+/// Why the program ends early. The text goes to standard error.
+#[derive(Debug, Drop, Error)]
+pub enum ProgFault {
+    /// The program's words aren't how many threads, replicas and calls there are.
+    #[error("usage: core_benchmark THREADS REPLICAS CALLS, up to 64 threads, so many for each of up to 4 replicas, and 65536 calls in all")]
+    BadWords,
+    /// The output gave an error.
+    #[error("cannot write")]
+    CannotWrite,
+    /// The clock gave an error.
+    #[error("cannot read the clock")]
+    NoClock,
+    /// A growth of memory was refused.
+    #[error("out of memory")]
+    Memory,
+}
+
+impl ProgFault {
+    /// The exit status: 3 where memory runs out, else 2.
+    pub fn status(&self) -> u8 {
+        match self {
+            ProgFault::Memory => 3,
+            ProgFault::BadWords | ProgFault::CannotWrite | ProgFault::NoClock => 2,
+        }
+    }
+}
+
+impl From<AllocError> for ProgFault {
+    fn from(_error: AllocError) -> ProgFault {
+        ProgFault::Memory
+    }
+}
+
+impl<T: Drop> From<AllocFailed<T>> for ProgFault {
+    fn from(_error: AllocFailed<T>) -> ProgFault {
+        ProgFault::Memory
+    }
+}
+
+impl From<vs_types::Memory> for ProgFault {
+    fn from(_error: vs_types::Memory) -> ProgFault {
+        ProgFault::Memory
+    }
+}
+
+impl From<vs_types::BadConfig> for ProgFault {
+    fn from(_error: vs_types::BadConfig) -> ProgFault {
+        ProgFault::BadWords
+    }
+}
+
+impl From<vs_types::BadOp> for ProgFault {
+    fn from(_error: vs_types::BadOp) -> ProgFault {
+        ProgFault::BadWords
+    }
+}

@@ -1,0 +1,100 @@
+use crate::fault::ProgFault;
+use crate::measure::{Done, Measured, Work, measure};
+use std::env;
+use std::marker::Brand;
+use std::rt::{Clock, Env};
+use std::sync::Wait;
+use std::thread::Threads;
+use vs_types::{Config, Depth, TABLES};
+
+/// Runs the program on its words, and gives the exit status.
+pub fn run<R: Env + AllocGlobal + Print + Eprint + Clock + Threads + Wait + Sync>(rt: &R) -> u8 {
+    match try_run(rt) {
+        Ok(()) => 0,
+        Err(fault) => {
+            let _ = eprintln!(rt; "{fault}");
+            fault.status()
+        }
+    }
+}
+
+/// What the program's words ask for.
+#[derive(Clone, Copy)]
+struct Wanted {
+    threads: u16,
+    replicas: u8,
+    work: Work,
+}
+
+/// The words are the number of threads, that of replicas, how many calls each thread makes, and how many of a hundred read.
+fn read_words<R: Env + AllocGlobal>(rt: &R) -> Result<Wanted, ProgFault> {
+    let words: Vec<String> = env::args(rt)
+        .map_err(|_| ProgFault::Memory)?
+        .collect(rt.alloc())?;
+    let [_, threads, replicas, calls, reads] = words.as_slice() else {
+        return Err(ProgFault::BadWords);
+    };
+    let threads = threads.parse::<u16>().map_err(|_| ProgFault::BadWords)?;
+    let replicas = replicas.parse::<u8>().map_err(|_| ProgFault::BadWords)?;
+    let calls = calls.parse::<u32>().map_err(|_| ProgFault::BadWords)?;
+    let reads = reads.parse::<u8>().map_err(|_| ProgFault::BadWords)?;
+    if reads > 100 {
+        return Err(ProgFault::BadWords);
+    }
+    Ok(Wanted {
+        threads,
+        replicas,
+        work: Work { calls, reads },
+    })
+}
+
+/// Makes the calls, and prints what they found and how many there were in a second.
+fn try_run<R: Env + AllocGlobal + Print + Eprint + Clock + Threads + Wait + Sync>(
+    rt: &R,
+) -> Result<(), ProgFault> {
+    let Wanted {
+        threads,
+        replicas,
+        work,
+    } = read_words(rt)?;
+    let config = Config::new(Depth::Four, replicas, threads, TABLES)?;
+    let measured = measure::<Brand, R>(rt, rt.alloc(), config, work)?;
+    print_done(rt, &measured.done)?;
+    print_rate(rt, config, work, &measured)
+}
+
+/// What each thread did.
+fn print_done<R: Print>(rt: &R, all: &[Done]) -> Result<(), ProgFault> {
+    for done in all {
+        let Done {
+            reads,
+            updates,
+            sum,
+        } = *done;
+        println!(rt; "reads {reads} updates {updates} sum {sum}").map_err(
+            |_| ProgFault::CannotWrite,
+        )?;
+    }
+    Ok(())
+}
+
+/// Operations a second of all threads together.
+fn print_rate<R: Eprint>(
+    rt: &R,
+    config: Config,
+    work: Work,
+    measured: &Measured,
+) -> Result<(), ProgFault> {
+    let (threads, replicas, reads) = (config.threads(), config.replicas(), work.reads);
+    let all = u64::from(threads) * u64::from(work.calls);
+    let nanos = measured
+        .time
+        .as_secs()
+        .saturating_mul(1_000_000_000)
+        .saturating_add(u64::from(measured.time.subsec_nanos()));
+    let rate = all.saturating_mul(1_000_000_000) / nanos.max(1);
+    eprintln!(rt; "operations a second  {:>12}", "call").map_err(|_| ProgFault::CannotWrite)?;
+    eprintln!(rt; "reads_{reads}_{threads}_{replicas}  {rate:>12}").map_err(
+        |_| ProgFault::CannotWrite,
+    )
+}

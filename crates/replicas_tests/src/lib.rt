@@ -1,0 +1,30 @@
+//! Worked examples of the public calls of the replicas, with values from elsewhere: each call with ample memory, at both depths, and
+//! threads that share replicas. No crate stands on this one, so that each library is proved once.
+#![tactic(auto)]
+
+#[cfg(test)]
+mod caller;
+#[cfg(test)]
+mod draws;
+#[cfg(test)]
+mod dumps;
+#[cfg(test)]
+mod ends;
+#[cfg(test)]
+mod examples;
+#[cfg(test)]
+mod gate;
+#[cfg(test)]
+mod held;
+#[cfg(test)]
+mod judge;
+#[cfg(test)]
+mod scene;
+#[cfg(test)]
+mod sizes;
+#[cfg(test)]
+mod steps;
+#[cfg(test)]
+mod stops;
+#[cfg(test)]
+mod threads;
