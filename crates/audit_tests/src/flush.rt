@@ -1,4 +1,4 @@
-use nr_engines::Command;
+use nr_engines::{Command, ProgFault};
 use std::io::{Error, ErrorKind, Read, Write};
 use std::test::Fail;
 
@@ -34,12 +34,9 @@ fn flush_that_fails(rt: HostRuntime) -> Result<(), Fail> {
     for (command, answer) in commands {
         let mut output = FailsAtFlush(Vec::new(rt.alloc()));
         let mut input = HEAD.as_slice().chain(root.as_slice());
-        let told = match command.run(rt.alloc(), &mut input, &mut output) {
-            Ok(status) => ("an answer", status),
-            Err(fault) => (fault.text(), fault.status()),
-        };
+        let told = command.run(&rt, rt.alloc(), &mut input, &mut output);
         assert_eq!(rt; output.0.as_slice(), answer.as_bytes());
-        assert_eq!(rt; told, ("cannot write", 2));
+        assert!(rt; matches!(told, Err(ProgFault::CannotWrite)));
     }
     Ok(())
 }
