@@ -1,0 +1,96 @@
+//! Runs that no gate stops.
+use crate::gates::HoldUntil;
+use crate::scene::{TURNS, verified, verified_of};
+use crate::scripts::{access_high, map_a, map_high, resolve_a, unmap_a};
+use nr_replicas::Point;
+use nr_serve::{AlwaysGo, Said};
+use nr_trace::Version;
+use std::test::Fail;
+use vs_types::{Access, Answer, Config, Depth, Mode, Rights, Size};
+
+#[test]
+fn run_of_four_lines(rt: HostRuntime) -> Result<(), Fail> {
+    let alloc = rt.alloc();
+    let script = vec![in alloc; map_a(&rt), resolve_a(&rt), unmap_a(&rt), resolve_a(&rt)]?;
+    let shown = verified(&rt, alloc, 1, vec![in alloc; script]?, TURNS, &AlwaysGo)?;
+    shown.assert_said(
+        &rt,
+        0,
+        &[
+            Said::Answer(0, Answer::Done),
+            Said::Answer(1, Answer::Mapped(0x1123, Size::K4, Rights::ALL)),
+            Said::Answer(1, Answer::Removed(0x1000, Size::K4, Rights::ALL)),
+            Said::Answer(2, Answer::NotMapped),
+        ],
+    );
+    assert_eq!(rt; shown.order.calls(), [0u32, 2, 4, 6].as_slice());
+    Ok(())
+}
+
+#[test]
+fn empty_run(rt: HostRuntime) -> Result<(), Fail> {
+    let alloc = rt.alloc();
+    let shown = verified(
+        &rt,
+        alloc,
+        1,
+        vec![in alloc; Vec::new(alloc)]?,
+        TURNS,
+        &AlwaysGo,
+    )?;
+    shown.assert_said(&rt, 0, &[]);
+    assert_eq!(rt; shown.order.calls().len(), 0);
+    Ok(())
+}
+
+/// One thread waits until the other has its answer, and then the other for the one.
+#[test]
+fn two_workers_really_run(rt: HostRuntime) -> Result<(), Fail> {
+    let alloc = rt.alloc();
+    for held in 0..2u16 {
+        let gate = HoldUntil::new(held, Point::Answered, false);
+        let first = vec![in alloc; resolve_a(&rt)]?;
+        let second = vec![in alloc; resolve_a(&rt)]?;
+        let shown = verified(&rt, alloc, 2, vec![in alloc; first, second]?, TURNS, &gate)?;
+        shown.assert_said(&rt, 0, &[Said::Answer(0, Answer::NotMapped)]);
+        shown.assert_said(&rt, 1, &[Said::Answer(0, Answer::NotMapped)]);
+    }
+    Ok(())
+}
+
+/// Accesses at five levels: a page fault's code has 1 where a page is there, 2 for a write, 4 for user mode, 16 for a fetch.
+#[test]
+fn accesses_of_five_levels(rt: HostRuntime) -> Result<(), Fail> {
+    let alloc = rt.alloc();
+    let script = vec![in alloc;
+        access_high(&rt, Mode::User, Access::Write),
+        map_high(&rt),
+        access_high(&rt, Mode::Supervisor, Access::Read),
+        access_high(&rt, Mode::User, Access::Write),
+        access_high(&rt, Mode::Supervisor, Access::Fetch),
+    ]?;
+    let config = Config::new(Depth::Five, 1, 1, 5)?;
+    let shown = verified_of(
+        &rt,
+        alloc,
+        config,
+        vec![in alloc; script]?,
+        TURNS,
+        &AlwaysGo,
+    )?;
+    shown.assert_said(
+        &rt,
+        0,
+        &[
+            Said::Answer(0, Answer::Fault(6)),
+            Said::Answer(0, Answer::Done),
+            Said::Answer(1, Answer::Allowed(0x1123)),
+            Said::Answer(1, Answer::Fault(7)),
+            Said::Answer(1, Answer::Fault(17)),
+        ],
+    );
+    let trace = shown.read(&rt, alloc);
+    assert_eq!(rt; trace.version(), Version::V2);
+    assert_eq!(rt; trace.dumps()[0].count(), 5);
+    Ok(())
+}
