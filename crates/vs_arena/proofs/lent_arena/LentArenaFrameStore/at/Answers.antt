@@ -1,4 +1,4 @@
-use Rattle.std.proofs.Common.{◌≡◌, ℕ, ◌+◌, false, get_or, take, ap, subst, arith}
+use Rattle.std.proofs.Common.{◌≡◌, false, get_or, take, ap, subst, arith}
 use Rattle.vs_arena.specs.Store.{IsInUse, IsFree}
 use Rattle.vs_arena.specs.Arena.{Arena}
 use Rattle.vs_arena.specs.inside.LentArena.{uses}

@@ -1,9 +1,9 @@
-use Rattle.std.proofs.Common.{get_or, take, [], sym, ap, ◌∙◌, arith}
+use Rattle.std.proofs.Common.{take, sym, ap, ◌∙◌}
 use Rattle.vs_arena.specs.Store.{words_of}
 use Rattle.vs_arena.specs.Arena.{Arena}
 use Rattle.vs_arena.specs.inside.LentArena.{uses}
 use Rattle.vs_arena.proofs.LentArenas.{was_lent, words_at}
-use Rattle.vs_arena.proofs.MarkedFrames.{marked_here, IsMarked-from_use}
+use Rattle.vs_arena.proofs.MarkedFrames.{marked_here}
 use Rattle.vs_arena.specs.inside.Arena.{marked_frames}
 use Rattle.vs_arena.proofs.lent_arena.LentArenaFrameStore.frame.Goals as goal
 

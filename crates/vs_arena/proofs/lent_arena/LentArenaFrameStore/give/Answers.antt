@@ -1,4 +1,4 @@
-use Rattle.std.proofs.Common.{◌<◌, length, take, set, [], ap, ◌∙◌, arith}
+use Rattle.std.proofs.Common.{take, set, [], ap, ◌∙◌}
 use Rattle.std.proofs.lemmas.List.{get_or-set_same, get_or-take}
 use Rattle.std.specs.FinMap as finite
 use Rattle.vs_arena.specs.Store.{zeros}

@@ -1,4 +1,4 @@
-use Rattle.std.proofs.Common.{◌≡◌, get_or, take, set, [], sym, ap, ◌∙◌, arith}
+use Rattle.std.proofs.Common.{get_or, take, set, [], sym, ap, ◌∙◌, arith}
 use Rattle.std.specs.FinMap as finite
 use Rattle.vs_arena.specs.Store.{words_of}
 use Rattle.vs_types.specs.Frame.{IsFrame}

@@ -1,4 +1,4 @@
-use Rattle.std.proofs.Common.{◌<◌, length, take, set, ap, ◌∙◌, arith}
+use Rattle.std.proofs.Common.{take, set, ap, ◌∙◌, arith}
 use Rattle.std.specs.FinMap as finite
 use Rattle.vs_arena.specs.Arena.{Arena}
 use Rattle.vs_arena.specs.inside.Arena.{marked_frames, marked_notes}
