@@ -9,7 +9,7 @@ use Rattle.vs_types.specs.Frame.{IsFrame}
 use Rattle.vs_arena.specs.Store.{zeros}
 use Rattle.vs_arena.specs.declared.mark.FrameMark.{FrameMark}
 use Rattle.vs_arena.specs.inside.Arena.{marked_frames}
-use Rattle.vs_arena.specs.inside.LentArena.{column, uses, notes, given_back, IsLentArena}
+use Rattle.vs_arena.specs.inside.LentArena.{column, uses_of_first, notes_of_first, given_back, IsLentArena}
 use Rattle.vs_arena.proofs.MarkedFrames.{IsMarked, IsArena-write, IsArena-note, IsArena-give, IsArena-again, IsArena-first, IsArena-new, room_for_one}
 
 -- a mark of zeros
@@ -75,17 +75,17 @@ module _ {base taken given : ℕ} {words : List (List ℕ)} {marks : List FrameM
   pub taken_marks : taken ≤ length marks
   taken_marks = omega (arith, lent.taken_within, lent.marks_for_each)
 
-  pub length-uses : length (uses taken marks) ≡ taken
+  pub length-uses : length (uses_of_first taken marks) ≡ taken
   length-uses = length-column use_of taken marks taken_marks
 
   pub length-given : length (given_back given marks) ≡ given
   length-given = length-column free_in given marks (omega (arith, taken_marks, lent.given_within))
 
   -- a frame in use was taken
-  pub was_taken : {index : ℕ} → IsMarked (uses taken marks) (take taken words) index → index < taken
+  pub was_taken : {index : ℕ} → IsMarked (uses_of_first taken marks) (take taken words) index → index < taken
   was_taken is_marked = omega (arith, is_marked.in_marks, length-uses)
 
-  pub IsLentArena-write : {index : ℕ} (own : List ℕ) → IsFrame own → IsMarked (uses taken marks) (take taken words) index
+  pub IsLentArena-write : {index : ℕ} (own : List ℕ) → IsFrame own → IsMarked (uses_of_first taken marks) (take taken words) index
       → IsLentArena base taken given (set words index own) marks
   IsLentArena-write {index} own own_frame is_marked = record {
     arena = rw (length-set words index own, take-set taken words index own) (IsArena-write lent.arena own own_frame is_marked);
@@ -94,35 +94,35 @@ module _ {base taken given : ℕ} {words : List (List ℕ)} {marks : List FrameM
     marks_for_each = rw (length-set words index own) lent.marks_for_each;
   }
 
-  pub was_lent : {index : ℕ} → IsMarked (uses taken marks) (take taken words) index → index < length words
+  pub was_lent : {index : ℕ} → IsMarked (uses_of_first taken marks) (take taken words) index → index < length words
   was_lent is_marked = omega (arith, was_taken is_marked, lent.taken_within)
 
-  pub is_used : (index : ℕ) → index < taken → (get_or marks index blank).in_use ≡ 1 → get_or (uses taken marks) index false ≡ true
+  pub is_used : (index : ℕ) → index < taken → (get_or marks index blank).in_use ≡ 1 → get_or (uses_of_first taken marks) index false ≡ true
   is_used index below used = column-at use_of taken marks index false taken_marks below ∙ ap (λ n. nat_eq n 1) used
 
-  pub is_unused : (index : ℕ) → ((get_or marks index blank).in_use ≡ 1 → ⊥) → get_or (uses taken marks) index false ≡ false
-  is_unused index other = elim (cases_lt index taken) as (λ _. get_or (uses taken marks) index false ≡ false) [
+  pub is_unused : (index : ℕ) → ((get_or marks index blank).in_use ≡ 1 → ⊥) → get_or (uses_of_first taken marks) index false ≡ false
+  is_unused index other = elim (cases_lt index taken) as (λ _. get_or (uses_of_first taken marks) index false ≡ false) [
     | inl lt ↦ column-at use_of taken marks index false taken_marks lt ∙ ne_eqb _ 1 other
-    | inr le ↦ get_or_past (uses taken marks) index false (omega (arith, le, length-uses))
+    | inr le ↦ get_or_past (uses_of_first taken marks) index false (omega (arith, le, length-uses))
   ]
 
-  pub is_past : (index : ℕ) → taken ≤ index → get_or (uses taken marks) index false ≡ false
-  is_past index le = get_or_past (uses taken marks) index false (omega (arith, le, length-uses))
+  pub is_past : (index : ℕ) → taken ≤ index → get_or (uses_of_first taken marks) index false ≡ false
+  is_past index le = get_or_past (uses_of_first taken marks) index false (omega (arith, le, length-uses))
 
-  pub note_at : {index : ℕ} → IsMarked (uses taken marks) (take taken words) index → get_or (notes taken marks) index 0 ≡ (get_or marks index blank).note
+  pub note_at : {index : ℕ} → IsMarked (uses_of_first taken marks) (take taken words) index → get_or (notes_of_first taken marks) index 0 ≡ (get_or marks index blank).note
   note_at {index} is_marked = column-at note_in taken marks index 0 taken_marks (was_taken is_marked)
 
-  pub words_at : {index : ℕ} → IsMarked (uses taken marks) (take taken words) index → get_or (take taken words) index [] ≡ get_or words index []
+  pub words_at : {index : ℕ} → IsMarked (uses_of_first taken marks) (take taken words) index → get_or (take taken words) index [] ≡ get_or words index []
   words_at {index} is_marked = get_or-take taken words index [] (was_taken is_marked)
 
-  pub uses-noted : (index note : ℕ) → uses taken (set marks index (noted_mark marks index note)) ≡ uses taken marks
+  pub uses-noted : (index note : ℕ) → uses_of_first taken (set marks index (noted_mark marks index note)) ≡ uses_of_first taken marks
   uses-noted index note = column-kept use_of taken marks index (noted_mark marks index note) refl
 
-  pub notes-noted : (index note : ℕ) → notes taken (set marks index (noted_mark marks index note)) ≡ set (notes taken marks) index note
+  pub notes-noted : (index note : ℕ) → notes_of_first taken (set marks index (noted_mark marks index note)) ≡ set (notes_of_first taken marks) index note
   notes-noted index note = column-set note_in taken marks index (noted_mark marks index note)
 
   -- as many frames are in use as were taken and not given back
-  pub used_count : finite.len (marked_frames (uses taken marks) (take taken words)) + given ≡ taken
+  pub used_count : finite.len (marked_frames (uses_of_first taken marks) (take taken words)) + given ≡ taken
   used_count = omega (arith, lent.arena.counted, length-uses, length-given)
 
   pub IsLentArena-note : (index note : ℕ) → IsLentArena base taken given words (set marks index (noted_mark marks index note))
@@ -138,7 +138,7 @@ module _ {base taken given : ℕ} {words : List (List ℕ)} {marks : List FrameM
 
   -- ---- a frame is given back
 
-  pub room_to_give : {index : ℕ} → IsMarked (uses taken marks) (take taken words) index → given < taken
+  pub room_to_give : {index : ℕ} → IsMarked (uses_of_first taken marks) (take taken words) index → given < taken
   room_to_give is_marked = omega (arith, room_for_one lent.arena is_marked, length-uses, length-given)
 
   module _ (index : ℕ) where
@@ -148,10 +148,10 @@ module _ {base taken given : ℕ} {words : List (List ℕ)} {marks : List FrameM
     abbrev pub given_marks : List FrameMark
     given_marks = set unmarked given (listed_mark unmarked given index)
 
-    pub uses-given : uses taken given_marks ≡ set (uses taken marks) index false
+    pub uses-given : uses_of_first taken given_marks ≡ set (uses_of_first taken marks) index false
     uses-given = column-kept use_of taken unmarked given (listed_mark unmarked given index) refl ∙ column-set use_of taken marks index (unused_mark marks index)
 
-    pub notes-given : notes taken given_marks ≡ notes taken marks
+    pub notes-given : notes_of_first taken given_marks ≡ notes_of_first taken marks
     notes-given = column-kept note_in taken unmarked given (listed_mark unmarked given index) refl ∙ column-kept note_in taken marks index (unused_mark marks index) refl
 
     given-given : given < length marks → given_back (given + 1) given_marks ≡ given_back given marks ++ index ∷ []
@@ -161,7 +161,7 @@ module _ {base taken given : ℕ} {words : List (List ℕ)} {marks : List FrameM
     length-given_marks : length given_marks ≡ length marks
     length-given_marks = length-set unmarked given (listed_mark unmarked given index) ∙ length-set marks index (unused_mark marks index)
 
-    pub IsLentArena-give : IsMarked (uses taken marks) (take taken words) index → get_or (take taken words) index [] ≡ zeros
+    pub IsLentArena-give : IsMarked (uses_of_first taken marks) (take taken words) index → get_or (take taken words) index [] ≡ zeros
         → IsLentArena base taken (given + 1) words given_marks
     IsLentArena-give is_marked zeroed =
         let room : given < taken = room_to_give is_marked in
@@ -178,10 +178,10 @@ module _ {base taken given : ℕ} {words : List (List ℕ)} {marks : List FrameM
     abbrev pub marked_again : List FrameMark
     marked_again = set marks index (used_mark marks index)
 
-    pub uses-again : uses taken marked_again ≡ set (uses taken marks) index true
+    pub uses-again : uses_of_first taken marked_again ≡ set (uses_of_first taken marks) index true
     uses-again = column-set use_of taken marks index (used_mark marks index)
 
-    pub notes-again : notes taken marked_again ≡ set (notes taken marks) index 0
+    pub notes-again : notes_of_first taken marked_again ≡ set (notes_of_first taken marks) index 0
     notes-again = column-set note_in taken marks index (used_mark marks index)
 
   -- one that was given back last
@@ -206,10 +206,10 @@ module _ {base taken given : ℕ} {words : List (List ℕ)} {marks : List FrameM
     room_marks : taken < length marks
     room_marks = omega (arith, room, lent.marks_for_each)
 
-    pub uses-first : uses (taken + 1) (marked_again taken) ≡ uses taken marks ++ true ∷ []
+    pub uses-first : uses_of_first (taken + 1) (marked_again taken) ≡ uses_of_first taken marks ++ true ∷ []
     uses-first = column-push use_of taken marks (used_mark marks taken) room_marks
 
-    pub notes-first : notes (taken + 1) (marked_again taken) ≡ notes taken marks ++ 0 ∷ []
+    pub notes-first : notes_of_first (taken + 1) (marked_again taken) ≡ notes_of_first taken marks ++ 0 ∷ []
     notes-first = column-push note_in taken marks (used_mark marks taken) room_marks
 
     pub words-first : take (taken + 1) (set words taken zeros) ≡ take taken words ++ zeros ∷ []

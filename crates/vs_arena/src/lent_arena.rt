@@ -30,7 +30,7 @@ impl<'a> Model for LentArena<'a> {
     ghost use Rattle.std.specs.Prelude.{length, take};
     ghost use Rattle.vs_arena.specs.Arena.{Arena};
     ghost use Rattle.vs_arena.specs.inside.Arena.{arena_code, marked_frames, marked_notes};
-    ghost use Rattle.vs_arena.specs.inside.LentArena.{uses, notes, IsLentArena};
+    ghost use Rattle.vs_arena.specs.inside.LentArena.{uses_of_first, notes_of_first, IsLentArena};
 
     ghost Value = { Arena };
 
@@ -39,8 +39,8 @@ impl<'a> Model for LentArena<'a> {
     ghost view = { λ a. record {
       base = a.base;
       size = length a.words.now;
-      frames = marked_frames (uses a.taken a.marks.now) (take a.taken a.words.now);
-      notes = marked_notes (uses a.taken a.marks.now) (notes a.taken a.marks.now);
+      frames = marked_frames (uses_of_first a.taken a.marks.now) (take a.taken a.words.now);
+      notes = marked_notes (uses_of_first a.taken a.marks.now) (notes_of_first a.taken a.marks.now);
     } };
 
     ghost invariant = { λ a. IsLentArena a.base a.taken a.given a.words.now a.marks.now };
