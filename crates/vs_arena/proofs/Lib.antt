@@ -2,6 +2,7 @@ pub mod Stores
 pub mod Marked
 pub mod MarkedFrames
 pub mod RawArenas
+pub mod LentArenas
 pub mod RegionMemory
 pub mod RegionSteps
 pub mod RegionSharing

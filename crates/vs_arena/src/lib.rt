@@ -4,12 +4,16 @@
 #![tactic(auto)]
 
 mod frame;
+mod lent_arena;
+mod mark;
 mod raw_arena;
 mod region;
 mod store;
 mod vec_arena;
 
 pub use frame::Frame;
+pub use lent_arena::LentArena;
+pub use mark::FrameMark;
 pub use raw_arena::RawArena;
 pub use store::FrameStore;
 pub use vec_arena::VecArena;

@@ -1,0 +1,10 @@
+use Rattle.vs_arena.proofs.LentArenas.{IsLentArena-new}
+use Rattle.vs_arena.proofs.MarkedFrames.{empty_arena}
+use Rattle.vs_arena.proofs.lent_arena.LentArena.new.Goals as goal
+use Rattle.std.proofs.Common.{length, [], refl}
+
+pub invariant_of-result : goal.invariant_of-result
+invariant_of-result c = IsLentArena-new c.args.base c.args.words.now c.args.marks.now c.requires.few c.requires.in_range c.requires.marked
+
+pub returns : goal.returns
+returns c = empty_arena c.args.base (length c.args.words.now) [] [] refl

@@ -1,0 +1,164 @@
+ghost use Rattle.std.specs.Prelude.{◌≡◌, ◌+◌, ◌^◌, ◌≤◌, length};
+ghost use Rattle.std.specs.FinMap as finite;
+ghost use Rattle.vs_types.specs.declared.limits.TheConstants.{TABLES};
+
+use crate::frame::{Frame, cleared_words};
+use crate::mark::FrameMark;
+use crate::store::FrameStore;
+use std::marker::Model;
+use vs_types::FRAME_WORDS;
+
+/// A store of frames in memory that its caller lends. It takes no memory of its own, and gives all of it back as it ends, with the
+/// words that then stand there.
+///
+/// Frame i is the i-th array of words: where the first lies at the physical address `base * 4096`, a processor reads what is
+/// written here. A frame is cleared as it is first taken, and after that as it is given back.
+#[derive(Debug, Drop)]
+pub struct LentArena<'a> {
+    base: u64,
+    /// The words of a frame that was ever taken and isn't in use are 0; those of others are as they were lent.
+    words: &'a mut [[u64; FRAME_WORDS]],
+    /// One for each frame at least.
+    marks: &'a mut [FrameMark],
+    /// How many frames were ever taken. They have the first places.
+    taken: usize,
+    /// How many of them were given back. The first marks have a list of these; the last one is taken next.
+    given: usize,
+}
+
+impl<'a> Model for LentArena<'a> {
+    ghost use Rattle.std.specs.Prelude.{length, take};
+    ghost use Rattle.vs_arena.specs.Arena.{Arena};
+    ghost use Rattle.vs_arena.specs.inside.Arena.{arena_code, marked_frames, marked_notes};
+    ghost use Rattle.vs_arena.specs.inside.LentArena.{uses_of_first, notes_of_first, IsLentArena};
+
+    ghost Value = { Arena };
+
+    ghost coded = { arena_code };
+
+    ghost view = { λ a. record {
+      base = a.base;
+      size = length a.words.now;
+      frames = marked_frames (uses_of_first a.taken a.marks.now) (take a.taken a.words.now);
+      notes = marked_notes (uses_of_first a.taken a.marks.now) (notes_of_first a.taken a.marks.now);
+    } };
+
+    ghost invariant = { λ a. IsLentArena a.base a.taken a.given a.words.now a.marks.now };
+}
+
+impl<'a> LentArena<'a> {
+    /// A store of the frames lent, of which none is in use; the first has the number `base`. There is a mark for each frame, or more.
+    /// Neither words nor marks need be 0, and none is written yet.
+    pub fn new(
+        base: u64,
+        words: &'a mut [[u64; FRAME_WORDS]],
+        marks: &'a mut [FrameMark],
+    ) -> LentArena<'a>
+        requires few { length words.old ≤ TABLES }
+        requires in_range { base + length words.old ≤ 2 ^ 40 }
+        requires marked { length words.old ≤ length marks.old }
+        ensures { result ≡ record { base = base; size = length words.old; frames = finite.empty; notes = finite.empty } }
+    {
+        LentArena {
+            base,
+            words,
+            marks,
+            taken: 0,
+            given: 0,
+        }
+    }
+}
+
+impl<'a> FrameStore for LentArena<'a> {
+    ghost frames = { λ a. a.frames };
+
+    ghost notes = { λ a. a.notes };
+
+    ghost base = { λ a. a.base };
+
+    ghost size = { λ a. a.size };
+
+    fn capacity(&self) -> usize {
+        self.words.len()
+    }
+
+    fn used(&self) -> usize {
+        self.taken - self.given
+    }
+
+    fn take(&mut self) -> Option<Frame> {
+        if self.given > 0 {
+            self.given -= 1;
+            let index = self.marks[self.given].free as usize;
+            self.marks[index] = FrameMark {
+                in_use: 1,
+                note: 0,
+                ..self.marks[index]
+            };
+            return Some(Frame::at_index(index));
+        }
+        let index = self.taken;
+        if index == self.words.len() {
+            return None;
+        }
+        self.words[index] = cleared_words();
+        self.marks[index] = FrameMark {
+            in_use: 1,
+            note: 0,
+            ..self.marks[index]
+        };
+        self.taken += 1;
+        Some(Frame::at_index(index))
+    }
+
+    fn give(&mut self, frame: Frame) {
+        self.words[frame.index()] = cleared_words();
+        self.give_zeroed(frame);
+    }
+
+    fn give_zeroed(&mut self, frame: Frame) {
+        let index = frame.index();
+        self.marks[index].in_use = 0;
+        self.marks[self.given].free = index as u16;
+        self.given += 1;
+    }
+
+    fn get(&self, frame: Frame, index: usize) -> u64 {
+        self.frame(frame)[index]
+    }
+
+    fn set(&mut self, frame: Frame, index: usize, word: u64) {
+        let words = &mut self.words[frame.index()];
+        words[index] = word;
+    }
+
+    fn note(&self, frame: Frame) -> u16 {
+        self.marks[frame.index()].note
+    }
+
+    fn set_note(&mut self, frame: Frame, note: u16) {
+        self.marks[frame.index()].note = note;
+    }
+
+    fn frame(&self, frame: Frame) -> &[u64; FRAME_WORDS] {
+        let words = &*self.words;
+        &words[frame.index()]
+    }
+
+    fn number(&self, frame: Frame) -> u64 {
+        self.base + frame.index() as u64
+    }
+
+    fn at(&self, number: u64) -> Option<Frame> {
+        let index = number.checked_sub(self.base)? as usize;
+        if index < self.taken && self.marks[index].in_use == 1 {
+            Some(Frame::at_index(index))
+        } else {
+            None
+        }
+    }
+
+    fn in_use(&self, number: u64) -> Frame {
+        Frame::at_index((number - self.base) as usize)
+    }
+}
