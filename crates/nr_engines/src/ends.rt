@@ -85,6 +85,10 @@ pub fn read_trace<R: Read>(
 }
 
 /// Writes the text and nothing else. A flush that fails is a failed write.
+///
+/// # Errors
+///
+/// `CannotWrite` where a write or the flush fails. A part of the text may be written then.
 pub fn write_text<W: Write>(writer: &mut W, text: &[u8]) -> Result<(), ProgFault>
     ensures ok { OnOk result (Appends (W.contents writer.old) (W.contents writer.new) text.now) }
     ensures err { IfErr result (λ fault. fault ≡ ProgFault.CannotWrite) }

@@ -216,6 +216,10 @@ impl<S: FrameStore, J: LogName> Node<S, J> {
     }
 
     /// Its page table, and how many entries it has applied. It takes memory.
+    ///
+    /// # Errors
+    ///
+    /// Out of memory.
     pub fn dump(&self) -> Result<Dump, Memory>
         ensures applied { IfOk result (λ dump. dump.applied ≡ applied_of J.replicas self.now) }
         ensures translates { IfOk result (λ dump.

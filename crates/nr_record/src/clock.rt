@@ -93,6 +93,10 @@ impl Clock {
 /// quotas are at most 65,536 calls in all.
 ///
 /// It takes all memory that the pens ever need: 64 bytes for each call.
+///
+/// # Errors
+///
+/// Out of memory.
 pub fn pens(alloc: Global, config: Config, quotas: &[u32]) -> Result<(Clock, Vec<Pen>), Memory>
     requires one_each { length quotas.now ≡ config.threads }
     requires few { sum quotas.now ≤ LOG_PLACES }

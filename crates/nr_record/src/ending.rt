@@ -52,6 +52,10 @@ fn gather(alloc: Global, clock: Clock, pens: Vec<Pen>) -> Result<(u64, Vec<Vec<S
 /// which has a frame. The version is the least that can say the trace.
 ///
 /// It takes 24 bytes for each event, and then for each thread as many.
+///
+/// # Errors
+///
+/// Out of memory.
 pub fn finish(
     alloc: Global,
     clock: Clock,

@@ -50,9 +50,12 @@ impl Trace {
     ghost use Rattle.nr_trace.specs.Recording.{Recording, IsRecording};
     ghost use Rattle.nr_trace.specs.Parts.{IsPartsFault};
 
-    /// A trace of these parts, or what is wrong with them: `BadCount` for a depth that the version does not know, for a
-    /// number of places, events or dumps, or for a dump without frames; `BadEvent` for the first event that is out of its
-    /// range or that the version does not know.
+    /// A trace of these parts.
+    ///
+    /// # Errors
+    ///
+    /// `BadCount` for a depth that the version does not know, for a number of places, events or dumps, or for a dump without
+    /// frames; `BadEvent` for the first event that is out of its range or that the version does not know.
     pub fn new(
         version: Version,
         config: Config,

@@ -18,6 +18,10 @@ use std::alloc::Global;
 use vs_types::Memory;
 
 /// The one spelling of the trace, which takes memory.
+///
+/// # Errors
+///
+/// Out of memory.
 pub fn write(alloc: Global, trace: &Trace) -> Result<Vec<u8>, Memory>
     ensures spelled { IfOk result (λ bytes. bytes.items ≡ spelling trace.now) }
     ensures spells { IfOk result (λ bytes. Spells bytes.items trace.now) }

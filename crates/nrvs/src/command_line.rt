@@ -103,6 +103,10 @@ fn run<'a>(alloc: Global) -> Result<Command<'a>, AllocError>
 }
 
 /// The program's words.
+///
+/// # Errors
+///
+/// Out of memory.
 pub fn command_line<'a>(alloc: Global) -> Result<Command<'a>, AllocError>
     ensures app { IfOk result (λ command. app_of command ≡ command_line) }
 {

@@ -68,7 +68,11 @@ impl Drop for RawArena {
 }
 
 impl RawArena {
-    /// A store of `n` frames of which none is in use; frame 0 has the number `base`. Its one error is out of memory.
+    /// A store of `n` frames of which none is in use; frame 0 has the number `base`.
+    ///
+    /// # Errors
+    ///
+    /// Out of memory.
     pub fn new(alloc: Global, base: u64, n: usize) -> Result<RawArena, Memory>
         requires few { n ≤ TABLES }
         requires in_range { base + n ≤ 2 ^ 40 }

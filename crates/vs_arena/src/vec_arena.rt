@@ -47,7 +47,11 @@ impl Model for VecArena {
 }
 
 impl VecArena {
-    /// A store of `n` frames of which none is in use; frame 0 has the number `base`. Its one error is out of memory.
+    /// A store of `n` frames of which none is in use; frame 0 has the number `base`.
+    ///
+    /// # Errors
+    ///
+    /// Out of memory.
     pub fn new(alloc: Global, base: u64, n: usize) -> Result<VecArena, Memory>
         requires few { n ≤ TABLES }
         requires in_range { base + n ≤ 2 ^ 40 }

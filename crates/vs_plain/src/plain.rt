@@ -80,6 +80,10 @@ impl PlainSpace {
     }
 
     /// A list of the pages, by rising base. Takes memory.
+    ///
+    /// # Errors
+    ///
+    /// Out of memory.
     pub fn pages(&self) -> Result<Vec<Page>, Memory>
         ensures lists { IfOk result (λ v. v.items ≡ pages self.now.space) }
         ensures rising { IfOk result (λ v. IsStrictlyIncreasing (map (λ page. page.base) v.items)) }

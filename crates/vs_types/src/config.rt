@@ -40,7 +40,11 @@ impl Config {
     ghost use Rattle.vs_types.specs.Config.{Layout, IsLayout, config_fault};
     ghost use Rattle.vs_types.specs.Faults.{GivesUnless};
 
-    /// A configuration, or the first number that is out of its range.
+    /// A configuration of these numbers.
+    ///
+    /// # Errors
+    ///
+    /// `BadConfig` with the first number that is out of its range.
     pub fn new(depth: Depth, replicas: u8, threads: u16, tables: u16) -> Result<Config, BadConfig>
         ensures { let layout : Layout = record { depth = depth; replicas = replicas; threads = threads; tables = tables } in
             GivesUnless (config_fault layout) layout result }

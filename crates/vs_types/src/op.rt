@@ -53,6 +53,10 @@ impl Op {
     ghost use Rattle.vs_types.specs.Faults.{GivesUnless};
 
     /// Maps the page at `base` to the physical address `phys`.
+    ///
+    /// # Errors
+    ///
+    /// `BadOp`: `NotCanonical`, `Unaligned`, `PhysUnaligned` or `PhysRange`, the first that holds.
     pub fn map(depth: Depth, base: u64, size: Size, phys: u64, rights: Rights) -> Result<Op, BadOp>
         ensures { let page : Page = record { base = base; size = size; phys = phys; rights = rights } in
             GivesUnless (action_fault depth (Action.Map page)) (Action.Map page) result }
@@ -80,6 +84,10 @@ impl Op {
     }
 
     /// Removes the page that begins at `base`.
+    ///
+    /// # Errors
+    ///
+    /// `BadOp`: `NotCanonical`, or `Unaligned` where the base is no multiple of 4,096, the first that holds.
     pub fn unmap(depth: Depth, base: u64) -> Result<Op, BadOp>
         ensures { GivesUnless (action_fault depth (Action.Unmap base)) (Action.Unmap base) result }
     {
@@ -90,6 +98,10 @@ impl Op {
     }
 
     /// Gives the page that begins at `base` these rights and no others.
+    ///
+    /// # Errors
+    ///
+    /// `BadOp`: `NotCanonical`, or `Unaligned` where the base is no multiple of 4,096, the first that holds.
     pub fn protect(depth: Depth, base: u64, rights: Rights) -> Result<Op, BadOp>
         ensures { GivesUnless (action_fault depth (Action.Protect base rights)) (Action.Protect base rights) result }
     {

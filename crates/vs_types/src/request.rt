@@ -53,7 +53,11 @@ impl Request {
     ghost use Rattle.vs_types.specs.Query.{IsQuery, IsSomeQuery, query_fault};
     ghost use Rattle.vs_types.specs.Faults.{GivesUnless};
 
-    /// Asks for the translation of an address; only `NotCanonical` is refused.
+    /// Asks for the translation of an address.
+    ///
+    /// # Errors
+    ///
+    /// `BadOp::NotCanonical`.
     pub fn resolve(depth: Depth, address: u64) -> Result<Request, BadOp>
         ensures { GivesUnless (query_fault depth (Query.Resolve address)) (Query.Resolve address) result }
     {
@@ -65,7 +69,11 @@ impl Request {
         })
     }
 
-    /// Asks whether an access of an address is allowed; only `NotCanonical` is refused.
+    /// Asks whether an access of an address is allowed.
+    ///
+    /// # Errors
+    ///
+    /// `BadOp::NotCanonical`.
     pub fn access(depth: Depth, address: u64, mode: Mode, access: Access) -> Result<Request, BadOp>
         ensures { GivesUnless (query_fault depth (Query.Access address mode access)) (Query.Access address mode access) result }
     {

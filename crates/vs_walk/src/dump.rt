@@ -58,6 +58,10 @@ impl Dump {
 
     /// Adds a frame, whose number is above those of all that are held and below 2^40. It takes memory where there is no
     /// room for a frame more.
+    ///
+    /// # Errors
+    ///
+    /// Out of memory: the dump is unchanged.
     pub fn push(&mut self, number: u64, words: &[u64; FRAME_WORDS]) -> Result<(), Memory>
         requires above { All (λ held. held < number) (finite.keys self.old.frames) }
         requires in_range { number < 2 ^ 40 }
@@ -76,6 +80,10 @@ impl Dump {
 
     /// Makes room for exactly so many more frames, where it has no room for one. It takes memory for them: 4,104 bytes
     /// for each.
+    ///
+    /// # Errors
+    ///
+    /// Out of memory: the dump is unchanged.
     pub fn make_room(&mut self, frames: usize) -> Result<(), Memory>
         ensures { self.new ≡ self.old }
     {
@@ -90,6 +98,10 @@ impl Dump {
     /// The dump with one frame more coming, of which there is no word yet. The number is above those of all that are held
     /// and below 2^40. It takes memory where there is no room for a frame more, and gives the dump up where that is refused;
     /// after `make_room` there is room.
+    ///
+    /// # Errors
+    ///
+    /// Out of memory: the dump is given up.
     pub fn begin_frame(self, number: u64) -> Result<OpenDump, Memory>
         requires above { All (λ held. held < number) (finite.keys self.frames) }
         requires in_range { number < 2 ^ 40 }

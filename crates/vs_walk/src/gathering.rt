@@ -27,8 +27,11 @@ impl Dump {
     /// The dump of the page table whose root is the frame of number `root`, after `applied` entries of the log: just the
     /// frames that are reached from there, each with its words. Takes memory for them.
     ///
-    /// Where the traversal meets no fault, at most 4,096 frames may be reached, with numbers below 2^40. It refuses with
-    /// the first fault.
+    /// Where the traversal meets no fault, at most 4,096 frames may be reached, with numbers below 2^40.
+    ///
+    /// # Errors
+    ///
+    /// The first fault of the traversal, or out of memory.
     pub fn gather<F: Frames>(
         alloc: Global,
         frames: &F,

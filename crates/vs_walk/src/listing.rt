@@ -18,8 +18,10 @@ use vs_types::{Depth, Fail};
 /// All pages that the table in the frame of number `root` maps, and the frames that are reached from there. Takes
 /// memory for both.
 ///
-/// It refuses with the first fault of the traversal: a frame that is missing, one that is reached a second time, or a
-/// word with a reserved bit set.
+/// # Errors
+///
+/// The first fault of the traversal (a frame that is missing, one that is reached a second time, or a word with a reserved bit
+/// set), or out of memory.
 pub fn leaves<F: Frames>(
     alloc: Global,
     frames: &F,

@@ -162,7 +162,9 @@ fn go_through<F: Frames, V: PageVisitor>(
 /// entry. The visitor takes each page as it is found, by rising base, with the rights that all levels allow; its answer
 /// on memory ends the traversal. Takes memory for the numbers of the frames that are reached.
 ///
-/// It refuses with the first fault.
+/// # Errors
+///
+/// The first fault of the traversal, or out of memory.
 pub fn traverse<F: Frames, V: PageVisitor>(
     alloc: Global,
     frames: &F,
