@@ -54,7 +54,8 @@ pub(crate) fn check_answers(
     requires clean { HasCleanLog trace.now }
     requires listed { AreLastEvents trace.now (recorded_order trace.now) order.old }
     ensures calls { OnOk result (order.new ≡ recorded_order trace.now) }
-    ensures space { IfOk result (λ space. space ≡ space_of trace.now.layout (space_after trace.now trace.now.log)) }
+    ensures space { IfOk result
+        (λ space. space ≡ space_of trace.now.layout (space_after trace.now trace.now.log)) }
     ensures right { OnOk result (HasNone IsAnswerFault trace.now) }
     ensures first { IfErr result (IfRefused (IsFirstAmong IsAnswerFault trace.now)) }
 {

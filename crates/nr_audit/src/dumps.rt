@@ -49,8 +49,10 @@ fn compare_dumps(
     space: &PlainSpace,
     faults: &mut [Option<DumpFault>; 4],
 ) -> Result<(), Memory>
-    requires { space.now ≡ space_of trace.now.layout (space_after trace.now (take applied trace.now.log)) }
-    ensures { OnOk result (AreCompared trace.now applied (length trace.now.dumps) faults.old faults.new) }
+    requires { space.now
+        ≡ space_of trace.now.layout (space_after trace.now (take applied trace.now.log)) }
+    ensures { OnOk result
+        (AreCompared trace.now applied (length trace.now.dumps) faults.old faults.new) }
 {
     for replica in 0..trace.dumps().len() {
         let dump = &trace.dumps()[replica];
@@ -95,8 +97,11 @@ fn places_to_visit(trace: &Trace) -> usize
 /// Applies the update of a place to the space before it.
 fn apply_place(trace: &Trace, space: &mut PlainSpace, place: usize) -> Result<(), Memory>
     requires within { place < length trace.now.log }
-    requires before { space.old ≡ space_of trace.now.layout (space_after trace.now (take place trace.now.log)) }
-    ensures { OnOk result (space.new ≡ space_of trace.now.layout (space_after trace.now (take (place + 1) trace.now.log))) }
+    requires before { space.old
+        ≡ space_of trace.now.layout (space_after trace.now (take place trace.now.log)) }
+    ensures { OnOk result
+        (space.new
+        ≡ space_of trace.now.layout (space_after trace.now (take (place + 1) trace.now.log))) }
 {
     let log = trace.log();
     if let Some(request) = request_of(trace, log[place]) {

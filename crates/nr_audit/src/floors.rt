@@ -34,7 +34,9 @@ pub(crate) struct Standing {
 
 /// How many entries of the log are known by a reply: those up to the update's own, or those that the read saw.
 fn entries_known(history: &History, call: u32, at: u32) -> u64
-    ensures { (answer : Answer) → let reply : Response = record { call = call; at = at; answer = answer } in result ≡ known_by history.now reply }
+    ensures { (answer : Answer)
+        → let reply : Response = record { call = call; at = at; answer = answer } in
+        result ≡ known_by history.now reply }
 {
     if history.is_update(call) {
         at as u64 + 1
@@ -64,7 +66,8 @@ fn early_call(
 ) -> Option<u32>
     requires stands { StandsAfter history.now call entries }
     requires known { known ≡ floor history.now call }
-    ensures { HasCleanLog history.now → FindsEarly history.now call early → FindsEarly history.now (call + 1) result }
+    ensures { HasCleanLog history.now → FindsEarly history.now call early
+        → FindsEarly history.now (call + 1) result }
 {
     if early.is_some() {
         return early;
@@ -87,9 +90,12 @@ pub(crate) fn check_replies(
     requires calls { HasNone IsCallFault history.now }
     requires log { HasNone IsLogFault history.now }
     requires table { ArePlaces history.now places.items }
-    ensures reads { IfOk result (λ standing. AreReads history.now standing.lasts.items standing.rows.items) }
-    ensures needs { IfOk result (λ standing. AreNeeds history.now (length history.now.events) standing.needed) }
-    ensures clean { OnOk result (HasNone IsPositionFault history.now × HasNone IsFloorFault history.now) }
+    ensures reads { IfOk result
+        (λ standing. AreReads history.now standing.lasts.items standing.rows.items) }
+    ensures needs { IfOk result
+        (λ standing. AreNeeds history.now (length history.now.events) standing.needed) }
+    ensures clean { OnOk result
+        (HasNone IsPositionFault history.now × HasNone IsFloorFault history.now) }
     ensures first { IfErr result (IfRefused (IsFirst history.now)) }
 {
     let mut lasts = empty_table(alloc, history.log().len() + 1)?;

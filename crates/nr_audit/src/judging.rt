@@ -31,8 +31,10 @@ use vs_types::{Fail, Memory};
 /// `Memory` where a growth of memory was refused.
 pub fn judge(alloc: Global, trace: &Trace) -> Result<Verdict, Memory>
     ensures verdict { IfOk result (IsVerdictOn trace.now) }
-    ensures yes { IsFaultless trace.now → IfOk result (λ verdict. verdict ≡ Verdict.Yes (recorded_order trace.now)) }
-    ensures no { (fault : Fault) → IsFirst trace.now fault → IfOk result (λ verdict. verdict ≡ Verdict.No fault) }
+    ensures yes { IsFaultless trace.now
+        → IfOk result (λ verdict. verdict ≡ Verdict.Yes (recorded_order trace.now)) }
+    ensures no { (fault : Fault) → IsFirst trace.now fault
+        → IfOk result (λ verdict. verdict ≡ Verdict.No fault) }
     ensures members { IfOk result (IfYes (HasItsCalls trace.now)) }
     ensures precedence { IfOk result (IfYes (KeepsPrecedence trace.now)) }
     ensures answers { IfOk result (IfYes (HasTheAnswers trace.now)) }
@@ -73,14 +75,21 @@ pub fn judge_read(alloc: Global, read: Result<Trace, Fail<Format>>) -> Result<Ve
 /// `Memory` where a growth of memory was refused.
 pub fn audit(alloc: Global, bytes: &[u8]) -> Result<Verdict, Memory>
     ensures verdict { IfOk result (IsVerdictOf bytes.now) }
-    ensures yes { (trace : Recording) → Spells bytes.now trace → IsFaultless trace → IfOk result (λ verdict. verdict ≡ Verdict.Yes (recorded_order trace)) }
-    ensures no { (fault : Fault) → IsFirstOf bytes.now fault → IfOk result (λ verdict. verdict ≡ Verdict.No fault) }
+    ensures yes { (trace : Recording) → Spells bytes.now trace → IsFaultless trace
+        → IfOk result (λ verdict. verdict ≡ Verdict.Yes (recorded_order trace)) }
+    ensures no { (fault : Fault) → IsFirstOf bytes.now fault
+        → IfOk result (λ verdict. verdict ≡ Verdict.No fault) }
     ensures right { IfOk result (IfYes (AreRightWith bytes.now)) }
-    ensures one_trace { IfOk result (IfYes (λ order. (trace : Recording) × SpellsAlone bytes.now trace)) }
-    ensures members { IfOk result (IfYes (λ order. IsSpelledWith bytes.now (λ trace. HasItsCalls trace order))) }
-    ensures precedence { IfOk result (IfYes (λ order. IsSpelledWith bytes.now (λ trace. KeepsPrecedence trace order))) }
-    ensures answers { IfOk result (IfYes (λ order. IsSpelledWith bytes.now (λ trace. HasTheAnswers trace order))) }
-    ensures dumps { IfOk result (IfYes (λ order. IsSpelledWith bytes.now (λ trace. HasFittingDumps trace order))) }
+    ensures one_trace { IfOk result
+        (IfYes (λ order. (trace : Recording) × SpellsAlone bytes.now trace)) }
+    ensures members { IfOk result
+        (IfYes (λ order. IsSpelledWith bytes.now (λ trace. HasItsCalls trace order))) }
+    ensures precedence { IfOk result
+        (IfYes (λ order. IsSpelledWith bytes.now (λ trace. KeepsPrecedence trace order))) }
+    ensures answers { IfOk result
+        (IfYes (λ order. IsSpelledWith bytes.now (λ trace. HasTheAnswers trace order))) }
+    ensures dumps { IfOk result
+        (IfYes (λ order. IsSpelledWith bytes.now (λ trace. HasFittingDumps trace order))) }
 {
     judge_read(alloc, read(alloc, bytes))
 }

@@ -14,6 +14,8 @@ pub fn yes_means_right()
 
 /// Bytes, and traces, have one verdict only.
 pub fn one_verdict()
-    ensures of_bytes { (bytes : List ℕ) (first second : Verdict) → IsVerdictOf bytes first → IsVerdictOf bytes second → first ≡ second }
-    ensures on_traces { (trace : Recording) (first second : Verdict) → IsVerdictOn trace first → IsVerdictOn trace second → first ≡ second }
+    ensures of_bytes { (bytes : List ℕ) (first second : Verdict) → IsVerdictOf bytes first
+        → IsVerdictOf bytes second → first ≡ second }
+    ensures on_traces { (trace : Recording) (first second : Verdict) → IsVerdictOn trace first
+        → IsVerdictOn trace second → first ≡ second }
 {}

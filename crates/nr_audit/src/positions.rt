@@ -16,7 +16,8 @@ fn stands_at(log: &[u32], place: u32, call: u32) -> bool
 
 /// Whether the call is an update and the log doesn't have it at this place.
 fn is_misplaced(history: &History, call: u32, place: u32) -> bool
-    ensures { IsTrue result ↔ IsUpdate history.now call × (slice_get history.now.log place ≢ Some call) }
+    ensures { IsTrue result ↔ IsUpdate history.now call
+        × (slice_get history.now.log place ≢ Some call) }
 {
     if !history.is_update(call) {
         return false;
@@ -38,7 +39,8 @@ fn is_past_log(history: &History, call: u32, entries: u32) -> bool
 /// more entries that a read saw than the log has.
 pub(crate) fn position_fault(history: &History, index: u32, call: u32, at: u32) -> Option<Fault>
     ensures { (answer : Answer) → slice_get history.now.events index ≡ Some (Reply call at answer)
-        → MatchOption result (HasNone (IsPositionFaultAt index) history.now) (IsFirstAmong (IsPositionFaultAt index) history.now) }
+        → MatchOption result (HasNone (IsPositionFaultAt index) history.now)
+        (IsFirstAmong (IsPositionFaultAt index) history.now) }
 {
     if is_misplaced(history, call, at) {
         return Some(Fault::NotPlaced(index));

@@ -17,7 +17,8 @@ use vs_types::Fail;
 
 /// The passes over a trace, one after another, up to the first fault. Gives the recorded order where there is none.
 pub(crate) fn search(alloc: Global, trace: &Trace) -> Result<Vec<u32>, Fail<Fault>>
-    ensures none { IfOk result (λ order. IsFaultless trace.now × (order.items ≡ recorded_order trace.now)) }
+    ensures none { IfOk result
+        (λ order. IsFaultless trace.now × (order.items ≡ recorded_order trace.now)) }
     ensures first { IfErr result (IfRefused (IsFirst trace.now)) }
 {
     let history = check_calls(alloc, trace)?;

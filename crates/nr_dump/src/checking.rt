@@ -15,7 +15,8 @@ use vs_walk::{Dump, Reached, traverse};
 
 /// The least frame of a dump that is not among these of its frames.
 fn least_outside(dump: &Dump, numbers: &Reached) -> Option<u64>
-    requires { (number : ℕ) → Contains numbers.now number → IsSome (finite.get dump.now.frames number) }
+    requires { (number : ℕ) → Contains numbers.now number
+        → IsSome (finite.get dump.now.frames number) }
     ensures none { IfNone result ((number : ℕ) → IsOutside dump.now.frames numbers.now number → ⊥) }
     ensures some { IfSome result (IsLeast (IsOutside dump.now.frames numbers.now)) }
     ensures is_dump { IsDump dump.now }
@@ -46,7 +47,8 @@ fn least_outside(dump: &Dump, numbers: &Reached) -> Option<u64>
 pub fn check(alloc: Global, dump: &Dump, space: &PlainSpace) -> Result<(), Fail<DumpFault>>
     ensures fits { OnOk result (FitsSpace space.now.depth dump.now space.now.space) }
     ensures faultless { OnOk result (HasNoFault space.now.depth dump.now space.now.space) }
-    ensures first { IfErr result (IfRefused (IsFirstOfDump space.now.depth dump.now space.now.space)) }
+    ensures first { IfErr result
+        (IfRefused (IsFirstOfDump space.now.depth dump.now space.now.space)) }
 {
     let mut comparison = Comparison::new(space.iter());
     let reached = match traverse(alloc, dump, dump.root(), space.depth(), &mut comparison) {

@@ -33,7 +33,9 @@ impl<'a> Comparison<'a> {
 
     /// The first address that is translated otherwise, where all pages of the dump were taken.
     pub(crate) fn difference(mut self) -> Option<u64>
-        ensures { (pages taken : List Page) → AreTaken pages self.entry.pages self.entry.difference taken → IsCompared taken pages result }
+        ensures { (pages taken : List Page)
+            → AreTaken pages self.entry.pages self.entry.difference taken
+            → IsCompared taken pages result }
     {
         match self.difference {
             Some(address) => Some(address),
@@ -47,7 +49,8 @@ impl<'a> PageVisitor for Comparison<'a> {
 
     /// It takes no memory.
     fn take(&mut self, page: Page) -> Result<(), Memory>
-        ensures taken { IfOk result (λ _. (told : List Page) → HasCompared self.old.pages self.old.difference told
+        ensures taken { IfOk result
+            (λ _. (told : List Page) → HasCompared self.old.pages self.old.difference told
             → HasCompared self.new.pages self.new.difference (told ++ page ∷ [])) }
         ensures answers { IsOk result }
     {

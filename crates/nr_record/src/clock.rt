@@ -28,7 +28,8 @@ impl Model for Clock {
 
     ghost view = { λ c. clock_of c.table.shared.table_id c.table.shared.key };
 
-    ghost invariant = { λ c. (c.table.shared.table_id.words ≡ 1) × (c.table.shared.table_id.slots ≡ 0) };
+    ghost invariant = { λ c. (c.table.shared.table_id.words ≡ 1)
+        × (c.table.shared.table_id.slots ≡ 0) };
 }
 
 impl Clock {
@@ -55,11 +56,13 @@ impl Clock {
         requires clock { first.old.table_id ≡ self.now.word }
         requires fresh { first.old.me.0.stamps ≡ [] }
         requires quota { (Q.quota ≡ quota) × (quota ≤ first.old.me.0.quota) × (quota ≤ LOG_PLACES) }
-        requires place { (replica ≡ thread % first.old.me.0.plan.config.replicas) × (replica < first.old.me.0.plan.config.replicas)
+        requires place { (replica ≡ thread % first.old.me.0.plan.config.replicas)
+            × (replica < first.old.me.0.plan.config.replicas)
             × (thread < first.old.me.0.plan.config.threads) }
         ensures clock { first.new.table_id ≡ first.old.table_id }
         ensures first { first.new.me.0 ≡ keeping quota first.old.me.0 }
-        ensures pen { IfOk result (λ pen. pen ≡ new_pen (clock_of self.now.word first.old.me.0.plan) thread quota) }
+        ensures pen { IfOk result
+            (λ pen. pen ≡ new_pen (clock_of self.now.word first.old.me.0.plan) thread quota) }
     {
         let seat = self.table.shared.split_seat::<Gives<Q>>(first);
         Pen::new(alloc, seat, replica, thread, quota)
@@ -100,7 +103,8 @@ impl Clock {
 pub fn pens(alloc: Global, config: Config, quotas: &[u32]) -> Result<(Clock, Vec<Pen>), Memory>
     requires one_each { length quotas.now ≡ config.threads }
     requires few { sum quotas.now ≤ LOG_PLACES }
-    ensures clock { IfOk result (λ made. (made.0.layout ≡ config) × (made.0.calls ≡ sum quotas.now)) }
+    ensures clock { IfOk result
+        (λ made. (made.0.layout ≡ config) × (made.0.calls ≡ sum quotas.now)) }
     ensures pens { IfOk result (λ made. made.1.items ≡ new_pens made.0 0 quotas.now) }
 {
     let calls = quotas.iter().sum();

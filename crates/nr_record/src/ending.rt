@@ -23,7 +23,9 @@ use vs_walk::Dump;
 fn gather(alloc: Global, clock: Clock, pens: Vec<Pen>) -> Result<(u64, Vec<Vec<Stamped>>), Memory>
     requires pens { AreAllPens clock pens.items }
     requires some { 1 ≤ clock.layout.threads }
-    ensures notes { IfOk result (λ gathered. flat_map (λ made. made.items) gathered.1.items ≡ flat_map (λ pen. pen.made) pens.items) }
+    ensures notes { IfOk result
+        (λ gathered. flat_map (λ made. made.items) gathered.1.items
+        ≡ flat_map (λ pen. pen.made) pens.items) }
     ensures stamps { IfOk result (λ gathered. AreBelow gathered.0 (flat_map stamps_of pens.items)
         × (length (flat_map stamps_of pens.items) ≡ gathered.0) × (gathered.0 ≤ CALLS)) }
     ensures each { OnOk result (All IsTrueOf pens.items) }
@@ -67,12 +69,18 @@ pub fn finish(
     requires config { config ≡ clock.layout }
     requires pens { AreAllPens clock pens.items }
     requires log { length log.items ≤ LOG_PLACES }
-    requires dumps { (length dumps.items ≡ config.replicas) × All (λ dump. 1 ≤ finite.len dump.frames) dumps.items }
-    ensures stamps { IfOk result (λ trace. AreBelow (length trace.events) (flat_map stamps_of pens.items)) }
+    requires dumps { (length dumps.items ≡ config.replicas)
+        × All (λ dump. 1 ≤ finite.len dump.frames) dumps.items }
+    ensures stamps { IfOk result
+        (λ trace. AreBelow (length trace.events) (flat_map stamps_of pens.items)) }
     ensures rising { OnOk result (All (λ pen. Rise (stamps_of pen)) pens.items) }
     ensures events { IfOk result (λ trace. All (HasNotes trace.events) pens.items) }
-    ensures threads { IfOk result (λ trace. All (λ pen. events_of pen.thread trace.events ≡ map (λ item. item.event) pen.made) pens.items) }
-    ensures handed_in { IfOk result (λ trace. (trace.layout ≡ config) × (trace.log ≡ log.items) × (trace.dumps ≡ dumps.items)) }
+    ensures threads { IfOk result
+        (λ trace.
+        All (λ pen. events_of pen.thread trace.events ≡ map (λ item. item.event) pen.made)
+        pens.items) }
+    ensures handed_in { IfOk result
+        (λ trace. (trace.layout ≡ config) × (trace.log ≡ log.items) × (trace.dumps ≡ dumps.items)) }
     ensures version { IfOk result (λ trace. (trace.version ≡ V1) ↔ FitsFirst trace) }
 {
     let (count, notes) = gather(alloc, clock, pens)?;

@@ -10,33 +10,43 @@ ghost use Rattle.nr_record.specs.declared.view.View.{View};
 
 /// The rule holds of a new word, which is 0, and of its first seat, which may draw for all calls.
 pub fn new_clocks_keep_the_rule()
-    ensures { (plan : Plan) → plan.calls ≤ LOG_PLACES → IsKept plan.calls (0 ∷ []) (new_view plan ∷ []) }
+    ensures { (plan : Plan) → plan.calls ≤ LOG_PLACES
+        → IsKept plan.calls (0 ∷ []) (new_view plan ∷ []) }
 {}
 
 /// Splitting a seat keeps the rule: it gives a part of its quota to the new seat.
 pub fn splits_keep_the_rule()
-    ensures { (calls quota seat : ℕ) (words : List ℕ) (views : List View) (v : View) → IsKept calls words views → get_elem? views seat ≡ some v
-        → quota ≤ v.quota → v.stamps ≡ [] → IsKept calls words (slice_set views seat (keeping quota v) ++ given quota v ∷ []) }
+    ensures { (calls quota seat : ℕ) (words : List ℕ) (views : List View) (v : View)
+        → IsKept calls words views → get_elem? views seat ≡ some v
+        → quota ≤ v.quota → v.stamps ≡ []
+        → IsKept calls words (slice_set views seat (keeping quota v) ++ given quota v ∷ []) }
 {}
 
 /// Drawing keeps the rule: a seat with quota left draws the word, which is then greater by one, and no other seat has drawn that stamp.
 pub fn draws_keep_the_rule()
-    ensures kept { (calls seat : ℕ) (words : List ℕ) (views : List View) (v : View) → IsKept calls words views → get_elem? views seat ≡ some v
+    ensures kept { (calls seat : ℕ) (words : List ℕ) (views : List View) (v : View)
+        → IsKept calls words views → get_elem? views seat ≡ some v
         → length v.stamps < 2 * v.quota
-        → IsKept calls (slice_set words 0 (slice_index words 0 + 1)) (slice_set views seat (with_stamp v (slice_index words 0))) }
-    ensures drawn { (calls seat : ℕ) (words : List ℕ) (views : List View) (v : View) → IsKept calls words views → get_elem? views seat ≡ some v
-        → length v.stamps < 2 * v.quota → HasDrawn v (slice_index words 0) (with_stamp v (slice_index words 0)) }
+        → IsKept calls (slice_set words 0 (slice_index words 0 + 1))
+        (slice_set views seat (with_stamp v (slice_index words 0))) }
+    ensures drawn { (calls seat : ℕ) (words : List ℕ) (views : List View) (v : View)
+        → IsKept calls words views → get_elem? views seat ≡ some v
+        → length v.stamps < 2 * v.quota
+        → HasDrawn v (slice_index words 0) (with_stamp v (slice_index words 0)) }
 {}
 
 /// Joining two seats keeps the rule.
 pub fn joins_keep_the_rule()
-    ensures { (calls seat other : ℕ) (words : List ℕ) (views : List View) (v w : View) → IsKept calls words views → get_elem? views seat ≡ some v
+    ensures { (calls seat other : ℕ) (words : List ℕ) (views : List View) (v w : View)
+        → IsKept calls words views → get_elem? views seat ≡ some v
         → get_elem? views other ≡ some w → (other ≡ seat → ⊥)
         → IsKept calls words (slice_set (slice_set views seat (joined v w)) other spent) }
 {}
 
 /// A seat that has the quotas of all calls has all stamps: they are the numbers below the word, each once.
 pub fn whole_quotas_have_all_stamps()
-    ensures { (calls seat : ℕ) (words : List ℕ) (views : List View) (v : View) → IsKept calls words views → get_elem? views seat ≡ some v
-        → v.quota ≡ calls → AreBelow (slice_index words 0) v.stamps × (length v.stamps ≡ slice_index words 0) }
+    ensures { (calls seat : ℕ) (words : List ℕ) (views : List View) (v : View)
+        → IsKept calls words views → get_elem? views seat ≡ some v
+        → v.quota ≡ calls → AreBelow (slice_index words 0) v.stamps
+        × (length v.stamps ≡ slice_index words 0) }
 {}

@@ -42,13 +42,15 @@ impl Model for Pen {
       made = p.made.items;
     } };
 
-    ghost invariant = { λ p. (p.seat.me.1 ≡ []) × IsHeld p.seat.me.0 p.replica p.thread p.waiting (vec_capacity p.made) p.made.items };
+    ghost invariant = { λ p. (p.seat.me.1 ≡ [])
+        × IsHeld p.seat.me.0 p.replica p.thread p.waiting (vec_capacity p.made) p.made.items };
 }
 
 /// Adds a note, for which there is room.
 fn note(made: &mut Vec<Stamped>, item: Stamped)
     requires { vec_len made.old < vec_capacity made.old }
-    ensures { (made.new.items ≡ made.old.items ++ item ∷ []) × (vec_capacity made.old ≤ vec_capacity made.new) }
+    ensures { (made.new.items ≡ made.old.items ++ item ∷ [])
+        × (vec_capacity made.old ≤ vec_capacity made.new) }
 {
     let Ok(()) = made.push(item) else {
         unreachable!()
@@ -73,10 +75,12 @@ impl Pen {
         quota: u32,
     ) -> Result<Pen, Memory>
         requires seat { (seat.me.1 ≡ []) × (seat.me.0.stamps ≡ []) × (seat.me.0.quota ≡ quota) }
-        requires place { (replica ≡ thread % seat.me.0.plan.config.replicas) × (replica < seat.me.0.plan.config.replicas)
+        requires place { (replica ≡ thread % seat.me.0.plan.config.replicas)
+            × (replica < seat.me.0.plan.config.replicas)
             × (thread < seat.me.0.plan.config.threads) }
         requires quota { quota ≤ LOG_PLACES }
-        ensures { IfOk result (λ pen. pen ≡ new_pen (clock_of seat.table_id seat.me.0.plan) thread quota) }
+        ensures { IfOk result
+            (λ pen. pen ≡ new_pen (clock_of seat.table_id seat.me.0.plan) thread quota) }
     {
         let made = Vec::with_capacity(alloc, 2 * quota as usize)?;
         Ok(Pen {
@@ -118,7 +122,8 @@ impl Pen {
     pub fn reply(&mut self, clock: &Clock, at: u32, answer: Answer) -> u32
         requires clock { self.old.clock ≡ clock.now }
         requires waiting { IsSome self.old.waiting }
-        ensures made { (call : ℕ) → self.old.waiting ≡ Some call → self.new ≡ with_reply self.old result call at answer }
+        ensures made { (call : ℕ) → self.old.waiting ≡ Some call
+            → self.new ≡ with_reply self.old result call at answer }
         ensures later { All (λ item. item.stamp < result) self.old.made }
         ensures in_range { result < CALLS }
     {

@@ -35,7 +35,8 @@ struct Parts<J: LogName> {
 fn parts_of<J: LogName>(alloc: Global, workers: Vec<Worker<J>>) -> Result<Parts<J>, Memory>
     ensures pens { IfOk result (λ parts. parts.pens.items ≡ pens_of workers.items) }
     ensures passes { IfOk result (λ parts. parts.passes.items ≡ passes_of workers.items) }
-    ensures answers { IfOk result (λ parts. map (λ said. said.items) parts.answers.items ≡ answers_of workers.items) }
+    ensures answers { IfOk result
+        (λ parts. map (λ said. said.items) parts.answers.items ≡ answers_of workers.items) }
 {
     let mut pens = Vec::with_capacity(alloc, workers.len())?;
     let mut passes = Vec::with_capacity(alloc, workers.len())?;
@@ -82,10 +83,12 @@ fn judged<J: LogName>(
     bytes: Vec<u8>,
     passes: Vec<LogPass<J>>,
 ) -> Result<Outcome<J>, Memory>
-    ensures answers { IfOk result (IfVerified (λ shown trace order seen. shown ≡ map (λ said. said.items) answers.items)) }
+    ensures answers { IfOk result
+        (IfVerified (λ shown trace order seen. shown ≡ map (λ said. said.items) answers.items)) }
     ensures bytes { IfOk result (IfVerified (λ shown trace order seen. trace ≡ bytes.items)) }
     ensures passes { IfOk result (IfVerified (λ shown trace order seen. seen ≡ passes.items)) }
-    ensures verdict { IfOk result (IfVerified (λ shown trace order seen. IsVerdictOf trace (Yes order))) }
+    ensures verdict { IfOk result
+        (IfVerified (λ shown trace order seen. IsVerdictOf trace (Yes order))) }
     ensures right { IfOk result (IfVerified (λ shown trace order seen. AreRightWith trace order)) }
     ensures refused { IfOk result (IfRefused (λ trace fault. IsFirstOf trace fault)) }
     ensures refused_bytes { IfOk result (IfRefused (λ trace fault. trace ≡ bytes.items)) }
@@ -123,17 +126,32 @@ pub(crate) fn ending<J: LogName, K: ReplicasName, R: Wait>(
     requires names { (config.depth ≡ J.depth) × (config.replicas ≡ J.replicas) }
     requires pens { AreAllPens clock (pens_of workers.items) }
     requires passes { All (λ pass. pass.log ≡ K.log) (passes_of workers.items) }
-    ensures spelled { IfOk result (IfVerified (λ answers trace order passes. IsSpelledWith trace (λ recording. recording.layout ≡ config))) }
-    ensures answers { IfOk result (IfVerified (λ answers trace order passes. length answers ≡ length workers.items)) }
-    ensures calls { (scripts : List (List Query)) → AreServed clock K.log scripts workers.items → IfOk result (IfVerified (λ answers trace order passes.
+    ensures spelled { IfOk result
+        (IfVerified
+        (λ answers trace order passes.
+        IsSpelledWith trace (λ recording. recording.layout ≡ config))) }
+    ensures answers { IfOk result
+        (IfVerified (λ answers trace order passes. length answers ≡ length workers.items)) }
+    ensures calls { (scripts : List (List Query)) → AreServed clock K.log scripts workers.items
+        → IfOk result (IfVerified (λ answers trace order passes.
         IsSpelledWith trace (λ recording. AreAllCallsOf recording scripts answers))) }
-    ensures passes { IfOk result (IfVerified (λ answers trace order passes. length passes ≡ length workers.items)) }
-    ensures log { IfOk result (IfVerified (λ answers trace order passes. IsSpelledWith trace (λ recording. IsLogOf config recording.log passes))) }
-    ensures seen { (scripts : List (List Query)) → AreServed clock K.log scripts workers.items → IfOk result (IfVerified (λ answers trace order passes.
+    ensures passes { IfOk result
+        (IfVerified (λ answers trace order passes. length passes ≡ length workers.items)) }
+    ensures log { IfOk result
+        (IfVerified
+        (λ answers trace order passes.
+        IsSpelledWith trace (λ recording. IsLogOf config recording.log passes))) }
+    ensures seen { (scripts : List (List Query)) → AreServed clock K.log scripts workers.items
+        → IfOk result (IfVerified (λ answers trace order passes.
         IsSpelledWith trace (λ recording. HaveSeenAnswers recording passes))) }
-    ensures faultless { IfOk result (IfVerified (λ answers trace order passes. IsSpelledWith trace IsFaultless)) }
-    ensures order { IfOk result (IfVerified (λ answers trace order passes. IsSpelledWith trace (λ recording. order ≡ recorded_order recording))) }
-    ensures right { IfOk result (IfVerified (λ answers trace order passes. AreRightWith trace order)) }
+    ensures faultless { IfOk result
+        (IfVerified (λ answers trace order passes. IsSpelledWith trace IsFaultless)) }
+    ensures order { IfOk result
+        (IfVerified
+        (λ answers trace order passes.
+        IsSpelledWith trace (λ recording. order ≡ recorded_order recording))) }
+    ensures right { IfOk result
+        (IfVerified (λ answers trace order passes. AreRightWith trace order)) }
     ensures refused { IfOk result (IfRefused (λ trace fault. IsFirstOf trace fault)) }
 {
     let Parts {

@@ -29,7 +29,8 @@ impl<J: LogName> Model for Job<J> {
 
     ghost Value = { JobState };
 
-    ghost view = { λ j. record { thread = j.thread; script = j.script.items; pen = j.pen; pass = j.pass } };
+    ghost view = { λ j.
+        record { thread = j.thread; script = j.script.items; pen = j.pen; pass = j.pass } };
 
     ghost invariant = { λ j. (j.said.items ≡ []) × (length j.script.items ≤ vec_capacity j.said) };
 }
@@ -72,7 +73,8 @@ fn work_through<J: LogName, K: ReplicasName, G: Gate, R: Wait>(
     requires names { IsNamed team.now.clock.now.layout J.depth J.replicas K.tables }
     requires ready { IsReady team.now.clock.now K.log thread script.now pen.old pass.old }
     requires said { (said.old.items ≡ []) × (length script.now ≤ vec_capacity said.old) }
-    ensures { IsServed team.now.clock.now K.log thread script.now (record { pen = pen.new; pass = pass.new; said = said.new.items }) }
+    ensures { IsServed team.now.clock.now K.log thread script.now
+        (record { pen = pen.new; pass = pass.new; said = said.new.items }) }
 {
     pass.has_seen_a_history();
     for done in 0..script.len() {
@@ -88,7 +90,8 @@ fn work_through<J: LogName, K: ReplicasName, G: Gate, R: Wait>(
 /// Adds an item, for which there is room.
 fn note(said: &mut Vec<Said>, item: Said)
     requires { vec_len said.old < vec_capacity said.old }
-    ensures { (said.new.items ≡ said.old.items ++ item ∷ []) × (vec_capacity said.old ≤ vec_capacity said.new) }
+    ensures { (said.new.items ≡ said.old.items ++ item ∷ [])
+        × (vec_capacity said.old ≤ vec_capacity said.new) }
 {
     let Ok(()) = said.push(item) else {
         unreachable!()

@@ -33,7 +33,8 @@ struct Beginning<J: LogName> {
 /// How many calls each thread may make: as many as its script has requests.
 fn quotas_of(alloc: Global, scripts: &[Vec<Request>]) -> Result<Vec<u32>, Memory>
     requires { All (λ script. length script.items ≤ LOG_PLACES) scripts.now }
-    ensures { IfOk result (λ quotas. quotas.items ≡ map (λ script. length script.items) scripts.now) }
+    ensures { IfOk result
+        (λ quotas. quotas.items ≡ map (λ script. length script.items) scripts.now) }
 {
     let mut quotas = Vec::with_capacity(alloc, scripts.len())?;
     for script in scripts {
@@ -52,10 +53,16 @@ fn begin<J: LogName>(
     requires replicas { config.replicas ≡ J.replicas }
     requires passes { J.passes ≡ config.replicas + config.threads }
     requires scripts { AreScripts config (map (λ script. script.items) scripts.now) }
-    ensures layout { IfOk result (λ made. (made.opened.layout ≡ config) × (made.clock.layout ≡ config)) }
-    ensures passes { IfOk result (λ made. (length made.passes.items ≡ config.threads) × All (λ pass. pass.log ≡ made.opened.log) made.passes.items) }
-    ensures calls { IfOk result (λ made. made.clock.calls ≡ sum (map (λ script. length script.items) scripts.now)) }
-    ensures pens { IfOk result (λ made. made.pens.items ≡ new_pens made.clock 0 (map (λ script. length script.items) scripts.now)) }
+    ensures layout { IfOk result
+        (λ made. (made.opened.layout ≡ config) × (made.clock.layout ≡ config)) }
+    ensures passes { IfOk result
+        (λ made. (length made.passes.items ≡ config.threads)
+        × All (λ pass. pass.log ≡ made.opened.log) made.passes.items) }
+    ensures calls { IfOk result
+        (λ made. made.clock.calls ≡ sum (map (λ script. length script.items) scripts.now)) }
+    ensures pens { IfOk result
+        (λ made. made.pens.items
+        ≡ new_pens made.clock 0 (map (λ script. length script.items) scripts.now)) }
 {
     let quotas = quotas_of(alloc, scripts)?;
     let (clock, pens) = pens(alloc, config, &quotas)?;
@@ -89,19 +96,40 @@ fn go_on<
     requires log { beginning.opened.log ≡ K.log }
     requires scripts { AreScripts config (map (λ script. script.items) scripts.items) }
     requires layout { (beginning.opened.layout ≡ config) × (beginning.clock.layout ≡ config) }
-    requires passes { (length beginning.passes.items ≡ config.threads) × All (λ pass. pass.log ≡ K.log) beginning.passes.items }
-    requires calls { beginning.clock.calls ≡ sum (map (λ script. length script.items) scripts.items) }
-    requires pens { beginning.pens.items ≡ new_pens beginning.clock 0 (map (λ script. length script.items) scripts.items) }
-    ensures spelled { IfOk result (IfVerified (λ answers trace order passes. IsSpelledWith trace (λ recording. recording.layout ≡ config))) }
-    ensures answers { IfOk result (IfVerified (λ answers trace order passes. length answers ≡ config.threads)) }
+    requires passes { (length beginning.passes.items ≡ config.threads)
+        × All (λ pass. pass.log ≡ K.log) beginning.passes.items }
+    requires calls { beginning.clock.calls
+        ≡ sum (map (λ script. length script.items) scripts.items) }
+    requires pens { beginning.pens.items
+        ≡ new_pens beginning.clock 0 (map (λ script. length script.items) scripts.items) }
+    ensures spelled { IfOk result
+        (IfVerified
+        (λ answers trace order passes.
+        IsSpelledWith trace (λ recording. recording.layout ≡ config))) }
+    ensures answers { IfOk result
+        (IfVerified (λ answers trace order passes. length answers ≡ config.threads)) }
     ensures calls { IfOk result (IfVerified (λ answers trace order passes.
-        IsSpelledWith trace (λ recording. AreAllCallsOf recording (map (λ script. script.items) scripts.items) answers))) }
-    ensures passes { IfOk result (IfVerified (λ answers trace order passes. length passes ≡ config.threads)) }
-    ensures log { IfOk result (IfVerified (λ answers trace order passes. IsSpelledWith trace (λ recording. IsLogOf config recording.log passes))) }
-    ensures seen { IfOk result (IfVerified (λ answers trace order passes. IsSpelledWith trace (λ recording. HaveSeenAnswers recording passes))) }
-    ensures faultless { IfOk result (IfVerified (λ answers trace order passes. IsSpelledWith trace IsFaultless)) }
-    ensures order { IfOk result (IfVerified (λ answers trace order passes. IsSpelledWith trace (λ recording. order ≡ recorded_order recording))) }
-    ensures right { IfOk result (IfVerified (λ answers trace order passes. AreRightWith trace order)) }
+        IsSpelledWith trace
+        (λ recording.
+        AreAllCallsOf recording (map (λ script. script.items) scripts.items) answers))) }
+    ensures passes { IfOk result
+        (IfVerified (λ answers trace order passes. length passes ≡ config.threads)) }
+    ensures log { IfOk result
+        (IfVerified
+        (λ answers trace order passes.
+        IsSpelledWith trace (λ recording. IsLogOf config recording.log passes))) }
+    ensures seen { IfOk result
+        (IfVerified
+        (λ answers trace order passes.
+        IsSpelledWith trace (λ recording. HaveSeenAnswers recording passes))) }
+    ensures faultless { IfOk result
+        (IfVerified (λ answers trace order passes. IsSpelledWith trace IsFaultless)) }
+    ensures order { IfOk result
+        (IfVerified
+        (λ answers trace order passes.
+        IsSpelledWith trace (λ recording. order ≡ recorded_order recording))) }
+    ensures right { IfOk result
+        (IfVerified (λ answers trace order passes. AreRightWith trace order)) }
     ensures refused { IfOk result (IfRefused (λ trace fault. IsFirstOf trace fault)) }
 {
     let Beginning {
@@ -148,16 +176,34 @@ pub fn run<J: LogName + Send + Sync, G: Gate + Sync, R: Threads + Wait + Sync>(
     requires replicas { config.replicas ≡ J.replicas }
     requires passes { J.passes ≡ config.replicas + config.threads }
     requires scripts { AreScripts config (map (λ script. script.items) scripts.items) }
-    ensures spelled { IfOk result (IfVerified (λ answers trace order passes. IsSpelledWith trace (λ recording. recording.layout ≡ config))) }
-    ensures answers { IfOk result (IfVerified (λ answers trace order passes. length answers ≡ config.threads)) }
+    ensures spelled { IfOk result
+        (IfVerified
+        (λ answers trace order passes.
+        IsSpelledWith trace (λ recording. recording.layout ≡ config))) }
+    ensures answers { IfOk result
+        (IfVerified (λ answers trace order passes. length answers ≡ config.threads)) }
     ensures calls { IfOk result (IfVerified (λ answers trace order passes.
-        IsSpelledWith trace (λ recording. AreAllCallsOf recording (map (λ script. script.items) scripts.items) answers))) }
-    ensures passes { IfOk result (IfVerified (λ answers trace order passes. length passes ≡ config.threads)) }
-    ensures log { IfOk result (IfVerified (λ answers trace order passes. IsSpelledWith trace (λ recording. IsLogOf config recording.log passes))) }
-    ensures seen { IfOk result (IfVerified (λ answers trace order passes. IsSpelledWith trace (λ recording. HaveSeenAnswers recording passes))) }
-    ensures faultless { IfOk result (IfVerified (λ answers trace order passes. IsSpelledWith trace IsFaultless)) }
-    ensures order { IfOk result (IfVerified (λ answers trace order passes. IsSpelledWith trace (λ recording. order ≡ recorded_order recording))) }
-    ensures right { IfOk result (IfVerified (λ answers trace order passes. AreRightWith trace order)) }
+        IsSpelledWith trace
+        (λ recording.
+        AreAllCallsOf recording (map (λ script. script.items) scripts.items) answers))) }
+    ensures passes { IfOk result
+        (IfVerified (λ answers trace order passes. length passes ≡ config.threads)) }
+    ensures log { IfOk result
+        (IfVerified
+        (λ answers trace order passes.
+        IsSpelledWith trace (λ recording. IsLogOf config recording.log passes))) }
+    ensures seen { IfOk result
+        (IfVerified
+        (λ answers trace order passes.
+        IsSpelledWith trace (λ recording. HaveSeenAnswers recording passes))) }
+    ensures faultless { IfOk result
+        (IfVerified (λ answers trace order passes. IsSpelledWith trace IsFaultless)) }
+    ensures order { IfOk result
+        (IfVerified
+        (λ answers trace order passes.
+        IsSpelledWith trace (λ recording. order ≡ recorded_order recording))) }
+    ensures right { IfOk result
+        (IfVerified (λ answers trace order passes. AreRightWith trace order)) }
     ensures refused { IfOk result (IfRefused (λ trace fault. IsFirstOf trace fault)) }
 {
     let beginning = begin(alloc, config, &scripts)?;

@@ -37,13 +37,15 @@ impl<J: LogName, K: ReplicasName, G: Gate> Team<'_, J, K, G> {
     ) -> Said
         requires layout { self.now.replicas.now ≡ self.now.clock.now.layout }
         requires names { IsNamed self.now.clock.now.layout J.depth J.replicas K.tables }
-        requires pen { (pen.old.clock ≡ self.now.clock.now) × (pen.old.waiting ≡ None) × (calls_in pen.old.made < pen.old.quota) }
+        requires pen { (pen.old.clock ≡ self.now.clock.now) × (pen.old.waiting ≡ None)
+            × (calls_in pen.old.made < pen.old.quota) }
         requires pass { pass.old.log ≡ K.log }
         requires thread { thread < self.now.clock.now.layout.threads }
         requires fits { IsQuery self.now.clock.now.layout.depth request }
         ensures log { pass.new.log ≡ pass.old.log }
         ensures heard { HasHeard J.depth J.replicas pass.old.view pass.new.view }
-        ensures called { HasCalled self.now.clock.now.layout request pen.old pen.new pass.new result }
+        ensures called { HasCalled self.now.clock.now.layout request pen.old pen.new pass.new
+            result }
     {
         pass.has_seen_a_history();
         let number = pen.call(self.clock, request);
@@ -77,7 +79,10 @@ impl<J: LogName, K: ReplicasName, G: Gate> Team<'_, J, K, G> {
         requires fits { IsQuery self.now.clock.now.layout.depth request }
         ensures log { pass.new.log ≡ pass.old.log }
         ensures heard { HasHeard J.depth J.replicas pass.old.view pass.new.view }
-        ensures told { IfSome result (λ told. IsTrueOf self.now.clock.now.layout (log_after J.replicas pass.new.view.seen) number request
+        ensures told { IfSome result
+            (λ told.
+            IsTrueOf self.now.clock.now.layout (log_after J.replicas pass.new.view.seen) number
+            request
             (Said.Answer told.0 told.1)) }
     {
         let (replicas, turns) = (self.replicas, self.turns);

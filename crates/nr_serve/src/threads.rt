@@ -48,11 +48,16 @@ pub(crate) fn serve_all<
     requires layout { team.now.replicas.now ≡ team.now.clock.now.layout }
     requires names { IsNamed team.now.clock.now.layout J.depth J.replicas K.tables }
     requires few { team.now.clock.now.layout.threads ≤ THREADS }
-    requires scripts { AreScripts team.now.clock.now.layout (map (λ script. script.items) scripts.items) }
-    requires pens { pens.items ≡ new_pens team.now.clock.now 0 (map (λ script. length script.items) scripts.items) }
+    requires scripts { AreScripts team.now.clock.now.layout
+        (map (λ script. script.items) scripts.items) }
+    requires pens { pens.items
+        ≡ new_pens team.now.clock.now 0 (map (λ script. length script.items) scripts.items) }
     requires passes { length passes.items ≡ length scripts.items }
     requires of_log { All (λ pass. pass.log ≡ K.log) passes.items }
-    ensures { IfOk result (λ workers. AreServed team.now.clock.now K.log (map (λ script. script.items) scripts.items) workers.items) }
+    ensures { IfOk result
+        (λ workers.
+        AreServed team.now.clock.now K.log (map (λ script. script.items) scripts.items)
+        workers.items) }
 {
     let jobs = jobs_of(alloc, scripts, pens, passes)?;
     let handles = Vec::with_capacity(alloc, jobs.len())?;
@@ -73,7 +78,9 @@ fn jobs_of<J: LogName>(
     requires few { length scripts.items ≤ 65536 }
     requires pens { length pens.items ≡ length scripts.items }
     requires passes { length passes.items ≡ length scripts.items }
-    ensures { IfOk result (λ jobs. jobs.items ≡ jobs_from 0 (map (λ script. script.items) scripts.items) pens.items passes.items) }
+    ensures { IfOk result
+        (λ jobs. jobs.items
+        ≡ jobs_from 0 (map (λ script. script.items) scripts.items) pens.items passes.items) }
 {
     let mut jobs = Vec::with_capacity(alloc, scripts.len())?;
     let mut pens = pens.into_iter();
@@ -96,7 +103,8 @@ fn job_of<J: LogName>(
     pen: Pen,
     pass: LogPass<J>,
 ) -> Result<Job<J>, Memory>
-    ensures { IfOk result (λ job. job ≡ record { thread = thread; script = script.items; pen = pen; pass = pass }) }
+    ensures { IfOk result
+        (λ job. job ≡ record { thread = thread; script = script.items; pen = pen; pass = pass }) }
 {
     let said = Vec::with_capacity(alloc, script.len())?;
     Ok(Job {
@@ -126,7 +134,8 @@ fn run_all<
     requires ready { All (IsReadyJob team.now.clock.now K.log) jobs.items }
     requires handles { (handles.items ≡ []) × (length jobs.items ≤ vec_capacity handles) }
     requires workers { (workers.items ≡ []) × (length jobs.items ≤ vec_capacity workers) }
-    ensures { IfSome result (λ workers. AllZip (IsDone team.now.clock.now K.log) jobs.items workers.items) }
+    ensures { IfSome result
+        (λ workers. AllZip (IsDone team.now.clock.now K.log) jobs.items workers.items) }
 {
     thread::scope(
         thread::scope_env(),
@@ -137,7 +146,9 @@ fn run_all<
                 × All (IsReadyJob team.now.clock.now K.log) jobs.items
                 × ((handles.items ≡ []) × (length jobs.items ≤ vec_capacity handles))
                 × ((workers.items ≡ []) × (length jobs.items ≤ vec_capacity workers)) }
-            ensures { IfSome result (λ workers. AllZip (IsDone team.entry.now.clock.now K.log) jobs.items workers.items) }
+            ensures { IfSome result
+                (λ workers.
+                AllZip (IsDone team.entry.now.clock.now K.log) jobs.items workers.items) }
         {
             let (all, handles) = start_all(rt, scope, team, jobs, handles);
             let workers = join_all(rt, handles, workers);
@@ -166,7 +177,8 @@ fn start_all<
     requires ready { All (IsReadyJob team.now.clock.now K.log) jobs.items }
     requires handles { (handles.items ≡ []) × (length jobs.items ≤ vec_capacity handles) }
     ensures few { length result.1.items ≤ length jobs.items }
-    ensures all { result.0 ≡ true → map (λ handle. handle.promise.job.value) result.1.items ≡ jobs.items }
+    ensures all { result.0 ≡ true
+        → map (λ handle. handle.promise.job.value) result.1.items ≡ jobs.items }
 {
     let mut handles = handles;
     for job in jobs {
@@ -194,7 +206,8 @@ fn join_all<J: LogName, K: ReplicasName, R: Threads>(
     workers: Vec<Worker<J>>,
 ) -> Vec<Worker<J>>
     requires { (workers.items ≡ []) × (length handles.items ≤ vec_capacity workers) }
-    ensures { AllZip (λ job worker. IsDone job.pen.clock K.log job worker) (map (λ handle. handle.promise.job.value) handles.items) result.items }
+    ensures { AllZip (λ job worker. IsDone job.pen.clock K.log job worker)
+        (map (λ handle. handle.promise.job.value) handles.items) result.items }
 {
     let mut workers = workers;
     for handle in handles {

@@ -45,8 +45,11 @@ pub fn unanswered_update_too_early()
 
 /// The update is done, and the read sees its page.
 pub fn map_then_resolve_answers()
-    ensures map { answer_in map_then_resolve.layout (space_after map_then_resolve (before 0 (recorded_order map_then_resolve))) map_it ≡ Done }
-    ensures resolve { answer_in map_then_resolve.layout (space_after map_then_resolve (before 2 (recorded_order map_then_resolve))) resolve_it ≡ looks_mapped }
+    ensures map { answer_in map_then_resolve.layout
+        (space_after map_then_resolve (before 0 (recorded_order map_then_resolve))) map_it ≡ Done }
+    ensures resolve { answer_in map_then_resolve.layout
+        (space_after map_then_resolve (before 2 (recorded_order map_then_resolve))) resolve_it
+        ≡ looks_mapped }
 {}
 
 /// The order of the two calls is legal.
@@ -87,7 +90,9 @@ pub fn one_fault_each()
 /// A read that asks for rights stands in the order like one that resolves, and is allowed what the page allows.
 pub fn map_then_access_answers()
     ensures order { recorded_order map_then_access ≡ 0 ∷ 2 ∷ [] }
-    ensures access { answer_in map_then_access.layout (space_after map_then_access (before 2 (recorded_order map_then_access))) access_it ≡ Allowed 0x1123 }
+    ensures access { answer_in map_then_access.layout
+        (space_after map_then_access (before 2 (recorded_order map_then_access))) access_it
+        ≡ Allowed 0x1123 }
     ensures refused { Holds access_refused (WrongAnswer 2) }
 {}
 

@@ -26,7 +26,8 @@ ghost use Rattle.nr_trace.specs.declared.fault.Format.TheVariants.{Trailing, Tru
 
 /// Bytes spell at most one trace.
 pub fn bytes_spell_one_trace()
-    ensures { (bytes : List ℕ) (first second : Recording) → Spells bytes first → Spells bytes second → first ≡ second }
+    ensures { (bytes : List ℕ) (first second : Recording) → Spells bytes first → Spells bytes second
+        → first ≡ second }
 {}
 
 /// Bytes that spell a trace are at most 20 + 4 * 65,536 + 24 * 131,072 + 4 * (16 + 4,096 * 4,104): counts, log, events and
@@ -37,91 +38,116 @@ pub fn no_longer_trace()
 
 /// Bytes have at most one fault of the format.
 pub fn one_format_fault()
-    ensures { (bytes : List ℕ) (first second : Format) → HasFormatFault bytes first → HasFormatFault bytes second → first ≡ second }
+    ensures { (bytes : List ℕ) (first second : Format) → HasFormatFault bytes first
+        → HasFormatFault bytes second → first ≡ second }
 {}
 
 /// Bytes that spell a trace have no fault of the format.
 pub fn no_fault_of_a_spelling()
-    ensures { (bytes : List ℕ) (trace : Recording) (fault : Format) → Spells bytes trace → HasFormatFault bytes fault → ⊥ }
+    ensures { (bytes : List ℕ) (trace : Recording) (fault : Format) → Spells bytes trace
+        → HasFormatFault bytes fault → ⊥ }
 {}
 
 /// A feed that starts with nothing and is fed some pieces one after another ends as a reading of their bytes joined; and two
 /// readings of the same bytes give the same trace or the same fault, but for those that run out of memory.
 pub fn pieces_are_read_as_one()
-    ensures joined { (pieces : List (List ℕ)) (fed : Fed) (result : Result Recording (Fail Format)) → FeedsAll (Taken []) pieces fed → Ends fed result
+    ensures joined { (pieces : List (List ℕ)) (fed : Fed) (result : Result Recording (Fail Format))
+        → FeedsAll (Taken []) pieces fed → Ends fed result
         → Reads (concat pieces) result }
-    ensures one { (bytes : List ℕ) (first second : Result Recording (Fail Format)) → Reads bytes first → Reads bytes second
+    ensures one { (bytes : List ℕ) (first second : Result Recording (Fail Format))
+        → Reads bytes first → Reads bytes second
         → first ≢ Err Memory → second ≢ Err Memory → first ≡ second }
 {}
 
 /// Where no fault holds of the events, the log and the replies' places, and no answer is wrong, the recorded order is
 /// legal but for precedence.
 pub fn recorded_order_is_serial()
-    ensures { (trace : Recording) → HasCleanLog trace → ((call : ℕ) → Holds trace (WrongAnswer call) → ⊥) → IsSerialOrder trace (recorded_order trace) }
+    ensures { (trace : Recording) → HasCleanLog trace
+        → ((call : ℕ) → Holds trace (WrongAnswer call) → ⊥)
+        → IsSerialOrder trace (recorded_order trace) }
 {}
 
 /// Where moreover no call stands too early, the recorded order is legal.
 pub fn recorded_order_is_legal()
-    ensures { (trace : Recording) → HasCleanLog trace → ((call : ℕ) → Holds trace (Early call) → ⊥) → ((call : ℕ) → Holds trace (WrongAnswer call) → ⊥)
+    ensures { (trace : Recording) → HasCleanLog trace → ((call : ℕ) → Holds trace (Early call) → ⊥)
+        → ((call : ℕ) → Holds trace (WrongAnswer call) → ⊥)
         → IsLegalOrder trace (recorded_order trace) }
 {}
 
 /// Of two faults that hold of a trace, one is earlier, or they are one.
 pub fn faults_are_ordered()
-    ensures { (trace : Recording) (first second : Fault) → HasRank trace first → HasRank trace second → Holds trace first → Holds trace second
+    ensures { (trace : Recording) (first second : Fault) → HasRank trace first
+        → HasRank trace second → Holds trace first → Holds trace second
         → (first ≡ second) ⊎ (Earlier trace first second ⊎ Earlier trace second first) }
 {}
 
 /// A trace has at most one first fault.
 pub fn one_first_fault()
-    ensures { (trace : Recording) (first second : Fault) → IsFirst trace first → IsFirst trace second → first ≡ second }
+    ensures { (trace : Recording) (first second : Fault) → IsFirst trace first
+        → IsFirst trace second → first ≡ second }
 {}
 
 /// Bytes have at most one first fault.
 pub fn one_first_fault_of_bytes()
-    ensures { (bytes : List ℕ) (first second : Fault) → IsFirstOf bytes first → IsFirstOf bytes second → first ≡ second }
+    ensures { (bytes : List ℕ) (first second : Fault) → IsFirstOf bytes first
+        → IsFirstOf bytes second → first ≡ second }
 {}
 
 /// Where no fault holds of a recording, the recorded order is legal, and each dump fits it.
 pub fn faultless_recordings_have_an_order()
-    ensures legal { (trace : Recording) → IsFaultless trace → IsLegalOrder trace (recorded_order trace) }
-    ensures fits { (trace : Recording) (replica : ℕ) (dump : Image) → IsFaultless trace → slice_get trace.dumps replica ≡ Some dump
+    ensures legal { (trace : Recording) → IsFaultless trace
+        → IsLegalOrder trace (recorded_order trace) }
+    ensures fits { (trace : Recording) (replica : ℕ) (dump : Image) → IsFaultless trace
+        → slice_get trace.dumps replica ≡ Some dump
         → FitsOrder trace (recorded_order trace) replica dump }
 {}
 
 /// The members of the recorded order are the calls that stand after some entries, each after one number of them. Before a
 /// member come the operations of so many places of the log, and the updates in all are the log.
 pub fn recorded_order_by_entries()
-    ensures members { (trace : Recording) (call : ℕ) → HasCleanLog trace → Contains (recorded_order trace) call ↔ Stands trace call }
-    ensures once { (trace : Recording) (call m n : ℕ) → HasCleanLog trace → StandsAfter trace call m → StandsAfter trace call n → m ≡ n }
-    ensures answered { (trace : Recording) (call : ℕ) (reply : Response) → HasCleanLog trace → reply_to trace call ≡ Some reply
+    ensures members { (trace : Recording) (call : ℕ) → HasCleanLog trace
+        → Contains (recorded_order trace) call ↔ Stands trace call }
+    ensures once { (trace : Recording) (call m n : ℕ) → HasCleanLog trace → StandsAfter trace call m
+        → StandsAfter trace call n → m ≡ n }
+    ensures answered { (trace : Recording) (call : ℕ) (reply : Response) → HasCleanLog trace
+        → reply_to trace call ≡ Some reply
         → StandsAfter trace call reply.at × (reply.at ≤ length trace.log) }
-    ensures first { (trace : Recording) (index : ℕ) (reply : Response) → HasCleanLog trace → reply_of trace index ≡ Some reply
+    ensures first { (trace : Recording) (index : ℕ) (reply : Response) → HasCleanLog trace
+        → reply_of trace index ≡ Some reply
         → reply_to trace reply.call ≡ Some reply }
-    ensures updates { (trace : Recording) → HasCleanLog trace → updates trace (recorded_order trace) ≡ trace.log }
-    ensures space { (trace : Recording) (call n : ℕ) → HasCleanLog trace → n ≤ length trace.log → StandsAfter trace call n
-        → space_after trace (before call (recorded_order trace)) ≡ space_after trace (take n trace.log) }
+    ensures updates { (trace : Recording) → HasCleanLog trace
+        → updates trace (recorded_order trace) ≡ trace.log }
+    ensures space { (trace : Recording) (call n : ℕ) → HasCleanLog trace → n ≤ length trace.log
+        → StandsAfter trace call n
+        → space_after trace (before call (recorded_order trace))
+        ≡ space_after trace (take n trace.log) }
 {}
 
 /// Of two wrong answers the one whose call stands before the other's is earlier.
 pub fn earlier_wrong_answer()
-    ensures { (trace : Recording) (i j : ℕ) → HasCleanLog trace → Holds trace (WrongAnswer i) → Holds trace (WrongAnswer j)
-        → Earlier trace (WrongAnswer i) (WrongAnswer j) ↔ Contains (before j (recorded_order trace)) i }
+    ensures { (trace : Recording) (i j : ℕ) → HasCleanLog trace → Holds trace (WrongAnswer i)
+        → Holds trace (WrongAnswer j)
+        → Earlier trace (WrongAnswer i) (WrongAnswer j) ↔ Contains (before j (recorded_order trace))
+        i }
 {}
 
 /// A floor is raised by what each reply makes known, and by nothing else.
 pub fn floors_rise_by_replies()
     ensures start { (trace : Recording) → floor trace 0 ≡ 0 }
-    ensures reply { (trace : Recording) (index : ℕ) (reply : Response) → reply_of trace index ≡ Some reply
+    ensures reply { (trace : Recording) (index : ℕ) (reply : Response)
+        → reply_of trace index ≡ Some reply
         → floor trace (index + 1) ≡ max (floor trace index) (known_by trace reply) }
-    ensures other { (trace : Recording) (index : ℕ) → reply_of trace index ≡ None → floor trace (index + 1) ≡ floor trace index }
+    ensures other { (trace : Recording) (index : ℕ) → reply_of trace index ≡ None
+        → floor trace (index + 1) ≡ floor trace index }
 {}
 
 /// The space after one place more is that after a step by its operation.
 pub fn spaces_go_on_by_places()
     ensures start { (trace : Recording) → space_after trace (take 0 trace.log) ≡ no_pages }
-    ensures next { (trace : Recording) (place call : ℕ) (action : Action) → slice_get trace.log place ≡ Some call → operation_of trace call ≡ Some action
-        → space_after trace (take (place + 1) trace.log) ≡ (step trace.layout.depth trace.layout.tables
+    ensures next { (trace : Recording) (place call : ℕ) (action : Action)
+        → slice_get trace.log place ≡ Some call → operation_of trace call ≡ Some action
+        → space_after trace (take (place + 1) trace.log)
+        ≡ (step trace.layout.depth trace.layout.tables
         (space_after trace (take place trace.log)) action).space }
 {}
 
@@ -133,11 +159,13 @@ pub fn trailing_bytes_follow_a_trace()
 
 /// Where bytes spell a trace, each front of them that lacks some has the fault `Truncated`.
 pub fn fronts_of_a_spelling_are_truncated()
-    ensures { (front more : List ℕ) (trace : Recording) → Spells (front ++ more) trace → more ≢ [] → HasFormatFault front Truncated }
+    ensures { (front more : List ℕ) (trace : Recording) → Spells (front ++ more) trace → more ≢ []
+        → HasFormatFault front Truncated }
 {}
 
 /// Any bytes spell a trace, or have a fault of the format.
 pub fn bytes_spell_a_trace_or_have_a_fault()
     ensures { (bytes : List ℕ) → All (λ byte. byte < 256) bytes
-        → ((trace : Recording) × Spells bytes trace) ⊎ ((fault : Format) × HasFormatFault bytes fault) }
+        → ((trace : Recording) × Spells bytes trace) ⊎
+        ((fault : Format) × HasFormatFault bytes fault) }
 {}

@@ -36,7 +36,8 @@ pub(crate) fn first_out_of_range(
     config: Config,
     events: &[Recorded],
 ) -> Option<usize>
-    ensures { MatchOption result (All (IsEvent version config) events.now) (IsFirstOut version config events.now) }
+    ensures { MatchOption result (All (IsEvent version config) events.now)
+        (IsFirstOut version config events.now) }
 {
     for (index, event) in events.iter().enumerate() {
         if !is_in_range(version, config, event.event()) {

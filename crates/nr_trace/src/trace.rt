@@ -35,14 +35,35 @@ impl Model for Trace {
 
     ghost coded = { code_by (Version × (Layout × (List ℕ × (List Event × List Image))))
         (coded× version_contract.the_row.coded (coded× config_contract.the_row.coded
-        (coded× (coded_list coded_ℕ) (coded× (coded_list event_contract.the_row.coded) (coded_list image_code)))))
+        (coded× (coded_list coded_ℕ)
+        (coded× (coded_list event_contract.the_row.coded) (coded_list image_code)))))
         (λ t. (t.version, (t.layout, (t.log, (t.events, t.dumps)))))
-        (λ p. record { version = p.0; layout = p.1.0; log = p.1.1.0; events = p.1.1.1.0; dumps = p.1.1.1.1 }) (λ _. refl) };
+        (λ p.
+        record {
+          version = p.0;
+          layout = p.1.0;
+          log = p.1.1.0;
+          events = p.1.1.1.0;
+          dumps = p.1.1.1.1;
+        }) (λ _. refl) };
 
-    ghost view = { λ t. record { version = t.version; layout = t.config; log = t.log.items; events = t.events.items; dumps = t.dumps.items } };
+    ghost view = { λ t.
+        record {
+          version = t.version;
+          layout = t.config;
+          log = t.log.items;
+          events = t.events.items;
+          dumps = t.dumps.items;
+        } };
 
     ghost invariant = { λ t. IsRecording
-        (record { version = t.version; layout = t.config; log = t.log.items; events = t.events.items; dumps = t.dumps.items }) };
+        (record {
+          version = t.version;
+          layout = t.config;
+          log = t.log.items;
+          events = t.events.items;
+          dumps = t.dumps.items;
+        }) };
 }
 
 impl Trace {
@@ -63,7 +84,14 @@ impl Trace {
         events: Vec<Recorded>,
         dumps: Vec<Dump>,
     ) -> Result<Trace, Format>
-        ensures { let parts : Recording = record { version = version; layout = config; log = log.items; events = events.items; dumps = dumps.items } in
+        ensures { let parts : Recording =
+            record {
+              version = version;
+              layout = config;
+              log = log.items;
+              events = events.items;
+              dumps = dumps.items;
+            } in
             MatchResult result (λ trace. (trace ≡ parts) × IsRecording parts) (IsPartsFault parts) }
     {
         if !version.knows_depth(config.depth()) {
@@ -95,8 +123,22 @@ impl Trace {
         events: Vec<Recorded>,
         dumps: Vec<Dump>,
     ) -> Trace
-        requires { IsRecording (record { version = version; layout = config; log = log.items; events = events.items; dumps = dumps.items }) }
-        ensures { result ≡ record { version = version; layout = config; log = log.items; events = events.items; dumps = dumps.items } }
+        requires { IsRecording
+            (record {
+              version = version;
+              layout = config;
+              log = log.items;
+              events = events.items;
+              dumps = dumps.items;
+            }) }
+        ensures { result
+            ≡ record {
+              version = version;
+              layout = config;
+              log = log.items;
+              events = events.items;
+              dumps = dumps.items;
+            } }
     {
         Trace {
             version,

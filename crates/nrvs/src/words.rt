@@ -77,9 +77,14 @@ fn read_setup(given: &ArgMatches<'_>) -> Setup
 
 /// What the words ask for, or what clap answers to them.
 fn read_words<'a>(alloc: Global, words: &'a [String]) -> Result<Command<'a>, Error>
-    ensures asks { IfOk result (Asks (subcommand_of command_line (map (λ word. string_bytes word) words.entry.now))) }
-    ensures faultless { IfOk result (λ _. fault_of command_line (map (λ word. string_bytes word) words.entry.now) ≡ []) }
-    ensures fault { IfErr result (HasKind (ErrorKind.MissingSubcommand ∷ fault_of command_line (map (λ word. string_bytes word) words.entry.now))) }
+    ensures asks { IfOk result
+        (Asks (subcommand_of command_line (map (λ word. string_bytes word) words.entry.now))) }
+    ensures faultless { IfOk result
+        (λ _. fault_of command_line (map (λ word. string_bytes word) words.entry.now) ≡ []) }
+    ensures fault { IfErr result
+        (HasKind
+        (ErrorKind.MissingSubcommand
+        ∷ fault_of command_line (map (λ word. string_bytes word) words.entry.now))) }
 {
     let mut line = command_line(alloc)?;
     let matches = line.try_get_matches_from_mut(words)?;
@@ -110,12 +115,21 @@ pub fn read_program_words<'a>(
     alloc: Global,
     words: &'a Result<Vec<String>, NoWords>,
 ) -> Result<Command<'a>, Error>
-    ensures asks { IfOk words.entry.now (λ given. IfOk result (Asks (subcommand_of command_line (map (λ word. string_bytes word) given.items)))) }
-    ensures faultless { IfOk words.entry.now (λ given. IfOk result (λ _. fault_of command_line (map (λ word. string_bytes word) given.items) ≡ [])) }
+    ensures asks { IfOk words.entry.now
+        (λ given.
+        IfOk result
+        (Asks (subcommand_of command_line (map (λ word. string_bytes word) given.items)))) }
+    ensures faultless { IfOk words.entry.now
+        (λ given.
+        IfOk result
+        (λ _. fault_of command_line (map (λ word. string_bytes word) given.items) ≡ [])) }
     ensures fault { IfOk words.entry.now
         (λ given. IfErr result
-        (HasKind (ErrorKind.MissingSubcommand ∷ fault_of command_line (map (λ word. string_bytes word) given.items)))) }
-    ensures no_words { IfErr words.entry.now (λ why. MatchResult result (λ _. ⊥) (HasKind (kinds_of_no_words why))) }
+        (HasKind
+        (ErrorKind.MissingSubcommand
+        ∷ fault_of command_line (map (λ word. string_bytes word) given.items)))) }
+    ensures no_words { IfErr words.entry.now
+        (λ why. MatchResult result (λ _. ⊥) (HasKind (kinds_of_no_words why))) }
 {
     match words {
         Ok(words) => read_words(alloc, words.as_slice()),

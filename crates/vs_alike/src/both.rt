@@ -100,7 +100,8 @@ impl<S: FrameStore> Both<S> {
     pub fn resolve(&self, address: u64) -> Told<Answer>
         requires { IsCanonical self.now.plain.depth address }
         ensures same { result.table ≡ result.plain }
-        ensures walks { walk self.now.table.depth self.now.table.memory self.now.table.root address ≡ as_walk result.table }
+        ensures walks { walk self.now.table.depth self.now.table.memory self.now.table.root address
+            ≡ as_walk result.table }
         ensures looks { result.plain ≡ look self.now.plain.space address }
     {
         Told {
@@ -113,7 +114,8 @@ impl<S: FrameStore> Both<S> {
     pub fn access(&self, address: u64, mode: Mode, access: Access) -> Told<Answer>
         requires { IsCanonical self.now.plain.depth address }
         ensures same { result.table ≡ result.plain }
-        ensures table_allows { (space : spaces.Space) → tables.IsTableOf self.now.table space → result.table ≡ allow space address mode access }
+        ensures table_allows { (space : spaces.Space) → tables.IsTableOf self.now.table space
+            → result.table ≡ allow space address mode access }
         ensures plain_allows { result.plain ≡ allow self.now.plain.space address mode access }
     {
         Told {
@@ -131,10 +133,14 @@ impl<S: FrameStore> Both<S> {
     pub fn apply(&mut self, op: Op) -> Result<Told<Answer>, Memory>
         requires { IsAction self.old.plain.depth op }
         ensures same { IfOk result (λ told. told.table ≡ told.plain) }
-        ensures table_steps { IfOk result (λ told. tables.IsTableStep self.old.table op told.table self.new.table) }
-        ensures plain_steps { IfOk result (λ told. IsPlainStep self.old.plain op told.plain self.new.plain) }
+        ensures table_steps { IfOk result
+            (λ told. tables.IsTableStep self.old.table op told.table self.new.table) }
+        ensures plain_steps { IfOk result
+            (λ told. IsPlainStep self.old.plain op told.plain self.new.plain) }
         ensures err { OnErr result (self.new ≡ self.old) }
-        ensures for_a_page { OnErr result ((step self.old.plain.depth self.old.plain.limit self.old.plain.space op).answer ≡ Answer.Done) }
+        ensures for_a_page { OnErr result
+            ((step self.old.plain.depth self.old.plain.limit self.old.plain.space op).answer
+            ≡ Answer.Done) }
     {
         let plain = self.plain.apply(op)?;
         let table = self.table.apply(op);

@@ -56,7 +56,8 @@ fn begins_in_stretch(level: u8, address: u64, page: Option<Page>) -> bool
 /// Whether one of the pages next to the address begins in that stretch.
 fn shares_table(level: u8, address: u64, below: Option<Page>, above: Option<Page>) -> bool
     requires { level < 5 }
-    ensures { result ≡ (begins_in_stretch level address below || begins_in_stretch level address above) }
+    ensures { result
+        ≡ (begins_in_stretch level address below || begins_in_stretch level address above) }
 {
     begins_in_stretch(level, address, below) || begins_in_stretch(level, address, above)
 }
@@ -73,7 +74,8 @@ impl PageMap {
 
     /// The greatest base up to the address, and what is mapped from there on.
     fn entry_up_to(&self, address: u64) -> Option<(&u64, &Mapping)>
-        ensures { IsLastUpTo self.now address (option_map (λ entry. page_from entry.0.now entry.1.now) result) }
+        ensures { IsLastUpTo self.now address
+            (option_map (λ entry. page_from entry.0.now entry.1.now) result) }
     {
         self.by_base.range(..=address).next_back()
     }
@@ -117,7 +119,8 @@ impl PageMap {
     /// Gives the page that begins at `base`, if one does, these rights. The page as it was.
     pub(crate) fn protect(&mut self, base: u64, rights: Rights) -> Option<Page>
         ensures was { result ≡ finite.get self.old base }
-        ensures changed { IfSome result (λ page. self.new ≡ finite.insert self.old base (record page { rights = rights })) }
+        ensures changed { IfSome result
+            (λ page. self.new ≡ finite.insert self.old base (record page { rights = rights })) }
         ensures unchanged { IfNone result (self.new ≡ self.old) }
     {
         let mapping = self.by_base.get_mut(&base)?;
@@ -133,7 +136,8 @@ impl PageMap {
         requires well_formed { IsPage depth page }
         requires free { least_overlapped self.now page ≡ None }
         requires last { IsLastUpTo self.now page.base below }
-        ensures more { result + table_count depth self.now ≡ table_count depth (finite.insert self.now page.base page) }
+        ensures more { result + table_count depth self.now
+            ≡ table_count depth (finite.insert self.now page.base page) }
         ensures few { result ≤ levels depth }
     {
         if begins_in_stretch(page.size.level(), page.base, below) {

@@ -46,7 +46,8 @@ impl Model for PlainSpace {
 impl PlainSpace {
     /// The space with no pages, under a limit of tables. It takes no memory.
     pub fn new(alloc: Global, tables: u16, depth: Depth) -> PlainSpace
-        ensures { let empty : BoundedSpace = record { depth = depth; limit = tables; space = no_pages } in result ≡ empty }
+        ensures { let empty : BoundedSpace =
+            record { depth = depth; limit = tables; space = no_pages } in result ≡ empty }
     {
         PlainSpace {
             depth,
@@ -145,9 +146,12 @@ impl PlainSpace {
 
     fn map(&mut self, page: Page) -> Result<Answer, Memory>
         requires { IsPage self.old.depth page }
-        ensures ok { IfOk result (λ answer. IsPlainStep self.old (Action.Map page) answer self.new) }
+        ensures ok { IfOk result
+            (λ answer. IsPlainStep self.old (Action.Map page) answer self.new) }
         ensures err { OnErr result (self.new ≡ self.old) }
-        ensures for_a_page { OnErr result ((step self.old.depth self.old.limit self.old.space (Action.Map page)).answer ≡ Answer.Done) }
+        ensures for_a_page { OnErr result
+            ((step self.old.depth self.old.limit self.old.space (Action.Map page)).answer
+            ≡ Answer.Done) }
     {
         let below = match self.place_of(page.base) {
             Place::Covered(other) => return Ok(Answer::Overlap(other.base)),
@@ -205,7 +209,8 @@ impl PlainSpace {
         requires { IsAction self.old.depth op }
         ensures ok { IfOk result (λ answer. IsPlainStep self.old op answer self.new) }
         ensures err { OnErr result (self.new ≡ self.old) }
-        ensures for_a_page { OnErr result ((step self.old.depth self.old.limit self.old.space op).answer ≡ Answer.Done) }
+        ensures for_a_page { OnErr result
+            ((step self.old.depth self.old.limit self.old.space op).answer ≡ Answer.Done) }
     {
         match op.action() {
             Action::Map(page) => self.map(page),

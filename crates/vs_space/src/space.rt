@@ -49,9 +49,17 @@ impl<S: FrameStore> Model for Space<S> {
 
     ghost coded = { Prim.hlevel (codes, finite.code {R = nat_cmp} coded_ℕ (coded_list coded_ℕ)) };
 
-    ghost view = { λ s. record { depth = s.depth; base = s.tables.base; limit = s.tables.limit; root = s.root; memory = s.tables.memory } };
+    ghost view = { λ s.
+        record {
+          depth = s.depth;
+          base = s.tables.base;
+          limit = s.tables.limit;
+          root = s.root;
+          memory = s.tables.memory;
+        } };
 
-    ghost invariant = { λ s. IsPageTable (table_in_store s.depth s.tables s.root) × AreNumbered s.tables };
+    ghost invariant = { λ s. IsPageTable (table_in_store s.depth s.tables s.root)
+        × AreNumbered s.tables };
 }
 
 impl<S: FrameStore> Frames for Space<S> {
@@ -101,7 +109,8 @@ impl<S: FrameStore> Space<S> {
     pub fn tables(&self) -> usize
         ensures reads { result ≡ finite.len self.now.memory }
         ensures at_most { result ≤ self.now.limit }
-        ensures counts { (space : spaces.Space) → IsTableOf self.now space → result ≡ table_count self.now.depth space }
+        ensures counts { (space : spaces.Space) → IsTableOf self.now space
+            → result ≡ table_count self.now.depth space }
     {
         self.tables.used()
     }
@@ -113,15 +122,19 @@ impl<S: FrameStore> Space<S> {
         ensures reads { result ≡ self.now.root }
         ensures some_space { (space : spaces.Space) × IsTableOf self.now space }
         ensures faultless { walk_fault self.now.depth self.now.memory self.now.root ≡ None }
-        ensures in_use { (number : ℕ) → Contains (reached (traversal self.now.depth self.now.memory self.now.root)) number
+        ensures in_use { (number : ℕ)
+            → Contains (reached (traversal self.now.depth self.now.memory self.now.root)) number
             → IsTrue (finite.contains_key self.now.memory number) }
         ensures each { (number : ℕ) → IsTrue (finite.contains_key self.now.memory number)
             → Contains (reached (traversal self.now.depth self.now.memory self.now.root)) number }
         ensures written { (number : ℕ) → IsTrue (finite.contains_key self.now.memory number)
             → IsWrittenTable self.now.depth self.now.memory self.now.root number }
-        ensures from_base { (number : ℕ) → IsTrue (finite.contains_key self.now.memory number) → self.now.base ≤ number }
-        ensures below_limit { (number : ℕ) → IsTrue (finite.contains_key self.now.memory number) → number < self.now.base + self.now.limit }
-        ensures in_range { (number : ℕ) → IsTrue (finite.contains_key self.now.memory number) → number < 2 ^ 40 }
+        ensures from_base { (number : ℕ) → IsTrue (finite.contains_key self.now.memory number)
+            → self.now.base ≤ number }
+        ensures below_limit { (number : ℕ) → IsTrue (finite.contains_key self.now.memory number)
+            → number < self.now.base + self.now.limit }
+        ensures in_range { (number : ℕ) → IsTrue (finite.contains_key self.now.memory number)
+            → number < 2 ^ 40 }
     {
         self.root
     }
@@ -147,7 +160,8 @@ impl<S: FrameStore> Space<S> {
         requires canonical { IsCanonical self.now.depth address }
         requires some_level { 1 ≤ level }
         requires few_levels { level ≤ 5 }
-        requires ended { HasEnded self.now address level descent.now.number descent.now.word descent.now.path }
+        requires ended { HasEnded self.now address level descent.now.number descent.now.word
+            descent.now.path }
         ensures { (space : spaces.Space) → IsTableOf self.now space → result ≡ look space address }
     {
         let Meaning::Leaf(phys, rights) = read_written(level, descent.word) else {
@@ -161,7 +175,8 @@ impl<S: FrameStore> Space<S> {
     /// the page fault. It goes down the tables once.
     pub fn access(&self, address: u64, mode: Mode, access: Access) -> Answer
         requires { IsCanonical self.now.depth address }
-        ensures { (space : spaces.Space) → IsTableOf self.now space → result ≡ allow space address mode access }
+        ensures { (space : spaces.Space) → IsTableOf self.now space
+            → result ≡ allow space address mode access }
     {
         self.resolve(address).accessed(mode, access)
     }
@@ -225,7 +240,8 @@ impl<S: FrameStore> Space<S> {
     fn add(&mut self, page: Page, leaf: Entry, level: u8, last: u64) -> Answer
         requires page { IsPage self.old.depth page }
         requires leaf_written { leaf ≡ leaf_word page.size page.phys page.rights }
-        requires leaf_read { meaning (level_of page.size) leaf ≡ Meaning.Leaf page.phys page.rights }
+        requires leaf_read { meaning (level_of page.size) leaf
+            ≡ Meaning.Leaf page.phys page.rights }
         requires few_levels { level ≤ 5 }
         requires absent { HasMet self.old page level last Meaning.Absent }
         ensures { IsTableStep self.old (Action.Map page) result self.new }
@@ -304,7 +320,8 @@ impl<S: FrameStore> Space<S> {
         requires base { IsBase self.old.depth base }
         requires some_level { 1 ≤ level }
         requires few_levels { level ≤ 5 }
-        requires ended { HasEnded self.old base level descent.now.number descent.now.word descent.now.path }
+        requires ended { HasEnded self.old base level descent.now.number descent.now.word
+            descent.now.path }
         ensures { IsTableStep self.old (Action.Protect base rights) result self.new }
     {
         let Meaning::Leaf(phys, old) = read_written(level, descent.word) else {

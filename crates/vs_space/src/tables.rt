@@ -42,14 +42,16 @@ impl<S: FrameStore> Model for Tables<S> {
 
     ghost view = { λ t. held_in (S.base t.store) (S.size t.store) (S.frames t.store) };
 
-    ghost invariant = { λ t. AreWhole (S.frames t.store) × AreNumbered (held_in (S.base t.store) (S.size t.store) (S.frames t.store))
+    ghost invariant = { λ t. AreWhole (S.frames t.store)
+        × AreNumbered (held_in (S.base t.store) (S.size t.store) (S.frames t.store))
         × IsCounted (S.frames t.store) (S.notes t.store) };
 }
 
 impl<S: FrameStore> Tables<S> {
     pub(crate) fn new(store: S) -> Tables<S>
         requires { S.frames store ≡ finite.empty }
-        ensures { result ≡ record { base = S.base store; limit = S.size store; memory = finite.empty } }
+        ensures { result
+            ≡ record { base = S.base store; limit = S.size store; memory = finite.empty } }
     {
         Tables { store }
     }
@@ -93,7 +95,8 @@ impl<S: FrameStore> Tables<S> {
         requires in_frame { index < FRAME_WORDS }
         requires present { word_at self.old.memory number index ≢ Some 0 }
         requires some { word ≢ 0 }
-        ensures written { self.new ≡ record self.old { memory = with_word self.old.memory number index word } }
+        ensures written { self.new
+            ≡ record self.old { memory = with_word self.old.memory number index word } }
         ensures numbers { AreNumbered self.new }
     {
         let frame = frame_of(&self.store, number);
@@ -106,7 +109,8 @@ impl<S: FrameStore> Tables<S> {
         requires in_frame { index < FRAME_WORDS }
         requires absent { word_at self.old.memory number index ≡ Some 0 }
         requires some { word ≢ 0 }
-        ensures written { self.new ≡ record self.old { memory = with_word self.old.memory number index word } }
+        ensures written { self.new
+            ≡ record self.old { memory = with_word self.old.memory number index word } }
         ensures whole { AreWhole self.old.memory }
         ensures numbers { AreNumbered self.new }
     {
@@ -121,7 +125,8 @@ impl<S: FrameStore> Tables<S> {
         requires in_use { IsSome (finite.get self.old.memory number) }
         requires in_frame { index < FRAME_WORDS }
         requires present { word_at self.old.memory number index ≢ Some 0 }
-        ensures written { self.new ≡ record self.old { memory = with_word self.old.memory number index 0 } }
+        ensures written { self.new
+            ≡ record self.old { memory = with_word self.old.memory number index 0 } }
         ensures numbers { AreNumbered self.new }
     {
         let frame = frame_of(&self.store, number);
@@ -133,7 +138,8 @@ impl<S: FrameStore> Tables<S> {
     /// The number of a frame that wasn't in use, now in use and all zero, or `None` where all are in use.
     pub(crate) fn take(&mut self) -> Option<u64>
         ensures was_free { IfSome result (λ n. finite.get self.old.memory n ≡ None) }
-        ensures taken { IfSome result (λ n. self.new ≡ record self.old { memory = finite.insert self.old.memory n zeros }) }
+        ensures taken { IfSome result
+            (λ n. self.new ≡ record self.old { memory = finite.insert self.old.memory n zeros }) }
         ensures in_range { IfSome result (λ n. n < 2 ^ 40) }
         ensures numbers { IfSome result (λ _. AreNumbered self.new) }
         ensures all_in_use { IfNone result (finite.len self.old.memory ≡ self.old.limit) }
@@ -146,7 +152,8 @@ impl<S: FrameStore> Tables<S> {
     /// Gives a frame back whose words are all 0.
     pub(crate) fn give(&mut self, number: u64)
         requires { finite.get self.old.memory number ≡ Some zeros }
-        ensures removed { self.new ≡ record self.old { memory = finite.remove self.old.memory number } }
+        ensures removed { self.new
+            ≡ record self.old { memory = finite.remove self.old.memory number } }
         ensures numbers { AreNumbered self.new }
     {
         let frame = frame_of(&self.store, number);
@@ -221,7 +228,9 @@ impl<S: FrameStore> Tables<S> {
         requires in_use { IsSome (finite.get self.now.memory number) }
         requires some_level { 1 ≤ level }
         requires few_levels { level ≤ 5 }
-        ensures none { IfNone result ((i : ℕ) → i < FRAME_WORDS → entry_in level self.now.memory number i ≡ Some Meaning.Absent) }
+        ensures none { IfNone result
+            ((i : ℕ) → i < FRAME_WORDS
+            → entry_in level self.now.memory number i ≡ Some Meaning.Absent) }
         ensures first { IfSome result (IsFirstPresent level self.now.memory number) }
     {
         let Some(words) = self.words(number) else {
@@ -241,7 +250,8 @@ impl<S: FrameStore> Tables<S> {
     fn is_empty(&self, number: u64) -> bool
         requires { IsSome (finite.get self.now.memory number) }
         ensures empty { IsTrue result → finite.get self.now.memory number ≡ Some zeros }
-        ensures present { IsFalse result → (level : ℕ) → AreWritten level self.now.memory number → HasPresent level self.now.memory number }
+        ensures present { IsFalse result → (level : ℕ) → AreWritten level self.now.memory number
+            → HasPresent level self.now.memory number }
     {
         self.store.note(frame_of(&self.store, number)) == 0
     }
@@ -257,10 +267,13 @@ impl<S: FrameStore> Tables<S> {
         from: u8,
     ) -> u8
         requires canonical { IsCanonical depth address }
-        requires faultless { (b : ℕ) → IsCanonical depth b → walk depth self.old.memory (slice_index path.now (levels depth)) b ≢ Walk.Reserved }
+        requires faultless { (b : ℕ) → IsCanonical depth b
+            → walk depth self.old.memory (slice_index path.now (levels depth)) b ≢ Walk.Reserved }
         requires numbers { AreNumbered self.old }
-        requires cut { IsCut depth self.old.memory (slice_index path.now (levels depth)) address from path.now }
-        ensures pruned { IsPruned depth self.old.memory self.new.memory (slice_index path.now (levels depth)) address from result }
+        requires cut { IsCut depth self.old.memory (slice_index path.now (levels depth)) address
+            from path.now }
+        ensures pruned { IsPruned depth self.old.memory self.new.memory
+            (slice_index path.now (levels depth)) address from result }
         ensures same { self.new ≡ record self.old { memory = self.new.memory } }
         ensures numbers { AreNumbered self.new }
     {
@@ -286,7 +299,8 @@ impl<S: FrameStore> Tables<S> {
         requires within { lowest ≤ from }
         requires few_levels { from ≤ 5 }
         requires room { finite.len self.old.memory + (from - lowest) ≤ self.old.limit }
-        ensures extended { IsExtended self.old.memory self.new.memory address last from lowest result }
+        ensures extended { IsExtended self.old.memory self.new.memory address last from lowest
+            result }
         ensures absent { word_at self.new.memory result (index_at lowest address) ≡ Some 0 }
         ensures same { self.new ≡ record self.old { memory = self.new.memory } }
     {
@@ -305,8 +319,10 @@ impl<S: FrameStore> Tables<S> {
 
     /// The base of the first page below a table of this level, which begins at the address.
     pub(crate) fn least_base(&self, address: u64, table: u64, from: u8) -> u64
-        requires { (depth : Depth) × (root : ℕ) × IsBelowRoot depth self.now.memory root address from table }
-        ensures { (depth : Depth) (root : ℕ) → IsBelowRoot depth self.now.memory root address from table
+        requires { (depth : Depth) × (root : ℕ)
+            × IsBelowRoot depth self.now.memory root address from table }
+        ensures { (depth : Depth) (root : ℕ)
+            → IsBelowRoot depth self.now.memory root address from table
             → IsLeastBase depth self.now.memory root address from result }
     {
         let mut level = from;

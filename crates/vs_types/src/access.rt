@@ -66,7 +66,8 @@ pub fn fault_code(present: bool, mode: Mode, access: Access) -> u64
 impl Answer {
     /// What an access is answered, where this is the answer to a resolve of its address: `Allowed` or `Fault`.
     pub fn accessed(self, mode: Mode, access: Access) -> Answer
-        ensures { (space : Space) (address : ℕ) → self ≡ look space address → result ≡ allow space address mode access }
+        ensures { (space : Space) (address : ℕ) → self ≡ look space address
+            → result ≡ allow space address mode access }
     {
         match self {
             Answer::Mapped(phys, _, rights) if rights.allow(mode, access) => Answer::Allowed(phys),

@@ -29,11 +29,20 @@ impl Model for Config {
 
     ghost Value = { Layout };
 
-    ghost view = { λ c. record { depth = c.depth; replicas = c.replicas; threads = c.threads; tables = c.tables } };
+    ghost view = { λ c.
+        record { depth = c.depth; replicas = c.replicas; threads = c.threads; tables = c.tables } };
 
-    ghost invariant = { λ c. IsLayout (record { depth = c.depth; replicas = c.replicas; threads = c.threads; tables = c.tables }) };
+    ghost invariant = { λ c.
+        IsLayout
+        (record {
+          depth = c.depth;
+          replicas = c.replicas;
+          threads = c.threads;
+          tables = c.tables;
+        }) };
 
-    ghost inverse = { λ l. record { depth = l.depth; replicas = l.replicas; threads = l.threads; tables = l.tables } };
+    ghost inverse = { λ l.
+        record { depth = l.depth; replicas = l.replicas; threads = l.threads; tables = l.tables } };
 }
 
 impl Config {
@@ -46,7 +55,8 @@ impl Config {
     ///
     /// `BadConfig` with the first number that is out of its range.
     pub fn new(depth: Depth, replicas: u8, threads: u16, tables: u16) -> Result<Config, BadConfig>
-        ensures { let layout : Layout = record { depth = depth; replicas = replicas; threads = threads; tables = tables } in
+        ensures { let layout : Layout =
+            record { depth = depth; replicas = replicas; threads = threads; tables = tables } in
             GivesUnless (config_fault layout) layout result }
     {
         if replicas < 1 || replicas > REPLICAS {

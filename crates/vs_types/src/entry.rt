@@ -88,7 +88,8 @@ impl Entry {
     pub fn table(number: u64) -> Entry
         requires { number < 2 ^ 40 }
         ensures written { result ≡ table_word number }
-        ensures read_back { (level : ℕ) → 1 < level → meaning level result ≡ Table number all_rights }
+        ensures read_back { (level : ℕ) → 1 < level
+            → meaning level result ≡ Table number all_rights }
     {
         Entry {
             word: number * 4096 + 7,

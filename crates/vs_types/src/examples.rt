@@ -24,33 +24,40 @@ pub fn both_halves_of_the_address_space()
     ensures tables { tables_after Four 4096 both_halves ≡ 7 }
     ensures low_index { index_at 4 0x7FFFFFFFF000 ≡ 255 }
     ensures high_index { index_at 4 0xFFFF800000000000 ≡ 256 }
-    ensures last_low_address { look_after Four 4096 both_halves 0x7FFFFFFFFFFF ≡ Mapped 0x2FFF K4 all_rights }
+    ensures last_low_address { look_after Four 4096 both_halves 0x7FFFFFFFFFFF
+        ≡ Mapped 0x2FFF K4 all_rights }
     ensures between { is_canonical Four 0x800000000000 ≡ false }
 {}
 
 /// A page that overlaps two is answered the base of the lower one.
 pub fn overlap_names_least_base()
-    ensures answers { (depth : Depth) → answers depth 4096 small_then_large ≡ Done ∷ Done ∷ Overlap 0x40001000 ∷ [] }
+    ensures answers { (depth : Depth)
+        → answers depth 4096 small_then_large ≡ Done ∷ Done ∷ Overlap 0x40001000 ∷ [] }
     ensures tables { tables_after Four 4096 small_then_large ≡ 5 }
 {}
 
 /// A page that begins before the new one is named too, and so it is to a protect of an address in it.
 pub fn overlap_names_a_page_that_begins_before()
-    ensures answers { (depth : Depth) → answers depth 4096 large_then_small ≡ Done ∷ Overlap 0x200000 ∷ Inside 0x200000 ∷ [] }
+    ensures answers { (depth : Depth)
+        → answers depth 4096 large_then_small ≡ Done ∷ Overlap 0x200000 ∷ Inside 0x200000 ∷ [] }
     ensures tables { tables_after Four 4096 large_then_small ≡ 3 }
 {}
 
 /// The last page of all ends at 2^64.
 pub fn last_page_of_the_address_space()
-    ensures answers { (depth : Depth) → answers depth 4096 last_page ≡ Done ∷ Overlap 0xFFFFFFFFC0000000 ∷ [] }
-    ensures last_address { (depth : Depth) → look_after depth 4096 last_page 0xFFFFFFFFFFFFFFFF ≡ Mapped 0x3FFFFFFF G1 all_rights }
+    ensures answers { (depth : Depth)
+        → answers depth 4096 last_page ≡ Done ∷ Overlap 0xFFFFFFFFC0000000 ∷ [] }
+    ensures last_address { (depth : Depth)
+        → look_after depth 4096 last_page 0xFFFFFFFFFFFFFFFF ≡ Mapped 0x3FFFFFFF G1 all_rights }
 {}
 
 /// A page of 1 GiB, write only: an unmap in its midst names its base, and an address in it is translated.
 pub fn gigabyte_page()
-    ensures answers { (depth : Depth) → answers depth 4096 one_gigabyte ≡ Done ∷ Inside 0x40000000 ∷ [] }
+    ensures answers { (depth : Depth)
+        → answers depth 4096 one_gigabyte ≡ Done ∷ Inside 0x40000000 ∷ [] }
     ensures tables { tables_after Four 4096 one_gigabyte ≡ 2 }
-    ensures inner_address { (depth : Depth) → look_after depth 4096 one_gigabyte 0x40001234 ≡ Mapped 0x40001234 G1 write_only }
+    ensures inner_address { (depth : Depth)
+        → look_after depth 4096 one_gigabyte 0x40001234 ≡ Mapped 0x40001234 G1 write_only }
 {}
 
 /// With a limit of three tables, a map that needs a fourth names four; one that overlaps is told so first.
@@ -62,7 +69,8 @@ pub fn full_names_its_need()
 
 /// A table is counted only where a page needs it.
 pub fn unmap_frees_tables()
-    ensures answers { (depth : Depth) → answers depth 4096 small_replaced ≡ Done ∷ Removed 0x1000 K4 all_rights ∷ Done ∷ [] }
+    ensures answers { (depth : Depth)
+        → answers depth 4096 small_replaced ≡ Done ∷ Removed 0x1000 K4 all_rights ∷ Done ∷ [] }
     ensures with_small { tables_after Four 4096 (take 1 small_replaced) ≡ 4 }
     ensures with_none { tables_after Four 4096 (take 2 small_replaced) ≡ 1 }
     ensures with_large { tables_after Four 4096 small_replaced ≡ 3 }
@@ -70,24 +78,38 @@ pub fn unmap_frees_tables()
 
 /// A protect gives a page other rights, and answers those from before.
 pub fn protect_changes_rights()
-    ensures answers { (depth : Depth) → answers depth 4096 other_rights ≡ Done ∷ Changed write_only ∷ NotMapped ∷ [] }
-    ensures changed { (depth : Depth) → look_after depth 4096 other_rights 0x1000 ≡ Mapped 0x5000 K4 user_and_exec }
+    ensures answers { (depth : Depth)
+        → answers depth 4096 other_rights ≡ Done ∷ Changed write_only ∷ NotMapped ∷ [] }
+    ensures changed { (depth : Depth)
+        → look_after depth 4096 other_rights 0x1000 ≡ Mapped 0x5000 K4 user_and_exec }
 {}
 
 /// An access needs the right that it asks for, and in user mode the user right; a supervisor's read needs none. A fault's code tells
 /// whether a page covers the address, and what the access was. After a protect the new rights hold.
 pub fn accesses_ask_for_rights()
-    ensures answers { (depth : Depth) → answers depth 4096 written_then_run ≡ Done ∷ Changed write_only ∷ [] }
-    ensures supervisor_write { (depth : Depth) → allow_after depth 4096 (take 1 written_then_run) 0x400123 Supervisor Write ≡ Allowed 0x1123 }
-    ensures user_read { (depth : Depth) → allow_after depth 4096 (take 1 written_then_run) 0x400123 User Read ≡ Fault 5 }
-    ensures user_write { (depth : Depth) → allow_after depth 4096 (take 1 written_then_run) 0x400123 User Write ≡ Fault 7 }
-    ensures supervisor_fetch { (depth : Depth) → allow_after depth 4096 (take 1 written_then_run) 0x400123 Supervisor Fetch ≡ Fault 17 }
-    ensures user_fetch { (depth : Depth) → allow_after depth 4096 (take 1 written_then_run) 0x400123 User Fetch ≡ Fault 21 }
-    ensures read_of_nothing { (depth : Depth) → allow_after depth 4096 (take 1 written_then_run) 0x401000 Supervisor Read ≡ Fault 0 }
-    ensures user_write_of_nothing { (depth : Depth) → allow_after depth 4096 (take 1 written_then_run) 0x401000 User Write ≡ Fault 6 }
-    ensures user_fetch_of_nothing { (depth : Depth) → allow_after depth 4096 (take 1 written_then_run) 0x401000 User Fetch ≡ Fault 20 }
-    ensures write_refused_after { (depth : Depth) → allow_after depth 4096 written_then_run 0x400123 Supervisor Write ≡ Fault 3 }
-    ensures fetch_allowed_after { (depth : Depth) → allow_after depth 4096 written_then_run 0x400123 Supervisor Fetch ≡ Allowed 0x1123 }
+    ensures answers { (depth : Depth)
+        → answers depth 4096 written_then_run ≡ Done ∷ Changed write_only ∷ [] }
+    ensures supervisor_write { (depth : Depth)
+        → allow_after depth 4096 (take 1 written_then_run) 0x400123 Supervisor Write
+        ≡ Allowed 0x1123 }
+    ensures user_read { (depth : Depth)
+        → allow_after depth 4096 (take 1 written_then_run) 0x400123 User Read ≡ Fault 5 }
+    ensures user_write { (depth : Depth)
+        → allow_after depth 4096 (take 1 written_then_run) 0x400123 User Write ≡ Fault 7 }
+    ensures supervisor_fetch { (depth : Depth)
+        → allow_after depth 4096 (take 1 written_then_run) 0x400123 Supervisor Fetch ≡ Fault 17 }
+    ensures user_fetch { (depth : Depth)
+        → allow_after depth 4096 (take 1 written_then_run) 0x400123 User Fetch ≡ Fault 21 }
+    ensures read_of_nothing { (depth : Depth)
+        → allow_after depth 4096 (take 1 written_then_run) 0x401000 Supervisor Read ≡ Fault 0 }
+    ensures user_write_of_nothing { (depth : Depth)
+        → allow_after depth 4096 (take 1 written_then_run) 0x401000 User Write ≡ Fault 6 }
+    ensures user_fetch_of_nothing { (depth : Depth)
+        → allow_after depth 4096 (take 1 written_then_run) 0x401000 User Fetch ≡ Fault 20 }
+    ensures write_refused_after { (depth : Depth)
+        → allow_after depth 4096 written_then_run 0x400123 Supervisor Write ≡ Fault 3 }
+    ensures fetch_allowed_after { (depth : Depth)
+        → allow_after depth 4096 written_then_run 0x400123 Supervisor Fetch ≡ Allowed 0x1123 }
 {}
 
 /// With five levels: pages where four levels reach none, and at both ends of the addresses that are not canonical.
@@ -97,7 +119,8 @@ pub fn beyond_four_levels()
     ensures with_two { tables_after Five 4096 (take 2 beyond_four_levels) ≡ 9 }
     ensures with_three { tables_after Five 4096 beyond_four_levels ≡ 13 }
     ensures high_index { index_at 5 0xFF00000000000000 ≡ 256 }
-    ensures first_high_address { look_after Five 4096 beyond_four_levels 0xFF00000000000000 ≡ Mapped 0x3000 K4 all_rights }
+    ensures first_high_address { look_after Five 4096 beyond_four_levels 0xFF00000000000000
+        ≡ Mapped 0x3000 K4 all_rights }
     ensures between { action_fault Five (Unmap 0x100000000000000) ≡ Some NotCanonical }
     ensures full { answers Five 4 (map_all 0 K4 0x1000 ∷ []) ≡ Full 5 ∷ [] }
     ensures gigabyte { tables_after Five 4096 (take 1 one_gigabyte) ≡ 3 }

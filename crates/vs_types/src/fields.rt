@@ -28,7 +28,8 @@ pub struct RequestFields {
 
 impl RequestFields {
     fn at(kind: u8, address: u64) -> RequestFields
-        ensures { result ≡ record { kind = kind; size = 0; rights = 0; address = address; physical = 0 } }
+        ensures { result
+            ≡ record { kind = kind; size = 0; rights = 0; address = address; physical = 0 } }
     {
         RequestFields {
             kind,

@@ -58,7 +58,8 @@ impl Op {
     ///
     /// `BadOp`: `NotCanonical`, `Unaligned`, `PhysUnaligned` or `PhysRange`, the first that holds.
     pub fn map(depth: Depth, base: u64, size: Size, phys: u64, rights: Rights) -> Result<Op, BadOp>
-        ensures { let page : Page = record { base = base; size = size; phys = phys; rights = rights } in
+        ensures { let page : Page =
+            record { base = base; size = size; phys = phys; rights = rights } in
             GivesUnless (action_fault depth (Action.Map page)) (Action.Map page) result }
     {
         if !depth.is_canonical(base) {
@@ -103,7 +104,8 @@ impl Op {
     ///
     /// `BadOp`: `NotCanonical`, or `Unaligned` where the base is no multiple of 4,096, the first that holds.
     pub fn protect(depth: Depth, base: u64, rights: Rights) -> Result<Op, BadOp>
-        ensures { GivesUnless (action_fault depth (Action.Protect base rights)) (Action.Protect base rights) result }
+        ensures { GivesUnless (action_fault depth (Action.Protect base rights))
+            (Action.Protect base rights) result }
     {
         depth.test_base(base)?;
         Ok(Op {

@@ -59,7 +59,8 @@ impl Request {
     ///
     /// `BadOp::NotCanonical`.
     pub fn resolve(depth: Depth, address: u64) -> Result<Request, BadOp>
-        ensures { GivesUnless (query_fault depth (Query.Resolve address)) (Query.Resolve address) result }
+        ensures { GivesUnless (query_fault depth (Query.Resolve address)) (Query.Resolve address)
+            result }
     {
         if !depth.is_canonical(address) {
             return Err(BadOp::NotCanonical);
@@ -75,7 +76,8 @@ impl Request {
     ///
     /// `BadOp::NotCanonical`.
     pub fn access(depth: Depth, address: u64, mode: Mode, access: Access) -> Result<Request, BadOp>
-        ensures { GivesUnless (query_fault depth (Query.Access address mode access)) (Query.Access address mode access) result }
+        ensures { GivesUnless (query_fault depth (Query.Access address mode access))
+            (Query.Access address mode access) result }
     {
         if !depth.is_canonical(address) {
             return Err(BadOp::NotCanonical);

@@ -66,8 +66,11 @@ impl Dump {
         requires above { All (λ held. held < number) (finite.keys self.old.frames) }
         requires in_range { number < 2 ^ 40 }
         requires room { finite.len self.old.frames < TABLES }
-        ensures ok { OnOk result (self.new ≡ record self.old { frames = finite.insert self.old.frames number words.now }) }
-        ensures numbers { OnOk result (finite.keys self.new.frames ≡ finite.keys self.old.frames ++ number ∷ []) }
+        ensures ok { OnOk result
+            (self.new
+            ≡ record self.old { frames = finite.insert self.old.frames number words.now }) }
+        ensures numbers { OnOk result
+            (finite.keys self.new.frames ≡ finite.keys self.old.frames ++ number ∷ []) }
         ensures count { OnOk result (finite.len self.new.frames ≡ finite.len self.old.frames + 1) }
         ensures err { OnErr result (self.new ≡ self.old) }
     {
@@ -106,7 +109,8 @@ impl Dump {
         requires above { All (λ held. held < number) (finite.keys self.frames) }
         requires in_range { number < 2 ^ 40 }
         requires room { finite.len self.frames < TABLES }
-        ensures { IfOk result (λ opened. opened ≡ record { dump = self; number = number; coming = [] }) }
+        ensures { IfOk result
+            (λ opened. opened ≡ record { dump = self; number = number; coming = [] }) }
     {
         let Dump {
             applied,
@@ -224,8 +228,10 @@ impl OpenDump {
     /// The dump with the frame, whose words have all come. It takes no memory and copies no word.
     pub fn end_frame(self) -> Dump
         requires { length self.coming ≡ FRAME_WORDS }
-        ensures made { result ≡ record self.dump { frames = finite.insert self.dump.frames self.number self.coming } }
-        ensures numbers { finite.keys result.frames ≡ finite.keys self.dump.frames ++ self.number ∷ [] }
+        ensures made { result
+            ≡ record self.dump { frames = finite.insert self.dump.frames self.number self.coming } }
+        ensures numbers { finite.keys result.frames
+            ≡ finite.keys self.dump.frames ++ self.number ∷ [] }
         ensures count { finite.len result.frames ≡ finite.len self.dump.frames + 1 }
     {
         let OpenDump {

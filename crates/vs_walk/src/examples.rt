@@ -10,10 +10,12 @@ ghost use Rattle.vs_walk.specs.Examples.{page_tables, high_tables, three_tables,
 
 /// Tables of one page of 4 KiB: an address in it, one after it, and the traversal.
 pub fn map_then_resolve()
-    ensures mapped { walk Four (page_tables 0x4007 0x1007) 1 0x400123 ≡ Mapped 0x1123 K4 all_rights }
+    ensures mapped { walk Four (page_tables 0x4007 0x1007) 1 0x400123
+        ≡ Mapped 0x1123 K4 all_rights }
     ensures not_mapped { walk Four (page_tables 0x4007 0x1007) 1 0x401000 ≡ NotMapped }
     ensures reached { reached (traversal Four (page_tables 0x4007 0x1007) 1) ≡ 1 ∷ 2 ∷ 3 ∷ 4 ∷ [] }
-    ensures found { found (traversal Four (page_tables 0x4007 0x1007) 1) ≡ record { base = 0x400000; size = K4; phys = 0x1000; rights = all_rights } ∷ [] }
+    ensures found { found (traversal Four (page_tables 0x4007 0x1007) 1)
+        ≡ record { base = 0x400000; size = K4; phys = 0x1000; rights = all_rights } ∷ [] }
     ensures faultless { walk_fault Four (page_tables 0x4007 0x1007) 1 ≡ None }
 {}
 
@@ -24,7 +26,8 @@ pub fn dump_with_fewer_rights()
 
 /// A leaf with each bit set that means nothing translates as one without them.
 pub fn ignored_bits_are_ignored()
-    ensures { walk Four (page_tables 0x4007 0x7FF0000000001FFF) 1 0x400123 ≡ Mapped 0x1123 K4 all_rights }
+    ensures { walk Four (page_tables 0x4007 0x7FF0000000001FFF) 1 0x400123
+        ≡ Mapped 0x1123 K4 all_rights }
 {}
 
 /// What is wrong with tables that are no tree: a reserved bit, a table that leads to itself, a frame that is missing.
@@ -33,7 +36,8 @@ pub fn faulty_dumps()
     ensures reserved_bit { walk_fault Four (three_tables 0x202087) 1 ≡ Some (faults.Reserved 3 1) }
     ensures reserved_walk { walk Four (three_tables 0x202087) 1 0x200000 ≡ Reserved }
     ensures other_page { walk_fault Four (three_tables 0x201087) 1 ≡ None }
-    ensures other_page_walk { walk Four (three_tables 0x201087) 1 0x200000 ≡ Mapped 0x200000 M2 all_rights }
+    ensures other_page_walk { walk Four (three_tables 0x201087) 1 0x200000
+        ≡ Mapped 0x200000 M2 all_rights }
     ensures shared_frame { walk_fault Four (one_table 0x1007) 1 ≡ Some (faults.Shared 1) }
     ensures missing_frame { walk_fault Four (one_table 0x2007) 1 ≡ Some (faults.Missing 2) }
     ensures missing_walk { walk Four (one_table 0x2007) 1 0 ≡ Missing }
@@ -48,10 +52,12 @@ pub fn five_levels()
     ensures mapped { walk Five high_tables 1 0xFF00000000000123 ≡ Mapped 0x3123 K4 all_rights }
     ensures not_mapped { walk Five high_tables 1 0x123 ≡ NotMapped }
     ensures reached { reached (traversal Five high_tables 1) ≡ 1 ∷ 2 ∷ 3 ∷ 4 ∷ 5 ∷ [] }
-    ensures found { found (traversal Five high_tables 1) ≡ record { base = 0xFF00000000000000; size = K4; phys = 0x3000; rights = all_rights } ∷ [] }
+    ensures found { found (traversal Five high_tables 1)
+        ≡ record { base = 0xFF00000000000000; size = K4; phys = 0x3000; rights = all_rights } ∷ [] }
     ensures faultless { walk_fault Five high_tables 1 ≡ None }
     ensures reserved_bit { walk_fault Five (one_table 0x87) 1 ≡ Some (faults.Reserved 1 0) }
     ensures empty { walk_fault Five one_empty_frame 1 ≡ None }
     ensures with_four { walk Four high_tables 1 0xFFFF800000000123 ≡ Mapped 0x5123 K4 all_rights }
-    ensures found_with_four { found (traversal Four high_tables 1) ≡ record { base = 0xFFFF800000000000; size = K4; phys = 0x5000; rights = all_rights } ∷ [] }
+    ensures found_with_four { found (traversal Four high_tables 1)
+        ≡ record { base = 0xFFFF800000000000; size = K4; phys = 0x5000; rights = all_rights } ∷ [] }
 {}

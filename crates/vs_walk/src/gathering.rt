@@ -39,17 +39,23 @@ impl Dump {
         depth: Depth,
         applied: u32,
     ) -> Result<Dump, Fail<WalkFault>>
-        requires few { walk_fault depth (F.memory frames.now) root ≡ None → length (reached (traversal depth (F.memory frames.now) root)) ≤ TABLES }
+        requires few { walk_fault depth (F.memory frames.now) root ≡ None
+            → length (reached (traversal depth (F.memory frames.now) root)) ≤ TABLES }
         requires in_range { walk_fault depth (F.memory frames.now) root ≡ None
-            → All (λ number. number < 2 ^ 40) (reached (traversal depth (F.memory frames.now) root)) }
+            → All (λ number. number < 2 ^ 40)
+            (reached (traversal depth (F.memory frames.now) root)) }
         ensures applied { IfOk result (λ dump. dump.applied ≡ applied) }
         ensures root { IfOk result (λ dump. dump.root ≡ root) }
-        ensures held { IfOk result (λ dump. (number : ℕ) → Contains (reached (traversal depth (F.memory frames.now) root)) number
+        ensures held { IfOk result
+            (λ dump. (number : ℕ)
+            → Contains (reached (traversal depth (F.memory frames.now) root)) number
             → finite.get dump.frames number ≡ finite.get (F.memory frames.now) number) }
-        ensures only { IfOk result (λ dump. (number : ℕ) → IsTrue (finite.contains_key dump.frames number)
+        ensures only { IfOk result
+            (λ dump. (number : ℕ) → IsTrue (finite.contains_key dump.frames number)
             → Contains (reached (traversal depth (F.memory frames.now) root)) number) }
         ensures faultless { OnOk result (walk_fault depth (F.memory frames.now) root ≡ None) }
-        ensures first { IfErr result (IfRefused (λ fault. walk_fault depth (F.memory frames.now) root ≡ Some fault)) }
+        ensures first { IfErr result
+            (IfRefused (λ fault. walk_fault depth (F.memory frames.now) root ≡ Some fault)) }
     {
         let reached = traverse(alloc, frames, root, depth, &mut PassOver)?;
         let mut dump = Dump::new(alloc, applied, root);

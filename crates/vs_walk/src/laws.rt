@@ -19,15 +19,18 @@ ghost use Rattle.vs_walk.specs.declared.walk.WalkFault.TheVariants as faults;
 
 /// A memory translates as at most one space.
 pub fn translates_as_one_space()
-    ensures { (depth : Depth) (memory : Memory) (root : ℕ) (s t : Space) → IsSpace depth s → IsSpace depth t → TranslatesAs depth memory root s
+    ensures { (depth : Depth) (memory : Memory) (root : ℕ) (s t : Space) → IsSpace depth s
+        → IsSpace depth t → TranslatesAs depth memory root s
         → TranslatesAs depth memory root t → s ≡ t }
 {}
 
 /// Where a memory translates as a space, no walk of a canonical address meets a reserved bit or a frame that is missing.
 pub fn spaces_translate_without_fault()
-    ensures reserved { (depth : Depth) (memory : Memory) (root : ℕ) (space : Space) (address : ℕ) → TranslatesAs depth memory root space
+    ensures reserved { (depth : Depth) (memory : Memory) (root : ℕ) (space : Space) (address : ℕ)
+        → TranslatesAs depth memory root space
         → IsCanonical depth address → walk depth memory root address ≢ ends.Reserved }
-    ensures missing { (depth : Depth) (memory : Memory) (root : ℕ) (space : Space) (address : ℕ) → TranslatesAs depth memory root space
+    ensures missing { (depth : Depth) (memory : Memory) (root : ℕ) (space : Space) (address : ℕ)
+        → TranslatesAs depth memory root space
         → IsCanonical depth address → walk depth memory root address ≢ ends.Missing }
 {}
 
@@ -35,13 +38,21 @@ pub fn spaces_translate_without_fault()
 /// each address where the traversal meets no fault, and else where the walk meets none. Where it meets one, no found page
 /// covers the address.
 pub fn found_pages_are_the_walks()
-    ensures faultless { (depth : Depth) (memory : Memory) (root address : ℕ) → AreWhole memory → IsCanonical depth address
-        → walk_fault depth memory root ≡ None → walk depth memory root address ≡ as_found address (covering address (found (traversal depth memory root))) }
-    ensures each { (depth : Depth) (memory : Memory) (root address : ℕ) → AreWhole memory → IsCanonical depth address
-        → walk depth memory root address ≢ ends.Reserved → walk depth memory root address ≢ ends.Missing
-        → walk depth memory root address ≡ as_found address (covering address (found (traversal depth memory root))) }
-    ensures none { (depth : Depth) (memory : Memory) (root address : ℕ) → AreWhole memory → IsCanonical depth address
-        → (walk depth memory root address ≡ ends.Reserved) ⊎ (walk depth memory root address ≡ ends.Missing)
+    ensures faultless { (depth : Depth) (memory : Memory) (root address : ℕ) → AreWhole memory
+        → IsCanonical depth address
+        → walk_fault depth memory root ≡ None
+        → walk depth memory root address
+        ≡ as_found address (covering address (found (traversal depth memory root))) }
+    ensures each { (depth : Depth) (memory : Memory) (root address : ℕ) → AreWhole memory
+        → IsCanonical depth address
+        → walk depth memory root address ≢ ends.Reserved
+        → walk depth memory root address ≢ ends.Missing
+        → walk depth memory root address
+        ≡ as_found address (covering address (found (traversal depth memory root))) }
+    ensures none { (depth : Depth) (memory : Memory) (root address : ℕ) → AreWhole memory
+        → IsCanonical depth address
+        → (walk depth memory root address ≡ ends.Reserved) ⊎
+        (walk depth memory root address ≡ ends.Missing)
         → covering address (found (traversal depth memory root)) ≡ None }
 {}
 
@@ -50,50 +61,72 @@ pub fn found_pages_are_the_walks()
 pub fn found_pages_rise()
     ensures well_formed { (depth : Depth) (memory : Memory) (root : ℕ) → AreWhole memory
         → All (IsPageBelow (2 ^ 52) depth) (found (traversal depth memory root)) }
-    ensures bases { (depth : Depth) (memory : Memory) (root : ℕ) → AreWhole memory → AllPairs (λ p q. p.base < q.base) (found (traversal depth memory root)) }
-    ensures ends { (depth : Depth) (memory : Memory) (root : ℕ) → AreWhole memory → AllPairs (λ p q. end_of p ≤ q.base) (found (traversal depth memory root)) }
-    ensures apart { (depth : Depth) (memory : Memory) (root : ℕ) (p q : Page) (address : ℕ) → AreWhole memory
-        → Contains (found (traversal depth memory root)) p → Contains (found (traversal depth memory root)) q → IsTrue (covers p address)
+    ensures bases { (depth : Depth) (memory : Memory) (root : ℕ) → AreWhole memory
+        → AllPairs (λ p q. p.base < q.base) (found (traversal depth memory root)) }
+    ensures ends { (depth : Depth) (memory : Memory) (root : ℕ) → AreWhole memory
+        → AllPairs (λ p q. end_of p ≤ q.base) (found (traversal depth memory root)) }
+    ensures apart { (depth : Depth) (memory : Memory) (root : ℕ) (p q : Page) (address : ℕ)
+        → AreWhole memory
+        → Contains (found (traversal depth memory root)) p
+        → Contains (found (traversal depth memory root)) q → IsTrue (covers p address)
         → IsTrue (covers q address) → p ≡ q }
 {}
 
 /// The first frame that is reached is the root. Where the traversal meets no fault, each frame that is reached is in the
 /// memory, and none is reached twice. Where that is so and no reserved bit is met, there is no fault.
 pub fn reached_once()
-    ensures root_first { (depth : Depth) (memory : Memory) (root : ℕ) → (others : List ℕ) × (reached (traversal depth memory root) ≡ root ∷ others) }
-    ensures held { (depth : Depth) (memory : Memory) (root : ℕ) → walk_fault depth memory root ≡ None
-        → All (λ number. IsTrue (finite.contains_key memory number)) (reached (traversal depth memory root)) }
-    ensures once { (depth : Depth) (memory : Memory) (root : ℕ) → walk_fault depth memory root ≡ None
+    ensures root_first { (depth : Depth) (memory : Memory) (root : ℕ) → (others : List ℕ)
+        × (reached (traversal depth memory root) ≡ root ∷ others) }
+    ensures held { (depth : Depth) (memory : Memory) (root : ℕ)
+        → walk_fault depth memory root ≡ None
+        → All (λ number. IsTrue (finite.contains_key memory number))
+        (reached (traversal depth memory root)) }
+    ensures once { (depth : Depth) (memory : Memory) (root : ℕ)
+        → walk_fault depth memory root ≡ None
         → IsDistinct nat_eq (reached (traversal depth memory root)) }
     ensures faultless { (depth : Depth) (memory : Memory) (root : ℕ)
-        → All (λ number. IsTrue (finite.contains_key memory number)) (reached (traversal depth memory root))
+        → All (λ number. IsTrue (finite.contains_key memory number))
+        (reached (traversal depth memory root))
         → IsDistinct nat_eq (reached (traversal depth memory root))
-        → ((number index : ℕ) → Contains (traversal depth memory root) (OfReservedBit number index) → ⊥) → walk_fault depth memory root ≡ None }
+        → ((number index : ℕ) → Contains (traversal depth memory root) (OfReservedBit number index)
+        → ⊥) → walk_fault depth memory root ≡ None }
 {}
 
 /// What the first fault says: a missing frame is reached and not in the memory; a shared one is in the memory and is
 /// reached twice; and a word with a reserved bit stands in a frame that is reached, as an entry of the level at which the
 /// frame is reached.
 pub fn faults_are_met()
-    ensures missing { (depth : Depth) (memory : Memory) (root number : ℕ) → walk_fault depth memory root ≡ Some (faults.Missing number)
-        → IsFalse (finite.contains_key memory number) × Contains (reached (traversal depth memory root)) number }
-    ensures shared { (depth : Depth) (memory : Memory) (root number : ℕ) → walk_fault depth memory root ≡ Some (faults.Shared number)
+    ensures missing { (depth : Depth) (memory : Memory) (root number : ℕ)
+        → walk_fault depth memory root ≡ Some (faults.Missing number)
+        → IsFalse (finite.contains_key memory number)
+        × Contains (reached (traversal depth memory root)) number }
+    ensures shared { (depth : Depth) (memory : Memory) (root number : ℕ)
+        → walk_fault depth memory root ≡ Some (faults.Shared number)
         → IsTrue (finite.contains_key memory number)
-        × ((before after : List ℕ) × (reached (traversal depth memory root) ≡ before ++ number ∷ after) × Contains before number) }
-    ensures reserved { (depth : Depth) (memory : Memory) (root number index : ℕ) → walk_fault depth memory root ≡ Some (faults.Reserved number index)
-        → IsReservedWord depth memory root number index × Contains (reached (traversal depth memory root)) number }
+        × ((before after : List ℕ)
+        × (reached (traversal depth memory root) ≡ before ++ number ∷ after)
+        × Contains before number) }
+    ensures reserved { (depth : Depth) (memory : Memory) (root number index : ℕ)
+        → walk_fault depth memory root ≡ Some (faults.Reserved number index)
+        → IsReservedWord depth memory root number index
+        × Contains (reached (traversal depth memory root)) number }
 {}
 
 /// Where the first fault of the traversal is a frame that is missing or a reserved bit, the walk of some canonical
 /// address ends there. Where there is no fault, no walk meets one. A frame that is reached twice ends no walk.
 pub fn faults_are_walked()
-    ensures missing { (depth : Depth) (memory : Memory) (root number : ℕ) → AreWhole memory → walk_fault depth memory root ≡ Some (faults.Missing number)
-        → (address : ℕ) × IsCanonical depth address × (walk depth memory root address ≡ ends.Missing) }
+    ensures missing { (depth : Depth) (memory : Memory) (root number : ℕ) → AreWhole memory
+        → walk_fault depth memory root ≡ Some (faults.Missing number)
+        → (address : ℕ) × IsCanonical depth address
+        × (walk depth memory root address ≡ ends.Missing) }
     ensures reserved { (depth : Depth) (memory : Memory) (root number index : ℕ) → AreWhole memory
         → walk_fault depth memory root ≡ Some (faults.Reserved number index)
-        → (address : ℕ) × IsCanonical depth address × (walk depth memory root address ≡ ends.Reserved) }
-    ensures faultless { (depth : Depth) (memory : Memory) (root address : ℕ) → walk_fault depth memory root ≡ None
-        → (walk depth memory root address ≢ ends.Reserved) × (walk depth memory root address ≢ ends.Missing) }
+        → (address : ℕ) × IsCanonical depth address
+        × (walk depth memory root address ≡ ends.Reserved) }
+    ensures faultless { (depth : Depth) (memory : Memory) (root address : ℕ)
+        → walk_fault depth memory root ≡ None
+        → (walk depth memory root address ≢ ends.Reserved)
+        × (walk depth memory root address ≢ ends.Missing) }
 {}
 
 /// Without a fault of the traversal, a memory translates as the space whose pages, by rising base, are those that are
@@ -101,15 +134,22 @@ pub fn faults_are_walked()
 /// is one, is a frame that is reached twice. Without a fault and with all found pages below physical 2^51 there is such a
 /// space.
 pub fn found_pages_are_the_space()
-    ensures translates { (depth : Depth) (memory : Memory) (root : ℕ) (space : Space) → AreWhole memory → walk_fault depth memory root ≡ None
+    ensures translates { (depth : Depth) (memory : Memory) (root : ℕ) (space : Space)
+        → AreWhole memory → walk_fault depth memory root ≡ None
         → found (traversal depth memory root) ≡ pages space → TranslatesAs depth memory root space }
-    ensures found { (depth : Depth) (memory : Memory) (root : ℕ) (space : Space) → AreWhole memory → IsSpace depth space → TranslatesAs depth memory root space
+    ensures found { (depth : Depth) (memory : Memory) (root : ℕ) (space : Space) → AreWhole memory
+        → IsSpace depth space → TranslatesAs depth memory root space
         → found (traversal depth memory root) ≡ pages space }
-    ensures fault { (depth : Depth) (memory : Memory) (root : ℕ) (space : Space) → AreWhole memory → TranslatesAs depth memory root space
-        → (walk_fault depth memory root ≡ None) ⊎ ((number : ℕ) × (walk_fault depth memory root ≡ Some (faults.Shared number))) }
-    ensures space { (depth : Depth) (memory : Memory) (root : ℕ) → AreWhole memory → walk_fault depth memory root ≡ None
+    ensures fault { (depth : Depth) (memory : Memory) (root : ℕ) (space : Space) → AreWhole memory
+        → TranslatesAs depth memory root space
+        → (walk_fault depth memory root ≡ None) ⊎
+        ((number : ℕ) × (walk_fault depth memory root ≡ Some (faults.Shared number))) }
+    ensures space { (depth : Depth) (memory : Memory) (root : ℕ) → AreWhole memory
+        → walk_fault depth memory root ≡ None
         → All (IsPage depth) (found (traversal depth memory root))
-        → (space : Space) × IsSpace depth space × (pages space ≡ found (traversal depth memory root)) × TranslatesAs depth memory root space }
+        → (space : Space) × IsSpace depth space
+        × (pages space ≡ found (traversal depth memory root))
+        × TranslatesAs depth memory root space }
 {}
 
 /// Each frame of a dump has 512 words.
@@ -122,8 +162,10 @@ pub fn dumps_are_whole()
 pub fn few_are_reached()
     ensures few { (depth : Depth) (memory : Memory) (root : ℕ) → walk_fault depth memory root ≡ None
         → length (reached (traversal depth memory root)) ≤ finite.len memory }
-    ensures of_dump { (dump : Image) (depth : Depth) (root : ℕ) → IsDump dump → walk_fault depth dump.frames root ≡ None
+    ensures of_dump { (dump : Image) (depth : Depth) (root : ℕ) → IsDump dump
+        → walk_fault depth dump.frames root ≡ None
         → length (reached (traversal depth dump.frames root)) ≤ TABLES }
-    ensures in_range { (dump : Image) (depth : Depth) (root : ℕ) → IsDump dump → walk_fault depth dump.frames root ≡ None
+    ensures in_range { (dump : Image) (depth : Depth) (root : ℕ) → IsDump dump
+        → walk_fault depth dump.frames root ≡ None
         → All (λ number. number < 2 ^ 40) (reached (traversal depth dump.frames root)) }
 {}

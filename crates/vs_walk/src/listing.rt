@@ -28,13 +28,20 @@ pub fn leaves<F: Frames>(
     root: u64,
     depth: Depth,
 ) -> Result<Leaves, Fail<WalkFault>>
-    ensures pages { IfOk result (λ leaves. leaves.pages ≡ found (traversal depth (F.memory frames.now) root)) }
-    ensures reached { IfOk result (λ leaves. AreJust leaves.reached (reached (traversal depth (F.memory frames.now) root))) }
+    ensures pages { IfOk result
+        (λ leaves. leaves.pages ≡ found (traversal depth (F.memory frames.now) root)) }
+    ensures reached { IfOk result
+        (λ leaves. AreJust leaves.reached (reached (traversal depth (F.memory frames.now) root))) }
     ensures faultless { OnOk result (walk_fault depth (F.memory frames.now) root ≡ None) }
-    ensures rising { IfOk result (λ leaves. AreWhole (F.memory frames.now) → AllPairs (λ p q. p.base < q.base) leaves.pages) }
-    ensures walked { IfOk result (λ leaves. AreWhole (F.memory frames.now) → (address : ℕ) → IsCanonical depth address
-        → walk depth (F.memory frames.now) root address ≡ as_found address (covering address leaves.pages)) }
-    ensures first { IfErr result (IfRefused (λ fault. walk_fault depth (F.memory frames.now) root ≡ Some fault)) }
+    ensures rising { IfOk result
+        (λ leaves. AreWhole (F.memory frames.now)
+        → AllPairs (λ p q. p.base < q.base) leaves.pages) }
+    ensures walked { IfOk result
+        (λ leaves. AreWhole (F.memory frames.now) → (address : ℕ) → IsCanonical depth address
+        → walk depth (F.memory frames.now) root address
+        ≡ as_found address (covering address leaves.pages)) }
+    ensures first { IfErr result
+        (IfRefused (λ fault. walk_fault depth (F.memory frames.now) root ≡ Some fault)) }
 {
     let mut pages = Pages::new(alloc);
     let reached = traverse(alloc, frames, root, depth, &mut pages)?;

@@ -23,7 +23,9 @@ pub trait PageVisitor {
 
     /// Takes the next page. It may take memory.
     fn take(&mut self, page: Page) -> Result<(), Memory>
-        ensures { IfOk result (λ _. (pages : List Page) → HasTaken self.old pages → HasTaken self.new (pages ++ page ∷ [])) };
+        ensures { IfOk result
+            (λ _. (pages : List Page) → HasTaken self.old pages
+            → HasTaken self.new (pages ++ page ∷ [])) };
 }
 
 /// Where a table stands: its level, its frame, the translated bits at which it begins, and what the entries above it
@@ -53,7 +55,11 @@ impl TablePosition {
         requires lower { 1 < self.level }
         ensures level { result.level ≡ self.level - 1 }
         ensures stands { table_at result
-            ≡ record { number = number; start = self.start + index * entry_bytes self.level; rights = intersection self.rights own } }
+            ≡ record {
+              number = number;
+              start = self.start + index * entry_bytes self.level;
+              rights = intersection self.rights own;
+            } }
         ensures fits { Fits depth result }
     {
         TablePosition {
@@ -131,7 +137,10 @@ fn go_through<F: Frames, V: PageVisitor>(
         (table_visits depth (F.memory frames.now) place.level (table_at place))) }
     ensures goes_on { IfOk result (λ _. GoesOn (F.memory frames.now) marks.old marks.new
         (table_visits depth (F.memory frames.now) place.level (table_at place))) }
-    ensures stops { IfErr result (IfRefused (Stops (F.memory frames.now) marks.old (table_visits depth (F.memory frames.now) place.level (table_at place)))) }
+    ensures stops { IfErr result
+        (IfRefused
+        (Stops (F.memory frames.now) marks.old
+        (table_visits depth (F.memory frames.now) place.level (table_at place)))) }
 {
     let Some(frame) = frames.words(place.number) else {
         return Err(Fail::Refused(WalkFault::Missing(place.number)));
@@ -175,8 +184,10 @@ pub fn traverse<F: Frames, V: PageVisitor>(
     ensures pages { IfOk result (λ _. (pages : List Page) → V.HasTaken visitor.old pages
         → V.HasTaken visitor.new (pages ++ found (traversal depth (F.memory frames.now) root))) }
     ensures faultless { OnOk result (walk_fault depth (F.memory frames.now) root ≡ None) }
-    ensures reached { IfOk result (λ r. AreJust r (reached (traversal depth (F.memory frames.now) root))) }
-    ensures first { IfErr result (IfRefused (λ fault. walk_fault depth (F.memory frames.now) root ≡ Some fault)) }
+    ensures reached { IfOk result
+        (λ r. AreJust r (reached (traversal depth (F.memory frames.now) root))) }
+    ensures first { IfErr result
+        (IfRefused (λ fault. walk_fault depth (F.memory frames.now) root ≡ Some fault)) }
 {
     let mut marks = Marks::new(alloc);
     let top = TablePosition {

@@ -5,7 +5,8 @@ ghost use Rattle.std.specs.Prelude.{◌≡◌, ◌≢◌, ◌+◌, ◌≤◌, �
 pub fn are_zero(words: &[u64], at: usize) -> bool
     requires { at + 8 ≤ length words.now }
     ensures zeros { IsTrue result → (i : ℕ) → at ≤ i → i < at + 8 → slice_index words.now i ≡ 0 }
-    ensures other { IsFalse result → (i : ℕ) × (at ≤ i) × (i < at + 8) × (slice_index words.now i ≢ 0) }
+    ensures other { IsFalse result → (i : ℕ) × (at ≤ i) × (i < at + 8)
+        × (slice_index words.now i ≢ 0) }
 {
     (words[at] == 0)
         & (words[at + 1] == 0)

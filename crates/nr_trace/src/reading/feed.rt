@@ -26,7 +26,8 @@ pub(crate) enum State {
 /// Takes all whole units at the front of the bytes, by runs, and gives what is left.
 fn take_units(reader: Reader, bytes: &[u8]) -> Result<(Reader, &[u8]), Fail<Format>>
     requires { IsSound reader }
-    ensures { MatchResult result (λ left. IsCut (said reader ++ bytes.now) left.0 left.1.now) (IfRefused (IsSettled (said reader ++ bytes.now))) }
+    ensures { MatchResult result (λ left. IsCut (said reader ++ bytes.now) left.0 left.1.now)
+        (IfRefused (IsSettled (said reader ++ bytes.now))) }
 {
     let mut reader = reader;
     let mut rest = bytes;
@@ -48,7 +49,8 @@ fn take_units(reader: Reader, bytes: &[u8]) -> Result<(Reader, &[u8]), Fail<Form
 fn take_bytes(reader: Reader, mut begun: Vec<u8>, bytes: &[u8]) -> Result<State, Fail<Format>>
     requires sound { IsSound reader }
     requires between { begun.items ≡ [] }
-    ensures { MatchResult result (HasCome (said reader ++ bytes.now)) (IfRefused (IsSettled (said reader ++ bytes.now))) }
+    ensures { MatchResult result (HasCome (said reader ++ bytes.now))
+        (IfRefused (IsSettled (said reader ++ bytes.now))) }
 {
     let (reader, rest) = take_units(reader, bytes)?;
     begun.extend_from_slice(rest)?;
@@ -59,7 +61,8 @@ fn take_bytes(reader: Reader, mut begun: Vec<u8>, bytes: &[u8]) -> Result<State,
 fn take_piece(reader: Reader, mut begun: Vec<u8>, piece: &[u8]) -> Result<State, Fail<Format>>
     requires sound { IsSound reader }
     requires fewer { AreFewer (unit_bytes reader) begun.items }
-    ensures { MatchResult result (HasCome (said reader ++ begun.items ++ piece.now)) (IfRefused (IsSettled (said reader ++ begun.items ++ piece.now))) }
+    ensures { MatchResult result (HasCome (said reader ++ begun.items ++ piece.now))
+        (IfRefused (IsSettled (said reader ++ begun.items ++ piece.now))) }
 {
     match reader.unit_len() {
         Some(len) if !begun.is_empty() => {

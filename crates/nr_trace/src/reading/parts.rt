@@ -105,7 +105,8 @@ impl Reader {
     /// `None` at the end.
     pub(crate) fn run_len(&self, have: usize) -> Option<usize>
         requires { IsReady self.now }
-        ensures { MatchOption result (unit_bytes self.now ≡ None) (λ len. IsRun self.now len × (have < len → unit_bytes self.now ≡ Some len)) }
+        ensures { MatchOption result (unit_bytes self.now ≡ None)
+            (λ len. IsRun self.now len × (have < len → unit_bytes self.now ≡ Some len)) }
     {
         match self {
             Reader::Log(_, places, _) => Some(4 * units_of(have / 4, *places as usize)),

@@ -22,7 +22,8 @@ fn at_events(parts: Parts, events: u32) -> Reader
     requires in_range { AreInRange parts }
     requires few_events { length parts.events.items + events ≤ CALLS }
     requires no_dumps { parts.dumps.items ≡ [] }
-    ensures { HasRead (parts_spelling (length parts.log.items) (length parts.events.items + events) parts)
+    ensures { HasRead
+        (parts_spelling (length parts.log.items) (length parts.events.items + events) parts)
         (AtEvents parts.version parts.config (length parts.events.items) events) result }
 {
     if events == 0 {
@@ -38,7 +39,8 @@ fn at_log(parts: Parts, places: u32, events: u32) -> Reader
     requires few_events { events ≤ CALLS }
     requires no_events { parts.events.items ≡ [] }
     requires no_dumps { parts.dumps.items ≡ [] }
-    ensures { HasRead (parts_spelling (length parts.log.items + places) events parts) (AtLog parts.version parts.config places events) result }
+    ensures { HasRead (parts_spelling (length parts.log.items + places) events parts)
+        (AtLog parts.version parts.config places events) result }
 {
     if places == 0 {
         at_events(parts, events)
@@ -133,7 +135,8 @@ fn push_events(
     bytes: &[u8],
 ) -> Result<(), Fail<Format>>
     requires whole { (n : ℕ) × (length bytes.now ≡ 24 * n) × (length events.old.items + n ≤ CALLS) }
-    ensures { MatchResult result (λ done. AreRecorded version config events.old.items bytes.now events.new.items)
+    ensures { MatchResult result
+        (λ done. AreRecorded version config events.old.items bytes.now events.new.items)
         (IfRefused (IsBadEvent version config (length events.old.items) bytes.now)) }
 {
     let mut rest = bytes;

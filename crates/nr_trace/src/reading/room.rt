@@ -18,7 +18,9 @@ pub(crate) fn room_step(held: usize, needed: usize, promised: usize) -> usize
 pub(crate) fn make_room<T>(items: &mut Vec<T>, needed: usize, promised: usize) -> Result<(), Memory>
     ensures same { items.new.items ≡ items.old.items }
     ensures enough { OnOk result (vec_len items.new + needed ≤ vec_capacity items.new) }
-    ensures at_most { OnOk result (vec_capacity items.new ≤ max (vec_capacity items.old) (vec_len items.old + max needed promised)) }
+    ensures at_most { OnOk result
+        (vec_capacity items.new
+        ≤ max (vec_capacity items.old) (vec_len items.old + max needed promised)) }
 {
     if items.capacity() - items.len() < needed {
         items.reserve_exact(room_step(items.len(), needed, promised))?;

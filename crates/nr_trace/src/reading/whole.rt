@@ -21,7 +21,8 @@ pub fn read(alloc: Global, bytes: &[u8]) -> Result<Trace, Fail<Format>>
     // What is read is spelled so.
     ensures spelled { IfOk result (λ trace. Spells bytes.now trace) }
     // What is spelled so is read, unless memory runs out.
-    ensures only { (trace : Recording) → Spells bytes.now trace → MatchResult result (λ given. given ≡ trace) (λ fail. fail ≡ Fail.Memory) }
+    ensures only { (trace : Recording) → Spells bytes.now trace
+        → MatchResult result (λ given. given ≡ trace) (λ fail. fail ≡ Fail.Memory) }
     // Which fault it is.
     ensures refused { IfErr result (IfRefused (HasFormatFault bytes.now)) }
 {

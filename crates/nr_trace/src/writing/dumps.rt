@@ -19,7 +19,8 @@ fn put_dump_head(out: &mut Vec<u8>, head: DumpHead) -> Result<(), Memory>
 }
 
 fn put_frame(out: &mut Vec<u8>, number: u64, words: &[u64; FRAME_WORDS]) -> Result<(), Memory>
-    ensures { OnOk result (out.new.items ≡ out.old.items ++ (frame_number number ++ frame_words words.now)) }
+    ensures { OnOk result
+        (out.new.items ≡ out.old.items ++ (frame_number number ++ frame_words words.now)) }
 {
     put_u64(out, number)?;
     put_words(out, words)?;

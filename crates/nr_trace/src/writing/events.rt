@@ -9,7 +9,8 @@ use crate::writing::numbers::{put_u8, put_u16, put_u32, put_u64};
 use vs_types::{Answer, Memory, Request};
 
 fn put_call(out: &mut Vec<u8>, replica: u8, thread: u16, request: Request) -> Result<(), Memory>
-    ensures { OnOk result (out.new.items ≡ out.old.items ++ event (Event.Call replica thread request)) }
+    ensures { OnOk result
+        (out.new.items ≡ out.old.items ++ event (Event.Call replica thread request)) }
 {
     let fields = request.fields();
     put_u8(out, 0)?;

@@ -23,7 +23,8 @@ fn put_counts(out: &mut Vec<u8>, numbers: Counts) -> Result<(), Memory>
 
 /// The magic, the version and the counts.
 pub(crate) fn put_header(out: &mut Vec<u8>, version: Version, numbers: Counts) -> Result<(), Memory>
-    ensures { OnOk result (out.new.items ≡ out.old.items ++ (magic ++ version_word version ++ counts numbers)) }
+    ensures { OnOk result
+        (out.new.items ≡ out.old.items ++ (magic ++ version_word version ++ counts numbers)) }
 {
     out.extend_from_slice(b"NRVT")?;
     put_u16(out, version.code())?;
