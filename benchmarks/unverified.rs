@@ -277,6 +277,16 @@ impl Space {
         }
     }
 
+    /// Adds its part of a trace: how many frames it has, the root, and each frame in use by rising number.
+    pub fn dump(&self, bytes: &mut Vec<u8>) {
+        bytes.extend((self.arena.used() as u32).to_be_bytes());
+        bytes.extend(self.root.to_be_bytes());
+        for index in (0..self.arena.words.len()).filter(|index| !self.arena.free.contains(&(*index as u16))) {
+            bytes.extend((self.arena.base + index as u64).to_be_bytes());
+            bytes.extend(self.arena.words[index].iter().flat_map(|word| word.to_be_bytes()));
+        }
+    }
+
     #[inline(always)]
     fn resolve_at(level: usize, place: &Place, address: u64) -> Answer {
         if place.word & PRESENT == 0 {

@@ -5,12 +5,12 @@
 //! drawn addresses, and the rest protects of drawn pages. The log has 65,536 places, so that there may be 49,152 protects in all.
 #[allow(dead_code)]
 #[path = "unverified.rs"]
-mod table;
+pub mod table;
 
 use std::sync::atomic::{AtomicU64, Ordering};
 use std::sync::{Mutex, MutexGuard, RwLock};
 use std::time::{Duration, Instant};
-use table::{Answer, Op, Space};
+use self::table::{Answer, Op, Space};
 
 const PAGES: u64 = 16_384;
 const PLACES: u64 = 65_536;
@@ -125,15 +125,15 @@ struct Node {
     first: Option<u64>,
 }
 
-struct Replica {
+pub struct Replica {
     number: usize,
     node: Mutex<Node>,
     slots: Vec<Mutex<Slot>>,
 }
 
-struct Replicas {
+pub struct Replicas {
     log: Log,
-    replicas: Vec<Replica>,
+    pub replicas: Vec<Replica>,
 }
 
 impl Replica {
@@ -161,6 +161,13 @@ impl Replica {
             node.threads.clear();
             node.entries.clear();
         }
+    }
+
+    /// Adds its part of a trace: how many entries it has applied, and its page table.
+    pub fn dump(&mut self, bytes: &mut Vec<u8>) {
+        let node = self.node.get_mut().unwrap();
+        bytes.extend((node.applied as u32).to_be_bytes());
+        node.space.dump(bytes);
     }
 
     /// Collects updates, puts them into the log and catches up. Answers whether the log was full.
@@ -208,7 +215,7 @@ impl Waits {
 }
 
 impl Replicas {
-    fn new(replicas: usize, threads: usize) -> Replicas {
+    pub fn new(replicas: usize, threads: usize) -> Replicas {
         let node = || Node {
             space: Space::new(4),
             applied: 0,
@@ -224,7 +231,7 @@ impl Replicas {
         Replicas { log: Log::new(replicas), replicas: (0..replicas).map(replica).collect() }
     }
 
-    fn update(&self, thread: usize, op: Op) -> (u64, Answer) {
+    pub fn update(&self, thread: usize, op: Op) -> (u64, Answer) {
         let home = &self.replicas[thread % self.replicas.len()];
         *home.slots[thread].lock().unwrap() = Slot::Posted(entry_of(op));
         let mut waits = Waits(0);
@@ -249,7 +256,7 @@ impl Replicas {
         }
     }
 
-    fn read(&self, thread: usize, address: u64) -> (u64, Answer) {
+    pub fn read(&self, thread: usize, address: u64) -> (u64, Answer) {
         let home = &self.replicas[thread % self.replicas.len()];
         let completed = self.log.completed.0.load(Ordering::Acquire);
         let mut waits = Waits(0);
@@ -263,6 +270,14 @@ impl Replicas {
             }
             return (node.applied, node.space.resolve(address));
         }
+    }
+
+    /// Has each replica apply all entries, after all threads have ended: how many there are.
+    pub fn settle(&mut self) -> u64 {
+        for replica in &self.replicas {
+            replica.catch_up(&mut replica.node.lock().unwrap(), &self.log);
+        }
+        self.log.tail.0.load(Ordering::Acquire)
     }
 }
 
