@@ -138,8 +138,8 @@ pub fn other_answers_leave_the_space()
 {}
 
 /// What the other answers of an operation say: `Overlap` names the least base of a page that is overlapped, `Full` the
-/// tables of the space with the page, which are more than the limit, `Inside` the base of a page that has the address and begins below it; and `NotMapped` is the
-/// answer exactly where the address is not mapped.
+/// tables of the space with the page, which are more than the limit, `Inside` the base of a page that has the address and
+/// begins below it; and `NotMapped` is the answer exactly where the address is not mapped.
 pub fn refusals_say_why()
     ensures overlap { (depth : Depth) (limit : ℕ) (space : Space) (page : Page) (base : ℕ)
         → IsSpace depth space
