@@ -1,0 +1,7 @@
+use Rattle.std.proofs.Common.{◌≡◌, length}
+use Rattle.version_cell.specs.inside.Steps.{Gathered, Stays}
+use Rattle.version_cell.proofs.seats.gather.Given as goal
+
+abbrev pub invariant-loop-i : goal.invariant-loop-i
+invariant-loop-i g l =
+    Stays l.initial.seat l.seat × (length l.words ≡ g.row.N) × Gathered l.i l.words l.initial.seat.me.0.stage l.seat.me.0.stage

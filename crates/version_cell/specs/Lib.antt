@@ -1,0 +1,3 @@
+pub mod Passes
+-- the table below the cell
+pub mod inside

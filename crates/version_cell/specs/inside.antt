@@ -1,0 +1,3 @@
+-- The versioned words in the table, and its steps: no public clause cites them.
+pub mod Versions
+pub mod Steps

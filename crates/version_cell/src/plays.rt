@@ -1,0 +1,95 @@
+//! The rule of the table that a cell lies in, and what each step on it tells.
+ghost use Rattle.version_cell.specs.inside.Steps.{checked, later, looked, peeked, published, put, taken};
+ghost use Rattle.version_cell.specs.inside.Versions.{doing};
+
+use crate::rule::{CellOutcome, CellRule};
+use crate::stage::Doing;
+use atomic_table::{Join, Play, Split, TableRule};
+use std::marker::PhantomData;
+
+/// Word 0 is the version, which is odd while a seat writes. Its key has the words at the start.
+pub struct Versions<P> {
+    of: PhantomData<P>,
+}
+
+impl<V, P: CellRule<V>> TableRule<(), Doing<V>, Vec<u64>> for Versions<P> {
+    ghost use Rattle.std.specs.Prelude.{drop, length};
+    ghost use Rattle.version_cell.specs.inside.Versions.{Versioned, doing};
+    ghost use Rattle.version_cell.specs.declared.stage.Stage.TheVariants.{Seen};
+
+    ghost holds = { λ start. Versioned (length start.items) P.holds P.age };
+
+    ghost first = { λ start. doing (Seen 0 0 (drop 1 start.items)) P.first };
+}
+
+/// A load of the version, with which a reading begins.
+pub(crate) struct Look<P> {
+    of: PhantomData<P>,
+}
+
+impl<V, P: CellRule<V>> Play<(), Doing<V>> for Look<P> {
+    ghost then = { looked P.age };
+}
+
+/// A load of one of the words.
+pub(crate) struct Peek;
+
+impl<V> Play<(), Doing<V>> for Peek {
+    ghost then = { peeked };
+}
+
+/// A load of the version, with which a reading ends.
+pub(crate) struct Check<M, const N: usize> {
+    of: PhantomData<M>,
+}
+
+impl<V, M: CellOutcome<V>, const N: usize> Play<(), Doing<V>> for Check<M, N> {
+    ghost then = { checked N M.then };
+}
+
+/// The version goes from the one that the seat has seen to the odd one after it.
+pub(crate) struct Take;
+
+impl<V> Play<(), Doing<V>> for Take {
+    ghost then = { taken };
+}
+
+/// A store of one of the words.
+pub(crate) struct Put;
+
+impl<V> Play<(), Doing<V>> for Put {
+    ghost then = { put };
+}
+
+/// The version goes to the even one after it, and the exchange has happened.
+pub(crate) struct Publish<M> {
+    of: PhantomData<M>,
+}
+
+impl<V, M: CellOutcome<V>> Play<(), Doing<V>> for Publish<M> {
+    ghost then = { published M.then };
+}
+
+/// Both seats have seen the same words.
+pub(crate) struct Cut<M> {
+    of: PhantomData<M>,
+}
+
+impl<V, M: Split<V>> Split<Doing<V>> for Cut<M> {
+    ghost left = { λ d. doing d.stage (M.left d.client) };
+
+    ghost right = { λ d. doing d.stage (M.right d.client) };
+}
+
+/// The seat has the later of the words that the two had seen.
+pub(crate) struct Glue<M> {
+    of: PhantomData<M>,
+}
+
+impl<V, M: Join<V>> Join<Doing<V>> for Glue<M> {
+    ghost use Rattle.version_cell.specs.declared.stage.Stage.TheVariants.{Idle};
+
+    ghost both = { λ d e. doing (later d.stage e.stage) (M.both d.client e.client) };
+
+    ghost spent = { doing Idle M.spent };
+}

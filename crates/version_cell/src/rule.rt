@@ -1,0 +1,21 @@
+//! The rule of a cell, which its caller gives.
+
+/// What holds of the words of a cell and of the views of its passes. A view is what one pass knows: it exists in proofs alone.
+pub trait CellRule<V> {
+    ghost use Rattle.std.specs.Prelude.{ℕ, List};
+
+    ghost holds: { List ℕ → List V → Type 0 };
+
+    // The view of the first pass.
+    ghost first: { V };
+
+    // The age of words. Each exchange raises it, so that words never come back.
+    ghost age: { List ℕ → ℕ };
+}
+
+/// What a call tells its pass: of its view before, the words before and after, and its view after.
+pub trait CellOutcome<V> {
+    ghost use Rattle.std.specs.Prelude.{ℕ, List};
+
+    ghost then: { V → List ℕ → List ℕ → V → Type 0 };
+}
