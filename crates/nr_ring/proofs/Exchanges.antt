@@ -1,48 +1,72 @@
 -- An exchange of the words that a pass knows keeps the rule, and what it tells.
-use Rattle.std.proofs.Common.{◌≡◌, ◌≢◌, ℕ, zero, suc, ◌+◌, ◌<◌, ◌≤◌, Bool, true, false, true≢false, List, [], ◌∷◌, ◌++◌, All, Contains, Option, length}
-use Rattle.std.proofs.Common.{length-append, get_or, if◌then◌else◌, nat_eq, refl, ap, sym, subst, ◌∙◌, arith}
-use Rattle.std.specs.Prelude.{slice_index_or}
+use Rattle.std.proofs.Common.{◌≡◌, ◌≢◌, ℕ, zero, suc, ◌+◌, ◌<◌, ◌≤◌, Bool, true, false, List, [], ◌∷◌, ◌++◌, All, Contains, Option, length}
+use Rattle.std.proofs.Common.{length-append, get_or-set_other, get_or-set_same, refl, ap, sym, subst, ◌∙◌, arith}
+use Rattle.std.specs.Prelude.{MatchBool, slice_index, slice_index_or}
 use Rattle.std.proofs.lemmas.List.{append-nil}
 use Rattle.std.proofs.lemmas.List.Elements.{All-append}
-use lib.Pointwise.{pointwise, bytes_decides}
-use Rattle.crossbeam_utils.specs.Register.{Turns}
+use Rattle.crossbeam_utils.specs.Register.{TurnsAt}
 use Rattle.vs_types.specs.declared.depth.Depth.{Depth}
-use Rattle.nr_ring.specs.LogHistory.{Log, MayFollow, log_after_event, log_after, new_log}
+use Rattle.nr_ring.specs.LogHistory.{IsLogHistory, Log, MayAdvance, MayFollow, log_after_event, log_after, new_log}
 use Rattle.nr_ring.specs.Words.{IsWordsOf}
 use Rattle.nr_ring.specs.Rule.{IsKept}
 use Rattle.nr_ring.specs.Calls.{HasMoved, Looks, MayMake, with_event}
 use Rattle.nr_ring.specs.declared.log_event.LogEvent.{LogEvent}
 use Rattle.nr_ring.specs.declared.view.View.{View}
-use Rattle.nr_ring.specs.inside.Held.{Exchanges, Remembers}
+use Rattle.nr_ring.specs.inside.Held.{MadeOrMoved, Remembers, age}
+use Rattle.nr_ring.specs.declared.log_event.LogEvent.TheVariants.{Append, Advance}
+use Rattle.nr_ring.proofs.Histories.{as_many_locals}
+use Rattle.nr_ring.proofs.Passes.{look_remembers}
 use Rattle.nr_ring.proofs.SameWords.{words_same}
-use Rattle.nr_ring.proofs.Turns.{event_kept, look_turns}
+use Rattle.nr_ring.proofs.Turns.{event_kept}
 use Rattle.nr_ring.proofs.Views.{after_one_more, begins_still, goes_on_by}
 
-pub exchange_turns : (depth : Depth) (replicas passes pass : ℕ) (v : View) (event : LogEvent) (current next : List ℕ) → replicas ≤ 4
-    → IsWordsOf (log_after replicas v.seen) current → MayFollow depth (log_after replicas v.seen) event → MayMake v event
+pub event_turns : (depth : Depth) (replicas passes pass : ℕ) (v : View) (event : LogEvent) (words next : List ℕ) → replicas ≤ 4
+    → IsWordsOf (log_after replicas v.seen) words → MayFollow depth (log_after replicas v.seen) event → MayMake v event
     → IsWordsOf (log_after_event (log_after replicas v.seen) event) next
-    → Turns (IsKept depth replicas passes) pass v (λ x. if pointwise nat_eq x current then next else x)
-    (λ before words words' after. Exchanges depth replicas event words words' before after)
-exchange_turns depth replicas passes pass v event current next few is may own now x views kept at = by_test (pointwise nat_eq x current) refl where
-  Is : List ℕ → Type 0
-  Is = λ ws. IsWordsOf (log_after replicas v.seen) ws
+    → TurnsAt (IsKept depth replicas passes) pass v words next (λ before old new after. after ≡ with_event before event)
+event_turns depth replicas passes pass v event words next few is may own now views kept at =
+    (with_event v event, event_kept depth replicas passes pass v event words next views few kept at is may own now, refl)
 
-  Ends : Bool → Type 0
-  Ends = λ b. (w : View) × IsKept depth replicas passes (if b then next else x) (Rattle.std.proofs.Common.set views pass w)
-      × Exchanges depth replicas event x (if b then next else x) v w
+advance_ages : (depth : Depth) (log : Log) (replica to : ℕ) (words next : List ℕ) → replica < 4 → IsWordsOf log words → MayAdvance log replica to
+    → IsWordsOf (log_after_event log (Advance replica to)) next → age words < age next
+advance_ages depth log replica to words next low is may now = by_replica replica low may now where
+  stays : (r to j : ℕ) → IsWordsOf (log_after_event log (Advance r to)) next → j < 4 → j ≢ r → slice_index next (2 + j) ≡ slice_index words (2 + j)
+  stays r to j now lt other = now.locals_are j lt ∙ get_or-set_other log.locals r j to 0 other ∙ sym (is.locals_are j lt)
 
-  by_test : (b : Bool) → pointwise nat_eq x current ≡ b → Ends b
-  by_test true e =
-      let same : x ≡ current = (bytes_decides x current).0 e in
-      let here : Is x = subst Is (sym same) is in (
-        with_event v event,
-        event_kept depth replicas passes pass v event x next views few kept at here may own now,
-        record { made = λ _. refl; failed = λ other. absurd (other here) },
-      )
-  by_test false e =
-      let look = look_turns depth replicas passes pass v x views kept at in
-      let other : Is x → ⊥ = λ here. true≢false (sym ((bytes_decides x current).1 (words_same (log_after replicas v.seen) x current here is)) ∙ e) in
-      (look.0, look.1, record { made = λ here. absurd (other here); failed = λ _. look.2 })
+  rises : (r to : ℕ) → r < 4 → MayAdvance log r to → IsWordsOf (log_after_event log (Advance r to)) next → slice_index words (2 + r) < slice_index next (2 + r)
+  rises r to lt may now = omega (arith, now.locals_are r lt, get_or-set_same log.locals r to 0 may.there, is.locals_are r lt, may.some)
+
+  by_replica : (r : ℕ) → r < 4 → MayAdvance log r to → IsWordsOf (log_after_event log (Advance r to)) next → age words < age next
+  by_replica zero lt may now =
+      omega (arith, is.tail_is, now.tail_is, rises 0 to lt may now, stays 0 to 1 now (omega arith) (omega arith), stays 0 to 2 now (omega arith) (omega arith), stays 0 to 3 now (omega arith) (omega arith))
+  by_replica (suc zero) lt may now =
+      omega (arith, is.tail_is, now.tail_is, rises 1 to lt may now, stays 1 to 0 now (omega arith) (omega arith), stays 1 to 2 now (omega arith) (omega arith), stays 1 to 3 now (omega arith) (omega arith))
+  by_replica (suc (suc zero)) lt may now =
+      omega (arith, is.tail_is, now.tail_is, rises 2 to lt may now, stays 2 to 0 now (omega arith) (omega arith), stays 2 to 1 now (omega arith) (omega arith), stays 2 to 3 now (omega arith) (omega arith))
+  by_replica (suc (suc (suc zero))) lt may now =
+      omega (arith, is.tail_is, now.tail_is, rises 3 to lt may now, stays 3 to 0 now (omega arith) (omega arith), stays 3 to 1 now (omega arith) (omega arith), stays 3 to 2 now (omega arith) (omega arith))
+  by_replica (suc (suc (suc (suc r)))) lt may now = absurd (omega arith)
+
+-- each event makes the words of the cell older
+pub event_ages : (depth : Depth) (replicas : ℕ) (seen : List LogEvent) (event : LogEvent) (words next : List ℕ) → replicas ≤ 4 → IsLogHistory depth replicas seen
+    → IsWordsOf (log_after replicas seen) words → MayFollow depth (log_after replicas seen) event → IsWordsOf (log_after_event (log_after replicas seen) event) next
+    → age words < age next
+event_ages depth replicas seen (Append batch) words next few history is may now =
+    let log = log_after replicas seen in
+    let same : (j : ℕ) → j < 4 → slice_index next (2 + j) ≡ slice_index words (2 + j) = λ j lt. now.locals_are j lt ∙ sym (is.locals_are j lt) in
+    omega (
+      arith,
+      is.tail_is,
+      now.tail_is,
+      length-append log.entries batch,
+      may.some,
+      same 0 (omega arith),
+      same 1 (omega arith),
+      same 2 (omega arith),
+      same 3 (omega arith),
+    )
+event_ages depth replicas seen (Advance replica to) words next few history is may now =
+    advance_ages depth (log_after replicas seen) replica to words next (omega (arith, may.there, as_many_locals depth replicas seen history, few)) is may now
 
 some_rest : (rest : List LogEvent) → (rest ≡ [] → ⊥) → 0 < length rest
 some_rest [] other = absurd (other refl)
@@ -86,20 +110,21 @@ event_remembers depth replicas words next replica v event is may now =
       one end number lt zero d le = lt
       one end number lt (suc k) d le = absurd (omega arith)
 
--- the words found were those that the pass knows
-pub exchanged : (depth : Depth) (replicas : ℕ) (event : LogEvent) (found current next : List ℕ) (replica : Option ℕ) (v w : View)
-    → pointwise nat_eq found current ≡ true → Remembers depth replicas current replica v
-    → Exchanges depth replicas event found next v w → w ≡ with_event v event
-exchanged depth replicas event found current next replica v w same is exchange =
-    let Is : List ℕ → Type 0 = λ ws. IsWordsOf (log_after replicas v.seen) ws in
-    exchange.made (subst Is (sym ((bytes_decides found current).0 same)) is.words_are)
+-- where the words found are older than those of the pass, another pass's event has come
+pub older_moved : (depth : Depth) (replicas : ℕ) (found words : List ℕ) (replica : Option ℕ) (v w : View) → Remembers depth replicas words replica v
+    → age words < age found → Looks depth replicas found v w → HasMoved v w
+older_moved depth replicas found words replica v w is older looks =
+    has_moved depth replicas found v w looks
+    (λ here. absurd (omega (arith, older, ap age (words_same (log_after replicas v.seen) found words here is.words_are)))) is.mine
 
--- they were other ones
-pub not_exchanged : (depth : Depth) (replicas : ℕ) (event : LogEvent) (found current : List ℕ) (replica : Option ℕ) (v w : View)
-    → pointwise nat_eq found current ≡ false → Remembers depth replicas current replica v
-    → Exchanges depth replicas event found found v w → Looks depth replicas found v w × HasMoved v w
-not_exchanged depth replicas event found current replica v w differ is exchange =
-    let other : IsWordsOf (log_after replicas v.seen) found → ⊥ = λ here.
-    true≢false (sym ((bytes_decides found current).1 (words_same (log_after replicas v.seen) found current here is.words_are)) ∙ differ) in
-    let looks = exchange.failed other in
-    (looks, has_moved depth replicas found v w looks other is.mine)
+-- what an exchange tells: the event was made, or another pass's has come
+pub exchange_tells : (depth : Depth) (replicas : ℕ) (words words' next : List ℕ) (replica : Option ℕ) (v w : View) (event : LogEvent) (made : Bool)
+    → Remembers depth replicas words replica v → MayFollow depth (log_after replicas v.seen) event
+    → IsWordsOf (log_after_event (log_after replicas v.seen) event) next
+    → MatchBool made ((words' ≡ next) × (w ≡ with_event v event)) ((age words < age words') × Looks depth replicas words' v w)
+    → Remembers depth replicas words' replica w × MadeOrMoved depth replicas event v w made
+exchange_tells depth replicas words words' next replica v w event true is may now tells =
+    let Is : List ℕ × View → Type 0 = λ z. Remembers depth replicas z.0 replica z.1 in
+    (subst Is (λ i. (sym tells.0 i, sym tells.1 i)) (event_remembers depth replicas words next replica v event is may now), tells.1)
+exchange_tells depth replicas words words' next replica v w event false is may now tells =
+    (look_remembers depth replicas words words' replica v w is tells.1, (tells.1.looked, older_moved depth replicas words' words replica v w is tells.0 tells.1))

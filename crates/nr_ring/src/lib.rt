@@ -7,7 +7,6 @@
 mod batch;
 mod cell_words;
 pub mod examples;
-mod exchange_count;
 pub mod laws;
 mod log_event;
 mod name;

@@ -1,6 +1,5 @@
 //! A thread's pass to a log.
 ghost use Rattle.std.specs.Prelude.{◌≡◌, ◌<◌, All};
-ghost use Rattle.crossbeam_utils.specs.Seq.{cell_view};
 ghost use Rattle.nr_ring.specs.LogHistory.{IsLogHistory, log_after};
 ghost use Rattle.nr_ring.specs.Pass.{tails_of};
 ghost use Rattle.nr_ring.specs.View.{StartsWith};
@@ -10,46 +9,37 @@ use crate::name::LogName;
 use crate::tails::{Tails, tails_in};
 use crate::view::View;
 use crate::words::CELL_WORDS;
-use crossbeam_utils::atomic::seq_cell::Pass;
 use std::marker::{Model, PhantomData};
+use version_cell::Pass;
 
-/// What one thread knows of a log: the words of the cell that it saw last, with their mark (`ExchangeCount`), and the replica that
-/// it owns, if any. Contracts see which log it is and what the pass knows of it.
+/// What one thread knows of a log: its pass to the cell, with the words that it saw last, and the replica that it owns, if any.
+/// Contracts see which log it is and what the pass knows of it.
 #[derive(Drop)]
 pub struct LogPass<J: LogName> {
-    pub(crate) pass: Pass<[u64; CELL_WORDS], View>,
-    pub(crate) words: [u64; CELL_WORDS],
-    pub(crate) mark: Option<u64>,
+    pub(crate) inner: Pass<View, CELL_WORDS>,
     pub(crate) replica: Option<u8>,
     pub(crate) of: PhantomData<J>,
 }
 
 impl<J: LogName> Model for LogPass<J> {
-    ghost use Rattle.crossbeam_utils.specs.Seq.{cell_view};
     ghost use Rattle.nr_ring.specs.Pass.{Known};
     ghost use Rattle.nr_ring.specs.inside.Held.{Remembers};
 
     ghost Value = { Known };
 
-    ghost view = { λ p. record { log = p.pass.table_id; view = cell_view p.pass } };
+    ghost view = { λ p. record { log = p.inner.cell; view = p.inner.view } };
 
-    ghost invariant = { λ p. Remembers J.depth J.replicas p.words p.replica (cell_view p.pass) };
+    ghost invariant = { λ p. Remembers J.depth J.replicas p.inner.words p.replica p.inner.view };
 }
 
 impl<J: LogName> LogPass<J> {
-    /// A pass that saw these words when the log was new.
-    pub(crate) fn new(
-        pass: Pass<[u64; CELL_WORDS], View>,
-        words: [u64; CELL_WORDS],
-        replica: Option<u8>,
-    ) -> LogPass<J>
-        requires { Remembers J.depth J.replicas words replica (cell_view pass) }
-        ensures { (result.log ≡ pass.table_id) × (result.view ≡ cell_view pass) }
+    /// The pass to a log over one to its cell.
+    pub(crate) fn new(inner: Pass<View, CELL_WORDS>, replica: Option<u8>) -> LogPass<J>
+        requires { Remembers J.depth J.replicas inner.words replica inner.view }
+        ensures { (result.log ≡ inner.cell) × (result.view ≡ inner.view) }
     {
         LogPass {
-            pass,
-            words,
-            mark: Some(0),
+            inner,
             replica,
             of: PhantomData,
         }
@@ -59,7 +49,7 @@ impl<J: LogName> LogPass<J> {
     pub(crate) fn tails(&self) -> Tails
         ensures { result ≡ tails_of (log_after J.replicas self.now.view.seen) }
     {
-        tails_in(&self.words)
+        tails_in(self.inner.words())
     }
     /// Does nothing: its clauses say what holds of every pass. What it has seen is a history, which begins with all that it was
     /// told. Each replica that it owns is one of the log's, and it has one right to make events.
@@ -69,6 +59,6 @@ impl<J: LogName> LogPass<J> {
         ensures owns { All (λ replica. replica < J.replicas) self.now.view.owns }
         ensures rights { self.now.view.rights ≡ 1 }
     {
-        let _known = &self.words;
+        let _known = &self.inner;
     }
 }

@@ -1,8 +1,7 @@
-//! The log: one cell that its threads share, and how many exchanges of it there have been.
+//! The log: one cell that its threads share.
 ghost use Rattle.std.specs.Prelude.{◌≡◌, ◌≤◌, ◌+◌, ◌-◌, ◌<◌, ℕ, All, Contains, IfErr, IfOk, OnErr, OnOk, [], ◌∷◌, length};
 ghost use Rattle.std.specs.List.{range_with_len};
 ghost use Rattle.vs_types.specs.LogEntry.{IsLogEntry};
-ghost use Rattle.crossbeam_utils.specs.Seq.{cell_view, IsSamePass};
 ghost use Rattle.nr_ring.specs.Calls.{HasLooked, HasMoved, HasTaken, LiesAhead, MayMake, MayTake, copy_of, joined, with_event};
 ghost use Rattle.nr_ring.specs.LogHistory.{IsLogHistory, MayAdvance, MayAppend, MayFollow, log_after_event, log_after};
 ghost use Rattle.nr_ring.specs.declared.log_event.LogEvent.TheVariants.{Append, Advance};
@@ -13,27 +12,23 @@ ghost use Rattle.nr_ring.specs.Words.{IsWordsOf, new_words};
 ghost use Rattle.nr_ring.specs.inside.Held.{IsBelow, MadeOrMoved, left_from, new_view, owned, rest_of};
 
 use crate::batch::{read_entries, test_room, why_not, with_batch};
-use crate::exchange_count::ExchangeCount;
 use crate::name::LogName;
 use crate::pass::LogPass;
-use crate::rule::{Copies, Exchanging, FirstOwned, Happening, LogRule, Looking};
+use crate::rule::{Copies, FirstOwned, Happening, LogRule, Looking, Making};
 use crate::tails::{AppendFault, Moved, Tails};
 use crate::view::View;
 use crate::words::{CELL_WORDS, COMPLETED_WORD, COUNT_WORD, LOCAL_WORDS, OTHERS, RING};
 use arrayvec::ArrayVec;
-use crossbeam_utils::atomic::seq_cell::{Pass, RuledSeqCell};
 use std::alloc::Global;
 use std::marker::{Brand, Model, PhantomData};
 use std::sync::Wait;
+use version_cell::{Pass, VersionCell};
 use vs_types::{Depth, LogEntry, Memory, REPLICAS};
-
-type Cell<J> = RuledSeqCell<[u64; CELL_WORDS], View, LogRule<J>, CELL_WORDS>;
 
 /// The shared log: a ring of 16 entries and the tails, in one cell. Contracts see which log it is.
 #[derive(Drop)]
 pub struct RingLog<J: LogName> {
-    cell: RuledSeqCell<[u64; CELL_WORDS], View, LogRule<J>, CELL_WORDS>,
-    exchanges: ExchangeCount,
+    cell: VersionCell<View, LogRule<J>, CELL_WORDS>,
     depth: Depth,
     of: PhantomData<J>,
 }
@@ -44,7 +39,7 @@ impl<J: LogName> Model for RingLog<J> {
 
     ghost Value = { TableId };
 
-    ghost view = { λ l. l.cell.table.shared.table_id };
+    ghost view = { λ l. l.cell };
 
     ghost invariant = { λ l. l.depth ≡ J.depth };
 }
@@ -71,51 +66,44 @@ impl<J: LogName> RingLog<J> {
     {
         let mut words = [0; CELL_WORDS];
         words[COUNT_WORD] = u64::from(replicas);
-        let (cell, mut first) = Cell::<J>::ruled(alloc, words)?;
+        let (cell, mut first) = VersionCell::<View, LogRule<J>, CELL_WORDS>::new(alloc, &words)?;
         let log = RingLog {
             cell,
-            exchanges: ExchangeCount::new(),
             depth,
             of: PhantomData,
         };
         let mut passes = Vec::new(alloc);
         passes.reserve(usize::from(replicas) + usize::from(others))?;
         for replica in 0..replicas {
-            let pass = log.split_off(&mut first, words, Some(replica));
+            let pass = log.split_off(&mut first, Some(replica));
             passes.push(pass)?;
         }
         for _ in 0..others {
-            let pass = log.split_off(&mut first, words, None);
+            let pass = log.split_off(&mut first, None);
             passes.push(pass)?;
         }
         Ok((log, passes))
     }
 
     /// Splits a pass off the first one, which gives it the first replica that it owns and one of its rights.
-    fn split_off(
-        &self,
-        first: &mut Pass<[u64; CELL_WORDS], View>,
-        words: [u64; CELL_WORDS],
-        replica: Option<u8>,
-    ) -> LogPass<J>
-        requires first { (first.old.table_id ≡ self.now)
-            × (cell_view first.old
-            ≡ new_view (left_from J.replicas replica) (cell_view first.old).rights) }
-        requires right { 1 ≤ (cell_view first.old).rights }
-        requires words { words ≡ new_words J.replicas }
+    fn split_off(&self, first: &mut Pass<View, CELL_WORDS>, replica: Option<u8>) -> LogPass<J>
+        requires first { (first.old.cell ≡ self.now)
+            × (first.old.view ≡ new_view (left_from J.replicas replica) first.old.view.rights) }
+        requires right { 1 ≤ first.old.view.rights }
+        requires words { first.old.words ≡ new_words J.replicas }
         requires few { (J.replicas ≤ REPLICAS) × IsBelow J.replicas replica }
-        ensures first { IsSamePass first.old first.new
-            × (cell_view first.new
-            ≡ new_view (rest_of J.replicas replica) ((cell_view first.old).rights - 1)) }
+        ensures first { (first.new.cell ≡ first.old.cell) × (first.new.words ≡ first.old.words)
+            × (first.new.view
+            ≡ new_view (rest_of J.replicas replica) (first.old.view.rights - 1)) }
         ensures pass { result ≡ new_pass self.now (owned replica) }
     {
         let pass = self.cell.split_pass::<FirstOwned>(first);
-        LogPass::new(pass, words, replica)
+        LogPass::new(pass, replica)
     }
 
     /// The tails of the log after all that the pass has then seen.
     ///
-    /// Loads the cell and waits for it, but where no exchange of another pass's has begun since this pass saw it.
+    /// One load where nothing has come since this pass saw the log; else it waits for the cell.
     pub fn look<R: Wait>(&self, rt: &R, pass: &mut LogPass<J>) -> Tails
         requires { pass.old.log ≡ self.now }
         ensures log { pass.new.log ≡ pass.old.log }
@@ -126,26 +114,13 @@ impl<J: LogName> RingLog<J> {
         pass.tails()
     }
 
-    /// Has the words of the pass be those of the cell: loads the cell, but where they are so still.
+    /// Has the words of the pass be those of the cell.
     fn refresh<R: Wait>(&self, rt: &R, pass: &mut LogPass<J>)
         requires { pass.old.log ≡ self.now }
         ensures log { pass.new.log ≡ pass.old.log }
         ensures looked { HasLooked J.depth J.replicas pass.old.view pass.new.view }
     {
-        if self.exchanges.is_at(pass.mark) {
-            return;
-        }
-        self.load(rt, pass);
-    }
-
-    /// Loads the cell. Its large locals cost a look nothing that need not load, which is why it is a function of its own.
-    fn load<R: Wait>(&self, rt: &R, pass: &mut LogPass<J>)
-        requires { pass.old.log ≡ self.now }
-        ensures log { pass.new.log ≡ pass.old.log }
-        ensures looked { HasLooked J.depth J.replicas pass.old.view pass.new.view }
-    {
-        pass.mark = self.exchanges.mark();
-        pass.words = self.cell.load_as::<Looking<J>, R>(rt, &mut pass.pass);
+        self.cell.look_as::<Looking<J>, R>(rt, &mut pass.inner);
     }
 
     /// Raises the local tail of the replica that the pass owns to a place, and the completed tail to it where that is lower.
@@ -171,8 +146,7 @@ impl<J: LogName> RingLog<J> {
         };
         let local = LOCAL_WORDS + usize::from(replica);
         let place = u64::from(to);
-        let words = pass.words;
-        if words[local] == place {
+        if pass.inner.words()[local] == place {
             return Ok(());
         }
         if self.try_advance::<Brand, R>(rt, pass, replica, to) {
@@ -200,20 +174,20 @@ impl<J: LogName> RingLog<J> {
     {
         let local = LOCAL_WORDS + usize::from(replica);
         let place = u64::from(to);
-        let mut next = pass.words;
+        let mut next = *pass.inner.words();
         next[COMPLETED_WORD] = next[COMPLETED_WORD].max(place);
         next[local] = place;
-        self.exchange::<E, R>(rt, pass, next)
+        self.exchange::<E, R>(rt, pass, &next)
     }
 
-    /// Loads the cell, and then appends 1 to 16 entries at the log's depth: the place of the first.
+    /// Looks, and then appends 1 to 16 entries at the log's depth: the place of the first.
     ///
     /// Waits for the cell.
     ///
     /// # Errors
     ///
     /// `LogEnded` where the log would go past 65,536 entries; `Full` where some replica would have more than 16 entries to take;
-    /// `Moved` where neither holds, but another pass's event came after the load. The tails are those of the log that the pass
+    /// `Moved` where neither holds, but another pass's event came after the look. The tails are those of the log that the pass
     /// has then seen, and it has made no event.
     pub fn append<R: Wait>(
         &self,
@@ -235,13 +209,13 @@ impl<J: LogName> RingLog<J> {
         ensures history { IsLogHistory J.depth J.replicas pass.new.view.seen }
     {
         let count = batch.len() as u64;
-        self.load(rt, pass);
+        self.refresh(rt, pass);
         let place = pass.tails().tail;
-        test_room(&pass.words, count)?;
+        test_room(pass.inner.words(), count)?;
         if self.try_append::<Brand, R>(rt, pass, batch) {
             return Ok(place);
         }
-        Err(why_not(&pass.words, count))
+        Err(why_not(pass.inner.words(), count))
     }
 
     fn try_append<E: Happening, R: Wait>(
@@ -257,8 +231,8 @@ impl<J: LogName> RingLog<J> {
         ensures view { MadeOrMoved J.depth J.replicas E.event pass.old.view pass.new.view result }
         ensures history { IsLogHistory J.depth J.replicas pass.new.view.seen }
     {
-        let next = with_batch(&pass.words, batch);
-        self.exchange::<E, R>(rt, pass, next)
+        let next = with_batch(pass.inner.words(), batch);
+        self.exchange::<E, R>(rt, pass, &next)
     }
 
     /// Looks, and gives all entries from the local tail of the replica that the pass owns to the tail, in order. The vector is
@@ -283,8 +257,9 @@ impl<J: LogName> RingLog<J> {
         let Some(replica) = pass.replica else {
             unreachable!()
         };
-        let local = pass.words[LOCAL_WORDS + usize::from(replica)];
-        read_entries(self.depth, &pass.words, local, entries);
+        let words = pass.inner.words();
+        let local = words[LOCAL_WORDS + usize::from(replica)];
+        read_entries(self.depth, words, local, entries);
     }
 
     /// Exchanges the words that the pass saw last for those after an event, where the cell still has them; else it looks.
@@ -292,33 +267,19 @@ impl<J: LogName> RingLog<J> {
         &self,
         rt: &R,
         pass: &mut LogPass<J>,
-        next: [u64; CELL_WORDS],
+        next: &[u64; CELL_WORDS],
     ) -> bool
         requires log { pass.old.log ≡ self.now }
         requires event { MayFollow J.depth (log_after J.replicas pass.old.view.seen) E.event
             × MayMake pass.old.view E.event }
         requires next { IsWordsOf
-            (log_after_event (log_after J.replicas pass.old.view.seen) E.event) next }
+            (log_after_event (log_after J.replicas pass.old.view.seen) E.event) next.now }
         ensures log { pass.new.log ≡ pass.old.log }
         ensures view { MadeOrMoved J.depth J.replicas E.event pass.old.view pass.new.view result }
         ensures history { IsLogHistory J.depth J.replicas pass.new.view.seen }
     {
-        let words = pass.words;
-        pass.mark = self.exchanges.begin(pass.mark);
-        let found = self
-            .cell
-            .compare_exchange_as::<Exchanging<J, E>, R>(rt, &mut pass.pass, words, next);
-        self.exchanges.end();
-        match found {
-            Ok(_) => {
-                pass.words = next;
-                true
-            }
-            Err(found) => {
-                pass.words = found;
-                false
-            }
-        }
+        self.cell
+            .exchange_as::<Making<E>, Looking<J>, R>(rt, &mut pass.inner, next)
     }
 
     /// Tells one pass what another has seen: what `told` has then seen begins with all that either had seen, and nobody has
@@ -337,31 +298,7 @@ impl<J: LogName> RingLog<J> {
         ensures looked { HasLooked J.depth J.replicas
             (joined told.old.view (copy_of pass.old.view)) told.new.view }
     {
-        let copy = self.copy(pass);
-        self.join(rt, told, copy);
-    }
-
-    /// A pass to the cell that has seen what this one has, and can make no event.
-    fn copy(&self, pass: &mut LogPass<J>) -> Pass<[u64; CELL_WORDS], View>
-        requires { pass.old.log ≡ self.now }
-        ensures pass { pass.new ≡ pass.old }
-        ensures copy { (result.table_id ≡ self.now) × (cell_view result ≡ copy_of pass.old.view)
-            × (result.me.1 ≡ []) }
-    {
-        self.cell.split_pass::<Copies>(&mut pass.pass)
-    }
-
-    /// Joins a pass to the cell that has made nothing and has no right to one of the log, which then loads the cell.
-    fn join<R: Wait>(&self, rt: &R, pass: &mut LogPass<J>, copy: Pass<[u64; CELL_WORDS], View>)
-        requires log { pass.old.log ≡ self.now }
-        requires copy { (copy.table_id ≡ self.now) × ((cell_view copy).mine ≡ [])
-            × ((cell_view copy).rights ≡ 0) × (copy.me.1 ≡ []) }
-        ensures log { pass.new.log ≡ pass.old.log }
-        ensures looked { HasLooked J.depth J.replicas
-            (joined pass.old.view (cell_view copy)) pass.new.view }
-    {
-        self.cell.join_pass::<Copies>(&mut pass.pass, copy);
-        pass.mark = self.exchanges.mark();
-        pass.words = self.cell.load_as::<Looking<J>, R>(rt, &mut pass.pass);
+        self.cell
+            .meet_as::<Copies, Looking<J>, R>(rt, &mut pass.inner, &mut told.inner);
     }
 }

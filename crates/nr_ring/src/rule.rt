@@ -1,32 +1,33 @@
 //! The rule of the cell, and what each kind of step tells its pass.
 use crate::name::LogName;
 use crate::view::View;
-use crate::words::CELL_WORDS;
 use atomic_table::{Join, Split};
-use crossbeam_utils::rule::{Outcome, Protocol};
 use std::marker::{Brand, PhantomData};
+use version_cell::{CellOutcome, CellRule};
 
 /// The rule of the cell of a log.
 pub struct LogRule<J: LogName> {
     of: PhantomData<J>,
 }
 
-impl<J: LogName> Protocol<[u64; CELL_WORDS], View> for LogRule<J> {
+impl<J: LogName> CellRule<View> for LogRule<J> {
     ghost use Rattle.nr_ring.specs.Rule.{IsKept};
-    ghost use Rattle.nr_ring.specs.inside.Held.{new_view};
+    ghost use Rattle.nr_ring.specs.inside.Held.{age, new_view};
     ghost use Rattle.std.specs.List.{range_with_len};
 
     ghost holds = { IsKept J.depth J.replicas J.passes };
 
     ghost first = { new_view (range_with_len 0 J.replicas) J.passes };
+
+    ghost age = { age };
 }
 
-/// A load of the cell.
+/// A look at the cell.
 pub struct Looking<J: LogName> {
     of: PhantomData<J>,
 }
 
-impl<J: LogName> Outcome<[u64; CELL_WORDS], View> for Looking<J> {
+impl<J: LogName> CellOutcome<View> for Looking<J> {
     ghost use Rattle.nr_ring.specs.Calls.{Looks};
 
     ghost then = { λ before words words' after. Looks J.depth J.replicas words' before after };
@@ -45,16 +46,16 @@ impl Happening for Brand {
     ghost event = { Advance 0 0 };
 }
 
-/// An exchange of the words that the pass knows by those after an event.
-pub struct Exchanging<J: LogName, E: Happening> {
-    of: PhantomData<(J, E)>,
+/// An exchange of the words of the cell for those after an event.
+pub struct Making<E: Happening> {
+    of: PhantomData<E>,
 }
 
-impl<J: LogName, E: Happening> Outcome<[u64; CELL_WORDS], View> for Exchanging<J, E> {
-    ghost use Rattle.nr_ring.specs.inside.Held.{Exchanges};
+impl<E: Happening> CellOutcome<View> for Making<E> {
+    ghost use Rattle.std.specs.Prelude.{◌≡◌};
+    ghost use Rattle.nr_ring.specs.Calls.{with_event};
 
-    ghost then = { λ before words words' after.
-        Exchanges J.depth J.replicas E.event words words' before after };
+    ghost then = { λ before words words' after. after ≡ with_event before E.event };
 }
 
 /// The new pass takes the first replica that the other owns, and one right.

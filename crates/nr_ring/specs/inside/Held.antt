@@ -6,7 +6,7 @@ use Rattle.vs_types.specs.declared.limits.TheConstants.{REPLICAS}
 use Rattle.nr_ring.specs.LogHistory.{IsLogHistory, log_after}
 use Rattle.nr_ring.specs.Words.{IsWordsOf}
 use Rattle.nr_ring.specs.View.{StartsWith}
-use Rattle.nr_ring.specs.Calls.{HasLooked, HasMoved, Looks, with_event}
+use Rattle.nr_ring.specs.Calls.{HasLooked, HasMoved, with_event}
 use Rattle.nr_ring.specs.declared.log_event.LogEvent.{LogEvent}
 use Rattle.nr_ring.specs.declared.view.View.{View}
 use Rattle.nr_ring.specs.declared.tails.Tails.{Tails}
@@ -59,7 +59,8 @@ abbrev pub MadeOrMoved : Depth → ℕ → LogEvent → View → View → Bool �
 MadeOrMoved depth replicas event before after made =
     MatchBool made (after ≡ with_event before event) (HasLooked depth replicas before after × HasMoved before after)
 
--- what an exchange of the words that a pass knows tells: where they were those of the cell, it made the event; else it looked
-pub record Exchanges (depth : Depth) (replicas : ℕ) (event : LogEvent) (words words' : List ℕ) (before after : View) : Type 0 where
-  pub made : IsWordsOf (log_after replicas before.seen) words → after ≡ with_event before event
-  pub failed : (IsWordsOf (log_after replicas before.seen) words → ⊥) → Looks depth replicas words' before after
+-- the age of the words of the cell: the tail and the local tails, of which each event raises one
+abbrev pub age : List ℕ → ℕ
+age words =
+    slice_index words TAIL_WORD
+    + (slice_index words LOCAL_WORDS + (slice_index words (LOCAL_WORDS + 1) + (slice_index words (LOCAL_WORDS + 2) + slice_index words (LOCAL_WORDS + 3))))

@@ -6,10 +6,10 @@ use Rattle.nr_ring.proofs.ring_log.RingLog.advance.Goals as goal
 
 pub try_advance-requires-clause-may : goal.try_advance-requires-clause-may
 try_advance-requires-clause-may g c =
-    let words = c.pass.inside.words in
+    let words = c.words.result.now in
     let view = c.args.pass.now.view in
     let r = c.in-Some.replica in
-    let is = owner_remembers _ _ words _ r _ view c.pass.invariant (ap (λ (k : Known). k.view) c.pass.view_is) c.in-Some.is in
+    let is = owner_remembers g.J.LogName.depth g.J.LogName.replicas words c.pass.inside.replica r c.pass.inside.inner.view view (rw c.words.ensures c.pass.invariant) (ap (λ (k : Known). k.view) c.pass.view_is) c.in-Some.is in
     let other : slice_index words (2 + r) ≡ c.args.to → ⊥ =
     λ e. c.if-words-local.false (ap (λ n. slice_index words (2 + n)) c.from-local.ensures ∙ e ∙ sym c.from-place.ensures) in
     let may = may_advance _ _ words r view c.args.to is c.requires.to other in
@@ -17,9 +17,9 @@ try_advance-requires-clause-may g c =
 
 pub returns-then-try_advance-clause-taken : goal.returns-then-try_advance-clause-taken
 returns-then-try_advance-clause-taken g c =
-    let words = c.pass.inside.words in
+    let words = c.words.result.now in
     let r = c.in-Some.replica in
-    let is = owner_remembers _ _ words _ r _ c.args.pass.now.view c.pass.invariant (ap (λ (k : Known). k.view) c.pass.view_is) c.in-Some.is in
+    let is = owner_remembers g.J.LogName.depth g.J.LogName.replicas words c.pass.inside.replica r c.pass.inside.inner.view c.args.pass.now.view (rw c.words.ensures c.pass.invariant) (ap (λ (k : Known). k.view) c.pass.view_is) c.in-Some.is in
     let other : slice_index words (2 + r) ≡ c.args.to → ⊥ =
     λ e. c.if-words-local.false (ap (λ n. slice_index words (2 + n)) c.from-local.ensures ∙ e ∙ sym c.from-place.ensures) in
     taken_now _ _ words r c.args.pass.now.view _ c.args.to is other c.if-try_advance.ensures.view

@@ -1,5 +1,4 @@
 use Rattle.std.proofs.Common.{rules, ℕ, ◌-◌, List, ap, ◌∙◌, sym, subst, drop, take, arith}
-use Rattle.crossbeam_utils.specs.Seq.{cell_view}
 use Rattle.nr_ring.specs.declared.view.View.{View}
 use Rattle.nr_ring.specs.Calls.{AreCut, IsCut, keeping, offshoot}
 use Rattle.nr_ring.specs.inside.Held.{new_view, Remembers}
@@ -12,7 +11,7 @@ pub split_pass-pass-requires : goal.split_pass-pass-requires
 split_pass-pass-requires g c =
     let replicas = g.J.LogName.replicas in
     let P : View → Type 0 = λ v. IsCut v.owns (drop 1 v.owns) (take 1 v.owns) in
-    let view = cell_view c.args.first.now in
+    let view = c.args.first.now.view in
     let shares : AreCut view (view.rights - 1) 1 = record { all = omega (arith, c.requires.right); of_makers = λ _. ap (λ (v : View). v.mine) c.requires.first.1 } in (
       search rules,
       (
@@ -28,15 +27,16 @@ new-requires g c =
     ∙ ap (λ owns. new_view owns 1) (gives_first replicas c.args.replica c.requires.few.1) in
     let P : View → Type 0 = λ v. Remembers g.J.LogName.depth replicas (new_words replicas) c.args.replica v in
     let Q : List ℕ → Type 0 = λ ws. Remembers g.J.LogName.depth replicas ws c.args.replica
-    (Rattle.crossbeam_utils.specs.Seq.cell_view c.split_pass-pass.result) in
-    subst Q (sym c.requires.words) (subst P (sym view) (new_remembers g.J.LogName.depth replicas c.args.replica c.requires.few.0 c.requires.few.1))
+    c.split_pass-pass.result.view in
+    subst Q (sym (c.split_pass-pass.ensures.given.2 ∙ c.requires.words)) (subst P (sym view) (new_remembers g.J.LogName.depth replicas c.args.replica c.requires.few.0 c.requires.few.1))
 
 pub returns-clause-first : goal.returns-clause-first
 returns-clause-first g c =
     let replicas = g.J.LogName.replicas in
-    let rights = (cell_view c.args.first.now).rights in (
-      c.split_pass-pass.ensures.kept.0,
-      c.split_pass-pass.ensures.kept.1 ∙ ap (λ (v : View). keeping v (drop 1 v.owns) (rights - 1)) c.requires.first.1
+    let rights = c.args.first.now.view.rights in (
+      c.split_pass-pass.ensures.same.0,
+      c.split_pass-pass.ensures.same.2,
+      c.split_pass-pass.ensures.kept ∙ ap (λ (v : View). keeping v (drop 1 v.owns) (rights - 1)) c.requires.first.1
           ∙ ap (λ owns. new_view owns (rights - 1)) (keeps_rest replicas c.args.replica c.requires.few.1),
     )
 
@@ -44,6 +44,6 @@ pub returns-clause-pass : goal.returns-clause-pass
 returns-clause-pass g c =
     let replicas = g.J.LogName.replicas in
     let given = c.split_pass-pass.ensures.given in
-    let log = given.0 ∙ c.requires.first.0 in
+    let log = given.0 ∙ c.self.view_is in
     let view = given.1 ∙ ap (λ (v : View). offshoot v (take 1 v.owns) 1) c.requires.first.1 ∙ ap (λ owns. new_view owns 1) (gives_first replicas c.args.replica c.requires.few.1) in
     λ i. record { log = (c.new.ensures.0 ∙ log) i; view = (c.new.ensures.1 ∙ view) i }

@@ -20,9 +20,9 @@ exchange-requires-clause-event g c =
 pub exchange-requires-clause-next : goal.exchange-requires-clause-next
 exchange-requires-clause-next g c =
     let log = log_after g.J.LogName.replicas c.args.pass.now.view.seen in
-    let words = c.pass.inside.words in
+    let words = c.words.result.now in
     let Is : View → Type 0 = λ v. IsWordsOf (log_after g.J.LogName.replicas v.seen) words in
-    let are = subst Is (ap (λ (k : Known). k.view) c.pass.view_is) c.pass.invariant.words_are in
+    let are = subst Is (ap (λ (k : Known). k.view) c.pass.view_is) (rw c.words.ensures c.pass.invariant.words_are) in
     let advanced = advance_words log c.args.replica c.args.to words c.requires.may.0 are c.requires.may.1 in
     let place = c.from-place.ensures in
     let local = c.from-local.ensures in

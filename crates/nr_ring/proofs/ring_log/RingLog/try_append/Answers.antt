@@ -10,9 +10,9 @@ use Rattle.nr_ring.proofs.ring_log.RingLog.try_append.Goals as goal
 pub exchange-requires-clause-next : goal.exchange-requires-clause-next
 exchange-requires-clause-next g c =
     let log = log_after g.J.LogName.replicas c.args.pass.now.view.seen in
-    let words = c.pass.inside.words in
+    let words = c.words.result.now in
     let Is : View → Type 0 = λ v. IsWordsOf (log_after g.J.LogName.replicas v.seen) words in
-    let are = subst Is (ap (λ (k : Known). k.view) c.pass.view_is) c.pass.invariant.words_are in
+    let are = subst Is (ap (λ (k : Known). k.view) c.pass.view_is) (rw c.words.ensures c.pass.invariant.words_are) in
     let After : LogEvent → Type 0 = λ event. IsWordsOf (log_after_event log event) c.with_batch-next.result in
     subst After (sym c.requires.event)
     (append_words g.J.LogName.depth log c.args.batch.now words c.with_batch-next.result are c.requires.may (c.with_batch-next.ensures log are))
