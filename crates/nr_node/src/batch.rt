@@ -8,27 +8,15 @@ use nr_ring::RING;
 use nr_slots::Waiting;
 use vs_types::LogEntry;
 
-/// A copy of a batch.
-pub(crate) fn copy(batch: &ArrayVec<Waiting, RING>) -> ArrayVec<Waiting, RING>
-    ensures { result.items ≡ batch.now.items }
+/// Has a vector be the entries of a log that a batch asks for.
+pub(crate) fn ask_for(batch: &ArrayVec<Waiting, RING>, entries: &mut ArrayVec<LogEntry, RING>)
+    ensures entries { entries.new.items ≡ entries_of batch.now.items }
+    ensures in_range { All (λ entry. entry.call < CALLS) entries.new.items }
 {
-    let mut copied = ArrayVec::new();
-    match copied.try_extend_from_slice(batch.as_slice()) {
-        Ok(()) => copied,
-        Err(_) => unreachable!(),
-    }
-}
-
-/// The entries of a log that a batch asks for.
-pub(crate) fn entries(batch: &ArrayVec<Waiting, RING>) -> ArrayVec<LogEntry, RING>
-    ensures entries { result.items ≡ entries_of batch.now.items }
-    ensures in_range { All (λ entry. entry.call < CALLS) result.items }
-{
-    let mut entries = ArrayVec::new();
+    entries.clear();
     for waiting in batch.as_slice() {
         entries.push(waiting.entry());
     }
-    entries
 }
 
 /// Empties a batch whose updates have places from this one on.

@@ -15,7 +15,7 @@ ghost use Rattle.nr_node.specs.Node.{IsNode, applied_of, held_of, log_of, new_no
 ghost use Rattle.nr_node.specs.Spaces.{answer_at};
 ghost use Rattle.nr_node.specs.inside.Node.{HasTakenAll};
 
-use crate::batch::{copy, entries, keep_unplaced};
+use crate::batch::{ask_for, keep_unplaced};
 use crate::held::Held;
 use crate::replica::Replica;
 use arrayvec::ArrayVec;
@@ -32,13 +32,15 @@ use vs_walk::Dump;
 /// A replica of the address space with its pass to the log, and at most one batch of updates that are on their way.
 ///
 /// Its page table is that of the address space after the first `applied` entries of the log, which are all that its replica
-/// has taken. Contracts see its log, what its pass knows, how many tables it may have, and its batch.
+/// has taken. Contracts see its log, what its pass knows, how many tables it may have, and its batch. Beside these it has room
+/// for the entries that a call appends or takes, so that no call has to fill an array of its own.
 #[derive(Drop)]
 pub struct Node<S: FrameStore, J: LogName> {
     pass: LogPass<J>,
     replica: Replica<S>,
     batch: ArrayVec<Waiting, RING>,
     first: Option<u32>,
+    entries: ArrayVec<LogEntry, RING>,
 }
 
 impl<S: FrameStore, J: LogName> Model for Node<S, J> {
@@ -81,6 +83,7 @@ impl<S: FrameStore + Drop, J: LogName> Node<S, J> {
             replica,
             batch: ArrayVec::new(),
             first: None,
+            entries: ArrayVec::new(),
         })
     }
 
@@ -121,7 +124,10 @@ impl<S: FrameStore, J: LogName> Node<S, J> {
         requires fit { All (λ waiting. IsAction J.depth waiting.op) batch.now.items }
         ensures { self.new ≡ record self.old { batch = batch.now.items } }
     {
-        self.batch = copy(batch);
+        match self.batch.try_extend_from_slice(batch.as_slice()) {
+            Ok(()) => {}
+            Err(_) => unreachable!(),
+        }
     }
 
     /// Appends the batch, which has no place yet, to the log: the place of its first update.
@@ -143,8 +149,8 @@ impl<S: FrameStore, J: LogName> Node<S, J> {
         ensures refused { IfErr result
             (IsReason (log_of J.replicas self.new) (length self.old.batch) self.old.known.view self.new.known.view) }
     {
-        let entries = entries(&self.batch);
-        let first = log.append(rt, &mut self.pass, entries.as_slice())?;
+        ask_for(&self.batch, &mut self.entries);
+        let first = log.append(rt, &mut self.pass, self.entries.as_slice())?;
         self.first = Some(first);
         Ok(first)
     }
@@ -175,14 +181,14 @@ impl<S: FrameStore, J: LogName> Node<S, J> {
         ensures ahead { OnErr result (applied_of J.replicas self.new + 1 ≤ tail (log_of J.replicas self.new)) }
         ensures no_answer { OnErr result (answers.new.items ≡ []) }
     {
-        let mut entries = ArrayVec::new();
         let applied = self.replica.applied();
-        take_entries(rt, log, &mut self.pass, applied, &mut entries)?;
-        self.replica.apply_all(&entries);
+        self.entries.clear();
+        take_entries(rt, log, &mut self.pass, applied, &mut self.entries)?;
+        self.replica.apply_all(&self.entries);
         self.replica.answer(self.first, &self.batch, answers);
         keep_unplaced(&mut self.batch, self.first);
         self.first = None;
-        Ok(entries.len() as u32)
+        Ok(self.entries.len() as u32)
     }
 
     /// How many entries it has applied, and the translation of a canonical address after them, or `NotMapped`.

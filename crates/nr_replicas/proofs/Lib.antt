@@ -4,3 +4,4 @@ pub mod Hearing
 pub mod Rests
 pub mod NewPasses
 pub mod Settled
+pub mod Fits

@@ -4,6 +4,7 @@
 //! Places and tails count entries of the log from 0. Addresses are in bytes.
 #![tactic(auto)]
 
+mod fitting;
 mod gate;
 mod local;
 mod name;

@@ -1,28 +1,31 @@
 //! What lies under the lock of a replica.
-ghost use Rattle.std.specs.Prelude.{◌≡◌, ◌≤◌, ◌<◌, All, IfErr, IfNone, IfSome, []};
+ghost use Rattle.std.specs.Prelude.{◌≡◌, ◌≤◌, ◌<◌, IfErr, IfNone, IfSome, []};
 ghost use Rattle.vs_types.specs.Depth.{IsCanonical};
-ghost use Rattle.vs_types.specs.Operation.{IsAction};
 ghost use Rattle.nr_ring.specs.LogHistory.{log_after, tail};
 ghost use Rattle.nr_ring.specs.declared.tails.AppendFault.TheVariants.{LogEnded};
 ghost use Rattle.nr_node.specs.Node.{applied_of, log_of, node_space};
 ghost use Rattle.nr_replicas.specs.Replicas.{HasHeard, IsAnsweredAt, IsReadAt};
 ghost use Rattle.nr_replicas.specs.inside.Replicas.{answer_in};
 
+use crate::fitting::Fitting;
 use crate::name::ReplicasName;
 use crate::question::Question;
 use arrayvec::ArrayVec;
 use nr_node::{Held, Node};
-use nr_ring::{AppendFault, LogName, LogPass, RingLog};
+use nr_ring::{AppendFault, LogName, LogPass, RING, RingLog};
 use nr_slots::{Answered, Slots, Waiting};
 use std::marker::{Model, PhantomData};
 use std::sync::Wait;
 use vs_arena::RawArena;
-use vs_types::{Answer, Depth, LogEntry};
+use vs_types::{Answer, LogEntry};
 
-/// The node of a replica, which is of the log that the name says and may have as many tables.
+/// The node of a replica, which is of the log that the name says and may have as many tables. Beside it there is room for what
+/// a call collects and answers, so that no call has to fill an array of its own.
 #[derive(Drop)]
 pub(crate) struct Local<J: LogName, K: ReplicasName> {
     node: Node<RawArena, J>,
+    waiting: ArrayVec<Waiting, RING>,
+    answers: ArrayVec<Answered, RING>,
     of: PhantomData<K>,
 }
 
@@ -45,6 +48,8 @@ impl<J: LogName, K: ReplicasName> Local<J, K> {
     {
         Local {
             node,
+            waiting: ArrayVec::new(),
+            answers: ArrayVec::new(),
             of: PhantomData,
         }
     }
@@ -63,15 +68,13 @@ impl<J: LogName, K: ReplicasName> Local<J, K> {
         &mut self,
         rt: &R,
         log: &RingLog<J>,
-        slots: &Slots,
-        depth: Depth,
+        slots: &Slots<Fitting<J>>,
     ) -> Result<bool, AppendFault>
-        requires log { log.now ≡ K.log }
-        requires depth { depth ≡ J.depth }
-        ensures ended { IfErr result (λ fault. fault ≡ LogEnded → 65520 < tail (log_of J.replicas self.new)) }
+        requires { log.now ≡ K.log }
+        ensures { IfErr result (λ fault. fault ≡ LogEnded → 65520 < tail (log_of J.replicas self.new)) }
     {
         if self.node.held() == Held::Nothing {
-            self.collect(rt, slots, depth);
+            self.collect(rt, slots);
         }
         match self.put_batch(rt, log) {
             Ok(appended) => {
@@ -97,29 +100,27 @@ impl<J: LogName, K: ReplicasName> Local<J, K> {
         }
     }
 
-    /// Takes the updates that wait in the slots into a batch. One that is not well formed at the log's depth is passed over.
-    fn collect<R: Wait>(&mut self, rt: &R, slots: &Slots, depth: Depth)
-        requires nothing { self.old.batch ≡ [] }
-        requires depth { depth ≡ J.depth }
-        ensures log { self.new.known ≡ self.old.known }
+    /// Takes the updates that wait in the slots into a batch.
+    fn collect<R: Wait>(&mut self, rt: &R, slots: &Slots<Fitting<J>>)
+        requires { self.old.batch ≡ [] }
+        ensures { self.new.known ≡ self.old.known }
     {
-        let mut waiting = ArrayVec::new();
-        slots.collect(rt, &mut waiting);
-        let fitting = fitting(&waiting, depth);
-        if !fitting.is_empty() {
-            self.node.hold(&fitting);
+        self.waiting.clear();
+        slots.collect(rt, &mut self.waiting);
+        if !self.waiting.is_empty() {
+            self.node.hold(&self.waiting);
         }
     }
 
     /// Takes all entries that the log has, and leaves the answers of the held updates in their slots.
-    pub(crate) fn catch_up<R: Wait>(&mut self, rt: &R, log: &RingLog<J>, slots: &Slots)
+    pub(crate) fn catch_up<R: Wait>(&mut self, rt: &R, log: &RingLog<J>, slots: &Slots<Fitting<J>>)
         requires log { log.now ≡ K.log }
     {
-        let mut answers = ArrayVec::new();
-        if self.node.catch_up(rt, log, &mut answers).is_err() {
+        self.answers.clear();
+        if self.node.catch_up(rt, log, &mut self.answers).is_err() {
             return;
         }
-        for answered in answers.as_slice() {
+        for answered in self.answers.as_slice() {
             let _taken = slots.answer(rt, *answered);
         }
     }
@@ -168,7 +169,7 @@ impl<J: LogName, K: ReplicasName> Local<J, K> {
         &mut self,
         rt: &R,
         log: &RingLog<J>,
-        slots: &Slots,
+        slots: &Slots<Fitting<J>>,
         pass: &mut LogPass<J>,
         completed: u32,
         address: u64,
@@ -215,17 +216,4 @@ impl<J: LogName, K: ReplicasName> Local<J, K> {
     {
         self.node.tell(rt, log, pass);
     }
-}
-
-/// Those of a batch that are well formed at a depth.
-fn fitting(waiting: &ArrayVec<Waiting, 16>, depth: Depth) -> ArrayVec<Waiting, 16>
-    ensures { All (λ update. IsAction depth update.op) result.items }
-{
-    let mut fitting = ArrayVec::new();
-    for update in waiting.as_slice() {
-        if update.op.fits(depth) {
-            fitting.push(*update);
-        }
-    }
-    fitting
 }

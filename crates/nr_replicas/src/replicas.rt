@@ -119,24 +119,21 @@ impl<J: LogName, K: ReplicasName> Replicas<J, K> {
         if home.slots.post(rt, thread, call, op).is_err() {
             return Err(UpdateFault::Occupied);
         }
-        let told = self.wait(rt, pass, thread, call, turns, gate)?;
+        let (place, answer) = self.wait(rt, pass, thread, call, turns, gate)?;
         let answered = Answered {
             thread,
             call,
             op,
-            ..told
+            place,
+            answer,
         };
-        match home
-            .local
-            .lock(rt)
-            .confirm(rt, &self.log, pass, from, answered)
-        {
+        match hold(rt, &home.local).confirm(rt, &self.log, pass, from, answered) {
             Some(update) => Ok(update),
             None => Err(UpdateFault::Stopped(call)),
         }
     }
 
-    /// Takes turns until the thread's slot has an answer.
+    /// Takes turns until the thread's slot has an answer: the place that it was told, and the answer.
     fn wait<G: Gate, R: Wait>(
         &self,
         rt: &R,
@@ -145,7 +142,7 @@ impl<J: LogName, K: ReplicasName> Replicas<J, K> {
         call: u32,
         turns: u32,
         gate: &G,
-    ) -> Result<Answered, UpdateFault>
+    ) -> Result<(u32, Answer), UpdateFault>
         requires log { pass.old.log ≡ K.log }
         requires thread { thread < self.now.threads }
         ensures log { pass.new.log ≡ pass.old.log }
@@ -155,12 +152,12 @@ impl<J: LogName, K: ReplicasName> Replicas<J, K> {
         pass.has_seen_a_history();
         let home = self.home(thread);
         let backoff = Backoff::new();
-        let mut turn = Turn::Poll;
+        let mut turn = Turn::Combine;
         for _ in 0..turns {
             turn = match turn {
                 Turn::Poll => {
                     if let Some(answered) = home.slots.poll(rt, thread) {
-                        return Ok(answered);
+                        return Ok((answered.place, answered.answer));
                     }
                     Turn::Combine
                 }
@@ -174,8 +171,10 @@ impl<J: LogName, K: ReplicasName> Replicas<J, K> {
                     Combined::Went => Turn::Poll,
                     Combined::Full => Turn::CatchUp(0),
                     Combined::Ended => {
-                        let answered = home.slots.poll(rt, thread);
-                        return answered.ok_or(UpdateFault::Ended(call));
+                        return match home.slots.poll(rt, thread) {
+                            Some(answered) => Ok((answered.place, answered.answer)),
+                            None => Err(UpdateFault::Ended(call)),
+                        };
                     }
                 },
                 Turn::CatchUp(replica) => self.catch_up(rt, replica, &backoff),
@@ -200,7 +199,7 @@ impl<J: LogName, K: ReplicasName> Replicas<J, K> {
         let Some(mut local) = attempt(rt, &home.local, backoff) else {
             return Combined::Went;
         };
-        match local.combine(rt, &self.log, &home.slots, self.config.depth()) {
+        match local.combine(rt, &self.log, &home.slots) {
             Ok(true) => Combined::Appended,
             Ok(false) | Err(AppendFault::Moved(_)) => Combined::Went,
             Err(AppendFault::Full(_)) => Combined::Full,
@@ -331,6 +330,15 @@ impl<J: LogName, K: ReplicasName> Replicas<J, K> {
             }
         }
         Err(Stopped)
+    }
+}
+
+/// A lock. Where it is free it is taken with no call.
+#[inline(always)]
+fn hold<'a, T, R: Wait>(rt: &R, lock: &'a Mutex<T>) -> MutexGuard<'a, T> {
+    match lock.try_lock() {
+        Some(guard) => guard,
+        None => lock.lock(rt),
     }
 }
 

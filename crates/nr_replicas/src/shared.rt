@@ -1,3 +1,4 @@
+use crate::fitting::Fitting;
 use crate::local::Local;
 use crate::name::ReplicasName;
 use nr_ring::LogName;
@@ -8,5 +9,5 @@ use std::sync::Mutex;
 #[derive(Drop)]
 pub(crate) struct Shared<J: LogName, K: ReplicasName> {
     pub(crate) local: Mutex<Local<J, K>>,
-    pub(crate) slots: Slots,
+    pub(crate) slots: Slots<Fitting<J>>,
 }

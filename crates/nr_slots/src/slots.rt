@@ -9,7 +9,7 @@ use crate::waiting::Waiting;
 use arrayvec::ArrayVec;
 use std::alloc::Global;
 use std::marker::Model;
-use std::sync::{Mutex, Wait};
+use std::sync::{Mutex, MutexGuard, Wait};
 use vs_types::{Memory, Op};
 
 /// A slot for each thread of a replica, each under a lock. Contracts see how many there are.
@@ -58,7 +58,7 @@ impl<P: SlotRule> Slots<P> {
         requires rule { ∥ P.posted thread call op ∥₁ }
     {
         let waiting = Waiting::new(thread, call, op);
-        self.slots[usize::from(thread)].lock(rt).post(waiting)
+        hold(rt, &self.slots[usize::from(thread)]).post(waiting)
     }
 
     /// Takes updates that wait into the batch, by rising thread, until the batch is full: of each thread its own.
@@ -75,7 +75,7 @@ impl<P: SlotRule> Slots<P> {
             if batch.is_full() {
                 break;
             }
-            let taken = slot.lock(rt).take();
+            let taken = hold(rt, slot).take();
             if let Some(waiting) = taken {
                 // always so: only `post` fills the slot, with its thread's update; but no proof knows whose lock this is
                 if usize::from(waiting.thread) == thread {
@@ -99,23 +99,33 @@ impl<P: SlotRule> Slots<P> {
         let Some(slot) = self.slots.get(usize::from(answered.thread)) else {
             return Err(NotTaken);
         };
-        slot.lock(rt).answer(answered)
+        hold(rt, slot).answer(answered)
     }
 
     /// Takes the thread's answer, if there is one, and leaves its slot empty.
     ///
     /// Waits for the slot's lock.
+    #[inline(always)]
     pub fn poll<R: Wait>(&self, rt: &R, thread: u16) -> Option<Answered>
         requires { thread < self.now }
         ensures thread { IfSome result (λ answered. answered.thread ≡ thread) }
         ensures rule { IfSome result (λ answered. ∥ P.answered answered ∥₁) }
     {
-        let answered = self.slots[usize::from(thread)].lock(rt).poll()?;
+        let answered = hold(rt, &self.slots[usize::from(thread)]).poll()?;
         // always so, as in `collect`
         if answered.thread == thread {
             Some(answered)
         } else {
             None
         }
+    }
+}
+
+/// A slot's lock. Where it is free it is taken with no call.
+#[inline(always)]
+fn hold<'a, T, R: Wait>(rt: &R, lock: &'a Mutex<T>) -> MutexGuard<'a, T> {
+    match lock.try_lock() {
+        Some(guard) => guard,
+        None => lock.lock(rt),
     }
 }

@@ -37,13 +37,13 @@ fn update_of_one_turn(rt: HostRuntime) -> Result<(), Fail> {
     Ok(())
 }
 
-/// Three turns are enough for an update of a lone thread: a poll, an attempt, and a poll.
+/// Two turns are enough for an update of a lone thread: an attempt and a poll.
 #[test]
-fn update_of_three_turns(rt: HostRuntime) -> Result<(), Fail> {
+fn update_of_two_turns(rt: HostRuntime) -> Result<(), Fail> {
     let config = Config::new(Depth::Four, 1, 1, 4)?;
     let map = map_a(&rt, Depth::Four);
     let step = Step {
-        turns: 3,
+        turns: 2,
         ..Step::update(0, 0, map, 0, Answer::Done)
     };
     let settled = take(&rt, rt.alloc(), config, [step].as_slice())?;

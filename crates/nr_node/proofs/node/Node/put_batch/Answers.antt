@@ -14,11 +14,11 @@ use Rattle.nr_node.proofs.node.Node.put_batch.Goals as goal
 pub append-requires-clause-entries : goal.append-requires-clause-entries
 append-requires-clause-entries g c =
     let self = c.self.inside in
-    let same = c.as_slice.ensures.value ∙ c.entries-entries.ensures.entries in
+    let same = c.as_slice.ensures.value ∙ c.ask_for.ensures.entries in
     let Fit : List LogEntry → Type 0 = λ l. All (IsLogEntry g.J.LogName.depth) l in
     let Low : List LogEntry → Type 0 = λ l. All (λ entry. entry.call < CALLS) l in
     subst Fit (sym same)
-    (batch_fits g.J.LogName.depth self.batch.items c.self.invariant.0.fit (subst Low c.entries-entries.ensures.entries c.entries-entries.ensures.in_range))
+    (batch_fits g.J.LogName.depth self.batch.items c.self.invariant.0.fit (subst Low c.ask_for.ensures.entries c.ask_for.ensures.in_range))
 
 pub invariant_of-self : goal.invariant_of-self
 invariant_of-self g c =
@@ -49,5 +49,5 @@ invariant_of-self-2 g c =
     HasAppended g.J.LogName.depth g.J.LogName.replicas self.pass.view l c.in_ok-first.first c.append.new.pass.view in
     let Some : NodeState → Type 0 = λ n. 1 ≤ length n.batch in
     appended_node _ _ self.pass c.append.new.pass self.replica self.batch.items self.first c.in_ok-first.first
-    (subst Appends (c.as_slice.ensures.value ∙ c.entries-entries.ensures.entries) c.in_ok-first.ensures.appended)
+    (subst Appends (c.as_slice.ensures.value ∙ c.ask_for.ensures.entries) c.in_ok-first.ensures.appended)
     (subst Some (sym c.self.view_is) c.requires.some) is.0 is.1

@@ -7,8 +7,8 @@ use Rattle.nr_replicas.proofs.Hearing.{heard_on, heard_twice, later_than, looked
 use Rattle.nr_replicas.proofs.Logs.{tail_rises}
 use Rattle.nr_replicas.proofs.replicas.Replicas.update.Goals as goal
 
-pub returns-in_err-told-clause-heard : goal.returns-in_err-told-clause-heard
-returns-in_err-told-clause-heard g c =
+pub returns-in_err-place-clause-heard : goal.returns-in_err-place-clause-heard
+returns-in_err-place-clause-heard g c =
     let depth = g.J.LogName.depth in
     let replicas = g.J.LogName.replicas in
     heard_twice depth replicas c.args.pass.now.view c.look-from.new.pass.view c.wait.new.pass.view

@@ -5,7 +5,7 @@ use Rattle.vs_types.specs.declared.log_entry.LogEntry.{LogEntry}
 use Rattle.nr_slots.specs.declared.waiting.Waiting.{Waiting}
 use Rattle.nr_node.specs.Calls.{entry_of}
 use Rattle.nr_node.proofs.Lists.{all_one, map_one_more}
-use Rattle.nr_node.proofs.batch.entries.Goals as goal
+use Rattle.nr_node.proofs.batch.ask_for.Goals as goal
 
 pub loop-waiting-preserved : goal.loop-waiting-preserved
 loop-waiting-preserved c =
