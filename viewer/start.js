@@ -1,0 +1,86 @@
+// ---- start ----
+
+function makeLegend() {
+  const entry = (sign, text, colour, full) => {
+    const item = element("li"), box = element("i", sign, full ? "full" : "");
+    box.style.borderColor = colour;
+    if (full) box.style.background = colour;
+    item.append(box, text);
+    return item;
+  };
+  const kinds = KINDS.map(kind => entry(kind[0].toUpperCase(), kind, `var(--${kind})`, true));
+  $("legend").replaceChildren(...kinds, entry("U", "refused or nothing there: hollow", "var(--unmap)"), entry("", "no answer: dashed, open to the end", "var(--soft)"),
+    entry("!", "marked: red frame and flag, a diamond for a reply", "var(--fault)"), entry("\u2193", "to its place in the log; dashed: a read, between the entries that it saw and the others", "var(--soft)"));
+  $("legend").children[KINDS.length + 1].firstChild.style.borderStyle = "dashed";
+  $("map-legend").replaceChildren(entry("\u25be", "table", "var(--line)"), entry("w", "page that may be written: left bar", "var(--unmap)", true), entry("u", "by users: middle bar", "var(--map)", true),
+    entry("x", "executed: right bar", "var(--resolve)", true), entry("!", "reserved bit", "var(--fault)"), entry("", "red frame: on the marked way", "var(--fault)"));
+}
+
+function startDumps() {
+  const readable = told.dumps.filter(dump => dump.frames.length).length;
+  $("dumps").hidden = !readable;
+  if (!readable) return;
+  tables.frames = told.dumps.map(dump => new Map(dump.frames));
+  told.dumps.forEach(dump => { dump.root = Number(dump.root); });
+  if (told.replica !== null) for (const path of told.paths) for (const [frame, index] of path) tables.marked.add(`${told.replica}:${frame}:${index}`);
+  $("replicas").replaceChildren(...told.dumps.slice(0, readable).map((_, replica) => {
+    const button = element("button", `Replica ${replica}`);
+    button.addEventListener("click", () => showReplica(replica));
+    return button;
+  }));
+  onKeys($("map"), MAP_KEYS);
+  $("map").addEventListener("click", clickMap);
+  showReplica(told.replica !== null && told.replica < readable ? told.replica : 0);
+}
+
+function startRun() {
+  indexRun();
+  onKeys($("run"), RUN_KEYS);
+  onMouse($("run"));
+  $("nearer").addEventListener("click", () => zoom(0.5));
+  $("farther").addEventListener("click", () => zoom(2));
+  $("all").addEventListener("click", () => show(0, told.events));
+  $("fault").addEventListener("click", () => show(...told.view));
+  $("search").addEventListener("submit", event => { event.preventDefault(); find(); });
+  $("marked").hidden = !run.marked.length;
+  $("fault").hidden = !run.marked.length && !told.marked.length;
+  show(...told.view);
+  if (run.marked.length) describe(run.marked[run.marked.length - 1]);
+  $("details").hidden = !told.events;
+}
+
+/** What the address asks for after its `#`: `zoom=N` presses the button N times, `find=TEXT` searches. */
+function pressHash() {
+  const asked = new URLSearchParams(location.hash.slice(1));
+  for (let times = Number(asked.get("zoom") || 0); times > 0; times--) $("nearer").click();
+  if (asked.has("find")) {
+    $("find").value = asked.get("find");
+    $("search").requestSubmit();
+  }
+  document.body.dataset.from = picture.from.toFixed(2);
+  document.body.dataset.to = picture.to.toFixed(2);
+  document.body.dataset.selected = picture.selected;
+}
+
+function repaint() {
+  readColours();
+  drawRun();
+  if (!$("dumps").hidden) drawMap();
+}
+
+async function start() {
+  await openBytes();
+  readColours();
+  makeLegend();
+  startRun();
+  startDumps();
+  pressHash();
+  repaint();
+  window.addEventListener("resize", repaint);
+  window.addEventListener("hashchange", pressHash);
+  matchMedia("(prefers-color-scheme: dark)").addEventListener("change", repaint);
+  window.addEventListener("beforeprint", () => { document.documentElement.classList.add("printing"); repaint(); });
+  window.addEventListener("afterprint", () => { document.documentElement.classList.remove("printing"); repaint(); });
+  document.body.dataset.ready = "yes";
+}
+start();
