@@ -5,7 +5,7 @@ One function for each fault, by the statements of docs/DEFINITIONS.md, "Faults".
 """
 import dataclasses
 
-from reading import BYTES, Call, MAP, RESOLVE, SIZES, answer_words, call_words, many
+from reading import BYTES, Call, MAP, RESOLVE, SIZES, answer_words, call_words, many, sentence
 from space import Space, Step, path_address, paths_to, step_words, walk
 
 
@@ -70,7 +70,7 @@ def of_not_an_update(trace, place):
 def of_placed_twice(trace, place):
     call, first = trace.log[place], trace.log.index(trace.log[place])
     return Evidence(f"Call {call} stands twice in the log: at place {first}, and again at place {place}.",
-                    [trace.call_text(call).capitalize() + "."], {call: "placed twice"}, places=[first, place])
+                    [sentence(trace.call_text(call))], {call: "placed twice"}, places=[first, place])
 
 
 def of_not_placed(trace, index):
@@ -91,7 +91,7 @@ def of_not_placed(trace, index):
 def of_past_log(trace, index):
     _, call, at = trace.events[index]
     return Evidence(f"Event {index} says that call {call} saw {many(at, 'entry')} of the log, "
-                    f"which has {len(trace.log)}.", [trace.call_text(call).capitalize() + "."], {call: "saw more than there is"}, [index])
+                    f"which has {len(trace.log)}.", [sentence(trace.call_text(call))], {call: "saw more than there is"}, [index])
 
 
 def of_early(trace, number):

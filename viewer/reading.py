@@ -39,6 +39,10 @@ def answer_words(answer):
             f"fault {answer.value}")[answer.code]
 
 
+def sentence(text):
+    return text[0].upper() + text[1:] + "."
+
+
 def many(count, noun):
     plural = noun[:-1] + "ies" if noun.endswith("y") else noun + "s"
     return f"{count:,} {noun if count == 1 else plural}"

@@ -1,6 +1,6 @@
 // ---- the picture of the run ----
 
-const LABELS = 104, OVERVIEW = 14, AXIS = 20, FLAG = 15;
+const LABELS = 116, OVERVIEW = 14, AXIS = 20, FLAG = 15;
 const picture = { from: 0, to: 1, selected: -1, hover: -1, hits: [], hit: -1 };
 let colours = {}, waiting = false;
 
@@ -21,15 +21,23 @@ function sized(canvas, height) {
   return [pen, width];
 }
 
-/** The heights of lanes and log: half of the threads above the log, the others below. */
+/** Where lanes and log lie: half of the threads above the log, the others below; threads with a marked call have room for words. */
 function layOut() {
-  const threads = run.lanes.length, above = Math.ceil(threads / 2), top = OVERVIEW + AXIS;
-  const lane = Math.max(9, Math.min(38, Math.floor((window.innerHeight * 0.62 - 90) / threads)));
-  const log = top + above * lane + 10, logHeight = 22 + 11 * told.dumps.length;
-  return { lane, above, top, log, logHeight, below: log + logHeight + 10, height: log + logHeight + 14 + (threads - above) * lane };
+  const threads = run.lanes.length, above = Math.ceil(threads / 2), logHeight = 22 + 11 * told.dumps.length;
+  const usual = Math.max(11, Math.min(38, Math.floor((window.innerHeight * 0.62 - 90) / threads)));
+  const loud = new Set(run.marked.map(threadOf)), tops = [], heights = run.lanes.map((_, thread) => loud.has(thread) ? Math.max(usual, 26) : usual);
+  const top = OVERVIEW + AXIS;
+  let y = top, log = 0;
+  heights.forEach((height, thread) => {
+    tops.push(y);
+    y += height;
+    if (thread !== above - 1) return;
+    log = y + 10;
+    y = log + logHeight + 10;
+  });
+  return { tops, heights, top, log, logHeight, height: y + 4 };
 }
 
-const laneTop = (place, thread) => thread < place.above ? place.top + thread * place.lane : place.below + (thread - place.above) * place.lane;
 const scale = width => (width - LABELS - 8) / (picture.to - picture.from);
 const toX = (event, width) => LABELS + (event - picture.from) * scale(width);
 const toEvent = (x, width) => picture.from + (x - LABELS) / scale(width);
@@ -56,13 +64,13 @@ function drawRun() {
 }
 
 function drawLanes(pen, width, place) {
-  pen.font = `${Math.min(12, place.lane + 1)}px system-ui, sans-serif`;
-  run.lanes.forEach((lane, thread) => {
-    const y = laneTop(place, thread);
+  place.tops.forEach((y, thread) => {
+    const tall = place.heights[thread];
     pen.fillStyle = thread % 2 ? colours.paper : colours.lane;
-    pen.fillRect(0, y, width, place.lane);
+    pen.fillRect(0, y, width, tall);
     pen.fillStyle = colours.soft;
-    pen.fillText(`thread ${thread}`, 8, y + place.lane / 2 + 1);
+    pen.font = `${Math.min(12, tall - 2)}px system-ui, sans-serif`;
+    pen.fillText(`thread ${thread}`, 8, y + tall / 2 + 1);
   });
   pen.fillStyle = colours.ink;
   pen.font = "600 12px system-ui, sans-serif";
@@ -70,22 +78,20 @@ function drawLanes(pen, width, place) {
   pen.font = "10px system-ui, sans-serif";
   told.dumps.forEach((dump, replica) => {
     pen.fillStyle = replica === told.replica ? colours.fault : colours.soft;
-    pen.fillText(`replica ${replica} has ${dump.applied.toLocaleString("en")}`, 8, place.log + 28 + 11 * replica);
+    pen.fillText(`replica ${replica}: ${dump.applied.toLocaleString("en")}`, 8, place.log + 28 + 11 * replica);
   });
 }
 
 function drawAxis(pen, width, place) {
   const step = niceStep(90 / scale(width));
   pen.font = "11px system-ui, sans-serif";
-  pen.textAlign = "center";
-  for (let event = Math.ceil(picture.from / step) * step; event <= picture.to; event += step) {
-    const x = toX(event + 0.5, width);
+  for (let event = Math.max(0, Math.ceil(picture.from / step) * step); event <= picture.to; event += step) {
+    const x = toX(event + 0.5, width), label = event.toLocaleString("en");
     pen.fillStyle = colours.line;
     pen.fillRect(x, place.top - 3, 1, place.height);
     pen.fillStyle = colours.soft;
-    if (event < told.events) pen.fillText(event.toLocaleString("en"), x, OVERVIEW + AXIS / 2);
+    if (event < told.events) pen.fillText(label, x + 3, OVERVIEW + AXIS / 2);
   }
-  pen.textAlign = "left";
 }
 
 function niceStep(least) {
@@ -161,9 +167,9 @@ function drawApplied(pen, width, y, dump, replica) {
 function arrow(pen, place, width, call, colour, thick) {
   const at = run.stands[call];
   if (at < 0) return;
-  const y = laneTop(place, threadOf(call)), upper = y < place.log;
+  const y = place.tops[threadOf(call)], upper = y < place.log;
   const fromX = toX(Math.min(Math.max(at, call + 0.15), endOf(call) + 0.85), width), x = toX(at, width);
-  const fromY = upper ? y + place.lane - 2 : y + 2, tipY = upper ? place.log - 1 : place.log + 19;
+  const fromY = upper ? y + place.heights[threadOf(call)] - 2 : y + 2, tipY = upper ? place.log - 1 : place.log + 19;
   pen.strokeStyle = pen.fillStyle = colour;
   pen.lineWidth = thick;
   pen.setLineDash(isUpdate(call) ? [] : [3, 3]);
@@ -181,7 +187,7 @@ function arrow(pen, place, width, call, colour, thick) {
 }
 
 function drawCalls(pen, width, place, lane, thread) {
-  const reach = run.reach[thread], few = (picture.to - picture.from) / run.lanes.length < 60;
+  const reach = run.reach[thread], y = place.tops[thread], tall = place.heights[thread], few = (picture.to - picture.from) / run.lanes.length < 60;
   let last = -1;
   for (let index = firstFrom(reach, picture.from - 1); index < lane.length && lane[index] < picture.to; index++) {
     const call = lane[index], left = toX(call + 0.12, width), right = toX(endOf(call) + 0.88, width);
@@ -189,7 +195,7 @@ function drawCalls(pen, width, place, lane, thread) {
     last = Math.max(last, right);
     if (few && !isUpdate(call)) arrow(pen, place, width, call, colours.soft, 0.8);
     const nested = index > 0 && reach[index - 1] > call;
-    drawBox(pen, call, left, Math.max(right - left, 1.2), laneTop(place, thread) + (nested ? place.lane * 0.4 : 0), place.lane * (nested ? 0.6 : 1));
+    drawBox(pen, call, left, Math.max(right - left, 1.2), y + (nested ? tall * 0.4 : 0), tall * (nested ? 0.6 : 1));
   }
 }
 
@@ -206,12 +212,12 @@ function drawBox(pen, call, left, width, top, height) {
     pen.strokeRect(left + thick / 2, y + thick / 2, width - thick, tall - thick);
     pen.setLineDash([]);
   }
-  if (tall >= 9 && width > 13) drawLabel(pen, call, left, y, width, tall, hollow ? colours.ink : colours["on-box"]);
+  if (tall >= 8 && width > 13) drawLabel(pen, call, left, y, width, tall, hollow ? colours.ink : colours["on-box"]);
 }
 
 function drawLabel(pen, call, left, y, width, tall, colour) {
   const letter = KINDS[kindOf(call)][0].toUpperCase(), start = Math.max(left, LABELS) + 5 + (call in told.calls && width > 40 ? FLAG : 0), room = left + width - start - 4;
-  pen.font = `600 ${Math.min(12, tall)}px system-ui, sans-serif`;
+  pen.font = `600 ${Math.min(12, tall - 1)}px system-ui, sans-serif`;
   const texts = [`${letter} ${call}  ${requestText(call)} \u2192 ${answerText(run.reply[call])}`, `${letter} ${call} \u2192 ${answerText(run.reply[call])}`, `${letter} ${call}`, letter];
   const text = texts.find(each => pen.measureText(each).width <= room);
   pen.fillStyle = colour;
@@ -225,30 +231,25 @@ function drawMarks(pen, width, place) {
   if (picture.selected >= 0) frame(pen, width, place, picture.selected, colours.focus, false);
 }
 
+/** A frame around a call; that of a marked one has a flag at its left end. */
 function frame(pen, width, place, call, colour, flag) {
-  const y = laneTop(place, threadOf(call)), left = toX(call + 0.12, width), right = toX(endOf(call) + 0.88, width);
+  const y = place.tops[threadOf(call)], tall = place.heights[threadOf(call)], left = toX(call + 0.12, width), right = toX(endOf(call) + 0.88, width);
   const out = flag ? 0 : 3;
   pen.strokeStyle = pen.fillStyle = colour;
   pen.lineWidth = flag ? 3 : 2;
-  pen.strokeRect(left - out, y + 1.5 - out / 2, Math.max(right - left, 3) + 2 * out, place.lane - 3 + out);
-  if (flag && right - left > 40 && place.lane > 12) {
-    pen.fillRect(left, y + 1.5, FLAG, place.lane - 3);
-    pen.fillStyle = colours.paper;
-    pen.font = "800 13px system-ui, sans-serif";
-    pen.fillText("!", left + 5, y + place.lane / 2 + 1);
-  } else if (flag) {
-    pen.beginPath();
-    pen.moveTo(left - 6, y - 6);
-    pen.lineTo((left + right) / 2, y + 3);
-    pen.lineTo(right + 6, y - 6);
-    pen.fill();
-  }
+  pen.strokeRect(left - out, y + 1.5 - out / 2, Math.max(right - left, 3) + 2 * out, tall - 3 + out);
+  if (!flag) return;
+  const start = right - left > 40 ? Math.max(left, LABELS) : left - FLAG;
+  pen.fillRect(start, y + 1.5, FLAG, tall - 3);
+  pen.fillStyle = colours.paper;
+  pen.font = "800 13px system-ui, sans-serif";
+  pen.fillText("!", start + 5, y + tall / 2 + 1);
 }
 
 /** A reply that is marked by itself: a diamond at its event. */
 function markEvent(pen, width, place, event) {
   const call = isCall(event) ? event : answeredBy(event), x = toX(event + (run.reply[call] === event ? 0.88 : 0.5), width);
-  const y = isCall(call) ? laneTop(place, threadOf(call)) + place.lane / 2 : place.log - 8, size = Math.min(6, place.lane / 2);
+  const y = isCall(call) ? place.tops[threadOf(call)] + place.heights[threadOf(call)] / 2 : place.log - 8, size = 6;
   pen.fillStyle = colours.fault;
   pen.strokeStyle = colours.paper;
   pen.lineWidth = 1;
@@ -370,7 +371,7 @@ function callUnder(event) {
     const entry = firstFrom(run.to, at);
     return entry < told.places && run.from[entry] <= at && isCall(logAt(entry)) ? logAt(entry) : -1;
   }
-  const thread = run.lanes.findIndex((_, each) => y >= laneTop(place, each) && y < laneTop(place, each) + place.lane);
+  const thread = place.tops.findIndex((top, each) => y >= top && y < top + place.heights[each]);
   if (thread < 0) return -1;
   const lane = run.lanes[thread], slack = 3 / scale(width);
   for (let index = firstFrom(lane, at + slack) - 1; index >= 0 && run.reach[thread][index] + 1 + slack >= at; index--) {

@@ -46,6 +46,7 @@ function startRun() {
   $("fault").hidden = !run.marked.length && !told.marked.length;
   show(...told.view);
   if (run.marked.length) describe(run.marked[run.marked.length - 1]);
+  else $("details").replaceChildren(element("div", "Point at a call, or choose one with the arrow keys.", "hint"));
   $("details").hidden = !told.events;
 }
 

@@ -54,7 +54,7 @@ function describeEntry(table, index) {
 const isMarkedEntry = (frame, index) => tables.marked.has(`${tables.replica}:${frame}:${index}`);
 
 function drawMap() {
-  const chain = tablesOnPath(), canvas = $("map"), cell = Math.max(5, Math.min(18, Math.floor((canvas.clientWidth - 90) / PER_ROW)));
+  const chain = tablesOnPath(), canvas = $("map"), cell = Math.max(5, Math.min(20, Math.floor((canvas.clientWidth - 90) / PER_ROW)));
   tables.cell = cell;
   tables.level = Math.min(tables.level, Math.max(chain.length - 1, 0));
   const [pen] = sized(canvas, Math.max(chain.length, 1) * (8 * cell + 34) + 4);
@@ -113,7 +113,7 @@ function drawRights(pen, rights, x, y, size) {
   const bar = (size - 4) / 3, fills = [colours.unmap, colours.map, colours.resolve];
   for (let bit = 0; bit < 3; bit++) {
     const given = rights >> bit & 1;
-    pen.fillStyle = given ? fills[bit] : colours.line;
+    pen.fillStyle = given ? fills[bit] : colours.soft;
     pen.fillRect(x + 2 + bit * bar + 0.4, given ? y + 2 : y + size - 3.5, Math.max(bar - 0.8, 1), given ? size - 4 : 1.5);
   }
 }
