@@ -188,6 +188,27 @@ OF_FAULT = (of_format, of_thread_open, of_no_such_call, of_answered_twice, of_no
             of_stray_frame, of_differs)
 
 
+# what each fault tells of most often (docs/RECORDING.md)
+TELLS = {
+    of_thread_open: "of the hook: a thread has two calls open",
+    of_no_such_call: "of the hook: a reply to a call that wasn't made",
+    of_answered_twice: "of a reply that is sent again, as when a request is retried whose answer was only late",
+    of_not_an_update: "of the hook: a place is told of a read",
+    of_placed_twice: "of the hook: a place is told twice",
+    of_not_placed: "of a reply that went out with a place which another update got",
+    of_past_log: "of the hook: a read says that it saw more than there is",
+    of_early: "of a read of a replica that lags; or of a stamp drawn outside of its call",
+    of_wrong_answer: "of an update that was lost, a translation that was kept, or places taken in another order than the updates were made",
+    of_prefix_past_log: "of an applied count that isn't the dump's",
+    of_prefix_short: "of an applied count that isn't the dump's",
+    of_missing_frame: "of a table that was freed while its parent's entry stayed",
+    of_shared_frame: "of a table that is linked at two entries: an alias that nobody mapped",
+    of_reserved_bit: "of a large page made of a frame that isn't its first: bits below its size are set",
+    of_stray_frame: "of a table that was unlinked, and not given back",
+    of_differs: "of tables that have other pages or rights than the calls were answered",
+}
+
+
 def evidence(trace, verdict):
     """What a verdict marks in its trace; another form of a verdict takes the place of this function alone."""
     words = verdict.split("\n")[0].split()
@@ -196,4 +217,6 @@ def evidence(trace, verdict):
     fault, numbers = OF_FAULT[int(words[1]) - 1], words[3:]
     if (fault is of_format) != (trace.broken is not None):
         raise LookupError
-    return fault(trace, *(numbers if fault is of_format else [int(number, 0) for number in numbers]))
+    found = fault(trace, *(numbers if fault is of_format else [int(number, 0) for number in numbers]))
+    found.facts += [f"Most often this tells {TELLS[fault]}."] if fault in TELLS else []
+    return found

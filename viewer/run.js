@@ -191,7 +191,7 @@ function drawCalls(pen, width, place, lane, thread) {
   let last = -1;
   for (let index = firstFrom(reach, picture.from - 1); index < lane.length && lane[index] < picture.to; index++) {
     const call = lane[index], left = toX(call + 0.12, width), right = toX(endOf(call) + 0.88, width);
-    if (right < last + 1 && !(call in told.calls)) continue;
+    if (right < last + 2 && !(call in told.calls)) continue;
     last = Math.max(last, right);
     if (few && !isUpdate(call)) arrow(pen, place, width, call, colours.soft, 0.8);
     const nested = index > 0 && reach[index - 1] > call;
@@ -229,6 +229,18 @@ function drawMarks(pen, width, place) {
   for (const call of run.marked) frame(pen, width, place, call, colours.fault, true);
   for (const event of told.marked) markEvent(pen, width, place, event);
   if (picture.selected >= 0) frame(pen, width, place, picture.selected, colours.focus, false);
+  if (told.broken !== null) drawBreak(pen, width, place);
+}
+
+/** Where bytes that are no trace break, after the last event that could be read. */
+function drawBreak(pen, width, place) {
+  const x = toX(told.events, width);
+  pen.fillStyle = colours.fault;
+  pen.fillRect(x, place.top, 3, place.height);
+  pen.font = "700 12px system-ui, sans-serif";
+  pen.textAlign = x > width - 200 ? "right" : "left";
+  pen.fillText(`breaks at byte ${told.broken}`, x > width - 200 ? x - 6 : x + 8, place.top - 8);
+  pen.textAlign = "left";
 }
 
 /** A frame around a call; that of a marked one has a flag at its left end. */

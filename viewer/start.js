@@ -21,7 +21,6 @@ function startDumps() {
   $("dumps").hidden = !readable;
   if (!readable) return;
   tables.frames = told.dumps.map(dump => new Map(dump.frames));
-  told.dumps.forEach(dump => { dump.root = Number(dump.root); });
   if (told.replica !== null) for (const path of told.paths) for (const [frame, index] of path) tables.marked.add(`${told.replica}:${frame}:${index}`);
   $("replicas").replaceChildren(...told.dumps.slice(0, readable).map((_, replica) => {
     const button = element("button", `Replica ${replica}`);

@@ -18,12 +18,13 @@ function meaning(frame, index, level) {
   return { kind: "table", rights, target };
 }
 
+const rootOf = replica => Number(told.dumps[replica].root);
 const hasFrame = frame => tables.frames[tables.replica].has(frame);
 
 /** The tables on the chosen path, the root first: each with its level, frame, first address and rights so far. */
 function tablesOnPath() {
   const chain = [];
-  let frame = told.dumps[tables.replica].root, address = 0n, rights = 7;
+  let frame = rootOf(tables.replica), address = 0n, rights = 7;
   for (let level = told.levels; level > 0 && hasFrame(frame); level--) {
     const index = tables.path[told.levels - level] ?? firstPresent(frame, level);
     const entry = meaning(frame, index, level);
@@ -60,7 +61,7 @@ function drawMap() {
   const [pen] = sized(canvas, Math.max(chain.length, 1) * (8 * cell + 34) + 4);
   chain.forEach((table, depth) => drawTable(pen, table, depth, cell));
   if (chain.length) $("cell").textContent = describeEntry(chain[tables.level], chain[tables.level].index);
-  else pen.fillText(`the root, frame ${hex(told.dumps[tables.replica].root)}, is missing`, 12, 20);
+  else pen.fillText(`the root, frame ${told.dumps[tables.replica].root}, is missing`, 12, 20);
   $("cell").hidden = !chain.length;
 }
 
@@ -211,10 +212,9 @@ function itemOf(table, entry, index, after, red) {
 }
 
 function makeTree() {
-  const root = told.dumps[tables.replica].root, parts = [];
-  const text = frame => `Level ${told.levels}: the root, frame ${hex(frame)}`;
-  if (hasFrame(root)) parts.push(branch({ level: told.levels, frame: root, address: 0n, rights: 7 }, text(root), false));
-  else parts.push(element("p", text(root) + ", is missing", "here"));
+  const root = rootOf(tables.replica), parts = [], text = `Level ${told.levels}: the root, frame ${told.dumps[tables.replica].root}`;
+  if (hasFrame(root)) parts.push(branch({ level: told.levels, frame: root, address: 0n, rights: 7 }, text, false));
+  else parts.push(element("p", text + ", is missing", "here"));
   if (told.verdict.includes("StrayFrame") && told.replica === tables.replica) {
     parts.push(branch({ level: 1, frame: told.frame, address: 0n, rights: 7 }, `Frame ${hex(told.frame)}, to which no table leads; as a table of level 1`, true));
   }
@@ -238,7 +238,7 @@ function showReplica(replica) {
   tables.path = replica === told.replica && told.paths.length ? told.paths[told.paths.length - 1].map(([, index]) => index) : [];
   tables.level = Math.max(0, tables.path.length - 1);
   const dump = told.dumps[replica];
-  $("dump-says").textContent = `Replica ${replica} had applied ${plural(dump.applied, "entry").replace("entrys", "entries")} of the log; its dump has ${plural(dump.frames.length, "frame")}, the root is frame ${hex(dump.root)}.`;
+  $("dump-says").textContent = `Replica ${replica} had applied ${plural(dump.applied, "entry").replace("entrys", "entries")} of the log; its dump has ${plural(dump.frames.length, "frame")}, the root is frame ${dump.root}.`;
   [...$("replicas").children].forEach((button, index) => button.setAttribute("aria-pressed", index === replica));
   drawMap();
   makeTree();
