@@ -30,7 +30,8 @@ def of_yes(trace, order):
 
 def of_format(trace, name, *_):
     return Evidence(f"These bytes are no trace: {trace.broken.why}.",
-                    [f"The format fault is {name}. The bytes break at offset {trace.broken.offset} ({trace.broken.offset:#x}).",
+                    [f"The format fault is {name}. The bytes break at offset {trace.broken.offset} ({trace.broken.offset:#x}); "
+                     f"from there on they are: {trace.data[trace.broken.offset:][:24].hex(' ', 4) or 'none'}.",
                      f"Up to there stand {many(len(trace.log), 'place')} of the log, {many(len(trace.events), 'event')} and "
                      f"{many(sum(len(dump.frames) for dump in trace.dumps), 'frame')}."])
 
@@ -90,8 +91,8 @@ def of_not_placed(trace, index):
 
 def of_past_log(trace, index):
     _, call, at = trace.events[index]
-    return Evidence(f"Event {index} says that call {call} saw {many(at, 'entry')} of the log, "
-                    f"which has {len(trace.log)}.", [sentence(trace.call_text(call))], {call: "saw more than there is"}, [index])
+    return Evidence(f"Event {index} says that call {call} saw {many(at, 'entry')} of the log, which has {len(trace.log)}.",
+                    [sentence(trace.call_text(call))], {call: "saw more than there is"}, [index])
 
 
 def of_early(trace, number):
@@ -100,7 +101,8 @@ def of_early(trace, number):
     reply = trace.events[-index]
     stands = f"stands at place {own} of the log" if trace.is_update(number) else f"saw {many(own, 'entry')} of the log"
     return Evidence(f"Call {number} {stands}, but before it was made a reply had told of {many(floor, 'entry')}.",
-                    [f"Too early: {trace.call_text(number)}.", f"Told before: event {-index}, the reply to {trace.call_text(reply.call)}."],
+                    [f"Too early: {trace.call_text(number)}.",
+                     f"Told before: event {-index}, the reply to {trace.call_text(reply.call)}."],
                     {reply.call: "its reply tells how much has to be seen", number: "stands too early"}, [-index],
                     [floor - 1] + [own] * trace.is_update(number))
 
@@ -119,8 +121,8 @@ def of_wrong_answer(trace, number):
     space = Space(trace, count)
     right, size = space.answer(call), BYTES[call.size] if call.kind == MAP else 1
     places, facts, calls = latest_updates(trace, space, call.address, call.address + size)
-    return Evidence(f"Call {number} was told \u201c{answer_words(reply.answer)}\u201d; the address space after the {many(count, 'update')} before it "
-                    f"answers \u201c{answer_words(right)}\u201d.",
+    return Evidence(f"Call {number} was told \u201c{answer_words(reply.answer)}\u201d; the address space after the "
+                    f"{many(count, 'update')} before it answers \u201c{answer_words(right)}\u201d.",
                     [f"The call: {trace.call_text(number)}.", *facts], calls | {number: "is answered wrongly"}, [index], places)
 
 
@@ -130,10 +132,11 @@ def of_prefix_past_log(trace, replica):
 
 
 def of_prefix_short(trace, replica):
-    known, index = max((trace.known_by(reply), -index) for index, reply in trace.replies if trace.events[reply.call].replica == replica)
-    reply = trace.events[-index]
-    return Evidence(f"The dump of replica {replica} has applied {many(trace.dumps[replica].applied, 'entry')}, but a reply given there tells of "
-                    f"{known}.", [f"It is event {-index}, the reply to {trace.call_text(reply.call)}."],
+    given = [(index, reply) for index, reply in trace.replies if trace.events[reply.call].replica == replica]
+    known, index = max((trace.known_by(reply), -index) for index, reply in given)
+    reply, applied = trace.events[-index], many(trace.dumps[replica].applied, "entry")
+    return Evidence(f"The dump of replica {replica} has applied {applied}, but a reply given there tells of {known}.",
+                    [f"It is event {-index}, the reply to {trace.call_text(reply.call)}."],
                     {reply.call: f"its reply tells of {many(known, 'entry')}"}, [-index], [known - 1], replica)
 
 
@@ -183,9 +186,9 @@ def of_differs(trace, replica, address):
                     [*made, *facts, *map(step_words, path)], calls, [], places, replica, paths=[path])
 
 
-OF_FAULT = (of_format, of_thread_open, of_no_such_call, of_answered_twice, of_not_an_update, of_placed_twice, of_not_placed, of_past_log,
-            of_early, of_wrong_answer, of_prefix_past_log, of_prefix_short, of_missing_frame, of_shared_frame, of_reserved_bit,
-            of_stray_frame, of_differs)
+OF_FAULT = (of_format, of_thread_open, of_no_such_call, of_answered_twice, of_not_an_update, of_placed_twice, of_not_placed,
+            of_past_log, of_early, of_wrong_answer, of_prefix_past_log, of_prefix_short, of_missing_frame, of_shared_frame,
+            of_reserved_bit, of_stray_frame, of_differs)    # by number, from 1 on
 
 
 # what each fault tells of most often (docs/RECORDING.md)
@@ -198,7 +201,7 @@ TELLS = {
     of_not_placed: "of a reply that went out with a place which another update got",
     of_past_log: "of the hook: a read says that it saw more than there is",
     of_early: "of a read of a replica that lags; or of a stamp drawn outside of its call",
-    of_wrong_answer: "of an update that was lost, a translation that was kept, or places taken in another order than the updates were made",
+    of_wrong_answer: "of an update that was lost, a translation that was kept, or places taken in another order than the work",
     of_prefix_past_log: "of an applied count that isn't the dump's",
     of_prefix_short: "of an applied count that isn't the dump's",
     of_missing_frame: "of a table that was freed while its parent's entry stayed",

@@ -115,7 +115,8 @@ function indexLog() {
     let after = first + 1;
     while (after < order.length && bounds[after] <= left) after++;
     const next = after < order.length ? bounds[after] : told.events, room = Math.max(0.6, Math.min(next, latest[first]) - left - 0.4);
-    for (let k = first; k < after; k++) putMember(order[k], callOf(order[k]), left + 0.2 + room * (k - first) / (after - first), 0.85 * room / (after - first));
+    const wide = room / (after - first);
+    for (let k = first; k < after; k++) putMember(order[k], callOf(order[k]), left + 0.2 + wide * (k - first), 0.85 * wide);
     first = after;
   }
 }

@@ -33,9 +33,10 @@ def call_words(call):
 
 
 def answer_words(answer):
-    page = f"{answer.value:#x} {SIZES[answer.size]} {rights_words(answer.rights)}"
-    return ("done", f"overlap {answer.value:#x}", f"full {answer.value}", f"removed {page}", "not mapped", f"inside {answer.value:#x}",
-            f"changed {rights_words(answer.rights)}", f"mapped {page}", f"allowed {answer.value:#x}",
+    rights = rights_words(answer.rights)
+    page = f"{answer.value:#x} {SIZES[answer.size]} {rights}"
+    return ("done", f"overlap {answer.value:#x}", f"full {answer.value}", f"removed {page}", "not mapped",
+            f"inside {answer.value:#x}", f"changed {rights}", f"mapped {page}", f"allowed {answer.value:#x}",
             f"fault {answer.value}")[answer.code]
 
 
@@ -85,8 +86,8 @@ class Trace:
         self.version, = self.unit("the version", ">H")
         expect(self.version in (1, 2), 4, f"the version is {self.version}: there are 1 and 2")
         *counts, places, events = self.unit("the counts", ">BBHHII")
-        limits = (("levels", 4, 3 + self.version), ("replicas", 1, 4), ("threads", 1, 64), ("tables", 1, 4096), ("places", 0, 65536),
-                  ("events", 0, 131072))
+        limits = (("levels", 4, 3 + self.version), ("replicas", 1, 4), ("threads", 1, 64), ("tables", 1, 4096),
+                  ("places", 0, 65536), ("events", 0, 131072))
         for (name, least, most), count in zip(limits, (*counts, places, events)):
             expect(least <= count <= most, 6, f"the number of {name} is {count}, and has to be {least} to {most}")
         self.levels, self.replicas, self.threads, self.tables = counts
@@ -118,11 +119,11 @@ class Trace:
                 return f"version {self.version} has no answer {code}"
             used = ANSWER_FIELDS[code]
         most = 1 if unit[0] == 0 and event.kind == ACCESS else 7
-        unused = [name for name in ("size", "rights", "address", "physical", "value") if name not in used and getattr(fields, name, 0)]
-        if size > 2 or rights > most or zero or unused:
-            return (f"its size code {size} is above 2" if size > 2 else f"its rights {rights} are above {most}" if rights > most else
-                    f"it doesn't use its {unused[0]}, which has to be 0" if unused else "its spare bytes have to be 0")
-        why = self.malformed(event) if unit[0] == 0 else None
+        names = ("size", "rights", "address", "physical", "value")
+        unused = [name for name in names if name not in used and getattr(fields, name, 0)]
+        checks = ((size > 2, f"its size code {size} is above 2"), (rights > most, f"its rights {rights} are above {most}"),
+                  (unused, f"it doesn't use its {' and '.join(unused)}, to be left 0"), (zero, "its spare bytes have to be 0"))
+        why = next((why for wrong, why in checks if wrong), None) or (self.malformed(event) if unit[0] == 0 else None)
         if not why:
             self.events.append(event)
         return why
@@ -141,13 +142,13 @@ class Trace:
     def read_dumps(self):
         for replica in range(self.replicas):
             applied, count, root = self.unit(f"the head of dump {replica}", ">IIQ")
-            expect(1 <= count <= 4096, self.offset - 16, f"dump {replica} has {many(count, 'frame')}, and has to have 1 to 4,096")
+            expect(1 <= count <= 4096, self.offset - 16, f"dump {replica} has {many(count, 'frame')}, and needs 1 to 4,096")
             self.dumps.append(Dump(applied, root, {}))
             last = -1
             for place in range(count):
                 number, = self.unit(f"the number of frame {place} of dump {replica}", ">Q")
-                expect(last < number < 1 << 40, self.offset - 8,
-                       f"frame {place} of dump {replica} has the number {number:#x}, which isn't above the one before and below 2^40")
+                expect(last < number < 1 << 40, self.offset - 8, f"frame {place} of dump {replica} has the number {number:#x}, "
+                       "which has to be above the one before and below 2^40")
                 self.unit(f"the words of frame {place} of dump {replica}", ">4096s")
                 self.dumps[replica].frames[number] = self.offset - 4096
                 last = number

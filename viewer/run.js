@@ -6,7 +6,8 @@ let colours = {}, waiting = false;
 
 function readColours() {
   const style = getComputedStyle(document.documentElement);
-  for (const name of ["paper", "panel", "ink", "soft", "line", "lane", "fault", ...KINDS, "on-box", "focus"]) colours[name] = style.getPropertyValue("--" + name).trim();
+  const names = ["paper", "panel", "ink", "soft", "line", "lane", "fault", "on-box", "focus", ...KINDS];
+  for (const name of names) colours[name] = style.getPropertyValue("--" + name).trim();
 }
 
 function sized(canvas, height) {
@@ -25,8 +26,8 @@ function sized(canvas, height) {
 function layOut() {
   const threads = run.lanes.length, above = Math.ceil(threads / 2), logHeight = 22 + 11 * told.dumps.length;
   const usual = Math.max(11, Math.min(38, Math.floor((window.innerHeight * 0.62 - 90) / threads)));
-  const loud = new Set(run.marked.map(threadOf)), tops = [], heights = run.lanes.map((_, thread) => loud.has(thread) ? Math.max(usual, 26) : usual);
-  const top = OVERVIEW + AXIS;
+  const loud = new Set(run.marked.map(threadOf)), tops = [], top = OVERVIEW + AXIS;
+  const heights = run.lanes.map((_, thread) => loud.has(thread) ? Math.max(usual, 26) : usual);
   let y = top, log = 0;
   heights.forEach((height, thread) => {
     tops.push(y);
@@ -101,7 +102,7 @@ function niceStep(least) {
 }
 
 function drawOverview(pen, width) {
-  const whole = width - LABELS - 8, part = event => LABELS + event / Math.max(told.events, 1) * whole;
+  const whole = width - LABELS - 8, part = event => LABELS + Math.min(1, Math.max(0, event / Math.max(told.events, 1))) * whole;
   pen.fillStyle = colours.panel;
   pen.fillRect(LABELS, 2, whole, OVERVIEW - 4);
   pen.fillStyle = colours.soft;
@@ -187,7 +188,8 @@ function arrow(pen, place, width, call, colour, thick) {
 }
 
 function drawCalls(pen, width, place, lane, thread) {
-  const reach = run.reach[thread], y = place.tops[thread], tall = place.heights[thread], few = (picture.to - picture.from) / run.lanes.length < 60;
+  const reach = run.reach[thread], y = place.tops[thread], tall = place.heights[thread];
+  const few = (picture.to - picture.from) / run.lanes.length < 60;
   let last = -1;
   for (let index = firstFrom(reach, picture.from - 1); index < lane.length && lane[index] < picture.to; index++) {
     const call = lane[index], left = toX(call + 0.12, width), right = toX(endOf(call) + 0.88, width);
@@ -216,9 +218,10 @@ function drawBox(pen, call, left, width, top, height) {
 }
 
 function drawLabel(pen, call, left, y, width, tall, colour) {
-  const letter = KINDS[kindOf(call)][0].toUpperCase(), start = Math.max(left, LABELS) + 5 + (call in told.calls && width > 40 ? FLAG : 0), room = left + width - start - 4;
+  const letter = KINDS[kindOf(call)][0].toUpperCase(), answer = "\u2192 " + answerText(run.reply[call]);
+  const start = Math.max(left, LABELS) + 5 + (call in told.calls && width > 40 ? FLAG : 0), room = left + width - start - 4;
   pen.font = `600 ${Math.min(12, tall - 1)}px system-ui, sans-serif`;
-  const texts = [`${letter} ${call}  ${requestText(call)} \u2192 ${answerText(run.reply[call])}`, `${letter} ${call} \u2192 ${answerText(run.reply[call])}`, `${letter} ${call}`, letter];
+  const texts = [`${letter} ${call}  ${requestText(call)} ${answer}`, `${letter} ${call} ${answer}`, `${letter} ${call}`, letter];
   const text = texts.find(each => pen.measureText(each).width <= room);
   pen.fillStyle = colour;
   if (text) pen.fillText(text, start, y + tall / 2 + 1);
@@ -245,8 +248,8 @@ function drawBreak(pen, width, place) {
 
 /** A frame around a call; that of a marked one has a flag at its left end. */
 function frame(pen, width, place, call, colour, flag) {
-  const y = place.tops[threadOf(call)], tall = place.heights[threadOf(call)], left = toX(call + 0.12, width), right = toX(endOf(call) + 0.88, width);
-  const out = flag ? 0 : 3;
+  const y = place.tops[threadOf(call)], tall = place.heights[threadOf(call)], out = flag ? 0 : 3;
+  const left = toX(call + 0.12, width), right = toX(endOf(call) + 0.88, width);
   pen.strokeStyle = pen.fillStyle = colour;
   pen.lineWidth = flag ? 3 : 2;
   pen.strokeRect(left - out, y + 1.5 - out / 2, Math.max(right - left, 3) + 2 * out, tall - 3 + out);
@@ -297,7 +300,8 @@ function select(call) {
 
 function describe(call) {
   const reply = run.reply[call], fields = [["Call", call], ["Asks", requestText(call)], ["Answer", answerText(reply)],
-    ["Thread", threadOf(call)], ["Replica", replicaOf(call)], ["Events", reply < 0 ? `made at ${call}, not answered` : `made at ${call}, answered at ${reply}`]];
+    ["Thread", threadOf(call)], ["Replica", replicaOf(call)],
+    ["Events", `made at ${call}, ` + (reply < 0 ? "not answered" : `answered at ${reply}`)]];
   if (run.place[call] >= 0) fields.push(["Place in the log", run.place[call]]);
   if (reply >= 0) fields.push([isUpdate(call) ? "Place that its reply says" : "Entries that it saw", atOf(reply)]);
   if (call in told.calls) fields.push(["Marked", told.calls[call]]);
@@ -348,13 +352,18 @@ function nextMarked() {
 
 function stepCall(by) {
   const call = picture.selected;
-  if (call < 0) return select(run.lanes.flatMap(lane => lane.slice(firstFrom(lane, picture.from), firstFrom(lane, picture.from) + 1)).sort((a, b) => a - b)[0] ?? -1);
+  if (call < 0) return selectFirst();
   const lane = run.lanes[threadOf(call)], index = firstFrom(lane, call) + by;
   if (lane[index] !== undefined) select(lane[index]);
 }
 
+/** Chooses the first call that is made in view. */
+function selectFirst() {
+  for (let event = Math.max(0, Math.ceil(picture.from)); event < told.events; event++) if (isCall(event)) return select(event);
+}
+
 function stepThread(by) {
-  if (picture.selected < 0) return stepCall(0);
+  if (picture.selected < 0) return selectFirst();
   for (let thread = threadOf(picture.selected) + by; run.lanes[thread]; thread += by) {
     const lane = run.lanes[thread];
     if (lane.length) return select(lane[Math.min(firstFrom(lane, picture.selected), lane.length - 1)]);
@@ -362,7 +371,8 @@ function stepThread(by) {
 }
 
 const RUN_KEYS = {
-  "+": () => zoom(0.5), "=": () => zoom(0.5), "-": () => zoom(2), "0": () => show(0, told.events), "f": () => show(...told.view), "m": nextMarked,
+  "+": () => zoom(0.5), "=": () => zoom(0.5), "-": () => zoom(2),
+  "0": () => show(0, told.events), "f": () => show(...told.view), "m": nextMarked,
   "ArrowLeft": () => stepCall(-1), "ArrowRight": () => stepCall(1), "ArrowUp": () => stepThread(-1), "ArrowDown": () => stepThread(1),
   "PageUp": () => move(-0.5), "PageDown": () => move(0.5), "Home": () => show(0, picture.to - picture.from),
   "End": () => show(told.events - (picture.to - picture.from), told.events),

@@ -2,8 +2,8 @@
 import bisect
 import collections
 
-from reading import (ALLOWED, Answer, ACCESS, BYTES, CHANGED, DONE, FAULT, FULL, INSIDE, MAP, MAPPED, NOT_MAPPED, OVERLAP, REMOVED,
-                       RESOLVE, SIZES, UNMAP, answer_words, rights_words)
+from reading import (ACCESS, ALLOWED, Answer, BYTES, CHANGED, DONE, FAULT, FULL, INSIDE, MAP, MAPPED, NOT_MAPPED, OVERLAP,
+                     REMOVED, RESOLVE, UNMAP, answer_words, rights_words)
 
 Page = collections.namedtuple("Page", "base size rights physical place")        # place: of the update that made it so
 Step = collections.namedtuple("Step", "level frame index word")                 # of a path through the tables
@@ -12,7 +12,7 @@ Step = collections.namedtuple("Step", "level frame index word")                 
 # ---- the one sequential address space ----
 
 class Space:
-    """The pages after the first updates of the log, each with the place that made it so; and which update touched which pages."""
+    """The pages after the first updates of the log, each with the place that made it so; and which update changed which page."""
 
     def __init__(self, trace, count):
         self.levels, self.limit = trace.levels, trace.tables
@@ -46,7 +46,9 @@ class Space:
             return Answer(MAPPED, page.size, page.rights, page.physical + call.address - page.base)
         if page.base != call.address:
             return Answer(INSIDE, value=page.base)
-        return Answer(REMOVED, page.size, page.rights, page.physical) if call.kind == UNMAP else Answer(CHANGED, rights=page.rights)
+        if call.kind == UNMAP:
+            return Answer(REMOVED, page.size, page.rights, page.physical)
+        return Answer(CHANGED, rights=page.rights)
 
     def answer_to_map(self, call, page):
         index = bisect.bisect_left(self.bases, call.address)
@@ -135,8 +137,8 @@ def paths_to(trace, dump, wanted):
 
 def step_words(step):
     what, where, rights = meaning(step.word, step.level)
-    leads = {"page": f"a page at {where:#x}, {rights_words(rights)}", "table": f"a table in frame {where:#x}, {rights_words(rights)}",
-             "reserved": "a reserved bit is set", "absent": "absent"}
+    leads = {"page": f"a page at {where:#x}, {rights_words(rights)}", "reserved": "a reserved bit is set",
+             "table": f"a table in frame {where:#x}, {rights_words(rights)}", "absent": "absent"}
     return f"Level {step.level}: entry {step.index} of frame {step.frame:#x} is {step.word:#x}: {leads[what]}."
 
 

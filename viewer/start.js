@@ -9,11 +9,19 @@ function makeLegend() {
     return item;
   };
   const kinds = KINDS.map(kind => entry(kind[0].toUpperCase(), kind, `var(--${kind})`, true));
-  $("legend").replaceChildren(...kinds, entry("U", "refused or nothing there: hollow", "var(--unmap)"), entry("", "no answer: dashed, open to the end", "var(--soft)"),
-    entry("!", "marked: red frame and flag, a diamond for a reply", "var(--fault)"), entry("\u2193", "to its place in the log; dashed: a read, between the entries that it saw and the others", "var(--soft)"));
+  $("legend").replaceChildren(...kinds,
+    entry("U", "refused or nothing there: hollow", "var(--unmap)"),
+    entry("", "no answer: dashed, open to the end", "var(--soft)"),
+    entry("!", "marked: red frame and flag, a diamond for a reply", "var(--fault)"),
+    entry("\u2193", "to its place in the log; dashed: a read, between the entries that it saw and the others", "var(--soft)"));
   $("legend").children[KINDS.length + 1].firstChild.style.borderStyle = "dashed";
-  $("map-legend").replaceChildren(entry("\u25be", "table", "var(--line)"), entry("w", "page that may be written: left bar", "var(--unmap)", true), entry("u", "by users: middle bar", "var(--map)", true),
-    entry("x", "executed: right bar", "var(--resolve)", true), entry("!", "reserved bit", "var(--fault)"), entry("", "red frame: on the marked way", "var(--fault)"));
+  $("map-legend").replaceChildren(
+    entry("\u25be", "table", "var(--line)"),
+    entry("w", "page that may be written: left bar", "var(--unmap)", true),
+    entry("u", "by users: middle bar", "var(--map)", true),
+    entry("x", "executed: right bar", "var(--resolve)", true),
+    entry("!", "reserved bit", "var(--fault)"),
+    entry("\u00a0", "red frame: on the marked way", "var(--fault)"));
 }
 
 function startDumps() {
@@ -21,7 +29,7 @@ function startDumps() {
   $("dumps").hidden = !readable;
   if (!readable) return;
   tables.frames = told.dumps.map(dump => new Map(dump.frames));
-  if (told.replica !== null) for (const path of told.paths) for (const [frame, index] of path) tables.marked.add(`${told.replica}:${frame}:${index}`);
+  for (const [frame, index] of told.paths.flat()) tables.marked.add(`${told.replica}:${frame}:${index}`);
   $("replicas").replaceChildren(...told.dumps.slice(0, readable).map((_, replica) => {
     const button = element("button", `Replica ${replica}`);
     button.addEventListener("click", () => showReplica(replica));

@@ -42,14 +42,18 @@ function firstPresent(frame, level) {
   return 0;
 }
 
-const canonical = address => address >> BigInt(11 + 9 * told.levels) ? address + (1n << 64n) - (1n << BigInt(12 + 9 * told.levels)) : address;
+const high = () => (1n << 64n) - (1n << BigInt(12 + 9 * told.levels));
+const canonical = address => address >> BigInt(11 + 9 * told.levels) ? address + high() : address;
 const entryAddress = (table, index) => canonical(table.address + (BigInt(index) << entryBits(table.level)));
 
 function describeEntry(table, index) {
-  const entry = meaning(table.frame, index, table.level), where = `level ${table.level}, frame ${hex(table.frame)}, entry ${index}, from ${hex(entryAddress(table, index))}: `;
-  if (entry.kind === "page") return where + `page of ${SIZES[table.level - 1]} at ${hex(entry.target)}, rights ${rightsText(entry.rights)}, with the tables above ${rightsText(entry.rights & table.rights)}`;
-  if (entry.kind === "table") return where + `table in frame ${hex(entry.target)}` + (hasFrame(entry.target) ? "" : ", which is missing") + `, rights ${rightsText(entry.rights)}`;
-  return where + WORDS[entry.kind];
+  const entry = meaning(table.frame, index, table.level), rights = `rights ${rightsText(entry.rights)}`;
+  const where = `level ${table.level}, frame ${hex(table.frame)}, entry ${index}, from ${hex(entryAddress(table, index))}: `;
+  const missing = entry.kind === "table" && !hasFrame(entry.target) ? ", which is missing" : "";
+  if (entry.kind === "table") return where + `table in frame ${hex(entry.target)}${missing}, ${rights}`;
+  if (entry.kind !== "page") return where + WORDS[entry.kind];
+  const joined = rightsText(entry.rights & table.rights);
+  return where + `page of ${SIZES[table.level - 1]} at ${hex(entry.target)}, ${rights}, with the tables above ${joined}`;
 }
 
 const isMarkedEntry = (frame, index) => tables.marked.has(`${tables.replica}:${frame}:${index}`);
@@ -61,7 +65,8 @@ function drawMap() {
   const [pen] = sized(canvas, Math.max(chain.length, 1) * (8 * cell + 34) + 4);
   chain.forEach((table, depth) => drawTable(pen, table, depth, cell));
   if (chain.length) $("cell").textContent = describeEntry(chain[tables.level], chain[tables.level].index);
-  else pen.fillText(`the root, frame ${told.dumps[tables.replica].root}, is missing`, 12, 20);
+  pen.fillStyle = colours.fault;
+  if (!chain.length) pen.fillText(`the root, frame ${told.dumps[tables.replica].root}, is missing`, 12, 20);
   $("cell").hidden = !chain.length;
 }
 
@@ -69,8 +74,8 @@ function drawTable(pen, table, depth, cell) {
   const top = depth * (8 * cell + 34) + 24, last = canonical(table.address + (512n << entryBits(table.level)) - 1n);
   pen.font = "600 12px system-ui, sans-serif";
   pen.fillStyle = colours.ink;
-  const size = ["4K", "2M", "1G", "512G", "256T"][table.level - 1];
-  pen.fillText(`Level ${table.level}, frame ${hex(table.frame)}: ${hex(depth ? entryAddress(table, 0) : 0)} to ${hex(last)}, ${size} an entry`, 12, top - 12);
+  const size = ["4K", "2M", "1G", "512G", "256T"][table.level - 1], first = hex(entryAddress(table, 0));
+  pen.fillText(`Level ${table.level}, frame ${hex(table.frame)}: ${first} to ${hex(last)}, ${size} an entry`, 12, top - 12);
   if (!depth) {
     pen.font = "11px system-ui, sans-serif";
     pen.fillStyle = colours.soft;
@@ -78,13 +83,15 @@ function drawTable(pen, table, depth, cell) {
     pen.fillText("high half", PER_ROW * cell + 22, top + 6 * cell);
     pen.fillRect(12, top + 4 * cell - 1, PER_ROW * cell + 64, 1.5);
   }
-  for (let index = 0; index < 512; index++) drawCell(pen, table, index, 12 + index % PER_ROW * cell, top + Math.floor(index / PER_ROW) * cell, cell);
+  for (let index = 0; index < 512; index++) {
+    drawCell(pen, table, index, 12 + index % PER_ROW * cell, top + Math.floor(index / PER_ROW) * cell, cell);
+  }
   outlineCell(pen, table.index, top, cell, depth === tables.level ? colours.focus : colours.ink);
 }
 
 function drawCell(pen, table, index, x, y, cell) {
   const entry = meaning(table.frame, index, table.level), inside = cell - 2;
-  pen.fillStyle = entry.kind === "absent" ? colours.panel : entry.kind === "table" ? colours.line : entry.kind === "reserved" ? colours.fault : colours.paper;
+  pen.fillStyle = { absent: colours.panel, table: colours.line, reserved: colours.fault, page: colours.paper }[entry.kind];
   pen.fillRect(x + 1, y + 1, inside, inside);
   if (entry.kind === "page") drawRights(pen, entry.rights & table.rights, x + 1, y + 1, inside);
   if (entry.kind === "table") {
@@ -193,21 +200,23 @@ function entriesOf(table) {
 
 /** The entry maps the page that comes after those from the first one on, with the same rights. */
 function follows(table, first, index, after) {
-  const next = meaning(table.frame, after, table.level);
-  return next.kind === "page" && next.rights === first.rights && next.target === first.target + (after - index) * 2 ** (3 + 9 * table.level) && !isMarkedEntry(table.frame, after);
+  const next = meaning(table.frame, after, table.level), target = first.target + (after - index) * 2 ** (3 + 9 * table.level);
+  return next.kind === "page" && next.rights === first.rights && next.target === target && !isMarkedEntry(table.frame, after);
 }
 
 function itemOf(table, entry, index, after, red) {
   const item = element("li"), from = hex(entryAddress(table, index)), mark = red ? " \u25c0 marked" : "";
   const rights = entry.kind === "page" || entry.kind === "table" ? " " + rightsText(entry.rights) : "";
   if (entry.kind === "table" && hasFrame(entry.target)) {
-    const below = { level: table.level - 1, frame: entry.target, address: table.address + (BigInt(index) << entryBits(table.level)), rights: table.rights & entry.rights };
+    const address = table.address + (BigInt(index) << entryBits(table.level));
+    const below = { level: table.level - 1, frame: entry.target, address, rights: table.rights & entry.rights };
     item.append(branch(below, `${index}: ${from} table in frame ${hex(entry.target)}${rights}${mark}`, red));
     return item;
   }
-  const many = after - index > 1 ? `${index} to ${after - 1}: ${from}, ${after - index} pages` : `${index}: ${from} ${WORDS[entry.kind]}`;
-  const what = entry.kind === "page" ? `${many} of ${SIZES[table.level - 1]} at ${hex(entry.target)}` : entry.kind === "table" ? `${many} in frame ${hex(entry.target)}, which is missing` : many;
-  item.append(element("div", what + rights + mark, red || entry.kind === "reserved" ? "here leaf" : "leaf"));
+  const which = after - index > 1 ? `${index} to ${after - 1}: ${from}, ${after - index} pages` : `${index}: ${from} ${WORDS[entry.kind]}`;
+  const more = entry.kind === "page" ? ` of ${SIZES[table.level - 1]} at ${hex(entry.target)}`
+    : entry.kind === "table" ? ` in frame ${hex(entry.target)}, which is missing` : "";
+  item.append(element("div", which + more + rights + mark, red || entry.kind === "reserved" ? "here leaf" : "leaf"));
   return item;
 }
 
@@ -216,7 +225,8 @@ function makeTree() {
   if (hasFrame(root)) parts.push(branch({ level: told.levels, frame: root, address: 0n, rights: 7 }, text, false));
   else parts.push(element("p", text + ", is missing", "here"));
   if (told.verdict.includes("StrayFrame") && told.replica === tables.replica) {
-    parts.push(branch({ level: 1, frame: told.frame, address: 0n, rights: 7 }, `Frame ${hex(told.frame)}, to which no table leads; as a table of level 1`, true));
+    const stray = `Frame ${hex(told.frame)}, to which no table leads; as a table of level 1`;
+    parts.push(branch({ level: 1, frame: told.frame, address: 0n, rights: 7 }, stray, true));
   }
   $("tree").replaceChildren(...parts);
   openMarked($("tree"), 0);
@@ -238,7 +248,8 @@ function showReplica(replica) {
   tables.path = replica === told.replica && told.paths.length ? told.paths[told.paths.length - 1].map(([, index]) => index) : [];
   tables.level = Math.max(0, tables.path.length - 1);
   const dump = told.dumps[replica];
-  $("dump-says").textContent = `Replica ${replica} had applied ${plural(dump.applied, "entry").replace("entrys", "entries")} of the log; its dump has ${plural(dump.frames.length, "frame")}, the root is frame ${dump.root}.`;
+  const applied = `${dump.applied.toLocaleString("en")} of ${plural(told.places, "place")} of the log`;
+  $("dump-says").textContent = `Replica ${replica} had applied ${applied}; its dump has ${plural(dump.frames.length, "frame")}, the root is frame ${dump.root}.`;
   [...$("replicas").children].forEach((button, index) => button.setAttribute("aria-pressed", index === replica));
   drawMap();
   makeTree();
