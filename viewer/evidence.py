@@ -214,12 +214,13 @@ TELLS = {
 
 def evidence(trace, verdict):
     """What a verdict marks in its trace; another form of a verdict takes the place of this function alone."""
-    words = verdict.split("\n")[0].split()
-    if words == ["yes"]:
-        return of_yes(trace, verdict.split("\n")[1].split()[1:])
-    fault, numbers = OF_FAULT[int(words[1]) - 1], words[3:]
-    if (fault is of_format) != (trace.broken is not None):
+    lines = verdict.splitlines()
+    words = lines[0].split()
+    if (words[2:3] == ["Format"]) != (trace.broken is not None):
         raise LookupError
+    if words == ["yes"]:
+        return of_yes(trace, next(line.split()[1:] for line in lines if line.startswith("order")))
+    fault, numbers = OF_FAULT[int(words[1]) - 1], words[3:]
     found = fault(trace, *(numbers if fault is of_format else [int(number, 0) for number in numbers]))
     found.facts += [f"Most often this tells {TELLS[fault]}."] if fault in TELLS else []
     return found

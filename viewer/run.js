@@ -6,8 +6,14 @@ let colours = {}, waiting = false;
 
 function readColours() {
   const style = getComputedStyle(document.documentElement);
-  const names = ["paper", "panel", "ink", "soft", "line", "lane", "fault", "on-box", "focus", ...KINDS];
+  const names = ["paper", "panel", "ink", "soft", "line", "lane", "fault", "focus", ...KINDS];
   for (const name of names) colours[name] = style.getPropertyValue("--" + name).trim();
+}
+
+/** Black or white, whichever is told apart better on a colour #rrggbb. */
+function inkOn(colour) {
+  const [red, green, blue] = [1, 3, 5].map(at => (parseInt(colour.slice(at, at + 2), 16) / 255) ** 2.2);
+  return 0.2126 * red + 0.7152 * green + 0.0722 * blue > 0.18 ? "#101215" : "#ffffff";
 }
 
 function sized(canvas, height) {
@@ -150,7 +156,7 @@ function drawEntry(pen, width, place, entry, cells, arrows) {
   }
   const label = String(entry);
   if (right - left > 7 * label.length + 4) {
-    pen.fillStyle = colours["on-box"];
+    pen.fillStyle = inkOn(isCall(call) ? colours[KINDS[kindOf(call)]] : colours.fault);
     pen.font = "600 11px system-ui, sans-serif";
     pen.fillText(label, left + 4, top + 10);
   }
@@ -214,7 +220,7 @@ function drawBox(pen, call, left, width, top, height) {
     pen.strokeRect(left + thick / 2, y + thick / 2, width - thick, tall - thick);
     pen.setLineDash([]);
   }
-  if (tall >= 8 && width > 13) drawLabel(pen, call, left, y, width, tall, hollow ? colours.ink : colours["on-box"]);
+  if (tall >= 8 && width > 13) drawLabel(pen, call, left, y, width, tall, hollow ? colours.ink : inkOn(colour));
 }
 
 function drawLabel(pen, call, left, y, width, tall, colour) {

@@ -2,26 +2,26 @@
 
 function makeLegend() {
   const entry = (sign, text, colour, full) => {
-    const item = element("li"), box = element("i", sign, full ? "full" : "");
-    box.style.borderColor = colour;
-    if (full) box.style.background = colour;
+    const item = element("li"), box = element("i", sign);
+    box.style.borderColor = `var(--${colour})`;
+    if (full) Object.assign(box.style, { background: `var(--${colour})`, color: inkOn(colours[colour]) });
     item.append(box, text);
     return item;
   };
-  const kinds = KINDS.map(kind => entry(kind[0].toUpperCase(), kind, `var(--${kind})`, true));
+  const kinds = KINDS.map(kind => entry(kind[0].toUpperCase(), kind, kind, true));
   $("legend").replaceChildren(...kinds,
-    entry("U", "refused or nothing there: hollow", "var(--unmap)"),
-    entry("", "no answer: dashed, open to the end", "var(--soft)"),
-    entry("!", "marked: red frame and flag, a diamond for a reply", "var(--fault)"),
-    entry("\u2193", "to its place in the log; dashed: a read, between the entries that it saw and the others", "var(--soft)"));
+    entry("U", "refused or nothing there: hollow", "unmap"),
+    entry("", "no answer: dashed, open to the end", "soft"),
+    entry("!", "marked: red frame and flag, a diamond for a reply", "fault"),
+    entry("\u2193", "to its place in the log; dashed: a read, between the entries that it saw and the others", "soft"));
   $("legend").children[KINDS.length + 1].firstChild.style.borderStyle = "dashed";
   $("map-legend").replaceChildren(
-    entry("\u25be", "table", "var(--line)"),
-    entry("w", "page that may be written: left bar", "var(--unmap)", true),
-    entry("u", "by users: middle bar", "var(--map)", true),
-    entry("x", "executed: right bar", "var(--resolve)", true),
-    entry("!", "reserved bit", "var(--fault)"),
-    entry("\u00a0", "red frame: on the marked way", "var(--fault)"));
+    entry("\u25be", "table", "line"),
+    entry("w", "page that may be written: left bar", "unmap", true),
+    entry("u", "by users: middle bar", "map", true),
+    entry("x", "executed: right bar", "resolve", true),
+    entry("!", "reserved bit", "fault"),
+    entry("\u00a0", "red frame: on the marked way", "fault"));
 }
 
 function startDumps() {
@@ -72,6 +72,7 @@ function pressHash() {
 
 function repaint() {
   readColours();
+  makeLegend();
   drawRun();
   if (!$("dumps").hidden) drawMap();
 }
@@ -79,7 +80,6 @@ function repaint() {
 async function start() {
   await openBytes();
   readColours();
-  makeLegend();
   startRun();
   startDumps();
   pressHash();
