@@ -322,6 +322,8 @@ function describe(call) {
 
 const plural = (count, noun) => `${count.toLocaleString("en")} ${noun}${count === 1 ? "" : "s"}`;
 
+const isAddress = text => /^0x[0-9a-f]{1,16}$/i.test(text);
+
 /** The calls that a text means: a call's number, a thread, or an address. */
 function hitsOf(text) {
   const thread = /^t(?:hread)?\s*(\d+)$/i.exec(text), number = /^(?:call\s*)?(\d+)$/i.exec(text);
@@ -330,7 +332,7 @@ function hitsOf(text) {
     const event = Number(number[1]), call = event < told.events && !isCall(event) ? answeredBy(event) : event;
     return isCall(call) ? [call] : [];
   }
-  if (!/^0x[0-9a-f]{1,16}$/i.test(text)) return [];
+  if (!isAddress(text)) return [];
   const address = BigInt(text), hits = [];
   for (let event = 0; event < told.events; event++) if (isCall(event) && isOver(event, address)) hits.push(event);
   return hits;
@@ -348,7 +350,10 @@ function find() {
     picture.hit = (picture.hit + 1) % picture.hits.length;
     select(picture.hits[picture.hit]);
   }
-  $("hits").textContent = picture.hits.length ? `${picture.hit + 1} of ${plural(picture.hits.length, "call")}` : "no such call";
+  const mapped = isAddress(text) && !$("dumps").hidden;
+  if (mapped) showAddress(BigInt(text));
+  const calls = picture.hits.length ? `${picture.hit + 1} of ${plural(picture.hits.length, "call")}` : "no such call";
+  $("hits").textContent = calls + (mapped ? "; the map below shows the address" : "");
 }
 
 function nextMarked() {

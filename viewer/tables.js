@@ -141,6 +141,14 @@ function choose(level, index) {
   drawMap();
 }
 
+/** Leads the map to an address. */
+function showAddress(address) {
+  tables.path = [];
+  for (let level = told.levels; level > 0; level--) tables.path.push(Number(address >> entryBits(level) & 511n));
+  tables.level = told.levels;
+  drawMap();
+}
+
 const chosen = () => (tablesOnPath()[tables.level] || { index: 0 }).index;
 
 function choosePresent() {
