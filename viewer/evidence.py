@@ -111,7 +111,7 @@ def latest_updates(trace, space, start, end):
     """The latest updates that changed a page there: their places, facts and roles."""
     places = space.latest(start, end)
     facts = [f"Place {place}: {trace.call_text(trace.log[place])}." for place in places]
-    return (places, facts or ["No update before it changed a page there."],
+    return (places, facts or ["Up to there no update changed a page at this address."],
             {trace.log[place]: f"changed the page there, at place {place}" for place in reversed(places)})
 
 
@@ -189,7 +189,6 @@ def of_differs(trace, replica, address):
 OF_FAULT = (of_format, of_thread_open, of_no_such_call, of_answered_twice, of_not_an_update, of_placed_twice, of_not_placed,
             of_past_log, of_early, of_wrong_answer, of_prefix_past_log, of_prefix_short, of_missing_frame, of_shared_frame,
             of_reserved_bit, of_stray_frame, of_differs)    # by number, from 1 on
-
 
 # what each fault tells of most often (docs/RECORDING.md)
 TELLS = {

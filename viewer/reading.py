@@ -10,7 +10,6 @@ SIZES = ("4K", "2M", "1G")
 CALL_FIELDS = ("size rights address physical", "address", "rights address", "address", "size rights address")    # used, by kind
 ANSWER_FIELDS = ("", "value", "value", "size rights value", "", "value", "rights", "size rights value", "value", "value")
 
-
 Call = collections.namedtuple("Call", "replica thread kind size rights address physical")
 Reply = collections.namedtuple("Reply", "answer call at")
 Answer = collections.namedtuple("Answer", "code size rights value", defaults=(0, 0, 0))
