@@ -1,12 +1,16 @@
-//! Lists of 200 steps from a fixed seed: the auditor says yes to the recording of each.
+//! Lists of 200 steps from a seed: the auditor says yes to the recording of each.
+//!
+//! The environment's LISTS may say how many lists there are, and its SEED from which number they are drawn.
 ghost use Rattle.std.specs.Prelude.{◌<◌, map};
 ghost use Rattle.nr_core.specs.Run.{AreScripts};
 
 use crate::scripts::{assert_scripts, order_of, step};
 use nr_core::{Act, Core, Step, run_steps};
 use nr_trace::{Trace, write};
-use std::alloc::Global;
+use std::alloc::{Alloc, Global};
+use std::env;
 use std::process::Abort;
+use std::rt::Env;
 use std::test::Fail;
 use vs_types::{Access, Config, Depth, Memory, Mode, Op, Request, Rights, Size};
 
@@ -233,21 +237,32 @@ fn one_list(
     Ok(())
 }
 
+/// A number of the environment, or this one.
+fn number_of<R: Env + Alloc + Abort>(rt: &R, name: &str, otherwise: u64) -> u64 {
+    match env::var(rt, name) {
+        Ok(text) => text.as_str().parse::<u64>().expect(rt, "a number"),
+        Err(_) => otherwise,
+    }
+}
+
 #[test]
 fn a_thousand_lists(rt: HostRuntime) -> Result<(), Fail> {
-    let mut draws = Draws { state: 1 };
+    let lists = number_of(&rt, "LISTS", 1000);
+    let mut draws = Draws {
+        state: number_of(&rt, "SEED", 1),
+    };
     let mut counts = Counts {
         enabled: [0; 12],
         refused: [0; 12],
     };
-    for _ in 0..1000 {
+    for _ in 0..lists {
         one_list(&rt, rt.alloc(), &mut draws, &mut counts)?;
     }
     println!(rt; "enabled {:?}", counts.enabled)?;
     println!(rt; "refused {:?}", counts.refused)?;
     for kind in 0..12 {
-        assert!(rt; counts.enabled[kind] >= 500, "kind {kind}");
-        assert!(rt; counts.refused[kind] >= 500, "kind {kind}");
+        assert!(rt; counts.enabled[kind] >= lists / 2, "kind {kind}");
+        assert!(rt; counts.refused[kind] >= lists / 2, "kind {kind}");
     }
     Ok(())
 }

@@ -2,4 +2,5 @@ pub mod Words
 pub mod Requests
 pub mod Lines
 pub mod Script
+pub mod Examples
 pub mod inside

@@ -1,6 +1,7 @@
 //! The reader of scripts: what each thread asks, and the steps of a schedule.
 #![tactic(auto)]
 
+pub mod examples;
 pub mod laws;
 mod line;
 mod parts;
