@@ -2,7 +2,7 @@
 use Rattle.std.proofs.Common.{◌≡◌, ◌≢◌, ℕ, zero, suc, ◌+◌, ◌-◌, ◌%◌, ◌<◌, ◌≤◌, eqb, Bool, true, false, if◌then◌else◌, nat_le, List, [], ◌∷◌, ◌++◌, map, length, get_or, set, sym, refl, ap, ◌∙◌, subst, ⊎_elim, inl, inr, arith, le_refl, length-set}
 use Rattle.std.proofs.Common.{get_or-set_other, get_or-set_same, eq-eqb, ne_eqb}
 use mathlib.Core.Logic.{dite}
-use mathlib.Core.Option.{Option, none, some, some-injective, some-ne-none}
+use mathlib.Core.Option.{none, some, some-injective, some-ne-none}
 use mathlib.Core.List.{map-append}
 use native.Mathlib.Decide.{ℕ_discrete}
 use lib.ListN.{get_elem?}
@@ -13,7 +13,7 @@ use Rattle.version_cell.specs.declared.stage.Doing.{Doing}
 use Rattle.version_cell.specs.declared.stage.Stage.{Stage}
 use Rattle.version_cell.specs.declared.stage.Stage.TheVariants.{Idle, Seen, Writing}
 use Rattle.crossbeam_utils.specs.Register.{TurnsAt, Turns, Forks, Merges}
-use Rattle.version_cell.specs.inside.Versions.{Holds, Knows, Versioned, client, doing}
+use Rattle.version_cell.specs.inside.Versions.{Knows, Versioned, client, doing}
 use Rattle.version_cell.specs.inside.Steps.{Checked, GrewTo, Peeked, Published, Taken, Written, checked, later, looked, peeked, published, put, taken}
 use Rattle.atomic_table.proofs.Lists.{at_set, set_again, at_snoc, at_map}
 

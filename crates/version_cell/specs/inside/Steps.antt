@@ -5,7 +5,7 @@ use Rattle.atomic_table.specs.Table.{Me, Step}
 use Rattle.atomic_table.specs.declared.shared.Seat.{Seat}
 use Rattle.version_cell.specs.declared.stage.Doing.{Doing}
 use Rattle.version_cell.specs.declared.stage.Stage.{Stage}
-use Rattle.version_cell.specs.declared.stage.Stage.TheVariants.{Idle, Seen, Writing}
+use Rattle.version_cell.specs.declared.stage.Stage.TheVariants.{Seen, Writing}
 
 -- words are those of before, or an exchange has made them older
 abbrev pub IsLater : (List ℕ → ℕ) → ℕ → List ℕ → ℕ → List ℕ → Type 0

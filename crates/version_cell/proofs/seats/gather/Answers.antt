@@ -1,6 +1,5 @@
 use Rattle.std.proofs.Common.{rules}
 use Rattle.version_cell.proofs.Keeps.{peeks}
-use Rattle.version_cell.proofs.Readings.{gathers_one, gathers_none}
 use Rattle.version_cell.proofs.seats.gather.Goals as goal
 
 pub load-requires : goal.load-requires
