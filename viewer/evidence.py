@@ -76,16 +76,15 @@ def of_placed_twice(trace, place):
 
 def of_not_placed(trace, index):
     _, call, at = trace.events[index]
-    there = f"call {trace.log[at]}" if at < len(trace.log) else f"no place {at}"
     own = trace.log.index(call) if call in trace.log else None
+    there = trace.log[at] if at < len(trace.log) else None
     calls = {call: f"says that it stands at place {at}"}
-    if at < len(trace.log):
-        calls[trace.log[at]] = f"stands at place {at}"
-    where = "nowhere" if own is None else f"at place {own}"
-    return Evidence(f"Event {index} says that call {call} stands at place {at}, but the log has {there} there.",
-                    [f"The log has call {call} {where}.", *(f"It is {role}: {trace.call_text(n)}." for n, role in calls.items()
-                                                           if trace.is_call(n) and n != call)],
-                    {n: role for n, role in calls.items() if trace.is_call(n)}, [index],
+    facts = [f"The log has call {call} {'nowhere' if own is None else f'at place {own}'}.", sentence(trace.call_text(call))]
+    if there is not None and trace.is_call(there):
+        calls[there] = f"stands at place {at}"
+        facts.append(f"At place {at} stands {trace.call_text(there)}.")
+    return Evidence(f"Event {index} says that call {call} stands at place {at}, but the log has "
+                    f"{'no such place' if there is None else f'call {there} there'}.", facts, calls, [index],
                     [place for place in (at, own) if place is not None and place < len(trace.log)])
 
 
