@@ -24,8 +24,8 @@ use Rattle.nr_script.proofs.Alone.{one_accessed, one_alone, one_page, one_protec
 pub record Kind (name : Name) (words : List (List ℕ)) (A : Type 0) (make : A → Query) (Spelled : A → Type 0) : Type 0 where
   named : (a : A) → name_of (make a) ≡ name
   arguments : (a : A) → Spelled a → AreArguments words (make a)
-  made_of : (query : Query) → name_of query ≡ name → AreArguments words query → (a : A) × (query ≡ make a) × Spelled a
-  one : (a b : A) → Spelled a → Spelled b → a ≡ b
+  pub made_of : (query : Query) → name_of query ≡ name → AreArguments words query → (a : A) × (query ≡ make a) × Spelled a
+  pub one : (a b : A) → Spelled a → Spelled b → a ≡ b
 
 pair : {A B : Type 0} {a c : A} {b d : B} → a ≡ c → b ≡ d → ◌≡◌ {A = A × B} (a, b) (c, d)
 pair left right = cc

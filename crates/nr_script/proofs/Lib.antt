@@ -8,3 +8,4 @@ pub mod InLines
 pub mod Gathered
 pub mod Shares
 pub mod OneReading
+pub mod OneScript

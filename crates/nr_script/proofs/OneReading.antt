@@ -38,17 +38,17 @@ passed_over line first second others (inl empty) same =
 passed_over line first second others (inr comment) same =
     begins 35 (words comment.0) first (second ∷ others) (ap words (sym comment.1) ∙ same)
 
-not_request : (depth : Depth) (line : List ℕ) (thread : ℕ) (query : Query) → IsPassedOver line → Says depth line (says.Request thread query) → ⊥
+pub not_request : (depth : Depth) (line : List ℕ) (thread : ℕ) (query : Query) → IsPassedOver line → Says depth line (says.Request thread query) → ⊥
 not_request depth line thread query over said =
     let first = passed_over line (decimal thread) _ said.arguments over said.words_are in
     no_mark thread first.0 said.thread_fits (sym first.1)
 
-not_step : (depth : Depth) (line : List ℕ) (step : Step) → IsPassedOver line → Says depth line (says.Step step) → ⊥
+pub not_step : (depth : Depth) (line : List ℕ) (step : Step) → IsPassedOver line → Says depth line (says.Step step) → ⊥
 not_step depth line step over said =
     let first = passed_over line (codes "step") _ said.acts over said.words_are in
     omega (arith, ap (λ (text : List ℕ). get_or text 0 0) first.1)
 
-not_both : (depth : Depth) (line : List ℕ) (thread : ℕ) (query : Query) (step : Step) → Says depth line (says.Request thread query) → Says depth line (says.Step step) → ⊥
+pub not_both : (depth : Depth) (line : List ℕ) (thread : ℕ) (query : Query) (step : Step) → Says depth line (says.Request thread query) → Says depth line (says.Step step) → ⊥
 not_both depth line thread query step request said =
     let joined = sym said.words_are ∙ request.words_are in
     not_number thread request.thread_fits (cc joined)

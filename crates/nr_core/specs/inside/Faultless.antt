@@ -153,16 +153,26 @@ abbrev pub AreCollected : Layout → List Event → List LogEntry → ℕ → Li
 AreCollected layout events log completed replicas threads = (r : ℕ) (replica : Replica) (update : Collected) → At replicas r replica → In update replica.batch
     → IsCollected layout events log completed replicas threads r replica.placed update
 
--- of each reachable state
+-- of each state that steps can reach, whatever they are
 pub record IsReached (state : State) : Type 0 where
+  -- each call is open or answered, none is answered twice, and a thread makes one after the other
   pub calls : AreCalls state.events state.threads
+  -- each reply answers a call before it, and rightly
   pub replies : AreReplies state.layout state.events state.log state.completed state.replicas
+  -- what the stage of a thread says of its open call is so
   pub threads : (t : ℕ) (thread : Thread) → At state.threads t thread
       → FitsStage state.layout state.events state.log state.completed state.replicas t thread.stage
+  -- a call that no combiner has taken does not stand in the log
   pub waiting : (t : ℕ) (thread : Thread) (call : ℕ) → At state.threads t thread → waiting_in thread.stage ≡ Some call → IsFresh state.log call
+  -- each entry of the log is the call of an update, and stands behind all that was known when that was made
   pub entries : AreEntries state.events state.log
+  -- no call stands at two places of the log
   pub distinct : IsDistinct nat_eq (calls_of state.log)
+  -- the log has all that is completed
   pub completed : state.completed ≤ length state.log
+  -- each replica has the space after what it has applied; it has fetched that, and what it has fetched is completed
   pub replicas : (r : ℕ) (replica : Replica) → At state.replicas r replica → IsReplicaOf state.layout state.log state.completed replica
+  -- each update of a batch is taken from a thread of that replica, and the answer that is noted for it is right
   pub collected : AreCollected state.layout state.events state.log state.completed state.replicas state.threads
+  -- no call stands twice in a batch
   pub batches : (r : ℕ) (replica : Replica) → At state.replicas r replica → IsDistinct nat_eq (map (λ update. update.entry.call) replica.batch)

@@ -1,0 +1,147 @@
+-- A line says one thing at most, and so a text is one script at most.
+use Rattle.std.proofs.Common.{◌≡◌, ℕ, ◌+◌, ◌*◌, ◌<◌, ◌==◌, List, [], ◌∷◌, decimal, drop, get_or, refl, sym, ap, ap₂, subst, ◌∙◌, arith}
+use Rattle.std.specs.Prelude.{if◌then◌else◌}
+use Rattle.std.specs.List.{fold, AllZip}
+use Rattle.std.proofs.lemmas.Fmt.{decimal_injective}
+use Rattle.vs_types.specs.declared.depth.Depth.{Depth}
+use Rattle.vs_types.specs.declared.request.Query.{Query}
+use Rattle.nr_core.specs.declared.step.Act.{Act}
+use Rattle.nr_core.specs.declared.step.Act.TheVariants.{Call, Post, Take, Collect, Append, Advance, Apply, Answer, Release, Look, Read, Reply}
+use Rattle.nr_core.specs.declared.step.Step.{Step}
+use Rattle.nr_script.specs.Lines.{act_number, act_words, Says, SpellsRequest, SpellsStep}
+use Rattle.nr_script.specs.Requests.{name_of, name_text, AreArguments}
+use Rattle.nr_script.specs.declared.line.Line.{Line}
+use Rattle.nr_script.specs.declared.line.Line.TheVariants as says
+use Rattle.nr_script.specs.declared.request.Name.{Name}
+use Rattle.nr_script.specs.declared.request.Name.TheVariants as names
+use Rattle.nr_script.proofs.ByName.{access_kind, map_kind, protect_kind, resolve_kind, unmap_kind, Kind}
+use Rattle.nr_script.proofs.OneReading.{not_both, not_request, not_step}
+
+-- the number that the letters of a word make, which tells the words of names and of acts apart
+abbrev word_number : List ℕ → ℕ
+word_number word = fold (λ number letter. number * 256 + letter) 0 word
+
+abbrev name_at : ℕ → Name
+name_at word =
+    if word == 0x6d6170 then names.Map
+    else if word == 0x756e6d6170 then names.Unmap
+    else if word == 0x70726f74656374 then names.Protect
+    else if word == 0x7265736f6c7665 then names.Resolve
+    else names.Access
+
+found_name : (name : Name) → name_at (word_number (name_text name)) ≡ name
+found_name names.Map = refl
+found_name names.Unmap = refl
+found_name names.Protect = refl
+found_name names.Resolve = refl
+found_name names.Access = refl
+
+same_name : (a b : Name) → name_text a ≡ name_text b → a ≡ b
+same_name a b same = sym (found_name a) ∙ ap (λ (word : List ℕ). name_at (word_number word)) same ∙ found_name b
+
+abbrev act_at : ℕ → ℕ → Act
+act_at word number =
+    if word == 0x63616c6c then Call
+    else if word == 0x706f7374 then Post
+    else if word == 0x74616b65 then Take number
+    else if word == 0x636f6c6c656374 then Collect number
+    else if word == 0x617070656e64 then Append
+    else if word == 0x616476616e6365 then Advance
+    else if word == 0x6170706c79 then Apply
+    else if word == 0x616e73776572 then Answer number
+    else if word == 0x72656c65617365 then Release
+    else if word == 0x6c6f6f6b then Look
+    else if word == 0x72656164 then Read
+    else Reply
+
+found_act : (act : Act) → act_at (word_number (get_or (act_words act) 0 [])) (act_number act) ≡ act
+found_act Call = refl
+found_act Post = refl
+found_act (Take replica) = refl
+found_act (Collect from) = refl
+found_act Append = refl
+found_act Advance = refl
+found_act Apply = refl
+found_act (Answer to) = refl
+found_act Release = refl
+found_act Look = refl
+found_act Read = refl
+found_act Reply = refl
+
+found_number : (act : Act) → get_or (act_words act) 1 (decimal 0) ≡ decimal (act_number act)
+found_number Call = refl
+found_number Post = refl
+found_number (Take replica) = refl
+found_number (Collect from) = refl
+found_number Append = refl
+found_number Advance = refl
+found_number Apply = refl
+found_number (Answer to) = refl
+found_number Release = refl
+found_number Look = refl
+found_number Read = refl
+found_number Reply = refl
+
+same_number : (n m : ℕ) → n < 64 → m < 64 → decimal n ≡ decimal m → n ≡ m
+same_number n m p q same = decimal_injective n m (omega arith) (omega arith) same
+
+same_act : (a b : Act) → act_words a ≡ act_words b → act_number a < 64 → act_number b < 64 → a ≡ b
+same_act a b same p q =
+    let words = ap (λ (parts : List (List ℕ)). get_or parts 0 []) same in
+    let numbers = sym (found_number a) ∙ ap (λ (parts : List (List ℕ)). get_or parts 1 (decimal 0)) same ∙ found_number b in
+    let number = same_number (act_number a) (act_number b) p q numbers in
+    sym (found_act a) ∙ ap₂ (λ (word : List ℕ) (of : ℕ). act_at (word_number word) of) words number ∙ found_act b
+
+same_of_kind : {A : Type 0} {make : A → Query} {Spelled : A → Type 0} (name : Name) (words : List (List ℕ)) → Kind name words A make Spelled
+    → (a b : Query) → name_of a ≡ name → name_of b ≡ name → AreArguments words a → AreArguments words b → a ≡ b
+same_of_kind {make = make} name words kind a b is_a is_b spelled_a spelled_b =
+    let first = kind.made_of a is_a spelled_a in
+    let second = kind.made_of b is_b spelled_b in
+    first.1 ∙ ap make (kind.one first.0 second.0 first.2 second.2) ∙ sym second.1
+
+same_query : (name : Name) (words : List (List ℕ)) (a b : Query) → name_of a ≡ name → name_of b ≡ name → AreArguments words a → AreArguments words b → a ≡ b
+same_query names.Map words = same_of_kind names.Map words (map_kind words)
+same_query names.Unmap words = same_of_kind names.Unmap words (unmap_kind words)
+same_query names.Protect words = same_of_kind names.Protect words (protect_kind words)
+same_query names.Resolve words = same_of_kind names.Resolve words (resolve_kind words)
+same_query names.Access words = same_of_kind names.Access words (access_kind words)
+
+same_request : (depth : Depth) (words : List (List ℕ)) (t s : ℕ) (a b : Query) → SpellsRequest depth words t a → SpellsRequest depth words s b
+    → says.Request t a ≡ says.Request s b
+same_request depth words t s a b p q =
+    let same = sym p.words_are ∙ q.words_are in
+    let thread = same_number t s p.thread_fits q.thread_fits (ap (λ (parts : List (List ℕ)). get_or parts 0 []) same) in
+    let name = same_name (name_of a) (name_of b) (ap (λ (parts : List (List ℕ)). get_or parts 1 []) same) in
+    let arguments : p.arguments ≡ q.arguments = ap (λ (parts : List (List ℕ)). drop 2 parts) same in
+    let spelled = subst (λ (parts : List (List ℕ)). AreArguments parts b) (sym arguments) q.arguments_are in
+    let query = same_query (name_of b) p.arguments a b name refl p.arguments_are spelled in
+    ap₂ (λ (thread : ℕ) (query : Query). says.Request thread query) thread query
+
+same_step : (words : List (List ℕ)) (a b : Step) → SpellsStep words a → SpellsStep words b → says.Step a ≡ says.Step b
+same_step words a b p q =
+    let same = sym p.words_are ∙ q.words_are in
+    let thread = same_number a.thread b.thread p.thread_fits q.thread_fits (ap (λ (parts : List (List ℕ)). get_or parts 1 []) same) in
+    let acts : p.acts ≡ q.acts = ap (λ (parts : List (List ℕ)). drop 2 parts) same in
+    let act = same_act a.act b.act (sym p.act_is.words_are ∙ acts ∙ q.act_is.words_are) p.act_is.number_fits q.act_is.number_fits in
+    let made : ℕ → Act → Line = λ thread act. says.Step (record { thread = thread; act = act }) in
+    ap₂ made thread act
+
+same_line : (depth : Depth) (line : List ℕ) (a b : Line) → Says depth line a → Says depth line b → a ≡ b
+same_line depth line says.PassedOver says.PassedOver p q = refl
+same_line depth line says.PassedOver (says.Request thread query) p q = absurd (not_request depth line thread query p q)
+same_line depth line says.PassedOver (says.Step step) p q = absurd (not_step depth line step p q)
+same_line depth line (says.Request thread query) says.PassedOver p q = absurd (not_request depth line thread query q p)
+same_line depth line (says.Request thread query) (says.Request other asked) p q = same_request depth _ thread other query asked p q
+same_line depth line (says.Request thread query) (says.Step step) p q = absurd (not_both depth line thread query step p q)
+same_line depth line (says.Step step) says.PassedOver p q = absurd (not_step depth line step q p)
+same_line depth line (says.Step step) (says.Request thread query) p q = absurd (not_both depth line thread query step q p)
+same_line depth line (says.Step step) (says.Step other) p q = same_step _ step other p q
+
+pub same_lines : (depth : Depth) (texts : List (List ℕ)) (a b : List Line) → AllZip (Says depth) texts a → AllZip (Says depth) texts b → a ≡ b
+same_lines depth [] [] [] p q = refl
+same_lines depth [] [] (y ∷ b) p q = absurd q
+same_lines depth [] (x ∷ a) b p q = absurd p
+same_lines depth (line ∷ texts) [] b p q = absurd p
+same_lines depth (line ∷ texts) (x ∷ a) [] p q = absurd q
+same_lines depth (line ∷ texts) (x ∷ a) (y ∷ b) p q =
+    ap₂ (λ (it : Line) (others : List Line). it ∷ others) (same_line depth line x y p.0 q.0) (same_lines depth texts a b p.1 q.1)
