@@ -1,8 +1,8 @@
 //! The same calls on the same log in plain Rust, with no proof, to compare with `ring_benchmark`:
-//!     rustc -O -C target-cpu=x86-64-v2 benchmarks/unverified_ring.rs && ./unverified_ring looks|appends THREADS CALLS [mutex|marked]
+//!     rustc -O -C target-cpu=x86-64-v2 benchmarks/unverified_ring.rs && ./unverified_ring looks|appends THREADS CALLS [mutex]
 //! The words of the log are those of its cell: the tail, the completed tail, four local tails, the number of replicas, and 16
-//! entries of two words. They lie in a sequence lock, or under a mutex; or in a sequence lock beside two counts of the exchanges, by
-//! which a pass knows that what it loaded is still there.
+//! entries of two words. They lie in a sequence lock, or under a mutex, beside their version, by which a pass knows whether what it
+//! loaded is still there.
 use std::sync::atomic::{AtomicU64, Ordering, fence};
 use std::sync::Mutex;
 use std::time::{Duration, Instant};
@@ -17,22 +17,8 @@ pub trait Cell: Sync {
     /// Puts other words there where the version is still that, and gives theirs.
     fn exchange(&self, version: u64, words: &Words) -> Option<u64>;
 
-    /// Whether the words with this mark are still there.
-    fn is_at(&self, _mark: Option<u64>) -> bool {
-        false
-    }
-
-    /// The mark of the words that are loaded after this call.
-    fn mark(&self) -> Option<u64> {
-        None
-    }
-
-    /// An exchange of words with this mark begins: the mark of the words after it.
-    fn begin(&self, _mark: Option<u64>) -> Option<u64> {
-        None
-    }
-
-    fn end(&self) {}
+    /// Whether the words of this version are still there.
+    fn is_at(&self, version: u64) -> bool;
 }
 
 /// The version is odd while a writer has the cell. A reader reads again if a writer came between.
@@ -71,45 +57,9 @@ impl Cell for SeqLock {
         self.version.store(version + 2, Ordering::Release);
         Some(version + 2)
     }
-}
 
-/// Each exchange raises `begun` before it and `ended` after it, as `RingLog` does.
-pub struct Marked {
-    begun: AtomicU64,
-    ended: AtomicU64,
-    cell: SeqLock,
-}
-
-impl Cell for Marked {
-    fn new(words: Words) -> Marked {
-        Marked { begun: AtomicU64::new(0), ended: AtomicU64::new(0), cell: SeqLock::new(words) }
-    }
-
-    fn load(&self) -> (u64, Words) {
-        self.cell.load()
-    }
-
-    fn exchange(&self, version: u64, words: &Words) -> Option<u64> {
-        self.cell.exchange(version, words)
-    }
-
-    fn is_at(&self, mark: Option<u64>) -> bool {
-        mark == Some(self.begun.load(Ordering::SeqCst))
-    }
-
-    fn mark(&self) -> Option<u64> {
-        let ended = self.ended.load(Ordering::SeqCst);
-        let begun = self.begun.load(Ordering::SeqCst);
-        (ended == begun).then_some(begun)
-    }
-
-    fn begin(&self, mark: Option<u64>) -> Option<u64> {
-        let begun = self.begun.fetch_add(1, Ordering::SeqCst);
-        (mark == Some(begun)).then_some(begun + 1)
-    }
-
-    fn end(&self) {
-        self.ended.fetch_add(1, Ordering::SeqCst);
+    fn is_at(&self, version: u64) -> bool {
+        self.version.load(Ordering::Acquire) == version
     }
 }
 
@@ -131,6 +81,10 @@ impl Cell for Locked {
         }
         *found = (version + 1, *words);
         Some(version + 1)
+    }
+
+    fn is_at(&self, version: u64) -> bool {
+        self.0.lock().unwrap().0 == version
     }
 }
 
@@ -166,38 +120,29 @@ pub struct Pass {
     replica: usize,
     version: u64,
     words: Words,
-    mark: Option<u64>,
 }
 
 impl<C: Cell> Log<C> {
     pub fn new(replicas: usize) -> (Log<C>, Vec<Pass>) {
         let mut words = [0; WORDS];
         words[6] = replicas as u64;
-        let passes = (0..=replicas).map(|replica| Pass { replica, version: 0, words, mark: Some(0) }).collect();
+        let passes = (0..=replicas).map(|replica| Pass { replica, version: 0, words }).collect();
         (Log { cell: C::new(words) }, passes)
     }
 
+    /// Loads the cell only where it has other words than the pass.
     pub fn look(&self, pass: &mut Pass) -> Tails {
-        if !self.cell.is_at(pass.mark) {
-            self.load(pass);
+        if !self.cell.is_at(pass.version) {
+            (pass.version, pass.words) = self.cell.load();
         }
         let words = &pass.words;
         Tails { tail: words[0], completed: words[1], local: [words[2], words[3], words[4], words[5]] }
     }
 
-    fn load(&self, pass: &mut Pass) {
-        pass.mark = self.cell.mark();
-        (pass.version, pass.words) = self.cell.load();
-    }
-
     fn exchange(&self, pass: &mut Pass, words: &Words) -> bool {
-        let mark = self.cell.begin(pass.mark);
         let left = self.cell.exchange(pass.version, words);
-        self.cell.end();
-        pass.mark = None;
         match left {
-            Some(version) if mark.is_some() => (pass.version, pass.words, pass.mark) = (version, *words, mark),
-            Some(_) => {}
+            Some(version) => (pass.version, pass.words) = (version, *words),
             None => {
                 self.look(pass);
             }
@@ -206,8 +151,7 @@ impl<C: Cell> Log<C> {
     }
 
     pub fn append(&self, pass: &mut Pass, batch: &[Entry]) -> Result<u64, Fault> {
-        self.load(pass);
-        let tail = pass.words[0];
+        let tail = self.look(pass).tail;
         let end = tail + batch.len() as u64;
         if end > 65_536 {
             return Err(Fault::LogEnded);
@@ -353,10 +297,8 @@ fn main() {
     let kind = words.get(4).map_or("", |word| word.as_str());
     let (name, time) = match (words[1].as_str(), kind) {
         ("looks", "") => ("look", looks::<SeqLock>(threads, calls)),
-        ("looks", "marked") => ("look", looks::<Marked>(threads, calls)),
         ("looks", "mutex") => ("look", looks::<Locked>(threads, calls)),
         ("appends", "") => ("append", appends::<SeqLock>(threads, calls)),
-        ("appends", "marked") => ("append", appends::<Marked>(threads, calls)),
         ("appends", "mutex") => ("append", appends::<Locked>(threads, calls)),
         _ => panic!("looks or appends"),
     };
