@@ -156,7 +156,7 @@ def public_calls():
 def calls_of(crate, file, exported, is_open):
     owner, is_trait = None, False
     text = file.read_text()
-    for item in re.finditer(r"^([ ]*)(pub(?:\(crate\))? |)(?:unsafe |const )*(fn|impl|trait|struct|enum)\b(?:<(?:[^<>{]|<[^<>{]*>)*>)? ?([^\n]*)|^\}", text, re.M):
+    for item in re.finditer(r"^([ ]*)(pub(?:\(crate\))? |)(?:unsafe |const )*(fn|impl|trait|struct|enum)\b(?:<(?:[^{<>]|<[^{<>]*>)*>)? ?([^\n]*)|^\}", text, re.M):
         indent, visible, kind, rest = item[1], item[2], item[3], item[4]
         if kind is None:
             owner = None

@@ -7,13 +7,6 @@ use Rattle.nr_ring.specs.declared.view.View.{View}
 use Rattle.nr_ring.specs.inside.Held.{Remembers}
 use Rattle.nr_ring.proofs.Passes.{longer, told_before}
 
--- what the look after a join tells, of the view that contracts see
-pub joined_looks : (depth : Depth) (replicas : ℕ) (words : List ℕ) (held copy between pass after : View) → between ≡ joined held copy → held ≡ pass
-    → Looks depth replicas words between after → Looks depth replicas words (joined pass copy) after
-joined_looks depth replicas words held copy between pass after first own looks =
-    let Is : View → Type 0 = λ v. Looks depth replicas words v after in
-    subst Is (first ∙ ap (λ (w : View). joined w copy) own) looks
-
 pub met : (depth : Depth) (replicas : ℕ) (told other after : View) → HasLooked depth replicas (joined told other) after
     → StartsWith after.seen other.seen × StartsWith after.seen told.seen
 met depth replicas told other after looked = (looked.told 0 [] (omega arith), looked.seen)

@@ -64,20 +64,6 @@ look_remembers depth replicas words words' replica before after is looks = recor
   told = told_before after before looks.looked.told_stays looks.looked.told;
 }
 
--- a pass whose words are still those of the cell has nothing more to see
-pub sees_no_more : (depth : Depth) (replicas : ℕ) (words : List ℕ) (replica : Option ℕ) (view : View) → Remembers depth replicas words replica view
-    → HasLooked depth replicas view view
-sees_no_more depth replicas words replica view is = record {
-  is_history = is.is_history;
-  seen = whole view.seen;
-  told = is.told;
-  advances = λ k d lt. nothing_since (slice_index_or view.owns k d) view.seen;
-  told_stays = refl;
-  mine = refl;
-  owns = refl;
-  rights = refl;
-}
-
 pub new_remembers : (depth : Depth) (replicas : ℕ) (replica : Option ℕ) → replicas ≤ 4 → IsBelow replicas replica
     → Remembers depth replicas (new_words replicas) replica (new_view (owned replica) 1)
 new_remembers depth replicas replica few below = record {

@@ -12,14 +12,14 @@ pub struct LogRule<J: LogName> {
 
 impl<J: LogName> CellRule<View> for LogRule<J> {
     ghost use Rattle.nr_ring.specs.Rule.{IsKept};
-    ghost use Rattle.nr_ring.specs.inside.Held.{age, new_view};
+    ghost use Rattle.nr_ring.specs.inside.Held.{progress, new_view};
     ghost use Rattle.std.specs.List.{range_with_len};
 
     ghost holds = { IsKept J.depth J.replicas J.passes };
 
     ghost first = { new_view (range_with_len 0 J.replicas) J.passes };
 
-    ghost age = { age };
+    ghost progress = { progress };
 }
 
 /// A look at the cell.

@@ -40,21 +40,21 @@ gathers_one words i found (Seen at last x) b c inside f g =
           ),
     )
 
-pub later_still : (age : List ℕ → ℕ) (a b c : ℕ) (x y z : List ℕ) → IsLater age a x b y → IsLater age b y c z → IsLater age a x c z
-later_still age a b c x y z (inl p) (inl q) = inl (q.0 ∙ p.0, q.1 ∙ p.1)
-later_still age a b c x y z (inl p) (inr q) = inr (subst (λ (l : List ℕ). age l < age z) p.1 q)
-later_still age a b c x y z (inr p) (inl q) = inr (subst (λ (l : List ℕ). age x < age l) (sym q.1) p)
-later_still age a b c x y z (inr p) (inr q) = inr (omega (arith, p, q))
+pub later_still : (progress : List ℕ → ℕ) (a b c : ℕ) (x y z : List ℕ) → IsLater progress a x b y → IsLater progress b y c z → IsLater progress a x c z
+later_still progress a b c x y z (inl p) (inl q) = inl (q.0 ∙ p.0, q.1 ∙ p.1)
+later_still progress a b c x y z (inl p) (inr q) = inr (subst (λ (l : List ℕ). progress l < progress z) p.1 q)
+later_still progress a b c x y z (inr p) (inl q) = inr (subst (λ (l : List ℕ). progress x < progress l) (sym q.1) p)
+later_still progress a b c x y z (inr p) (inr q) = inr (omega (arith, p, q))
 
-pub grows : (age : List ℕ → ℕ) (st : Stage) (at last : ℕ) (x : List ℕ) → GrewTo age st at x → Grown age st (Seen at last x)
-grows age Idle at last x g b y h = tt
-grows age (Seen a l z) at last x g b y h = later_still age a at b z x y g h
-grows age (Writing a old now) at last x g b y h = tt
+pub grows : (progress : List ℕ → ℕ) (st : Stage) (at last : ℕ) (x : List ℕ) → GrewTo progress st at x → Grown progress st (Seen at last x)
+grows progress Idle at last x g b y h = tt
+grows progress (Seen a l z) at last x g b y h = later_still progress a at b z x y g h
+grows progress (Writing a old now) at last x g b y h = tt
 
-pub grown_gathered : (age : List ℕ → ℕ) (count : ℕ) (words : List ℕ) (st after : Stage) → Gathered count words st after → Grown age st after
-grown_gathered age count words Idle after g = subst (λ (z : Stage). Grown age Idle z) (sym g) (λ at x h. h)
-grown_gathered age count words (Writing at old now) after g = subst (λ (z : Stage). Grown age (Writing at old now) z) (sym g) (λ b x h. h)
-grown_gathered age count words (Seen at last x) after g = subst (λ (z : Stage). Grown age (Seen at last x) z) (sym g.1) (λ b y h. h)
+pub grown_gathered : (progress : List ℕ → ℕ) (count : ℕ) (words : List ℕ) (st after : Stage) → Gathered count words st after → Grown progress st after
+grown_gathered progress count words Idle after g = subst (λ (z : Stage). Grown progress Idle z) (sym g) (λ at x h. h)
+grown_gathered progress count words (Writing at old now) after g = subst (λ (z : Stage). Grown progress (Writing at old now) z) (sym g) (λ b x h. h)
+grown_gathered progress count words (Seen at last x) after g = subst (λ (z : Stage). Grown progress (Seen at last x) z) (sym g.1) (λ b y h. h)
 
 -- where the version is the same before and after, the words that were loaded are those of the cell
 pub reads : {V : Type 0} (n : ℕ) (tells : V → List ℕ → List ℕ → V → Type 0) (r found : ℕ) (x words : List ℕ) (v w : V) (seen loaded after : Stage) → length words ≡ n → seen ≡ Seen r r x
@@ -66,7 +66,7 @@ reads {V} n tells r found x words v w seen loaded after long is gathered checked
     (equal, c.2 ∙ ap (λ (z : List ℕ). Seen r r z) (sym equal), subst (λ (z : List ℕ). tells v z z w) (sym equal) c.3)
 
 -- words of another version are later ones
-pub ages : (age : List ℕ → ℕ) (st : Stage) (at last r : ℕ) (x y : List ℕ) → st ≡ Seen at last x → GrewTo age st r y → r ≢ at → age x < age y
-ages age st at last r x y is grew other =
-    let g : IsLater age at x r y = subst (λ (z : Stage). GrewTo age z r y) is grew in
-    ⊎_elim (λ same. absurd (other same.0)) (λ older. older) g
+pub risen : (progress : List ℕ → ℕ) (st : Stage) (at last r : ℕ) (x y : List ℕ) → st ≡ Seen at last x → GrewTo progress st r y → r ≢ at → progress x < progress y
+risen progress st at last r x y is grew other =
+    let g : IsLater progress at x r y = subst (λ (z : Stage). GrewTo progress z r y) is grew in
+    ⊎_elim (λ same. absurd (other same.0)) (λ more. more) g

@@ -95,7 +95,7 @@ impl<V, P: CellRule<V>, const N: usize> VersionCell<V, P, N> {
         requires cell { pass.old.cell ≡ self.now }
         requires rule { Turns P.holds pass.old.number pass.old.view (λ x. x) M.then }
         ensures same { (pass.new.cell ≡ pass.old.cell) × (pass.new.number ≡ pass.old.number) }
-        ensures ages { P.age pass.old.words < P.age pass.new.words }
+        ensures rises { P.progress pass.old.words < P.progress pass.new.words }
         ensures rule { M.then pass.old.view pass.new.words pass.new.words pass.new.view }
     {
         pass.version = find::<M, R, V, P, N>(
@@ -120,13 +120,13 @@ impl<V, P: CellRule<V>, const N: usize> VersionCell<V, P, N> {
         requires cell { pass.old.cell ≡ self.now }
         requires rule { TurnsAt P.holds pass.old.number pass.old.view
             pass.old.words next.now E.then }
-        requires ages { P.age pass.old.words < P.age next.now }
+        requires rises { P.progress pass.old.words < P.progress next.now }
         requires look { Turns P.holds pass.old.number pass.old.view (λ x. x) M.then }
         ensures same { (pass.new.cell ≡ pass.old.cell) × (pass.new.number ≡ pass.old.number) }
         ensures rule { MatchBool result
             ((pass.new.words ≡ next.now)
             × E.then pass.old.view pass.old.words next.now pass.new.view)
-            ((P.age pass.old.words < P.age pass.new.words)
+            ((P.progress pass.old.words < P.progress pass.new.words)
             × M.then pass.old.view pass.new.words pass.new.words pass.new.view) }
     {
         let version = pass.version;

@@ -17,7 +17,7 @@ impl<V, P: CellRule<V>> TableRule<(), Doing<V>, Vec<u64>> for Versions<P> {
     ghost use Rattle.version_cell.specs.inside.Versions.{Versioned, doing};
     ghost use Rattle.version_cell.specs.declared.stage.Stage.TheVariants.{Seen};
 
-    ghost holds = { λ start. Versioned (length start.items) P.holds P.age };
+    ghost holds = { λ start. Versioned (length start.items) P.holds P.progress };
 
     ghost first = { λ start. doing (Seen 0 0 (drop 1 start.items)) P.first };
 }
@@ -28,7 +28,7 @@ pub(crate) struct Look<P> {
 }
 
 impl<V, P: CellRule<V>> Play<(), Doing<V>> for Look<P> {
-    ghost then = { looked P.age };
+    ghost then = { looked P.progress };
 }
 
 /// A load of one of the words.

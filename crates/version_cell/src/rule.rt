@@ -9,8 +9,8 @@ pub trait CellRule<V> {
     // The view of the first pass.
     ghost first: { V };
 
-    // The age of words. Each exchange raises it, so that words never come back.
-    ghost age: { List ℕ → ℕ };
+    // How far words have come. Each exchange raises it, so that words never come back.
+    ghost progress: { List ℕ → ℕ };
 }
 
 /// What a call tells its pass: of its view before, the words before and after, and its view after.

@@ -40,7 +40,7 @@ pub(crate) fn find<M: CellOutcome<V>, R: Wait, V, P: CellRule<V>, const N: usize
     ensures seat { IsSameSeat seat.old seat.new }
     ensures seen { seat.new.me.0.stage ≡ Seen result result words.new }
     ensures rule { M.then seat.old.me.0.client words.new words.new seat.new.me.0.client }
-    ensures ages { P.age words.old < P.age words.new }
+    ensures rises { P.progress words.old < P.progress words.new }
 {
     let backoff = Backoff::new();
     for _ in rt.forever() {
@@ -110,7 +110,7 @@ pub(crate) fn publish<M: CellOutcome<V>, V, P: CellRule<V>, const N: usize>(
     requires taken { (seat.old.me.0.stage ≡ Writing version words.old words.old)
         × (version + 1 < 2 ^ 64) }
     requires rule { TurnsAt P.holds seat.old.id seat.old.me.0.client words.old next.now M.then }
-    requires ages { P.age words.old < P.age next.now }
+    requires rises { P.progress words.old < P.progress next.now }
     ensures seat { IsSameSeat seat.old seat.new }
     ensures seen { (words.new ≡ next.now)
         × (seat.new.me.0.stage ≡ Seen (version + 1) (version + 1) next.now) }

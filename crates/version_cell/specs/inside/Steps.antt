@@ -7,14 +7,14 @@ use Rattle.version_cell.specs.declared.stage.Doing.{Doing}
 use Rattle.version_cell.specs.declared.stage.Stage.{Stage}
 use Rattle.version_cell.specs.declared.stage.Stage.TheVariants.{Seen, Writing}
 
--- words are those of before, or an exchange has made them older
+-- words are those of before, or have come further
 abbrev pub IsLater : (List ℕ → ℕ) → ℕ → List ℕ → ℕ → List ℕ → Type 0
-IsLater age at x at' x' = ((at' ≡ at) × (x' ≡ x)) ⊎ (age x < age x')
+IsLater progress at x at' x' = ((at' ≡ at) × (x' ≡ x)) ⊎ (progress x < progress x')
 
 -- the words of the stage, if it has any, were before these
 abbrev pub GrewTo : (List ℕ → ℕ) → Stage → ℕ → List ℕ → Type 0
-GrewTo age (Seen at last x) at' x' = IsLater age at x at' x'
-GrewTo age _ at' x' = Unit {0}
+GrewTo progress (Seen at last x) at' x' = IsLater progress at x at' x'
+GrewTo progress _ at' x' = Unit {0}
 
 -- one of the words was loaded: where the version is still that of what was seen, it is the word seen
 abbrev pub Peeked : ℕ → ℕ → Stage → Stage → Type 0
@@ -53,7 +53,7 @@ later a _ = a
 
 -- whatever the words of a stage grew to, those of an earlier stage grew to it
 abbrev pub Grown : (List ℕ → ℕ) → Stage → Stage → Type 0
-Grown age before after = (at : ℕ) (x : List ℕ) → GrewTo age after at x → GrewTo age before at x
+Grown progress before after = (at : ℕ) (x : List ℕ) → GrewTo progress after at x → GrewTo progress before at x
 
 abbrev Sat : Type 0 → Type 0
 Sat V = Me (Unit {0}) (Doing V)
@@ -74,8 +74,8 @@ module _ {V : Type 0} where
   Fits n p z start = (p.table_id ≡ z) × (z.words ≡ n + 1) × (length start ≡ n + 1)
 
   abbrev pub looked : (List ℕ → ℕ) → Step (Unit {0}) → Sat V → ℕ → Sat V → Type 0
-  looked age st m found m' =
-      IsSameView m m' × (found % 2 ≡ 0 → (x : List ℕ) × (m'.0.stage ≡ Seen found found x) × GrewTo age m.0.stage found x)
+  looked progress st m found m' =
+      IsSameView m m' × (found % 2 ≡ 0 → (x : List ℕ) × (m'.0.stage ≡ Seen found found x) × GrewTo progress m.0.stage found x)
       × (found % 2 ≢ 0 → m'.0.stage ≡ m.0.stage)
 
   abbrev pub peeked : Step (Unit {0}) → Sat V → ℕ → Sat V → Type 0

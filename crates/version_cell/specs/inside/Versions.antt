@@ -18,20 +18,20 @@ client d = d.client
 abbrev pub Holds : List ℕ → List ℕ → Type 0
 Holds words value = (i : ℕ) → i < length value → slice_index words (i + 1) ≡ slice_index value i
 
--- what a seat knows is true: words that it saw at this version are the value, or an exchange since has made the value older
+-- what a seat knows is true: words that it saw at this version are the value, or the value has come further since
 abbrev pub Knows : (List ℕ → ℕ) → List ℕ → List ℕ → ℕ → ℕ → Stage → Type 0
-Knows age words value writer seat Idle = Unit {0}
-Knows age words value writer seat (Seen at last x) =
+Knows progress words value writer seat Idle = Unit {0}
+Knows progress words value writer seat (Seen at last x) =
     (at % 2 ≡ 0) × (at ≤ last) × (last ≤ slice_index words 0) × (slice_index words 0 < at + 2 → x ≡ value)
-    × (at + 2 ≤ slice_index words 0 → age x < age value)
-Knows age words value writer seat (Writing at old now) =
+    × (at + 2 ≤ slice_index words 0 → progress x < progress value)
+Knows progress words value writer seat (Writing at old now) =
     (at % 2 ≡ 1) × (at ≡ slice_index words 0) × (seat ≡ writer) × (old ≡ value) × (length now ≡ length value) × Holds words now
 
-pub record Versioned {V : Type 0} (wide : ℕ) (holds : List ℕ → List V → Type 0) (age : List ℕ → ℕ) (s : State (Unit {0}) (Doing V)) : Type 0 where
+pub record Versioned {V : Type 0} (wide : ℕ) (holds : List ℕ → List V → Type 0) (progress : List ℕ → ℕ) (s : State (Unit {0}) (Doing V)) : Type 0 where
   pub value : List ℕ
   pub writer : ℕ
   pub width : length s.words ≡ wide
   pub long : length value + 1 ≡ wide
   pub at_rest : slice_index s.words 0 % 2 ≡ 0 → Holds s.words value
-  pub each_seat : (j : ℕ) (d : Doing V) → get_elem? s.views j ≡ some d → Knows age s.words value writer j d.stage
+  pub each_seat : (j : ℕ) (d : Doing V) → get_elem? s.views j ≡ some d → Knows progress s.words value writer j d.stage
   pub kept : holds value (map client s.views)

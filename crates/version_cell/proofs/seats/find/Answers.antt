@@ -1,7 +1,7 @@
 use Rattle.std.proofs.Common.{rules, ℕ, List, ◌<◌, ◌∙◌, sym, subst}
 use Rattle.crossbeam_utils.specs.Register.{Turns}
 use Rattle.version_cell.proofs.Keeps.{checks, looks}
-use Rattle.version_cell.proofs.Readings.{ages, reads}
+use Rattle.version_cell.proofs.Readings.{reads, risen}
 use Rattle.version_cell.proofs.seats.find.Goals as goal
 
 pub load-version-requires : goal.load-version-requires
@@ -29,9 +29,9 @@ returns-then-load-version-clause-rule g c =
     let tells : g.row.V.Denot → Type 0 = λ v. g.M.CellOutcome.then v c.gather.new.words c.gather.new.words c.load.new.seat.me.0.client in
     subst tells client (reads g.row.N g.M.CellOutcome.then _ _ look.0 _ _ _ _ _ _ c.gather.ensures.1 look.1 c.gather.ensures.2 c.load.ensures.2 c.if-load-version.true).2
 
-pub returns-then-load-version-clause-ages : goal.returns-then-load-version-clause-ages
-returns-then-load-version-clause-ages g c =
+pub returns-then-load-version-clause-rises : goal.returns-then-load-version-clause-rises
+returns-then-load-version-clause-rises g c =
     let look = c.load-version.ensures.2.1 c.if-version-eq0.true in
     let equal = (reads g.row.N g.M.CellOutcome.then _ _ look.0 _ _ _ _ _ _ c.gather.ensures.1 look.1 c.gather.ensures.2 c.load.ensures.2 c.if-load-version.true).0 in
-    let older = ages g.P.CellRule.age _ _ _ c.load-version.result _ look.0 c.requires.known (c.loop.invariant.1 _ _ look.2) c.if-version-known.true in
-    subst (λ (z : List ℕ). g.P.CellRule.age c.args.words.now < g.P.CellRule.age z) (sym equal) older
+    let later = risen g.P.CellRule.progress _ _ _ c.load-version.result _ look.0 c.requires.known (c.loop.invariant.1 _ _ look.2) c.if-version-known.true in
+    subst (λ (z : List ℕ). g.P.CellRule.progress c.args.words.now < g.P.CellRule.progress z) (sym equal) later

@@ -5,7 +5,7 @@ use Rattle.nr_ring.specs.Pass.{Known}
 use Rattle.nr_ring.specs.Words.{IsWordsOf}
 use Rattle.nr_ring.specs.declared.view.View.{View}
 use Rattle.nr_ring.specs.inside.Held.{MadeOrMoved}
-use Rattle.nr_ring.proofs.Exchanges.{event_ages, event_turns, exchange_tells}
+use Rattle.nr_ring.proofs.Exchanges.{event_progress, event_turns, exchange_tells}
 use Rattle.nr_ring.proofs.Turns.{look_turns}
 use Rattle.nr_ring.proofs.ring_log.RingLog.exchange.Goals as goal
 
@@ -30,7 +30,7 @@ exchange_as-requires g c =
             search rules,
             (
               event_turns depth replicas _ _ view event c.pass.inside.inner.words c.args.next.now is.few is.words_are may.0 may.1 next,
-              (event_ages depth replicas view.seen event _ _ is.few is.is_history is.words_are may.0 next, look_turns _ _ _ _ _),
+              (event_progress depth replicas view.seen event _ _ is.few is.is_history is.words_are may.0 next, look_turns _ _ _ _ _),
             ),
           ),
         ),

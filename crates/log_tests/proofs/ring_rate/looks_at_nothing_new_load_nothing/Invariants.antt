@@ -1,4 +1,4 @@
-use Rattle.log_tests.proofs.ring_rate.looks_after_a_refusal_load_nothing.Given as goal
+use Rattle.log_tests.proofs.ring_rate.looks_at_nothing_new_load_nothing.Given as goal
 
 -- the parties are of this log
 abbrev pub ghosts-compare : goal.ghosts-compare
