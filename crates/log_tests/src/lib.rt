@@ -15,7 +15,6 @@ mod ring_fresh;
 #[cfg(test)]
 mod ring_races;
 #[cfg(test)]
-mod ring_rate;
 #[cfg(test)]
 mod ring_threads;
 #[cfg(test)]
