@@ -15,7 +15,6 @@ mod ring_fresh;
 #[cfg(test)]
 mod ring_races;
 #[cfg(test)]
-#[cfg(test)]
 mod ring_threads;
 #[cfg(test)]
 mod slots;
