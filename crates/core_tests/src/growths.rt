@@ -1,7 +1,7 @@
 //! Refused growths of memory: each test is run with each of its growths refused in turn.
 
 use crate::cases::{FIFTEEN, assert_events_of_fifteen, map_and_resolve};
-use crate::scripts::{assert_scripts};
+use crate::scripts::assert_scripts;
 use nr_core::{Core, Step, run_steps};
 use nr_trace::Trace;
 use std::test::Fail;
