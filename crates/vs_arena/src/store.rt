@@ -1,7 +1,7 @@
 ghost use Rattle.std.specs.Prelude.{◌≡◌, ℕ, ◌+◌, ◌^◌, ◌<◌, ◌≤◌, IfSome, IfNone, slice_index, slice_set};
 ghost use Rattle.std.specs.FinMap as finite;
 ghost use Rattle.vs_types.specs.declared.frame.TheConstants.{FRAME_WORDS};
-ghost use Rattle.vs_arena.specs.Store.{Store, Notes, IsInUse, IsFree, words_of, note_of, zeros, IsStore};
+ghost use Rattle.vs_arena.specs.Store.{Store, Notes, Lenders, IsInUse, IsFree, words_of, note_of, zeros, IsStore};
 
 use crate::frame::Frame;
 use vs_types::FRAME_WORDS;
@@ -21,6 +21,9 @@ pub trait FrameStore {
 
     /// How many frames there are, in use or not.
     ghost size: { Self → ℕ };
+
+    /// The ghost names of the references by which its memory was lent, if it was.
+    ghost lenders: { Self → Lenders };
 
     /// How many frames there are, in use or not: 0 to 4,096.
     fn capacity(&self) -> usize
@@ -44,7 +47,8 @@ pub trait FrameStore {
         ensures unchanged_notes { IfNone result (notes self.new ≡ notes self.old) }
 
         ensures same_base { base self.new ≡ base self.old }
-        ensures same_size { size self.new ≡ size self.old };
+        ensures same_size { size self.new ≡ size self.old }
+        ensures same_lenders { lenders self.new ≡ lenders self.old };
 
     /// Gives a frame back, so that it isn't in use.
     fn give(&mut self, frame: Frame)
@@ -52,7 +56,8 @@ pub trait FrameStore {
         ensures removed { frames self.new ≡ finite.remove (frames self.old) frame }
         ensures removed_note { notes self.new ≡ finite.remove (notes self.old) frame }
         ensures same_base { base self.new ≡ base self.old }
-        ensures same_size { size self.new ≡ size self.old };
+        ensures same_size { size self.new ≡ size self.old }
+        ensures same_lenders { lenders self.new ≡ lenders self.old };
 
     /// Does what `give` does for a frame whose words are all 0, and clears none of them.
     fn give_zeroed(&mut self, frame: Frame)
@@ -61,7 +66,8 @@ pub trait FrameStore {
         ensures removed { frames self.new ≡ finite.remove (frames self.old) frame }
         ensures removed_note { notes self.new ≡ finite.remove (notes self.old) frame }
         ensures same_base { base self.new ≡ base self.old }
-        ensures same_size { size self.new ≡ size self.old };
+        ensures same_size { size self.new ≡ size self.old }
+        ensures same_lenders { lenders self.new ≡ lenders self.old };
 
     /// The word of a frame in use at an index below 512.
     fn get(&self, frame: Frame, index: usize) -> u64
@@ -77,7 +83,8 @@ pub trait FrameStore {
             ≡ finite.insert (frames self.old) frame (slice_set (words_of (frames self.old) frame) index word) }
         ensures same_notes { notes self.new ≡ notes self.old }
         ensures same_base { base self.new ≡ base self.old }
-        ensures same_size { size self.new ≡ size self.old };
+        ensures same_size { size self.new ≡ size self.old }
+        ensures same_lenders { lenders self.new ≡ lenders self.old };
 
     /// The note of a frame in use: what `set_note` wrote last since the frame was taken, or 0.
     fn note(&self, frame: Frame) -> u16
@@ -90,7 +97,8 @@ pub trait FrameStore {
         ensures written { notes self.new ≡ finite.insert (notes self.old) frame note }
         ensures same_frames { frames self.new ≡ frames self.old }
         ensures same_base { base self.new ≡ base self.old }
-        ensures same_size { size self.new ≡ size self.old };
+        ensures same_size { size self.new ≡ size self.old }
+        ensures same_lenders { lenders self.new ≡ lenders self.old };
 
     /// The words of a frame in use.
     fn frame(&self, frame: Frame) -> &[u64; FRAME_WORDS]

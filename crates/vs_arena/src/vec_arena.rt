@@ -1,4 +1,4 @@
-ghost use Rattle.std.specs.Prelude.{◌≡◌, ◌+◌, ◌^◌, ◌≤◌, IfOk};
+ghost use Rattle.std.specs.Prelude.{◌≡◌, ◌+◌, ◌^◌, ◌≤◌, IfOk, []};
 ghost use Rattle.std.specs.FinMap as finite;
 ghost use Rattle.vs_types.specs.declared.limits.TheConstants.{TABLES};
 
@@ -76,6 +76,8 @@ impl FrameStore for VecArena {
     ghost base = { λ a. a.base };
 
     ghost size = { λ a. a.size };
+
+    ghost lenders = { λ _. [] };
 
     fn capacity(&self) -> usize {
         self.size
