@@ -1,8 +1,8 @@
 ghost use Rattle.std.specs.Prelude.{◌≡◌, ◌+◌, ◌^◌, ◌≤◌, length, [], ◌∷◌};
 ghost use Rattle.std.specs.FinMap as finite;
 ghost use Rattle.vs_types.specs.declared.limits.TheConstants.{TABLES};
-ghost use Rattle.vs_arena.specs.Store.{Store, Notes};
-ghost use Rattle.vs_arena.specs.Lent.{KeepsFrames};
+ghost use Rattle.vs_arena.specs.Lent.{lent_frames};
+ghost use Rattle.vs_arena.specs.LentMarks.{IsLentArena};
 
 use crate::frame::{Frame, cleared_words};
 use crate::mark::FrameMark;
@@ -31,8 +31,8 @@ pub struct LentArena<'a, 'b> {
 impl<'a, 'b> Model for LentArena<'a, 'b> {
     ghost use Rattle.std.specs.Prelude.{length, take, [], ◌∷◌};
     ghost use Rattle.vs_arena.specs.Lent.{LentFrames, lent_code};
-    ghost use Rattle.vs_arena.specs.inside.Arena.{marked_frames, marked_notes};
-    ghost use Rattle.vs_arena.specs.inside.LentArena.{uses_of_first, notes_of_first, IsLentArena};
+    ghost use Rattle.vs_arena.specs.Marked.{marked_frames, marked_notes};
+    ghost use Rattle.vs_arena.specs.LentMarks.{uses_of_first, notes_of_first, IsLentArena};
 
     ghost Value = { LentFrames };
 
@@ -94,11 +94,9 @@ impl<'a, 'b> LentArena<'a, 'b> {
 
     /// Takes the store apart. Its frames stay in the memory that was lent, as `from_parts` finds them there.
     pub fn into_parts(self) -> LentParts<'a, 'b>
-        ensures keeps { KeepsFrames result.base result.taken result.given result.words.now result.marks.now
-            self.entry.frames self.entry.notes }
-        ensures same_base { result.base ≡ self.entry.base }
-        ensures same_size { length result.words.now ≡ self.entry.size }
-        ensures same_lenders { result.words.ghost_name ∷ result.marks.ghost_name ∷ [] ≡ self.entry.lenders }
+        ensures laid_out { IsLentArena result.base result.taken result.given result.words.now result.marks.now }
+        ensures same { lent_frames result.base result.taken result.words.now result.marks.now
+            (result.words.ghost_name ∷ result.marks.ghost_name ∷ []) ≡ self.entry }
     {
         let LentArena {
             base,
@@ -118,13 +116,9 @@ impl<'a, 'b> LentArena<'a, 'b> {
 
     /// The store that was taken apart into these.
     pub fn from_parts(parts: LentParts<'a, 'b>) -> LentArena<'a, 'b>
-        requires { (frames : Store) × (notes : Notes)
-            × KeepsFrames parts.base parts.taken parts.given parts.words.now parts.marks.now frames notes }
-        ensures keeps { KeepsFrames parts.entry.base parts.entry.taken parts.entry.given parts.entry.words.now
-            parts.entry.marks.now result.frames result.notes }
-        ensures same_base { result.base ≡ parts.entry.base }
-        ensures same_size { result.size ≡ length parts.entry.words.now }
-        ensures same_lenders { result.lenders ≡ parts.entry.words.ghost_name ∷ parts.entry.marks.ghost_name ∷ [] }
+        requires { IsLentArena parts.base parts.taken parts.given parts.words.now parts.marks.now }
+        ensures { result ≡ lent_frames parts.entry.base parts.entry.taken parts.entry.words.now parts.entry.marks.now
+            (parts.entry.words.ghost_name ∷ parts.entry.marks.ghost_name ∷ []) }
     {
         let LentParts {
             base,

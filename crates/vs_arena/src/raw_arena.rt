@@ -32,7 +32,7 @@ pub struct RawArena {
 impl Model for RawArena {
     ghost use Rattle.std.specs.Prelude.{◌≡◌, length, vec_capacity};
     ghost use Rattle.vs_arena.specs.Arena.{Arena};
-    ghost use Rattle.vs_arena.specs.inside.Arena.{arena_code, marked_frames, marked_notes, HasRoom};
+    ghost use Rattle.vs_arena.specs.Marked.{arena_code, marked_frames, marked_notes, HasRoom};
     ghost use Rattle.vs_arena.specs.inside.RawArena.{values, IsRawArena};
 
     ghost Value = { Arena };

@@ -29,7 +29,7 @@ pub struct VecArena {
 impl Model for VecArena {
     ghost use Rattle.std.specs.Prelude.{◌≤◌, vec_capacity};
     ghost use Rattle.vs_arena.specs.Arena.{Arena};
-    ghost use Rattle.vs_arena.specs.inside.Arena.{arena_code, marked_frames, marked_notes, IsArena, HasRoom};
+    ghost use Rattle.vs_arena.specs.Marked.{arena_code, marked_frames, marked_notes, IsArena, HasRoom};
 
     ghost Value = { Arena };
 

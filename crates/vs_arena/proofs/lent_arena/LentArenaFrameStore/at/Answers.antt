@@ -1,7 +1,7 @@
 use Rattle.std.proofs.Common.{◌≡◌, false, get_or, take, ap, subst, arith}
 use Rattle.vs_arena.specs.Store.{IsInUse, IsFree}
 use Rattle.vs_arena.specs.Lent.{LentFrames}
-use Rattle.vs_arena.specs.inside.LentArena.{uses_of_first}
+use Rattle.vs_arena.specs.LentMarks.{uses_of_first}
 use Rattle.vs_arena.proofs.MarkedFrames.{IsInUse-from_mark, IsFree-from_mark}
 use Rattle.vs_arena.proofs.LentArenas.{is_used, is_unused, is_past}
 use Rattle.vs_arena.proofs.lent_arena.LentArenaFrameStore.at.Goals.{else-index-self-via-then-index-self+else-self-index-eq1, else-index-self-via-else-index-self}

@@ -1,10 +1,10 @@
 use Rattle.std.proofs.Common.{take, sym, ap, ◌∙◌}
 use Rattle.vs_arena.specs.Store.{words_of}
 use Rattle.vs_arena.specs.Lent.{LentFrames}
-use Rattle.vs_arena.specs.inside.LentArena.{uses_of_first}
+use Rattle.vs_arena.specs.LentMarks.{uses_of_first}
 use Rattle.vs_arena.proofs.LentArenas.{was_lent, words_at}
 use Rattle.vs_arena.proofs.MarkedFrames.{marked_here}
-use Rattle.vs_arena.specs.inside.Arena.{marked_frames}
+use Rattle.vs_arena.specs.Marked.{marked_frames}
 use Rattle.vs_arena.proofs.lent_arena.LentArenaFrameStore.frame.Goals as goal
 
 pub bounds-words-index : goal.bounds-words-index

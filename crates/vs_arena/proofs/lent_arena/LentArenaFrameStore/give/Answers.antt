@@ -3,8 +3,8 @@ use Rattle.std.proofs.lemmas.List.{get_or-set_same, get_or-take}
 use Rattle.std.specs.FinMap as finite
 use Rattle.vs_arena.specs.Store.{zeros}
 use Rattle.vs_arena.specs.Lent.{LentFrames}
-use Rattle.vs_arena.specs.inside.Arena.{marked_frames}
-use Rattle.vs_arena.specs.inside.LentArena.{uses_of_first}
+use Rattle.vs_arena.specs.Marked.{marked_frames}
+use Rattle.vs_arena.specs.LentMarks.{uses_of_first}
 use Rattle.vs_arena.proofs.Marked.{remove-insert}
 use Rattle.vs_arena.proofs.MarkedFrames.{marked_here, in_words, IsMarked-from_use, IsInUse-from_mark, IsFrame-zeros, marked_frames-write}
 use Rattle.vs_arena.proofs.LentArenas.{take-set, was_taken, was_lent, IsLentArena-write}

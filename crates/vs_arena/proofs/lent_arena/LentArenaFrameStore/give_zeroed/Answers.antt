@@ -3,8 +3,8 @@ use Rattle.std.proofs.lemmas.List.{length-set}
 use Rattle.std.specs.FinMap as finite
 use Rattle.vs_arena.specs.Store.{words_of, zeros}
 use Rattle.vs_arena.specs.Lent.{LentFrames}
-use Rattle.vs_arena.specs.inside.Arena.{marked_frames, marked_notes}
-use Rattle.vs_arena.specs.inside.LentArena.{uses_of_first, notes_of_first}
+use Rattle.vs_arena.specs.Marked.{marked_frames, marked_notes}
+use Rattle.vs_arena.specs.LentMarks.{uses_of_first, notes_of_first}
 use Rattle.vs_arena.proofs.Marked.{marked-unmark}
 use Rattle.vs_arena.proofs.MarkedFrames.{marked_here, marked_frames-unmark}
 use Rattle.vs_arena.proofs.LentArenas.{was_taken, room_to_give, taken_marks, unused_mark, uses-given, notes-given, given_marks, IsLentArena-give}

@@ -1,7 +1,7 @@
 use Rattle.std.proofs.Common.{take, sym, ap, subst, arith}
 use Rattle.vs_arena.specs.Store.{IsInUse}
 use Rattle.vs_arena.specs.Lent.{LentFrames}
-use Rattle.vs_arena.specs.inside.LentArena.{uses_of_first}
+use Rattle.vs_arena.specs.LentMarks.{uses_of_first}
 use Rattle.vs_arena.proofs.MarkedFrames.{IsMarked-from_use}
 use Rattle.vs_arena.proofs.LentArenas.{was_lent}
 use Rattle.vs_arena.proofs.lent_arena.LentArenaFrameStore.in_use.Goals as goal

@@ -1,8 +1,8 @@
 use Rattle.std.proofs.Common.{take, sym, ap, ◌∙◌, arith}
 use Rattle.vs_arena.specs.Store.{note_of}
 use Rattle.vs_arena.specs.Lent.{LentFrames}
-use Rattle.vs_arena.specs.inside.Arena.{marked_notes}
-use Rattle.vs_arena.specs.inside.LentArena.{uses_of_first, notes_of_first}
+use Rattle.vs_arena.specs.Marked.{marked_notes}
+use Rattle.vs_arena.specs.LentMarks.{uses_of_first, notes_of_first}
 use Rattle.vs_arena.proofs.Marked.{note_of-marked}
 use Rattle.vs_arena.proofs.MarkedFrames.{marked_here}
 use Rattle.vs_arena.proofs.LentArenas.{was_taken, taken_marks, note_at}

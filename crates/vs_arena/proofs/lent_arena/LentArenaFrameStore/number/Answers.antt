@@ -1,6 +1,6 @@
 use Rattle.std.proofs.Common.{take, ap, arith}
 use Rattle.vs_arena.specs.Lent.{LentFrames}
-use Rattle.vs_arena.specs.inside.LentArena.{uses_of_first}
+use Rattle.vs_arena.specs.LentMarks.{uses_of_first}
 use Rattle.vs_arena.proofs.MarkedFrames.{marked_here}
 use Rattle.vs_arena.proofs.LentArenas.{was_lent}
 use Rattle.vs_arena.proofs.lent_arena.LentArenaFrameStore.number.Goals as goal

@@ -3,8 +3,8 @@ use Rattle.std.specs.FinMap as finite
 use Rattle.vs_arena.specs.Store.{words_of}
 use Rattle.vs_types.specs.Frame.{IsFrame}
 use Rattle.vs_arena.specs.Lent.{LentFrames}
-use Rattle.vs_arena.specs.inside.Arena.{marked_frames}
-use Rattle.vs_arena.specs.inside.LentArena.{uses_of_first}
+use Rattle.vs_arena.specs.Marked.{marked_frames}
+use Rattle.vs_arena.specs.LentMarks.{uses_of_first}
 use Rattle.vs_arena.proofs.MarkedFrames.{marked_here, in_words, IsFrame-set, marked_frames-write}
 use Rattle.vs_arena.proofs.LentArenas.{take-set, was_lent, words_at, IsLentArena-write}
 use Rattle.vs_arena.proofs.lent_arena.LentArenaFrameStore.set.Goals as goal

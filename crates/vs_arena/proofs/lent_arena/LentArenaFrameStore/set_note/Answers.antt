@@ -1,8 +1,8 @@
 use Rattle.std.proofs.Common.{take, set, ap, ◌∙◌, arith}
 use Rattle.std.specs.FinMap as finite
 use Rattle.vs_arena.specs.Lent.{LentFrames}
-use Rattle.vs_arena.specs.inside.Arena.{marked_frames, marked_notes}
-use Rattle.vs_arena.specs.inside.LentArena.{uses_of_first, notes_of_first}
+use Rattle.vs_arena.specs.Marked.{marked_frames, marked_notes}
+use Rattle.vs_arena.specs.LentMarks.{uses_of_first, notes_of_first}
 use Rattle.vs_arena.proofs.Marked.{marked-write}
 use Rattle.vs_arena.proofs.MarkedFrames.{marked_here}
 use Rattle.vs_arena.proofs.LentArenas.{was_taken, taken_marks, noted_mark, uses-noted, notes-noted, IsLentArena-note}

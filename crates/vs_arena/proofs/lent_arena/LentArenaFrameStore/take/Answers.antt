@@ -2,8 +2,8 @@ use Rattle.std.proofs.Common.{◌≡◌, ◌+◌, ◌-◌, ◌<◌, true, [], �
 use Rattle.std.specs.FinMap as finite
 use Rattle.vs_arena.specs.Store.{IsFree, zeros}
 use Rattle.vs_arena.specs.Lent.{LentFrames}
-use Rattle.vs_arena.specs.inside.Arena.{marked_frames, marked_notes}
-use Rattle.vs_arena.specs.inside.LentArena.{uses_of_first, notes_of_first, given_back}
+use Rattle.vs_arena.specs.Marked.{marked_frames, marked_notes}
+use Rattle.vs_arena.specs.LentMarks.{uses_of_first, notes_of_first, given_back}
 use Rattle.vs_arena.proofs.Marked.{marked-mark, marked-push}
 use Rattle.vs_arena.proofs.MarkedFrames.{IsFree-from_mark, last_given, marked_frames-again, marked_frames-push}
 use Rattle.vs_arena.proofs.LentArenas.{length-uses, marked_again, uses-again, notes-again, last, popped, IsLentArena-again, is_past, uses-first, notes-first, words-first, IsLentArena-first}
