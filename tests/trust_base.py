@@ -76,7 +76,7 @@ def braced(text, begin):
 
 def is_public(text, at):
     """Whether the clause at this index is one of a public call, or of a trait or model that callers see."""
-    head = re.findall(r"^\s*(pub(?:\(crate\))? |)(?:unsafe )?(?:const )?(fn|trait|impl|struct)\b([^\n]*)", text[:at], re.M)
+    head = re.findall(r"^\s*(pub(?:\(crate\))? |)(?:unsafe )?(?:const )?(?:extern \"C\" )?(fn|trait|impl|struct)\b([^\n]*)", text[:at], re.M)
     public_trait = False
     for visible, kind, rest in head:
         if kind == "trait":
@@ -156,8 +156,9 @@ def public_calls():
 def calls_of(crate, file, exported, is_open):
     owner, is_trait = None, False
     text = file.read_text()
-    for item in re.finditer(r"^([ ]*)(pub(?:\(crate\))? |)(?:unsafe |const )*(fn|impl|trait|struct|enum)\b(?:<(?:[^{<>]|<[^{<>]*>)*>)? ?([^\n]*)|^\}", text, re.M):
-        indent, visible, kind, rest = item[1], item[2], item[3], item[4]
+    for item in re.finditer(r"^([ ]*)(pub(?:\(crate\))? |)(?:unsafe |const )*(extern \"C\" )?(fn|impl|trait|struct|enum)\b"
+                            r"(?:<(?:[^{<>]|<[^{<>]*>)*>)? ?([^\n]*)|^\}", text, re.M):
+        indent, visible, for_c, kind, rest = item.groups()
         if kind is None:
             owner = None
         elif kind in ("impl", "trait") and not indent:
@@ -166,7 +167,7 @@ def calls_of(crate, file, exported, is_open):
             is_trait = kind == "trait" and visible == "pub "
         elif kind == "fn" and (visible == "pub " or is_trait and owner and indent):
             name = re.match(r"(\w+)", rest)[1]
-            if owner == "" or not (owner in exported if owner else name in exported or is_open):
+            if owner == "" or not (owner in exported if owner else name in exported or is_open or for_c):
                 continue
             head = re.split(r"^\s*\{$|;$", text[item.start():], maxsplit=1, flags=re.M)[0]
             yield crate, owner, name, re.search(r"^\s*requires\b", head, re.M) is not None

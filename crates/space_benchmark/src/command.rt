@@ -2,9 +2,10 @@ use crate::fault::ProgFault;
 use crate::load::Load;
 use crate::measure::{BASE, FRAMES, Measured, measure};
 use crate::workload::Workload;
+use std::alloc::Global;
 use std::env;
-use std::time::Duration;
-use vs_arena::{RawArena, VecArena};
+use std::time::{Clock, Duration};
+use vs_arena::{FRAME_WORDS, FrameMark, LentArena, RawArena, VecArena};
 use vs_types::Depth;
 
 /// Runs the program on its words, and gives the exit status.
@@ -25,6 +26,19 @@ enum Store {
     Vec,
     /// In one block of memory.
     Raw,
+    /// In memory that is lent to the store.
+    Lent,
+}
+
+impl Store {
+    /// The store that a word asks for.
+    fn named(word: &str) -> Result<Store, ProgFault> {
+        match word {
+            "raw" => Ok(Store::Raw),
+            "lent" => Ok(Store::Lent),
+            _ => Err(ProgFault::BadRounds),
+        }
+    }
 }
 
 /// What the program's words ask for.
@@ -37,7 +51,7 @@ struct Wanted {
 }
 
 /// The first word is the number of rounds, up to 65,535, or one round where there is none. Where there are more, the first isn't timed. After it `raw` asks for frames in
-/// one block of memory, and then `five` for five levels.
+/// one block of memory, or `lent` for frames that are lent, and then `five` for five levels.
 fn read_words(rt: &HostRuntime) -> Result<Wanted, ProgFault> {
     let words: Vec<String> = env::args(rt)
         .map_err(|_| ProgFault::Memory)?
@@ -51,10 +65,10 @@ fn read_words(rt: &HostRuntime) -> Result<Wanted, ProgFault> {
             });
         }
         [_, rounds] => (rounds, Store::Vec, Depth::Four),
-        [_, rounds, raw] if raw.as_str() == "raw" => (rounds, Store::Raw, Depth::Four),
         [_, rounds, five] if five.as_str() == "five" => (rounds, Store::Vec, Depth::Five),
-        [_, rounds, raw, five] if raw.as_str() == "raw" && five.as_str() == "five" => {
-            (rounds, Store::Raw, Depth::Five)
+        [_, rounds, store] => (rounds, Store::named(store)?, Depth::Four),
+        [_, rounds, store, five] if five.as_str() == "five" => {
+            (rounds, Store::named(store)?, Depth::Five)
         }
         _ => return Err(ProgFault::BadRounds),
     };
@@ -84,10 +98,24 @@ fn try_run(rt: &HostRuntime) -> Result<u8, ProgFault> {
         let measured = match store {
             Store::Vec => measure(rt, VecArena::new(alloc, BASE, FRAMES)?, &load, rounds)?,
             Store::Raw => measure(rt, RawArena::new(alloc, BASE, FRAMES)?, &load, rounds)?,
+            Store::Lent => measure_lent(rt, alloc, &load, rounds)?,
         };
         print(rt, workload, rounds, &measured)?;
     }
     Ok(0)
+}
+
+/// Rounds of a workload over frames that are lent.
+fn measure_lent(
+    clock: &impl Clock,
+    alloc: Global,
+    load: &Load,
+    rounds: u16,
+) -> Result<Measured, ProgFault> {
+    let mut words = Vec::from_elem(alloc, [0; FRAME_WORDS], FRAMES)?;
+    let mut marks = Vec::from_elem(alloc, FrameMark::default(), FRAMES)?;
+    let store = LentArena::new(BASE, words.as_mut_slice(), marks.as_mut_slice());
+    measure(clock, store, load, rounds)
 }
 
 /// The sum on standard output; operations a second on standard error.

@@ -5,8 +5,8 @@ use vs_types::BadOp;
 /// Why the program ends early. The text goes to standard error.
 #[derive(Debug, Drop, Error)]
 pub enum ProgFault {
-    /// The program's words aren't a number of rounds, and `raw` and `five` perhaps.
-    #[error("usage: space_benchmark [ROUNDS [raw] [five]], up to 65535 rounds")]
+    /// The program's words aren't a number of rounds, and `raw` or `lent`, and `five`, perhaps.
+    #[error("usage: space_benchmark [ROUNDS [raw|lent] [five]], up to 65535 rounds")]
     BadRounds,
     /// The output gave an error.
     #[error("cannot write")]

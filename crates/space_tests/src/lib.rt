@@ -9,6 +9,8 @@ mod arena;
 #[cfg(test)]
 mod cases;
 #[cfg(test)]
+mod lent;
+#[cfg(test)]
 mod plain;
 #[cfg(test)]
 mod space;

@@ -2,12 +2,10 @@ use crate::cases::{Call, Row, operation};
 use crate::values::{BASE, WRITE};
 use std::process::Abort;
 use std::test::Fail;
-use vs_arena::VecArena;
+use vs_arena::{FrameStore, VecArena};
 use vs_space::{NoRoot, Space};
 use vs_types::{Answer, Depth, Rights, Size};
 use vs_walk::Frames;
-
-type Table = Space<VecArena>;
 
 const ALL: Rights = Rights::ALL;
 
@@ -139,7 +137,7 @@ static AT_FIVE_LEVELS: [Step; 5] = [
 ];
 
 // The answer of a call that must be well formed.
-fn answer(rt: &impl Abort, space: &mut Table, call: Call) -> Answer {
+pub fn answer<S: FrameStore>(rt: &impl Abort, space: &mut Space<S>, call: Call) -> Answer {
     let depth = space.depth();
     if let Some(op) = operation(depth, call).expect(rt, "a well-formed operation") {
         assert!(rt; op.fits(depth));
@@ -152,7 +150,7 @@ fn answer(rt: &impl Abort, space: &mut Table, call: Call) -> Answer {
 }
 
 // The word at the end of a path.
-fn word(rt: &impl Abort, space: &Table, path: &[u16]) -> u64 {
+fn word<S: FrameStore>(rt: &impl Abort, space: &Space<S>, path: &[u16]) -> u64 {
     let mut number = space.root();
     let mut last = 0;
     for index in path {

@@ -8,8 +8,8 @@ use Rattle.vs_types.specs.declared.limits.TheConstants.{TABLES}
 use Rattle.vs_types.specs.Frame.{IsFrame}
 use Rattle.vs_arena.specs.Store.{zeros}
 use Rattle.vs_arena.specs.declared.mark.FrameMark.{FrameMark}
-use Rattle.vs_arena.specs.inside.Arena.{marked_frames}
-use Rattle.vs_arena.specs.inside.LentArena.{column, uses_of_first, notes_of_first, given_back, IsLentArena}
+use Rattle.vs_arena.specs.Marked.{marked_frames}
+use Rattle.vs_arena.specs.LentMarks.{column, uses_of_first, notes_of_first, given_back, IsLentArena}
 use Rattle.vs_arena.proofs.MarkedFrames.{IsMarked, IsArena-write, IsArena-note, IsArena-give, IsArena-again, IsArena-first, IsArena-new, room_for_one}
 
 -- a mark of zeros

@@ -10,7 +10,7 @@ use Rattle.std.proofs.lemmas.List.{length_push, get_or-set_other, get_or_past, g
 use Rattle.std.proofs.lemmas.Bool.{cases_lt, eqb-true, eqb-false, lt-ltb, le-ltb}
 use Rattle.std.proofs.lemmas.Bool.Decides.{nat_tests}
 use Rattle.vs_arena.specs.Store.{note_of}
-use Rattle.vs_arena.specs.inside.Arena.{with_some, all_below, marked, marked_notes}
+use Rattle.vs_arena.specs.Marked.{with_some, all_below, marked, marked_notes}
 use Rattle.vs_arena.proofs.Stores.{get-insert, get-remove}
 
 -- but for the last place of a list that was pushed to, all is as before

@@ -11,7 +11,7 @@ use Rattle.std.proofs.lemmas.Bool.{cases_eq, cases_lt, true≢false}
 use Rattle.vs_types.specs.declared.limits.TheConstants.{TABLES}
 use Rattle.vs_types.specs.Frame.{IsFrame}
 use Rattle.vs_arena.specs.Store.{Store, IsInUse, IsFree, words_of}
-use Rattle.vs_arena.specs.inside.Arena.{marked, marked_frames, marked_notes, IsGivenBack, IsArena}
+use Rattle.vs_arena.specs.Marked.{marked, marked_frames, marked_notes, IsGivenBack, IsArena}
 use Rattle.vs_arena.specs.Arena.{Arena}
 use Rattle.vs_arena.specs.Store.{IsStore, zeros}
 use Rattle.std.proofs.lemmas.Option.{cond_some}

@@ -6,7 +6,7 @@ use Rattle.std.proofs.lemmas.List.{length-set, length-replicate, length-append, 
 use Rattle.vs_types.specs.declared.limits.TheConstants.{TABLES}
 use Rattle.vs_types.specs.Frame.{IsFrame}
 use Rattle.vs_arena.specs.Store.{zeros}
-use Rattle.vs_arena.specs.inside.Arena.{IsArena}
+use Rattle.vs_arena.specs.Marked.{IsArena}
 use Rattle.vs_arena.specs.inside.Region.{IsFilled}
 use Rattle.vs_arena.specs.inside.RawArena.{values, IsRawArena}
 use Rattle.vs_arena.proofs.MarkedFrames.{IsMarked, IsArena-write, IsArena-first, IsArena-new}

@@ -29,6 +29,10 @@ Notes = finite.FinMap nat_cmp ℕ
 abbrev pub note_of : Notes → ℕ → ℕ
 note_of notes index = unwrap_or (finite.get notes index) 0
 
+-- the ghost names of the references by which a store was lent its memory, none where the memory is its own
+abbrev pub Lenders : Type 0
+Lenders = List ℕ
+
 -- a frame of zeros
 abbrev pub zeros : List ℕ
 zeros = replicate FRAME_WORDS 0

@@ -1,6 +1,4 @@
 -- Loop invariants and the insides of models: no public clause cites them.
-pub mod Arena
-pub mod LentArena
 pub mod RawArena
 pub mod Region
 pub mod RegionLends

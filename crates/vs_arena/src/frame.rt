@@ -46,7 +46,8 @@ pub(crate) fn marked_at(base: u64, marks: &[bool], number: u64) -> Option<Frame>
     requires { length marks.now ≤ TABLES }
     ensures numbered { IfSome result (λ f. base + f ≡ number) }
     ensures marked { IfSome result (λ f. slice_index_or marks.now f false ≡ true) }
-    ensures unmarked { IfNone result ((f : ℕ) → base + f ≡ number → slice_index_or marks.now f false ≡ false) }
+    ensures unmarked { IfNone result
+        ((f : ℕ) → base + f ≡ number → slice_index_or marks.now f false ≡ false) }
 {
     let index = number.checked_sub(base)? as usize;
     if index < marks.len() && marks[index] {

@@ -1,6 +1,8 @@
-ghost use Rattle.std.specs.Prelude.{◌≡◌, ◌+◌, ◌^◌, ◌≤◌, length};
+ghost use Rattle.std.specs.Prelude.{◌≡◌, ◌+◌, ◌^◌, ◌≤◌, length, [], ◌∷◌};
 ghost use Rattle.std.specs.FinMap as finite;
 ghost use Rattle.vs_types.specs.declared.limits.TheConstants.{TABLES};
+ghost use Rattle.vs_arena.specs.Lent.{lent_frames};
+ghost use Rattle.vs_arena.specs.LentMarks.{IsLentArena};
 
 use crate::frame::{Frame, cleared_words};
 use crate::mark::FrameMark;
@@ -14,50 +16,72 @@ use vs_types::FRAME_WORDS;
 /// Frame i is the i-th array of words: where the first lies at the physical address `base * 4096`, a processor reads what is
 /// written here. A frame is cleared as it is first taken, and after that as it is given back.
 #[derive(Debug, Drop)]
-pub struct LentArena<'a> {
+pub struct LentArena<'a, 'b> {
     base: u64,
     /// The words of a frame that was ever taken and isn't in use are 0; those of others are as they were lent.
     words: &'a mut [[u64; FRAME_WORDS]],
     /// One for each frame at least.
-    marks: &'a mut [FrameMark],
+    marks: &'b mut [FrameMark],
     /// How many frames were ever taken. They have the first places.
     taken: usize,
     /// How many of them were given back. The first marks have a list of these; the last one is taken next.
     given: usize,
 }
 
-impl<'a> Model for LentArena<'a> {
-    ghost use Rattle.std.specs.Prelude.{length, take};
-    ghost use Rattle.vs_arena.specs.Arena.{Arena};
-    ghost use Rattle.vs_arena.specs.inside.Arena.{arena_code, marked_frames, marked_notes};
-    ghost use Rattle.vs_arena.specs.inside.LentArena.{uses_of_first, notes_of_first, IsLentArena};
+impl<'a, 'b> Model for LentArena<'a, 'b> {
+    ghost use Rattle.std.specs.Prelude.{length, take, [], ◌∷◌};
+    ghost use Rattle.vs_arena.specs.Lent.{LentFrames, lent_code};
+    ghost use Rattle.vs_arena.specs.Marked.{marked_frames, marked_notes};
+    ghost use Rattle.vs_arena.specs.LentMarks.{uses_of_first, notes_of_first, IsLentArena};
 
-    ghost Value = { Arena };
+    ghost Value = { LentFrames };
 
-    ghost coded = { arena_code };
+    ghost coded = { lent_code };
 
     ghost view = { λ a. record {
       base = a.base;
       size = length a.words.now;
       frames = marked_frames (uses_of_first a.taken a.marks.now) (take a.taken a.words.now);
       notes = marked_notes (uses_of_first a.taken a.marks.now) (notes_of_first a.taken a.marks.now);
+      lenders = a.words.ghost_name ∷ a.marks.ghost_name ∷ [];
     } };
 
     ghost invariant = { λ a. IsLentArena a.base a.taken a.given a.words.now a.marks.now };
 }
 
-impl<'a> LentArena<'a> {
+/// A store over lent memory, taken apart: the memory, and three numbers. The frames in use are in the memory.
+#[derive(Debug, Drop)]
+pub struct LentParts<'a, 'b> {
+    /// The number of the first frame.
+    pub base: u64,
+    /// The words of each frame.
+    pub words: &'a mut [[u64; FRAME_WORDS]],
+    /// The mark of each frame.
+    pub marks: &'b mut [FrameMark],
+    /// How many frames were ever taken.
+    pub taken: usize,
+    /// How many of them were given back.
+    pub given: usize,
+}
+
+impl<'a, 'b> LentArena<'a, 'b> {
     /// A store of the frames lent, of which none is in use; the first has the number `base`. There is a mark for each frame, or more.
     /// Neither words nor marks need be 0, and none is written yet.
     pub fn new(
         base: u64,
         words: &'a mut [[u64; FRAME_WORDS]],
-        marks: &'a mut [FrameMark],
-    ) -> LentArena<'a>
+        marks: &'b mut [FrameMark],
+    ) -> LentArena<'a, 'b>
         requires few { length words.old ≤ TABLES }
         requires in_range { base + length words.old ≤ 2 ^ 40 }
         requires marked { length words.old ≤ length marks.old }
-        ensures { result ≡ record { base = base; size = length words.old; frames = finite.empty; notes = finite.empty } }
+        ensures { result ≡ record {
+          base = base;
+          size = length words.old;
+          frames = finite.empty;
+          notes = finite.empty;
+          lenders = words.entry.ghost_name ∷ marks.entry.ghost_name ∷ [];
+        } }
     {
         LentArena {
             base,
@@ -67,9 +91,56 @@ impl<'a> LentArena<'a> {
             given: 0,
         }
     }
+
+    /// Takes the store apart. Its frames stay in the memory that was lent, as `from_parts` finds them there.
+    pub fn into_parts(self) -> LentParts<'a, 'b>
+        ensures laid_out { IsLentArena result.base result.taken result.given result.words.now
+            result.marks.now }
+        ensures same { lent_frames result.base result.taken result.words.now result.marks.now
+            (result.words.ghost_name ∷ result.marks.ghost_name ∷ []) ≡ self.entry }
+    {
+        let LentArena {
+            base,
+            words,
+            marks,
+            taken,
+            given,
+        } = self;
+        LentParts {
+            base,
+            words,
+            marks,
+            taken,
+            given,
+        }
+    }
+
+    /// The store that was taken apart into these.
+    pub fn from_parts(parts: LentParts<'a, 'b>) -> LentArena<'a, 'b>
+        requires { IsLentArena parts.base parts.taken parts.given parts.words.now parts.marks.now }
+        ensures { result
+            ≡ lent_frames parts.entry.base parts.entry.taken parts.entry.words.now
+            parts.entry.marks.now
+            (parts.entry.words.ghost_name ∷ parts.entry.marks.ghost_name ∷ []) }
+    {
+        let LentParts {
+            base,
+            words,
+            marks,
+            taken,
+            given,
+        } = parts;
+        LentArena {
+            base,
+            words,
+            marks,
+            taken,
+            given,
+        }
+    }
 }
 
-impl<'a> FrameStore for LentArena<'a> {
+impl<'a, 'b> FrameStore for LentArena<'a, 'b> {
     ghost frames = { λ a. a.frames };
 
     ghost notes = { λ a. a.notes };
@@ -77,6 +148,8 @@ impl<'a> FrameStore for LentArena<'a> {
     ghost base = { λ a. a.base };
 
     ghost size = { λ a. a.size };
+
+    ghost lenders = { λ a. a.lenders };
 
     fn capacity(&self) -> usize {
         self.words.len()

@@ -12,7 +12,7 @@ mod store;
 mod vec_arena;
 
 pub use frame::Frame;
-pub use lent_arena::LentArena;
+pub use lent_arena::{LentArena, LentParts};
 pub use mark::FrameMark;
 pub use raw_arena::RawArena;
 pub use store::FrameStore;

@@ -1,4 +1,4 @@
-ghost use Rattle.std.specs.Prelude.{◌≡◌, ◌+◌, ◌^◌, ◌≤◌, IfOk};
+ghost use Rattle.std.specs.Prelude.{◌≡◌, ◌+◌, ◌^◌, ◌≤◌, IfOk, []};
 ghost use Rattle.std.specs.FinMap as finite;
 ghost use Rattle.vs_types.specs.declared.limits.TheConstants.{TABLES};
 
@@ -32,7 +32,7 @@ pub struct RawArena {
 impl Model for RawArena {
     ghost use Rattle.std.specs.Prelude.{◌≡◌, length, vec_capacity};
     ghost use Rattle.vs_arena.specs.Arena.{Arena};
-    ghost use Rattle.vs_arena.specs.inside.Arena.{arena_code, marked_frames, marked_notes, HasRoom};
+    ghost use Rattle.vs_arena.specs.Marked.{arena_code, marked_frames, marked_notes, HasRoom};
     ghost use Rattle.vs_arena.specs.inside.RawArena.{values, IsRawArena};
 
     ghost Value = { Arena };
@@ -46,9 +46,11 @@ impl Model for RawArena {
       notes = marked_notes a.marks.items a.notes.items;
     } };
 
-    ghost invariant = { λ a. IsRawArena a.base a.size a.region.places a.marks.items a.notes.items a.free.items
+    ghost invariant = { λ a.
+        IsRawArena a.base a.size a.region.places a.marks.items a.notes.items a.free.items
         × HasRoom a.size (vec_capacity a.marks) (vec_capacity a.notes) (vec_capacity a.free)
-        × (length a.region.places ≡ a.size) × (a.lease.first ≡ a.region.first) × (a.lease.len ≡ a.size) × (a.lease.alloc ≡ a.alloc) };
+        × (length a.region.places ≡ a.size) × (a.lease.first ≡ a.region.first)
+        × (a.lease.len ≡ a.size) × (a.lease.alloc ≡ a.alloc) };
 }
 
 impl Drop for RawArena {
@@ -76,7 +78,9 @@ impl RawArena {
     pub fn new(alloc: Global, base: u64, n: usize) -> Result<RawArena, Memory>
         requires few { n ≤ TABLES }
         requires in_range { base + n ≤ 2 ^ 40 }
-        ensures { IfOk result (λ a. a ≡ record { base = base; size = n; frames = finite.empty; notes = finite.empty }) }
+        ensures { IfOk result
+            (λ a. a
+            ≡ record { base = base; size = n; frames = finite.empty; notes = finite.empty }) }
     {
         let marks = Vec::with_capacity(alloc, n)?;
         let notes = Vec::with_capacity(alloc, n)?;
@@ -103,6 +107,8 @@ impl FrameStore for RawArena {
     ghost base = { λ a. a.base };
 
     ghost size = { λ a. a.size };
+
+    ghost lenders = { λ _. [] };
 
     fn capacity(&self) -> usize {
         self.size

@@ -52,7 +52,9 @@ pub(crate) fn allocate<T, A: Allocator>(
     len: usize,
 ) -> Result<(Region<T>, Lease<T, A>), AllocError>
     requires { FitsInBlock T.row len }
-    ensures { IfOk result (λ r. (r.0.places ≡ replicate len None) × (r.1.first ≡ r.0.first) × (r.1.len ≡ len) × (r.1.alloc ≡ alloc.now)) }
+    ensures { IfOk result
+        (λ r. (r.0.places ≡ replicate len None) × (r.1.first ≡ r.0.first) × (r.1.len ≡ len)
+        × (r.1.alloc ≡ alloc.now)) }
 {
     // The block is asked for by the size and the alignment of `len` values.
     // It owns all its bytes, and the lease the right to free it: nothing else has the pointer.
@@ -72,7 +74,8 @@ pub(crate) fn deallocate<T, A: Allocator>(
     len: usize,
     lease: Lease<T, A>,
 )
-    requires { (length region.places ≡ len) × (lease.first ≡ region.first) × (lease.len ≡ len) × (lease.alloc ≡ alloc.now) }
+    requires { (length region.places ≡ len) × (lease.first ≡ region.first) × (lease.len ≡ len)
+        × (lease.alloc ≡ alloc.now) }
 {
     let Region { first } = region;
     let Lease { mark: _ } = lease;
@@ -89,7 +92,8 @@ impl<T> Region<T> {
     /// Fills an empty place.
     pub(crate) fn write(&mut self, index: usize, value: T)
         requires { (index < length self.old.places) × (get_or self.old.places index None ≡ None) }
-        ensures { (self.new.first ≡ self.old.first) × (self.new.places ≡ slice_set self.old.places index (Some value)) }
+        ensures { (self.new.first ≡ self.old.first)
+            × (self.new.places ≡ slice_set self.old.places index (Some value)) }
     {
         // The place is below the number of places, so that it lies within the block.
         // The `&mut` says that nobody else uses the block meanwhile.

@@ -1,7 +1,7 @@
 ghost use Rattle.std.specs.Prelude.{◌≡◌, ℕ, ◌+◌, ◌^◌, ◌<◌, ◌≤◌, IfSome, IfNone, slice_index, slice_set};
 ghost use Rattle.std.specs.FinMap as finite;
 ghost use Rattle.vs_types.specs.declared.frame.TheConstants.{FRAME_WORDS};
-ghost use Rattle.vs_arena.specs.Store.{Store, Notes, IsInUse, IsFree, words_of, note_of, zeros, IsStore};
+ghost use Rattle.vs_arena.specs.Store.{Store, Notes, Lenders, IsInUse, IsFree, words_of, note_of, zeros, IsStore};
 
 use crate::frame::Frame;
 use vs_types::FRAME_WORDS;
@@ -22,6 +22,9 @@ pub trait FrameStore {
     /// How many frames there are, in use or not.
     ghost size: { Self → ℕ };
 
+    /// The ghost names of the references by which its memory was lent, if it was.
+    ghost lenders: { Self → Lenders };
+
     /// How many frames there are, in use or not: 0 to 4,096.
     fn capacity(&self) -> usize
         ensures reads { result ≡ size self.now }
@@ -36,7 +39,8 @@ pub trait FrameStore {
     fn take(&mut self) -> Option<Frame>
         ensures was_free { IfSome result (IsFree (frames self.old)) }
         ensures within { IfSome result (λ f. f < size self.old) }
-        ensures cleared { IfSome result (λ f. frames self.new ≡ finite.insert (frames self.old) f zeros) }
+        ensures cleared { IfSome result
+            (λ f. frames self.new ≡ finite.insert (frames self.old) f zeros) }
         ensures noted { IfSome result (λ f. notes self.new ≡ finite.insert (notes self.old) f 0) }
 
         ensures all_in_use { IfNone result (finite.len (frames self.old) ≡ size self.old) }
@@ -44,7 +48,8 @@ pub trait FrameStore {
         ensures unchanged_notes { IfNone result (notes self.new ≡ notes self.old) }
 
         ensures same_base { base self.new ≡ base self.old }
-        ensures same_size { size self.new ≡ size self.old };
+        ensures same_size { size self.new ≡ size self.old }
+        ensures same_lenders { lenders self.new ≡ lenders self.old };
 
     /// Gives a frame back, so that it isn't in use.
     fn give(&mut self, frame: Frame)
@@ -52,7 +57,8 @@ pub trait FrameStore {
         ensures removed { frames self.new ≡ finite.remove (frames self.old) frame }
         ensures removed_note { notes self.new ≡ finite.remove (notes self.old) frame }
         ensures same_base { base self.new ≡ base self.old }
-        ensures same_size { size self.new ≡ size self.old };
+        ensures same_size { size self.new ≡ size self.old }
+        ensures same_lenders { lenders self.new ≡ lenders self.old };
 
     /// Does what `give` does for a frame whose words are all 0, and clears none of them.
     fn give_zeroed(&mut self, frame: Frame)
@@ -61,7 +67,8 @@ pub trait FrameStore {
         ensures removed { frames self.new ≡ finite.remove (frames self.old) frame }
         ensures removed_note { notes self.new ≡ finite.remove (notes self.old) frame }
         ensures same_base { base self.new ≡ base self.old }
-        ensures same_size { size self.new ≡ size self.old };
+        ensures same_size { size self.new ≡ size self.old }
+        ensures same_lenders { lenders self.new ≡ lenders self.old };
 
     /// The word of a frame in use at an index below 512.
     fn get(&self, frame: Frame, index: usize) -> u64
@@ -74,10 +81,12 @@ pub trait FrameStore {
         requires in_use { IsInUse (frames self.old) frame }
         requires in_frame { index < FRAME_WORDS }
         ensures written { frames self.new
-            ≡ finite.insert (frames self.old) frame (slice_set (words_of (frames self.old) frame) index word) }
+            ≡ finite.insert (frames self.old) frame
+            (slice_set (words_of (frames self.old) frame) index word) }
         ensures same_notes { notes self.new ≡ notes self.old }
         ensures same_base { base self.new ≡ base self.old }
-        ensures same_size { size self.new ≡ size self.old };
+        ensures same_size { size self.new ≡ size self.old }
+        ensures same_lenders { lenders self.new ≡ lenders self.old };
 
     /// The note of a frame in use: what `set_note` wrote last since the frame was taken, or 0.
     fn note(&self, frame: Frame) -> u16
@@ -90,7 +99,8 @@ pub trait FrameStore {
         ensures written { notes self.new ≡ finite.insert (notes self.old) frame note }
         ensures same_frames { frames self.new ≡ frames self.old }
         ensures same_base { base self.new ≡ base self.old }
-        ensures same_size { size self.new ≡ size self.old };
+        ensures same_size { size self.new ≡ size self.old }
+        ensures same_lenders { lenders self.new ≡ lenders self.old };
 
     /// The words of a frame in use.
     fn frame(&self, frame: Frame) -> &[u64; FRAME_WORDS]
@@ -107,7 +117,8 @@ pub trait FrameStore {
     fn at(&self, number: u64) -> Option<Frame>
         ensures numbered { IfSome result (λ f. base self.now + f ≡ number) }
         ensures in_use { IfSome result (IsInUse (frames self.now)) }
-        ensures unknown { IfNone result ((f : ℕ) → base self.now + f ≡ number → IsFree (frames self.now) f) };
+        ensures unknown { IfNone result
+            ((f : ℕ) → base self.now + f ≡ number → IsFree (frames self.now) f) };
 
     /// The frame in use with this frame number, which is that of one.
     fn in_use(&self, number: u64) -> Frame

@@ -1,4 +1,4 @@
-ghost use Rattle.std.specs.Prelude.{◌≡◌, ◌+◌, ◌^◌, ◌≤◌, IfOk};
+ghost use Rattle.std.specs.Prelude.{◌≡◌, ◌+◌, ◌^◌, ◌≤◌, IfOk, []};
 ghost use Rattle.std.specs.FinMap as finite;
 ghost use Rattle.vs_types.specs.declared.limits.TheConstants.{TABLES};
 
@@ -29,7 +29,7 @@ pub struct VecArena {
 impl Model for VecArena {
     ghost use Rattle.std.specs.Prelude.{◌≤◌, vec_capacity};
     ghost use Rattle.vs_arena.specs.Arena.{Arena};
-    ghost use Rattle.vs_arena.specs.inside.Arena.{arena_code, marked_frames, marked_notes, IsArena, HasRoom};
+    ghost use Rattle.vs_arena.specs.Marked.{arena_code, marked_frames, marked_notes, IsArena, HasRoom};
 
     ghost Value = { Arena };
 
@@ -42,8 +42,10 @@ impl Model for VecArena {
       notes = marked_notes a.marks.items a.notes.items;
     } };
 
-    ghost invariant = { λ a. IsArena a.base a.size a.words.items a.marks.items a.notes.items a.free.items
-        × HasRoom a.size (vec_capacity a.marks) (vec_capacity a.notes) (vec_capacity a.free) × (a.size ≤ vec_capacity a.words) };
+    ghost invariant = { λ a.
+        IsArena a.base a.size a.words.items a.marks.items a.notes.items a.free.items
+        × HasRoom a.size (vec_capacity a.marks) (vec_capacity a.notes) (vec_capacity a.free)
+        × (a.size ≤ vec_capacity a.words) };
 }
 
 impl VecArena {
@@ -55,7 +57,9 @@ impl VecArena {
     pub fn new(alloc: Global, base: u64, n: usize) -> Result<VecArena, Memory>
         requires few { n ≤ TABLES }
         requires in_range { base + n ≤ 2 ^ 40 }
-        ensures { IfOk result (λ a. a ≡ record { base = base; size = n; frames = finite.empty; notes = finite.empty }) }
+        ensures { IfOk result
+            (λ a. a
+            ≡ record { base = base; size = n; frames = finite.empty; notes = finite.empty }) }
     {
         let words = Vec::with_capacity(alloc, n)?;
         let marks = Vec::with_capacity(alloc, n)?;
@@ -80,6 +84,8 @@ impl FrameStore for VecArena {
     ghost base = { λ a. a.base };
 
     ghost size = { λ a. a.size };
+
+    ghost lenders = { λ _. [] };
 
     fn capacity(&self) -> usize {
         self.size

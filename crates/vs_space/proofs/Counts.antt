@@ -8,7 +8,7 @@ use Rattle.std.specs.Ordering.{nat_cmp}
 use Rattle.vs_arena.specs.Store.{Store, Notes, IsInUse, words_of, note_of, zeros}
 use Rattle.vs_arena.proofs.Stores.{get-insert_same, get-insert_other, get-remove, get_in_use}
 use Rattle.vs_walk.specs.Memory.{AreWhole}
-use Rattle.vs_space.specs.inside.Counted.{one_for, nonzero_count, IsCounted}
+use Rattle.vs_space.specs.Counted.{one_for, nonzero_count, IsCounted}
 
 pub one_for_some : (word : ℕ) → word ≢ 0 → one_for word ≡ 1
 one_for_some zero other = absurd (other refl)

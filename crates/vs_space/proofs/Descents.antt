@@ -13,7 +13,7 @@ use Rattle.vs_walk.specs.Memory.{Memory}
 use Rattle.vs_walk.proofs.Walks.{few_levels}
 use Rattle.vs_space.specs.Held.{word_at}
 use Rattle.vs_space.specs.Path.{found_at, table_at, table_in}
-use Rattle.vs_space.specs.inside.Tree.{IsTree, IsReached, AreWritten}
+use Rattle.vs_space.specs.Tree.{IsTree, IsReached, AreWritten}
 use Rattle.vs_space.specs.inside.Descent.{IsDescent}
 use Rattle.vs_space.proofs.Paths.{table_first, table_below}
 use Rattle.vs_space.proofs.Trees.{one_some}

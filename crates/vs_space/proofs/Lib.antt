@@ -8,6 +8,7 @@ pub mod Written
 pub mod Counts
 pub mod Reached
 pub mod Regions
+pub mod Relent
 pub mod Descents
 pub mod Protects
 pub mod Meets

@@ -27,11 +27,11 @@ use Rattle.vs_walk.specs.Walk.{as_walk}
 use Rattle.vs_walk.specs.declared.walk.Walk.TheVariants.{Mapped}
 use Rattle.vs_space.specs.Held.{with_word}
 use Rattle.vs_space.specs.Path.{found_at, table_in, SamePath}
-use Rattle.vs_space.specs.inside.Tree.{NothingUnder}
+use Rattle.vs_space.specs.Tree.{NothingUnder}
 use Rattle.vs_space.specs.inside.Grow.{IsOpen, IsExtended, IsBelowRoot, IsLeastBase}
 use Rattle.vs_space.specs.inside.Descent.{IsDescent}
 use Rattle.vs_space.specs.Table.{PageTable, IsTableStep}
-use Rattle.vs_space.specs.inside.Invariant.{IsSpaceOf, IsPageTable}
+use Rattle.vs_space.specs.Invariant.{IsSpaceOf, IsPageTable}
 use Rattle.vs_space.proofs.Paths.{table_below, words_found}
 use Rattle.vs_space.proofs.Writes.{IsTreeAt, walk_off_path, len_write}
 use Rattle.vs_space.proofs.Trees.{tree_write, walk_to_leaf, but_none, but_write, filled_by}

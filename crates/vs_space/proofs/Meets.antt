@@ -27,7 +27,7 @@ use Rattle.vs_space.specs.Path.{found_at, table_in}
 use Rattle.vs_space.specs.Written.{IsWritten}
 use Rattle.vs_space.specs.inside.Descent.{IsDescent, EndsAt, HasEnded, HasMet}
 use Rattle.vs_space.specs.Table.{PageTable, IsTableOf, IsTableStep}
-use Rattle.vs_space.specs.inside.Invariant.{IsPageTable, table_in_store}
+use Rattle.vs_space.specs.Invariant.{IsPageTable, table_in_store}
 use Rattle.vs_space.proofs.Paths.{words_found}
 use Rattle.vs_space.proofs.Regions.{IsLeafPage}
 use Rattle.vs_space.proofs.Protects.{IsMet, own_space, space_of, absent_none, never_reserved, page_here, unmap_none, protect_none, unmap_inside, protect_inside}

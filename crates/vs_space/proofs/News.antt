@@ -9,13 +9,13 @@ use Rattle.vs_types.specs.Space.{no_pages}
 use Rattle.vs_types.specs.declared.depth.Depth.{Depth}
 use Rattle.vs_types.specs.declared.entry.Meaning.TheVariants as entry
 use Rattle.vs_types.proofs.Spaces.{no_pages_space, look_of_nothing}
-use Rattle.vs_arena.specs.Store.{zeros}
+use Rattle.vs_arena.specs.Store.{Lenders, zeros}
 use Rattle.vs_walk.specs.Memory.{Memory}
 use Rattle.vs_walk.specs.Walk.{as_walk, TranslatesAs}
 use Rattle.vs_space.specs.Path.{found_at, table_at, table_in}
-use Rattle.vs_space.specs.inside.Tree.{IsTree, IsReached, AreWritten}
+use Rattle.vs_space.specs.Tree.{IsTree, IsReached, AreWritten}
 use Rattle.vs_space.specs.Table.{PageTable, IsTableOf}
-use Rattle.vs_space.specs.inside.Invariant.{IsPageTable}
+use Rattle.vs_space.specs.Invariant.{IsPageTable}
 use Rattle.vs_space.proofs.Numbered.{get-insert_same, get-insert_other, len-insert_free, whole-empty, whole-zeros}
 use Rattle.vs_space.proofs.Paths.{reached_within, table_first, table_below, none_past, walk_absent}
 use Rattle.vs_space.proofs.Writes.{used_some}
@@ -86,9 +86,9 @@ module _ (depth : Depth) (root : ℕ) where
       (found_in_zeros (levels depth) alone root a clear)
       ∙ ap as_walk (sym (look_of_nothing a))
 
-  module _ (first limit : ℕ) where
+  module _ (first limit : ℕ) (lenders : Lenders) where
     abbrev new : PageTable
-    new = record { depth = depth; base = first; limit = limit; root = root; memory = finite.insert finite.empty root zeros }
+    new = record { depth = depth; base = first; limit = limit; root = root; memory = finite.insert finite.empty root zeros; lenders = lenders }
 
     pub new_is_empty : IsTableOf new no_pages
     new_is_empty = record { is_space = no_pages_space depth; translates = translates_alone }

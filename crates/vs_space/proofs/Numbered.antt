@@ -10,7 +10,7 @@ use Rattle.std.specs.FinMap as finite
 use Rattle.std.specs.FinMap.Entries as entries
 use Rattle.std.specs.Prelude.{IsSome, option_map, unwrap_or, slice_index, slice_set}
 use Rattle.std.proofs.lemmas.List.{length-set, length-replicate}
-use Rattle.vs_arena.specs.Store.{Store, IsInUse, IsFree, words_of, zeros}
+use Rattle.vs_arena.specs.Store.{Store, Lenders, IsInUse, IsFree, words_of, zeros}
 use Rattle.vs_arena.proofs.Stores.{get_in_use}
 use Rattle.vs_walk.specs.Memory.{Memory, AreWhole}
 use Rattle.vs_space.specs.Held.{numbered, Held, word_at, with_word, AreNumbered}
@@ -177,8 +177,8 @@ with_word_numbered base store number f index word at used =
     ∙ ap (λ (o : Option (List ℕ)). finite.insert (numbered base store) number (slice_set (unwrap_or o []) index word))
     (sym (some_at base store number f at used))
 
-abbrev pub held : ℕ → ℕ → Memory → Held
-held base limit memory = record { base = base; limit = limit; memory = memory }
+abbrev pub held : Lenders → ℕ → ℕ → Memory → Held
+held lenders base limit memory = record { base = base; limit = limit; memory = memory; lenders = lenders }
 
 pub whole_numbered : (base : ℕ) (store : Store) → AreWhole store → AreWhole (numbered base store)
 whole_numbered base store is = λ n words got. ⊎_elim
@@ -210,24 +210,24 @@ whole-remove store f is = λ i words got. ⊎_elim
     (λ (other : i ≢ f). is i words (sym (get-remove_other store f i other) ∙ got))
     (cases_eq i f)
 
-pub stored : (store : Store) {base base' limit limit' : ℕ} {m : Memory} → limit' ≡ limit → base' ≡ base → numbered base store ≡ m
-    → held base' limit' (numbered base' store) ≡ held base limit m
-stored store same_limit same_base e = rw (same_limit, same_base, e) refl
+pub stored : (store : Store) {base base' limit limit' : ℕ} {lenders lenders' : Lenders} {m : Memory} → limit' ≡ limit → base' ≡ base → lenders' ≡ lenders
+    → numbered base store ≡ m → held lenders' base' limit' (numbered base' store) ≡ held lenders base limit m
+stored store same_limit same_base same_lenders e = rw (same_limit, same_base, same_lenders, e) refl
 
 -- but for their memory, they are as they were
 pub same_but_memory : (old now new : Held) (m : Memory) → new ≡ record now { memory = m } → now ≡ record old { memory = now.memory }
     → new ≡ record old { memory = new.memory }
 same_but_memory old now new m is same =
-    is ∙ ap (λ (h : Held). held h.base h.limit m) same ∙ ap (held old.base old.limit) (sym (ap (λ (h : Held). h.memory) is))
+    is ∙ ap (λ (h : Held). held h.lenders h.base h.limit m) same ∙ ap (held old.lenders old.base old.limit) (sym (ap (λ (h : Held). h.memory) is))
 
 -- ---- the numbers of the frames in use
 
-pub numbers_stored : (store : Store) {base base' limit limit' : ℕ} {m : Memory} → limit' ≡ limit → base' ≡ base → numbered base store ≡ m
-    → AreNumbered (held base limit m) → AreNumbered (held base' limit' (numbered base' store))
-numbers_stored store same_limit same_base e is = subst AreNumbered (sym (stored store same_limit same_base e)) is
+pub numbers_stored : (store : Store) {base base' limit limit' : ℕ} {lenders lenders' : Lenders} {m : Memory} → limit' ≡ limit → base' ≡ base → lenders' ≡ lenders
+    → numbered base store ≡ m → AreNumbered (held lenders base limit m) → AreNumbered (held lenders' base' limit' (numbered base' store))
+numbers_stored store same_limit same_base same_lenders e is = subst AreNumbered (sym (stored store same_limit same_base same_lenders e)) is
 
-pub numbers_none : (base limit : ℕ) {m : Memory} → m ≡ finite.empty → AreNumbered (held base limit m)
-numbers_none base limit {m} e = record { from_base = λ n used. absurd (nothing n used); below = λ n used. absurd (nothing n used) } where
+pub numbers_none : (base limit : ℕ) {lenders : Lenders} {m : Memory} → m ≡ finite.empty → AreNumbered (held lenders base limit m)
+numbers_none base limit {m = m} e = record { from_base = λ n used. absurd (nothing n used); below = λ n used. absurd (nothing n used) } where
   nothing : (n : ℕ) → IsSome (finite.get m n) → ⊥
   nothing n used = let none : IsSome {T = List ℕ} None = subst IsSome (ap (λ (s : Memory). finite.get s n) e ∙ finite.get-empty nat_cmp n) used in cc
 

@@ -15,7 +15,7 @@ use Rattle.vs_walk.specs.declared.walk.Walk.TheVariants.{Missing, NotMapped, Res
 use Rattle.vs_walk.proofs.Walks.{walk_nowhere, walk_missing, walk_at}
 use Rattle.vs_space.specs.Held.{word_at}
 use Rattle.vs_space.specs.Path.{found_at, table_in, table_at, SamePath}
-use Rattle.vs_space.specs.inside.Tree.{IsTree}
+use Rattle.vs_space.specs.Tree.{IsTree}
 
 -- ---- an entry on a walk
 

@@ -25,7 +25,7 @@ use Rattle.vs_walk.proofs.LawsOfTranslations.{one_space, not_reserved}
 use Rattle.vs_space.specs.Held.{with_word}
 use Rattle.vs_space.specs.Path.{found_at, table_at, table_in, SamePath}
 use Rattle.vs_space.specs.Table.{PageTable, IsTableOf, IsTableStep}
-use Rattle.vs_space.specs.inside.Invariant.{IsSpaceOf, IsPageTable}
+use Rattle.vs_space.specs.Invariant.{IsSpaceOf, IsPageTable}
 use Rattle.vs_space.proofs.Paths.{walk_absent, walk_reserved}
 use Rattle.vs_space.proofs.Writes.{IsTreeAt, walk_off_path, len_write}
 use Rattle.vs_space.proofs.Trees.{tree_write, walk_to_leaf, but_none, but_write, filled_by}

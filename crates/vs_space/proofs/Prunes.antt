@@ -16,7 +16,7 @@ use Rattle.vs_walk.specs.Walk.{walk}
 use Rattle.vs_walk.specs.declared.walk.Walk.TheVariants.{NotMapped, Mapped, Reserved}
 use Rattle.vs_space.specs.Held.{word_at, with_word}
 use Rattle.vs_space.specs.Path.{found_at, entry_in, IsFirstPresent, HasPresent, table_in, table_at, SamePath}
-use Rattle.vs_space.specs.inside.Tree.{IsTree, NothingUnder, AreWritten}
+use Rattle.vs_space.specs.Tree.{IsTree, NothingUnder, AreWritten}
 use Rattle.vs_space.specs.inside.Prune.{IsCut, IsPruned}
 use Rattle.vs_space.proofs.Canonical.{half_same}
 use Rattle.vs_space.proofs.Numbered.{len-remove_used, whole-remove}

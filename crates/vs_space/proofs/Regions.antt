@@ -26,7 +26,7 @@ use Rattle.vs_walk.specs.declared.walk.Walk.TheVariants.{NotMapped, Mapped}
 use Rattle.vs_walk.proofs.Walks.{leaf_level}
 use Rattle.vs_space.specs.Path.{found_at, table_at, SamePath}
 use Rattle.vs_space.specs.Table.{PageTable, IsTableOf}
-use Rattle.vs_space.specs.inside.Tree.{IsTree}
+use Rattle.vs_space.specs.Tree.{IsTree}
 use Rattle.vs_space.proofs.Canonical.{top_same}
 use Rattle.vs_space.proofs.Paths.{words_found, walk_leaf}
 

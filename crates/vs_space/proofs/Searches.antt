@@ -16,7 +16,7 @@ use Rattle.vs_walk.specs.Memory.{Memory}
 use Rattle.vs_walk.specs.Walk.{walk}
 use Rattle.vs_walk.specs.declared.walk.Walk.TheVariants.{NotMapped, Reserved}
 use Rattle.vs_space.specs.Path.{found_at, entry_in, IsFirstPresent, table_in, table_at, SamePath}
-use Rattle.vs_space.specs.inside.Tree.{IsTree, IsFilled}
+use Rattle.vs_space.specs.Tree.{IsTree, IsFilled}
 use Rattle.vs_space.specs.inside.Grow.{IsBelowRoot, IsLeastBase}
 use Rattle.vs_space.proofs.Paths.{table_below, same_table, walk_absent, walk_reserved, words_found}
 use Rattle.vs_space.proofs.Meets.{never_table}

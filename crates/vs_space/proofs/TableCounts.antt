@@ -15,7 +15,7 @@ use Rattle.vs_types.proofs.Spaces.{holds_listed, page_at_means}
 use Rattle.vs_types.proofs.Counts.{member_comes, member_goes}
 use Rattle.vs_types.proofs.TableCounts.{has_table, stretches, tables_with, tables_without}
 use Rattle.vs_walk.specs.declared.walk.Walk.TheVariants.{NotMapped}
-use Rattle.vs_space.specs.inside.Tree.{NothingUnder}
+use Rattle.vs_space.specs.Tree.{NothingUnder}
 use Rattle.vs_space.specs.Table.{PageTable, IsTableOf}
 use Rattle.vs_space.proofs.Regions.{walk_in, same_stretch, stretch_same, block, in_block, walked_to_page, walked_to_nothing}
 

@@ -31,7 +31,7 @@ use Rattle.vs_walk.proofs.LawsOfSpaces.{translates_shared}
 use Rattle.vs_space.specs.Held.{word_at}
 use Rattle.vs_space.specs.Path.{found_at, table_in, table_at, SamePath}
 use Rattle.vs_space.specs.Table.{PageTable}
-use Rattle.vs_space.specs.inside.Invariant.{IsPageTable}
+use Rattle.vs_space.specs.Invariant.{IsPageTable}
 use Rattle.vs_space.proofs.Paths.{words_found, reached_within, table_first, table_next, none_past, table_before, same_table}
 use Rattle.vs_space.proofs.Writes.{same_longer}
 use Rattle.vs_space.proofs.Regions.{stretch_same}

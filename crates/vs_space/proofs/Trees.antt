@@ -14,7 +14,7 @@ use Rattle.vs_walk.specs.Walk.{all_rights, walk, walk_from}
 use Rattle.vs_walk.specs.declared.walk.Walk.TheVariants.{NotMapped, Mapped}
 use Rattle.vs_space.specs.Held.{with_word}
 use Rattle.vs_space.specs.Path.{found_at, table_in, table_at, SamePath}
-use Rattle.vs_space.specs.inside.Tree.{IsTree, IsFilled, NothingUnder}
+use Rattle.vs_space.specs.Tree.{IsTree, IsFilled, NothingUnder}
 use Rattle.vs_space.specs.inside.Prune.{IsFilledBut}
 use Rattle.vs_space.proofs.Paths.{table_below, none_past, same_table, agree_table, agree_walk, walk_absent, walk_leaf}
 use Rattle.vs_space.proofs.Writes.{IsTreeAt, within, after_write, off_path, above, table_off_path, table_above, walk_off_path, table_here, found_on_path}

@@ -23,11 +23,11 @@ use Rattle.vs_walk.specs.Walk.{walk}
 use Rattle.vs_walk.specs.declared.walk.Walk.TheVariants.{NotMapped, Reserved}
 use Rattle.vs_space.specs.Held.{with_word}
 use Rattle.vs_space.specs.Path.{table_in, SamePath}
-use Rattle.vs_space.specs.inside.Tree.{NothingUnder}
+use Rattle.vs_space.specs.Tree.{NothingUnder}
 use Rattle.vs_space.specs.inside.Prune.{IsCut, IsPruned}
 use Rattle.vs_space.specs.inside.Descent.{IsDescent}
 use Rattle.vs_space.specs.Table.{PageTable, IsTableOf, IsTableStep}
-use Rattle.vs_space.specs.inside.Invariant.{IsSpaceOf, IsPageTable}
+use Rattle.vs_space.specs.Invariant.{IsSpaceOf, IsPageTable}
 use Rattle.vs_space.proofs.Writes.{IsTreeAt, table_above, found_on_path, walk_off_path, len_write, same_or_not}
 use Rattle.vs_space.proofs.Trees.{tree_write, walk_to_absent, but_none, but_write}
 use Rattle.vs_space.proofs.Reached.{reached_write, whole_write}

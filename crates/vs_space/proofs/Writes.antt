@@ -10,7 +10,7 @@ use Rattle.vs_walk.specs.Memory.{Memory, AreWhole}
 use Rattle.vs_walk.specs.Walk.{all_rights, walk_from}
 use Rattle.vs_space.specs.Held.{word_at, with_word}
 use Rattle.vs_space.specs.Path.{found_at, table_at, SamePath}
-use Rattle.vs_space.specs.inside.Tree.{IsTree}
+use Rattle.vs_space.specs.Tree.{IsTree}
 use Rattle.vs_space.proofs.Numbered.{get-insert_same, get-insert_other, len-insert_used}
 use Rattle.vs_space.proofs.Paths.{reached_within, same_table, agree_table, agree_walk}
 

@@ -3,26 +3,28 @@ use Rattle.std.specs.Prelude.{ℕ, ◌+◌, ◌<◌, ◌≤◌, [], map, Option,
 use Rattle.std.specs.Coded.{Coded, code_by, coded×, coded_ℕ, coded_list}
 use Rattle.std.specs.FinMap as finite
 use Rattle.std.specs.Ordering.{nat_cmp}
-use Rattle.vs_arena.specs.Store.{Store}
+use Rattle.vs_arena.specs.Store.{Store, Lenders}
 use Rattle.vs_walk.specs.Memory.{Memory}
 
 -- the frames in use by number: the number of the one at an index is the base plus the index
 unfoldable pub numbered : ℕ → Store → Memory
 numbered base store = finite.from_sorted (map (λ e. (base + e.0, e.1)) (finite.entries store))
 
--- the number of frame 0, how many frames there can be in use, and those in use
+-- the number of frame 0, how many frames there can be in use, those in use, and who lent the store its memory
 pub record Held : Type 0 where
   pub base : ℕ
   pub limit : ℕ
   pub memory : Memory
+  pub lenders : Lenders
 
--- the frames in use of a store with this base and size
-abbrev pub held_in : ℕ → ℕ → Store → Held
-held_in base size store = record { base = base; limit = size; memory = numbered base store }
+-- the frames in use of a store with this base and size, whose memory these lent
+abbrev pub held_in : ℕ → ℕ → Store → Lenders → Held
+held_in base size store lenders = record { base = base; limit = size; memory = numbered base store; lenders = lenders }
 
 abbrev pub held_code : Coded Held
-held_code = code_by (ℕ × (ℕ × Memory)) (coded× coded_ℕ (coded× coded_ℕ (finite.code {R = nat_cmp} coded_ℕ (coded_list coded_ℕ))))
-    (λ h. (h.base, (h.limit, h.memory))) (λ p. record { base = p.0; limit = p.1.0; memory = p.1.1 }) (λ _. refl)
+held_code = code_by (ℕ × (ℕ × (Memory × Lenders)))
+    (coded× coded_ℕ (coded× coded_ℕ (coded× (finite.code {R = nat_cmp} coded_ℕ (coded_list coded_ℕ)) (coded_list coded_ℕ))))
+    (λ h. (h.base, (h.limit, (h.memory, h.lenders)))) (λ p. record { base = p.0; limit = p.1.0; memory = p.1.1.0; lenders = p.1.1.1 }) (λ _. refl)
 
 -- the frames in use have numbers from the base on, below the base plus how many there can be
 pub record AreNumbered (held : Held) : Type 0 where

@@ -2,6 +2,10 @@ pub mod Held
 pub mod Path
 pub mod Written
 pub mod Table
+pub mod Tree
+pub mod Counted
+pub mod Invariant
+pub mod Kept
 pub mod inside
 pub use Rattle.vs_types.specs.Depth
 pub use Rattle.vs_types.specs.Page

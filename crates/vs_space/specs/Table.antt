@@ -6,16 +6,19 @@ use Rattle.vs_types.specs.Laws.{changes}
 use Rattle.vs_types.specs.declared.depth.Depth.{Depth}
 use Rattle.vs_types.specs.declared.op.Action.{Action}
 use Rattle.vs_types.specs.declared.answer.Answer.{Answer}
+use Rattle.vs_arena.specs.Store.{Lenders}
 use Rattle.vs_walk.specs.Memory.{Memory}
 use Rattle.vs_walk.specs.Walk.{TranslatesAs}
 
--- the depth, the number of the store's first frame, how many tables there can be, the frame number of the root, and the frames of the tables
+-- the depth, the number of the store's first frame, how many tables there can be, the frame number of the root, the frames of the tables,
+-- and who lent the store its memory
 pub record PageTable : Type 0 where
   pub depth : Depth
   pub base : ℕ
   pub limit : ℕ
   pub root : ℕ
   pub memory : Memory
+  pub lenders : Lenders
 
 -- the page table is that of the space: its tables translate each address as it looks there
 pub record IsTableOf (table : PageTable) (space : Space) : Type 0 where

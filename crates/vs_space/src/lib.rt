@@ -8,4 +8,4 @@ mod space;
 mod tables;
 mod word;
 
-pub use space::{NoRoot, Space};
+pub use space::{NoRoot, Space, SpaceParts};

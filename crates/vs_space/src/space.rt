@@ -12,6 +12,7 @@ ghost use Rattle.vs_types.specs.Space.{no_pages, table_count};
 ghost use Rattle.vs_types.specs.Step.{allow, look};
 ghost use Rattle.vs_walk.specs.Traversal.{traversal, reached, walk_fault};
 ghost use Rattle.vs_space.specs.Table.{PageTable, IsTableOf, IsTableStep};
+ghost use Rattle.vs_space.specs.Kept.{KeepsTable, table_of};
 ghost use Rattle.vs_space.specs.Written.{IsWrittenTable};
 ghost use Rattle.vs_space.specs.inside.Descent.{HasEnded, HasMet};
 
@@ -43,7 +44,7 @@ impl<S: FrameStore> Model for Space<S> {
     ghost use Rattle.std.specs.Ordering.{nat_cmp};
     ghost use Rattle.vs_space.specs.Held.{AreNumbered};
     ghost use Rattle.vs_space.specs.Table.{PageTable};
-    ghost use Rattle.vs_space.specs.inside.Invariant.{IsPageTable, table_in_store};
+    ghost use Rattle.vs_space.specs.Invariant.{IsPageTable, table_in_store};
 
     ghost Value = { PageTable };
 
@@ -56,6 +57,7 @@ impl<S: FrameStore> Model for Space<S> {
           limit = s.tables.limit;
           root = s.root;
           memory = s.tables.memory;
+          lenders = s.tables.lenders;
         } };
 
     ghost invariant = { λ s. IsPageTable (table_in_store s.depth s.tables s.root)
@@ -83,6 +85,7 @@ impl<S: FrameStore + Drop> Space<S> {
         ensures same_depth { IfOk result (λ s. s.depth ≡ depth) }
         ensures base { IfOk result (λ s. s.base ≡ S.base store) }
         ensures limit { IfOk result (λ s. s.limit ≡ S.size store) }
+        ensures lenders { IfOk result (λ s. s.lenders ≡ S.lenders store) }
         ensures no_root { OnErr result (S.size store ≡ 0) }
     {
         let mut tables = Tables::new(store);
@@ -94,6 +97,55 @@ impl<S: FrameStore + Drop> Space<S> {
             depth,
             root,
         })
+    }
+}
+
+/// A page table that is taken apart: its store, with the tables in its frames, and the frame number of the root.
+#[derive(Drop)]
+pub struct SpaceParts<S: FrameStore> {
+    /// The store.
+    pub store: S,
+    /// The depth.
+    pub depth: Depth,
+    /// The frame number of the root.
+    pub root: u64,
+}
+
+impl<S: FrameStore> Space<S> {
+    /// Takes the page table apart. It stays in the frames of its store, as `from_parts` finds it there.
+    pub fn into_parts(self) -> SpaceParts<S>
+        ensures keeps { KeepsTable result.depth result.root (S.base result.store)
+            (S.size result.store)
+            (S.frames result.store) (S.notes result.store) }
+        ensures same { table_of (S.lenders result.store) result.depth result.root
+            (S.base result.store)
+            (S.size result.store) (S.frames result.store) ≡ self }
+    {
+        let Space {
+            tables,
+            depth,
+            root,
+        } = self;
+        SpaceParts {
+            store: tables.into_store(),
+            depth,
+            root,
+        }
+    }
+
+    /// The page table that was taken apart into these.
+    pub fn from_parts(parts: SpaceParts<S>) -> Space<S>
+        requires { KeepsTable parts.depth parts.root (S.base parts.store) (S.size parts.store)
+            (S.frames parts.store) (S.notes parts.store) }
+        ensures { result ≡ table_of (S.lenders parts.store) parts.depth parts.root
+            (S.base parts.store) (S.size parts.store) (S.frames parts.store) }
+    {
+        let SpaceParts { store, depth, root } = parts;
+        Space {
+            tables: Tables::from_store(store),
+            depth,
+            root,
+        }
     }
 }
 

@@ -1,4 +1,4 @@
-ghost use Rattle.std.specs.Prelude.{ℕ, ◌≢◌, Some, slice_index, ◌≡◌, ◌<◌, ◌≤◌, ◌^◌, ◌+◌, ◌-◌, IfSome, IfNone, IsSome, IsTrue, IsFalse, option_copied};
+ghost use Rattle.std.specs.Prelude.{ℕ, ◌≢◌, Some, slice_index, ◌≡◌, ◌<◌, ◌≤◌, ◌^◌, ◌+◌, ◌-◌, IfSome, IfNone, IsSome, IsTrue, IsFalse, option_copied, []};
 ghost use Rattle.std.specs.FinMap as finite;
 ghost use Rattle.vs_arena.specs.Store.{zeros, IsInUse};
 ghost use Rattle.vs_types.specs.declared.depth.Depth.{Depth};
@@ -10,10 +10,11 @@ ghost use Rattle.vs_walk.specs.declared.walk.Walk.{Walk};
 ghost use Rattle.vs_types.specs.Entry.{meaning};
 ghost use Rattle.vs_types.specs.declared.entry.Meaning.{Meaning};
 ghost use Rattle.vs_space.specs.inside.Prune.{IsCut, IsPruned};
-ghost use Rattle.vs_space.specs.Held.{numbered, word_at, with_word, AreNumbered};
+ghost use Rattle.vs_space.specs.Held.{numbered, held_in, word_at, with_word, AreNumbered};
+ghost use Rattle.vs_space.specs.Counted.{IsCounted};
 ghost use Rattle.vs_walk.specs.Memory.{AreWhole};
 ghost use Rattle.vs_space.specs.Path.{found_at, entry_in, IsFirstPresent, HasPresent};
-ghost use Rattle.vs_space.specs.inside.Tree.{IsTree, IsReached, AreWritten};
+ghost use Rattle.vs_space.specs.Tree.{IsTree, IsReached, AreWritten};
 ghost use Rattle.vs_space.specs.Written.{IsWritten};
 ghost use Rattle.vs_space.specs.inside.Grow.{IsExtended, IsBelowRoot, IsLeastBase};
 ghost use Rattle.vs_space.specs.inside.Descent.{EndsAt};
@@ -34,16 +35,18 @@ pub(crate) struct Tables<S: FrameStore> {
 impl<S: FrameStore> Model for Tables<S> {
     ghost use Rattle.vs_space.specs.Held.{Held, held_code, held_in, AreNumbered};
     ghost use Rattle.vs_walk.specs.Memory.{AreWhole};
-    ghost use Rattle.vs_space.specs.inside.Counted.{IsCounted};
+    ghost use Rattle.vs_space.specs.Counted.{IsCounted};
 
     ghost Value = { Held };
 
     ghost coded = { held_code };
 
-    ghost view = { λ t. held_in (S.base t.store) (S.size t.store) (S.frames t.store) };
+    ghost view = { λ t.
+        held_in (S.base t.store) (S.size t.store) (S.frames t.store) (S.lenders t.store) };
 
     ghost invariant = { λ t. AreWhole (S.frames t.store)
-        × AreNumbered (held_in (S.base t.store) (S.size t.store) (S.frames t.store))
+        × AreNumbered
+        (held_in (S.base t.store) (S.size t.store) (S.frames t.store) (S.lenders t.store))
         × IsCounted (S.frames t.store) (S.notes t.store) };
 }
 
@@ -51,7 +54,37 @@ impl<S: FrameStore> Tables<S> {
     pub(crate) fn new(store: S) -> Tables<S>
         requires { S.frames store ≡ finite.empty }
         ensures { result
-            ≡ record { base = S.base store; limit = S.size store; memory = finite.empty } }
+            ≡ record {
+              base = S.base store;
+              limit = S.size store;
+              memory = finite.empty;
+              lenders = S.lenders store;
+            } }
+    {
+        Tables { store }
+    }
+
+    /// The store, with the frames in it.
+    pub(crate) fn into_store(self) -> S
+        ensures same { held_in (S.base result) (S.size result) (S.frames result) (S.lenders result)
+            ≡ self }
+        ensures numbers { AreNumbered
+            (held_in (S.base result) (S.size result) (S.frames result) []) }
+        ensures whole { AreWhole (S.frames result) }
+        ensures counted { IsCounted (S.frames result) (S.notes result) }
+    {
+        let Tables { store } = self;
+        store
+    }
+
+    /// The frames of a store whose notes say how many of their words aren't 0.
+    pub(crate) fn from_store(store: S) -> Tables<S>
+        requires numbers { AreNumbered (held_in (S.base store) (S.size store) (S.frames store) []) }
+        requires whole { AreWhole (S.frames store) }
+        requires counted { IsCounted (S.frames store) (S.notes store) }
+        ensures same { result
+            ≡ held_in (S.base store) (S.size store) (S.frames store) (S.lenders store) }
+        ensures numbers { AreNumbered result }
     {
         Tables { store }
     }

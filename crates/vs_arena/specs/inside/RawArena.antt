@@ -1,6 +1,6 @@
 -- How the frames of an arena in one region are kept. No public clause cites it.
 use Rattle.std.specs.Prelude.{◌≡◌, ℕ, ◌-◌, Bool, List, [], ◌∷◌, ◌++◌, map, length, replicate, Option, Some, None}
-use Rattle.vs_arena.specs.inside.Arena.{IsArena}
+use Rattle.vs_arena.specs.Marked.{IsArena}
 
 -- the values of the places that have one
 abbrev pub values : {X : Type 0} → List (Option X) → List X

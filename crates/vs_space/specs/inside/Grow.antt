@@ -9,7 +9,7 @@ use Rattle.vs_walk.specs.Memory.{Memory}
 use Rattle.vs_walk.specs.Walk.{walk}
 use Rattle.vs_walk.specs.declared.walk.Walk.TheVariants.{NotMapped, Reserved}
 use Rattle.vs_space.specs.Path.{found_at, table_at, SamePath}
-use Rattle.vs_space.specs.inside.Tree.{IsTree, IsFilled, IsReached}
+use Rattle.vs_space.specs.Tree.{IsTree, IsFilled, IsReached}
 use Rattle.vs_space.specs.inside.Prune.{IsFilledBut}
 
 -- the path of the address ends at an absent entry of this table of this level; other tables than those on it have something mapped

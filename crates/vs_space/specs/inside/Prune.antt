@@ -7,7 +7,7 @@ use Rattle.vs_types.specs.declared.entry.Meaning.TheVariants as entry
 use Rattle.vs_walk.specs.Memory.{Memory, AreWhole}
 use Rattle.vs_walk.specs.Walk.{walk}
 use Rattle.vs_space.specs.Path.{found_at, table_at, SamePath}
-use Rattle.vs_space.specs.inside.Tree.{IsTree, IsFilled, IsReached, NothingUnder}
+use Rattle.vs_space.specs.Tree.{IsTree, IsFilled, IsReached, NothingUnder}
 
 -- each table below the root has an address that is mapped, but for those on the path of this address
 pub record IsFilledBut (depth : Depth) (memory : Memory) (root base : ℕ) : Type 0 where

@@ -1,9 +1,9 @@
 use Rattle.std.proofs.Common.{◌≡◌, ◌+◌, ◌-◌, ◌<◌, true, [], ◌∷◌, ◌++◌, set, length, take, sym, ap, subst, ◌∙◌, arith}
 use Rattle.std.specs.FinMap as finite
 use Rattle.vs_arena.specs.Store.{IsFree, zeros}
-use Rattle.vs_arena.specs.Arena.{Arena}
-use Rattle.vs_arena.specs.inside.Arena.{marked_frames, marked_notes}
-use Rattle.vs_arena.specs.inside.LentArena.{uses_of_first, notes_of_first, given_back}
+use Rattle.vs_arena.specs.Lent.{LentFrames}
+use Rattle.vs_arena.specs.Marked.{marked_frames, marked_notes}
+use Rattle.vs_arena.specs.LentMarks.{uses_of_first, notes_of_first, given_back}
 use Rattle.vs_arena.proofs.Marked.{marked-mark, marked-push}
 use Rattle.vs_arena.proofs.MarkedFrames.{IsFree-from_mark, last_given, marked_frames-again, marked_frames-push}
 use Rattle.vs_arena.proofs.LentArenas.{length-uses, marked_again, uses-again, notes-again, last, popped, IsLentArena-again, is_past, uses-first, notes-first, words-first, IsLentArena-first}
@@ -22,7 +22,7 @@ returns-then-self-gt0-clause-was_free c =
     let fewer = c.self.inside.given - 1 in
     let index = last c.self.invariant fewer more in
     let was = last_given c.self.invariant.arena (given_back fewer c.self.inside.marks.now) index (popped c.self.invariant fewer more) in
-    rw c.at_index.ensures (subst (λ (a : Arena). IsFree a.frames index) c.self.view_is
+    rw c.at_index.ensures (subst (λ (a : LentFrames). IsFree a.frames index) c.self.view_is
     (IsFree-from_mark (uses_of_first c.self.inside.taken c.self.inside.marks.now) (take c.self.inside.taken c.self.inside.words.now) index was.unmarked))
 
 pub returns-then-self-gt0-clause-within : goal.returns-then-self-gt0-clause-within
@@ -32,7 +32,7 @@ returns-then-self-gt0-clause-within c =
     let index = last c.self.invariant fewer more in
     let was = last_given c.self.invariant.arena (given_back fewer c.self.inside.marks.now) index (popped c.self.invariant fewer more) in
     let lent : index < length c.self.inside.words.now = omega (arith, was.within, length-uses c.self.invariant, c.self.invariant.taken_within) in
-    omega (arith, c.at_index.ensures, lent, ap (λ (a : Arena). a.size) c.self.view_is)
+    omega (arith, c.at_index.ensures, lent, ap (λ (a : LentFrames). a.size) c.self.view_is)
 
 pub returns-then-self-gt0-clause-cleared : goal.returns-then-self-gt0-clause-cleared
 returns-then-self-gt0-clause-cleared c =
@@ -43,7 +43,7 @@ returns-then-self-gt0-clause-cleared c =
     ap (λ u. marked_frames u words) (uses-again c.self.invariant index)
     ∙ marked_frames-again c.self.invariant.arena (given_back fewer c.self.inside.marks.now) index (popped c.self.invariant fewer more)
     ∙ ap (λ i. finite.insert (marked_frames (uses_of_first c.self.inside.taken c.self.inside.marks.now) words) i zeros) (sym c.at_index.ensures)
-    ∙ ap (λ (a : Arena). finite.insert a.frames c.at_index.result zeros) c.self.view_is
+    ∙ ap (λ (a : LentFrames). finite.insert a.frames c.at_index.result zeros) c.self.view_is
 
 pub returns-then-self-gt0-clause-noted : goal.returns-then-self-gt0-clause-noted
 returns-then-self-gt0-clause-noted c =
@@ -57,7 +57,7 @@ returns-then-self-gt0-clause-noted c =
     ∙ ap (λ n. marked_notes (set marks index true) n) (notes-again c.self.invariant index)
     ∙ marked-mark 0 marks kept index 0 was.within (omega (arith, was.within, c.self.invariant.arena.notes_for_each))
     ∙ ap (λ i. finite.insert (marked_notes marks kept) i 0) (sym c.at_index.ensures)
-    ∙ ap (λ (a : Arena). finite.insert a.notes c.at_index.result 0) c.self.view_is
+    ∙ ap (λ (a : LentFrames). finite.insert a.notes c.at_index.result 0) c.self.view_is
 
 -- ---- a frame that was never taken
 
@@ -68,7 +68,7 @@ invariant_of-self-2 c =
 
 pub returns-clause-was_free : goal.returns-clause-was_free
 returns-clause-was_free c =
-    rw c.at_index-2.ensures (subst (λ (a : Arena). IsFree a.frames c.self.inside.taken) c.self.view_is
+    rw c.at_index-2.ensures (subst (λ (a : LentFrames). IsFree a.frames c.self.inside.taken) c.self.view_is
     (IsFree-from_mark (uses_of_first c.self.inside.taken c.self.inside.marks.now) (take c.self.inside.taken c.self.inside.words.now) c.self.inside.taken
     (is_past c.self.invariant c.self.inside.taken (omega arith))))
 
@@ -83,7 +83,7 @@ returns-clause-cleared c =
     ∙ ap (λ u. marked_frames u (words ++ zeros ∷ [])) (uses-first c.self.invariant room)
     ∙ marked_frames-push marks words zeros c.self.invariant.arena.words_for_each
     ∙ ap (λ i. finite.insert (marked_frames marks words) i zeros) (length-uses c.self.invariant ∙ sym c.at_index-2.ensures)
-    ∙ ap (λ (a : Arena). finite.insert a.frames c.at_index-2.result zeros) c.self.view_is
+    ∙ ap (λ (a : LentFrames). finite.insert a.frames c.at_index-2.result zeros) c.self.view_is
 
 pub returns-clause-noted : goal.returns-clause-noted
 returns-clause-noted c =
@@ -95,4 +95,4 @@ returns-clause-noted c =
     ∙ ap (λ u. marked_notes u (kept ++ 0 ∷ [])) (uses-first c.self.invariant room)
     ∙ marked-push 0 marks kept 0 c.self.invariant.arena.notes_for_each
     ∙ ap (λ i. finite.insert (marked_notes marks kept) i 0) (length-uses c.self.invariant ∙ sym c.at_index-2.ensures)
-    ∙ ap (λ (a : Arena). finite.insert a.notes c.at_index-2.result 0) c.self.view_is
+    ∙ ap (λ (a : LentFrames). finite.insert a.notes c.at_index-2.result 0) c.self.view_is

@@ -3,7 +3,7 @@ use Rattle.std.proofs.lemmas.List.{length-set, get_or-set_same}
 use Rattle.std.specs.FinMap as finite
 use Rattle.vs_arena.specs.Store.{zeros}
 use Rattle.vs_arena.specs.Arena.{Arena}
-use Rattle.vs_arena.specs.inside.Arena.{marked_frames}
+use Rattle.vs_arena.specs.Marked.{marked_frames}
 use Rattle.vs_arena.specs.inside.RawArena.{values}
 use Rattle.vs_arena.proofs.Marked.{remove-insert}
 use Rattle.vs_arena.proofs.MarkedFrames.{marked_here, IsMarked-from_use, IsInUse-from_mark, IsFrame-zeros, marked_frames-write}

@@ -3,7 +3,7 @@ use Rattle.std.proofs.lemmas.List.{length-set}
 use Rattle.std.specs.FinMap as finite
 use Rattle.vs_arena.specs.Store.{IsInUse, words_of}
 use Rattle.vs_arena.specs.Arena.{Arena}
-use Rattle.vs_arena.specs.inside.Arena.{marked_frames}
+use Rattle.vs_arena.specs.Marked.{marked_frames}
 use Rattle.vs_arena.specs.inside.RawArena.{values}
 use Rattle.vs_arena.proofs.MarkedFrames.{IsMarked, IsMarked-from_use, IsFrame-set, marked_frames-write}
 use Rattle.vs_arena.proofs.RawArenas.{IsFilled-within, value_at, values-set, IsRawArena-write}

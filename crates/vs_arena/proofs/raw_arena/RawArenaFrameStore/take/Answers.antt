@@ -4,7 +4,7 @@ use Rattle.std.specs.Prelude.{Some, None}
 use Rattle.std.specs.FinMap as finite
 use Rattle.vs_arena.specs.Store.{IsFree, zeros}
 use Rattle.vs_arena.specs.Arena.{Arena}
-use Rattle.vs_arena.specs.inside.Arena.{marked_frames}
+use Rattle.vs_arena.specs.Marked.{marked_frames}
 use Rattle.vs_arena.specs.inside.RawArena.{values}
 use Rattle.vs_arena.proofs.Marked.{marked-mark, marked-push}
 use Rattle.vs_arena.proofs.MarkedFrames.{IsFree-from_mark, IsFree-past, last_given, marked_frames-again, marked_frames-push, IsArena-again}

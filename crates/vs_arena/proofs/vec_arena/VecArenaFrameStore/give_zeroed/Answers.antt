@@ -2,7 +2,7 @@ use Rattle.std.proofs.Common.{◌≡◌, sym, ap, subst, ◌∙◌, arith}
 use Rattle.std.specs.FinMap as finite
 use Rattle.vs_arena.specs.Store.{words_of, zeros}
 use Rattle.vs_arena.specs.Arena.{Arena}
-use Rattle.vs_arena.specs.inside.Arena.{marked_frames}
+use Rattle.vs_arena.specs.Marked.{marked_frames}
 use Rattle.vs_arena.proofs.Marked.{marked-unmark}
 use Rattle.vs_arena.proofs.MarkedFrames.{marked_here, marked_frames-unmark, room_for_one, IsArena-give}
 use Rattle.vs_arena.proofs.vec_arena.VecArenaFrameStore.give_zeroed.Goals as goal

@@ -2,7 +2,7 @@ use Rattle.std.proofs.Common.{sym, ap, ◌∙◌, arith}
 use Rattle.std.proofs.lemmas.List.{get_or_read}
 use Rattle.vs_arena.specs.Store.{note_of}
 use Rattle.vs_arena.specs.Arena.{Arena}
-use Rattle.vs_arena.specs.inside.Arena.{marked_notes}
+use Rattle.vs_arena.specs.Marked.{marked_notes}
 use Rattle.vs_arena.proofs.Marked.{note_of-marked}
 use Rattle.vs_arena.proofs.MarkedFrames.{marked_here}
 use Rattle.vs_arena.proofs.vec_arena.VecArenaFrameStore.note.Goals as goal

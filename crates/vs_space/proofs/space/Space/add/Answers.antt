@@ -12,7 +12,7 @@ use Rattle.vs_space.specs.Held.{Held, word_at, with_word}
 use Rattle.vs_space.specs.Table.{PageTable, IsTableStep}
 use Rattle.vs_space.specs.inside.Descent.{HasMet}
 use Rattle.vs_space.specs.inside.Grow.{IsExtended}
-use Rattle.vs_space.specs.inside.Invariant.{IsPageTable, table_in_store}
+use Rattle.vs_space.specs.Invariant.{IsPageTable, table_in_store}
 use Rattle.vs_space.proofs.Meets.{met_inside, used_met, seen}
 use Rattle.vs_space.proofs.Written.{written_at}
 use Rattle.vs_space.proofs.Presents.{absent_word, some_word}
@@ -65,7 +65,7 @@ pub invariant_of-self : goal.invariant_of-self
 invariant_of-self g c =
     let good = subst (λ (t : PageTable). IsPage t.depth c.args.page) (sym c.self.view_is) c.requires.page in
     let written = c.fill.ensures.written ∙ ap (λ (h : Held). let r : Held =
-    record { base = h.base; limit = h.limit; memory = with_word c.extend-number.new.self.memory c.extend-number.result c.index_at.result c.word.result }
+    record { base = h.base; limit = h.limit; memory = with_word c.extend-number.new.self.memory c.extend-number.result c.index_at.result c.word.result; lenders = h.lenders }
     in r) c.extend-number.ensures.same in (
       subst (λ (h : Held). IsPageTable (table_in_store c.self.inside.depth h c.self.inside.root)) (sym written)
           (added good (met_inside c.self.view_is c.requires.absent) c.level-lowest.ensures c.extend-number.ensures.extended c.fill.ensures.whole
@@ -78,7 +78,7 @@ pub returns : goal.returns
 returns g c =
     let good = subst (λ (t : PageTable). IsPage t.depth c.args.page) (sym c.self.view_is) c.requires.page in
     let written = c.fill.ensures.written ∙ ap (λ (h : Held). let r : Held =
-    record { base = h.base; limit = h.limit; memory = with_word c.extend-number.new.self.memory c.extend-number.result c.index_at.result c.word.result }
+    record { base = h.base; limit = h.limit; memory = with_word c.extend-number.new.self.memory c.extend-number.result c.index_at.result c.word.result; lenders = h.lenders }
     in r) c.extend-number.ensures.same in
     seen c.self.view_is written
     (added good (met_inside c.self.view_is c.requires.absent) c.level-lowest.ensures c.extend-number.ensures.extended c.fill.ensures.whole

@@ -5,7 +5,7 @@ use Rattle.vs_types.specs.Space.{no_pages}
 use Rattle.vs_arena.specs.Store.{zeros}
 use Rattle.vs_space.specs.Held.{Held}
 use Rattle.vs_space.specs.Table.{IsTableOf}
-use Rattle.vs_space.specs.inside.Invariant.{IsPageTable, table_in_store}
+use Rattle.vs_space.specs.Invariant.{IsPageTable, table_in_store}
 use Rattle.vs_space.proofs.News.{new_table, new_is_empty}
 use Rattle.vs_space.proofs.space.Space.new.Goals as goal
 
@@ -17,15 +17,15 @@ returns-in_default-clause-no_root g c =
 pub invariant_of-result : goal.invariant_of-result
 invariant_of-result g c =
     let after = c.in-Some.ensures.taken ∙ ap (λ (h : Held). let r : Held =
-    record { base = h.base; limit = h.limit; memory = finite.insert h.memory c.in-Some.root zeros } in r) c.new-tables.ensures in (
+    record { base = h.base; limit = h.limit; memory = finite.insert h.memory c.in-Some.root zeros; lenders = h.lenders } in r) c.new-tables.ensures in (
       subst (λ (h : Held). IsPageTable (table_in_store c.args.depth h c.in-Some.root)) (sym after)
-          (new_table c.args.depth c.in-Some.root _ _ c.in-Some.ensures.in_range),
+          (new_table c.args.depth c.in-Some.root _ _ _ c.in-Some.ensures.in_range),
       c.in-Some.ensures.numbers,
     )
 
 pub returns-clause-empty : goal.returns-clause-empty
 returns-clause-empty g c =
     let after = c.in-Some.ensures.taken ∙ ap (λ (h : Held). let r : Held =
-    record { base = h.base; limit = h.limit; memory = finite.insert h.memory c.in-Some.root zeros } in r) c.new-tables.ensures in
+    record { base = h.base; limit = h.limit; memory = finite.insert h.memory c.in-Some.root zeros; lenders = h.lenders } in r) c.new-tables.ensures in
     subst (λ (h : Held). IsTableOf (table_in_store c.args.depth h c.in-Some.root) no_pages) (sym after)
-    (new_is_empty c.args.depth c.in-Some.root _ _)
+    (new_is_empty c.args.depth c.in-Some.root _ _ _)

@@ -3,7 +3,7 @@ use Rattle.vs_types.specs.Depth.{IsCanonical}
 use Rattle.vs_types.specs.Page.{level_of}
 use Rattle.vs_space.specs.Held.{Held, word_at, with_word}
 use Rattle.vs_space.specs.Table.{PageTable}
-use Rattle.vs_space.specs.inside.Invariant.{IsPageTable, table_in_store}
+use Rattle.vs_space.specs.Invariant.{IsPageTable, table_in_store}
 use Rattle.vs_space.proofs.Numbered.{held}
 use Rattle.vs_space.proofs.Meets.{descended, ended_inside, used_met, leaf_again, protect_absent, protect_in, protected, seen}
 use Rattle.vs_space.proofs.Presents.{present_word, some_word}
@@ -53,7 +53,7 @@ invariant_of-self g c =
     let ended = ended_inside c.self.view_is c.requires.ended in
     let descent = descended refl (sym c.in-Leaf.ensures) ended.descent in
     let written = c.write.ensures.written ∙ ap
-    (λ n. held inside.tables.base inside.tables.limit (with_word inside.tables.memory n c.index_at.result c.leaf-leaf.result)) ended.last in (
+    (λ n. held inside.tables.lenders inside.tables.base inside.tables.limit (with_word inside.tables.memory n c.index_at.result c.leaf-leaf.result)) ended.last in (
       subst (λ (h : Held). IsPageTable (table_in_store inside.depth h inside.root)) (sym written)
           (protected c.self.invariant.0 canonical descent c.at_level-size.ensures c.bytes.ensures c.requires.base.aligned
           c.leaf-leaf.ensures.read_back c.leaf-leaf.ensures.written c.index_at.ensures.is c.if-offset-ne0.false).0,
@@ -67,7 +67,7 @@ returns g c =
     let ended = ended_inside c.self.view_is c.requires.ended in
     let descent = descended refl (sym c.in-Leaf.ensures) ended.descent in
     let written = c.write.ensures.written ∙ ap
-    (λ n. held inside.tables.base inside.tables.limit (with_word inside.tables.memory n c.index_at.result c.leaf-leaf.result)) ended.last in
+    (λ n. held inside.tables.lenders inside.tables.base inside.tables.limit (with_word inside.tables.memory n c.index_at.result c.leaf-leaf.result)) ended.last in
     seen c.self.view_is written
     (protected c.self.invariant.0 canonical descent c.at_level-size.ensures c.bytes.ensures c.requires.base.aligned
     c.leaf-leaf.ensures.read_back c.leaf-leaf.ensures.written c.index_at.ensures.is c.if-offset-ne0.false).1

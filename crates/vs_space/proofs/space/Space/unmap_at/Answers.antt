@@ -6,7 +6,7 @@ use Rattle.vs_walk.specs.declared.walk.Walk.TheVariants.{Reserved}
 use Rattle.vs_space.specs.Held.{Held}
 use Rattle.vs_space.specs.inside.Prune.{IsCut}
 use Rattle.vs_space.specs.Table.{PageTable}
-use Rattle.vs_space.specs.inside.Invariant.{IsPageTable, table_in_store}
+use Rattle.vs_space.specs.Invariant.{IsPageTable, table_in_store}
 use Rattle.vs_space.proofs.Descents.{path_root}
 use Rattle.vs_space.proofs.Meets.{descended, ended_inside, unmap_absent, unmap_in, seen}
 use Rattle.vs_space.proofs.Presents.{present_word}
@@ -56,7 +56,7 @@ invariant_of-self g c =
     let pruned = pruned_here c.self.invariant.0 canonical descent (ap (λ (h : Held). h.memory) c.clear.ensures.written) c.index_at.ensures.is
     (path_root descent) c.prune-stop.ensures.pruned in
     let same = c.prune-stop.ensures.same
-    ∙ ap (λ (h : Held). let r : Held = record { base = h.base; limit = h.limit; memory = c.prune-stop.new.self.memory } in r) c.clear.ensures.written in (
+    ∙ ap (λ (h : Held). let r : Held = record { base = h.base; limit = h.limit; memory = c.prune-stop.new.self.memory; lenders = h.lenders } in r) c.clear.ensures.written in (
       subst (λ (h : Held). IsPageTable (table_in_store c.self.inside.depth h c.self.inside.root)) (sym same)
           (unmapped c.self.invariant.0 canonical descent pruned c.requires.base.aligned c.at_level-size.ensures c.bytes.ensures c.if-offset-ne0.false).0,
       c.prune-stop.ensures.numbers,
@@ -70,6 +70,6 @@ returns g c =
     let pruned = pruned_here c.self.invariant.0 canonical descent (ap (λ (h : Held). h.memory) c.clear.ensures.written) c.index_at.ensures.is
     (path_root descent) c.prune-stop.ensures.pruned in
     let same = c.prune-stop.ensures.same
-    ∙ ap (λ (h : Held). let r : Held = record { base = h.base; limit = h.limit; memory = c.prune-stop.new.self.memory } in r) c.clear.ensures.written in
+    ∙ ap (λ (h : Held). let r : Held = record { base = h.base; limit = h.limit; memory = c.prune-stop.new.self.memory; lenders = h.lenders } in r) c.clear.ensures.written in
     seen c.self.view_is same
     (unmapped c.self.invariant.0 canonical descent pruned c.requires.base.aligned c.at_level-size.ensures c.bytes.ensures c.if-offset-ne0.false).1

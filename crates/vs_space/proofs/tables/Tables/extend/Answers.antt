@@ -32,7 +32,7 @@ fill-requires-clause-some g c =
 pub loop-level-preserved : goal.loop-level-preserved
 loop-level-preserved g c =
     let after = c.fill.ensures.written ∙ ap (λ (h : Held). let w : Held =
-    record { base = h.base; limit = h.limit; memory = with_word h.memory c.loop-level.number c.index_at.result c.word.result } in w)
+    record { base = h.base; limit = h.limit; memory = with_word h.memory c.loop-level.number c.index_at.result c.word.result; lenders = h.lenders } in w)
     c.in-Some.ensures.taken in
     let deep = c.loop-level-test.true in
     record {

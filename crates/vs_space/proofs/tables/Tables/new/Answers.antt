@@ -12,5 +12,5 @@ invariant_of-result g c = (
 )
 
 pub returns : goal.returns
-returns g c = ap (held (g.S.FrameStore.base c.args.store) (g.S.FrameStore.size c.args.store))
+returns g c = ap (held (g.S.FrameStore.lenders c.args.store) (g.S.FrameStore.base c.args.store) (g.S.FrameStore.size c.args.store))
     (ap (numbered (g.S.FrameStore.base c.args.store)) c.requires ∙ numbered-empty _)

@@ -38,7 +38,7 @@ loop-level-preserved g c =
     let root = slice_index c.args.path.now (levels c.args.depth) in
     let going = c.loop-level.invariant.pruning in
     let after = c.give.ensures.removed ∙ ap (λ (h : Held). let given : Held =
-    record { base = h.base; limit = h.limit; memory = finite.remove h.memory (slice_index c.args.path.now c.loop-level.level) } in given)
+    record { base = h.base; limit = h.limit; memory = finite.remove h.memory (slice_index c.args.path.now c.loop-level.level); lenders = h.lenders } in given)
     c.clear.ensures.written in
     record {
       pruning = subst (λ (h : Held). IsPruning c.args.depth c.args.self.now.memory h.memory root c.args.address c.args.from

@@ -18,7 +18,7 @@ number-requires g c = rw c.in_ok-frame.ensures.cleared (IsInUse-insert_same _ c.
 pub invariant_of-self-2 : goal.invariant_of-self-2
 invariant_of-self-2 g c = (
   rw c.in_ok-frame.ensures.cleared (whole-zeros _ _ c.self.invariant.0),
-  numbers_stored _ c.take.ensures.same_size c.take.ensures.same_base
+  numbers_stored _ c.take.ensures.same_size c.take.ensures.same_base c.take.ensures.same_lenders
       (ap (numbered (g.S.FrameStore.base c.self.inside.store)) c.in_ok-frame.ensures.cleared ∙ numbered-insert _ _ _ zeros)
       (numbers_insert c.self.invariant.1 _ zeros (omega arith) (omega (arith, c.in_ok-frame.ensures.within))),
   rw (c.in_ok-frame.ensures.cleared, c.in_ok-frame.ensures.noted) (counted_insert c.self.invariant.2 c.in_ok-frame.frame zeros 0 (sym (count_zeros 512))),
@@ -26,7 +26,7 @@ invariant_of-self-2 g c = (
 
 pub returns-clause-numbers : goal.returns-clause-numbers
 returns-clause-numbers g c =
-    numbers_stored _ c.take.ensures.same_size c.take.ensures.same_base
+    numbers_stored _ c.take.ensures.same_size c.take.ensures.same_base c.take.ensures.same_lenders
     (ap (numbered (g.S.FrameStore.base c.self.inside.store)) c.in_ok-frame.ensures.cleared ∙ numbered-insert _ _ _ zeros)
     (numbers_insert c.self.invariant.1 _ zeros (omega arith) (omega (arith, c.in_ok-frame.ensures.within)))
 
@@ -41,7 +41,7 @@ pub returns-clause-taken : goal.returns-clause-taken
 returns-clause-taken g c =
     let named : c.number.result ≡ g.S.FrameStore.base c.self.inside.store + c.in_ok-frame.frame = c.number.ensures.numbered
     ∙ ap (λ b. b + c.in_ok-frame.frame) c.take.ensures.same_base in
-    stored _ c.take.ensures.same_size c.take.ensures.same_base
+    stored _ c.take.ensures.same_size c.take.ensures.same_base c.take.ensures.same_lenders
     (ap (numbered (g.S.FrameStore.base c.self.inside.store)) c.in_ok-frame.ensures.cleared ∙ numbered-insert _ _ _ zeros
     ∙ ap (λ n. finite.insert (numbered (g.S.FrameStore.base c.self.inside.store) (g.S.FrameStore.frames c.self.inside.store)) n zeros) (sym named))
-    ∙ ap (λ (h : Held). held h.base h.limit (finite.insert h.memory c.number.result zeros)) c.self.view_is
+    ∙ ap (λ (h : Held). held h.lenders h.base h.limit (finite.insert h.memory c.number.result zeros)) c.self.view_is

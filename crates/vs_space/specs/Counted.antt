@@ -1,4 +1,4 @@
--- How many words of each frame in use aren't 0, as the frame's note. No public clause cites it.
+-- How many words of each frame in use aren't 0, as the frame's note.
 use Rattle.std.specs.Prelude.{◌≡◌, ℕ, zero, suc, ◌+◌, List, [], ◌∷◌, Some}
 use Rattle.std.specs.FinMap as finite
 use Rattle.vs_arena.specs.Store.{Store, Notes, note_of}

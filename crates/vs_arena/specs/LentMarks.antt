@@ -1,7 +1,7 @@
--- How the frames of an arena over lent memory are kept. No public clause cites it.
+-- How the frames of an arena over lent memory are kept.
 use Rattle.std.specs.Prelude.{ℕ, ◌≤◌, Bool, nat_eq, List, map, take, length}
 use Rattle.vs_arena.specs.declared.mark.FrameMark.{FrameMark}
-use Rattle.vs_arena.specs.inside.Arena.{IsArena}
+use Rattle.vs_arena.specs.Marked.{IsArena}
 
 -- what each of the first n marks has
 abbrev pub column : {X : Type 0} → (FrameMark → X) → ℕ → List FrameMark → List X

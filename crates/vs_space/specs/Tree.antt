@@ -1,4 +1,4 @@
--- What holds of the tables of a memory: they are a tree. No public clause cites it.
+-- What holds of the tables of a memory: they are a tree.
 use Rattle.std.specs.Prelude.{◌≡◌, ℕ, suc, ◌<◌, Some, IsSome}
 use Rattle.std.specs.FinMap as finite
 use Rattle.vs_types.specs.Depth.{levels, IsCanonical}

@@ -1,4 +1,4 @@
--- What holds of each page table. No public clause cites it.
+-- What holds of each page table.
 use Rattle.std.specs.Prelude.{◌≡◌, ℕ, ◌<◌, ◌^◌}
 use Rattle.std.specs.FinMap as finite
 use Rattle.vs_types.specs.Depth.{levels}
@@ -7,11 +7,11 @@ use Rattle.vs_types.specs.declared.depth.Depth.{Depth}
 use Rattle.vs_walk.specs.Memory.{AreWhole}
 use Rattle.vs_space.specs.Held.{Held}
 use Rattle.vs_space.specs.Table.{PageTable, IsTableOf}
-use Rattle.vs_space.specs.inside.Tree.{IsTree, IsFilled, IsReached}
+use Rattle.vs_space.specs.Tree.{IsTree, IsFilled, IsReached}
 
 -- the page table with its root in one of the frames of a store
 abbrev pub table_in_store : Depth → Held → ℕ → PageTable
-table_in_store depth held root = record { depth = depth; base = held.base; limit = held.limit; root = root; memory = held.memory }
+table_in_store depth held root = record { depth = depth; base = held.base; limit = held.limit; root = root; memory = held.memory; lenders = held.lenders }
 
 -- the space of a page table, which has as many tables as there are
 pub record IsSpaceOf (table : PageTable) (space : Space) : Type 0 where

@@ -1,0 +1,11 @@
+use Rattle.std.proofs.Common.{rules}
+use Rattle.nrvs_c.proofs.exports.nrvs_table_unmap.Goals as goal
+
+pub returns-in-Ok-clause-done : goal.returns-in-Ok-clause-done
+returns-in-Ok-clause-done c = λ _. record {
+  made = search rules;
+  well_formed = search rules;
+  answer = c.apply-asked.result.answer;
+  replied = c.of.ensures;
+  step = search rules;
+}

@@ -1,0 +1,33 @@
+-- What a call does to the page table of a handle, in the memory lent.
+use Rattle.std.specs.Prelude.{◌≡◌, ℕ, List, [], None}
+use Rattle.vs_types.specs.Operation.{action_fault}
+use Rattle.vs_types.specs.Space.{Space}
+use Rattle.vs_types.specs.declared.op.Action.{Action}
+use Rattle.vs_types.specs.declared.answer.Answer.{Answer}
+use Rattle.vs_arena.specs.declared.mark.FrameMark.{FrameMark}
+use Rattle.vs_space.specs.Table.{IsTableOf, IsTableStep}
+use Rattle.nrvs_c.specs.Reply.{reply_of}
+use Rattle.nrvs_c.specs.Table.{depth_in, table_in, IsOpen}
+use Rattle.nrvs_c.specs.declared.reply.Reply.{Reply}
+use Rattle.nrvs_c.specs.declared.table.Table.{Table}
+use Rattle.nrvs_c.specs.declared.table.TheConstants.{MADE}
+
+-- where the handle was made, its page table is in the memory
+abbrev pub IsSound : Table → List (List ℕ) → List FrameMark → Type 0
+IsSound handle words marks = handle.magic ≡ MADE → IsOpen handle words marks
+
+-- the handle was made and the action is well formed; the page table after the call, and the reply, are those of a step
+pub record Steps (old : Table) (words : List (List ℕ)) (marks : List FrameMark) (action : Action) (new : Table) (words' : List (List ℕ))
+    (marks' : List FrameMark) (reply : Reply) : Type 0 where
+  pub made : old.magic ≡ MADE
+  pub well_formed : action_fault (depth_in old) action ≡ None
+  pub answer : Answer
+  pub replied : reply ≡ reply_of answer
+  pub step : IsTableStep (table_in [] old words marks) action answer (table_in [] new words' marks')
+
+-- the handle was made; the page table is as it was, and the reply is what is answered for its space
+pub record Tells (old : Table) (words : List (List ℕ)) (marks : List FrameMark) (answer : Space → Answer) (new : Table) (words' : List (List ℕ))
+    (marks' : List FrameMark) (reply : Reply) : Type 0 where
+  pub made : old.magic ≡ MADE
+  pub same : table_in [] new words' marks' ≡ table_in [] old words marks
+  pub replied : (space : Space) → IsTableOf (table_in [] old words marks) space → reply ≡ reply_of (answer space)

@@ -1,0 +1,4 @@
+pub mod Status
+pub mod Reply
+pub mod Table
+pub mod Call

@@ -1,0 +1,25 @@
+-- What a handle and the memory lent are: a page table.
+use Rattle.std.specs.Prelude.{◌≡◌, ℕ, nat_eq, List, length, if◌then◌else◌}
+use Rattle.vs_types.specs.declared.depth.Depth.{Depth}
+use Rattle.vs_types.specs.declared.depth.Depth.TheVariants.{Four, Five}
+use Rattle.vs_arena.specs.Store.{Lenders}
+use Rattle.vs_arena.specs.declared.mark.FrameMark.{FrameMark}
+use Rattle.vs_arena.specs.Lent.{frames_in, notes_in}
+use Rattle.vs_arena.specs.LentMarks.{IsLentArena}
+use Rattle.vs_space.specs.Kept.{KeepsTable, table_of}
+use Rattle.vs_space.specs.Table.{PageTable}
+use Rattle.nrvs_c.specs.declared.table.Table.{Table}
+
+-- the depth with so many levels
+abbrev pub depth_in : Table → Depth
+depth_in handle = if nat_eq handle.levels 5 then Five else Four
+
+-- the page table of a handle, in the memory lent
+abbrev pub table_in : Lenders → Table → List (List ℕ) → List FrameMark → PageTable
+table_in lenders handle words marks =
+    table_of lenders (depth_in handle) handle.root handle.base (length words) (frames_in handle.taken marks words)
+
+-- words and marks are those with which the handle was left, where it was made
+pub record IsOpen (handle : Table) (words : List (List ℕ)) (marks : List FrameMark) : Type 0 where
+  pub laid_out : IsLentArena handle.base handle.taken handle.given words marks
+  pub keeps : KeepsTable (depth_in handle) handle.root handle.base (length words) (frames_in handle.taken marks words) (notes_in handle.taken marks)

@@ -1,0 +1,317 @@
+//! The calls for C. Each begins with the handle and the memory lent: frames of 512 words, and marks, which are as the last call
+//! with the handle left them.
+ghost use Rattle.std.specs.Prelude.{◌≡◌, ◌≢◌, ◌≤◌, [], length};
+ghost use Rattle.vs_types.specs.Codes.{size_code, rights_code, mode_code, access_code};
+ghost use Rattle.vs_types.specs.Depth.{IsCanonical};
+ghost use Rattle.vs_types.specs.Operation.{action_fault};
+ghost use Rattle.vs_types.specs.Query.{query_fault};
+ghost use Rattle.vs_types.specs.declared.request.Query.{Query};
+ghost use Rattle.vs_types.specs.Space as spaces;
+ghost use Rattle.vs_types.specs.Space.{no_pages, table_count};
+ghost use Rattle.vs_types.specs.Step.{allow, look};
+ghost use Rattle.vs_types.specs.declared.access.Access.{Access};
+ghost use Rattle.vs_types.specs.declared.access.Mode.{Mode};
+ghost use Rattle.vs_types.specs.declared.op.Action.{Action};
+ghost use Rattle.vs_types.specs.declared.page.Page.{Page};
+ghost use Rattle.vs_types.specs.declared.page.Rights.{Rights};
+ghost use Rattle.vs_types.specs.declared.page.Size.{Size};
+ghost use Rattle.vs_space.specs.Table.{IsTableOf};
+ghost use Rattle.nrvs_c.specs.Call.{IsSound, Steps, Tells};
+ghost use Rattle.nrvs_c.specs.Status.{new_status, status_if};
+ghost use Rattle.nrvs_c.specs.Table.{depth_in, table_in};
+ghost use Rattle.nrvs_c.specs.declared.table.TheConstants.{MADE};
+
+use crate::asked::{apply, make, resolve, tables};
+use crate::codes::{access_of, mode_of, rights_of, size_of};
+use crate::reply::Reply;
+use crate::status::{
+    BAD_ACCESS, BAD_BASE, BAD_FRAMES, BAD_LEVELS, BAD_MARKS, BAD_MODE, BAD_RIGHTS, BAD_SIZE,
+    NO_TABLE, NOT_CANONICAL, OK, status_of,
+};
+use crate::table::Table;
+use vs_arena::{FRAME_WORDS, FrameMark};
+use vs_types::{Depth, Op, TABLES};
+
+/// Makes a page table with no pages in the memory lent, which may have any content. Frame number `base` is the first frame.
+#[unsafe(no_mangle)]
+pub extern "C" fn nrvs_table_new(
+    table: &mut Table,
+    words: &mut [[u64; FRAME_WORDS]],
+    marks: &mut [FrameMark],
+    levels: u64,
+    base: u64,
+) -> u32
+    ensures status { result ≡ new_status levels (length words.old) (length marks.old) base }
+    ensures made { result ≡ 0 → table.new.magic ≡ MADE }
+    ensures sound { result ≡ 0 → IsSound table.new words.new marks.new }
+    ensures empty { result ≡ 0 → IsTableOf (table_in [] table.new words.new marks.new) no_pages }
+    ensures same_base { result ≡ 0 → table.new.base ≡ base }
+    ensures levels { result ≡ 0 → table.new.levels ≡ levels }
+    ensures refused_table { result ≢ 0 → table.new ≡ table.old }
+    ensures refused_words { result ≢ 0 → words.new ≡ words.old }
+    ensures refused_marks { result ≢ 0 → marks.new ≡ marks.old }
+{
+    let depth = match levels {
+        4 => Depth::Four,
+        5 => Depth::Five,
+        _ => return BAD_LEVELS,
+    };
+    if words.len() == 0 || words.len() > usize::from(TABLES) {
+        return BAD_FRAMES;
+    }
+    if marks.len() < words.len() {
+        return BAD_MARKS;
+    }
+    if base > (1 << 40) - words.len() as u64 {
+        return BAD_BASE;
+    }
+    let made = make(depth, base, words, marks);
+    *table = made.table;
+    OK
+}
+
+/// Maps a page: `Space::apply` of a map.
+#[unsafe(no_mangle)]
+pub extern "C" fn nrvs_table_map(
+    table: &mut Table,
+    words: &mut [[u64; FRAME_WORDS]],
+    marks: &mut [FrameMark],
+    base: u64,
+    size: u32,
+    physical: u64,
+    rights: u32,
+    reply: &mut Reply,
+) -> u32
+    requires { IsSound table.old words.old marks.old }
+    ensures no_table { table.old.magic ≢ MADE → result ≡ 1 }
+    ensures no_size { table.old.magic ≡ MADE → ((s : Size) → size ≡ size_code s → ⊥) → result ≡ 6 }
+    ensures no_rights { table.old.magic ≡ MADE → (s : Size) → size ≡ size_code s
+        → ((r : Rights) → rights ≡ rights_code r → ⊥) → result ≡ 7 }
+    ensures status { table.old.magic ≡ MADE → (page : Page) → page.base ≡ base
+        → size ≡ size_code page.size → page.phys ≡ physical
+        → rights ≡ rights_code page.rights
+        → result ≡ status_if (action_fault (depth_in table.old) (Action.Map page)) }
+    ensures sound { IsSound table.new words.new marks.new }
+    ensures done { result ≡ 0 → (page : Page) × (page.base ≡ base) × (size ≡ size_code page.size)
+        × (page.phys ≡ physical)
+        × (rights ≡ rights_code page.rights)
+        × Steps table.old words.old marks.old (Action.Map page) table.new words.new marks.new
+        reply.new }
+    ensures refused_table { result ≢ 0 → table.new ≡ table.old }
+    ensures refused_words { result ≢ 0 → words.new ≡ words.old }
+    ensures refused_marks { result ≢ 0 → marks.new ≡ marks.old }
+    ensures refused_reply { result ≢ 0 → reply.new ≡ reply.old }
+{
+    if !table.is_made() {
+        return NO_TABLE;
+    }
+    let Some(size) = size_of(size) else {
+        return BAD_SIZE;
+    };
+    let Some(rights) = rights_of(rights) else {
+        return BAD_RIGHTS;
+    };
+    match Op::map(table.depth(), base, size, physical, rights) {
+        Ok(op) => {
+            let asked = apply(*table, words, marks, op);
+            *table = asked.table;
+            *reply = Reply::of(asked.answer);
+            OK
+        }
+        Err(fault) => status_of(fault),
+    }
+}
+
+/// Unmaps the page that begins at an address: `Space::apply` of an unmap.
+#[unsafe(no_mangle)]
+pub extern "C" fn nrvs_table_unmap(
+    table: &mut Table,
+    words: &mut [[u64; FRAME_WORDS]],
+    marks: &mut [FrameMark],
+    base: u64,
+    reply: &mut Reply,
+) -> u32
+    requires { IsSound table.old words.old marks.old }
+    ensures no_table { table.old.magic ≢ MADE → result ≡ 1 }
+    ensures status { table.old.magic ≡ MADE
+        → result ≡ status_if (action_fault (depth_in table.old) (Action.Unmap base)) }
+    ensures sound { IsSound table.new words.new marks.new }
+    ensures done { result ≡ 0
+        → Steps table.old words.old marks.old (Action.Unmap base) table.new words.new marks.new
+        reply.new }
+    ensures refused_table { result ≢ 0 → table.new ≡ table.old }
+    ensures refused_words { result ≢ 0 → words.new ≡ words.old }
+    ensures refused_marks { result ≢ 0 → marks.new ≡ marks.old }
+    ensures refused_reply { result ≢ 0 → reply.new ≡ reply.old }
+{
+    if !table.is_made() {
+        return NO_TABLE;
+    }
+    match Op::unmap(table.depth(), base) {
+        Ok(op) => {
+            let asked = apply(*table, words, marks, op);
+            *table = asked.table;
+            *reply = Reply::of(asked.answer);
+            OK
+        }
+        Err(fault) => status_of(fault),
+    }
+}
+
+/// Gives the page that begins at an address these rights and no others: `Space::apply` of a protect.
+#[unsafe(no_mangle)]
+pub extern "C" fn nrvs_table_protect(
+    table: &mut Table,
+    words: &mut [[u64; FRAME_WORDS]],
+    marks: &mut [FrameMark],
+    base: u64,
+    rights: u32,
+    reply: &mut Reply,
+) -> u32
+    requires { IsSound table.old words.old marks.old }
+    ensures no_table { table.old.magic ≢ MADE → result ≡ 1 }
+    ensures no_rights { table.old.magic ≡ MADE → ((r : Rights) → rights ≡ rights_code r → ⊥)
+        → result ≡ 7 }
+    ensures status { table.old.magic ≡ MADE → (r : Rights) → rights ≡ rights_code r
+        → result ≡ status_if (action_fault (depth_in table.old) (Action.Protect base r)) }
+    ensures sound { IsSound table.new words.new marks.new }
+    ensures done { result ≡ 0 → (given : Rights) × (rights ≡ rights_code given)
+        × Steps table.old words.old marks.old (Action.Protect base given) table.new words.new
+        marks.new reply.new }
+    ensures refused_table { result ≢ 0 → table.new ≡ table.old }
+    ensures refused_words { result ≢ 0 → words.new ≡ words.old }
+    ensures refused_marks { result ≢ 0 → marks.new ≡ marks.old }
+    ensures refused_reply { result ≢ 0 → reply.new ≡ reply.old }
+{
+    if !table.is_made() {
+        return NO_TABLE;
+    }
+    let Some(rights) = rights_of(rights) else {
+        return BAD_RIGHTS;
+    };
+    match Op::protect(table.depth(), base, rights) {
+        Ok(op) => {
+            let asked = apply(*table, words, marks, op);
+            *table = asked.table;
+            *reply = Reply::of(asked.answer);
+            OK
+        }
+        Err(fault) => status_of(fault),
+    }
+}
+
+/// Translates an address: `Space::resolve`.
+#[unsafe(no_mangle)]
+pub extern "C" fn nrvs_table_resolve(
+    table: &mut Table,
+    words: &mut [[u64; FRAME_WORDS]],
+    marks: &mut [FrameMark],
+    address: u64,
+    reply: &mut Reply,
+) -> u32
+    requires { IsSound table.old words.old marks.old }
+    ensures no_table { table.old.magic ≢ MADE → result ≡ 1 }
+    ensures status { table.old.magic ≡ MADE
+        → result ≡ status_if (query_fault (depth_in table.old) (Query.Resolve address)) }
+    ensures sound { IsSound table.new words.new marks.new }
+    ensures done { result ≡ 0 → IsCanonical (depth_in table.old) address }
+    ensures told { result ≡ 0
+        → Tells table.old words.old marks.old (λ space. look space address) table.new words.new
+        marks.new reply.new }
+    ensures refused_table { result ≢ 0 → table.new ≡ table.old }
+    ensures refused_words { result ≢ 0 → words.new ≡ words.old }
+    ensures refused_marks { result ≢ 0 → marks.new ≡ marks.old }
+    ensures refused_reply { result ≢ 0 → reply.new ≡ reply.old }
+{
+    if !table.is_made() {
+        return NO_TABLE;
+    }
+    if !table.depth().is_canonical(address) {
+        return NOT_CANONICAL;
+    }
+    let asked = resolve(*table, words, marks, address);
+    *table = asked.table;
+    *reply = Reply::of(asked.answer);
+    OK
+}
+
+/// Whether an access of an address is allowed, and where that is: `Space::access`.
+#[unsafe(no_mangle)]
+pub extern "C" fn nrvs_table_access(
+    table: &mut Table,
+    words: &mut [[u64; FRAME_WORDS]],
+    marks: &mut [FrameMark],
+    address: u64,
+    mode: u32,
+    access: u32,
+    reply: &mut Reply,
+) -> u32
+    requires { IsSound table.old words.old marks.old }
+    ensures no_table { table.old.magic ≢ MADE → result ≡ 1 }
+    ensures no_mode { table.old.magic ≡ MADE → ((m : Mode) → mode ≡ mode_code m → ⊥) → result ≡ 8 }
+    ensures no_access { table.old.magic ≡ MADE → (m : Mode) → mode ≡ mode_code m
+        → ((a : Access) → access ≡ access_code a → ⊥) → result ≡ 9 }
+    ensures status { table.old.magic ≡ MADE → (m : Mode) → mode ≡ mode_code m → (a : Access)
+        → access ≡ access_code a
+        → result ≡ status_if (query_fault (depth_in table.old) (Query.Resolve address)) }
+    ensures sound { IsSound table.new words.new marks.new }
+    ensures done { result ≡ 0 → IsCanonical (depth_in table.old) address }
+    ensures told { result ≡ 0 → (by : Mode) × (does : Access) × (mode ≡ mode_code by)
+        × (access ≡ access_code does)
+        × Tells table.old words.old marks.old (λ space. allow space address by does) table.new
+        words.new marks.new reply.new }
+    ensures refused_table { result ≢ 0 → table.new ≡ table.old }
+    ensures refused_words { result ≢ 0 → words.new ≡ words.old }
+    ensures refused_marks { result ≢ 0 → marks.new ≡ marks.old }
+    ensures refused_reply { result ≢ 0 → reply.new ≡ reply.old }
+{
+    if !table.is_made() {
+        return NO_TABLE;
+    }
+    let Some(mode) = mode_of(mode) else {
+        return BAD_MODE;
+    };
+    let Some(access) = access_of(access) else {
+        return BAD_ACCESS;
+    };
+    if !table.depth().is_canonical(address) {
+        return NOT_CANONICAL;
+    }
+    let asked = resolve(*table, words, marks, address);
+    *table = asked.table;
+    *reply = Reply::of(asked.answer.accessed(mode, access));
+    OK
+}
+
+/// How many tables there are, the root among them: `Space::tables`.
+#[unsafe(no_mangle)]
+pub extern "C" fn nrvs_table_tables(
+    table: &mut Table,
+    words: &mut [[u64; FRAME_WORDS]],
+    marks: &mut [FrameMark],
+    count: &mut usize,
+) -> u32
+    requires { IsSound table.old words.old marks.old }
+    ensures no_table { table.old.magic ≢ MADE → result ≡ 1 }
+    ensures status { table.old.magic ≡ MADE → result ≡ 0 }
+    ensures sound { IsSound table.new words.new marks.new }
+    ensures same { result ≡ 0
+        → table_in [] table.new words.new marks.new ≡ table_in [] table.old words.old marks.old }
+    ensures counts { result ≡ 0 → (space : spaces.Space)
+        → IsTableOf (table_in [] table.old words.old marks.old) space
+        → count.new ≡ table_count (depth_in table.old) space }
+    ensures at_most { result ≡ 0 → count.new ≤ length words.old }
+    ensures made { result ≡ 0 → table.old.magic ≡ MADE }
+    ensures refused_table { result ≢ 0 → table.new ≡ table.old }
+    ensures refused_words { result ≢ 0 → words.new ≡ words.old }
+    ensures refused_marks { result ≢ 0 → marks.new ≡ marks.old }
+    ensures refused_count { result ≢ 0 → count.new ≡ count.old }
+{
+    if !table.is_made() {
+        return NO_TABLE;
+    }
+    let asked = tables(*table, words, marks);
+    *table = asked.table;
+    *count = asked.answer;
+    OK
+}

@@ -1,0 +1,48 @@
+use crate::cases::{BOTH_HALVES, OVERLAP, Row};
+use crate::space::answer;
+use crate::values::BASE;
+use std::process::Abort;
+use std::test::Fail;
+use vs_arena::{FRAME_WORDS, FrameMark, FrameStore, LentArena};
+use vs_space::{Space, SpaceParts};
+use vs_types::Depth;
+use vs_walk::Frames;
+
+/// What stands in the memory before it is lent.
+const DIRT: u64 = 0xABAB_ABAB_ABAB_ABAB;
+
+// The same page table, after it and its store were taken apart and opened again.
+fn reopened<'a, 'b>(space: Space<LentArena<'a, 'b>>) -> Space<LentArena<'a, 'b>> {
+    let SpaceParts { store, depth, root } = space.into_parts();
+    let store = LentArena::from_parts(store.into_parts());
+    Space::from_parts(SpaceParts { store, depth, root })
+}
+
+// Rows on a page table in lent memory, which is opened again before each of them.
+fn answers_rows(
+    rt: &impl Abort,
+    words: &mut [[u64; FRAME_WORDS]],
+    marks: &mut [FrameMark],
+    rows: &[Row],
+) -> Result<(), Fail> {
+    if words.len() > 4096 || words.len() > marks.len() {
+        return Err(Fail::new("few frames, and a mark for each"));
+    }
+    let mut space = Space::new(LentArena::new(BASE, words, marks), Depth::Four)?;
+    for Row(call, told, tables) in rows.iter().copied() {
+        space = reopened(space);
+        assert_eq!(rt; answer(rt, &mut space, call), told);
+        assert_eq!(rt; space.tables(), tables);
+    }
+    assert!(rt; space.words(space.root()).is_some());
+    Ok(())
+}
+
+#[test]
+fn lent_table_is_kept_between_calls(rt: HostRuntime) -> Result<(), Fail> {
+    let mut words = vec![in rt.alloc(); [DIRT; FRAME_WORDS]; 16]?;
+    let mut marks = vec![in rt.alloc(); FrameMark::default(); 16]?;
+    answers_rows(&rt, &mut words, &mut marks, BOTH_HALVES.as_slice())?;
+    answers_rows(&rt, &mut words, &mut marks, OVERLAP.as_slice())?;
+    Ok(())
+}

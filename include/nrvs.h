@@ -1,0 +1,119 @@
+/* A page table of x86-64 in memory of the caller's: four or five levels, pages of 4 KiB, 2 MiB and 1 GiB.
+ *
+ * Each call is given a handle and the memory that it works in. It allocates nothing, keeps no pointer, and takes no lock. What each
+ * does is proved: its contract is that of the same call of `Space` (docs/PROMISES.md).
+ *
+ * The memory: `frames` frames of 512 words, and `marks`, one for each frame at least. Frame number `base + i` is words[i]: where
+ * words[0] lies at the physical address `base * 4096`, a processor walks what is written there, from the root at `table->root * 4096`.
+ * Neither need be 0 at first.
+ *
+ * What the caller has to keep, which no call can test:
+ *   - pointers are not null, aligned as their types are, and to as many elements as is said; none overlaps another;
+ *   - of a handle that nrvs_table_new made, neither it nor what was lent to that call is written by others, and each further call is given
+ *     the same frames and marks, as many of each;
+ *   - a handle that was not made does not have the magic word by chance: let it be 0;
+ *   - calls with one handle, and with memory that is lent to it, come one after the other. A processor may walk the frames meanwhile.
+ */
+#ifndef NRVS_H
+#define NRVS_H
+
+#include <stddef.h>
+#include <stdint.h>
+
+#ifdef __cplusplus
+extern "C" {
+#endif
+
+/* What the library keeps of a frame. */
+struct nrvs_mark {
+	uint16_t own[3];
+};
+
+/* A page table. The caller reads `root`, and writes none of it. */
+struct nrvs_table {
+	uint64_t magic;
+	uint64_t levels;
+	uint64_t root; /* a frame number: CR3 is root * 4096 */
+	uint64_t base;
+	size_t taken;
+	size_t given;
+};
+
+/* What a call answers; what an answer doesn't have is 0. */
+struct nrvs_reply {
+	uint8_t code;   /* NRVS_DONE .. */
+	uint8_t size;   /* NRVS_4K .. */
+	uint8_t rights; /* NRVS_WRITE | .. */
+	uint64_t number;
+};
+
+/* Sizes of pages. */
+enum { NRVS_4K = 0, NRVS_2M = 1, NRVS_1G = 2 };
+
+/* Rights, beside a supervisor's read, which is always allowed. */
+enum { NRVS_WRITE = 1, NRVS_USER = 2, NRVS_EXEC = 4 };
+
+/* Who makes an access, and what it does. */
+enum { NRVS_SUPERVISOR = 0, NRVS_USER_MODE = 1 };
+enum { NRVS_READ = 0, NRVS_STORE = 1, NRVS_FETCH = 2 };
+
+/* Codes of replies. */
+enum {
+	NRVS_DONE = 0,       /* the page was added */
+	NRVS_OVERLAP = 1,    /* a page is in the way; number: the least base of one */
+	NRVS_FULL = 2,       /* the page would need this many tables, and there are fewer frames */
+	NRVS_REMOVED = 3,    /* number: the physical address that the page had; its size and rights */
+	NRVS_NOT_MAPPED = 4, /* no page covers the address */
+	NRVS_INSIDE = 5,     /* a page covers the address and begins at this one */
+	NRVS_CHANGED = 6,    /* rights: those from before */
+	NRVS_MAPPED = 7,     /* number: the physical address; the page's size and rights */
+	NRVS_ALLOWED = 8,    /* number: the physical address */
+	NRVS_FAULT = 9       /* number: the error code of the page fault */
+};
+
+/* What a call returns. But for NRVS_OK it has changed nothing, and written no reply. */
+enum {
+	NRVS_OK = 0,
+	NRVS_NO_TABLE = 1,       /* nrvs_table_new never made the handle */
+	NRVS_BAD_LEVELS = 2,     /* neither 4 nor 5 */
+	NRVS_BAD_FRAMES = 3,     /* no frame, or more than 4,096 */
+	NRVS_BAD_MARKS = 4,      /* fewer marks than frames */
+	NRVS_BAD_BASE = 5,       /* the last frame's number isn't below 2^40 */
+	NRVS_BAD_SIZE = 6,       /* the number stands for no size */
+	NRVS_BAD_RIGHTS = 7,     /* .. for no rights */
+	NRVS_BAD_MODE = 8,       /* .. for no mode */
+	NRVS_BAD_ACCESS = 9,     /* .. for no access */
+	NRVS_NOT_CANONICAL = 10, /* the address isn't canonical with these levels */
+	NRVS_UNALIGNED = 11,     /* it is no multiple of the page's size, or of 4,096 */
+	NRVS_PHYS_UNALIGNED = 12, /* the physical address is no multiple of the page's size */
+	NRVS_PHYS_RANGE = 13     /* the page doesn't lie below physical 2^51 */
+};
+
+#define NRVS_LENT struct nrvs_table *table, uint64_t (*words)[512], size_t frames, struct nrvs_mark *marks, size_t marked
+
+/* Makes a page table with no pages, whatever the handle and the memory have in them. Its root takes a frame. */
+uint32_t nrvs_table_new(NRVS_LENT, uint64_t levels, uint64_t base);
+
+/* Maps a page: NRVS_DONE, NRVS_OVERLAP or NRVS_FULL. */
+uint32_t nrvs_table_map(NRVS_LENT, uint64_t base, uint32_t size, uint64_t physical, uint32_t rights, struct nrvs_reply *reply);
+
+/* Unmaps the page that begins at an address: NRVS_REMOVED, NRVS_INSIDE or NRVS_NOT_MAPPED. Tables left empty are given back at once. */
+uint32_t nrvs_table_unmap(NRVS_LENT, uint64_t base, struct nrvs_reply *reply);
+
+/* Gives the page that begins at an address these rights and no others: NRVS_CHANGED, NRVS_INSIDE or NRVS_NOT_MAPPED. */
+uint32_t nrvs_table_protect(NRVS_LENT, uint64_t base, uint32_t rights, struct nrvs_reply *reply);
+
+/* Translates an address: NRVS_MAPPED or NRVS_NOT_MAPPED. */
+uint32_t nrvs_table_resolve(NRVS_LENT, uint64_t address, struct nrvs_reply *reply);
+
+/* Whether an access is allowed, and where that is: NRVS_ALLOWED or NRVS_FAULT. */
+uint32_t nrvs_table_access(NRVS_LENT, uint64_t address, uint32_t mode, uint32_t access, struct nrvs_reply *reply);
+
+/* How many tables there are, the root among them. */
+uint32_t nrvs_table_tables(NRVS_LENT, size_t *count);
+
+#ifdef __cplusplus
+}
+#endif
+
+#endif

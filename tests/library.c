@@ -1,0 +1,199 @@
+/* The page table for C: each call once, each refusal, and pages of all sizes against what was asked. */
+#include "nrvs.h"
+
+#include <stdio.h>
+#include <stdlib.h>
+#include <string.h>
+
+static int passed, failed;
+
+static void is(uint64_t told, uint64_t wanted, const char *what, int line)
+{
+	if (told == wanted) {
+		passed++;
+		return;
+	}
+	failed++;
+	printf("line %d: %s is %llu, and not %llu\n", line, what, (unsigned long long)told, (unsigned long long)wanted);
+}
+
+#define IS(told, wanted) is((uint64_t)(told), (uint64_t)(wanted), #told, __LINE__)
+
+struct lent {
+	struct nrvs_table table;
+	uint64_t (*words)[512];
+	size_t frames;
+	struct nrvs_mark *marks;
+	size_t marked;
+	void *first, *second;
+};
+
+#define LENT(l) &(l)->table, (l)->words, (l)->frames, (l)->marks, (l)->marked
+
+static struct lent lend(size_t frames)
+{
+	struct lent l;
+	memset(&l, 0, sizeof l);
+	l.frames = l.marked = frames;
+	l.first = malloc(frames * 4096);
+	l.second = malloc(frames * sizeof *l.marks);
+	if (!l.first || !l.second)
+		exit(2);
+	memset(l.first, 0xAB, frames * 4096);
+	memset(l.second, 0xAB, frames * sizeof *l.marks);
+	l.words = (uint64_t (*)[512])l.first;
+	l.marks = (struct nrvs_mark *)l.second;
+	return l;
+}
+
+static void take_back(struct lent *l)
+{
+	free(l->first);
+	free(l->second);
+}
+
+static void replies(struct nrvs_reply r, int code, uint64_t number, int size, int rights, int line)
+{
+	is(r.code, (uint64_t)code, "code", line);
+	is(r.number, number, "number", line);
+	is(r.size, (uint64_t)size, "size", line);
+	is(r.rights, (uint64_t)rights, "rights", line);
+}
+
+#define REPLIES(r, code, number, size, rights) replies(r, code, number, size, rights, __LINE__)
+
+static void refuses(void)
+{
+	struct lent l = lend(8);
+	struct nrvs_reply r, before;
+	size_t count = 77;
+	memset(&r, 0x55, sizeof r);
+	before = r;
+	IS(nrvs_table_map(LENT(&l), 0, NRVS_4K, 0, 0, &r), NRVS_NO_TABLE);
+	IS(nrvs_table_unmap(LENT(&l), 0, &r), NRVS_NO_TABLE);
+	IS(nrvs_table_protect(LENT(&l), 0, 0, &r), NRVS_NO_TABLE);
+	IS(nrvs_table_resolve(LENT(&l), 0, &r), NRVS_NO_TABLE);
+	IS(nrvs_table_access(LENT(&l), 0, 0, 0, &r), NRVS_NO_TABLE);
+	IS(nrvs_table_tables(LENT(&l), &count), NRVS_NO_TABLE);
+	IS(count, 77);
+	IS(nrvs_table_new(LENT(&l), 3, 0), NRVS_BAD_LEVELS);
+	IS(nrvs_table_new(&l.table, l.words, 0, l.marks, 8, 4, 0), NRVS_BAD_FRAMES);
+	IS(nrvs_table_new(&l.table, l.words, 4097, l.marks, 4097, 4, 0), NRVS_BAD_FRAMES);
+	IS(nrvs_table_new(&l.table, l.words, 8, l.marks, 7, 4, 0), NRVS_BAD_MARKS);
+	IS(nrvs_table_new(LENT(&l), 4, (UINT64_C(1) << 40) - 7), NRVS_BAD_BASE);
+	IS(nrvs_table_new(LENT(&l), 4, UINT64_MAX), NRVS_BAD_BASE);
+	IS(l.words[0][0], UINT64_C(0xABABABABABABABAB));
+	IS(nrvs_table_new(LENT(&l), 4, (UINT64_C(1) << 40) - 8), NRVS_OK);
+	IS(nrvs_table_map(LENT(&l), 0, 3, 0, 0, &r), NRVS_BAD_SIZE);
+	IS(nrvs_table_map(LENT(&l), 0, 256, 0, 0, &r), NRVS_BAD_SIZE);
+	IS(nrvs_table_map(LENT(&l), 0, NRVS_4K, 0, 8, &r), NRVS_BAD_RIGHTS);
+	IS(nrvs_table_map(LENT(&l), UINT64_C(1) << 47, NRVS_4K, 0, 0, &r), NRVS_NOT_CANONICAL);
+	IS(nrvs_table_map(LENT(&l), 4096, NRVS_2M, 0, 0, &r), NRVS_UNALIGNED);
+	IS(nrvs_table_map(LENT(&l), 0, NRVS_1G, 4096, 0, &r), NRVS_PHYS_UNALIGNED);
+	IS(nrvs_table_map(LENT(&l), 0, NRVS_4K, UINT64_C(1) << 51, 0, &r), NRVS_PHYS_RANGE);
+	IS(nrvs_table_unmap(LENT(&l), 1, &r), NRVS_UNALIGNED);
+	IS(nrvs_table_unmap(LENT(&l), UINT64_C(1) << 60, &r), NRVS_NOT_CANONICAL);
+	IS(nrvs_table_protect(LENT(&l), 0, 256, &r), NRVS_BAD_RIGHTS);
+	IS(nrvs_table_protect(LENT(&l), 8, 0, &r), NRVS_UNALIGNED);
+	IS(nrvs_table_resolve(LENT(&l), UINT64_C(1) << 47, &r), NRVS_NOT_CANONICAL);
+	IS(nrvs_table_access(LENT(&l), UINT64_C(1) << 47, 0, 0, &r), NRVS_NOT_CANONICAL);
+	IS(nrvs_table_access(LENT(&l), 0, 2, 0, &r), NRVS_BAD_MODE);
+	IS(nrvs_table_access(LENT(&l), 0, 0, 3, &r), NRVS_BAD_ACCESS);
+	IS(memcmp(&r, &before, sizeof r), 0);
+	take_back(&l);
+}
+
+/* The word at the end of the path to an address, as a processor walks it. */
+static uint64_t walk(const struct lent *l, uint64_t address)
+{
+	uint64_t number = l->table.root, word = 0;
+	int level;
+	for (level = (int)l->table.levels; level > 0; level--) {
+		word = l->words[number - l->table.base][address >> (3 + 9 * level) & 511];
+		if (!(word & 1) || (level < 4 && level > 1 && word & 128))
+			return word;
+		number = word >> 12 & ((UINT64_C(1) << 40) - 1);
+	}
+	return word;
+}
+
+static void answers(uint64_t levels)
+{
+	struct lent l = lend(16);
+	struct nrvs_reply r;
+	size_t count;
+	const uint64_t gib = UINT64_C(1) << 30;
+	IS(nrvs_table_new(LENT(&l), levels, 1000), NRVS_OK);
+	IS(l.table.root, 1000);
+	IS(nrvs_table_map(LENT(&l), 0x401000, NRVS_4K, 0x7000, NRVS_WRITE, &r), NRVS_OK);
+	REPLIES(r, NRVS_DONE, 0, 0, 0);
+	IS(walk(&l, 0x401000), UINT64_C(0x8000000000007003));
+	IS(nrvs_table_map(LENT(&l), gib, NRVS_1G, 3 * gib, NRVS_USER | NRVS_EXEC, &r), NRVS_OK);
+	REPLIES(r, NRVS_DONE, 0, 0, 0);
+	IS(walk(&l, gib), 3 * gib + 0x85);
+	IS(nrvs_table_map(LENT(&l), 0x400000, NRVS_2M, 0, 0, &r), NRVS_OK);
+	REPLIES(r, NRVS_OVERLAP, 0x401000, 0, 0);
+	IS(nrvs_table_resolve(LENT(&l), 0x401234, &r), NRVS_OK);
+	REPLIES(r, NRVS_MAPPED, 0x7234, NRVS_4K, NRVS_WRITE);
+	IS(nrvs_table_access(LENT(&l), gib + 5, NRVS_USER_MODE, NRVS_FETCH, &r), NRVS_OK);
+	REPLIES(r, NRVS_ALLOWED, 3 * gib + 5, 0, 0);
+	IS(nrvs_table_access(LENT(&l), gib + 5, NRVS_USER_MODE, NRVS_STORE, &r), NRVS_OK);
+	REPLIES(r, NRVS_FAULT, 7, 0, 0);
+	IS(nrvs_table_tables(LENT(&l), &count), NRVS_OK);
+	IS(count, levels);
+	IS(nrvs_table_protect(LENT(&l), 0x401000, NRVS_EXEC, &r), NRVS_OK);
+	REPLIES(r, NRVS_CHANGED, 0, 0, NRVS_WRITE);
+	IS(walk(&l, 0x401000), 0x7001);
+	IS(nrvs_table_unmap(LENT(&l), gib + 4096, &r), NRVS_OK);
+	REPLIES(r, NRVS_INSIDE, gib, 0, 0);
+	IS(nrvs_table_unmap(LENT(&l), 0x401000, &r), NRVS_OK);
+	REPLIES(r, NRVS_REMOVED, 0x7000, NRVS_4K, NRVS_EXEC);
+	IS(walk(&l, 0x401000), 0);
+	IS(nrvs_table_unmap(LENT(&l), 0x401000, &r), NRVS_OK);
+	REPLIES(r, NRVS_NOT_MAPPED, 0, 0, 0);
+	IS(nrvs_table_tables(LENT(&l), &count), NRVS_OK);
+	IS(count, levels - 2);
+	take_back(&l);
+}
+
+/* Pages until no frame is left, and off again, twice: frames that were given back are taken again. */
+static void fills(uint64_t levels)
+{
+	struct lent l = lend(32);
+	struct nrvs_reply r;
+	size_t count;
+	uint64_t i, room = 0;
+	int round;
+	IS(nrvs_table_new(LENT(&l), levels, 0), NRVS_OK);
+	for (round = 0; round < 2; round++) {
+		for (room = 0;; room++) {
+			IS(nrvs_table_map(LENT(&l), room << 30, NRVS_4K, room << 12, NRVS_WRITE, &r), NRVS_OK);
+			if (r.code == NRVS_FULL)
+				break;
+			IS(r.code, NRVS_DONE);
+		}
+		IS(room, (32 - (levels - 2)) / 2);
+		for (i = 0; i < room; i++) {
+			IS(nrvs_table_resolve(LENT(&l), (i << 30) + 7, &r), NRVS_OK);
+			REPLIES(r, NRVS_MAPPED, (i << 12) + 7, NRVS_4K, NRVS_WRITE);
+		}
+		for (i = 0; i < room; i++) {
+			IS(nrvs_table_unmap(LENT(&l), i << 30, &r), NRVS_OK);
+			REPLIES(r, NRVS_REMOVED, i << 12, NRVS_4K, NRVS_WRITE);
+		}
+		IS(nrvs_table_tables(LENT(&l), &count), NRVS_OK);
+		IS(count, 1);
+	}
+	take_back(&l);
+}
+
+int main(void)
+{
+	refuses();
+	answers(4);
+	answers(5);
+	fills(4);
+	fills(5);
+	printf("%d passed, %d failed\n", passed, failed);
+	return failed != 0;
+}
