@@ -130,10 +130,7 @@ fn numbers_of_dumps(numbers: &mut Vec<u64>, shown: &Evidence) -> Result<(), Allo
         Evidence::MissingFrame(wrong) => push_steps(numbers, &wrong.path),
         Evidence::SharedFrame(wrong) => {
             push_steps(numbers, &wrong.first)?;
-            match &wrong.second {
-                Some(second) => push_steps(numbers, second),
-                None => Ok(()),
-            }
+            push_steps(numbers, &wrong.second)
         }
         Evidence::ReservedBit(wrong) => {
             push_steps(numbers, &wrong.path)?;

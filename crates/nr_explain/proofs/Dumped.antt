@@ -18,7 +18,7 @@ use Rattle.vs_walk.proofs.Walks.{few_levels}
 use Rattle.nr_trace.specs.Recording.{Recording}
 use Rattle.nr_explain.specs.Evidence.{LeadsTo}
 use Rattle.nr_explain.specs.Facts.{IsPath}
-use Rattle.nr_explain.specs.inside.Ways.{GoesNowhere, GoesOnTo, IsAnotherWay, IsMet, IsReservedAt}
+use Rattle.nr_explain.specs.inside.Ways.{GoesNowhere, GoesOnTo, HasTwoWays, IsAnotherWay, IsMet, IsReservedAt}
 use Rattle.nr_explain.specs.declared.evidence.Step.{Step}
 use Rattle.nr_explain.specs.declared.paths.Target.{Target}
 use Rattle.nr_explain.proofs.Ways.{levels_of_way, way_to_frame, way_to_reserved}
@@ -99,23 +99,20 @@ shared_is_visited depth dump frame fault =
     reached_is_met (traversal depth dump.frames dump.root) frame
     (subst (λ (ns : List ℕ). Contains ns frame) (sym split.2) (Contains-append_left split.0 (frame ∷ split.1) frame split.3))
 
--- another way than the first
-pub another_found : (memory : Memory) (level number frame : ℕ) (first : Vec Step) (second : Option (Vec Step))
-    → let target : Target = record { frame = frame; reserved = None; other = Some first } in
-    MatchOption second (GoesNowhere memory target level number []) (λ way. GoesOnTo memory target level number [] way.items)
-    → IsAnotherWay memory level number frame first.items second
-another_found memory level number frame first None nowhere = λ end way leads other.
-    nowhere way (record { rest = way; end = end; goes_on = refl; leads = leads; met = record { reserved = tt; other = other } })
-another_found memory level number frame first (Some second) goes =
+abbrev pub without : ℕ → Vec Step → Target
+without frame first = record { frame = frame; reserved = None; other = Some first }
+
+-- of two ways one is not the first
+pub some_other : (memory : Memory) (level number frame : ℕ) (first : Vec Step) → HasTwoWays memory level number frame
+    → GoesNowhere memory (without frame first) level number [] → ⊥
+some_other memory level number frame first two nowhere =
+    none two.first_end two.first two.first_leads (λ same.
+    none two.second_end two.second two.second_leads (λ also. two.apart (same ∙ sym also))) where
+      none : (end : ℕ) (way : List Step) → IsPath memory level number end frame way → way ≢ first.items → ⊥
+      none end way leads other =
+          nowhere way (record { rest = way; end = end; goes_on = refl; leads = leads; met = record { reserved = tt; other = other } })
+
+pub another_found : (memory : Memory) (level number frame : ℕ) (first : Vec Step) (second : List Step)
+    → GoesOnTo memory (without frame first) level number [] second → IsAnotherWay memory level number frame first.items second
+another_found memory level number frame first second goes =
     (goes.end, subst (λ (w : List Step). IsPath memory level number goes.end frame w) (sym goes.goes_on) goes.leads, goes.met.other)
-
--- the other way leads to the frame too
-abbrev pub IsSecond : Recording → Image → ℕ → Vec Step → Option (Vec Step) → Type 0
-IsSecond trace dump frame first second = IfSome second (λ other. LeadsTo trace dump frame other.items × (other.items ≢ first.items))
-
-pub second_leads : (trace : Recording) (given : Depth) (dump : Image) (frame : ℕ) (first : Vec Step) (second : Option (Vec Step))
-    → given ≡ trace.layout.depth → IsAnotherWay dump.frames (levels given) dump.root frame first.items second
-    → IsSecond trace dump frame first second
-second_leads trace given dump frame first None same is = tt
-second_leads trace given dump frame first (Some second) same is =
-    ((is.0, subst (λ (d : Depth). IsPath dump.frames (levels d) dump.root is.0 frame second.items) same is.1), is.2)

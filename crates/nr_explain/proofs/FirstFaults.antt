@@ -17,7 +17,8 @@ use Rattle.nr_explain.specs.declared.evidence.RecordedCall.{RecordedCall}
 
 -- ---- open calls
 
-some_last : (trace : Recording) (index thread : ℕ) → IsFirst trace (ThreadOpen index)
+-- it has one
+pub some_last : (trace : Recording) (index thread : ℕ) → IsFirst trace (ThreadOpen index)
     → ((made : Invocation) → call_of trace index ≡ Some made → made.thread ≡ thread) → IsIdle trace thread 0 index → ⊥
 some_last trace index thread first own idle =
     let opens = first.holds in
@@ -55,10 +56,6 @@ last_is_open trace index thread last first own is = by_order (cases_order first.
       (record { made = opens.earlier_made; is_made = opens.is_earlier_made; same = same })) where
         after : last.event < opens.earlier → last.event + 1 ≤ opens.earlier
         after lt = omega arith
-
-pub no_last : (trace : Recording) (index thread : ℕ) → IsFirst trace (ThreadOpen index)
-    → ((made : Invocation) → call_of trace index ≡ Some made → made.thread ≡ thread) → IsLastCall trace thread index None → ⊥
-no_last = some_last
 
 -- ---- calls that replies name
 

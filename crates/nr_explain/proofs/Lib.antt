@@ -10,3 +10,4 @@ pub mod BindingReplies
 pub mod Dumped
 pub mod WrongAnswers
 pub mod Explanations
+pub mod TwoWays

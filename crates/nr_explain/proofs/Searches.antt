@@ -17,24 +17,6 @@ use Rattle.nr_explain.specs.declared.paths.Target.{Target}
 abbrev pub entry_of : ℕ → ℕ → List ℕ → ℕ → Step
 entry_of level number words index = record { level = level; frame = number; index = index; word = get_or words index 0 }
 
--- what is looked for is here
-pub found_here : (memory : Memory) (target : Target) (level number : ℕ) (way : List Step) → number ≡ target.frame → IsMet memory target level way
-    → GoesOnTo memory target level number way way
-found_here memory target level number way here met =
-    record { rest = []; end = level; goes_on = sym (append-nil way); leads = (refl, here); met = met }
-
--- what is found from the table to which an entry leads
-pub found_below : (memory : Memory) (target : Target) (level number next : ℕ) (words : List ℕ) (index : ℕ) (own : Rights) (begun way : List Step)
-    → finite.get memory number ≡ Some words → index < length words → meaning level (get_or words index 0) ≡ entry.Table next own
-    → GoesOnTo memory target (level - 1) next (begun ++ entry_of level number words index ∷ []) way → GoesOnTo memory target level number begun way
-found_below memory target level number next words index own begun way is within leads below = record {
-  rest = entry_of level number words index ∷ below.rest;
-  end = below.end;
-  goes_on = below.goes_on ∙ append_assoc begun (entry_of level number words index ∷ []) below.rest;
-  leads = (refl, refl, (next, record { words = words; own = own; there = is; within = within; read = refl; leads = leads }, below.leads));
-  met = below.met;
-}
-
 -- what is looked for is not here
 abbrev pub IsNotHere : Memory → Target → ℕ → ℕ → List Step → Type 0
 IsNotHere memory target level number way = number ≡ target.frame → IsMet memory target level way → ⊥

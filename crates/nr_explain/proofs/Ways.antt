@@ -64,7 +64,7 @@ abbrev LowerHave : Depth → Memory → ℕ → Visit → Type 0
 LowerHave depth memory level visit = (next : ReachedTable) → Contains (table_visits depth memory level next) visit → HasWay memory level next.number visit
 
 -- the page that an entry maps
-abbrev page_by : Depth → ℕ → ReachedTable → ℕ → ℕ → Rights → Page
+abbrev pub page_by : Depth → ℕ → ReachedTable → ℕ → ℕ → Rights → Page
 page_by depth level table index phys own = record {
   base = canonical_from depth (table.start + index * entry_bytes level);
   size = size_at level;

@@ -1,5 +1,5 @@
 -- What each kind of evidence says: which fault it shows, and its facts, each one of the trace.
-use Rattle.std.specs.Prelude.{◌≡◌, ◌≢◌, ℕ, ◌<◌, ◌≤◌, List, length, take, slice_get, slice_index, Option, Some, None, IfSome}
+use Rattle.std.specs.Prelude.{◌≡◌, ◌≢◌, ℕ, ◌<◌, ◌≤◌, List, length, take, slice_get, slice_index, Option, Some, None}
 use Rattle.std.specs.FinMap as finite
 use Rattle.vs_types.specs.Depth.{levels, IsCanonical}
 use Rattle.vs_walk.specs.Dump.{Image}
@@ -146,11 +146,11 @@ abbrev pub IsMissingTable : Recording → MissingTable → Type 0
 IsMissingTable trace wrong = HasDump trace wrong.replica (λ dump.
     (finite.get dump.frames wrong.frame ≡ None) × LeadsTo trace dump wrong.frame wrong.path.items)
 
--- the entries lead to the frame, and so do the others
+-- the entries lead to the frame, and so do others
 abbrev pub IsSharedTable : Recording → SharedTable → Type 0
 IsSharedTable trace wrong = HasDump trace wrong.replica (λ dump.
     LeadsTo trace dump wrong.frame wrong.first.items
-    × IfSome wrong.second (λ second. LeadsTo trace dump wrong.frame second.items × (second.items ≢ wrong.first.items)))
+    × LeadsTo trace dump wrong.frame wrong.second.items × (wrong.second.items ≢ wrong.first.items))
 
 -- the entries lead to a table, and the word that it has at an index has a reserved bit set, at its level
 abbrev pub IsReservedEntry : Recording → ReservedEntry → Type 0

@@ -167,8 +167,8 @@ pub struct SharedTable {
     pub frame: u64,
     /// The entries that lead there from the root, first.
     pub first: Vec<Step>,
-    /// Other entries that lead there, if they were found.
-    pub second: Option<Vec<Step>>,
+    /// Other entries that lead there.
+    pub second: Vec<Step>,
 }
 
 /// An entry with a reserved bit set.

@@ -3,7 +3,7 @@
 ghost use Rattle.std.specs.Prelude.{◌≡◌, ◌≤◌, ◌<◌, ◌↔◌, [], IfOk, IsTrue, MatchOption, length};
 ghost use Rattle.vs_types.specs.declared.frame.TheConstants.{FRAME_WORDS};
 ghost use Rattle.vs_types.specs.Depth.{levels};
-ghost use Rattle.nr_explain.specs.inside.Ways.{GoesNowhere, GoesOnTo, IsAnotherWay, IsMet, IsReservedAt, IsSearched};
+ghost use Rattle.nr_explain.specs.inside.Ways.{GoesNowhere, GoesOnTo, HasTwoWays, IsAnotherWay, IsMet, IsReservedAt, IsSearched};
 ghost use Rattle.nr_explain.specs.Facts.{HasReservedWord};
 
 use crate::evidence::Step;
@@ -127,23 +127,26 @@ pub(crate) fn find_way(
     Ok(None)
 }
 
-/// A way to a frame, and another one that leads there, if there is one. Takes memory for the other way.
+/// A way to a frame, and another one that leads there. Takes memory for the other way.
 pub(crate) fn another_way(
     alloc: Global,
     dump: &Dump,
     depth: Depth,
     frame: u64,
     first: Vec<Step>,
-) -> Result<(Vec<Step>, Option<Vec<Step>>), Memory>
+) -> Result<(Vec<Step>, Vec<Step>), Memory>
+    requires { HasTwoWays dump.now.frames (levels depth) dump.now.root frame }
     ensures first { IfOk result (λ ways. ways.0 ≡ first) }
-    ensures second { IfOk result (λ ways. IsAnotherWay dump.now.frames (levels depth) dump.now.root frame first.items ways.1) }
+    ensures second { IfOk result (λ ways. IsAnotherWay dump.now.frames (levels depth) dump.now.root frame first.items ways.1.items) }
 {
     let target = Target {
         frame,
         reserved: None,
         other: Some(first),
     };
-    let second = find_way(alloc, dump, depth, &target)?;
+    let Some(second) = find_way(alloc, dump, depth, &target)? else {
+        unreachable!()
+    };
     match target.other {
         Some(first) => Ok((first, second)),
         None => unreachable!(),

@@ -1,6 +1,5 @@
 -- Ways through the tables of a dump, as they are looked for. No public clause cites this file.
-use Rattle.std.specs.Prelude.{◌≡◌, ◌≢◌, ℕ, ◌<◌, Bool, true, false, List, ◌++◌, length, slice_index, Option, Some, None, IfSome}
-use Rattle.std.specs.Global.{Vec}
+use Rattle.std.specs.Prelude.{◌≡◌, ◌≢◌, ℕ, ◌<◌, Bool, true, false, List, ◌++◌, length, slice_index, Some, IfSome}
 use Rattle.std.specs.FinMap as finite
 use Rattle.vs_types.specs.Entry.{meaning}
 use Rattle.vs_types.specs.declared.entry.Meaning.TheVariants as entry
@@ -38,8 +37,16 @@ abbrev pub IsSearched : Memory → Target → ℕ → ℕ → List Step → List
 IsSearched memory target level number begun way true = GoesOnTo memory target level number begun way
 IsSearched memory target level number begun way false = (way ≡ begun) × GoesNowhere memory target level number begun
 
--- a second way to the frame, other than the first, or none where every way is the first
-abbrev pub IsAnotherWay : Memory → ℕ → ℕ → ℕ → List Step → Option (Vec Step) → Type 0
-IsAnotherWay memory level number frame first None = (end : ℕ) (way : List Step) → IsPath memory level number end frame way → way ≢ first → ⊥
-IsAnotherWay memory level number frame first (Some second) =
-    (end : ℕ) × IsPath memory level number end frame second.items × (second.items ≢ first)
+-- two ways to the frame
+pub record HasTwoWays (memory : Memory) (level number frame : ℕ) : Type 0 where
+  pub first : List Step
+  pub second : List Step
+  pub first_end : ℕ
+  pub second_end : ℕ
+  pub first_leads : IsPath memory level number first_end frame first
+  pub second_leads : IsPath memory level number second_end frame second
+  pub apart : first ≢ second
+
+-- a second way to the frame, other than the first
+abbrev pub IsAnotherWay : Memory → ℕ → ℕ → ℕ → List Step → List Step → Type 0
+IsAnotherWay memory level number frame first second = (end : ℕ) × IsPath memory level number end frame second × (second ≢ first)

@@ -1,6 +1,6 @@
 use Rattle.std.proofs.Common.{ℕ, ◌<◌, sym, subst}
 use Rattle.nr_explain.specs.inside.Searches.{IsOpenBelow}
-use Rattle.nr_explain.proofs.FirstFaults.{last_is_open, no_last}
+use Rattle.nr_explain.proofs.FirstFaults.{last_is_open, some_last}
 use Rattle.nr_explain.proofs.Lasts.{thread_told}
 use Rattle.nr_explain.proofs.calls.open_calls.Goals as goal
 
@@ -8,7 +8,7 @@ pub unreachable-requires : goal.unreachable-requires
 unreachable-requires c =
     let trace = c.args.trace.now in
     let second = c.call_at-second.result in
-    no_last trace c.args.index second.thread c.requires
+    some_last trace c.args.index second.thread c.requires
     (thread_told trace c.args.index second c.call_at-second.ensures.is c.call_at-second.ensures.event) c.in-None.ensures
 
 pub returns-clause-are : goal.returns-clause-are
