@@ -6,7 +6,7 @@ use std::process::Abort;
 use std::test::Fail;
 
 /// The bytes of a trace of 3 threads.
-fn trace_of(alloc: Global, case: &Case) -> Result<Vec<u8>, AllocError> {
+pub(crate) fn trace_of(alloc: Global, case: &Case) -> Result<Vec<u8>, AllocError> {
     let [version, levels, tables] = case.config;
     let replicas = case.dumps.len().min(255) as u8;
     let places = case.log.len().min(255) as u8;

@@ -11,6 +11,8 @@ mod dump;
 #[cfg(test)]
 mod dump_cases;
 #[cfg(test)]
+mod explained;
+#[cfg(test)]
 mod flush;
 #[cfg(test)]
 mod large;

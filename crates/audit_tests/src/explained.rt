@@ -1,0 +1,275 @@
+//! What shows each fault, by numbers that stand in the trace.
+
+use crate::audit::trace_of;
+use crate::audit_cases::{CALLS, Case, DUMPS, FORMATS, ORDERS};
+use nr_explain::{Evidence, Explanation, Step, explain_read};
+use nr_trace::{Event, read};
+use std::alloc::{AllocError, Global};
+use std::process::Abort;
+use std::test::Fail;
+use vs_types::Answer;
+use vs_walk::Walk;
+
+/// One more than a number, or 0 for none.
+fn after(number: Option<u32>) -> u64 {
+    match number {
+        Some(number) => u64::from(number) + 1,
+        None => 0,
+    }
+}
+
+/// 1 for a call, 2 for a reply, or 0 for none.
+fn kind_of(event: Option<Event>) -> u64 {
+    match event {
+        Some(Event::Call { .. }) => 1,
+        Some(Event::Reply { .. }) => 2,
+        None => 0,
+    }
+}
+
+/// The number of an answer, or 0.
+fn number_of(answer: Answer) -> u64 {
+    match answer {
+        Answer::Full(number) | Answer::Mapped(number, _, _) | Answer::Allowed(number) => number,
+        _ => 0,
+    }
+}
+
+/// The physical address of a walk, or 0.
+fn end_of(walk: Walk) -> u64 {
+    match walk {
+        Walk::Mapped(phys, _, _) => phys,
+        _ => 0,
+    }
+}
+
+/// Adds level, frame, index and word of each step.
+fn push_steps(numbers: &mut Vec<u64>, steps: &[Step]) -> Result<(), AllocError> {
+    for step in steps {
+        numbers.extend_from_slice(&[
+            u64::from(step.level),
+            step.frame,
+            u64::from(step.index),
+            step.word,
+        ])?;
+    }
+    Ok(())
+}
+
+/// The numbers that show a fault of the calls, the log and the answers.
+fn numbers_of_calls(numbers: &mut Vec<u64>, shown: &Evidence) -> Result<(), AllocError> {
+    match shown {
+        Evidence::ThreadOpen(calls) => numbers.extend_from_slice(&[
+            u64::from(calls.first.event),
+            u64::from(calls.second.event),
+        ]),
+        Evidence::NoSuchCall(stray) => numbers.extend_from_slice(&[
+            u64::from(stray.reply.event),
+            u64::from(stray.reply.call),
+            kind_of(stray.named),
+        ]),
+        Evidence::AnsweredTwice(replies) => numbers.extend_from_slice(&[
+            u64::from(replies.call.event),
+            u64::from(replies.first.event),
+            u64::from(replies.second.event),
+        ]),
+        Evidence::NotAnUpdate(wrong) => numbers.extend_from_slice(&[
+            u64::from(wrong.place),
+            u64::from(wrong.call),
+            kind_of(wrong.named),
+        ]),
+        Evidence::PlacedTwice(places) => numbers.extend_from_slice(&[
+            u64::from(places.call.event),
+            u64::from(places.first),
+            u64::from(places.second),
+        ]),
+        Evidence::NotPlaced(wrong) => numbers.extend_from_slice(&[
+            u64::from(wrong.call.event),
+            u64::from(wrong.reply.event),
+            u64::from(wrong.reply.at),
+            after(wrong.own),
+            after(wrong.there),
+        ]),
+        Evidence::PastLog(wrong) => numbers.extend_from_slice(&[
+            u64::from(wrong.call.event),
+            u64::from(wrong.reply.event),
+            u64::from(wrong.reply.at),
+            u64::from(wrong.places),
+        ]),
+        Evidence::Early(early) => numbers.extend_from_slice(&[
+            u64::from(early.call.event),
+            u64::from(early.entries),
+            early.floor,
+            u64::from(early.reply.event),
+            u64::from(early.answered.event),
+        ]),
+        Evidence::WrongAnswer(wrong) => numbers.extend_from_slice(&[
+            u64::from(wrong.call.event),
+            u64::from(wrong.reply.event),
+            wrong.address,
+            number_of(wrong.wanted),
+            after(wrong.changed.map(|update| update.place)),
+        ]),
+        _ => Ok(()),
+    }
+}
+
+/// The numbers that show a fault of a dump.
+fn numbers_of_dumps(numbers: &mut Vec<u64>, shown: &Evidence) -> Result<(), AllocError> {
+    match shown {
+        Evidence::PrefixPastLog(wrong) => numbers.extend_from_slice(&[
+            u64::from(wrong.applied),
+            u64::from(wrong.places),
+        ]),
+        Evidence::PrefixShort(wrong) => numbers.extend_from_slice(&[
+            u64::from(wrong.applied),
+            u64::from(wrong.reply.event),
+            wrong.known,
+            u64::from(wrong.call.event),
+        ]),
+        Evidence::MissingFrame(wrong) => push_steps(numbers, &wrong.path),
+        Evidence::SharedFrame(wrong) => {
+            push_steps(numbers, &wrong.first)?;
+            push_steps(numbers, &wrong.second)
+        }
+        Evidence::ReservedBit(wrong) => {
+            push_steps(numbers, &wrong.path)?;
+            push_steps(numbers, &[wrong.entry])
+        }
+        Evidence::StrayFrame(wrong) => numbers.extend_from_slice(&[wrong.frame]),
+        Evidence::Differs(wrong) => numbers.extend_from_slice(&[
+            u64::from(wrong.applied),
+            end_of(wrong.found),
+            number_of(wrong.wanted),
+            after(wrong.changed.map(|update| update.place)),
+        ]),
+        _ => Ok(()),
+    }
+}
+
+/// Explains the trace of this name, and holds the numbers of the evidence against what is expected.
+fn holds(
+    rt: &impl Abort,
+    alloc: Global,
+    cases: &[Case],
+    name: &str,
+    wanted: &[u64],
+) -> Result<(), Fail> {
+    for case in cases {
+        if case.name != name {
+            continue;
+        }
+        let bytes = trace_of(alloc, case)?;
+        let Explanation::No(fault, shown) = explain_read(alloc, read(alloc, &bytes))? else {
+            panic!(rt; "{name}: yes");
+        };
+        assert_eq!(rt; Err(fault), case.verdict, "{name}");
+        let mut numbers = Vec::new(alloc);
+        numbers_of_calls(&mut numbers, &shown)?;
+        numbers_of_dumps(&mut numbers, &shown)?;
+        assert_eq!(rt; numbers.as_slice(), wanted, "{name}");
+        return Ok(());
+    }
+    panic!(rt; "{name}: no such case");
+}
+
+#[test]
+fn calls(rt: HostRuntime) -> Result<(), Fail> {
+    let alloc = rt.alloc();
+    holds(&rt, alloc, &CALLS, "a thread's call is open", &[0, 1])?;
+    holds(&rt, alloc, &CALLS, "a reply to a reply", &[3, 1, 2])?;
+    holds(&rt, alloc, &CALLS, "a second reply", &[0, 1, 3])?;
+    holds(&rt, alloc, &CALLS, "another place", &[0, 1, 1, 1, 0])?;
+    holds(&rt, alloc, &CALLS, "a read past the log", &[2, 3, 2, 1])?;
+    holds(
+        &rt,
+        alloc,
+        &CALLS,
+        "another physical address",
+        &[2, 3, 0x400123, 0x1123, 1],
+    )?;
+    holds(&rt, alloc, &CALLS, "a read in the log", &[0, 2, 1])?;
+    holds(&rt, alloc, &CALLS, "an update twice in the log", &[0, 0, 1])
+}
+
+#[test]
+fn orders_and_formats(rt: HostRuntime) -> Result<(), Fail> {
+    let alloc = rt.alloc();
+    holds(
+        &rt,
+        alloc,
+        &ORDERS,
+        "two tables too many",
+        &[0, 1, 0x400000, 4, 0],
+    )?;
+    holds(
+        &rt,
+        alloc,
+        &ORDERS,
+        "a stale read is early",
+        &[3, 0, 1, 2, 1],
+    )?;
+    holds(
+        &rt,
+        alloc,
+        &ORDERS,
+        "an unanswered update is early",
+        &[2, 0, 2, 1, 0],
+    )?;
+    holds(
+        &rt,
+        alloc,
+        &FORMATS,
+        "an access has a fault",
+        &[2, 3, 0x400123, 0x1123, 1],
+    )?;
+    holds(
+        &rt,
+        alloc,
+        &FORMATS,
+        "a large page in the root of five levels",
+        &[5, 1, 0, 0x87],
+    )?;
+    holds(&rt, alloc, &FORMATS, "an event of another kind", &[])
+}
+
+#[test]
+fn dumps(rt: HostRuntime) -> Result<(), Fail> {
+    let alloc = rt.alloc();
+    let two = [4, 1, 0, 0x2007, 3, 2, 0, 0x3007, 2, 3, 1, 0x202087];
+    holds(&rt, alloc, &DUMPS, "a prefix past the log", &[2, 1])?;
+    holds(&rt, alloc, &DUMPS, "a prefix too short", &[0, 1, 1, 0])?;
+    holds(&rt, alloc, &DUMPS, "fewer rights", &[1, 0x1000, 0x1000, 1])?;
+    holds(&rt, alloc, &DUMPS, "a reserved bit", &two)?;
+    holds(&rt, alloc, &DUMPS, "a large page", &[0, 0x200000, 0, 0])?;
+    holds(
+        &rt,
+        alloc,
+        &DUMPS,
+        "a frame reached twice",
+        &[4, 1, 0, 0x1007],
+    )?;
+    holds(
+        &rt,
+        alloc,
+        &DUMPS,
+        "a frame that is not there",
+        &[4, 1, 0, 0x2007],
+    )?;
+    holds(&rt, alloc, &DUMPS, "a frame that is not reached", &[2])?;
+    holds(&rt, alloc, &DUMPS, "a root that is not there", &[])?;
+    holds(
+        &rt,
+        alloc,
+        &DUMPS,
+        "a page before the map, none after it",
+        &[0, 0x1000, 0, 0],
+    )?;
+    holds(
+        &rt,
+        alloc,
+        &DUMPS,
+        "no page after the map, one before it",
+        &[1, 0, 0x1000, 1],
+    )
+}

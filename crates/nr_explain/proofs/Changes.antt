@@ -1,0 +1,38 @@
+-- How an address looks, one place more.
+use Rattle.std.proofs.Common.{◌≡◌, ◌≢◌, ℕ, ◌+◌, ◌<◌, ◌≤◌, inl, inr, Option, Some, None, slice_get, refl, sym, ap, subst, ◌∙◌, arith}
+use Rattle.std.proofs.lemmas.Bool.{cases_lt}
+use Rattle.nr_trace.specs.Recording.{Recording}
+use Rattle.nr_explain.specs.Facts.{IsCallOf, IsLastChange, LooksSame, looks_after}
+use Rattle.nr_explain.specs.declared.evidence.PlacedUpdate.{PlacedUpdate}
+
+same_more : (trace : Recording) (address first last : ℕ) → LooksSame trace address first last
+    → looks_after trace address last ≡ looks_after trace address (last + 1) → LooksSame trace address first (last + 1)
+same_more trace address first last same e places low high = elim (cases_lt places (last + 1)) [
+  | inl lt ↦ same places low (omega arith) ∙ e
+  | inr past ↦ ap (looks_after trace address) (omega arith)
+]
+
+same_at : (trace : Recording) (address first last : ℕ) → last ≤ first → LooksSame trace address first last
+same_at trace address first last le places low high = ap (looks_after trace address) (omega arith)
+
+pub change_at_start : (trace : Recording) (address : ℕ) → IsLastChange trace address 0 None
+change_at_start trace address = same_at trace address 0 0 (omega arith)
+
+-- an update that leaves how the address looks
+pub change_stays : (trace : Recording) (address end : ℕ) (changed : Option PlacedUpdate) → looks_after trace address end ≡ looks_after trace address (end + 1)
+    → IsLastChange trace address end changed → IsLastChange trace address (end + 1) changed
+change_stays trace address end None e is = same_more trace address 0 end is e
+change_stays trace address end (Some update) e is =
+    let lt = is.0 in (omega arith, is.1, is.2, is.3, same_more trace address (update.place + 1) end is.4 e)
+
+-- an update that changes it
+pub change_here : (trace : Recording) (address end : ℕ) (update : PlacedUpdate) → update.place ≡ end → IsCallOf trace update.call
+    → slice_get trace.log end ≡ Some update.call.event → looks_after trace address end ≢ looks_after trace address (end + 1)
+    → IsLastChange trace address (end + 1) (Some update)
+change_here trace address end update at call placed differs = (
+  omega arith,
+  call,
+  ap (slice_get trace.log) at ∙ placed,
+  (λ same. differs (ap (looks_after trace address) (sym at) ∙ same ∙ ap (λ n. looks_after trace address (n + 1)) at)),
+  same_at trace address (update.place + 1) (end + 1) (omega arith),
+)

@@ -1,0 +1,118 @@
+-- The dump of a replica, and where its tables lead.
+use Rattle.std.proofs.Common.{◌≡◌, ◌≢◌, ℕ, ◌+◌, ◌<◌, ◌≤◌, List, [], ◌∷◌, ◌++◌, Option, Some, None, Contains, length, get_or, slice_get, refl, sym, ap, subst, ◌∙◌, arith}
+use Rattle.std.specs.Prelude.{IfSome, MatchOption}
+use Rattle.std.specs.Global.{Vec}
+use Rattle.std.specs.FinMap as finite
+use Rattle.std.proofs.lemmas.List.Elements.{Contains-append_left}
+use Rattle.std.proofs.lemmas.Option.{same_Some, slice_get-get_or, slice_get_within}
+use Rattle.vs_types.specs.Depth.{levels}
+use Rattle.vs_types.specs.declared.depth.Depth.{Depth}
+use Rattle.vs_types.proofs.Pages.{three_levels}
+use Rattle.vs_walk.specs.Dump.{Image}
+use Rattle.vs_walk.specs.Memory.{Memory}
+use Rattle.vs_walk.specs.Traversal.{OfFrame, OfReservedBit, reached, traversal, walk_fault}
+use Rattle.vs_walk.specs.declared.walk.WalkFault.TheVariants as walks
+use Rattle.vs_walk.proofs.LawsOfVisits.{reached_is_met}
+use Rattle.vs_walk.proofs.LawsOfTraversals.{shared_reached}
+use Rattle.vs_walk.proofs.Walks.{few_levels}
+use Rattle.nr_trace.specs.Recording.{Recording}
+use Rattle.nr_explain.specs.Evidence.{LeadsTo}
+use Rattle.nr_explain.specs.Facts.{IsPath}
+use Rattle.nr_explain.specs.inside.Ways.{GoesNowhere, GoesOnTo, HasTwoWays, IsAnotherWay, IsMet, IsReservedAt}
+use Rattle.nr_explain.specs.declared.evidence.Step.{Step}
+use Rattle.nr_explain.specs.declared.paths.Target.{Target}
+use Rattle.nr_explain.proofs.Ways.{levels_of_way, way_to_frame, way_to_reserved}
+
+-- the dump of a replica that is read
+pub dump_read : (trace : Recording) (dumps : List Image) (replica : ℕ) (dump other : Image) → dumps ≡ trace.dumps
+    → slice_get trace.dumps replica ≡ Some other → dump ≡ get_or dumps replica dump → slice_get trace.dumps replica ≡ Some dump
+dump_read trace dumps replica dump other same there read =
+    slice_get-get_or trace.dumps replica dump (slice_get_within trace.dumps replica other there)
+    ∙ ap (λ (d : Image). Some d) (sym (read ∙ ap (λ (ds : List Image). get_or ds replica dump) same))
+
+pub one_dump : (trace : Recording) (replica : ℕ) (dump other : Image) → slice_get trace.dumps replica ≡ Some dump
+    → slice_get trace.dumps replica ≡ Some other → other ≡ dump
+one_dump trace replica dump other is there = same_Some other dump (sym there ∙ is)
+
+-- a frame that is visited is found
+pub frame_is_found : (depth given : Depth) (dump : Image) (frame : ℕ) (target : Target) → given ≡ depth → target.frame ≡ frame
+    → Contains (traversal depth dump.frames dump.root) (OfFrame frame) → ((end : ℕ) (way : List Step) → IsMet dump.frames target end way)
+    → GoesNowhere dump.frames target (levels given) dump.root [] → ⊥
+frame_is_found depth given dump frame target same names met all nowhere =
+    let leads = way_to_frame depth dump.frames dump.root frame met in
+    nowhere leads.0 (record {
+      rest = leads.0;
+      end = leads.1.0;
+      goes_on = refl;
+      leads = subst (λ (d : Depth). IsPath dump.frames (levels d) dump.root leads.1.0 target.frame leads.0) (sym same)
+          (subst (λ (n : ℕ). IsPath dump.frames (levels depth) dump.root leads.1.0 n leads.0) (sym names) leads.1.1);
+      met = all leads.1.0 leads.0;
+    })
+
+-- so is a word with a reserved bit set
+pub word_is_found : (depth given : Depth) (dump : Image) (frame index : ℕ) (target : Target) → given ≡ depth → target.frame ≡ frame
+    → Contains (traversal depth dump.frames dump.root) (OfReservedBit frame index)
+    → ((end : ℕ) (way : List Step) → IsReservedAt dump.frames end frame index → IsMet dump.frames target end way)
+    → GoesNowhere dump.frames target (levels given) dump.root [] → ⊥
+word_is_found depth given dump frame index target same names met all nowhere =
+    let leads = way_to_reserved depth dump.frames dump.root frame index met in
+    nowhere leads.0 (record {
+      rest = leads.0;
+      end = leads.1.0;
+      goes_on = refl;
+      leads = subst (λ (d : Depth). IsPath dump.frames (levels d) dump.root leads.1.0 target.frame leads.0) (sym same)
+          (subst (λ (n : ℕ). IsPath dump.frames (levels depth) dump.root leads.1.0 n leads.0) (sym names) leads.1.1);
+      met = all leads.1.0 leads.0 leads.1.2;
+    })
+
+-- a way that was found from the root
+pub record Found (depth : Depth) (dump : Image) (target : Target) (way : List Step) : Type 0 where
+  pub end : ℕ
+  pub leads : IsPath dump.frames (levels depth) dump.root end target.frame way
+  pub met : IsMet dump.frames target end way
+  pub down : end + length way ≡ levels depth
+  pub few : levels depth ≤ 5
+
+pub found_from : (depth given : Depth) (dump : Image) (target : Target) (way : List Step) → given ≡ depth
+    → GoesOnTo dump.frames target (levels given) dump.root [] way → Found depth dump target way
+found_from depth given dump target way same goes =
+    let leads = subst (λ (d : Depth). IsPath dump.frames (levels d) dump.root goes.end target.frame way) same
+    (subst (λ (w : List Step). IsPath dump.frames (levels given) dump.root goes.end target.frame w) (sym goes.goes_on) goes.leads) in
+    let three = three_levels depth in
+    record {
+      end = goes.end;
+      leads = leads;
+      met = goes.met;
+      down = (levels_of_way dump.frames (levels depth) dump.root goes.end target.frame way (omega arith) leads).1;
+      few = few_levels depth;
+    }
+
+-- what a search found, or that there is none
+abbrev pub IsSought : Image → Target → ℕ → Option (Vec Step) → Type 0
+IsSought dump target level found = MatchOption found (GoesNowhere dump.frames target level dump.root [])
+    (λ way. GoesOnTo dump.frames target level dump.root [] way.items)
+
+pub shared_is_visited : (depth : Depth) (dump : Image) (frame : ℕ) → walk_fault depth dump.frames dump.root ≡ Some (walks.Shared frame)
+    → Contains (traversal depth dump.frames dump.root) (OfFrame frame)
+shared_is_visited depth dump frame fault =
+    let split = shared_reached depth dump.frames dump.root frame fault in
+    reached_is_met (traversal depth dump.frames dump.root) frame
+    (subst (λ (ns : List ℕ). Contains ns frame) (sym split.2) (Contains-append_left split.0 (frame ∷ split.1) frame split.3))
+
+abbrev pub without : ℕ → Vec Step → Target
+without frame first = record { frame = frame; reserved = None; other = Some first }
+
+-- of two ways one is not the first
+pub some_other : (memory : Memory) (level number frame : ℕ) (first : Vec Step) → HasTwoWays memory level number frame
+    → GoesNowhere memory (without frame first) level number [] → ⊥
+some_other memory level number frame first two nowhere =
+    none two.first_end two.first two.first_leads (λ same.
+    none two.second_end two.second two.second_leads (λ also. two.apart (same ∙ sym also))) where
+      none : (end : ℕ) (way : List Step) → IsPath memory level number end frame way → way ≢ first.items → ⊥
+      none end way leads other =
+          nowhere way (record { rest = way; end = end; goes_on = refl; leads = leads; met = record { reserved = tt; other = other } })
+
+pub another_found : (memory : Memory) (level number frame : ℕ) (first : Vec Step) (second : List Step)
+    → GoesOnTo memory (without frame first) level number [] second → IsAnotherWay memory level number frame first.items second
+another_found memory level number frame first second goes =
+    (goes.end, subst (λ (w : List Step). IsPath memory level number goes.end frame w) (sym goes.goes_on) goes.leads, goes.met.other)

@@ -1,0 +1,13 @@
+pub mod Ways
+pub mod FirstFaults
+pub mod Changes
+pub mod Searches
+pub mod Lasts
+pub mod Places
+pub mod Replies
+pub mod Steps
+pub mod BindingReplies
+pub mod Dumped
+pub mod WrongAnswers
+pub mod Explanations
+pub mod TwoWays

@@ -1,0 +1,54 @@
+use Rattle.std.proofs.Common.{◌≡◌, ◌≢◌, ℕ, ◌<◌, ◌≤◌, inl, inr, Some, length, refl, ap, subst, sym, ◌∙◌, arith}
+use Rattle.std.proofs.lemmas.Bool.{cases_lt}
+use Rattle.vs_types.specs.Config.{Layout}
+use Rattle.vs_types.specs.declared.depth.Depth.{Depth}
+use Rattle.vs_walk.specs.Differences.{HasDifference}
+use Rattle.vs_walk.specs.Dump.{Image}
+use Rattle.vs_walk.specs.Walk.{as_walk, walk}
+use Rattle.nr_trace.specs.Orders.{space_after}
+use Rattle.nr_explain.specs.Facts.{looks_after}
+use Rattle.nr_explain.proofs.Dumped.{dump_read, one_dump}
+use Rattle.nr_explain.proofs.FirstFaults.{calls_before_differs, few_before_differs}
+use Rattle.nr_explain.proofs.dumps.difference.Goals as goal
+
+pub last_look-requires-clause-within : goal.last_look-requires-clause-within
+last_look-requires-clause-within c =
+    let trace = c.args.trace.now in
+    let holds = c.requires.holds in
+    let dump = c.index-dumps-replica.result in
+    let there = dump_read trace c.dumps.result.now c.args.replica dump holds.0 c.dumps.ensures.reads holds.1 c.index-dumps-replica.is in
+    let one = one_dump trace c.args.replica dump holds.0 there holds.1 in
+    let few : dump.applied ≤ length trace.log = few_before_differs trace c.args.replica c.args.address dump c.requires there in
+    omega (arith, c.applied-applied.ensures)
+
+pub last_look-requires-clause-calls : goal.last_look-requires-clause-calls
+last_look-requires-clause-calls c = calls_before_differs c.args.trace.now c.args.replica c.args.address c.requires
+
+pub returns-clause-is : goal.returns-clause-is
+returns-clause-is c =
+    let trace = c.args.trace.now in
+    let holds = c.requires.holds in
+    let dump = c.index-dumps-replica.result in
+    let there = dump_read trace c.dumps.result.now c.args.replica dump holds.0 c.dumps.ensures.reads holds.1 c.index-dumps-replica.is in
+    let one = one_dump trace c.args.replica dump holds.0 there holds.1 in
+    let address = c.args.address in
+    let depth = trace.layout.depth in
+    let given = c.depth.ensures ∙ ap (λ (l : Layout). l.depth) c.config.ensures.reads in
+    let differs = holds.2.0 in
+    let walked = ap (λ (d : Image). walk depth d.frames d.root address) one in
+    let found : c.translate-found.result ≡ walk depth dump.frames dump.root address = c.translate-found.ensures
+    ∙ ap (λ (d : Depth). walk d dump.frames c.root.result address) given ∙ ap (λ (r : ℕ). walk depth dump.frames r address) c.root.ensures in
+    let applied = c.applied-applied.ensures in
+    let wanted : c.in_ok-wanted.wanted ≡ looks_after trace address c.applied-applied.result = c.in_ok-wanted.ensures.looks in
+    let looks = ap (looks_after trace address) (applied ∙ sym (ap (λ (d : Image). d.applied) one)) in (
+      dump,
+      there,
+      record {
+        applied = applied;
+        canonical = differs.0;
+        found = found;
+        wanted = wanted;
+        differs = λ same. differs.1 (walked ∙ sym found ∙ same ∙ ap as_walk (wanted ∙ looks));
+        changed = c.in_ok-wanted.ensures.changed;
+      },
+    )

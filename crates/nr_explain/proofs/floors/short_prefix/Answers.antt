@@ -1,0 +1,48 @@
+use Rattle.std.proofs.Common.{◌≡◌, ℕ, ◌<◌, Some, slice_get, sym, ap, subst, ◌∙◌, arith}
+use Rattle.std.proofs.lemmas.Option.{slice_get_within}
+use Rattle.vs_walk.specs.Dump.{Image}
+use Rattle.nr_trace.specs.Orders.{known_by}
+use Rattle.nr_trace.proofs.LawsOfCalls.{reply_in_event}
+use Rattle.nr_explain.proofs.Dumped.{dump_read, one_dump}
+use Rattle.nr_explain.proofs.floors.short_prefix.Goals as goal
+
+pub unreachable-requires : goal.unreachable-requires
+unreachable-requires c =
+    let trace = c.args.trace.now in
+    let holds = c.requires.holds in
+    let rests = holds.2 in
+    let dump = c.index-dumps-replica.result in
+    let there = dump_read trace c.dumps.result.now c.args.replica dump holds.0 c.dumps.ensures.reads holds.1 c.index-dumps-replica.is in
+    let same : holds.0.applied ≡ dump.applied = ap (λ (d : Image). d.applied) (one_dump trace c.args.replica dump holds.0 there holds.1) in
+    let more : holds.0.applied < known_by trace rests.reply = rests.more in
+    let told : c.applied-applied.result ≡ dump.applied = c.applied-applied.ensures in
+    let at = reply_in_event (slice_get trace.events rests.index) rests.reply rests.is_reply in
+    c.in-None.ensures rests.index (slice_get_within trace.events rests.index at.0 at.1) (record {
+      reply = rests.reply;
+      is_reply = rests.is_reply;
+      made = rests.made;
+      is_made = rests.is_made;
+      here = rests.here;
+      more = omega arith;
+    })
+
+pub returns-clause-is : goal.returns-clause-is
+returns-clause-is c =
+    let trace = c.args.trace.now in
+    let holds = c.requires.holds in
+    let dump = c.index-dumps-replica.result in
+    let there = dump_read trace c.dumps.result.now c.args.replica dump holds.0 c.dumps.ensures.reads holds.1 c.index-dumps-replica.is in
+    let found = c.in-Some.ensures in
+    record {
+      applied = (
+        dump,
+        subst (λ (r : ℕ). slice_get trace.dumps r ≡ Some dump) (sym found.replica_is) there,
+        sym c.applied-applied.ensures ∙ sym found.applied_is,
+      );
+      reply = found.reply;
+      known = found.known;
+      more = found.more;
+      call = found.call;
+      names = found.names;
+      here = found.here;
+    }

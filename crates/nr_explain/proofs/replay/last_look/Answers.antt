@@ -1,0 +1,31 @@
+use Rattle.std.proofs.Common.{◌≡◌, ℕ, ◌+◌, Option, Some, slice_get, sym, ap, subst, ◌∙◌}
+use Rattle.std.proofs.lemmas.Bool.{iff_false}
+use Rattle.vs_types.specs.Step.{look}
+use Rattle.vs_plain.specs.Plain.{BoundedSpace}
+use Rattle.nr_explain.specs.Facts.{IsLastChange, looks_after}
+use Rattle.nr_explain.specs.declared.evidence.PlacedUpdate.{PlacedUpdate}
+use Rattle.nr_explain.proofs.Changes.{change_here, change_stays}
+use Rattle.nr_explain.proofs.replay.last_look.Goals as goal
+use Rattle.nr_explain.proofs.replay.last_look.Goals.{then-not-is_same, else-not-is_same}
+
+pub loop-place-preserved : goal.loop-place-preserved
+loop-place-preserved c =
+    let trace = c.args.trace.now in
+    let address = c.args.address in
+    let place = c.loop-place.place in
+    let is = c.loop-place.invariant in
+    let space = c.in_ok-apply_place.ensures in
+    let looks : c.resolve-then.result ≡ looks_after trace address (place + 1) =
+    c.resolve-then.ensures ∙ ap (λ (s : BoundedSpace). look s.space address) space in
+    record {
+      space = space;
+      looks = looks;
+      changed = elim c.if-not-is_same.branch [
+        | then-not-is_same w ↦ subst (IsLastChange trace address (place + 1)) (sym w.changed-is)
+            (change_here trace address place w.update_at.result w.update_at.ensures.place w.update_at.ensures.call w.update_at.ensures.placed
+            (λ same. iff_false c.is_same.ensures w.if-not-is_same.true (is.looks ∙ same ∙ sym looks)))
+        | else-not-is_same w ↦ subst (IsLastChange trace address (place + 1)) (sym w.changed-is)
+            (change_stays trace address place c.loop-place.changed
+            (sym is.looks ∙ c.is_same.ensures.0 w.if-not-is_same.false ∙ looks) is.changed)
+      ];
+    }

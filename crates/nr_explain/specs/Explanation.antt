@@ -1,0 +1,24 @@
+-- What an explanation says of bytes: the verdict on them, and for a no the evidence.
+use Rattle.std.specs.Prelude.{◌≡◌, ℕ, List}
+use Rattle.nr_trace.specs.Recording.{Recording}
+use Rattle.nr_trace.specs.Spelling.{Spells}
+use Rattle.nr_trace.specs.FirstFault.{HasFormatFault}
+use Rattle.nr_trace.specs.declared.fault.Fault.{Fault}
+use Rattle.nr_trace.specs.declared.fault.Fault.TheVariants as faults
+use Rattle.nr_audit.specs.Verdict.{IsVerdictOf}
+use Rattle.nr_audit.specs.declared.verdict.Verdict.TheVariants as verdicts
+use Rattle.nr_explain.specs.Evidence.{IsEvidence}
+use Rattle.nr_explain.specs.declared.evidence.Evidence.{Evidence}
+use Rattle.nr_explain.specs.declared.evidence.Evidence.TheVariants as evidence
+use Rattle.nr_explain.specs.declared.explaining.Explanation.{Explanation}
+use Rattle.nr_explain.specs.declared.explaining.Explanation.TheVariants.{Yes, No}
+
+-- the evidence is the format fault of the bytes, or evidence of the trace that they spell
+abbrev pub IsEvidenceOf : List ℕ → Fault → Evidence → Type 0
+IsEvidenceOf bytes fault (evidence.Format format) = (fault ≡ faults.Format format) × HasFormatFault bytes format
+IsEvidenceOf bytes fault shown = (trace : Recording) × Spells bytes trace × IsEvidence trace fault shown
+
+-- the verdict on the bytes, and evidence of their first fault
+abbrev pub IsExplanationOf : List ℕ → Explanation → Type 0
+IsExplanationOf bytes (Yes order) = IsVerdictOf bytes (verdicts.Yes order)
+IsExplanationOf bytes (No fault shown) = IsVerdictOf bytes (verdicts.No fault) × IsEvidenceOf bytes fault shown

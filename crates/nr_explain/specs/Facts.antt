@@ -1,0 +1,85 @@
+-- Facts of a trace that evidence is made of.
+use Rattle.std.specs.Prelude.{◌≡◌, ◌≢◌, ℕ, ◌+◌, ◌-◌, ◌<◌, ◌≤◌, List, [], ◌∷◌, length, take, slice_get, slice_index, Option, Some, None}
+use Rattle.std.specs.FinMap as finite
+use Rattle.vs_types.specs.Entry.{meaning}
+use Rattle.vs_types.specs.Step.{look}
+use Rattle.vs_types.specs.declared.answer.Answer.{Answer}
+use Rattle.vs_types.specs.declared.answer.Answer.TheVariants as answers
+use Rattle.vs_types.specs.declared.entry.Meaning.TheVariants as entry
+use Rattle.vs_types.specs.declared.op.Action.TheVariants.{Map, Unmap, Protect}
+use Rattle.vs_types.specs.declared.page.Rights.{Rights}
+use Rattle.vs_types.specs.declared.request.Query.{Query}
+use Rattle.vs_types.specs.declared.request.Query.TheVariants.{Update, Resolve, Access}
+use Rattle.vs_walk.specs.Memory.{Memory}
+use Rattle.nr_trace.specs.Recording.{Recording}
+use Rattle.nr_trace.specs.Calls.{call_of, Response, reply_of}
+use Rattle.nr_trace.specs.Orders.{space_after}
+use Rattle.nr_explain.specs.declared.evidence.RecordedCall.{RecordedCall}
+use Rattle.nr_explain.specs.declared.evidence.RecordedReply.{RecordedReply}
+use Rattle.nr_explain.specs.declared.evidence.PlacedUpdate.{PlacedUpdate}
+use Rattle.nr_explain.specs.declared.evidence.Step.{Step}
+
+-- the event is this call
+abbrev pub IsCallOf : Recording → RecordedCall → Type 0
+IsCallOf trace call = call_of trace call.event ≡ Some (record { replica = call.replica; thread = call.thread; request = call.request })
+
+-- what a recorded reply says of its call
+abbrev pub response : RecordedReply → Response
+response reply = record { call = reply.call; at = reply.at; answer = reply.answer }
+
+-- the event is this reply
+abbrev pub IsReplyOf : Recording → RecordedReply → Type 0
+IsReplyOf trace reply = reply_of trace reply.event ≡ Some (response reply)
+
+-- how an address looks in the space after the first places of the log, this many
+abbrev pub looks_after : Recording → ℕ → ℕ → Answer
+looks_after trace address places = look (space_after trace (take places trace.log)) address
+
+-- the address looks the same after each number of places from the first to the last
+abbrev pub LooksSame : Recording → ℕ → ℕ → ℕ → Type 0
+LooksSame trace address first last = (places : ℕ) → first ≤ places → places ≤ last → looks_after trace address places ≡ looks_after trace address last
+
+-- of the places below an end, the last one whose update changed how the address looks; or none, where none did
+abbrev pub IsLastChange : Recording → ℕ → ℕ → Option PlacedUpdate → Type 0
+IsLastChange trace address end None = LooksSame trace address 0 end
+IsLastChange trace address end (Some update) =
+    (update.place < end) × IsCallOf trace update.call × (slice_get trace.log update.place ≡ Some update.call.event)
+    × (looks_after trace address update.place ≢ looks_after trace address (update.place + 1))
+    × LooksSame trace address (update.place + 1) end
+
+-- the address that an answer is about: the base that it names, where it names one, else what the call asks for
+abbrev pub asked_for : Query → ℕ
+asked_for (Update (Map page)) = page.base
+asked_for (Update (Unmap base)) = base
+asked_for (Update (Protect base rights)) = base
+asked_for (Resolve address) = address
+asked_for (Access address mode access) = address
+
+abbrev pub address_about : Query → Answer → ℕ
+address_about request (answers.Overlap base) = base
+address_about request (answers.Inside base) = base
+address_about request _ = asked_for request
+
+-- the word of the step stands in its frame, and leads as an entry of its level to the other frame
+pub record LeadsOn (memory : Memory) (step : Step) (next : ℕ) : Type 0 where
+  pub words : List ℕ
+  pub own : Rights
+  pub there : finite.get memory step.frame ≡ Some words
+  pub within : step.index < length words
+  pub read : slice_index words step.index ≡ step.word
+  pub leads : meaning step.level step.word ≡ entry.Table next own
+
+-- from the frame of a table of one level the steps lead to the frame of a table of another, each from where the one before
+-- it leads to
+abbrev pub IsPath : Memory → ℕ → ℕ → ℕ → ℕ → List Step → Type 0
+IsPath memory level number end target [] = (level ≡ end) × (number ≡ target)
+IsPath memory level number end target (step ∷ steps) =
+    (step.level ≡ level) × (step.frame ≡ number) × ((next : ℕ) × LeadsOn memory step next × IsPath memory (level - 1) next end target steps)
+
+-- the word of the step stands in its frame, and has a reserved bit set as an entry of its level
+pub record HasReservedWord (memory : Memory) (step : Step) : Type 0 where
+  pub words : List ℕ
+  pub there : finite.get memory step.frame ≡ Some words
+  pub within : step.index < length words
+  pub read : slice_index words step.index ≡ step.word
+  pub reserved : meaning step.level step.word ≡ entry.Reserved

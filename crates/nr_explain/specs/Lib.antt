@@ -1,0 +1,4 @@
+pub mod Facts
+pub mod Evidence
+pub mod Explanation
+pub mod inside

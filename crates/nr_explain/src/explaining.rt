@@ -1,0 +1,122 @@
+ghost use Rattle.std.specs.Prelude.{ℕ, IfOk, List};
+ghost use Rattle.nr_trace.specs.Feed.{Reads};
+ghost use Rattle.nr_trace.specs.Faults.{IsFirst};
+ghost use Rattle.nr_explain.specs.Evidence.{IsEvidence};
+ghost use Rattle.nr_explain.specs.Explanation.{IsExplanationOf};
+ghost use Rattle.nr_explain.specs.inside.Explained.{IsExplanationOn};
+ghost use Rattle.nr_explain.specs.inside.Searches.{IsOfDump};
+
+use crate::answers::other_answer;
+use crate::calls::{open_calls, stray_reply, two_replies};
+use crate::dumps::{
+    difference, long_prefix, missing_table, reserved_entry, shared_table, stray_table,
+};
+use crate::evidence::Evidence;
+use crate::floors::{early_call, short_prefix};
+use crate::log::{misplaced, no_update, past_end, two_places};
+use nr_audit::{Order, Verdict, judge};
+use nr_trace::{Fault, Format, Trace};
+use std::alloc::Global;
+use vs_types::{Fail, Memory};
+
+/// What an audit finds, and what shows it.
+#[derive(Debug, Drop)]
+pub enum Explanation {
+    /// The trace is right, with this order of its calls.
+    Yes(Order),
+    /// The first fault, and what shows it.
+    No(Fault, Evidence),
+}
+
+/// What shows the first fault of a trace: each fact of it is one of the trace.
+///
+/// Takes memory for a space at a time, where an answer is wrong or a translation differs, and for the entries that lead to
+/// a table.
+///
+/// # Errors
+///
+/// `Memory` where a growth of memory was refused.
+pub fn explain(alloc: Global, trace: &Trace, fault: Fault) -> Result<Evidence, Memory>
+    requires { IsFirst trace.now fault }
+    ensures { IfOk result (IsEvidence trace.now fault) }
+{
+    match fault {
+        Fault::Format(_) => unreachable!(),
+        Fault::ThreadOpen(index) => Ok(Evidence::ThreadOpen(open_calls(trace, index))),
+        Fault::NoSuchCall(index) => Ok(Evidence::NoSuchCall(stray_reply(trace, index))),
+        Fault::AnsweredTwice(index) => Ok(Evidence::AnsweredTwice(two_replies(trace, index))),
+        Fault::NotAnUpdate(place) => Ok(Evidence::NotAnUpdate(no_update(trace, place))),
+        Fault::PlacedTwice(place) => Ok(Evidence::PlacedTwice(two_places(trace, place))),
+        Fault::NotPlaced(index) => Ok(Evidence::NotPlaced(misplaced(trace, index))),
+        Fault::PastLog(index) => Ok(Evidence::PastLog(past_end(trace, index))),
+        Fault::Early(call) => Ok(Evidence::Early(early_call(trace, call))),
+        Fault::WrongAnswer(call) => Ok(Evidence::WrongAnswer(other_answer(alloc, trace, call)?)),
+        Fault::PrefixPastLog(_)
+        | Fault::PrefixShort(_)
+        | Fault::MissingFrame(_, _)
+        | Fault::SharedFrame(_, _)
+        | Fault::ReservedBit(_, _, _)
+        | Fault::StrayFrame(_, _)
+        | Fault::Differs(_, _) => explain_dump(alloc, trace, fault),
+    }
+}
+
+/// What shows the first fault of a trace, where it is one of a dump.
+fn explain_dump(alloc: Global, trace: &Trace, fault: Fault) -> Result<Evidence, Memory>
+    requires first { IsFirst trace.now fault }
+    requires of_dump { IsOfDump fault }
+    ensures { IfOk result (IsEvidence trace.now fault) }
+{
+    match fault {
+        Fault::PrefixPastLog(replica) => Ok(Evidence::PrefixPastLog(long_prefix(trace, replica))),
+        Fault::PrefixShort(replica) => Ok(Evidence::PrefixShort(short_prefix(trace, replica))),
+        Fault::MissingFrame(replica, frame) => {
+            Ok(Evidence::MissingFrame(missing_table(alloc, trace, replica, frame)?))
+        }
+        Fault::SharedFrame(replica, frame) => {
+            Ok(Evidence::SharedFrame(shared_table(alloc, trace, replica, frame)?))
+        }
+        Fault::ReservedBit(replica, frame, index) => {
+            Ok(Evidence::ReservedBit(reserved_entry(alloc, trace, replica, frame, index)?))
+        }
+        Fault::StrayFrame(replica, frame) => Ok(Evidence::StrayFrame(stray_table(
+            trace, replica, frame,
+        ))),
+        Fault::Differs(replica, address) => {
+            Ok(Evidence::Differs(difference(alloc, trace, replica, address)?))
+        }
+        _ => unreachable!(),
+    }
+}
+
+/// The verdict on a trace, and for a no what shows the fault.
+fn explain_trace(alloc: Global, trace: &Trace) -> Result<Explanation, Memory>
+    ensures { IfOk result (IsExplanationOn trace.now) }
+{
+    match judge(alloc, trace)? {
+        Verdict::Yes(order) => Ok(Explanation::Yes(order)),
+        Verdict::No(fault) => {
+            let shown = explain(alloc, trace, fault)?;
+            Ok(Explanation::No(fault, shown))
+        }
+    }
+}
+
+/// The verdict on bytes of which this was read, and for a no what shows the fault.
+///
+/// Takes what `judge` takes, and then what `explain` takes.
+///
+/// # Errors
+///
+/// `Memory` where a growth of memory was refused, here or as the bytes were read.
+pub fn explain_read(alloc: Global, read: Result<Trace, Fail<Format>>) -> Result<Explanation, Memory>
+    ensures { (bytes : List ℕ) → Reads bytes read → IfOk result (IsExplanationOf bytes) }
+{
+    match read {
+        Ok(trace) => explain_trace(alloc, &trace),
+        Err(Fail::Memory) => Err(Memory),
+        Err(Fail::Refused(format)) => {
+            Ok(Explanation::No(Fault::Format(format), Evidence::Format(format)))
+        }
+    }
+}

@@ -1,0 +1,21 @@
+//! What shows the fault of a trace: the calls, replies, places and entries of tables that one has to look at.
+#![tactic(auto)]
+
+mod answers;
+mod calls;
+mod dumps;
+mod evidence;
+mod explaining;
+mod floors;
+mod log;
+mod lookup;
+mod paths;
+mod replay;
+mod searching;
+
+pub use evidence::{
+    Difference, EarlyCall, Evidence, LongPrefix, Misplaced, MissingTable, NoUpdate, OpenCalls,
+    OtherAnswer, PastEnd, PlacedUpdate, RecordedCall, RecordedReply, ReservedEntry, SharedTable,
+    ShortPrefix, Step, StrayReply, StrayTable, TwoPlaces, TwoReplies,
+};
+pub use explaining::{Explanation, explain, explain_read};

@@ -1,0 +1,173 @@
+//! Ways through the tables of a dump.
+
+ghost use Rattle.std.specs.Prelude.{◌≡◌, ◌≤◌, ◌<◌, ◌↔◌, [], IfOk, IsTrue, MatchOption, length};
+ghost use Rattle.vs_types.specs.declared.frame.TheConstants.{FRAME_WORDS};
+ghost use Rattle.vs_types.specs.Depth.{levels};
+ghost use Rattle.nr_explain.specs.inside.Ways.{GoesNowhere, GoesOnTo, HasTwoWays, IsAnotherWay, IsMet, IsReservedAt, IsSearched};
+ghost use Rattle.nr_explain.specs.Facts.{HasReservedWord};
+
+use crate::evidence::Step;
+use std::alloc::Global;
+use vs_types::{Depth, Entry, FRAME_WORDS, Meaning, Memory};
+use vs_walk::{Dump, Frames};
+
+/// What is looked for in the tables of a dump.
+#[derive(Drop)]
+pub(crate) struct Target {
+    /// The number of a frame.
+    pub(crate) frame: u64,
+    /// The index of a word of it that has a reserved bit set, if it has to have one.
+    pub(crate) reserved: Option<u16>,
+    /// The way that it may not be, if there is one.
+    pub(crate) other: Option<Vec<Step>>,
+}
+
+/// The words of a table, 512.
+fn table_words(words: &[u64; FRAME_WORDS]) -> &[u64]
+    ensures is { result.now ≡ words.now }
+    ensures whole { length result.now ≡ FRAME_WORDS }
+{
+    words
+}
+
+/// Whether the word of a frame at an index has a reserved bit set, as an entry of a level.
+fn is_reserved(dump: &Dump, level: u8, frame: u64, index: u16) -> bool
+    requires some_level { 1 ≤ level }
+    requires few_levels { level ≤ 5 }
+    ensures { IsTrue result ↔ IsReservedAt dump.now.frames level frame index }
+{
+    let Some(words) = dump.words(frame) else {
+        return false;
+    };
+    let words = table_words(words);
+    if index as usize >= words.len() {
+        return false;
+    }
+    matches!(
+        Entry::new(words[index as usize]).read(level),
+        Meaning::Reserved
+    )
+}
+
+/// Whether two ways are one.
+fn is_same(left: &[Step], right: &[Step]) -> bool
+    ensures { IsTrue result ↔ (left.now ≡ right.now) }
+{
+    left == right
+}
+
+/// Whether a way that ends at the frame, as a table of a level, is one that is looked for.
+fn is_met(dump: &Dump, target: &Target, level: u8, way: &[Step]) -> bool
+    requires some_level { 1 ≤ level }
+    requires few_levels { level ≤ 5 }
+    ensures { IsTrue result ↔ IsMet dump.now.frames target.now level way.now }
+{
+    let has_word = match target.reserved {
+        Some(index) => is_reserved(dump, level, target.frame, index),
+        None => true,
+    };
+    let is_new = match &target.other {
+        Some(other) => !is_same(way, other),
+        None => true,
+    };
+    has_word && is_new
+}
+
+/// Goes on with a way from a table, each entry in turn, until it is one that is looked for. Takes memory for the way.
+fn go_on(
+    dump: &Dump,
+    target: &Target,
+    level: u8,
+    number: u64,
+    way: &mut Vec<Step>,
+) -> Result<bool, Memory>
+    requires some_level { 1 ≤ level }
+    requires few_levels { level ≤ 5 }
+    ensures { IfOk result (IsSearched dump.now.frames target.now level number way.old.items way.new.items) }
+{
+    if number == target.frame && is_met(dump, target, level, way) {
+        return Ok(true);
+    }
+    let Some(frame) = dump.words(number) else {
+        return Ok(false);
+    };
+    let words = table_words(frame);
+    for index in 0..words.len() {
+        let word = words[index];
+        if let Meaning::Table(next, _) = Entry::new(word).read(level) {
+            way.push(Step {
+                level,
+                frame: number,
+                index: index as u16,
+                word,
+            })?;
+            if go_on(dump, target, level - 1, next, way)? {
+                return Ok(true);
+            }
+            let _passed = way.pop();
+        }
+    }
+    Ok(false)
+}
+
+/// The first way from the root of a dump to what is looked for. Takes memory for the way.
+pub(crate) fn find_way(
+    alloc: Global,
+    dump: &Dump,
+    depth: Depth,
+    target: &Target,
+) -> Result<Option<Vec<Step>>, Memory>
+    ensures { IfOk result (λ found. MatchOption found (GoesNowhere dump.now.frames target.now (levels depth) dump.now.root [])
+        (λ way. GoesOnTo dump.now.frames target.now (levels depth) dump.now.root [] way.items)) }
+{
+    let mut way = Vec::new(alloc);
+    if go_on(dump, target, depth.levels(), dump.root(), &mut way)? {
+        return Ok(Some(way));
+    }
+    Ok(None)
+}
+
+/// A way to a frame, and another one that leads there. Takes memory for the other way.
+pub(crate) fn another_way(
+    alloc: Global,
+    dump: &Dump,
+    depth: Depth,
+    frame: u64,
+    first: Vec<Step>,
+) -> Result<(Vec<Step>, Vec<Step>), Memory>
+    requires { HasTwoWays dump.now.frames (levels depth) dump.now.root frame }
+    ensures first { IfOk result (λ ways. ways.0 ≡ first) }
+    ensures second { IfOk result (λ ways. IsAnotherWay dump.now.frames (levels depth) dump.now.root frame first.items ways.1.items) }
+{
+    let target = Target {
+        frame,
+        reserved: None,
+        other: Some(first),
+    };
+    let Some(second) = find_way(alloc, dump, depth, &target)? else {
+        unreachable!()
+    };
+    match target.other {
+        Some(first) => Ok((first, second)),
+        None => unreachable!(),
+    }
+}
+
+/// The word of a frame at an index, as an entry of a level, which has a reserved bit set.
+pub(crate) fn entry_at(dump: &Dump, level: u8, frame: u64, index: u16) -> Step
+    requires { IsReservedAt dump.now.frames level frame index }
+    ensures level { result.level ≡ level }
+    ensures frame { result.frame ≡ frame }
+    ensures index { result.index ≡ index }
+    ensures reserved { HasReservedWord dump.now.frames result }
+{
+    match dump.words(frame) {
+        Some(words) => Step {
+            level,
+            frame,
+            index,
+            word: words[index as usize],
+        },
+        None => unreachable!(),
+    }
+}

@@ -1,0 +1,116 @@
+//! The space after the first places of the log, and the last of these that changed how an address looks.
+
+ghost use Rattle.std.specs.Prelude.{◌≡◌, ◌+◌, ◌<◌, ◌≤◌, ◌↔◌, length, take, slice_get, Some, IfOk, IsTrue, OnOk};
+ghost use Rattle.vs_types.specs.Query.{IsQuery};
+ghost use Rattle.nr_trace.specs.Orders.{answer_in, space_after};
+ghost use Rattle.nr_audit.specs.inside.Steps.{Serves, space_of};
+ghost use Rattle.nr_explain.specs.Facts.{IsCallOf, IsLastChange, looks_after};
+ghost use Rattle.nr_explain.specs.inside.Searches.{HasOnlyCalls};
+
+use crate::evidence::PlacedUpdate;
+use crate::lookup::{call_at, request_of};
+use nr_trace::Trace;
+use std::alloc::Global;
+use vs_plain::PlainSpace;
+use vs_types::{Answer, Memory, Query, Request};
+
+/// Serves a request on a space.
+fn serve(space: &mut PlainSpace, request: Request) -> Result<Answer, Memory>
+    requires { IsQuery space.old.depth request }
+    ensures { IfOk result (λ answer. Serves space.old request answer space.new) }
+{
+    match request.query() {
+        Query::Update(op) => space.apply(op),
+        Query::Resolve(address) => Ok(space.resolve(address)),
+        Query::Access(address, mode, access) => Ok(space.access(address, mode, access)),
+    }
+}
+
+/// Applies the update of a place to the space before it.
+fn apply_place(trace: &Trace, space: &mut PlainSpace, place: u32) -> Result<(), Memory>
+    requires within { place < length trace.now.log }
+    requires before { space.old ≡ space_of trace.now.layout (space_after trace.now (take place trace.now.log)) }
+    ensures { OnOk result (space.new ≡ space_of trace.now.layout (space_after trace.now (take (place + 1) trace.now.log))) }
+{
+    let log = trace.log();
+    if let Some(request) = request_of(trace, log[place as usize]) {
+        serve(space, request)?;
+    }
+    Ok(())
+}
+
+/// The space after this many places.
+fn space_at(alloc: Global, trace: &Trace, end: u32) -> Result<PlainSpace, Memory>
+    requires { end ≤ length trace.now.log }
+    ensures { IfOk result (λ space. space ≡ space_of trace.now.layout (space_after trace.now (take end trace.now.log))) }
+{
+    let config = trace.config();
+    let mut space = PlainSpace::new(alloc, config.tables(), config.depth());
+    for place in 0..end {
+        apply_place(trace, &mut space, place)?;
+    }
+    Ok(space)
+}
+
+/// What a request is answered in the space after this many places. Takes memory for a space.
+pub(crate) fn answer_after(
+    alloc: Global,
+    trace: &Trace,
+    request: Request,
+    end: u32,
+) -> Result<Answer, Memory>
+    requires within { end ≤ length trace.now.log }
+    requires fits { IsQuery trace.now.layout.depth request }
+    ensures { IfOk result (λ answer. answer ≡ answer_in trace.now.layout (space_after trace.now (take end trace.now.log)) request) }
+{
+    let mut space = space_at(alloc, trace, end)?;
+    serve(&mut space, request)
+}
+
+fn is_same(left: Answer, right: Answer) -> bool
+    ensures { IsTrue result ↔ (left ≡ right) }
+{
+    left == right
+}
+
+/// The update at a place of the log.
+fn update_at(trace: &Trace, place: u32) -> PlacedUpdate
+    requires within { place < length trace.now.log }
+    requires calls { HasOnlyCalls trace.now }
+    ensures place { result.place ≡ place }
+    ensures call { IsCallOf trace.now result.call }
+    ensures placed { slice_get trace.now.log place ≡ Some result.call.event }
+{
+    PlacedUpdate {
+        place,
+        call: call_at(trace, trace.log()[place as usize]),
+    }
+}
+
+/// How an address looks in the space after the first places, this many, and the last of these whose update changed that.
+/// Takes memory for a space.
+pub(crate) fn last_look(
+    alloc: Global,
+    trace: &Trace,
+    address: u64,
+    end: u32,
+) -> Result<(Answer, Option<PlacedUpdate>), Memory>
+    requires within { end ≤ length trace.now.log }
+    requires calls { HasOnlyCalls trace.now }
+    ensures looks { IfOk result (λ last. last.0 ≡ looks_after trace.now address end) }
+    ensures changed { IfOk result (λ last. IsLastChange trace.now address end last.1) }
+{
+    let config = trace.config();
+    let mut space = PlainSpace::new(alloc, config.tables(), config.depth());
+    let mut looks = space.resolve(address);
+    let mut changed = None;
+    for place in 0..end {
+        apply_place(trace, &mut space, place)?;
+        let then = space.resolve(address);
+        if !is_same(looks, then) {
+            changed = Some(update_at(trace, place));
+        }
+        looks = then;
+    }
+    Ok((looks, changed))
+}
