@@ -1,12 +1,15 @@
 -- A batch is written into the words entry by entry.
-use Rattle.std.proofs.Common.{◌≡◌, ◌≢◌, ℕ, zero, suc, ◌+◌, ◌-◌, ◌*◌, ◌%◌, ◌<◌, ◌≤◌, List, [], ◌∷◌, Some, length, get_or, set, ◌⊎◌, inl, inr, ⊎_elim, refl, ap}
+use Rattle.std.proofs.Common.{◌≡◌, ◌≢◌, ℕ, zero, suc, ◌+◌, ◌-◌, ◌*◌, ◌%◌, ◌<◌, ◌≤◌, List, [], ◌∷◌, ◌++◌, All, Some, length, get_or, set, ◌⊎◌, inl, inr, ⊎_elim, refl, ap}
 use Rattle.std.proofs.Common.{sym, ◌∙◌, arith}
 use Rattle.std.specs.Option.{unwrap_or}
 use Rattle.std.specs.Prelude.{slice_get, slice_index}
-use Rattle.std.proofs.Math.ListN.{length-set}
+use Rattle.std.proofs.Math.ListN.{length-append, length-set}
 use Rattle.std.proofs.lemmas.List.{get_or-set_same, get_or-set_other}
 use Rattle.std.proofs.lemmas.Option.{slice_get_within}
 use Rattle.std.proofs.lemmas.Bool.Decides.{eqb_tells}
+use Rattle.std.proofs.lemmas.List.Elements.{All-append}
+use Rattle.version_cell.specs.Changes.{changed}
+use Rattle.version_cell.proofs.Changing.{changed_last}
 use Rattle.vs_types.specs.LogEntry.{log_words}
 use Rattle.vs_types.specs.declared.log_entry.LogEntry.{LogEntry}
 use Rattle.nr_ring.specs.LogHistory.{Log, tail}
@@ -68,6 +71,26 @@ one_more_written place n batch entry before words is few there =
           (λ e. ⊎_elim (λ l. absurd (omega arith)) (λ l. absurd (omega arith)) here)
           ∙ is.others_stay word low (λ i lt. clear i (omega arith));
     }
+
+-- two changes more, and one
+pub two_changes : (words : List ℕ) (changes : List (ℕ × ℕ)) (at : ℕ) (two : List ℕ)
+    → changed words ((changes ++ (at, slice_index two 0) ∷ []) ++ (at + 1, slice_index two 1) ∷ []) ≡ with_two at two (changed words changes)
+two_changes words changes at two =
+    changed_last words (changes ++ (at, slice_index two 0) ∷ []) (at + 1, slice_index two 1)
+    ∙ ap (λ (ws : List ℕ). set ws (at + 1) (slice_index two 1)) (changed_last words changes (at, slice_index two 0))
+
+pub two_more : (changes : List (ℕ × ℕ)) (first second : ℕ × ℕ) → length ((changes ++ first ∷ []) ++ second ∷ []) ≡ length changes + 2
+two_more changes first second = omega (arith, length-append (changes ++ first ∷ []) (second ∷ []), length-append changes (first ∷ []))
+
+-- the places of changes lie within the words
+abbrev pub Within : List (ℕ × ℕ) → Type 0
+Within changes = All (λ change. change.0 < 39) changes
+
+pub one_more_within : (changes : List (ℕ × ℕ)) (place word : ℕ) → Within changes → place < 39 → Within (changes ++ (place, word) ∷ [])
+one_more_within changes place word all lt = All-append (λ (change : ℕ × ℕ). change.0 < 39) changes ((place, word) ∷ []) all only where
+  only : Within ((place, word) ∷ [])
+  only zero d le = lt
+  only (suc k) d le = absurd (omega arith)
 
 -- with the tail raised, all of a batch is appended
 pub all_written : (log : Log) (batch : List LogEntry) (before words : List ℕ) (place end : ℕ) → place ≡ tail log → end ≡ tail log + length batch

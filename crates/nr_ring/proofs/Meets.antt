@@ -1,5 +1,5 @@
 -- A pass to which another was joined looks.
-use Rattle.std.proofs.Common.{◌≡◌, ℕ, ◌<◌, List, [], All, Option, length, ap, sym, subst, ◌∙◌, arith}
+use Rattle.std.proofs.Common.{◌≡◌, ℕ, ◌<◌, List, [], All, Option, length, sym, subst, ◌∙◌, arith}
 use Rattle.vs_types.specs.declared.depth.Depth.{Depth}
 use Rattle.nr_ring.specs.Calls.{HasLooked, Looks, joined}
 use Rattle.nr_ring.specs.View.{StartsWith}

@@ -2,14 +2,14 @@
 use Rattle.std.proofs.Common.{◌≡◌, ℕ, zero, suc, ◌+◌, ◌-◌, ◌^◌, ◌<◌, ◌≤◌, List, [], ◌∷◌, ◌++◌, All, Contains, Option, None, Some, take, drop, length, get_or}
 use Rattle.std.proofs.Common.{refl, ap, sym, subst, ◌∙◌, le_trans, arith}
 use Rattle.std.specs.List.{range_with_len}
-use Rattle.std.specs.Prelude.{slice_index, slice_index_or}
+use Rattle.std.specs.Prelude.{slice_index}
 use Rattle.std.proofs.lemmas.List.FromFn.{get_or-range_with_len, length-range_with_len}
 use Rattle.vs_types.specs.declared.depth.Depth.{Depth}
 use Rattle.vs_types.specs.declared.limits.TheConstants.{LOG_PLACES}
 use Rattle.nr_ring.specs.LogHistory.{Log, tail, local_of, IsLogHistory, log_after}
 use Rattle.nr_ring.specs.Words.{IsWordsOf, new_words}
 use Rattle.nr_ring.specs.View.{StartsWith}
-use Rattle.nr_ring.specs.Calls.{HasLooked, Looks, IsCut}
+use Rattle.nr_ring.specs.Calls.{Looks, IsCut}
 use Rattle.nr_ring.specs.Pass.{tails_of}
 use Rattle.nr_ring.specs.declared.log_event.LogEvent.{LogEvent}
 use Rattle.nr_ring.specs.declared.view.View.{View}
@@ -17,7 +17,6 @@ use Rattle.nr_ring.specs.inside.Held.{IsBelow, Remembers, left_from, new_view, o
 use Rattle.nr_ring.proofs.Histories.{history_fits}
 use Rattle.nr_ring.proofs.LocalTails.{greatest_least}
 use Rattle.nr_ring.proofs.NewLog.{new_is}
-use Rattle.nr_ring.proofs.Views.{nothing_since, whole}
 
 -- the tails are small
 pub small_words : (depth : Depth) (replicas : ℕ) (seen : List LogEvent) (words : List ℕ) → IsLogHistory depth replicas seen

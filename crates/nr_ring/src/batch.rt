@@ -1,5 +1,6 @@
 //! Batches of entries and the words of the cell.
 ghost use Rattle.std.specs.Prelude.{◌≡◌, ◌<◌, ◌≤◌, ℕ, All, MatchResult, [], drop, length, slice_index};
+ghost use Rattle.version_cell.specs.Changes.{changed};
 ghost use Rattle.vs_types.specs.LogEntry.{IsLogEntry};
 ghost use Rattle.vs_types.specs.declared.limits.TheConstants.{CALLS, LOG_PLACES};
 ghost use Rattle.nr_ring.specs.LogHistory.{AllKeepUp, HasRoom, Log};
@@ -7,7 +8,7 @@ ghost use Rattle.nr_ring.specs.Words.{IsAppended, IsWordsOf, word_of};
 ghost use Rattle.nr_ring.specs.inside.Batch.{AreSmall, Bars, CanBeRead, Explains};
 
 use crate::tails::{AppendFault, tails_in};
-use crate::words::{CELL_WORDS, COUNT_WORD, LOCAL_WORDS, RING, RING_WORDS, TAIL_WORD};
+use crate::words::{CELL_WORDS, CHANGES, COUNT_WORD, LOCAL_WORDS, RING, RING_WORDS, TAIL_WORD};
 use arrayvec::ArrayVec;
 use vs_types::{Depth, LOG_PLACES, LogEntry, pack, unpack};
 
@@ -47,24 +48,28 @@ fn first_word(place: u64) -> usize
     RING_WORDS + 2 * (place % RING as u64) as usize
 }
 
-/// The words after a batch: each entry stands at its place in the ring, and the tail has risen.
-pub(crate) fn with_batch(words: &[u64; CELL_WORDS], batch: &[LogEntry]) -> [u64; CELL_WORDS]
+/// Adds the changes of the words that an append makes: each entry stands at its place in the ring, and the tail rises.
+pub(crate) fn list_changes(
+    words: &[u64; CELL_WORDS],
+    batch: &[LogEntry],
+    changes: &mut ArrayVec<(usize, u64), CHANGES>,
+)
     requires small { (slice_index words.now TAIL_WORD ≤ LOG_PLACES) × (length batch.now ≤ RING) }
     requires calls { All (λ entry. entry.call < CALLS) batch.now }
-    ensures { (log : Log) → IsWordsOf log words.now
-        → IsAppended log batch.now words.now result }
+    requires empty { changes.old.items ≡ [] }
+    ensures places { All (λ change. change.0 < CELL_WORDS) changes.new.items }
+    ensures appended { (log : Log) → IsWordsOf log words.now
+        → IsAppended log batch.now words.now (changed words.now changes.new.items) }
 {
-    let mut next = *words;
     let mut place = words[TAIL_WORD];
     for entry in batch {
         let [operation, rest] = pack(*entry);
         let at = first_word(place);
-        next[at] = operation;
-        next[at + 1] = rest;
+        changes.push((at, operation));
+        changes.push((at + 1, rest));
         place += 1;
     }
-    next[TAIL_WORD] = place;
-    next
+    changes.push((TAIL_WORD, place));
 }
 
 /// Adds the entries from a place to the tail, in order.

@@ -1,6 +1,7 @@
 //! The log: one cell that its threads share.
-ghost use Rattle.std.specs.Prelude.{◌≡◌, ◌≤◌, ◌+◌, ◌-◌, ◌<◌, ℕ, All, Contains, IfErr, IfOk, OnErr, OnOk, [], ◌∷◌, length};
+ghost use Rattle.std.specs.Prelude.{◌≡◌, ◌≤◌, ◌+◌, ◌-◌, ◌<◌, ℕ, List, All, Contains, IfErr, IfOk, OnErr, OnOk, [], ◌∷◌, length};
 ghost use Rattle.std.specs.List.{range_with_len};
+ghost use Rattle.version_cell.specs.Changes.{changed};
 ghost use Rattle.vs_types.specs.LogEntry.{IsLogEntry};
 ghost use Rattle.nr_ring.specs.Calls.{HasLooked, HasMoved, HasTaken, LiesAhead, MayMake, MayTake, copy_of, joined, with_event};
 ghost use Rattle.nr_ring.specs.LogHistory.{IsLogHistory, MayAdvance, MayAppend, MayFollow, log_after_event, log_after};
@@ -11,13 +12,13 @@ ghost use Rattle.nr_ring.specs.View.{HasSeenAdvances, StartsWith};
 ghost use Rattle.nr_ring.specs.Words.{IsWordsOf, new_words};
 ghost use Rattle.nr_ring.specs.inside.Held.{IsBelow, MadeOrMoved, left_from, new_view, owned, rest_of};
 
-use crate::batch::{read_entries, test_room, why_not, with_batch};
+use crate::batch::{list_changes, read_entries, test_room, why_not};
 use crate::name::LogName;
 use crate::pass::LogPass;
 use crate::rule::{Copies, FirstOwned, Happening, LogRule, Looking, Making};
 use crate::tails::{AppendFault, Moved, Tails};
 use crate::view::View;
-use crate::words::{CELL_WORDS, COMPLETED_WORD, COUNT_WORD, LOCAL_WORDS, OTHERS, RING};
+use crate::words::{CELL_WORDS, CHANGES, COMPLETED_WORD, COUNT_WORD, LOCAL_WORDS, OTHERS, RING};
 use arrayvec::ArrayVec;
 use std::alloc::Global;
 use std::marker::{Brand, Model, PhantomData};
@@ -174,10 +175,8 @@ impl<J: LogName> RingLog<J> {
     {
         let local = LOCAL_WORDS + usize::from(replica);
         let place = u64::from(to);
-        let mut next = *pass.inner.words();
-        next[COMPLETED_WORD] = next[COMPLETED_WORD].max(place);
-        next[local] = place;
-        self.exchange::<E, R>(rt, pass, &next)
+        let completed = pass.inner.words()[COMPLETED_WORD].max(place);
+        self.exchange::<E, R>(rt, pass, &[(COMPLETED_WORD, completed), (local, place)])
     }
 
     /// Looks, and then appends 1 to 16 entries at the log's depth: the place of the first.
@@ -231,8 +230,9 @@ impl<J: LogName> RingLog<J> {
         ensures view { MadeOrMoved J.depth J.replicas E.event pass.old.view pass.new.view result }
         ensures history { IsLogHistory J.depth J.replicas pass.new.view.seen }
     {
-        let next = with_batch(pass.inner.words(), batch);
-        self.exchange::<E, R>(rt, pass, &next)
+        let mut changes: ArrayVec<(usize, u64), CHANGES> = ArrayVec::new();
+        list_changes(pass.inner.words(), batch, &mut changes);
+        self.exchange::<E, R>(rt, pass, changes.as_slice())
     }
 
     /// Looks, and gives all entries from the local tail of the replica that the pass owns to the tail, in order. The vector is
@@ -262,24 +262,26 @@ impl<J: LogName> RingLog<J> {
         read_entries(self.depth, words, local, entries);
     }
 
-    /// Exchanges the words that the pass saw last for those after an event, where the cell still has them; else it looks.
+    /// Changes the words that the pass saw last to those after an event, where the cell still has them; else it looks.
     fn exchange<E: Happening, R: Wait>(
         &self,
         rt: &R,
         pass: &mut LogPass<J>,
-        next: &[u64; CELL_WORDS],
+        changes: &[(usize, u64)],
     ) -> bool
         requires log { pass.old.log ≡ self.now }
         requires event { MayFollow J.depth (log_after J.replicas pass.old.view.seen) E.event
             × MayMake pass.old.view E.event }
-        requires next { IsWordsOf
-            (log_after_event (log_after J.replicas pass.old.view.seen) E.event) next.now }
+        requires places { All (λ change. change.0 < CELL_WORDS) changes.now }
+        requires next { (words : List ℕ) → IsWordsOf (log_after J.replicas pass.old.view.seen) words
+            → IsWordsOf (log_after_event (log_after J.replicas pass.old.view.seen) E.event)
+            (changed words changes.now) }
         ensures log { pass.new.log ≡ pass.old.log }
         ensures view { MadeOrMoved J.depth J.replicas E.event pass.old.view pass.new.view result }
         ensures history { IsLogHistory J.depth J.replicas pass.new.view.seen }
     {
         self.cell
-            .exchange_as::<Making<E>, Looking<J>, R>(rt, &mut pass.inner, next)
+            .exchange_as::<Making<E>, Looking<J>, R>(rt, &mut pass.inner, changes)
     }
 
     /// Tells one pass what another has seen: what `told` has then seen begins with all that either had seen, and nobody has

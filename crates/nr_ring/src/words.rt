@@ -9,6 +9,9 @@ pub const OTHERS: u8 = 64;
 /// The words of the cell.
 pub const CELL_WORDS: usize = 39;
 
+/// The most words that an event changes: two for each entry of a batch, and the tail.
+pub const CHANGES: usize = 33;
+
 /// The word of the tail.
 pub const TAIL_WORD: usize = 0;
 

@@ -1,3 +1,4 @@
 pub mod Passes
+pub mod Changes
 -- the table below the cell
 pub mod inside

@@ -1,6 +1,7 @@
 //! The cell.
-ghost use Rattle.std.specs.Prelude.{◌≡◌, ◌<◌, ℕ, [], ◌∷◌, IfOk, MatchBool};
+ghost use Rattle.std.specs.Prelude.{◌≡◌, ◌<◌, ℕ, [], ◌∷◌, All, IfOk, MatchBool};
 ghost use Rattle.crossbeam_utils.specs.Register.{Forks, Merges, Turns, TurnsAt};
+ghost use Rattle.version_cell.specs.Changes.{changed};
 
 use crate::pass::Pass;
 use crate::plays::{Check, Cut, Glue, Versions};
@@ -107,32 +108,34 @@ impl<V, P: CellRule<V>, const N: usize> VersionCell<V, P, N> {
         );
     }
 
-    /// Exchanges the words of the pass for others, where they are still those of the cell. Else it looks, and the words that it
-    /// finds are later ones.
+    /// Changes the words, each change putting a word at a place, where those of the pass are still those of the cell. Else it
+    /// looks, and the words that it finds have come further.
     ///
     /// Waits for the cell.
     pub fn exchange_as<E: CellOutcome<V>, M: CellOutcome<V>, R: Wait>(
         &self,
         rt: &R,
         pass: &mut Pass<V, N>,
-        next: &[u64; N],
+        changes: &[(usize, u64)],
     ) -> bool
         requires cell { pass.old.cell ≡ self.now }
+        requires places { All (λ change. change.0 < N) changes.now }
         requires rule { TurnsAt P.holds pass.old.number pass.old.view
-            pass.old.words next.now E.then }
-        requires rises { P.progress pass.old.words < P.progress next.now }
+            pass.old.words (changed pass.old.words changes.now) E.then }
+        requires rises { P.progress pass.old.words
+            < P.progress (changed pass.old.words changes.now) }
         requires look { Turns P.holds pass.old.number pass.old.view (λ x. x) M.then }
         ensures same { (pass.new.cell ≡ pass.old.cell) × (pass.new.number ≡ pass.old.number) }
         ensures rule { MatchBool result
-            ((pass.new.words ≡ next.now)
-            × E.then pass.old.view pass.old.words next.now pass.new.view)
+            ((pass.new.words ≡ changed pass.old.words changes.now)
+            × E.then pass.old.view pass.old.words pass.new.words pass.new.view)
             ((P.progress pass.old.words < P.progress pass.new.words)
             × M.then pass.old.view pass.new.words pass.new.words pass.new.view) }
     {
         let version = pass.version;
         let table = &self.table.shared;
         if take(table, &mut pass.seat, version, &pass.words) {
-            publish::<E, V, P, N>(table, &mut pass.seat, version + 1, &mut pass.words, next);
+            publish::<E, V, P, N>(table, &mut pass.seat, version + 1, &mut pass.words, changes);
             pass.version = version + 2;
             return true;
         }

@@ -1,6 +1,7 @@
 //! The steps of a seat at the table of a cell, which reads the words and writes them.
-ghost use Rattle.std.specs.Prelude.{◌≡◌, ◌+◌, ◌^◌, ◌<◌, MatchBool, length};
+ghost use Rattle.std.specs.Prelude.{◌≡◌, ◌+◌, ◌^◌, ◌<◌, All, MatchBool, length};
 ghost use Rattle.crossbeam_utils.specs.Register.{Turns, TurnsAt};
+ghost use Rattle.version_cell.specs.Changes.{changed};
 ghost use Rattle.version_cell.specs.inside.Steps.{Fits, Gathered, GrewTo, IsSameSeat, Stays};
 ghost use Rattle.version_cell.specs.declared.stage.Stage.TheVariants.{Seen, Writing};
 
@@ -75,47 +76,48 @@ pub(crate) fn take<V, P: CellRule<V>, const N: usize>(
         && table.compare_exchange::<Take>(seat, 0, version, version + 1) == version
 }
 
-/// Stores each of the words that is to be another.
+/// Makes the changes, in turn.
 fn write<V, P: CellRule<V>, const N: usize>(
     table: &Shared<(), Doing<V>, Vec<u64>, Versions<P>>,
     seat: &mut Seat<(), Doing<V>>,
     version: u64,
     words: &mut [u64; N],
-    next: &[u64; N],
+    changes: &[(usize, u64)],
 )
     requires table { Fits N seat.old table.now.table_id table.now.key.items }
     requires taken { seat.old.me.0.stage ≡ Writing version words.old words.old }
+    requires places { All (λ change. change.0 < N) changes.now }
     ensures seat { Stays seat.old seat.new }
-    ensures written { (words.new ≡ next.now)
-        × (seat.new.me.0.stage ≡ Writing version words.old next.now) }
+    ensures written { (words.new ≡ changed words.old changes.now)
+        × (seat.new.me.0.stage ≡ Writing version words.old words.new) }
 {
-    for i in 0..N {
-        let word = next[i];
-        if words[i] != word {
-            table.store::<Put>(seat, i + 1, word);
-            words[i] = word;
-        }
+    for change in changes {
+        let (place, word) = *change;
+        table.store::<Put>(seat, place + 1, word);
+        words[place] = word;
     }
 }
 
-/// Writes the next words to a cell that the seat has taken, and gives it the even version after its odd one.
+/// Makes the changes in a cell that the seat has taken, and gives it the even version after its odd one.
 pub(crate) fn publish<M: CellOutcome<V>, V, P: CellRule<V>, const N: usize>(
     table: &Shared<(), Doing<V>, Vec<u64>, Versions<P>>,
     seat: &mut Seat<(), Doing<V>>,
     version: u64,
     words: &mut [u64; N],
-    next: &[u64; N],
+    changes: &[(usize, u64)],
 )
     requires table { Fits N seat.old table.now.table_id table.now.key.items }
     requires taken { (seat.old.me.0.stage ≡ Writing version words.old words.old)
         × (version + 1 < 2 ^ 64) }
-    requires rule { TurnsAt P.holds seat.old.id seat.old.me.0.client words.old next.now M.then }
-    requires rises { P.progress words.old < P.progress next.now }
+    requires places { All (λ change. change.0 < N) changes.now }
+    requires rule { TurnsAt P.holds seat.old.id seat.old.me.0.client
+        words.old (changed words.old changes.now) M.then }
+    requires rises { P.progress words.old < P.progress (changed words.old changes.now) }
     ensures seat { IsSameSeat seat.old seat.new }
-    ensures seen { (words.new ≡ next.now)
-        × (seat.new.me.0.stage ≡ Seen (version + 1) (version + 1) next.now) }
-    ensures rule { M.then seat.old.me.0.client words.old next.now seat.new.me.0.client }
+    ensures seen { (words.new ≡ changed words.old changes.now)
+        × (seat.new.me.0.stage ≡ Seen (version + 1) (version + 1) words.new) }
+    ensures rule { M.then seat.old.me.0.client words.old words.new seat.new.me.0.client }
 {
-    write(table, seat, version, words, next);
+    write(table, seat, version, words, changes);
     table.store::<Publish<M>>(seat, 0, version + 1);
 }

@@ -1,4 +1,5 @@
-use Rattle.std.proofs.Common.{rules, ap, sym, subst}
+use Rattle.std.proofs.Common.{rules, ℕ, List, ap, sym, subst}
+use Rattle.version_cell.specs.Changes.{changed}
 use Rattle.nr_ring.specs.Calls.{MayMake}
 use Rattle.nr_ring.specs.LogHistory.{MayFollow, log_after_event, log_after}
 use Rattle.nr_ring.specs.Pass.{Known}
@@ -18,18 +19,19 @@ exchange_as-requires g c =
     let view = c.pass.inside.inner.view in
     let back = sym (ap (λ (k : Known). k.view) c.pass.view_is) in
     let May : View → Type 0 = λ v. MayFollow depth (log_after replicas v.seen) event × MayMake v event in
-    let Next : View → Type 0 = λ v. IsWordsOf (log_after_event (log_after replicas v.seen) event) c.args.next.now in
+    let Next : View → Type 0 = λ v. (words : List ℕ) → IsWordsOf (log_after replicas v.seen) words
+    → IsWordsOf (log_after_event (log_after replicas v.seen) event) (changed words c.args.changes.now) in
     let may = subst May back c.requires.event in
-    let next = subst Next back c.requires.next in (
+    let next = subst Next back c.requires.next c.pass.inside.inner.words is.words_are in (
       search rules,
       (
         search rules,
         (
           search rules,
           (
-            search rules,
+            c.requires.places,
             (
-              event_turns depth replicas _ _ view event c.pass.inside.inner.words c.args.next.now is.few is.words_are may.0 may.1 next,
+              event_turns depth replicas _ _ view event c.pass.inside.inner.words (changed c.pass.inside.inner.words c.args.changes.now) is.few is.words_are may.0 may.1 next,
               (event_progress depth replicas view.seen event _ _ is.few is.is_history is.words_are may.0 next, look_turns _ _ _ _ _),
             ),
           ),
@@ -44,9 +46,10 @@ invariant_of-pass g c =
     let event = g.E.Happening.event in
     let back = sym (ap (λ (k : Known). k.view) c.pass.view_is) in
     let May : View → Type 0 = λ v. MayFollow depth (log_after replicas v.seen) event in
-    let Next : View → Type 0 = λ v. IsWordsOf (log_after_event (log_after replicas v.seen) event) c.args.next.now in
+    let Next : View → Type 0 = λ v. (words : List ℕ) → IsWordsOf (log_after replicas v.seen) words
+    → IsWordsOf (log_after_event (log_after replicas v.seen) event) (changed words c.args.changes.now) in
     (exchange_tells depth replicas _ _ _ _ _ _ event c.exchange_as.result c.pass.invariant
-    (subst May back c.requires.event.0) (subst Next back c.requires.next) c.exchange_as.ensures.rule).0
+    (subst May back c.requires.event.0) (subst Next back c.requires.next c.pass.inside.inner.words c.pass.invariant.words_are) c.exchange_as.ensures.rule).0
 
 pub returns-clause-view : goal.returns-clause-view
 returns-clause-view g c =
@@ -55,11 +58,12 @@ returns-clause-view g c =
     let event = g.E.Happening.event in
     let own = ap (λ (k : Known). k.view) c.pass.view_is in
     let May : View → Type 0 = λ v. MayFollow depth (log_after replicas v.seen) event in
-    let Next : View → Type 0 = λ v. IsWordsOf (log_after_event (log_after replicas v.seen) event) c.args.next.now in
+    let Next : View → Type 0 = λ v. (words : List ℕ) → IsWordsOf (log_after replicas v.seen) words
+    → IsWordsOf (log_after_event (log_after replicas v.seen) event) (changed words c.args.changes.now) in
     let Tells : View → Type 0 = λ v. MadeOrMoved depth replicas event v c.exchange_as.new.pass.view c.exchange_as.result in
     subst Tells own
     (exchange_tells depth replicas _ _ _ _ _ _ event c.exchange_as.result c.pass.invariant
-    (subst May (sym own) c.requires.event.0) (subst Next (sym own) c.requires.next) c.exchange_as.ensures.rule).1
+    (subst May (sym own) c.requires.event.0) (subst Next (sym own) c.requires.next c.pass.inside.inner.words c.pass.invariant.words_are) c.exchange_as.ensures.rule).1
 
 pub returns-clause-history : goal.returns-clause-history
 returns-clause-history g c = (invariant_of-pass g c).is_history

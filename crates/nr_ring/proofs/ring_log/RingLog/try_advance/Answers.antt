@@ -8,6 +8,7 @@ use Rattle.nr_ring.specs.declared.log_event.LogEvent.{LogEvent}
 use Rattle.nr_ring.specs.declared.log_event.LogEvent.TheVariants.{Advance}
 use Rattle.nr_ring.specs.declared.view.View.{View}
 use Rattle.nr_ring.proofs.CellWords.{advance_words}
+use Rattle.nr_ring.proofs.SameWords.{words_same}
 use Rattle.nr_ring.proofs.ring_log.RingLog.try_advance.Goals as goal
 
 pub exchange-requires-clause-event : goal.exchange-requires-clause-event
@@ -20,16 +21,19 @@ exchange-requires-clause-event g c =
 pub exchange-requires-clause-next : goal.exchange-requires-clause-next
 exchange-requires-clause-next g c =
     let log = log_after g.J.LogName.replicas c.args.pass.now.view.seen in
-    let words = c.words.result.now in
-    let Is : View → Type 0 = λ v. IsWordsOf (log_after g.J.LogName.replicas v.seen) words in
+    let own = c.words.result.now in
+    let Is : View → Type 0 = λ v. IsWordsOf (log_after g.J.LogName.replicas v.seen) own in
     let are = subst Is (ap (λ (k : Known). k.view) c.pass.view_is) (rw c.words.ensures c.pass.invariant.words_are) in
-    let advanced = advance_words log c.args.replica c.args.to words c.requires.may.0 are c.requires.may.1 in
     let place = c.from-place.ensures in
     let local = c.from-local.ensures in
-    let raised : c.max.result ≡ max (slice_index words 1) c.args.to = c.max.ensures ∙ ap (λ n. max (slice_index words 1) n) place in
-    let before : List ℕ = set (set words 1 c.max.result) (2 + c.from-local.result) c.from-place.result in
-    let next : before ≡ set (set words 1 (max (slice_index words 1) c.args.to)) (2 + c.args.replica) c.args.to =
+    λ words now.
+    let advanced = advance_words log c.args.replica c.args.to words c.requires.may.0 now c.requires.may.1 in
+    let same : own ≡ words = words_same log own words are now in
+    let raised : c.max-completed.result ≡ max (slice_index words 1) c.args.to =
+    c.max-completed.ensures ∙ ap (λ n. max (slice_index own 1) n) place ∙ ap (λ (ws : List ℕ). max (slice_index ws 1) c.args.to) same in
+    let after : List ℕ = set (set words 1 c.max-completed.result) (2 + c.from-local.result) c.from-place.result in
+    let next : after ≡ set (set words 1 (max (slice_index words 1) c.args.to)) (2 + c.args.replica) c.args.to =
     λ i. set (set words 1 (raised i)) (2 + local i) (place i) in
     let Next : List ℕ → Type 0 = λ ws. IsWordsOf (log_after_event log (Advance c.args.replica c.args.to)) ws in
-    let After : LogEvent → Type 0 = λ event. IsWordsOf (log_after_event log event) before in
+    let After : LogEvent → Type 0 = λ event. IsWordsOf (log_after_event log event) after in
     subst After (sym c.requires.event) (subst Next (sym next) advanced)

@@ -1,18 +1,26 @@
-use Rattle.std.proofs.Common.{ap, sym, subst}
+use Rattle.std.proofs.Common.{◌≡◌, ℕ, List, ap, sym, subst}
+use Rattle.version_cell.specs.Changes.{changed}
 use Rattle.nr_ring.specs.LogHistory.{log_after_event, log_after}
 use Rattle.nr_ring.specs.Pass.{Known}
 use Rattle.nr_ring.specs.Words.{IsWordsOf}
 use Rattle.nr_ring.specs.declared.log_event.LogEvent.{LogEvent}
+use Rattle.nr_ring.specs.declared.log_event.LogEvent.TheVariants.{Append}
 use Rattle.nr_ring.specs.declared.view.View.{View}
 use Rattle.nr_ring.proofs.CellWords.{append_words}
+use Rattle.nr_ring.proofs.SameWords.{words_same}
 use Rattle.nr_ring.proofs.ring_log.RingLog.try_append.Goals as goal
 
 pub exchange-requires-clause-next : goal.exchange-requires-clause-next
 exchange-requires-clause-next g c =
     let log = log_after g.J.LogName.replicas c.args.pass.now.view.seen in
-    let words = c.words.result.now in
-    let Is : View → Type 0 = λ v. IsWordsOf (log_after g.J.LogName.replicas v.seen) words in
+    let own = c.words.result.now in
+    let Is : View → Type 0 = λ v. IsWordsOf (log_after g.J.LogName.replicas v.seen) own in
     let are = subst Is (ap (λ (k : Known). k.view) c.pass.view_is) (rw c.words.ensures c.pass.invariant.words_are) in
-    let After : LogEvent → Type 0 = λ event. IsWordsOf (log_after_event log event) c.with_batch-next.result in
-    subst After (sym c.requires.event)
-    (append_words g.J.LogName.depth log c.args.batch.now words c.with_batch-next.result are c.requires.may (c.with_batch-next.ensures log are))
+    let changes = c.list_changes.new.changes.items in
+    let appended = append_words g.J.LogName.depth log c.args.batch.now own (changed own changes) are c.requires.may (c.list_changes.ensures.appended log are) in
+    λ words now.
+    let Next : List ℕ → Type 0 = λ ws. IsWordsOf (log_after_event log (Append c.args.batch.now)) (changed ws changes) in
+    let After : LogEvent → Type 0 = λ event. IsWordsOf (log_after_event log event) (changed words c.as_slice.result.now) in
+    let listed : changes ≡ c.as_slice.result.now = sym c.as_slice.ensures.value in
+    let Listed : List (ℕ × ℕ) → Type 0 = λ cs. IsWordsOf (log_after_event log (Append c.args.batch.now)) (changed words cs) in
+    subst After (sym c.requires.event) (subst Listed listed (subst Next (words_same log own words are now) appended))
