@@ -21,6 +21,8 @@ struct settings {
 	uint64_t levels, seed, rounds, sends_trace;
 };
 
+uint64_t random_state;
+
 extern const char text_begin[], text_end[], stubs_end[], rodata_end[], data_end[], large_begin[], large_end[];
 
 static uint64_t read_number(const char **text)

@@ -6,7 +6,6 @@
 #include "say.h"
 #include "space.h"
 
-uint64_t random_state;
 uint64_t tries_made, tries_differ;
 
 enum { PAGE_FAULT = 14, GENERAL_PROTECTION = 13 };
@@ -45,14 +44,12 @@ static struct answer asked_for(const struct page *page, struct try try)
 	return (struct answer){ NRVS_FAULT, 0, 0, code };
 }
 
-/* Whether the library says of the access and of the address what was asked for. */
-static int is_told(const struct page *page, struct try try, struct answer asked)
+/* Whether the library says of the access what was asked for, and the same of the address. */
+static int is_told(const struct page *page, struct try try, struct answer asked, struct answer access)
 {
-	struct answer access, resolve;
+	struct answer resolve;
 
-	if (!space_access(try.address, try.mode, try.access, &access) || !space_resolve(try.address, &resolve))
-		return 0;
-	if (access.code != asked.code || access.number != asked.number)
+	if (access.code != asked.code || access.number != asked.number || !space_resolve(try.address, &resolve))
 		return 0;
 	if (!page)
 		return resolve.code == NRVS_NOT_MAPPED;
@@ -81,14 +78,23 @@ static int has_made(struct try try, uint64_t there)
 	return try.access == NRVS_STORE || outcome.word == (try.access == NRVS_FETCH ? number_in(there) : there);
 }
 
+/* Says of the first tries that differ what was asked for, and what came. */
 static void tell(struct try try, struct answer asked, int is_same)
 {
 	if (tries_differ++ >= MOST_TOLD)
 		return;
-	say("differs: %s %s at %x: asked for answer %u %x, the library says %s", modes[try.mode], accesses[try.access],
-	    try.address, (uint64_t)asked.code, asked.number, is_same ? "so" : "otherwise");
-	say("; the processor ended with vector %u code %x address %x word %x\n", outcome.vector, outcome.code, outcome.cr2,
-	    outcome.word);
+	say("differs: %s %s of %x: asked for ", modes[try.mode], accesses[try.access], try.address);
+	if (asked.code == NRVS_ALLOWED)
+		say("memory at %x", asked.number);
+	else if (asked.code == NRVS_FAULT)
+		say("a page fault of code %x", asked.number);
+	else
+		say("a general protection fault");
+	say(is_same ? ", as the library says" : ", the library says otherwise");
+	if (outcome.vector == END_VECTOR)
+		say("; the processor made it, RAX %x\n", outcome.word);
+	else
+		say("; the processor took fault %u of code %x, CR2 %x\n", outcome.vector, outcome.code, outcome.cr2);
 }
 
 /* An address that isn't canonical: the library refuses it, and the processor faults in another way. */
@@ -96,7 +102,7 @@ static void try_not_canonical(struct try try)
 {
 	make(try, 0);
 	if (outcome.vector != GENERAL_PROTECTION || outcome.code != 0)
-		tell(try, (struct answer){ 0 }, 1);
+		tell(try, (struct answer){ NRVS_DONE, 0, 0, 0 }, 1);
 }
 
 void try_access(struct try try)
@@ -104,17 +110,17 @@ void try_access(struct try try)
 	const struct page *page = space_page_at(try.address);
 	const struct answer asked = asked_for(page, try);
 	const uint64_t word = word_of(random_word()), other = word_of(random_word());
-	struct answer answer;
+	struct answer access;
 	volatile uint64_t *memory = 0;
 	uint64_t there = 0;
 	int is_same, is_done;
 
 	tries_made++;
-	if (!space_resolve(try.address, &answer)) {
+	if (!space_access(try.address, try.mode, try.access, &access)) {
 		try_not_canonical(try);
 		return;
 	}
-	is_same = is_told(page, try, asked);
+	is_same = is_told(page, try, asked, access);
 	if (page) {
 		memory = memory_at(page->physical + (try.address - page->base));
 		if (!page->is_own)
