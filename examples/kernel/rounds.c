@@ -40,7 +40,6 @@ static uint64_t draw_base(void)
 static unsigned draw_size(void)
 {
 	static const unsigned sizes[] = { NRVS_4K, NRVS_4K, NRVS_4K, NRVS_2M, NRVS_2M, NRVS_1G };
-
 	const unsigned size = sizes[random_below(6)];
 
 	return size < largest_size ? size : largest_size;
@@ -63,18 +62,12 @@ static unsigned count_pages(void)
 	return count;
 }
 
-/* A page that isn't the kernel's own, or null. */
+/* A page that isn't the kernel's own, all of which come first; or null. */
 static const struct page *draw_page(void)
 {
-	const unsigned first = random_below(space_count());
+	const unsigned count = count_pages();
 
-	for (unsigned k = 0; k < space_count(); k++) {
-		const struct page *page = space_page((first + k) % space_count());
-
-		if (!page->is_own)
-			return page;
-	}
-	return 0;
+	return count == 0 ? 0 : space_page(space_count() - count + random_below(count));
 }
 
 /* An address of a page whose memory there is of a spot. */
