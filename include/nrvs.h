@@ -13,8 +13,6 @@
  *     the same frames and marks, as many of each;
  *   - a handle that was not made does not have the magic word by chance: let it be 0;
  *   - calls with one handle, and with memory that is lent to it, come one after the other. A processor may walk the frames meanwhile.
- *     It sets accessed and dirty flags in them (bits 5 and 6 of an entry), which no call reads: that these do no harm is tested, not
- *     proved. What else a kernel has to keep stands in examples/kernel/README.md.
  */
 #ifndef NRVS_H
 #define NRVS_H
