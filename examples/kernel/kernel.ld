@@ -23,7 +23,7 @@ SECTIONS
 	. = ALIGN(4096);
 	rodata_end = .;
 	.data : { *(.data .data.* .got .got.*) } :all
-	.bss : { *(.bss .bss.[!l]* COMMON) } :all
+	.bss : { *(.bss .bss.[!l]* COMMON) } :all /* but .bss.large */
 	. = ALIGN(4096);
 	data_end = .;
 	. = ALIGN(2M);
