@@ -17,6 +17,8 @@ mod ring_races;
 #[cfg(test)]
 mod ring_threads;
 #[cfg(test)]
+mod sizes;
+#[cfg(test)]
 mod slots;
 #[cfg(test)]
 mod start;
