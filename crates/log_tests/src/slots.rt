@@ -44,22 +44,47 @@ fn own(rt: &impl Abort, thread: u16) -> Answered
 }
 
 /// Posts the thread's update.
-fn post<R: Wait + Abort>(rt: &R, slots: &Slots, thread: u16, wanted: Result<(), Occupied>)
+fn post<R: Wait + Abort>(rt: &R, slots: &Slots, thread: u16)
     requires { (slots.now ≡ 64) × (thread < 64) }
 {
     let Answered { call, op, .. } = own(rt, thread);
-    assert_eq!(rt; slots.post(rt, thread, call, op), wanted, "thread {thread}");
+    assert_eq!(rt; slots.post(rt, thread, call, op), Ok(()), "thread {thread}");
+}
+
+/// Another update for the thread's slot is refused.
+fn post_in_vain<R: Wait + Abort>(rt: &R, slots: &Slots, thread: u16)
+    requires { (slots.now ≡ 64) × (thread < 64) }
+{
+    let Answered { call, op, .. } = own(rt, (thread + 1) % 64);
+    assert_eq!(rt;
+        slots.post(rt, thread, call, op),
+        Err(Occupied),
+        "thread {thread}"
+    );
 }
 
 /// Answers the thread's update.
-fn answer<R: Wait + Abort>(rt: &R, slots: &Slots, thread: u16, wanted: Result<(), NotTaken>)
+fn answer<R: Wait + Abort>(rt: &R, slots: &Slots, thread: u16)
     requires { thread < 64 }
 {
     assert_eq!(rt;
         slots.answer(rt, own(rt, thread)),
-        wanted,
+        Ok(()),
         "thread {thread}"
     );
+}
+
+/// Another answer to the thread's call is refused.
+fn answer_in_vain<R: Wait + Abort>(rt: &R, slots: &Slots, thread: u16)
+    requires { thread < 64 }
+{
+    let Answered { call, .. } = own(rt, thread);
+    let other = Answered {
+        thread,
+        call,
+        ..own(rt, (thread + 1) % 64)
+    };
+    assert_eq!(rt; slots.answer(rt, other), Err(NotTaken), "thread {thread}");
 }
 
 /// The thread's slot has no answer, and another call or one of no thread is not answered.
@@ -114,31 +139,32 @@ fn answer_taken<R: Wait + Abort>(rt: &R, slots: &Slots, first: u16)
     requires { (slots.now ≡ 64) × (first + 16 ≤ 64) }
 {
     for thread in first..first + 16 {
-        post(rt, slots, thread, Err(Occupied));
+        post_in_vain(rt, slots, thread);
         has_no_answer(rt, slots, thread);
     }
     for thread in first..first + 16 {
-        answer(rt, slots, thread, Ok(()));
-        answer(rt, slots, thread, Err(NotTaken));
-        post(rt, slots, thread, Err(Occupied));
+        answer(rt, slots, thread);
+        answer_in_vain(rt, slots, thread);
+        post_in_vain(rt, slots, thread);
     }
 }
 
-/// No clause says what the locked calls do to a slot. Each call is tried on each of 64 slots in each of its states, and what is refused changes nothing.
+/// No clause says what the locked calls do to a slot. Each call is tried on each of 64 slots in each of its states. What is
+/// refused is another update or answer than the slot has, and changes nothing.
 #[test]
 fn slots_in_each_state(rt: HostRuntime) -> Result<(), Fail> {
     let slots = Slots::new(rt.alloc(), 64)?;
     for thread in 0..64 {
         has_no_answer(&rt, &slots, thread);
-        answer(&rt, &slots, thread, Err(NotTaken));
+        answer_in_vain(&rt, &slots, thread);
     }
     collect(&rt, &slots, 0, 0);
     for thread in 0..64 {
-        post(&rt, &slots, 63 - thread, Ok(()));
+        post(&rt, &slots, 63 - thread);
     }
     for thread in 0..64 {
-        post(&rt, &slots, thread, Err(Occupied));
-        answer(&rt, &slots, thread, Err(NotTaken));
+        post_in_vain(&rt, &slots, thread);
+        answer_in_vain(&rt, &slots, thread);
         has_no_answer(&rt, &slots, thread);
     }
     for batch in 0..4 {
@@ -152,11 +178,11 @@ fn slots_in_each_state(rt: HostRuntime) -> Result<(), Fail> {
             Some(own(&rt, thread)),
             "thread {thread}"
         );
-        answer(&rt, &slots, thread, Err(NotTaken));
+        answer_in_vain(&rt, &slots, thread);
         has_no_answer(&rt, &slots, thread);
     }
     collect(&rt, &slots, 0, 0);
-    post(&rt, &slots, 40, Ok(()));
+    post(&rt, &slots, 40);
     collect(&rt, &slots, 40, 1);
     Ok(())
 }
