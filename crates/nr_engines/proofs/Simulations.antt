@@ -9,8 +9,11 @@ use Rattle.nr_audit.specs.declared.verdict.Verdict.TheVariants.{Yes}
 use Rattle.nr_audit.proofs.PartsOfVerdicts.{same_of}
 use Rattle.nr_script.specs.declared.script.Script.{Script}
 use Rattle.nr_engines.specs.Answers.{IsAudit, WritesReport}
-use Rattle.nr_engines.specs.Simulation.{HasReadScript, IsRecordingOfScript, IsSimulation, IsTold}
+use Rattle.nr_engines.specs.Simulation.{HasReadScript, IsRecordingOfScript, IsSimulation, IsSimulationFault, IsTold}
 use Rattle.nr_engines.specs.Text.{verdict_status}
+use Rattle.vs_types.specs.declared.depth.Depth.{Depth}
+use Rattle.nr_engines.specs.declared.fault.ProgFault.{ProgFault}
+use Rattle.nr_engines.specs.declared.fault.ProgFault.TheVariants.{CannotWrite}
 use Rattle.nr_engines.specs.declared.setup.Setup.{Setup}
 
 pub as_bytes : (as_trace : Bool) (trace : Recording) (text : List ℕ) → as_trace ≡ true → text ≡ spelling trace → IsTold as_trace trace text 0
@@ -45,3 +48,8 @@ writes_what_is_told setup as_trace known old new script trace text status has re
   is_report = record { script = script; is_script = has.is_script; trace = trace; recording = recording; told = told };
   written = written;
 }
+
+-- where the input is a script, the output alone gave an error
+pub fault_of_output : (depth : Depth) (known : Option (List ℕ)) (script : Script) (fault : ProgFault) → HasReadScript depth known script → fault ≡ CannotWrite
+    → IsSimulationFault depth known fault
+fault_of_output depth known script fault has same = subst (IsSimulationFault depth known) (sym same) (script, has)

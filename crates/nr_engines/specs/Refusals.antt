@@ -2,7 +2,7 @@
 use Rattle.std.specs.Prelude.{◌≡◌, ◌≢◌, ◌++◌, ℕ, List, codes, decimal, Option, Result, Ok, Err, IfErr, ⊤}
 use Rattle.nr_engines.specs.Addresses.{SpellsAddress}
 use Rattle.nr_engines.specs.Text.{line_end}
-use Rattle.nr_engines.specs.Answers.{IsReadOf, IsOutOfItsDepth, LacksReplica}
+use Rattle.nr_engines.specs.Answers.{IsReadOf, IsOutOfItsDepth, IsResolve, LacksReplica}
 use Rattle.nr_engines.specs.declared.fault.ProgFault.{ProgFault}
 use Rattle.nr_engines.specs.declared.fault.ProgFault.TheVariants.{BadAddress, NotCanonical, NoSuchReplica, InputTooLong, BadLine, NoThread, CannotRead, CannotWrite, Memory}
 
@@ -52,14 +52,18 @@ IsWalkFault bytes address replica NoSuchReplica = LacksReplica bytes address rep
 IsWalkFault bytes address replica Memory = ⊤
 IsWalkFault bytes address replica _ = ⊥
 
--- the fault of `resolve` on this word and replica, where the input is known; the word is tested first
+-- the fault of `resolve` on this word and replica, where the input is known; the word is tested first, and only an answer is written
 abbrev pub IsResolveFault : List ℕ → ℕ → Option (List ℕ) → ProgFault → Type 0
 IsResolveFault word replica known BadAddress = (address : ℕ) → SpellsAddress word address → ⊥
 IsResolveFault word replica known NotCanonical =
     (address : ℕ) × SpellsAddress word address × ((input : List ℕ) × IsReadOf known input × IsOutOfItsDepth input address)
 IsResolveFault word replica known NoSuchReplica =
     (address : ℕ) × SpellsAddress word address × ((input : List ℕ) × IsReadOf known input × LacksReplica input address replica)
-IsResolveFault word replica known _ = (address : ℕ) × SpellsAddress word address
+IsResolveFault word replica known CannotWrite =
+    (input : List ℕ) × IsReadOf known input × ((text : List ℕ) × (status : ℕ) × IsResolve word replica input text status)
+IsResolveFault word replica known CannotRead = (address : ℕ) × SpellsAddress word address
+IsResolveFault word replica known Memory = (address : ℕ) × SpellsAddress word address
+IsResolveFault word replica known _ = ⊥
 
 -- where there is no answer, the writer is as it was, but where it could not be written to
 abbrev pub WritesAnswersAlone : {W : Type 0} → W → W → Result ℕ ProgFault → Type 0

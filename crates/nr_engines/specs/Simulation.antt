@@ -77,9 +77,9 @@ abbrev pub IsScriptFault : Depth → Option (List ℕ) → ProgFault → Type 0
 IsScriptFault depth known (BadLine number) = HasBadLine depth known number
 IsScriptFault depth known fault = IsInputFault known fault
 
--- why `simulate` gives no answer
+-- why `simulate` gives no answer: only where the input is a script is anything written
 abbrev pub IsSimulationFault : Depth → Option (List ℕ) → ProgFault → Type 0
-IsSimulationFault depth known CannotWrite = ⊤
+IsSimulationFault depth known CannotWrite = (script : Script) × HasReadScript depth known script
 IsSimulationFault depth known fault = IsScriptFault depth known fault
 
 -- what is told of bytes that are no script

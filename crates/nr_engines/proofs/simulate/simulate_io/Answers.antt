@@ -1,9 +1,11 @@
-use Rattle.std.proofs.Common.{ℕ, List, subst, ◌∙◌}
+use Rattle.std.proofs.Common.{ℕ, List, IfErr, Result, subst, sym, ◌∙◌}
 use Rattle.std.specs.Io.KnownBytes.{Appends}
-use Rattle.std.proofs.lemmas.Result.{IfOk-weaker}
+use Rattle.std.proofs.lemmas.Result.{err_from_is_err_and, IfErr-weaker, IfOk-weaker}
 use Rattle.nr_trace.specs.Recording.{IsRecording}
 use Rattle.nr_trace.specs.Spelling.{spelling}
-use Rattle.nr_engines.proofs.Simulations.{as_bytes, as_verdict, spells_itself, status_of_yes, told_with, writes_what_is_told}
+use Rattle.nr_engines.proofs.Simulations.{as_bytes, as_verdict, fault_of_output, spells_itself, status_of_yes, told_with, writes_what_is_told}
+use Rattle.nr_engines.specs.Simulation.{IsSimulationFault}
+use Rattle.nr_engines.specs.declared.fault.ProgFault.{ProgFault}
 use Rattle.nr_engines.proofs.simulate.simulate_io.Goals as goal
 
 pub returns-then-as_trace-clause-ok : goal.returns-then-as_trace-clause-ok
@@ -37,3 +39,16 @@ returns-clause-yes g c =
     let audit = c.in_ok-report.ensures (spelling trace) (spells_itself trace within) in
     let zero = status_of_yes trace report.text.bytes.items report.status within c.in_ok-trace.ensures.faultless audit in
     IfOk-weaker c.write_report.result _ _ (λ status h. h.0 ∙ zero) c.write_report.ensures.ok
+
+pub returns-in_err-write_text-clause-err : goal.returns-in_err-write_text-clause-err
+returns-in_err-write_text-clause-err g c =
+    let known = g.R.Read.remaining c.args.reader.now in
+    let p = err_from_is_err_and c.from_residual-in_err-write_text.result c.from_residual-in_err-write_text.ensures.1 in
+    subst (λ (r : Result ℕ ProgFault). IfErr r (IsSimulationFault c.args.setup.depth known)) (sym p.1)
+    (fault_of_output c.args.setup.depth known c.in_ok-script.script p.0 c.in_ok-script.ensures.ok (p.2 ∙ c.in_err-write_text.ensures.err))
+
+pub returns-clause-err : goal.returns-clause-err
+returns-clause-err g c =
+    let known = g.R.Read.remaining c.args.reader.now in
+    IfErr-weaker c.write_report.result _ _
+    (λ fault same. fault_of_output c.args.setup.depth known c.in_ok-script.script fault c.in_ok-script.ensures.ok same) c.write_report.ensures.err
