@@ -1,0 +1,84 @@
+/* Whether recorded bytes are those of a right run of an address space: the audit, for C.
+ *
+ * What the call answers is proved: its verdict is that of the audit on just these bytes, so of a NRVS_RIGHT the bytes spell one trace;
+ * all its answered calls and some unanswered updates stand in the order, each once; a call that was answered before another was
+ * made comes first; every answer is what one sequential address space gives there; and each dumped page table translates every
+ * address as that space does after as many of the order's updates as the replica had applied (docs/PROMISES.md).
+ *
+ * Any bytes may be judged, and no argument is refused but for what a call can't test, which the caller has to keep:
+ *   - pointers are not null, aligned as their types are, and to as many elements as is said, where that is 0 too; none overlaps
+ *     another; nobody else writes what they point to, or reads `order` and `finding`, before the call returns;
+ *   - `malloc`, `realloc` and `free` are those of one allocator, which aligns a block to each power of two up to 16 that divides its
+ *     size;
+ *   - the call is not made from a signal handler, nor in the forked child of a process that has threads.
+ * It takes memory of that allocator, gives all of it back before it returns, keeps no pointer, and takes no lock.
+ */
+#ifndef NRVS_AUDIT_H
+#define NRVS_AUDIT_H
+
+#include <stddef.h>
+#include <stdint.h>
+
+#ifdef __cplusplus
+extern "C" {
+#endif
+
+/* What the audit returns. */
+enum {
+	NRVS_RIGHT = 0,    /* the bytes are right */
+	NRVS_WRONG = 1,    /* they have a fault: `finding` has the first */
+	NRVS_NO_MEMORY = 3 /* a growth of memory was refused; nothing was written */
+};
+
+/* The numbers of the faults; docs/DEFINITIONS.md says what each means. */
+enum {
+	NRVS_FORMAT = 1,         /* format: what is wrong with the bytes; index, replica: what that names */
+	NRVS_THREAD_OPEN = 2,    /* index: the event */
+	NRVS_NO_SUCH_CALL = 3,   /* index: the event */
+	NRVS_ANSWERED_TWICE = 4, /* index: the event */
+	NRVS_NOT_AN_UPDATE = 5,  /* index: the place of the log */
+	NRVS_PLACED_TWICE = 6,   /* index: the place of the log */
+	NRVS_NOT_PLACED = 7,     /* index: the event */
+	NRVS_PAST_LOG = 8,       /* index: the event */
+	NRVS_EARLY = 9,          /* index: the call */
+	NRVS_WRONG_ANSWER = 10,  /* index: the call */
+	NRVS_PREFIX_PAST_LOG = 11, /* replica */
+	NRVS_PREFIX_SHORT = 12,    /* replica */
+	NRVS_MISSING_FRAME = 13,   /* replica; number: of the frame */
+	NRVS_SHARED_FRAME = 14,    /* replica; number: of the frame */
+	NRVS_RESERVED_BIT = 15,    /* replica; number: of the frame; index: of the word */
+	NRVS_STRAY_FRAME = 16,     /* replica; number: of the frame */
+	NRVS_DIFFERS = 17          /* replica; number: the address */
+};
+
+/* What can be wrong with the bytes. */
+enum {
+	NRVS_TRUNCATED = 1,
+	NRVS_BAD_MAGIC = 2,
+	NRVS_BAD_VERSION = 3,
+	NRVS_BAD_COUNT = 4,
+	NRVS_BAD_EVENT = 5, /* index: the event */
+	NRVS_BAD_FRAME = 6, /* replica; index: the frame of its dump */
+	NRVS_TRAILING = 7
+};
+
+/* A verdict in numbers; what it doesn't name is 0. */
+struct nrvs_finding {
+	uint32_t fault;  /* 0 where the bytes are right, else 1 to 17 */
+	uint32_t format; /* of fault 1: 1 to 7 */
+	uint32_t index;
+	uint32_t replica;
+	uint64_t number;
+	size_t calls; /* how many calls the order has */
+};
+
+/* Judges `length` bytes. Of a NRVS_RIGHT `finding->calls` is how many calls the order has; where that is at most `room`, they are
+ * written to the begin of `order`, each as the index of its event, and else nothing is. No order has more than 131,072 calls.
+ */
+uint32_t nrvs_audit(const uint8_t *bytes, size_t length, uint32_t *order, size_t room, struct nrvs_finding *finding);
+
+#ifdef __cplusplus
+}
+#endif
+
+#endif
