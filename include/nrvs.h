@@ -10,9 +10,12 @@
  * What the caller has to keep, which no call can test:
  *   - pointers are not null, aligned as their types are, and to as many elements as is said; none overlaps another;
  *   - of a handle that nrvs_table_new made, neither it nor what was lent to that call is written by others, and each further call is given
- *     the same frames and marks, as many of each;
+ *     the same frames and marks (another number of them is refused). A processor that walks the frames sets accessed and dirty flags in them, bits 5 and 6:
+ *     no call looks at these, and their answers stay the same, which is tested; what is proved is proved of words without them;
  *   - a handle that was not made does not have the magic word by chance: let it be 0;
- *   - calls with one handle, and with memory that is lent to it, come one after the other. A processor may walk the frames meanwhile.
+ *   - calls with one handle, and with memory that is lent to it, come one after the other. A processor may walk the frames meanwhile;
+ *   - what a processor keeps in its TLB and paging-structure caches is invalidated after an unmap and a protect, and before a further
+ *     map, which may take a frame that the unmap gave back.
  */
 #ifndef NRVS_H
 #define NRVS_H
@@ -35,6 +38,7 @@ struct nrvs_table {
 	uint64_t levels;
 	uint64_t root; /* a frame number: CR3 is root * 4096 */
 	uint64_t base;
+	size_t frames;
 	size_t taken;
 	size_t given;
 };
@@ -76,7 +80,7 @@ enum {
 	NRVS_OK = 0,
 	NRVS_NO_TABLE = 1,       /* nrvs_table_new never made the handle */
 	NRVS_BAD_LEVELS = 2,     /* neither 4 nor 5 */
-	NRVS_BAD_FRAMES = 3,     /* no frame, or more than 4,096 */
+	NRVS_BAD_FRAMES = 3,     /* no frame, or more than 4,096; of a handle that was made, another number than it was made with */
 	NRVS_BAD_MARKS = 4,      /* fewer marks than frames */
 	NRVS_BAD_BASE = 5,       /* the last frame's number isn't below 2^40 */
 	NRVS_BAD_SIZE = 6,       /* the number stands for no size */

@@ -1,4 +1,4 @@
-/* The page table for C: each call once, each refusal, and pages of all sizes against what was asked. */
+/* The page table for C: each call once, each refusal, pages of all sizes against what was asked, and flags that a processor sets. */
 #include "nrvs.h"
 
 #include <stdio.h>
@@ -61,6 +61,32 @@ static void replies(struct nrvs_reply r, int code, uint64_t number, int size, in
 }
 
 #define REPLIES(r, code, number, size, rights) replies(r, code, number, size, rights, __LINE__)
+
+/* Calls with another number of frames than the handle was made with, and with too few marks. */
+static void other_memory(void)
+{
+	struct lent l = lend(9);
+	struct nrvs_table before;
+	struct nrvs_reply r;
+	size_t count = 77, frames;
+	IS(nrvs_table_new(&l.table, l.words, 8, l.marks, 8, 4, 0), NRVS_OK);
+	before = l.table;
+	for (frames = 7; frames <= 9; frames += 2) {
+		IS(nrvs_table_map(&l.table, l.words, frames, l.marks, 9, 0, 9, 0, 0, &r), NRVS_BAD_FRAMES);
+		IS(nrvs_table_unmap(&l.table, l.words, frames, l.marks, 9, 1, &r), NRVS_BAD_FRAMES);
+		IS(nrvs_table_protect(&l.table, l.words, frames, l.marks, 9, 0, 9, &r), NRVS_BAD_FRAMES);
+		IS(nrvs_table_resolve(&l.table, l.words, frames, l.marks, 9, 0, &r), NRVS_BAD_FRAMES);
+		IS(nrvs_table_access(&l.table, l.words, frames, l.marks, 9, 0, 0, 0, &r), NRVS_BAD_FRAMES);
+		IS(nrvs_table_tables(&l.table, l.words, frames, l.marks, 9, &count), NRVS_BAD_FRAMES);
+	}
+	IS(nrvs_table_map(&l.table, l.words, 8, l.marks, 7, 0, 0, 0, 0, &r), NRVS_BAD_MARKS);
+	IS(nrvs_table_tables(&l.table, l.words, 8, l.marks, 0, &count), NRVS_BAD_MARKS);
+	IS(count, 77);
+	IS(memcmp(&before, &l.table, sizeof before), 0);
+	IS(nrvs_table_tables(&l.table, l.words, 8, l.marks, 9, &count), NRVS_OK);
+	IS(count, 1);
+	take_back(&l);
+}
 
 static void refuses(void)
 {
@@ -187,13 +213,79 @@ static void fills(uint64_t levels)
 	take_back(&l);
 }
 
+/* Sets the accessed flag in each present word of a table, and the dirty flag where it maps a page, as a processor does that walks. */
+static void touch(struct lent *l, uint64_t number, int level)
+{
+	uint64_t *words = l->words[number - l->table.base];
+	int i;
+	for (i = 0; i < 512; i++) {
+		int leaf = level == 1 || (words[i] & 128);
+		if (!(words[i] & 1))
+			continue;
+		words[i] |= leaf ? 0x60 : 0x20;
+		if (!leaf)
+			touch(l, words[i] >> 12 & ((UINT64_C(1) << 40) - 1), level - 1);
+	}
+}
+
+/* A number below a bound, drawn. */
+static uint64_t draw(uint64_t *seed, uint64_t bound)
+{
+	*seed = *seed * UINT64_C(6364136223846793005) + 1442695040888963407u;
+	return (*seed >> 33) % bound;
+}
+
+/* One drawn call. */
+static uint32_t any_call(struct lent *l, uint64_t seed, struct nrvs_reply *r)
+{
+	uint32_t size = (uint32_t)draw(&seed, 3), rights = (uint32_t)draw(&seed, 8);
+	uint64_t bytes = UINT64_C(1) << (12 + 9 * size), kind = draw(&seed, 6);
+	uint64_t address = (draw(&seed, 2) << 39) + (draw(&seed, 3) << 30) + (draw(&seed, 3) << 21) + (draw(&seed, 3) << 12);
+	uint64_t base = address / bytes * bytes;
+	if (kind < 2)
+		return nrvs_table_map(LENT(l), base, size, draw(&seed, 64) * bytes, rights, r);
+	if (kind == 2)
+		return nrvs_table_unmap(LENT(l), base, r);
+	if (kind == 3)
+		return nrvs_table_protect(LENT(l), base, rights, r);
+	if (kind == 4)
+		return nrvs_table_resolve(LENT(l), address + 5, r);
+	return nrvs_table_access(LENT(l), address + 5, (uint32_t)draw(&seed, 2), (uint32_t)draw(&seed, 3), r);
+}
+
+/* A page table in which a processor sets its flags before each call answers as one in which it doesn't. */
+static void flags(uint64_t levels)
+{
+	struct lent plain = lend(12), walked = lend(12);
+	uint64_t seed = 1, call;
+	int round;
+	IS(nrvs_table_new(LENT(&plain), levels, 500), NRVS_OK);
+	IS(nrvs_table_new(LENT(&walked), levels, 500), NRVS_OK);
+	for (round = 0; round < 4000; round++) {
+		struct nrvs_reply r, s;
+		memset(&r, 0, sizeof r);
+		memset(&s, 0, sizeof s);
+		call = draw(&seed, UINT64_C(1) << 31);
+		touch(&walked, walked.table.root, (int)levels);
+		IS(any_call(&plain, call, &r), NRVS_OK);
+		IS(any_call(&walked, call, &s), NRVS_OK);
+		REPLIES(s, r.code, r.number, r.size, r.rights);
+		IS(memcmp(&plain.table, &walked.table, sizeof plain.table), 0);
+	}
+	take_back(&plain);
+	take_back(&walked);
+}
+
 int main(void)
 {
 	refuses();
+	other_memory();
 	answers(4);
 	answers(5);
 	fills(4);
 	fills(5);
+	flags(4);
+	flags(5);
 	printf("%d passed, %d failed\n", passed, failed);
 	return failed != 0;
 }

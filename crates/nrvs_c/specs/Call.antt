@@ -7,27 +7,28 @@ use Rattle.vs_types.specs.declared.answer.Answer.{Answer}
 use Rattle.vs_arena.specs.declared.mark.FrameMark.{FrameMark}
 use Rattle.vs_space.specs.Table.{IsTableOf, IsTableStep}
 use Rattle.nrvs_c.specs.Reply.{reply_of}
-use Rattle.nrvs_c.specs.Table.{depth_in, table_in, IsOpen}
+use Rattle.nrvs_c.specs.Table.{depth_in, table_in, IsOpen, IsUsable}
 use Rattle.nrvs_c.specs.declared.reply.Reply.{Reply}
 use Rattle.nrvs_c.specs.declared.table.Table.{Table}
-use Rattle.nrvs_c.specs.declared.table.TheConstants.{MADE}
 
--- where the handle was made, its page table is in the memory
+-- where the handle was made over as much memory, its page table is in it
 abbrev pub IsSound : Table → List (List ℕ) → List FrameMark → Type 0
-IsSound handle words marks = handle.magic ≡ MADE → IsOpen handle words marks
+IsSound handle words marks = IsUsable handle words marks → IsOpen handle words marks
 
--- the handle was made and the action is well formed; the page table after the call, and the reply, are those of a step
+-- the handle can be used with the memory, and still can; the action is well formed; the page table after the call, and the reply, are those of a step
 pub record Steps (old : Table) (words : List (List ℕ)) (marks : List FrameMark) (action : Action) (new : Table) (words' : List (List ℕ))
     (marks' : List FrameMark) (reply : Reply) : Type 0 where
-  pub made : old.magic ≡ MADE
+  pub usable : IsUsable old words marks
+  pub still_usable : IsUsable new words' marks'
   pub well_formed : action_fault (depth_in old) action ≡ None
   pub answer : Answer
   pub replied : reply ≡ reply_of answer
   pub step : IsTableStep (table_in [] old words marks) action answer (table_in [] new words' marks')
 
--- the handle was made; the page table is as it was, and the reply is what is answered for its space
+-- the handle can be used with the memory, and still can; the page table is as it was, and the reply is what is answered for its space
 pub record Tells (old : Table) (words : List (List ℕ)) (marks : List FrameMark) (answer : Space → Answer) (new : Table) (words' : List (List ℕ))
     (marks' : List FrameMark) (reply : Reply) : Type 0 where
-  pub made : old.magic ≡ MADE
+  pub usable : IsUsable old words marks
+  pub still_usable : IsUsable new words' marks'
   pub same : table_in [] new words' marks' ≡ table_in [] old words marks
   pub replied : (space : Space) → IsTableOf (table_in [] old words marks) space → reply ≡ reply_of (answer space)

@@ -1,5 +1,5 @@
 -- What a handle and the memory lent are: a page table.
-use Rattle.std.specs.Prelude.{◌≡◌, ℕ, nat_eq, List, length, if◌then◌else◌}
+use Rattle.std.specs.Prelude.{◌≡◌, ℕ, nat_eq, nat_lt, List, length, if◌then◌else◌}
 use Rattle.vs_types.specs.declared.depth.Depth.{Depth}
 use Rattle.vs_types.specs.declared.depth.Depth.TheVariants.{Four, Five}
 use Rattle.vs_arena.specs.Store.{Lenders}
@@ -9,6 +9,7 @@ use Rattle.vs_arena.specs.LentMarks.{IsLentArena}
 use Rattle.vs_space.specs.Kept.{KeepsTable, table_of}
 use Rattle.vs_space.specs.Table.{PageTable}
 use Rattle.nrvs_c.specs.declared.table.Table.{Table}
+use Rattle.nrvs_c.specs.declared.table.TheConstants.{MADE}
 
 -- the depth with so many levels
 abbrev pub depth_in : Table → Depth
@@ -18,6 +19,16 @@ depth_in handle = if nat_eq handle.levels 5 then Five else Four
 abbrev pub table_in : Lenders → Table → List (List ℕ) → List FrameMark → PageTable
 table_in lenders handle words marks =
     table_of lenders (depth_in handle) handle.root handle.base (length words) (frames_in handle.taken marks words)
+
+-- what is wrong with a handle and as much memory: 1 where it was never made, 3 where it was made over another number of frames, 4 where
+-- there are fewer marks than frames, and else 0
+abbrev pub lent_status : Table → List (List ℕ) → List FrameMark → ℕ
+lent_status handle words marks =
+    if nat_eq handle.magic MADE then (if nat_eq (length words) handle.frames then (if nat_lt (length marks) (length words) then 4 else 0) else 3) else 1
+
+-- nothing is
+abbrev pub IsUsable : Table → List (List ℕ) → List FrameMark → Type 0
+IsUsable handle words marks = lent_status handle words marks ≡ 0
 
 -- words and marks are those with which the handle was left, where it was made
 pub record IsOpen (handle : Table) (words : List (List ℕ)) (marks : List FrameMark) : Type 0 where

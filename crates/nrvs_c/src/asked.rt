@@ -8,8 +8,7 @@ ghost use Rattle.vs_types.specs.Space.{no_pages, table_count};
 ghost use Rattle.vs_types.specs.Step.{allow, look};
 ghost use Rattle.vs_types.specs.declared.limits.TheConstants.{TABLES};
 ghost use Rattle.vs_space.specs.Table.{IsTableOf, IsTableStep};
-ghost use Rattle.nrvs_c.specs.Table.{IsOpen, depth_in, table_in};
-ghost use Rattle.nrvs_c.specs.declared.table.TheConstants.{MADE};
+ghost use Rattle.nrvs_c.specs.Table.{IsOpen, IsUsable, depth_in, table_in};
 
 use crate::table::{Closed, Table, close, open};
 use vs_arena::{FRAME_WORDS, FrameMark, LentArena};
@@ -38,7 +37,7 @@ pub(crate) fn make<'a, 'b>(
     requires marked { length words.old ≤ length marks.old }
     ensures same_words { result.words.ghost_name ≡ words.entry.ghost_name }
     ensures same_marks { result.marks.ghost_name ≡ marks.entry.ghost_name }
-    ensures made { result.table.magic ≡ MADE }
+    ensures usable { IsUsable result.table result.words.now result.marks.now }
     ensures open { IsOpen result.table result.words.now result.marks.now }
     ensures empty { IsTableOf (table_in [] result.table result.words.now result.marks.now)
         no_pages }
@@ -63,7 +62,7 @@ pub(crate) fn apply<'a, 'b>(
     requires well_formed { IsAction (depth_in table) op }
     ensures same_words { result.words.ghost_name ≡ words.entry.ghost_name }
     ensures same_marks { result.marks.ghost_name ≡ marks.entry.ghost_name }
-    ensures made { result.table.magic ≡ MADE }
+    ensures usable { IsUsable result.table result.words.now result.marks.now }
     ensures open { IsOpen result.table result.words.now result.marks.now }
     ensures step { IsTableStep (table_in [] table words.old marks.old) op result.answer
         (table_in [] result.table result.words.now result.marks.now) }
@@ -94,7 +93,7 @@ pub(crate) fn resolve<'a, 'b>(
     requires canonical { IsCanonical (depth_in table) address }
     ensures same_words { result.words.ghost_name ≡ words.entry.ghost_name }
     ensures same_marks { result.marks.ghost_name ≡ marks.entry.ghost_name }
-    ensures made { result.table.magic ≡ MADE }
+    ensures usable { IsUsable result.table result.words.now result.marks.now }
     ensures open { IsOpen result.table result.words.now result.marks.now }
     ensures same { table_in [] result.table result.words.now result.marks.now
         ≡ table_in [] table words.old marks.old }
@@ -126,7 +125,7 @@ pub(crate) fn tables<'a, 'b>(
     requires { IsOpen table words.old marks.old }
     ensures same_words { result.words.ghost_name ≡ words.entry.ghost_name }
     ensures same_marks { result.marks.ghost_name ≡ marks.entry.ghost_name }
-    ensures made { result.table.magic ≡ MADE }
+    ensures usable { IsUsable result.table result.words.now result.marks.now }
     ensures open { IsOpen result.table result.words.now result.marks.now }
     ensures same { table_in [] result.table result.words.now result.marks.now
         ≡ table_in [] table words.old marks.old }

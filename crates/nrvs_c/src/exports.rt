@@ -18,15 +18,14 @@ ghost use Rattle.vs_types.specs.declared.page.Size.{Size};
 ghost use Rattle.vs_space.specs.Table.{IsTableOf};
 ghost use Rattle.nrvs_c.specs.Call.{IsSound, Steps, Tells};
 ghost use Rattle.nrvs_c.specs.Status.{new_status, status_if};
-ghost use Rattle.nrvs_c.specs.Table.{depth_in, table_in};
-ghost use Rattle.nrvs_c.specs.declared.table.TheConstants.{MADE};
+ghost use Rattle.nrvs_c.specs.Table.{IsUsable, depth_in, lent_status, table_in};
 
 use crate::asked::{apply, make, resolve, tables};
 use crate::codes::{access_of, mode_of, rights_of, size_of};
 use crate::reply::Reply;
 use crate::status::{
     BAD_ACCESS, BAD_BASE, BAD_FRAMES, BAD_LEVELS, BAD_MARKS, BAD_MODE, BAD_RIGHTS, BAD_SIZE,
-    NO_TABLE, NOT_CANONICAL, OK, status_of,
+    NOT_CANONICAL, OK, status_of,
 };
 use crate::table::Table;
 use vs_arena::{FRAME_WORDS, FrameMark};
@@ -42,7 +41,7 @@ pub extern "C" fn nrvs_table_new(
     base: u64,
 ) -> u32
     ensures status { result ≡ new_status levels (length words.old) (length marks.old) base }
-    ensures made { result ≡ 0 → table.new.magic ≡ MADE }
+    ensures usable { result ≡ 0 → IsUsable table.new words.new marks.new }
     ensures sound { result ≡ 0 → IsSound table.new words.new marks.new }
     ensures empty { result ≡ 0 → IsTableOf (table_in [] table.new words.new marks.new) no_pages }
     ensures same_base { result ≡ 0 → table.new.base ≡ base }
@@ -83,11 +82,14 @@ pub extern "C" fn nrvs_table_map(
     reply: &mut Reply,
 ) -> u32
     requires { IsSound table.old words.old marks.old }
-    ensures no_table { table.old.magic ≢ MADE → result ≡ 1 }
-    ensures no_size { table.old.magic ≡ MADE → ((s : Size) → size ≡ size_code s → ⊥) → result ≡ 6 }
-    ensures no_rights { table.old.magic ≡ MADE → (s : Size) → size ≡ size_code s
+    ensures not_usable { lent_status table.old words.old marks.old ≢ 0
+        → result ≡ lent_status table.old words.old marks.old }
+    ensures no_size { IsUsable table.old words.old marks.old
+        → ((s : Size) → size ≡ size_code s → ⊥)
+        → result ≡ 6 }
+    ensures no_rights { IsUsable table.old words.old marks.old → (s : Size) → size ≡ size_code s
         → ((r : Rights) → rights ≡ rights_code r → ⊥) → result ≡ 7 }
-    ensures status { table.old.magic ≡ MADE → (page : Page) → page.base ≡ base
+    ensures status { IsUsable table.old words.old marks.old → (page : Page) → page.base ≡ base
         → size ≡ size_code page.size → page.phys ≡ physical
         → rights ≡ rights_code page.rights
         → result ≡ status_if (action_fault (depth_in table.old) (Action.Map page)) }
@@ -102,8 +104,9 @@ pub extern "C" fn nrvs_table_map(
     ensures refused_marks { result ≢ 0 → marks.new ≡ marks.old }
     ensures refused_reply { result ≢ 0 → reply.new ≡ reply.old }
 {
-    if !table.is_made() {
-        return NO_TABLE;
+    let status = table.status(words, marks);
+    if status != OK {
+        return status;
     }
     let Some(size) = size_of(size) else {
         return BAD_SIZE;
@@ -132,8 +135,9 @@ pub extern "C" fn nrvs_table_unmap(
     reply: &mut Reply,
 ) -> u32
     requires { IsSound table.old words.old marks.old }
-    ensures no_table { table.old.magic ≢ MADE → result ≡ 1 }
-    ensures status { table.old.magic ≡ MADE
+    ensures not_usable { lent_status table.old words.old marks.old ≢ 0
+        → result ≡ lent_status table.old words.old marks.old }
+    ensures status { IsUsable table.old words.old marks.old
         → result ≡ status_if (action_fault (depth_in table.old) (Action.Unmap base)) }
     ensures sound { IsSound table.new words.new marks.new }
     ensures done { result ≡ 0
@@ -144,8 +148,9 @@ pub extern "C" fn nrvs_table_unmap(
     ensures refused_marks { result ≢ 0 → marks.new ≡ marks.old }
     ensures refused_reply { result ≢ 0 → reply.new ≡ reply.old }
 {
-    if !table.is_made() {
-        return NO_TABLE;
+    let status = table.status(words, marks);
+    if status != OK {
+        return status;
     }
     match Op::unmap(table.depth(), base) {
         Ok(op) => {
@@ -169,10 +174,12 @@ pub extern "C" fn nrvs_table_protect(
     reply: &mut Reply,
 ) -> u32
     requires { IsSound table.old words.old marks.old }
-    ensures no_table { table.old.magic ≢ MADE → result ≡ 1 }
-    ensures no_rights { table.old.magic ≡ MADE → ((r : Rights) → rights ≡ rights_code r → ⊥)
+    ensures not_usable { lent_status table.old words.old marks.old ≢ 0
+        → result ≡ lent_status table.old words.old marks.old }
+    ensures no_rights { IsUsable table.old words.old marks.old
+        → ((r : Rights) → rights ≡ rights_code r → ⊥)
         → result ≡ 7 }
-    ensures status { table.old.magic ≡ MADE → (r : Rights) → rights ≡ rights_code r
+    ensures status { IsUsable table.old words.old marks.old → (r : Rights) → rights ≡ rights_code r
         → result ≡ status_if (action_fault (depth_in table.old) (Action.Protect base r)) }
     ensures sound { IsSound table.new words.new marks.new }
     ensures done { result ≡ 0 → (given : Rights) × (rights ≡ rights_code given)
@@ -183,8 +190,9 @@ pub extern "C" fn nrvs_table_protect(
     ensures refused_marks { result ≢ 0 → marks.new ≡ marks.old }
     ensures refused_reply { result ≢ 0 → reply.new ≡ reply.old }
 {
-    if !table.is_made() {
-        return NO_TABLE;
+    let status = table.status(words, marks);
+    if status != OK {
+        return status;
     }
     let Some(rights) = rights_of(rights) else {
         return BAD_RIGHTS;
@@ -210,8 +218,9 @@ pub extern "C" fn nrvs_table_resolve(
     reply: &mut Reply,
 ) -> u32
     requires { IsSound table.old words.old marks.old }
-    ensures no_table { table.old.magic ≢ MADE → result ≡ 1 }
-    ensures status { table.old.magic ≡ MADE
+    ensures not_usable { lent_status table.old words.old marks.old ≢ 0
+        → result ≡ lent_status table.old words.old marks.old }
+    ensures status { IsUsable table.old words.old marks.old
         → result ≡ status_if (query_fault (depth_in table.old) (Query.Resolve address)) }
     ensures sound { IsSound table.new words.new marks.new }
     ensures done { result ≡ 0 → IsCanonical (depth_in table.old) address }
@@ -223,8 +232,9 @@ pub extern "C" fn nrvs_table_resolve(
     ensures refused_marks { result ≢ 0 → marks.new ≡ marks.old }
     ensures refused_reply { result ≢ 0 → reply.new ≡ reply.old }
 {
-    if !table.is_made() {
-        return NO_TABLE;
+    let status = table.status(words, marks);
+    if status != OK {
+        return status;
     }
     if !table.depth().is_canonical(address) {
         return NOT_CANONICAL;
@@ -247,12 +257,15 @@ pub extern "C" fn nrvs_table_access(
     reply: &mut Reply,
 ) -> u32
     requires { IsSound table.old words.old marks.old }
-    ensures no_table { table.old.magic ≢ MADE → result ≡ 1 }
-    ensures no_mode { table.old.magic ≡ MADE → ((m : Mode) → mode ≡ mode_code m → ⊥) → result ≡ 8 }
-    ensures no_access { table.old.magic ≡ MADE → (m : Mode) → mode ≡ mode_code m
+    ensures not_usable { lent_status table.old words.old marks.old ≢ 0
+        → result ≡ lent_status table.old words.old marks.old }
+    ensures no_mode { IsUsable table.old words.old marks.old
+        → ((m : Mode) → mode ≡ mode_code m → ⊥)
+        → result ≡ 8 }
+    ensures no_access { IsUsable table.old words.old marks.old → (m : Mode) → mode ≡ mode_code m
         → ((a : Access) → access ≡ access_code a → ⊥) → result ≡ 9 }
-    ensures status { table.old.magic ≡ MADE → (m : Mode) → mode ≡ mode_code m → (a : Access)
-        → access ≡ access_code a
+    ensures status { IsUsable table.old words.old marks.old → (m : Mode) → mode ≡ mode_code m
+        → (a : Access) → access ≡ access_code a
         → result ≡ status_if (query_fault (depth_in table.old) (Query.Resolve address)) }
     ensures sound { IsSound table.new words.new marks.new }
     ensures done { result ≡ 0 → IsCanonical (depth_in table.old) address }
@@ -265,8 +278,9 @@ pub extern "C" fn nrvs_table_access(
     ensures refused_marks { result ≢ 0 → marks.new ≡ marks.old }
     ensures refused_reply { result ≢ 0 → reply.new ≡ reply.old }
 {
-    if !table.is_made() {
-        return NO_TABLE;
+    let status = table.status(words, marks);
+    if status != OK {
+        return status;
     }
     let Some(mode) = mode_of(mode) else {
         return BAD_MODE;
@@ -292,8 +306,9 @@ pub extern "C" fn nrvs_table_tables(
     count: &mut usize,
 ) -> u32
     requires { IsSound table.old words.old marks.old }
-    ensures no_table { table.old.magic ≢ MADE → result ≡ 1 }
-    ensures status { table.old.magic ≡ MADE → result ≡ 0 }
+    ensures not_usable { lent_status table.old words.old marks.old ≢ 0
+        → result ≡ lent_status table.old words.old marks.old }
+    ensures status { IsUsable table.old words.old marks.old → result ≡ 0 }
     ensures sound { IsSound table.new words.new marks.new }
     ensures same { result ≡ 0
         → table_in [] table.new words.new marks.new ≡ table_in [] table.old words.old marks.old }
@@ -301,14 +316,16 @@ pub extern "C" fn nrvs_table_tables(
         → IsTableOf (table_in [] table.old words.old marks.old) space
         → count.new ≡ table_count (depth_in table.old) space }
     ensures at_most { result ≡ 0 → count.new ≤ length words.old }
-    ensures made { result ≡ 0 → table.old.magic ≡ MADE }
+    ensures usable { result ≡ 0 → IsUsable table.old words.old marks.old }
+    ensures still_usable { result ≡ 0 → IsUsable table.new words.new marks.new }
     ensures refused_table { result ≢ 0 → table.new ≡ table.old }
     ensures refused_words { result ≢ 0 → words.new ≡ words.old }
     ensures refused_marks { result ≢ 0 → marks.new ≡ marks.old }
     ensures refused_count { result ≢ 0 → count.new ≡ count.old }
 {
-    if !table.is_made() {
-        return NO_TABLE;
+    let status = table.status(words, marks);
+    if status != OK {
+        return status;
     }
     let asked = tables(*table, words, marks);
     *table = asked.table;

@@ -1,9 +1,9 @@
 //! The page table of a handle: it is opened over the memory lent at the begin of a call, and taken apart at its end.
-ghost use Rattle.std.specs.Prelude.{◌≡◌, ◌↔◌, [], ◌∷◌, IsTrue};
+ghost use Rattle.std.specs.Prelude.{◌≡◌, [], ◌∷◌, length};
 ghost use Rattle.vs_types.specs.Depth.{levels};
-ghost use Rattle.nrvs_c.specs.Table.{IsOpen, depth_in, table_in};
-ghost use Rattle.nrvs_c.specs.declared.table.TheConstants.{MADE};
+ghost use Rattle.nrvs_c.specs.Table.{IsOpen, IsUsable, depth_in, lent_status, table_in};
 
+use crate::status::{BAD_FRAMES, BAD_MARKS, NO_TABLE, OK};
 use vs_arena::{FRAME_WORDS, FrameMark, LentArena, LentParts};
 use vs_space::{Space, SpaceParts};
 use vs_types::Depth;
@@ -23,6 +23,8 @@ pub struct Table {
     pub root: u64,
     /// The number of the first frame.
     pub base: u64,
+    /// How many frames are lent.
+    pub frames: usize,
     /// How many frames were ever taken.
     pub taken: usize,
     /// How many of them were given back.
@@ -30,11 +32,20 @@ pub struct Table {
 }
 
 impl Table {
-    /// Whether the handle was made.
-    pub(crate) fn is_made(self) -> bool
-        ensures { IsTrue result ↔ self.magic ≡ MADE }
+    /// `OK` where the handle was made over as many frames and there is a mark for each, and else the status that says what is wrong.
+    pub(crate) fn status(self, words: &[[u64; FRAME_WORDS]], marks: &[FrameMark]) -> u32
+        ensures { result ≡ lent_status self words.now marks.now }
     {
-        self.magic == MADE
+        if self.magic != MADE {
+            return NO_TABLE;
+        }
+        if words.len() != self.frames {
+            return BAD_FRAMES;
+        }
+        if marks.len() < words.len() {
+            return BAD_MARKS;
+        }
+        OK
     }
 
     /// The depth of the table.
@@ -85,7 +96,7 @@ pub(crate) fn open<'a, 'b>(
 /// The handle of a page table, and the memory in which it is.
 pub(crate) fn close<'a, 'b>(space: Space<LentArena<'a, 'b>>) -> Closed<'a, 'b>
     ensures open { IsOpen result.table result.words.now result.marks.now }
-    ensures made { result.table.magic ≡ MADE }
+    ensures usable { IsUsable result.table result.words.now result.marks.now }
     ensures levels { result.table.levels ≡ levels space.entry.depth }
     ensures same { table_in (result.words.ghost_name ∷ result.marks.ghost_name ∷ []) result.table
         result.words.now result.marks.now
@@ -104,6 +115,7 @@ pub(crate) fn close<'a, 'b>(space: Space<LentArena<'a, 'b>>) -> Closed<'a, 'b>
         levels: u64::from(depth.levels()),
         root,
         base,
+        frames: words.len(),
         taken,
         given,
     };

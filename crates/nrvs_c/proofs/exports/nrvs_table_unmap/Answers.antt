@@ -3,7 +3,8 @@ use Rattle.nrvs_c.proofs.exports.nrvs_table_unmap.Goals as goal
 
 pub returns-in-Ok-clause-done : goal.returns-in-Ok-clause-done
 returns-in-Ok-clause-done c = λ _. record {
-  made = search rules;
+  usable = search rules;
+  still_usable = search rules;
   well_formed = search rules;
   answer = c.apply-asked.result.answer;
   replied = c.of.ensures;
