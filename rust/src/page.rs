@@ -1,0 +1,120 @@
+//! Pages, and the memory in which tables stand.
+
+/// How many levels of tables a translation goes through.
+#[derive(Clone, Copy, Debug, PartialEq, Eq)]
+pub enum Depth {
+    /// 48 bits of address.
+    Four = 4,
+    /// 57 bits of address, where the processor has LA57.
+    Five = 5,
+}
+
+/// How much a page covers.
+#[derive(Clone, Copy, Debug, PartialEq, Eq)]
+pub enum Size {
+    /// 4 KiB.
+    K4 = 0,
+    /// 2 MiB.
+    M2 = 1,
+    /// 1 GiB.
+    G1 = 2,
+}
+
+impl Size {
+    /// In bytes.
+    pub const fn bytes(self) -> u64 {
+        1 << (12 + 9 * self as u32)
+    }
+
+    pub(crate) fn of_code(code: u8) -> Size {
+        match code {
+            0 => Size::K4,
+            1 => Size::M2,
+            _ => Size::G1,
+        }
+    }
+}
+
+/// What a page allows beside a supervisor's read, which is always allowed.
+#[derive(Clone, Copy, Debug, Default, PartialEq, Eq)]
+pub struct Rights {
+    /// Writes.
+    pub write: bool,
+    /// Accesses in user mode.
+    pub user: bool,
+    /// Instruction fetches.
+    pub exec: bool,
+}
+
+impl Rights {
+    pub(crate) fn code(self) -> u32 {
+        u32::from(self.write) + 2 * u32::from(self.user) + 4 * u32::from(self.exec)
+    }
+
+    pub(crate) fn of_code(code: u8) -> Rights {
+        Rights {
+            write: code & 1 != 0,
+            user: code & 2 != 0,
+            exec: code & 4 != 0,
+        }
+    }
+}
+
+/// A page to map.
+#[derive(Clone, Copy, Debug, PartialEq, Eq)]
+pub struct Page {
+    /// The first address that it covers: canonical, and a multiple of the size.
+    pub base: u64,
+    /// How much it covers.
+    pub size: Size,
+    /// The physical address of its first byte: a multiple of the size; the page ends at or below 2^51.
+    pub phys: u64,
+    /// What it allows.
+    pub rights: Rights,
+}
+
+/// Where an address leads, or what a page that was removed had.
+#[derive(Clone, Copy, Debug, PartialEq, Eq)]
+pub struct Mapping {
+    /// The physical address: of this very address, or of the first byte of the page that was removed.
+    pub phys: u64,
+    /// The page's size.
+    pub size: Size,
+    /// The page's rights.
+    pub rights: Rights,
+}
+
+/// Who makes an access.
+#[derive(Clone, Copy, Debug, PartialEq, Eq)]
+pub enum Mode {
+    /// A supervisor.
+    Supervisor = 0,
+    /// A user.
+    User = 1,
+}
+
+/// What an access does.
+#[derive(Clone, Copy, Debug, PartialEq, Eq)]
+pub enum Access {
+    /// It reads.
+    Read = 0,
+    /// It writes.
+    Write = 1,
+    /// It fetches an instruction.
+    Fetch = 2,
+}
+
+/// A frame: the 512 words of a table, aligned as a processor wants it.
+#[derive(Clone, Copy, Debug)]
+#[repr(C, align(4096))]
+pub struct Frame(pub [u64; 512]);
+
+impl Frame {
+    /// A frame of zeros. Frames that are lent may have any content.
+    pub const ZERO: Frame = Frame([0; 512]);
+}
+
+/// What the library keeps of a frame. It may have any content when it is lent.
+#[derive(Clone, Copy, Debug, Default)]
+#[repr(C)]
+pub struct Mark([u16; 3]);
