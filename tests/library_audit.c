@@ -56,7 +56,7 @@ struct known {
 static const struct known KNOWN[] = {
 	{"examples/map_then_resolve.trace", 0, 0, 0, 0, 0, 2, {0, 2}},
 	{"examples/stale_read.trace", NRVS_EARLY, 0, 3, 0, 0, 0, {0}},
-	{"examples/wrong_answer.trace", NRVS_WRONG_ANSWER, 0, 2, 0, 0, 0, {0}},
+	{"examples/wrong_answer.trace", NRVS_WRONG_ANSWER, 0, 0, 0, 0, 0, {0}},
 	{"tests/cases/empty_trace/input", 0, 0, 0, 0, 0, 0, {0}},
 	{"tests/cases/both_halves_of_the_address_space/input", 0, 0, 0, 0, 0, 3, {0, 2, 4}},
 	{"tests/cases/read_before_and_after/input", 0, 0, 0, 0, 0, 3, {2, 0, 1}},

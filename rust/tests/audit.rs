@@ -68,8 +68,9 @@ fn the_faults() {
     );
     assert_eq!(
         fault_of("examples/wrong_answer.trace"),
-        Fault::WrongAnswer { call: 2 }
+        Fault::WrongAnswer { call: 0 }
     );
+    assert_eq!(of("one_fault_wrong_answer"), Fault::WrongAnswer { call: 2 });
     assert_eq!(of("malformed_no_bytes"), Fault::Format(Format::Truncated));
     assert_eq!(of("malformed_magic"), Fault::Format(Format::BadMagic));
     assert_eq!(of("malformed_version_3"), Fault::Format(Format::BadVersion));
