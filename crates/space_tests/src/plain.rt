@@ -27,17 +27,17 @@ fn pages(rt: &impl Abort, space: &PlainSpace) -> Vec<Page> {
     }
 }
 
-/// More tables than a store has frames: one for each of 5,000 stretches of 2 MiB, and ten of the next level.
+/// As many tables as there can be, but for a few: one for each of 65,400 stretches of 2 MiB, and 128 of the next level.
 #[test]
 fn pages_of_many_tables(rt: HostRuntime) {
-    for (depth, tables) in DEPTHS.into_iter().zip([5_012, 5_013]) {
+    for (depth, tables) in DEPTHS.into_iter().zip([65_530, 65_531]) {
         let mut space = PlainSpace::new(rt.alloc(), 65_535, depth);
         assert_eq!(rt; (space.depth(), space.tables()), (depth, 1));
-        for place in 0..5_000u64 {
+        for place in 0..65_400u64 {
             map(&rt, &mut space, place << 21, Size::K4, 0x1000);
         }
         assert_eq!(rt; space.tables(), tables);
-        let last = 4_999 << 21;
+        let last = 65_399 << 21;
         assert_eq!(rt;
             (
                 space.resolve(last + 4095),
@@ -49,8 +49,8 @@ fn pages_of_many_tables(rt: HostRuntime) {
             )
         );
         let pages = pages(&rt, &space);
-        assert_eq!(rt; pages.len(), 5_000);
-        assert_eq!(rt; pages[4_999].base, last);
+        assert_eq!(rt; pages.len(), 65_400);
+        assert_eq!(rt; pages[65_399].base, last);
     }
 }
 
