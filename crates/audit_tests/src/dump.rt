@@ -7,7 +7,7 @@ use std::alloc::Global;
 use std::process::Abort;
 use vs_plain::PlainSpace;
 use vs_types::{Answer, Depth, FRAME_WORDS, Fail, Op, Rights, Size};
-use vs_walk::Dump;
+use vs_walk::{Dump, WalkFault, leaves};
 
 /// 512 words, 0 but for these at their indexes.
 fn words(entries: &[(usize, u64)]) -> [u64; FRAME_WORDS] {
@@ -128,6 +128,18 @@ fn dumps_at_one_depth(rt: HostRuntime) {
     }
 }
 
+/// How many pages are found, of 4 KiB one after another and each mapped to its own base, and how many frames are reached.
+fn found(alloc: Global, dump: &Dump) -> Result<(usize, usize), Fail<WalkFault>> {
+    let listed = leaves(alloc, dump, 1, Depth::Four)?;
+    let pages = listed.pages.as_slice();
+    let in_turn = (0..4096u64).zip(pages).all(|(place, page)| {
+        (page.base, page.size, page.phys, page.rights)
+            == (place << 12, Size::K4, place << 12, Rights::ALL)
+    });
+    let count = if in_turn { pages.len() } else { 0 };
+    Ok((count, listed.reached.len()))
+}
+
 /// 4,096 pages of 4 KiB.
 #[test]
 fn big_dump(rt: HostRuntime) {
@@ -143,6 +155,11 @@ fn big_dump(rt: HostRuntime) {
     for place in 0..8u64 {
         push(&rt, &mut dump, place + 4, &table_of_pages(place << 21));
     }
+    let listed = match found(alloc, &dump) {
+        Err(Fail::Memory) => found(alloc, &dump),
+        told => told,
+    };
+    assert!(rt; matches!(listed, Ok((4096, 11))));
     let mut space = PlainSpace::new(alloc, 4096, Depth::Four);
     for place in 0..4096u64 {
         map(&rt, &mut space, place << 12, Size::K4, place << 12);

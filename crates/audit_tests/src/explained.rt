@@ -56,7 +56,7 @@ fn push_steps(numbers: &mut Vec<u64>, steps: &[Step]) -> Result<(), AllocError> 
     Ok(())
 }
 
-/// The numbers that show a fault of the calls, the log and the answers.
+/// The numbers that show a fault of the calls and the answers.
 fn numbers_of_calls(numbers: &mut Vec<u64>, shown: &Evidence) -> Result<(), AllocError> {
     match shown {
         Evidence::ThreadOpen(calls) => numbers.extend_from_slice(&[
@@ -73,6 +73,27 @@ fn numbers_of_calls(numbers: &mut Vec<u64>, shown: &Evidence) -> Result<(), Allo
             u64::from(replies.first.event),
             u64::from(replies.second.event),
         ]),
+        Evidence::Early(early) => numbers.extend_from_slice(&[
+            u64::from(early.call.event),
+            u64::from(early.entries),
+            early.floor,
+            u64::from(early.reply.event),
+            u64::from(early.answered.event),
+        ]),
+        Evidence::WrongAnswer(wrong) => numbers.extend_from_slice(&[
+            u64::from(wrong.call.event),
+            u64::from(wrong.reply.event),
+            wrong.address,
+            number_of(wrong.wanted),
+            after(wrong.changed.map(|update| update.place)),
+        ]),
+        _ => Ok(()),
+    }
+}
+
+/// The numbers that show a fault of the log and the places in it.
+fn numbers_of_log(numbers: &mut Vec<u64>, shown: &Evidence) -> Result<(), AllocError> {
+    match shown {
         Evidence::NotAnUpdate(wrong) => numbers.extend_from_slice(&[
             u64::from(wrong.place),
             u64::from(wrong.call),
@@ -95,20 +116,6 @@ fn numbers_of_calls(numbers: &mut Vec<u64>, shown: &Evidence) -> Result<(), Allo
             u64::from(wrong.reply.event),
             u64::from(wrong.reply.at),
             u64::from(wrong.places),
-        ]),
-        Evidence::Early(early) => numbers.extend_from_slice(&[
-            u64::from(early.call.event),
-            u64::from(early.entries),
-            early.floor,
-            u64::from(early.reply.event),
-            u64::from(early.answered.event),
-        ]),
-        Evidence::WrongAnswer(wrong) => numbers.extend_from_slice(&[
-            u64::from(wrong.call.event),
-            u64::from(wrong.reply.event),
-            wrong.address,
-            number_of(wrong.wanted),
-            after(wrong.changed.map(|update| update.place)),
         ]),
         _ => Ok(()),
     }
@@ -166,6 +173,7 @@ fn holds(
         assert_eq!(rt; Err(fault), case.verdict, "{name}");
         let mut numbers = Vec::new(alloc);
         numbers_of_calls(&mut numbers, &shown)?;
+        numbers_of_log(&mut numbers, &shown)?;
         numbers_of_dumps(&mut numbers, &shown)?;
         assert_eq!(rt; numbers.as_slice(), wanted, "{name}");
         return Ok(());
