@@ -1,15 +1,15 @@
 -- What the program does with what its words ask for: a command, or what clap answers to the words itself.
-use Rattle.std.specs.Prelude.{◌≡◌, ℕ, Bool, true, false, List, Option, Result, Ok, Err, MatchResult}
+use Rattle.std.specs.Prelude.{◌≡◌, ℕ, Bool, true, false, List, Option, Result, Ok, Err, MatchResult, ⊤}
 use Rattle.clap.specs.Words.{kind_of}
 use Rattle.clap.specs.declared.error.Error.{Error}
 use Rattle.clap.specs.declared.error.kind.ErrorKind.{ErrorKind}
 use Rattle.clap.specs.declared.error.kind.ErrorKind.TheVariants as kind
 use Rattle.nr_engines.specs.Answers.{WritesReport}
 use Rattle.nr_engines.specs.Commands.{IsAnswer, IsRefusal}
-use Rattle.nr_engines.specs.Refusals.{IsEndFault, WritesAnswersAlone, exit_status}
+use Rattle.nr_engines.specs.Refusals.{WritesAnswersAlone, exit_status}
 use Rattle.nr_engines.specs.declared.command.Command.{Command}
 use Rattle.nr_engines.specs.declared.fault.ProgFault.{ProgFault}
-use Rattle.nr_engines.specs.declared.fault.ProgFault.TheVariants.{Memory}
+use Rattle.nr_engines.specs.declared.fault.ProgFault.TheVariants.{CannotWrite, Memory}
 
 -- help or the version was asked for, which go to the output
 abbrev pub is_shown : ErrorKind → Bool
@@ -28,9 +28,15 @@ pub record RunsCommand {W : Type 0} (command : Command) (known : Option (List �
   pub ends : MatchResult outcome (WritesReport (IsAnswer command) known (contents old) (contents new)) (IsRefusal command known)
   pub alone : WritesAnswersAlone old new outcome
 
+-- why what clap answers was not told: it couldn't be written, or memory ran out
+abbrev pub IsTellFault : ProgFault → Type 0
+IsTellFault CannotWrite = ⊤
+IsTellFault Memory = ⊤
+IsTellFault _ = ⊥
+
 -- what clap answers was told, or that failed; only help and the version go to the output
 pub record TellsRefusal {W : Type 0} (answer : ErrorKind) (old new : W) (outcome : Result ℕ ProgFault) : Type 0 where
-  pub ends : MatchResult outcome (λ status. status ≡ shown_status (is_shown answer)) IsEndFault
+  pub ends : MatchResult outcome (λ status. status ≡ shown_status (is_shown answer)) IsTellFault
   pub memory : answer ≡ kind.OutOfMemory → outcome ≡ Err Memory
   pub alone : is_shown answer ≡ false → new ≡ old
 
