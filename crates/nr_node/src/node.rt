@@ -105,6 +105,16 @@ impl<S: FrameStore, J: LogName> Node<S, J> {
         self.replica.applied()
     }
 
+    /// The number of its replica.
+    pub fn number(&self) -> u8
+        ensures { self.now.known.view.owns ≡ result ∷ [] }
+    {
+        match self.pass.replica() {
+            Some(replica) => replica,
+            None => unreachable!(),
+        }
+    }
+
     /// What it holds.
     pub fn held(&self) -> Held
         ensures { result ≡ held_of self.now.batch self.now.first }

@@ -1,10 +1,11 @@
 -- What the dumps and the calls of a log are in each later one.
-use Rattle.std.proofs.Common.{◌≡◌, ℕ, zero, suc, ◌<◌, ◌≤◌, List, [], ◌∷◌, ◌++◌, All, length, map, take, drop, get_or, refl, ap, sym, subst, ◌∙◌, arith}
-use Rattle.std.specs.Prelude.{slice_index}
+use Rattle.std.proofs.Common.{◌≡◌, ℕ, zero, suc, ◌+◌, ◌<◌, ◌≤◌, List, [], ◌∷◌, ◌++◌, All, Some, length, map, take, drop, get_or, refl, ap, sym, subst, ◌∙◌, arith}
+use Rattle.std.specs.Prelude.{slice_get, slice_index}
 use Rattle.std.specs.List.{remove}
 use Rattle.std.proofs.Math.ListN.{length-append}
 use Rattle.std.proofs.lemmas.List.{append_assoc, append_cancel_left, get_or_append_left, map-append, take-append-drop}
 use Rattle.std.proofs.lemmas.List.Elements.{All-append, All-map}
+use Rattle.std.proofs.lemmas.Option.{slice_get_within}
 use Rattle.vs_types.specs.Space.{table_count}
 use Rattle.vs_types.specs.declared.depth.Depth.{Depth}
 use Rattle.vs_types.specs.declared.log_entry.LogEntry.{LogEntry}
@@ -19,13 +20,13 @@ use Rattle.nr_ring.specs.declared.view.View.{View}
 use Rattle.nr_ring.proofs.Histories.{local_since}
 use Rattle.nr_node.specs.Node.{IsNode, NodeState, applied_of, log_of, replica_of, taken_by}
 use Rattle.nr_node.proofs.LaterLogs.{same_space}
-use Rattle.nr_node.proofs.Lists.{all_one}
+use Rattle.nr_node.proofs.Lists.{all_one, same_some}
 use Rattle.nr_node.proofs.Looks.{begins_begins, later_goes_on}
 use Rattle.nr_node.proofs.Nodes.{take_still}
 use Rattle.nr_replicas.specs.Replicas.{HasHeard}
-use Rattle.nr_replicas.specs.Settled.{HasAppliedAllTaken, IsDumpOf, IsSettled}
+use Rattle.nr_replicas.specs.Settled.{IsDumpOf, IsSettled}
 use Rattle.nr_replicas.specs.inside.Replicas.{IsNodeOf}
-use Rattle.nr_replicas.specs.inside.Settling.{AreDumpsOf, HasAppliedOwn, HasSeenOwnAdvances}
+use Rattle.nr_replicas.specs.inside.Settling.{AreDumpsOf, HasAppliedOwn, HasSeenOwnAdvances, OwnInTurn}
 use Rattle.nr_replicas.proofs.Hearing.{heard_on, heard_twice}
 use Rattle.nr_replicas.proofs.Logs.{tail_rises}
 
@@ -66,12 +67,13 @@ own_between history pass later on further all k d lt =
     advances_between (get_or pass.view.owns k d) pass.view.seen history later.seen on further (all k d lt)
 
 -- in such a history the replica of a pass has taken no more than the pass has seen
-own_taken : (replicas : ℕ) (history : List LogEvent) (pass : Known) (dump : Image) → HasAppliedOwn replicas pass dump
-    → HasSeenOwnAdvances history pass → HasAppliedAllTaken replicas (log_after replicas history) dump
-own_taken replicas history pass dump is all =
+own_applied : (replicas replica : ℕ) (history : List LogEvent) (pass : Known) (dump : Image) → HasAppliedOwn replicas pass dump
+    → pass.view.owns ≡ replica ∷ [] → HasSeenOwnAdvances history pass → dump.applied ≡ local_of (log_after replicas history) replica
+own_applied replicas replica history pass dump is owner all =
     let Q : List ℕ → Type 0 = λ l. All (λ r. HasSeenAdvances r history pass.view.seen) l in
-    let still = local_since replicas is.0 history pass.view.seen (subst Q is.2 all 0 0 (omega arith)) in
-    (is.0, is.1, is.3 ∙ sym still)
+    let same : replica_of pass.view ≡ replica = ap (λ (l : List ℕ). slice_index l 0) owner in
+    let still = local_since replicas replica history pass.view.seen (subst Q owner all 0 0 (omega arith)) in
+    is ∙ ap (local_of (log_after replicas pass.view.seen)) same ∙ sym still
 
 -- ---- dumps
 
@@ -109,16 +111,22 @@ all_dumps_stay depth replicas tables history [] (dump ∷ dumps) is begins are k
 all_dumps_stay depth replicas tables history (p ∷ ps) [] is begins are k d lt = absurd are
 
 -- where each pass has seen all advances of its replica, its dump has applied what the replica has taken
-all_taken : (depth : Depth) (replicas tables : ℕ) (history : List LogEvent) (passes : List Known) (dumps : List Image)
-    → AreDumpsOf depth replicas tables passes dumps → All (HasSeenOwnAdvances history) passes
-    → All (HasAppliedAllTaken replicas (log_after replicas history)) dumps
-all_taken depth replicas tables history [] [] are own k d lt = absurd (omega (arith, lt))
-all_taken depth replicas tables history (p ∷ ps) (dump ∷ dumps) are own zero d lt =
-    own_taken replicas history p dump are.1 (own 0 p (omega arith))
-all_taken depth replicas tables history (p ∷ ps) (dump ∷ dumps) are own (suc k) d lt =
-    all_taken depth replicas tables history ps dumps are.2 (λ j e l. own (suc j) e (omega (arith, l))) k d (omega (arith, lt))
-all_taken depth replicas tables history [] (dump ∷ dumps) are own k d lt = absurd are
-all_taken depth replicas tables history (p ∷ ps) [] are own k d lt = absurd are
+all_taken : (depth : Depth) (replicas tables replica : ℕ) (history : List LogEvent) (passes : List Known) (dumps : List Image)
+    → AreDumpsOf depth replicas tables passes dumps → OwnInTurn replica passes → All (HasSeenOwnAdvances history) passes
+    → (i : ℕ) (dump : Image) → slice_get dumps i ≡ Some dump → dump.applied ≡ local_of (log_after replicas history) (replica + i)
+all_taken depth replicas tables replica history [] [] are own seen i dump e = absurd (omega (arith, slice_get_within [] i dump e))
+all_taken depth replicas tables replica history (p ∷ ps) (d ∷ ds) are own seen zero dump e =
+    let same : d ≡ dump = same_some e in
+    let at : replica + 0 ≡ replica = omega arith in
+    ap (λ (x : Image). x.applied) (sym same)
+    ∙ own_applied replicas replica history p d are.1 own.0 (seen 0 p (omega arith))
+    ∙ ap (local_of (log_after replicas history)) (sym at)
+all_taken depth replicas tables replica history (p ∷ ps) (d ∷ ds) are own seen (suc i) dump e =
+    let at : replica + suc i ≡ (replica + 1) + i = omega arith in
+    all_taken depth replicas tables (replica + 1) history ps ds are.2 own.1 (λ j x l. seen (suc j) x (omega (arith, l))) i dump e
+    ∙ ap (local_of (log_after replicas history)) (sym at)
+all_taken depth replicas tables replica history [] (d ∷ ds) are own seen i dump e = absurd are
+all_taken depth replicas tables replica history (p ∷ ps) [] are own seen i dump e = absurd are
 
 -- ---- calls
 
@@ -137,6 +145,15 @@ all_calls p q n on le =
 
 abbrev known_of : NodeState → Known
 known_of node = node.known
+
+-- one node more, which owns the next replica
+pub one_more_in_turn : (replica : ℕ) (nodes : List NodeState) (node : NodeState) → OwnInTurn replica (map known_of nodes)
+    → node.known.view.owns ≡ (replica + length nodes) ∷ [] → OwnInTurn replica (map known_of (nodes ++ node ∷ []))
+one_more_in_turn replica [] node own is =
+    let at : replica + 0 ≡ replica = omega arith in (is ∙ ap (λ (k : ℕ). k ∷ []) at, tt)
+one_more_in_turn replica (n ∷ ns) node own is =
+    let at : replica + length (n ∷ ns) ≡ (replica + 1) + length ns = omega arith in
+    (own.0, one_more_in_turn (replica + 1) ns node own.1 (is ∙ ap (λ (k : ℕ). k ∷ []) at))
 
 -- the first node's pass, and the others
 pub first_known : (nodes : List NodeState) (passes others : List Known) (node : NodeState) (first : Known) → 0 < length nodes
@@ -163,12 +180,12 @@ pub settled : (depth : Depth) (replicas tables : ℕ) (handed passes others : Li
     → HasHeard depth replicas first.known.view a → All (λ pass. StartsWith a.seen pass.view.seen) others
     → HasHeard depth replicas a b → All (λ pass. StartsWith b.seen pass.view.seen) handed
     → HasHeard depth replicas b c
-    → AreDumpsOf depth replicas tables passes dumps → length dumps ≡ replicas
+    → AreDumpsOf depth replicas tables passes dumps → OwnInTurn 0 passes → length dumps ≡ replicas
     → calls ≡ map (λ entry. entry.call) (take (applied_of replicas first) (log_of replicas first).entries)
     → all ≡ calls ++ map (λ entry. entry.call) (drop (taken_by replicas c) (log_after replicas c.seen).entries)
     → All (HasSeenOwnAdvances c.seen) others
     → IsSettled depth replicas tables handed all dumps
-settled depth replicas tables handed passes others first dumps calls all a b c is_node split heard_a begin_a heard_b begin_b heard_c are count first_calls all_are known =
+settled depth replicas tables handed passes others first dumps calls all a b c is_node split heard_a begin_a heard_b begin_b heard_c are own count first_calls all_are known =
     let v = first.known.view in
     let ab = heard_twice depth replicas a b c heard_b heard_c in
     let whole = heard_twice depth replicas v a c heard_a ab in
@@ -191,5 +208,7 @@ settled depth replicas tables handed passes others first dumps calls all a b c i
           ∙ all_calls log later n (heard_on depth replicas v c whole) is_node.written;
       one_each = count;
       dumps_are = all_dumps_stay depth replicas tables c.seen passes dumps whole.is_history every are;
-      taken = all_taken depth replicas tables c.seen passes dumps are all_own;
+      taken = λ replica dump e.
+          let at : 0 + replica ≡ replica = omega arith in
+          all_taken depth replicas tables 0 c.seen passes dumps are own all_own replica dump e ∙ ap (local_of later) at;
     }

@@ -1,5 +1,5 @@
 -- What is left of the replicas when all is done.
-use Rattle.std.specs.Prelude.{◌≡◌, ℕ, ◌<◌, ◌≤◌, List, All, length, map}
+use Rattle.std.specs.Prelude.{◌≡◌, ℕ, ◌≤◌, List, All, Some, length, map, slice_get}
 use Rattle.std.specs.FinMap as finite
 use Rattle.vs_types.specs.Space.{table_count}
 use Rattle.vs_types.specs.declared.depth.Depth.{Depth}
@@ -17,12 +17,8 @@ pub record IsDumpOf (depth : Depth) (tables : ℕ) (log : Log) (dump : Image) : 
   pub translates : TranslatesAs depth dump.frames dump.root (space_at depth tables log.entries dump.applied)
   pub frames : finite.len dump.frames ≡ table_count depth (space_at depth tables log.entries dump.applied)
 
--- a dump has applied just the entries that one of the replicas has taken
-abbrev pub HasAppliedAllTaken : ℕ → Log → Image → Type 0
-HasAppliedAllTaken replicas log dump = (replica : ℕ) × (replica < replicas) × (dump.applied ≡ local_of log replica)
-
--- the calls of one log, which begins with all that each of these passes has seen, and a dump of each replica, after just the entries
--- that it has taken
+-- the calls of one log, which begins with all that each of these passes has seen, and a dump of each replica, by number, after just the
+-- entries that it has taken
 pub record IsSettled (depth : Depth) (replicas tables : ℕ) (passes : List Known) (calls : List ℕ) (dumps : List Image) : Type 0 where
   pub history : List LogEvent
   pub is_history : IsLogHistory depth replicas history
@@ -30,4 +26,5 @@ pub record IsSettled (depth : Depth) (replicas tables : ℕ) (passes : List Know
   pub calls_are : calls ≡ map (λ entry. entry.call) (log_after replicas history).entries
   pub one_each : length dumps ≡ replicas
   pub dumps_are : All (IsDumpOf depth tables (log_after replicas history)) dumps
-  pub taken : All (HasAppliedAllTaken replicas (log_after replicas history)) dumps
+  pub taken : (replica : ℕ) (dump : Image) → slice_get dumps replica ≡ Some dump
+      → dump.applied ≡ local_of (log_after replicas history) replica

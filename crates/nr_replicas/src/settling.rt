@@ -6,7 +6,7 @@ ghost use Rattle.nr_node.specs.Node.{IsNode, applied_of, log_of, taken_by};
 ghost use Rattle.nr_replicas.specs.Replicas.{HasHeard};
 ghost use Rattle.nr_replicas.specs.Settled.{IsDumpOf, IsSettled};
 ghost use Rattle.nr_replicas.specs.inside.Replicas.{IsNodeOf};
-ghost use Rattle.nr_replicas.specs.inside.Settling.{AreDumpsOf, HasSeenOwnAdvances};
+ghost use Rattle.nr_replicas.specs.inside.Settling.{AreDumpsOf, HasSeenOwnAdvances, OwnInTurn};
 
 use crate::name::ReplicasName;
 use crate::replicas::Replicas;
@@ -46,7 +46,7 @@ impl<J: LogName, K: ReplicasName> Replicas<J, K> {
             alloc,
             ..
         } = self;
-        let nodes = nodes_of(alloc, shared)?;
+        let nodes = nodes_of(rt, alloc, shared)?;
         let mut calls = calls_of(alloc, &nodes[0])?;
         let (mut others, dumps) = passes_of::<J, K>(alloc, nodes)?;
         let mut first = others.remove(0);
@@ -58,20 +58,41 @@ impl<J: LogName, K: ReplicasName> Replicas<J, K> {
     }
 }
 
-/// The nodes of the replicas.
-fn nodes_of<J: LogName, K: ReplicasName>(
+/// The nodes of the replicas, by number.
+fn nodes_of<J: LogName, K: ReplicasName, R: Wait>(
+    rt: &R,
     alloc: Global,
     shared: Vec<Shared<J, K>>,
 ) -> Result<Vec<Node<RawArena, J>>, Memory>
     ensures count { IfOk result (λ nodes. length nodes.items ≡ length shared.items) }
     ensures each { IfOk result (λ nodes. All (IsNodeOf K.log K.tables) nodes.items) }
+    ensures in_turn { IfOk result (λ nodes. OwnInTurn 0 (map (λ node. node.known) nodes.items)) }
 {
     let mut nodes = Vec::new(alloc);
     for replica in shared {
-        let Shared { local, slots: _ } = replica;
-        nodes.push(local.into_inner().into_node())?;
+        let node = node_of(rt, nodes.len(), replica);
+        nodes.push(node)?;
     }
     Ok(nodes)
+}
+
+/// The node of the replica of this number, which is the one under its lock. No proof knows that, since a lock's type knows no
+/// number: so the node is asked for its own. Were it another's, this would wait for ever.
+fn node_of<J: LogName, K: ReplicasName, R: Wait>(
+    rt: &R,
+    number: usize,
+    replica: Shared<J, K>,
+) -> Node<RawArena, J>
+    ensures node { IsNodeOf K.log K.tables result }
+    ensures owner { result.known.view.owns ≡ number ∷ [] }
+{
+    let Shared { local, slots: _ } = replica;
+    let node = local.into_inner().into_node();
+    if usize::from(node.number()) == number {
+        return node;
+    }
+    for _ in rt.forever() {}
+    unreachable!()
 }
 
 /// The call numbers of the entries that a node has applied.
@@ -105,9 +126,7 @@ fn passes_of<J: LogName, K: ReplicasName>(
     for node in nodes {
         let dump = dump_of(&node)?;
         dumps.push(dump)?;
-        let pass = node.into_pass();
-        pass.has_seen_a_history();
-        passes.push(pass)?;
+        passes.push(node.into_pass())?;
     }
     Ok((passes, dumps))
 }

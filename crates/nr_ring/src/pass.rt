@@ -1,5 +1,5 @@
 //! A thread's pass to a log.
-ghost use Rattle.std.specs.Prelude.{◌≡◌, ◌<◌, All};
+ghost use Rattle.std.specs.Prelude.{◌≡◌, ◌<◌, [], ◌∷◌, All, MatchOption};
 ghost use Rattle.nr_ring.specs.LogHistory.{IsLogHistory, log_after};
 ghost use Rattle.nr_ring.specs.Pass.{tails_of};
 ghost use Rattle.nr_ring.specs.View.{StartsWith};
@@ -51,6 +51,14 @@ impl<J: LogName> LogPass<J> {
     {
         tails_in(self.inner.words())
     }
+
+    /// The replica that it owns, or `None` where it owns none.
+    pub fn replica(&self) -> Option<u8>
+        ensures { MatchOption result (self.now.view.owns ≡ []) (λ replica. self.now.view.owns ≡ replica ∷ []) }
+    {
+        self.replica
+    }
+
     /// Does nothing: its clauses say what holds of every pass. What it has seen is a history, which begins with all that it was
     /// told. Each replica that it owns is one of the log's, and it has one right to make events.
     pub fn has_seen_a_history(&self)

@@ -3,31 +3,43 @@
 use crate::dumps::assert_dumps;
 use crate::gate::CountingGate;
 use crate::scene::{Settled, Test, run};
-use crate::steps::{Step, TURNS, take_alone, unmap_a};
+use crate::steps::{Step, TURNS, take, take_alone, unmap_a};
 use nr_replicas::UpdateFault;
 use std::alloc::Global;
 use std::process::Abort;
 use std::sync::Wait;
 use std::test::Fail;
 use std::thread::Threads;
-use vs_types::{Access, Answer, Config, Depth};
+use vs_types::{Access, Answer, Config, Depth, Memory, Op};
 
 /// How many entries a log has at most.
 const ENTRIES: u32 = 65_536;
 
-/// All updates but those at the end stand in the log, and the replica has applied them.
-fn assert_full(rt: &impl Abort, settled: &Settled) {
-    assert_eq!(rt; settled.calls.len(), ENTRIES as usize);
+/// All of them but two.
+const ALL_BUT_TWO: u32 = ENTRIES - 2;
+
+/// So many updates stand in the log, and the replicas have applied them.
+fn assert_all(rt: &impl Abort, settled: &Settled, entries: u32) {
+    assert_eq!(rt; settled.calls.len(), entries as usize);
     for (place, call) in settled.calls.iter().enumerate() {
         assert_eq!(rt; *call as usize, place);
     }
     for dump in settled.dumps.as_slice() {
-        assert_eq!(rt; (dump.applied(), dump.count()), (ENTRIES, 1));
+        assert_eq!(rt; (dump.applied(), dump.count()), (entries, 1));
     }
 }
 
-/// A thread makes as many updates as a log takes, each of a page that there is not, and then calls at the end of the log: the next
-/// update is told that it has ended, and those after it that the slot is occupied. Then come the steps of others.
+/// So many updates by the first thread, each of a page that there is not.
+fn updates(alloc: Global, op: Op, count: u32) -> Result<Vec<Step>, Memory> {
+    let mut steps = Vec::new(alloc);
+    for call in 0..count {
+        steps.push(Step::update(0, call, op, call, Answer::NotMapped))?;
+    }
+    Ok(steps)
+}
+
+/// A thread makes as many updates as a log takes, and then calls at the end of the log: the next update is told that it has ended,
+/// and those after it that the slot is occupied. Then come the steps of others.
 fn go_to_the_end<R: Wait + Abort + Threads + Sync>(
     rt: &R,
     alloc: Global,
@@ -36,10 +48,7 @@ fn go_to_the_end<R: Wait + Abort + Threads + Sync>(
     hands_passes: bool,
 ) -> Result<(), Fail> {
     let op = unmap_a(rt, config.depth());
-    let mut steps = Vec::new(alloc);
-    for call in 0..ENTRIES {
-        steps.push(Step::update(0, call, op, call, Answer::NotMapped))?;
-    }
+    let mut steps = updates(alloc, op, ENTRIES)?;
     let ended = UpdateFault::Ended(ENTRIES);
     steps.push(Step::fault(0, ENTRIES, op, TURNS, ended))?;
     let occupied = UpdateFault::Occupied;
@@ -53,7 +62,7 @@ fn go_to_the_end<R: Wait + Abort + Threads + Sync>(
     let gate = CountingGate::new(None);
     let test = Test::Steps(&steps, &gate, hands_passes);
     let settled = run(rt, alloc, config, test)?;
-    assert_full(rt, &settled);
+    assert_all(rt, &settled, ENTRIES);
     Ok(())
 }
 
@@ -76,6 +85,27 @@ fn log_ends_for_other_threads(rt: HostRuntime) -> Result<(), Fail> {
         Step::fault(1, 131_070, op, TURNS, UpdateFault::Occupied),
     ];
     go_to_the_end(&rt, rt.alloc(), config, &others, false)
+}
+
+/// Two places are left, and three updates are collected. Their batch stays, so that the update of another thread is not placed before
+/// them.
+#[test]
+fn batch_stays_at_the_end(rt: HostRuntime) -> Result<(), Fail> {
+    let config = Config::new(Depth::Four, 1, 4, 4)?;
+    let op = unmap_a(&rt, Depth::Four);
+    let mut steps = updates(rt.alloc(), op, ALL_BUT_TWO)?;
+    for (thread, call) in [(1, ALL_BUT_TWO), (2, ALL_BUT_TWO + 1)] {
+        let stopped = UpdateFault::Stopped(call);
+        steps.push(Step::fault(thread, call, op, 0, stopped))?;
+    }
+    for (thread, call) in [(0, ALL_BUT_TWO + 2), (3, ALL_BUT_TWO + 3)] {
+        let ended = UpdateFault::Ended(call);
+        steps.push(Step::fault(thread, call, op, TURNS, ended))?;
+    }
+    steps.push(Step::read(3, 0x400000, ALL_BUT_TWO, Answer::NotMapped))?;
+    let settled = take(&rt, rt.alloc(), config, &steps)?;
+    assert_all(&rt, &settled, ALL_BUT_TWO);
+    Ok(())
 }
 
 /// A settling that is handed no pass finds what the replicas have applied, and what they have not.

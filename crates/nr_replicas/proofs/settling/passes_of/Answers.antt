@@ -3,7 +3,7 @@ use Rattle.std.proofs.Math.ListN.{length-append}
 use Rattle.std.proofs.lemmas.List.{append_assoc}
 use Rattle.vs_walk.specs.Dump.{Image}
 use Rattle.nr_ring.specs.Pass.{Known}
-use Rattle.nr_node.specs.Node.{NodeState, replica_of}
+use Rattle.nr_node.specs.Node.{NodeState}
 use Rattle.nr_replicas.specs.inside.Replicas.{IsNodeOf}
 use Rattle.nr_replicas.specs.inside.Settling.{AreDumpsOf, HasAppliedOwn}
 use Rattle.nr_replicas.proofs.Rests.{first_and_rest}
@@ -26,16 +26,9 @@ loop-node-preserved g c =
     let steps : c.loop-node.node-iterator.rest.items ≡ node ∷ rest = c.in-Some.ensures.steps.0 in
     let each = first_and_rest P _ rest node steps is.0 in
     let one : c.push-in-loop-node.new.self.items ≡ passes ++ node.known ∷ [] =
-    c.in_ok-push-2.ensures.items ∙ ap (λ (k : Known). passes ++ k ∷ []) c.into_pass-pass.ensures.pass in
+    c.in_ok-push-2.ensures.items ∙ ap (λ (k : Known). passes ++ k ∷ []) c.into_pass.ensures.pass in
     let Dumps : List Known → List Image → Type 0 = λ p d. AreDumpsOf depth replicas tables p d in
-    let pass = c.into_pass-pass.result in
-    let node_is = c.into_pass-pass.ensures.is_node in
-    let Ours : List ℕ → Type 0 = λ l. All (λ r. r < replicas) l in
-    let known : pass ≡ node.known = c.into_pass-pass.ensures.pass in
-    let ours : Ours node.known.view.owns = subst (λ (k : Known). Ours k.view.owns) known c.has_seen_a_history.ensures.owns in
-    let replica = replica_of node.known.view in
-    let below : replica < replicas = subst Ours node_is.owner ours 0 0 (omega arith) in
-    let applied : HasAppliedOwn replicas node.known dump = (replica, below, node_is.owner, c.in_ok-dump.ensures.applied) in
+    let applied : HasAppliedOwn replicas node.known dump = c.in_ok-dump.ensures.applied in
     let now = one_dump_more depth replicas tables passes dumps node dump is.3 each.0.tables_are c.in_ok-dump.ensures.dump applied in (
       each.1,
       ap (λ (l : List Known). l ++ Known_of rest) one

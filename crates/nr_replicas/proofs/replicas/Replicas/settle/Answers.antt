@@ -3,7 +3,7 @@ use Rattle.std.proofs.lemmas.List.{length-map}
 use Rattle.nr_ring.specs.Pass.{Known}
 use Rattle.nr_ring.specs.View.{StartsWith}
 use Rattle.nr_replicas.specs.Replicas.{HasHeard}
-use Rattle.nr_replicas.specs.inside.Settling.{HasSeenOwnAdvances}
+use Rattle.nr_replicas.specs.inside.Settling.{HasSeenOwnAdvances, OwnInTurn}
 use Rattle.nr_replicas.proofs.Hearing.{heard_twice}
 use Rattle.nr_replicas.proofs.Rests.{first_and_rest, written_back}
 use Rattle.nr_replicas.proofs.Settled.{all_begin_later, all_of_log, first_known, settled}
@@ -125,7 +125,8 @@ returns-clause-settled g c =
     let back = written_back c.remove-first.new.self.len c.hear_all.new.passes others (c.hear_all.ensures.passes ∙ c.deref_mut.ensures.value)
     c.remove-first.new.self.ok.0 in
     let own_advances = subst (All (HasSeenOwnAdvances last.seen)) back c.tell_all.ensures.taken in
+    let own : OwnInTurn 0 passes = subst (OwnInTurn 0) (sym c.in_ok-others.ensures.passes) c.in_ok-nodes.ensures.in_turn in
     settled depth replicas tables c.args.passes.now passes others node c.in_ok-others.dumps.items c.in_ok-calls.calls.items c.add_rest.new.calls.items a b last
     c.in_ok-calls.ensures.is_node split.1 heard begins c.hear_all-2.ensures.heard c.hear_all-2.ensures.begins c.in_ok-add_rest.ensures.heard
-    c.in_ok-others.ensures.dumps count c.in_ok-calls.ensures.calls c.in_ok-add_rest.ensures.rest
+    c.in_ok-others.ensures.dumps own count c.in_ok-calls.ensures.calls c.in_ok-add_rest.ensures.rest
     own_advances
