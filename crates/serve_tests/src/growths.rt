@@ -2,29 +2,24 @@
 //! of starting a thread, there is no thread.
 use crate::scene::{TURNS, verified};
 use crate::scripts::{map_a, resolve_a, unmap_a};
-use nr_serve::{AlwaysGo, NoThread, Said};
+use nr_serve::{AlwaysGo, Said};
 use std::test::Fail;
-use vs_types::{Answer, Memory, Rights, Size};
+use vs_types::{Answer, Rights, Size};
 
 #[test]
 fn whole_run(rt: HostRuntime) -> Result<(), Fail> {
     let alloc = rt.alloc();
     let script = vec![in alloc; map_a(&rt), resolve_a(&rt), unmap_a(&rt), resolve_a(&rt)]?;
-    match verified(&rt, alloc, 1, vec![in alloc; script]?, TURNS, &AlwaysGo) {
-        Ok(shown) => {
-            shown.assert_said(
-                &rt,
-                0,
-                &[
-                    Said::Answer(0, Answer::Done),
-                    Said::Answer(1, Answer::Mapped(0x1123, Size::K4, Rights::ALL)),
-                    Said::Answer(1, Answer::Removed(0x1000, Size::K4, Rights::ALL)),
-                    Said::Answer(2, Answer::NotMapped),
-                ],
-            );
-            Ok(())
-        }
-        Err(vs_types::Fail::Memory) => Err(Memory.into()),
-        Err(vs_types::Fail::Refused(NoThread)) => Err(Memory.into()),
-    }
+    let shown = verified(&rt, alloc, 1, vec![in alloc; script]?, TURNS, &AlwaysGo)?;
+    shown.assert_said(
+        &rt,
+        0,
+        &[
+            Said::Answer(0, Answer::Done),
+            Said::Answer(1, Answer::Mapped(0x1123, Size::K4, Rights::ALL)),
+            Said::Answer(1, Answer::Removed(0x1000, Size::K4, Rights::ALL)),
+            Said::Answer(2, Answer::NotMapped),
+        ],
+    );
+    Ok(())
 }

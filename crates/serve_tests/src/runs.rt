@@ -1,10 +1,10 @@
 //! Runs that no gate stops.
-use crate::gates::HoldUntil;
+use crate::gates::{HoldUntil, InTurn};
 use crate::scene::{TURNS, verified, verified_of};
 use crate::scripts::{access_high, map_a, map_high, resolve_a, unmap_a};
 use nr_replicas::Point;
 use nr_serve::{AlwaysGo, Said};
-use nr_trace::Version;
+use nr_trace::{Event, Version};
 use std::test::Fail;
 use vs_types::{Access, Answer, Config, Depth, Mode, Rights, Size};
 
@@ -55,6 +55,31 @@ fn two_workers_really_run(rt: HostRuntime) -> Result<(), Fail> {
         shown.assert_said(&rt, 0, &[Said::Answer(0, Answer::NotMapped)]);
         shown.assert_said(&rt, 1, &[Said::Answer(0, Answer::NotMapped)]);
     }
+    Ok(())
+}
+
+/// The call of thread 0 is stamped before the gate lets thread 1 have its first answer, and its reply only when thread 1 has made its
+/// third call.
+#[test]
+fn points_between_the_stamps(rt: HostRuntime) -> Result<(), Fail> {
+    let alloc = rt.alloc();
+    let first = vec![in alloc; resolve_a(&rt)]?;
+    let second = vec![in alloc; resolve_a(&rt), resolve_a(&rt), resolve_a(&rt)]?;
+    let gate = InTurn::new();
+    let shown = verified(&rt, alloc, 2, vec![in alloc; first, second]?, TURNS, &gate)?;
+    let trace = shown.read(&rt, alloc);
+    let events = trace.events();
+    assert_eq!(rt; events.len(), 8);
+    let made = events
+        .iter()
+        .position(|it| matches!(it.event(), Event::Call { thread: 0, .. }))
+        .expect(&rt, "a call");
+    let replied = events
+        .iter()
+        .position(|it| matches!(it.event(), Event::Reply { call, .. } if call as usize == made))
+        .expect(&rt, "a reply");
+    assert!(rt; made < 2, "event {made} is the call");
+    assert!(rt; replied >= 6, "event {replied} is the reply");
     Ok(())
 }
 
