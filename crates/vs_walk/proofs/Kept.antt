@@ -1,20 +1,20 @@
 -- Frames whose words lie one after the other in one list.
 use Rattle.std.proofs.Common.{◌≡◌, ℕ, ◌+◌, ◌-◌, ◌*◌, ◌^◌, ◌<◌, ◌≤◌, List, [], ◌∷◌, ◌++◌, length, drop, map, sym, ap, subst, ◌∙◌, arith}
-use Rattle.std.specs.Prelude.{All, zip}
+use Rattle.std.specs.Prelude.{All, zip, replicate}
 use Rattle.std.specs.Global.{Vec}
 use Rattle.std.specs.Vec.{vec_len, vec_capacity}
 use Rattle.std.specs.FinMap as finite
 use Rattle.std.specs.Ordering.{nat_cmp}
 use Rattle.std.proofs.lemmas.List.{drop-append-le, length-drop, length-append, drop_all, map-append}
-use Rattle.std.proofs.lemmas.List.Elements.{All-nil, All-push, All-append}
+use Rattle.std.proofs.lemmas.List.Elements.{All-nil, All-push, All-append, All-replicate}
 use Rattle.vs_types.specs.declared.frame.TheConstants.{FRAME_WORDS}
 use Rattle.vs_types.specs.declared.limits.TheConstants.{TABLES}
 use Rattle.vs_types.specs.Frame.{IsFrame}
 use Rattle.vs_walk.specs.Dump.{AreParts}
 use Rattle.vs_walk.specs.declared.dump.Span.{Span}
-use Rattle.vs_walk.specs.inside.Kept.{among, spread, words_at, paired, IsSpan, AreKept, AreOpen}
+use Rattle.vs_walk.specs.inside.Kept.{among, spread, words_at, paired, kept, IsSpan, AreKept, AreOpen}
 use Rattle.vs_walk.proofs.Dumps.{pairs_push, parts_push, from_sorted_push}
-use Rattle.vs_walk.proofs.Spread.{spans_stay, spans_within, last_words, pushed_words, as_many_frames, all_come, is_frame}
+use Rattle.vs_walk.proofs.Spread.{spans_stay, spans_within, last_words, pushed_words, as_many_frames, all_come, length_among, first_comes, other_comes}
 
 -- words after the frames leave these
 pub frames_stay : (end : ℕ) (numbers : List ℕ) (spans : List Span) (words more : List ℕ) → end ≤ length words → All (IsSpan end) spans
@@ -52,7 +52,6 @@ kept_pushed {applied} {root} numbers spans words number span some parts start le
       within = All-push (IsSpan (length (words ++ some))) spans span
           (spans_within (length words) (length (words ++ some)) spans (omega (arith, count)) parts.within)
           (record { within = omega (arith, count, start, len); few = few });
-      few = omega (arith, count, more, len, few, parts.few);
       parts = subst (AreParts applied root) (sym (frame_pushed numbers spans words number span some parts start len))
           (parts_push (paired numbers spans words) number (spread span.before some) parts.parts above in_range room whole);
     }
@@ -75,7 +74,6 @@ frame_begins {applied} {root} numbers spans words number ns ss ws start begins p
       as_many = ap length same_numbers ∙ parts.as_many ∙ sym (ap length same_spans);
       within = subst (All (IsSpan start)) (sym same_spans) (subst (λ n. All (IsSpan n) spans) (sym begins) parts.within);
       behind = omega (arith, all, begins);
-      few_behind = omega (arith, ap length same_spans, parts.few, begins);
       few = omega (arith, all, begins);
       parts = subst (AreParts applied root) (sym frames) parts.parts;
       above = subst (λ es. All (λ held. held < number) (map (λ e. e.0) es)) (sym frames) above;
@@ -103,7 +101,6 @@ words_come {applied} {root} {numbers} {spans} words {number} {start} more some b
       as_many = parts.as_many;
       within = parts.within;
       behind = omega (arith, count, parts.behind);
-      few_behind = parts.few_behind;
       few = omega (arith, count, few, parts.behind);
       parts = subst (AreParts applied root) (sym frames) parts.parts;
       above = subst (λ es. All (λ held. held < number) (map (λ e. e.0) es)) (sym frames) parts.above;
@@ -124,7 +121,6 @@ zero_more parts few = record {
   as_many = parts.as_many;
   within = parts.within;
   behind = parts.behind;
-  few_behind = parts.few_behind;
   few = omega (arith, few);
   parts = parts.parts;
   above = parts.above;
@@ -135,6 +131,38 @@ zero_more parts few = record {
   room_for_span = parts.room_for_span;
   room_for_words = parts.room_for_words;
 }
+
+-- ---- the words that have come
+
+pub room_left : (before : ℕ) (words : List ℕ) (start zeros : ℕ) → length (among before (drop start words) zeros) < FRAME_WORDS
+    → before + (length words - start) + (zeros + 1) ≤ 512
+room_left before words start zeros few = omega (arith, few, length_among before (drop start words) zeros, length-drop start words)
+
+pub dump_stays : (applied root : ℕ) (numbers : List ℕ) (spans : List Span) (words more some : List ℕ) (start : ℕ) → start ≤ length words
+    → All (IsSpan start) spans → more ≡ words ++ some → kept applied root numbers spans more ≡ kept applied root numbers spans words
+dump_stays applied root numbers spans words more some start behind within is =
+    ap (λ l. kept applied root numbers spans l) is
+    ∙ ap (λ (es : List (ℕ × List ℕ)). record { applied = applied; root = root; frames = finite.from_sorted {R = nat_cmp} es })
+    (frames_stay start numbers spans words some behind within)
+
+pub coming_first : (before : ℕ) (words more : List ℕ) (start zeros word : ℕ) → length words ≡ start → more ≡ words ++ word ∷ []
+    → among (before + zeros) (drop start more) 0 ≡ among before (drop start words) zeros ++ word ∷ []
+coming_first before words more start zeros word ends is =
+    let none : drop start words ≡ [] = drop_all start words (omega (arith, ends)) in
+    let one : drop start more ≡ word ∷ [] = ap (λ l. drop start l) is ∙ drop-append-le start words (word ∷ []) (omega (arith, ends))
+    ∙ ap (λ l. l ++ word ∷ []) none in
+    ap (λ l. among (before + zeros) l 0) one ∙ first_comes before zeros word ∙ ap (λ l. among before l zeros ++ word ∷ []) (sym none)
+
+pub coming_other : (before : ℕ) (words more : List ℕ) (start zeros word : ℕ) → start ≤ length words
+    → more ≡ words ++ (replicate zeros 0 ++ word ∷ []) → among before (drop start more) 0 ≡ among before (drop start words) zeros ++ word ∷ []
+coming_other before words more start zeros word behind is =
+    ap (λ l. among before (drop start l) 0) is
+    ∙ ap (λ l. among before l 0) (drop-append-le start words (replicate zeros 0 ++ word ∷ []) behind)
+    ∙ other_comes before (drop start words) zeros word
+
+pub fit_more : (zeros word : ℕ) → word < 2 ^ 64 → All (λ w. w < 2 ^ 64) (replicate zeros 0 ++ word ∷ [])
+fit_more zeros word fits =
+    All-push (λ w. w < 2 ^ 64) (replicate zeros 0) word (All-replicate (λ w. w < 2 ^ 64) zeros 0 (omega arith)) fits
 
 -- the frame has come whole
 closed_words : {applied root : ℕ} {numbers : Vec ℕ} {spans : Vec Span} (words : Vec ℕ) {number start before zeros : ℕ} (span : Span)
@@ -168,7 +196,6 @@ kept_ended {applied} {root} numbers spans words {number} {start} {before} {zeros
       within = subst (All (IsSpan (length words.items))) (sym same_spans) (All-push (IsSpan (length words.items)) spans.items span
           (spans_within start (length words.items) spans.items parts.behind parts.within)
           (record { within = omega (arith, at, len, parts.behind); few = omega (arith, front, len, parts.few) }));
-      few = omega (arith, more, parts.few, parts.few_behind, parts.behind);
       parts = subst (AreParts applied root)
           (sym (frame_ends numbers spans words ns ss span parts at front len whole same_numbers same_spans))
           (parts_push (paired numbers.items spans.items words.items) number (among before (drop start words.items) zeros) parts.parts parts.above

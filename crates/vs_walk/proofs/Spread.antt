@@ -1,11 +1,11 @@
 -- Words with zeros before them and behind.
 use Rattle.std.proofs.Common.{◌≡◌, ◌≢◌, ℕ, zero, suc, ◌+◌, ◌-◌, ◌^◌, ◌<◌, ◌≤◌, List, [], ◌∷◌, ◌++◌, length, take, drop, map, get_or, refl, inl, inr, sym, ap, subst, ◌∙◌}
 use Rattle.std.proofs.Common.{arith, append_assoc}
-use Rattle.std.specs.Prelude.{All, replicate}
+use Rattle.std.specs.Prelude.{All, replicate, min, ◌⊎◌}
 use Rattle.std.proofs.Math.Seq.{drop-append_seam}
 use Rattle.std.proofs.lemmas.Bool.{cases_lt}
 use Rattle.std.proofs.lemmas.List.{take-append-le, drop-append-le, length-drop, length-append, length-replicate, length-map, take_all, append-nil, replicate_more, replicate-append-replicate, get_or-replicate, get_or_append_left, get_or-append_right}
-use Rattle.std.proofs.lemmas.List.Elements.{All-head, All-tail, All-append, All-replicate, All-weaker}
+use Rattle.std.proofs.lemmas.List.Elements.{All-head, All-tail, All-append, All-replicate, All-weaker, All-get_or}
 use Rattle.vs_types.specs.declared.frame.TheConstants.{FRAME_WORDS}
 use Rattle.vs_types.specs.Frame.{IsFrame}
 use Rattle.vs_walk.specs.inside.Kept.{among, spread, words_at, IsSpan}
@@ -17,14 +17,14 @@ length_among before words behind = omega (
   arith,
   length-append (replicate before 0) (words ++ replicate behind 0),
   length-append words (replicate behind 0),
-  length-replicate before 0,
-  length-replicate behind 0,
+  length-replicate {A = ℕ} before 0,
+  length-replicate {A = ℕ} behind 0,
 )
 
 pub length_spread : (before : ℕ) (words : List ℕ) → before + length words ≤ FRAME_WORDS → length (spread before words) ≡ FRAME_WORDS
 length_spread before words few = omega (arith, few, length_among before words (FRAME_WORDS - (before + length words)))
 
-zero_at : (n i : ℕ) → get_or (replicate n 0) i 0 ≡ 0
+zero_at : (n i : ℕ) → ◌≡◌ {A = ℕ} (get_or (replicate n 0) i 0) 0
 zero_at zero i = refl
 zero_at (suc n) zero = refl
 zero_at (suc n) (suc i) = zero_at n i
@@ -32,20 +32,20 @@ zero_at (suc n) (suc i) = zero_at n i
 -- the zeros before
 pub zero_before : (before : ℕ) (words : List ℕ) (behind i : ℕ) → i < before → get_or (among before words behind) i 0 ≡ 0
 zero_before before words behind i lt =
-    get_or_append_left (replicate before 0) (words ++ replicate behind 0) 0 i (omega (arith, lt, length-replicate before 0))
+    get_or_append_left (replicate before 0) (words ++ replicate behind 0) 0 i (omega (arith, lt, length-replicate {A = ℕ} before 0))
     ∙ get_or-replicate before i 0 0 lt
 
 -- one of the words
 pub word_among : (before : ℕ) (words : List ℕ) (behind i : ℕ) → before ≤ i → i - before < length words
     → get_or (among before words behind) i 0 ≡ get_or words (i - before) 0
 word_among before words behind i low lt =
-    get_or-append_right (replicate before 0) (words ++ replicate behind 0) before i 0 (length-replicate before 0) low
+    get_or-append_right (replicate before 0) (words ++ replicate behind 0) before i 0 (length-replicate {A = ℕ} before 0) low
     ∙ get_or_append_left words (replicate behind 0) 0 (i - before) lt
 
 -- the zeros behind
 pub zero_behind : (before : ℕ) (words : List ℕ) (behind i : ℕ) → before + length words ≤ i → get_or (among before words behind) i 0 ≡ 0
 zero_behind before words behind i low =
-    get_or-append_right (replicate before 0) (words ++ replicate behind 0) before i 0 (length-replicate before 0) (omega (arith, low))
+    get_or-append_right (replicate before 0) (words ++ replicate behind 0) before i 0 (length-replicate {A = ℕ} before 0) (omega (arith, low))
     ∙ get_or-append_right words (replicate behind 0) (length words) (i - before) 0 refl (omega (arith, low))
     ∙ zero_at behind (i - before - length words)
 
@@ -60,6 +60,21 @@ zero_among before words from place i zeros behind ahead =
         | inr past ↦ zero_behind before words (FRAME_WORDS - (before + length words)) i (omega (arith, ge, past))
       ]
     ]
+
+-- the first word from an index on that is not 0, by that among the words between the zeros
+pub zeros_up_to : (before : ℕ) (words : List ℕ) (start from place end : ℕ) → from ≡ min (start - before) (length words) → AreZeros words from place
+    → end ≤ before + place ⊎ length words ≤ place → AreZeros (spread before words) start end
+zeros_up_to before words start from place end is zeros far i low lt =
+    zero_among before words from place i zeros (λ ge. omega (arith, is, low)) (λ ge within. elim far [
+      | inl near ↦ omega (arith, near, lt, ge)
+      | inr past ↦ omega (arith, past, within)
+    ])
+
+pub word_found : (before : ℕ) (words : List ℕ) (place : ℕ) → place < length words → get_or (spread before words) (before + place) 0 ≡ get_or words place 0
+word_found before words place lt =
+    let at : before + place - before ≡ place = omega arith in
+    word_among before words (FRAME_WORDS - (before + length words)) (before + place) (omega arith) (omega (arith, lt, at))
+    ∙ ap (λ n. get_or words n 0) at
 
 pub All_among : (P : ℕ → Type 0) (before : ℕ) (words : List ℕ) (behind : ℕ) → P 0 → All P words → All P (among before words behind)
 All_among P before words behind none all =
@@ -126,6 +141,9 @@ pushed_words words some span start len =
     let behind : drop span.start (words ++ some) ≡ some = ap (λ n. drop n (words ++ some)) start ∙ drop-append_seam words some in
     last_words (words ++ some) span (omega (arith, ap length behind, len)) ∙ ap (spread span.before) behind
 
+pub span_at : (end : ℕ) (spans : List Span) (k : ℕ) (d : Span) → All (IsSpan end) spans → k < length spans → IsSpan end (get_or spans k d)
+span_at end spans k d all lt = All-get_or (IsSpan end) spans k d lt all
+
 -- ---- the numbers of frames, and their words
 
 pub as_many_frames : (numbers : List ℕ) (spans : List Span) (words : List ℕ) → length numbers ≡ length spans
@@ -134,4 +152,6 @@ as_many_frames numbers spans words as_many = as_many ∙ sym (length-map spans (
 
 -- words that are a whole frame
 pub whole_spread : (words : List ℕ) → length words ≡ FRAME_WORDS → spread 0 words ≡ words
-whole_spread words whole = ap (λ n. words ++ replicate n 0) (omega (arith, whole)) ∙ append-nil words
+whole_spread words whole =
+    let none : FRAME_WORDS - (0 + length words) ≡ 0 = omega (arith, whole) in
+    ap (λ n. words ++ replicate n 0) none ∙ append-nil words

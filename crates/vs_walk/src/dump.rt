@@ -3,7 +3,6 @@ ghost use Rattle.std.specs.FinMap as finite;
 ghost use Rattle.std.specs.Vec.{vec_len, vec_capacity};
 ghost use Rattle.vs_types.specs.declared.frame.TheConstants.{FRAME_WORDS};
 ghost use Rattle.vs_types.specs.declared.limits.TheConstants.{TABLES};
-ghost use Rattle.vs_types.specs.Frame.{IsFrame};
 ghost use Rattle.vs_walk.specs.Dump.{IsDump};
 
 use crate::frame_words::FrameWords;
@@ -12,23 +11,22 @@ use std::alloc::Global;
 use std::marker::Model;
 use vs_types::{FRAME_WORDS, Memory};
 
-/// That these are the words of a frame, as many and of 64 bits each. It does nothing: a call that reads the words tells it.
-fn are_whole(words: &FrameWords<'_>)
-    ensures { IsFrame words.now }
+/// That words of this type are below 2^64. It does nothing: a call that reads the words tells it.
+fn are_words(words: &[u64])
+    ensures { All (λ word. word < 2 ^ 64) words.now }
 {
-    let (_, some) = words.parts();
-    let _read = some.iter();
+    let _read = words.iter();
 }
 
 /// Where the words of a frame lie in the list of a dump. All before these and all behind are 0.
 #[derive(Clone, Copy, Debug)]
 struct Span {
     /// The index of the first that is kept.
-    start: u32,
+    start: usize,
     /// How many words come before it, 0 to 512.
-    before: u16,
+    before: usize,
     /// How many are kept, 0 to 512.
-    len: u16,
+    len: usize,
 }
 
 /// The page table of a replica as it was after some entries of the log. It keeps its frames by rising number: the numbers
@@ -107,12 +105,12 @@ impl Dump {
         ensures count { OnOk result (finite.len self.new.frames ≡ finite.len self.old.frames + 1) }
         ensures err { OnErr result (self.new ≡ self.old) }
     {
-        are_whole(words);
         let (before, some) = words.parts();
+        are_words(some);
         let span = Span {
-            start: self.words.len() as u32,
-            before: before as u16,
-            len: some.len() as u16,
+            start: self.words.len(),
+            before,
+            len: some.len(),
         };
         self.numbers.reserve(1)?;
         self.spans.reserve(1)?;
@@ -122,7 +120,7 @@ impl Dump {
         Ok(())
     }
 
-    /// Makes room for exactly so many more frames, where it has no room for one. It takes memory for them: 4,112 bytes
+    /// Makes room for exactly so many more frames, where it has no room for one. It takes memory for them: 4,128 bytes
     /// for each.
     ///
     /// # Errors
@@ -216,9 +214,8 @@ impl Frames for Dump {
         match self.numbers.binary_search(&number) {
             Ok(k) => {
                 let span = self.spans[k];
-                let start = span.start as usize;
-                let some = &self.words[start..start + span.len as usize];
-                Some(FrameWords::among_zeros(span.before as usize, some))
+                let some = &self.words[span.start..span.start + span.len];
+                Some(FrameWords::among_zeros(span.before, some))
             }
             Err(_) => None,
         }
@@ -231,7 +228,7 @@ fn push_after_zeros(words: &mut Vec<u64>, zeros: usize, word: u64)
     ensures items { words.new.items ≡ words.old.items ++ (replicate zeros 0 ++ word ∷ []) }
     ensures capacity { vec_capacity words.new ≡ vec_capacity words.old }
 {
-    for _ in 0..zeros {
+    for k in 0..zeros {
         words.push_reserved(0);
     }
     words.push_reserved(word);
@@ -267,7 +264,7 @@ impl Model for OpenDump {
     ghost view = { λ d. record {
       dump = kept d.applied d.root d.numbers.items d.spans.items d.words.items;
       number = d.number;
-      coming = drop (512 * length d.numbers.items) d.words.items;
+      coming = among d.before (drop d.start d.words.items) d.zeros;
     } };
 
     ghost invariant = { λ d. AreOpen d.applied d.root d.numbers d.spans d.words d.number d.start d.before d.zeros };
@@ -330,9 +327,9 @@ impl OpenDump {
         } = self;
         numbers.push_reserved(number);
         spans.push_reserved(Span {
-            start: start as u32,
-            before: before as u16,
-            len: (words.len() - start) as u16,
+            start,
+            before,
+            len: words.len() - start,
         });
         Dump {
             applied,

@@ -62,6 +62,7 @@ impl<'a> FrameWords<'a> {
         ensures reads { result ≡ length self.now }
         ensures whole { result ≡ FRAME_WORDS }
     {
+        let _ = &self.before;
         FRAME_WORDS
     }
 

@@ -38,7 +38,6 @@ kept applied root numbers spans words = record { applied = applied; root = root;
 pub record AreKept (applied root : ℕ) (numbers : List ℕ) (spans : List Span) (words : List ℕ) : Type 0 where
   pub as_many : length numbers ≡ length spans
   pub within : All (IsSpan (length words)) spans
-  pub few : length words ≤ 512 * length spans
   pub parts : AreParts applied root (paired numbers spans words)
 
 -- the same with words of one frame more, which may have this number, and with room for it
@@ -46,7 +45,6 @@ pub record AreOpen (applied root : ℕ) (numbers : Vec ℕ) (spans : Vec Span) (
   pub as_many : length numbers.items ≡ length spans.items
   pub within : All (IsSpan start) spans.items
   pub behind : start ≤ length words.items
-  pub few_behind : start ≤ 512 * length spans.items
   pub few : before + (length words.items - start) + zeros ≤ 512
   pub parts : AreParts applied root (paired numbers.items spans.items words.items)
   pub above : All (λ held. held < number) (map (λ frame. frame.0) (paired numbers.items spans.items words.items))
