@@ -1,8 +1,7 @@
 //! The words of one frame.
-ghost use Rattle.std.specs.Prelude.{◌≡◌, ◌≢◌, ◌+◌, ◌≤◌, ◌<◌, length, slice_index};
+ghost use Rattle.std.specs.Prelude.{◌≡◌, ◌≢◌, ◌+◌, ◌≤◌, ◌<◌, ℕ, length, slice_index};
 ghost use Rattle.vs_types.specs.declared.frame.TheConstants.{FRAME_WORDS};
 ghost use Rattle.vs_walk.specs.inside.Kept.{spread};
-ghost use Rattle.vs_walk.specs.inside.Traversed.{AreZeros};
 
 use crate::zeros::next_word;
 use std::cmp::min;
@@ -66,9 +65,8 @@ impl<'a> FrameWords<'a> {
         FRAME_WORDS
     }
 
-    /// The word at an index, from 0 to 511.
+    /// The word at an index; 0 from 512 on.
     pub fn word(&self, index: usize) -> u64
-        requires { index < FRAME_WORDS }
         ensures { result ≡ slice_index self.now index }
     {
         if index < self.before {
@@ -87,7 +85,7 @@ impl<'a> FrameWords<'a> {
         requires { start ≤ FRAME_WORDS }
         ensures behind { start ≤ result }
         ensures within { result ≤ FRAME_WORDS }
-        ensures zeros { AreZeros self.now start result }
+        ensures zeros { (i : ℕ) → start ≤ i → i < result → slice_index self.now i ≡ 0 }
         ensures found { result < FRAME_WORDS → slice_index self.now result ≢ 0 }
         ensures whole { length self.now ≡ FRAME_WORDS }
     {
