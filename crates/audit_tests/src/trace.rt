@@ -73,7 +73,7 @@ fn empty_trace(rt: HostRuntime) -> Result<(), Fail> {
     assert_eq!(rt; dump.count(), 1);
     assert!(rt;
         dump.words(1)
-            .is_some_and(|words| words.iter().all(|word| *word == 0))
+            .is_some_and(|words| words.next_nonzero(0) == 512)
     );
     Ok(())
 }
@@ -101,7 +101,7 @@ fn map_then_resolve(rt: HostRuntime) -> Result<(), Fail> {
     assert_eq!(rt; dump.count(), 4);
     assert!(rt;
         dump.words(3)
-            .is_some_and(|words| words[2] == 0x4007 && words[1] == 0)
+            .is_some_and(|words| words.word(2) == 0x4007 && words.word(1) == 0)
     );
     assert!(rt; dump.words(5).is_none());
     Ok(())

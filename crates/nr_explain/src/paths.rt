@@ -1,14 +1,13 @@
 //! Ways through the tables of a dump.
 
 ghost use Rattle.std.specs.Prelude.{◌≡◌, ◌≤◌, ◌<◌, ◌↔◌, [], IfOk, IsTrue, MatchOption, length};
-ghost use Rattle.vs_types.specs.declared.frame.TheConstants.{FRAME_WORDS};
 ghost use Rattle.vs_types.specs.Depth.{levels};
 ghost use Rattle.nr_explain.specs.inside.Ways.{GoesNowhere, GoesOnTo, HasTwoWays, IsAnotherWay, IsMet, IsReservedAt, IsSearched};
 ghost use Rattle.nr_explain.specs.Facts.{HasReservedWord};
 
 use crate::evidence::Step;
 use std::alloc::Global;
-use vs_types::{Depth, Entry, FRAME_WORDS, Meaning, Memory};
+use vs_types::{Depth, Entry, Meaning, Memory};
 use vs_walk::{Dump, Frames};
 
 /// What is looked for in the tables of a dump.
@@ -22,14 +21,6 @@ pub(crate) struct Target {
     pub(crate) other: Option<Vec<Step>>,
 }
 
-/// The words of a table, 512.
-fn table_words(words: &[u64; FRAME_WORDS]) -> &[u64]
-    ensures is { result.now ≡ words.now }
-    ensures whole { length result.now ≡ FRAME_WORDS }
-{
-    words
-}
-
 /// Whether the word of a frame at an index has a reserved bit set, as an entry of a level.
 fn is_reserved(dump: &Dump, level: u8, frame: u64, index: u16) -> bool
     requires some_level { 1 ≤ level }
@@ -39,12 +30,11 @@ fn is_reserved(dump: &Dump, level: u8, frame: u64, index: u16) -> bool
     let Some(words) = dump.words(frame) else {
         return false;
     };
-    let words = table_words(words);
     if index as usize >= words.len() {
         return false;
     }
     matches!(
-        Entry::new(words[index as usize]).read(level),
+        Entry::new(words.word(index as usize)).read(level),
         Meaning::Reserved
     )
 }
@@ -88,12 +78,11 @@ fn go_on(
     if number == target.frame && is_met(dump, target, level, way) {
         return Ok(true);
     }
-    let Some(frame) = dump.words(number) else {
+    let Some(words) = dump.words(number) else {
         return Ok(false);
     };
-    let words = table_words(frame);
     for index in 0..words.len() {
-        let word = words[index];
+        let word = words.word(index);
         if let Meaning::Table(next, _) = Entry::new(word).read(level) {
             way.push(Step {
                 level,
@@ -166,7 +155,7 @@ pub(crate) fn entry_at(dump: &Dump, level: u8, frame: u64, index: u16) -> Step
             level,
             frame,
             index,
-            word: words[index as usize],
+            word: words.word(index as usize),
         },
         None => unreachable!(),
     }

@@ -1,10 +1,9 @@
 -- The frames of a dump by index, and their spellings.
 use Rattle.std.proofs.Common.{◌≡◌, ℕ, ◌+◌, ◌<◌, ◌≤◌, List, [], ◌∷◌, ◌++◌, length, take, get_or, Option, Some, None, refl, sym, ap, ◌∙◌, arith}
-use Rattle.std.specs.Prelude.{slice_index, IsSome, option_copied}
+use Rattle.std.specs.Prelude.{slice_index, IsSome}
 use Rattle.std.specs.FinMap as finite
 use Rattle.std.specs.List.{flat_map}
 use Rattle.std.proofs.lemmas.List.{get_or-map, flat_map_more, take_more, take_all}
-use denote.Bor.{Bor}
 use Rattle.vs_walk.specs.Dump.{Image, IsDump}
 use Rattle.vs_walk.specs.Memory.{Memory}
 use Rattle.vs_walk.proofs.Dumps.{find_at}
@@ -33,13 +32,13 @@ is_held image k number parts lt is =
 abbrev pub frame : ℕ × List ℕ → List ℕ
 frame held = frame_number held.0 ++ frame_words held.1
 
-some : (found : Option (Bor (List ℕ))) (words : List ℕ) → option_copied found ≡ Some words → IsSome found
+some : (found : Option (List ℕ)) (words : List ℕ) → found ≡ Some words → IsSome found
 some None words e = absurd cc
 some (Some held) words e = refl
 
-pub is_some : (image : Image) (k number : ℕ) (found : Option (Bor (List ℕ))) → IsDump image → k < finite.len image.frames
+pub is_some : (image : Image) (k number : ℕ) (found : Option (List ℕ)) → IsDump image → k < finite.len image.frames
     → number ≡ slice_index (finite.keys image.frames) k
-    → option_copied found ≡ finite.get image.frames number → IsSome found
+    → found ≡ finite.get image.frames number → IsSome found
 is_some image k number found parts lt is e = some found (frame_at image.frames k).1 (e ∙ is_held image k number parts lt is)
 
 -- one frame more

@@ -155,7 +155,7 @@ fn word<S: FrameStore>(rt: &impl Abort, space: &Space<S>, path: &[u16]) -> u64 {
     let mut last = 0;
     for index in path {
         let words = space.words(number).expect(rt, "a frame is missing");
-        last = words[usize::from(*index % 512)];
+        last = words.word(usize::from(*index % 512));
         number = (last >> 12) % (1 << 40);
     }
     last

@@ -24,7 +24,7 @@ use vs_arena::{FRAME_WORDS, FrameStore};
 use vs_types::{
     Access, Action, Answer, Depth, Entry, Meaning, Mode, Op, Page, Rights, Size, index_at,
 };
-use vs_walk::Frames;
+use vs_walk::{FrameWords, Frames};
 
 /// There is no frame for the root: the store has none.
 #[derive(Clone, Copy, Debug, PartialEq, Eq)]
@@ -67,8 +67,8 @@ impl<S: FrameStore> Model for Space<S> {
 impl<S: FrameStore> Frames for Space<S> {
     ghost memory = { λ s. s.memory };
 
-    fn words(&self, number: u64) -> Option<&[u64; FRAME_WORDS]> {
-        self.tables.words(number)
+    fn words(&self, number: u64) -> Option<FrameWords<'_>> {
+        Some(FrameWords::whole(self.tables.words(number)?))
     }
 }
 

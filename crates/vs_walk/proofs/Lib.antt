@@ -1,4 +1,5 @@
 pub mod Dumps
+pub mod Spread
 pub mod Kept
 pub mod Walks
 pub mod Gathered

@@ -1,29 +1,43 @@
-ghost use Rattle.std.specs.Prelude.{◌≡◌, ◌+◌, ◌<◌, ◌≤◌, ◌^◌, [], ◌∷◌, ◌++◌, length, All, IfOk, OnOk, OnErr, slice_index};
+ghost use Rattle.std.specs.Prelude.{◌≡◌, ◌+◌, ◌<◌, ◌≤◌, ◌^◌, [], ◌∷◌, ◌++◌, length, replicate, All, IfOk, OnOk, OnErr, slice_index};
 ghost use Rattle.std.specs.FinMap as finite;
+ghost use Rattle.std.specs.Vec.{vec_len, vec_capacity};
 ghost use Rattle.vs_types.specs.declared.frame.TheConstants.{FRAME_WORDS};
 ghost use Rattle.vs_types.specs.declared.limits.TheConstants.{TABLES};
-ghost use Rattle.vs_types.specs.Frame.{IsFrame};
 ghost use Rattle.vs_walk.specs.Dump.{IsDump};
 
+use crate::frame_words::FrameWords;
 use crate::frames::Frames;
 use std::alloc::Global;
 use std::marker::Model;
 use vs_types::{FRAME_WORDS, Memory};
 
-/// That words of this type are a frame's, as many and of 64 bits each. It does nothing: a call that lends the words tells it.
-fn are_whole(words: &[u64; FRAME_WORDS])
-    ensures { IsFrame words.now }
+/// That words of this type are below 2^64. It does nothing: a call that reads the words tells it.
+fn are_words(words: &[u64])
+    ensures { All (λ word. word < 2 ^ 64) words.now }
 {
-    let _lent = words.iter();
+    let _read = words.iter();
 }
 
-/// The page table of a replica as it was after some entries of the log. It keeps its frames by rising number, the numbers
-/// in one list and the words of all frames in another.
+/// Where the words of a frame lie in the list of a dump. All before these and all behind are 0.
+#[derive(Clone, Copy, Debug)]
+struct Span {
+    /// The index of the first that is kept.
+    start: usize,
+    /// How many words come before it, 0 to 512.
+    before: usize,
+    /// How many are kept, 0 to 512.
+    len: usize,
+}
+
+/// The page table of a replica as it was after some entries of the log. It keeps its frames by rising number: the numbers
+/// in one list, and the words of all frames in another, without the zeros with which a frame that came word by word begins
+/// and ends.
 #[derive(Debug, Drop)]
 pub struct Dump {
     applied: u32,
     root: u64,
     numbers: Vec<u64>,
+    spans: Vec<Span>,
     words: Vec<u64>,
 }
 
@@ -35,9 +49,9 @@ impl Model for Dump {
 
     ghost coded = { image_code };
 
-    ghost view = { λ d. kept d.applied d.root d.numbers.items d.words.items };
+    ghost view = { λ d. kept d.applied d.root d.numbers.items d.spans.items d.words.items };
 
-    ghost invariant = { λ d. AreKept d.applied d.root d.numbers.items d.words.items };
+    ghost invariant = { λ d. AreKept d.applied d.root d.numbers.items d.spans.items d.words.items };
 }
 
 impl Dump {
@@ -52,6 +66,7 @@ impl Dump {
             applied,
             root,
             numbers: Vec::new(alloc),
+            spans: Vec::new(alloc),
             words: Vec::new(alloc),
         }
     }
@@ -74,14 +89,38 @@ impl Dump {
         ensures count { OnOk result (finite.len self.new.frames ≡ finite.len self.old.frames + 1) }
         ensures err { OnErr result (self.new ≡ self.old) }
     {
-        are_whole(words);
+        self.add(number, &FrameWords::whole(words))
+    }
+
+    /// As `push`.
+    pub(crate) fn add(&mut self, number: u64, words: &FrameWords<'_>) -> Result<(), Memory>
+        requires above { All (λ held. held < number) (finite.keys self.old.frames) }
+        requires in_range { number < 2 ^ 40 }
+        requires room { finite.len self.old.frames < TABLES }
+        ensures ok { OnOk result
+            (self.new
+            ≡ record self.old { frames = finite.insert self.old.frames number words.now }) }
+        ensures numbers { OnOk result
+            (finite.keys self.new.frames ≡ finite.keys self.old.frames ++ number ∷ []) }
+        ensures count { OnOk result (finite.len self.new.frames ≡ finite.len self.old.frames + 1) }
+        ensures err { OnErr result (self.new ≡ self.old) }
+    {
+        let (before, some) = words.parts();
+        are_words(some);
+        let span = Span {
+            start: self.words.len(),
+            before,
+            len: some.len(),
+        };
         self.numbers.reserve(1)?;
-        self.words.extend_from_slice(words)?;
-        self.numbers.push(number)?;
+        self.spans.reserve(1)?;
+        self.words.extend_from_slice(some)?;
+        self.numbers.push_reserved(number);
+        self.spans.push_reserved(span);
         Ok(())
     }
 
-    /// Makes room for exactly so many more frames, where it has no room for one. It takes memory for them: 4,104 bytes
+    /// Makes room for exactly so many more frames, where it has no room for one. It takes memory for them: 4,128 bytes
     /// for each.
     ///
     /// # Errors
@@ -94,6 +133,7 @@ impl Dump {
             self.words
                 .reserve_exact(frames.saturating_mul(FRAME_WORDS))?;
             self.numbers.reserve_exact(frames)?;
+            self.spans.reserve_exact(frames)?;
         }
         Ok(())
     }
@@ -116,16 +156,23 @@ impl Dump {
             applied,
             root,
             mut numbers,
+            mut spans,
             mut words,
         } = self;
         numbers.reserve(1)?;
+        spans.reserve(1)?;
         words.reserve(FRAME_WORDS)?;
+        let start = words.len();
         Ok(OpenDump {
             applied,
             root,
             numbers,
+            spans,
             words,
             number,
+            start,
+            before: 0,
+            zeros: 0,
         })
     }
 
@@ -163,42 +210,64 @@ impl Dump {
 impl Frames for Dump {
     ghost memory = { λ d. d.frames };
 
-    fn words(&self, number: u64) -> Option<&[u64; FRAME_WORDS]> {
-        let (frames, _) = self.words.as_chunks::<FRAME_WORDS>();
+    fn words(&self, number: u64) -> Option<FrameWords<'_>> {
         match self.numbers.binary_search(&number) {
-            Ok(k) => Some(&frames[k]),
+            Ok(k) => {
+                let span = self.spans[k];
+                let some = &self.words[span.start..span.start + span.len];
+                Some(FrameWords::among_zeros(span.before, some))
+            }
             Err(_) => None,
         }
     }
 }
 
+/// Adds so many zeros and a word. It takes no memory.
+fn push_after_zeros(words: &mut Vec<u64>, zeros: usize, word: u64)
+    requires { vec_len words.old + zeros < vec_capacity words.old }
+    ensures items { words.new.items ≡ words.old.items ++ (replicate zeros 0 ++ word ∷ []) }
+    ensures capacity { vec_capacity words.new ≡ vec_capacity words.old }
+{
+    for k in 0..zeros {
+        words.push_reserved(0);
+    }
+    words.push_reserved(word);
+}
+
 /// A dump to which one frame more is coming, word by word. The words are written where they stay, after those of the
-/// frames that it has.
+/// frames that it has: from the first that is not 0 to the last one.
 #[derive(Debug, Drop)]
 pub struct OpenDump {
     applied: u32,
     root: u64,
     numbers: Vec<u64>,
+    spans: Vec<Span>,
     words: Vec<u64>,
     number: u64,
+    /// Where its words begin in the list.
+    start: usize,
+    /// How many zeros came before these.
+    before: usize,
+    /// How many zeros have come after these.
+    zeros: usize,
 }
 
 impl Model for OpenDump {
-    ghost use Rattle.std.specs.Prelude.{◌*◌, drop, length};
+    ghost use Rattle.std.specs.Prelude.{drop};
     ghost use Rattle.vs_walk.specs.Dump.{OpenImage, open_image_code};
-    ghost use Rattle.vs_walk.specs.inside.Kept.{AreOpen, kept};
+    ghost use Rattle.vs_walk.specs.inside.Kept.{AreOpen, kept, among};
 
     ghost Value = { OpenImage };
 
     ghost coded = { open_image_code };
 
     ghost view = { λ d. record {
-      dump = kept d.applied d.root d.numbers.items d.words.items;
+      dump = kept d.applied d.root d.numbers.items d.spans.items d.words.items;
       number = d.number;
-      coming = drop (512 * length d.numbers.items) d.words.items;
+      coming = among d.before (drop d.start d.words.items) d.zeros;
     } };
 
-    ghost invariant = { λ d. AreOpen d.applied d.root d.numbers d.words d.number };
+    ghost invariant = { λ d. AreOpen d.applied d.root d.numbers d.spans d.words d.number d.start d.before d.zeros };
 }
 
 impl OpenDump {
@@ -214,7 +283,7 @@ impl OpenDump {
         ensures reads { result ≡ length self.now.coming }
         ensures few { result ≤ FRAME_WORDS }
     {
-        self.words.len() - self.numbers.len() * FRAME_WORDS
+        self.before + (self.words.len() - self.start) + self.zeros
     }
 
     /// Adds the next word of the frame. It takes no memory.
@@ -222,7 +291,18 @@ impl OpenDump {
         requires { length self.old.coming < FRAME_WORDS }
         ensures { self.new ≡ record self.old { coming = self.old.coming ++ word ∷ [] } }
     {
-        self.words.push_reserved(word);
+        if word == 0 {
+            self.zeros += 1;
+            return;
+        }
+        if self.words.len() == self.start {
+            self.before += self.zeros;
+            self.zeros = 0;
+            self.words.push_reserved(word);
+            return;
+        }
+        push_after_zeros(&mut self.words, self.zeros, word);
+        self.zeros = 0;
     }
 
     /// The dump with the frame, whose words have all come. It takes no memory and copies no word.
@@ -238,14 +318,24 @@ impl OpenDump {
             applied,
             root,
             mut numbers,
+            mut spans,
             words,
             number,
+            start,
+            before,
+            zeros: _,
         } = self;
         numbers.push_reserved(number);
+        spans.push_reserved(Span {
+            start,
+            before,
+            len: words.len() - start,
+        });
         Dump {
             applied,
             root,
             numbers,
+            spans,
             words,
         }
     }

@@ -1,8 +1,8 @@
-ghost use Rattle.std.specs.Prelude.{◌≡◌, option_copied};
+ghost use Rattle.std.specs.Prelude.{◌≡◌};
 ghost use Rattle.std.specs.FinMap as finite;
 ghost use Rattle.vs_walk.specs.Memory.{Memory};
 
-use vs_types::FRAME_WORDS;
+use crate::frame_words::FrameWords;
 
 /// Some frames, by number.
 pub trait Frames {
@@ -10,6 +10,6 @@ pub trait Frames {
     ghost memory: { Self → Memory };
 
     /// The words of a frame, or `None` where there is no such frame. It takes no memory.
-    fn words(&self, number: u64) -> Option<&[u64; FRAME_WORDS]>
-        ensures { option_copied result ≡ finite.get (memory self.now) number };
+    fn words(&self, number: u64) -> Option<FrameWords<'_>>
+        ensures { result ≡ finite.get (memory self.now) number };
 }

@@ -65,7 +65,7 @@ impl Dump {
             let Some(words) = frames.words(*number) else {
                 unreachable!();
             };
-            dump.push(*number, words)?;
+            dump.add(*number, &words)?;
         }
         Ok(dump)
     }

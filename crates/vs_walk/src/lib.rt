@@ -5,6 +5,7 @@
 
 mod dump;
 pub mod examples;
+mod frame_words;
 mod frames;
 mod gathering;
 pub mod laws;
@@ -16,6 +17,7 @@ mod walk;
 mod zeros;
 
 pub use dump::{Dump, OpenDump};
+pub use frame_words::FrameWords;
 pub use frames::Frames;
 pub use listing::leaves;
 pub use reached::Reached;

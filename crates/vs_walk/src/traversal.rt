@@ -7,12 +7,11 @@ ghost use Rattle.vs_types.specs.Page.{intersection};
 ghost use Rattle.vs_types.specs.Refusal.{IfRefused};
 ghost use Rattle.vs_walk.specs.Traversal.{canonical_from, traversal, table_visits, reached, found, walk_fault};
 ghost use Rattle.vs_walk.specs.Reached.{AreJust};
-ghost use Rattle.vs_walk.specs.inside.Traversed.{AreZeros, Fits, GoesOn, Stops, TakesFound, table_at};
+ghost use Rattle.vs_walk.specs.inside.Traversed.{Fits, GoesOn, Stops, TakesFound, table_at};
 
 use crate::frames::Frames;
 use crate::reached::{Marks, Reached};
 use crate::walk::WalkFault;
-use crate::zeros::are_zero;
 use std::alloc::Global;
 use vs_types::{Depth, Entry, FRAME_WORDS, Fail, Meaning, Memory, Page, Rights, Size};
 
@@ -97,33 +96,6 @@ impl TablePosition {
     }
 }
 
-/// The words of a table, 512.
-fn table_words(words: &[u64; FRAME_WORDS]) -> &[u64]
-    ensures is { result.now ≡ words.now }
-    ensures whole { length result.now ≡ FRAME_WORDS }
-{
-    words
-}
-
-/// The index of the first word from `start` on that is not 0, or that of the end. It passes zeros eight at a time.
-#[inline]
-fn next_word(words: &[u64], start: usize) -> usize
-    requires { start ≤ length words.now }
-    ensures behind { start ≤ result }
-    ensures within { result ≤ length words.now }
-    ensures zeros { AreZeros words.now start result }
-{
-    let mut index = start;
-    while index < words.len() && words[index] == 0 {
-        index += if index + 8 <= words.len() && are_zero(words, index) {
-            8
-        } else {
-            1
-        };
-    }
-    index
-}
-
 /// Goes through a table and all that it leads to.
 fn go_through<F: Frames, V: PageVisitor>(
     frames: &F,
@@ -142,16 +114,15 @@ fn go_through<F: Frames, V: PageVisitor>(
         (Stops (F.memory frames.now) marks.old
         (table_visits depth (F.memory frames.now) place.level (table_at place)))) }
 {
-    let Some(frame) = frames.words(place.number) else {
+    let Some(words) = frames.words(place.number) else {
         return Err(Fail::Refused(WalkFault::Missing(place.number)));
     };
     if !marks.add(place.number)? {
         return Err(Fail::Refused(WalkFault::Shared(place.number)));
     }
-    let words = table_words(frame);
-    let mut index = next_word(words, 0);
-    while index < words.len() {
-        match Entry::new(words[index]).read(place.level) {
+    let mut index = words.next_nonzero(0);
+    while index < FRAME_WORDS {
+        match Entry::new(words.word(index)).read(place.level) {
             Meaning::Absent => {}
             Meaning::Reserved => {
                 return Err(Fail::Refused(WalkFault::Reserved(place.number, index as u16)));
@@ -162,7 +133,7 @@ fn go_through<F: Frames, V: PageVisitor>(
                 go_through(frames, depth, below, marks, visitor)?;
             }
         }
-        index = next_word(words, index + 1);
+        index = words.next_nonzero(index + 1);
     }
     Ok(())
 }

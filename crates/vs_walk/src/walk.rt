@@ -42,7 +42,7 @@ pub fn translate<F: Frames>(frames: &F, root: u64, depth: Depth, address: u64) -
         let Some(words) = frames.words(number) else {
             return Walk::Missing;
         };
-        match Entry::new(words[index_at(level, address)]).read(level) {
+        match Entry::new(words.word(index_at(level, address))).read(level) {
             Meaning::Absent => return Walk::NotMapped,
             Meaning::Reserved => return Walk::Reserved,
             Meaning::Leaf(phys, own) => {

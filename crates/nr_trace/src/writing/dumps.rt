@@ -6,8 +6,8 @@ ghost use Rattle.nr_trace.specs.Spelling.{dump_head, frame_number, frame_words, 
 use crate::fields::DumpHead;
 use crate::writing::lists::put_words;
 use crate::writing::numbers::{put_u32, put_u64};
-use vs_types::{FRAME_WORDS, Memory};
-use vs_walk::{Dump, Frames};
+use vs_types::Memory;
+use vs_walk::{Dump, FrameWords, Frames};
 
 fn put_dump_head(out: &mut Vec<u8>, head: DumpHead) -> Result<(), Memory>
     ensures { OnOk result (out.new.items ≡ out.old.items ++ dump_head head) }
@@ -18,7 +18,7 @@ fn put_dump_head(out: &mut Vec<u8>, head: DumpHead) -> Result<(), Memory>
     Ok(())
 }
 
-fn put_frame(out: &mut Vec<u8>, number: u64, words: &[u64; FRAME_WORDS]) -> Result<(), Memory>
+fn put_frame(out: &mut Vec<u8>, number: u64, words: &FrameWords<'_>) -> Result<(), Memory>
     ensures { OnOk result
         (out.new.items ≡ out.old.items ++ (frame_number number ++ frame_words words.now)) }
 {
@@ -40,7 +40,7 @@ fn put_dump(out: &mut Vec<u8>, held: &Dump) -> Result<(), Memory>
     for k in 0..frames {
         let number = held.number(k);
         let words = held.words(number).unwrap();
-        put_frame(out, number, words)?;
+        put_frame(out, number, &words)?;
     }
     Ok(())
 }

@@ -6,7 +6,8 @@ ghost use Rattle.nr_trace.specs.Spelling.{log_word, event, frame_words};
 use crate::recorded::Recorded;
 use crate::writing::events::put_event;
 use crate::writing::numbers::{put_u32, put_u64};
-use vs_types::{FRAME_WORDS, Memory};
+use vs_types::Memory;
+use vs_walk::FrameWords;
 
 pub(crate) fn put_log(out: &mut Vec<u8>, log: &[u32]) -> Result<(), Memory>
     ensures { OnOk result (out.new.items ≡ out.old.items ++ flat_map log_word log.now) }
@@ -26,11 +27,11 @@ pub(crate) fn put_events(out: &mut Vec<u8>, events: &[Recorded]) -> Result<(), M
     Ok(())
 }
 
-pub(crate) fn put_words(out: &mut Vec<u8>, words: &[u64; FRAME_WORDS]) -> Result<(), Memory>
+pub(crate) fn put_words(out: &mut Vec<u8>, words: &FrameWords<'_>) -> Result<(), Memory>
     ensures { OnOk result (out.new.items ≡ out.old.items ++ frame_words words.now) }
 {
-    for word in words {
-        put_u64(out, *word)?;
+    for index in 0..words.len() {
+        put_u64(out, words.word(index))?;
     }
     Ok(())
 }

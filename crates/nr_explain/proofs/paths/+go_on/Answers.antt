@@ -31,10 +31,10 @@ loop-index-preserved t c =
     let level = c.args.level in
     let number = c.args.number in
     let begun = c.args.way.now.items in
-    let words = c.table_words-words.result.now in
+    let words = c.in-Some.words in
     let index = c.loop-index.index in
     let old = c.loop-index.invariant in
-    let read : meaning level (get_or words index 0) ≡ c.read.result = ap (meaning level) (sym c.new.ensures) ∙ sym c.read.ensures in
+    let read : meaning level (get_or words index 0) ≡ c.read.result = ap (meaning level) (sym (c.new.ensures ∙ c.word-word.ensures)) ∙ sym c.read.ensures in
     elim c.match-read.branch [
       | in-Table+in_ok-push+in_ok-go_on+else-branch w ↦
           let step : Step = entry_of level number words index in
@@ -65,13 +65,13 @@ returns t c =
     let target = c.args.target.now in
     let level = c.args.level in
     let begun = c.args.way.now.items in
-    let words = c.table_words-words.result.now in
+    let words = c.in-Some.words in
     let none : IsNotHere memory target level c.args.number begun = elim c.else-number-target.branch [
       | else-number-target-via-then-number-target+else-is_met w ↦ λ here met. iff_false w.is_met.ensures w.if-is_met.false
           (subst (λ (l : List Step). IsMet memory target level l) (sym w.deref.ensures.value) met)
       | else-number-target-via-else-number-target w ↦ λ here met. w.if-number-target.false here
     ] in
-    let some : finite.get memory c.args.number ≡ Some words = sym c.in-Some.ensures ∙ ap (λ ws. Some ws) (sym c.table_words-words.ensures.is) in (
+    let some : finite.get memory c.args.number ≡ Some words = sym c.in-Some.ensures in (
       c.loop-index.invariant.way,
       nowhere_from_table memory target level c.args.number begun words some none
           (λ index lt. c.loop-index.invariant.passed index (omega arith)),

@@ -6,11 +6,10 @@ use Rattle.nr_explain.proofs.paths.is_reserved.Goals as goal
 
 pub returns-then-index-words : goal.returns-then-index-words
 returns-then-index-words c =
-    let words = c.table_words-words.result.now in
-    let some : finite.get c.args.dump.now.frames c.args.frame ≡ Some words =
-    sym c.in-Some.ensures ∙ ap (λ ws. Some ws) (sym c.table_words-words.ensures.is) in (
+    let words = c.in-Some.words in
+    let some : finite.get c.args.dump.now.frames c.args.frame ≡ Some words = sym c.in-Some.ensures in (
       λ e. absurd (false≢true e),
       λ is.
           let same = same_Some is.words words (sym is.there ∙ some) in
-          absurd (omega (arith, ap length same, is.within, c.if-index-words.true)),
+          absurd (omega (arith, ap length same, is.within, c.if-index-words.true, c.len.ensures.reads)),
     )

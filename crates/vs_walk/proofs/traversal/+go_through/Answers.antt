@@ -22,7 +22,7 @@ returns-in_default-clause-stops g t c =
 pub returns-then-not-branch-clause-stops : goal.returns-then-not-branch-clause-stops
 returns-then-not-branch-clause-stops g t c =
     let memory = g.F.Frames.memory c.args.frames.now in
-    let words = c.in-Some.frame.now in
+    let words = c.in-Some.words in
     let some : finite.get memory c.args.place.number ≡ Some words = sym c.in-Some.ensures in
     let held : Contains c.args.marks.now c.args.place.number = c.in_ok-add.ensures.new.0 (rw c.if-not-branch.true refl) in
     subst (λ ms. Stops memory c.args.marks.now ms (Shared c.args.place.number))
@@ -33,10 +33,10 @@ returns-then-not-branch-clause-stops g t c =
 pub loop-index-init : goal.loop-index-init
 loop-index-init g t c =
     let memory = g.F.Frames.memory c.args.frames.now in
-    let words = c.table_words-words.result.now in
-    let some : finite.get memory c.args.place.number ≡ Some words = sym c.in-Some.ensures ∙ ap (λ ws. Some ws) (sym c.table_words-words.ensures.is) in
-    let passed = zeros_met c.args.depth memory c.args.place.level (table_at c.args.place) words 0 c.next_word-index.result c.next_word-index.ensures.behind
-    c.next_word-index.ensures.within c.next_word-index.ensures.zeros in
+    let words = c.in-Some.words in
+    let some : finite.get memory c.args.place.number ≡ Some words = sym c.in-Some.ensures in
+    let passed = zeros_met c.args.depth memory c.args.place.level (table_at c.args.place) words 0 c.next_nonzero-index.result c.next_nonzero-index.ensures.behind
+    (omega (arith, c.next_nonzero-index.ensures.within, c.next_nonzero-index.ensures.whole)) c.next_nonzero-index.ensures.zeros in
     record {
       goes_on = subst (GoesOn memory c.args.marks.now c.add.new.self) (sym passed)
           (new_on memory c.args.marks.now c.add.new.self c.in_ok-add.field-0 c.args.place.number words some c.in_ok-add.ensures.new c.if-not-branch.false
@@ -48,14 +48,14 @@ loop-index-init g t c =
 pub returns-in-Reserved-clause-stops : goal.returns-in-Reserved-clause-stops
 returns-in-Reserved-clause-stops g t c =
     let memory = g.F.Frames.memory c.args.frames.now in
-    let words = c.table_words-words.result.now in
+    let words = c.in-Some.words in
     let table = table_at c.args.place in
-    let some : finite.get memory c.args.place.number ≡ Some words = sym c.in-Some.ensures ∙ ap (λ ws. Some ws) (sym c.table_words-words.ensures.is) in
-    let is : meaning c.args.place.level (get_or words c.loop-index.index 0) ≡ entry.Reserved = ap (meaning c.args.place.level) (sym c.new.ensures)
+    let some : finite.get memory c.args.place.number ≡ Some words = sym c.in-Some.ensures in
+    let is : meaning c.args.place.level (get_or words c.loop-index.index 0) ≡ entry.Reserved = ap (meaning c.args.place.level) (sym (c.new.ensures ∙ c.word.ensures))
     ∙ sym c.read.ensures ∙ c.in-Reserved.is in
     stops_at_word c.args.depth memory c.args.place.level table words c.loop-index.index c.args.marks.now c.loop-index.marks _
     (Reserved c.args.place.number c.loop-index.index)
-    c.requires.lowest some c.loop-index-test.true
+    c.requires.lowest some (omega (arith, c.loop-index-test.true, c.next_nonzero-index.ensures.whole))
     (means c.args.depth memory c.args.place.level table c.loop-index.index (get_or words c.loop-index.index 0) entry.Reserved is)
     c.loop-index.invariant.goes_on
     (meets_stops memory c.loop-index.marks c.args.place.number c.loop-index.index)
@@ -71,32 +71,32 @@ pub returns-in_err-go_through-in-Table-clause-stops :
     goal.returns-in_err-go_through-in-Table-clause-stops
 returns-in_err-go_through-in-Table-clause-stops g t c =
     let memory = g.F.Frames.memory c.args.frames.now in
-    let words = c.table_words-words.result.now in
+    let words = c.in-Some.words in
     let table = table_at c.args.place in
     let index = c.loop-index.index in
-    let some : finite.get memory c.args.place.number ≡ Some words = sym c.in-Some.ensures ∙ ap (λ ws. Some ws) (sym c.table_words-words.ensures.is) in
+    let some : finite.get memory c.args.place.number ≡ Some words = sym c.in-Some.ensures in
     let p = err_from_is_err_and c.from_residual-in_err-go_through-in-Table.result c.from_residual-in_err-go_through-in-Table.ensures.1 in
     rw (p.1, p.2)
     (refused_at c.in_err-go_through-in-Table.field-0.0 (λ fault stops.
     stops_at_word c.args.depth memory c.args.place.level table words index c.args.marks.now c.loop-index.marks
     (table_visits c.args.depth memory c.below-below.result.level (table_at c.below-below.result)) fault
-    c.requires.lowest some c.loop-index-test.true
+    c.requires.lowest some (omega (arith, c.loop-index-test.true, c.next_nonzero-index.ensures.whole))
     (leads_below c.args.depth memory c.args.place c.below-below.result index (get_or words index 0) c.in-Table.number c.in-Table.own
-    (ap (meaning c.args.place.level) (sym c.new.ensures) ∙ sym c.in-Table.ensures) c.below-below.ensures.level c.below-below.ensures.stands)
+    (ap (meaning c.args.place.level) (sym (c.new.ensures ∙ c.word.ensures)) ∙ sym c.in-Table.ensures) c.below-below.ensures.level c.below-below.ensures.stands)
     c.loop-index.invariant.goes_on stops)
     c.in_err-go_through-in-Table.ensures.stops)
 
 pub loop-index-preserved : goal.loop-index-preserved
 loop-index-preserved g t c =
     let memory = g.F.Frames.memory c.args.frames.now in
-    let words = c.table_words-words.result.now in
+    let words = c.in-Some.words in
     let table = table_at c.args.place in
     let index = c.loop-index.index in
-    let within : index < length words = c.loop-index-test.true in
-    let read : meaning c.args.place.level (get_or words index 0) ≡ c.read.result = ap (meaning c.args.place.level) (sym c.new.ensures) ∙ sym c.read.ensures in
-    let next = c.next_word-index-in-loop-index.result in
-    let passed = zeros_met c.args.depth memory c.args.place.level table words (index + 1) next c.next_word-index-in-loop-index.ensures.behind
-    c.next_word-index-in-loop-index.ensures.within c.next_word-index-in-loop-index.ensures.zeros in
+    let within : index < length words = omega (arith, c.loop-index-test.true, c.next_nonzero-index.ensures.whole) in
+    let read : meaning c.args.place.level (get_or words index 0) ≡ c.read.result = ap (meaning c.args.place.level) (sym (c.new.ensures ∙ c.word.ensures)) ∙ sym c.read.ensures in
+    let next = c.next_nonzero-index-in-loop-index.result in
+    let passed = zeros_met c.args.depth memory c.args.place.level table words (index + 1) next c.next_nonzero-index-in-loop-index.ensures.behind
+    (omega (arith, c.next_nonzero-index-in-loop-index.ensures.within, c.next_nonzero-index.ensures.whole)) c.next_nonzero-index-in-loop-index.ensures.zeros in
     let goes = goes_to_next c.args.depth memory c.args.place.level table words index next c.args.marks.now c.loop-index.marks in
     let takes = takes_to_next g.V.PageVisitor.HasTaken c.args.depth memory c.args.place.level table words index next c.args.visitor.now c.loop-index.visitor in
     elim c.match-read.branch [
@@ -132,17 +132,17 @@ loop-index-preserved g t c =
 pub returns-clause-pages : goal.returns-clause-pages
 returns-clause-pages g t c =
     let memory = g.F.Frames.memory c.args.frames.now in
-    let words = c.table_words-words.result.now in
-    let some : finite.get memory c.args.place.number ≡ Some words = sym c.in-Some.ensures ∙ ap (λ ws. Some ws) (sym c.table_words-words.ensures.is) in
+    let words = c.in-Some.words in
+    let some : finite.get memory c.args.place.number ≡ Some words = sym c.in-Some.ensures in
     subst (TakesFound (g.V.PageVisitor.HasTaken c.args.visitor.now) (g.V.PageVisitor.HasTaken c.loop-index.visitor))
-    (sym (all_met c.args.depth memory c.args.place.level (table_at c.args.place) words c.loop-index.index c.requires.lowest some c.loop-index-test.false))
+    (sym (all_met c.args.depth memory c.args.place.level (table_at c.args.place) words c.loop-index.index c.requires.lowest some (omega (arith, c.loop-index-test.false, c.next_nonzero-index.ensures.whole))))
     c.loop-index.invariant.takes
 
 pub returns-clause-goes_on : goal.returns-clause-goes_on
 returns-clause-goes_on g t c =
     let memory = g.F.Frames.memory c.args.frames.now in
-    let words = c.table_words-words.result.now in
-    let some : finite.get memory c.args.place.number ≡ Some words = sym c.in-Some.ensures ∙ ap (λ ws. Some ws) (sym c.table_words-words.ensures.is) in
+    let words = c.in-Some.words in
+    let some : finite.get memory c.args.place.number ≡ Some words = sym c.in-Some.ensures in
     subst (GoesOn memory c.args.marks.now c.loop-index.marks)
-    (sym (all_met c.args.depth memory c.args.place.level (table_at c.args.place) words c.loop-index.index c.requires.lowest some c.loop-index-test.false))
+    (sym (all_met c.args.depth memory c.args.place.level (table_at c.args.place) words c.loop-index.index c.requires.lowest some (omega (arith, c.loop-index-test.false, c.next_nonzero-index.ensures.whole))))
     c.loop-index.invariant.goes_on

@@ -1,4 +1,4 @@
-use Rattle.std.proofs.Common.{◌-◌, length}
+use Rattle.std.proofs.Common.{◌-◌}
 use Rattle.vs_walk.specs.inside.Traversed.{GoesOn, TakesFound, table_at}
 use Rattle.vs_walk.proofs.TraversalWords.{met_up_to}
 use Rattle.vs_walk.proofs.traversal.+go_through.Given as goal
@@ -15,4 +15,4 @@ invariant-loop-index g l = record {
 }
 
 abbrev pub decreases-loop-index : goal.decreases-loop-index
-decreases-loop-index g l = length l.words - l.index
+decreases-loop-index g l = 512 - l.index

@@ -1,4 +1,4 @@
-use Rattle.std.proofs.Common.{◌-◌, option_copied, sym, ap, ◌∙◌, arith}
+use Rattle.std.proofs.Common.{◌-◌, sym, ap, ◌∙◌, arith}
 use Rattle.vs_walk.specs.Walk.{walk_from, all_rights}
 use Rattle.vs_walk.proofs.Walks.{few_levels, entry_met, missing_at, walk_nowhere, offset_is}
 use Rattle.vs_walk.proofs.walk.translate.Goals as goal
@@ -11,18 +11,18 @@ loop-level-init g c = record {
 
 pub returns-in_default : goal.returns-in_default
 returns-in_default g c =
-    sym (c.loop-level.invariant.same ∙ missing_at _ _ _ _ _ c.loop-level-test.true (sym c.words.ensures ∙ ap option_copied c.in_default.is))
+    sym (c.loop-level.invariant.same ∙ missing_at _ _ _ _ _ c.loop-level-test.true (sym c.words.ensures ∙ c.in_default.is))
 
 pub returns-in-Absent : goal.returns-in-Absent
 returns-in-Absent g c =
     sym (c.loop-level.invariant.same
-    ∙ entry_met _ _ _ _ _ _ _ _ _ c.loop-level-test.true (sym c.words.ensures ∙ ap option_copied c.in-Some.is) c.index_at.ensures.is c.new.ensures
+    ∙ entry_met _ _ _ _ _ _ _ _ _ c.loop-level-test.true (sym c.words.ensures ∙ c.in-Some.is) c.index_at.ensures.is (c.new.ensures ∙ c.word.ensures)
     c.in-Absent.ensures)
 
 pub returns-in-Reserved : goal.returns-in-Reserved
 returns-in-Reserved g c =
     sym (c.loop-level.invariant.same
-    ∙ entry_met _ _ _ _ _ _ _ _ _ c.loop-level-test.true (sym c.words.ensures ∙ ap option_copied c.in-Some.is) c.index_at.ensures.is c.new.ensures
+    ∙ entry_met _ _ _ _ _ _ _ _ _ c.loop-level-test.true (sym c.words.ensures ∙ c.in-Some.is) c.index_at.ensures.is (c.new.ensures ∙ c.word.ensures)
     c.in-Reserved.ensures)
 
 pub returns-in-Leaf : goal.returns-in-Leaf
@@ -34,14 +34,14 @@ returns-in-Leaf g c =
       c.intersection.ensures,
     )
     (sym (c.loop-level.invariant.same
-    ∙ entry_met _ _ _ _ _ _ _ _ _ c.loop-level-test.true (sym c.words.ensures ∙ ap option_copied c.in-Some.is) c.index_at.ensures.is c.new.ensures
+    ∙ entry_met _ _ _ _ _ _ _ _ _ c.loop-level-test.true (sym c.words.ensures ∙ c.in-Some.is) c.index_at.ensures.is (c.new.ensures ∙ c.word.ensures)
     c.in-Leaf.ensures))
 
 pub loop-level-preserved : goal.loop-level-preserved
 loop-level-preserved g c = record {
   few = omega (arith, c.loop-level.invariant.few);
   same = c.loop-level.invariant.same
-      ∙ entry_met _ _ _ _ _ _ _ _ _ c.loop-level-test.true (sym c.words.ensures ∙ ap option_copied c.in-Some.is) c.index_at.ensures.is c.new.ensures
+      ∙ entry_met _ _ _ _ _ _ _ _ _ c.loop-level-test.true (sym c.words.ensures ∙ c.in-Some.is) c.index_at.ensures.is (c.new.ensures ∙ c.word.ensures)
       c.in-Table.ensures
       ∙ ap (λ rights. walk_from (g.F.Frames.memory c.args.frames.now) (c.loop-level.level - 1) c.in-Table.next rights c.args.address)
       (sym c.intersection-rights.ensures);

@@ -1,5 +1,4 @@
 use Rattle.std.proofs.Common.{sym, ap, ◌∙◌, arith}
-use Rattle.std.specs.Prelude.{option_copied}
 use Rattle.nr_trace.proofs.Framed.{is_some, frame_put, dump_put, few_fit}
 use Rattle.nr_trace.proofs.writing.dumps.put_dump.Goals as goal
 
@@ -13,9 +12,9 @@ unwrap-words-requires c =
 
 pub loop-k-preserved : goal.loop-k-preserved
 loop-k-preserved c =
-    frame_put c.args.held.now c.loop-k.k c.number-number.result c.unwrap-words.result.now _ c.loop-k.out.items _ c.count-frames.ensures.is_dump
+    frame_put c.args.held.now c.loop-k.k c.number-number.result c.unwrap-words.result _ c.loop-k.out.items _ c.count-frames.ensures.is_dump
     (omega (arith, c.loop-k-test.true, c.count-frames.ensures.reads)) c.number-number.ensures
-    (sym c.words.ensures ∙ ap option_copied c.unwrap-words.ensures) c.loop-k.invariant c.in_ok-put_frame.ensures
+    (sym c.words.ensures ∙ c.unwrap-words.ensures) c.loop-k.invariant c.in_ok-put_frame.ensures
 
 pub returns : goal.returns
 returns c =

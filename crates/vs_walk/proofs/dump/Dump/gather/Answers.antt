@@ -24,15 +24,15 @@ unreachable-requires g c =
     reached_held_at memory (get_or ks c.loop-number.number-index 0) ns (reached_held c.args.depth memory c.args.root c.in_ok-reached.ensures.faultless)
     ((just _).0 here) none
 
-pub push-requires-clause-above : goal.push-requires-clause-above
-push-requires-clause-above g c =
+pub add-requires-clause-above : goal.add-requires-clause-above
+add-requires-clause-above g c =
     let ks = c.as_slice-numbers.result.now in
     let rising : AllPairs (λ a b. a < b) ks = subst (AllPairs (λ a b. a < b)) (sym c.as_slice-numbers.ensures.is) c.as_slice-numbers.ensures.rising in
     subst (All (λ held. held < get_or ks c.loop-number.number-index 0)) (sym c.loop-number.invariant.numbers)
     (below_next ks c.loop-number.number-index rising c.loop-number-test.true)
 
-pub push-requires-clause-in_range : goal.push-requires-clause-in_range
-push-requires-clause-in_range g c =
+pub add-requires-clause-in_range : goal.add-requires-clause-in_range
+add-requires-clause-in_range g c =
     let memory = g.F.Frames.memory c.args.frames.now in
     let ns = reached (traversal c.args.depth memory c.args.root) in
     let ks = c.as_slice-numbers.result.now in
@@ -40,8 +40,8 @@ push-requires-clause-in_range g c =
     let here : Contains ks (get_or ks c.loop-number.number-index 0) = Contains-get_or ks c.loop-number.number-index 0 c.loop-number-test.true in
     All-contains (λ n. n < 2 ^ 40) ns (get_or ks c.loop-number.number-index 0) (c.requires.in_range c.in_ok-reached.ensures.faultless) ((just _).0 here)
 
-pub push-requires-clause-room : goal.push-requires-clause-room
-push-requires-clause-room g c =
+pub add-requires-clause-room : goal.add-requires-clause-room
+add-requires-clause-room g c =
     let memory = g.F.Frames.memory c.args.frames.now in
     let ns = reached (traversal c.args.depth memory c.args.root) in
     let ks = c.as_slice-numbers.result.now in
@@ -57,17 +57,17 @@ loop-number-preserved g c =
     let memory = g.F.Frames.memory c.args.frames.now in
     let ks = c.as_slice-numbers.result.now in
     let index = c.loop-number.number-index in
-    let there : finite.get memory (get_or ks index 0) ≡ Some c.in-Some.words.now = sym c.in-Some.ensures in
+    let there : finite.get memory (get_or ks index 0) ≡ Some c.in-Some.words = sym c.in-Some.ensures in
     let more : take (index + 1) ks ≡ take index ks ++ get_or ks index 0 ∷ [] = ap (λ n. take n ks) (add-one index)
     ∙ take-suc ks index 0 c.loop-number-test.true in
-    let pushed = c.in_ok-push.ensures.ok in
+    let pushed = c.in_ok-add.ensures.ok in
     record {
       applied = ap (λ (d : Image). d.applied) pushed ∙ c.loop-number.invariant.applied;
       root = ap (λ (d : Image). d.root) pushed ∙ c.loop-number.invariant.root;
-      numbers = c.in_ok-push.ensures.numbers ∙ ap (λ xs. xs ++ get_or ks index 0 ∷ []) c.loop-number.invariant.numbers ∙ sym more;
-      count = c.in_ok-push.ensures.count ∙ ap (λ n. n + 1) c.loop-number.invariant.count;
+      numbers = c.in_ok-add.ensures.numbers ∙ ap (λ xs. xs ++ get_or ks index 0 ∷ []) c.loop-number.invariant.numbers ∙ sym more;
+      count = c.in_ok-add.ensures.count ∙ ap (λ n. n + 1) c.loop-number.invariant.count;
       held = λ q in_more. ap (λ (d : Image). finite.get d.frames q) pushed
-          ∙ held_next memory c.loop-number.dump.frames ks index c.in-Some.words.now c.loop-number-test.true there c.loop-number.invariant.held q in_more;
+          ∙ held_next memory c.loop-number.dump.frames ks index c.in-Some.words c.loop-number-test.true there c.loop-number.invariant.held q in_more;
     }
 
 pub returns-clause-held : goal.returns-clause-held

@@ -1,36 +1,39 @@
-use Rattle.std.proofs.Common.{◌≡◌, ◌/◌, Some, [], Ok, Err, length, get_or, sym, ap, ◌∙◌, arith}
-use Rattle.std.specs.Simd.{first_chunks}
+use Rattle.std.proofs.Common.{◌≡◌, ℕ, ◌+◌, ◌-◌, ◌<◌, List, Some, [], Ok, Err, length, get_or, map, take, drop, sym, ap, ◌∙◌, arith}
+use Rattle.std.proofs.lemmas.List.{get_or-map}
 use Rattle.vs_walk.specs.Dump.{Image}
-use Rattle.vs_walk.specs.inside.Kept.{paired}
+use Rattle.vs_walk.specs.inside.Kept.{paired, spread, words_at}
 use Rattle.vs_walk.proofs.Dumps.{get_of, searched, IsStanding}
-use Rattle.vs_walk.proofs.Kept.{as_many}
+use Rattle.vs_walk.proofs.Spread.{as_many_frames}
 use Rattle.vs_walk.proofs.dump.DumpFrames.words.Goals as goal
-
-frames_are : (c : goal.In-Ok) → c.as_chunks.result.0.now ≡ first_chunks 512 (length c.self.inside.numbers.items) c.self.inside.words.items
-frames_are c =
-    let words = c.deref.ensures.value in
-    let count : length c.deref.result.now / 512 ≡ length c.self.inside.numbers.items = omega (arith, ap length words, c.self.invariant.whole) in
-    c.as_chunks.ensures.front ∙ ap (λ k. first_chunks 512 k c.deref.result.now) count
-    ∙ ap (λ ws. first_chunks 512 (length c.self.inside.numbers.items) ws) words
-
-pub returns-in-Ok : goal.returns-in-Ok
-returns-in-Ok c =
-    let numbers = c.self.inside.numbers.items in
-    let frames = first_chunks 512 (length numbers) c.self.inside.words.items in
-    let stands : IsStanding (paired numbers c.self.inside.words.items) c.args.self.now.frames =
-    record { is = ap (λ (d : Image). d.frames) c.self.view_is; rising = c.self.invariant.parts.rising } in
-    let found = searched numbers frames c.args.number (Ok c.in-Ok.k) (as_many numbers c.self.inside.words.items)
-    c.self.invariant.parts.rising
-    (rw (sym c.deref-2.ensures.value) c.in-Ok.ensures.bound) (rw (sym c.deref-2.ensures.value) c.in-Ok.ensures.position) [] in
-    ap (λ fs. Some (get_or fs c.in-Ok.k [])) (frames_are c) ∙ sym found ∙ sym (get_of _ _ c.args.number stands)
 
 pub returns-in-Err : goal.returns-in-Err
 returns-in-Err c =
     let numbers = c.self.inside.numbers.items in
-    let frames = first_chunks 512 (length numbers) c.self.inside.words.items in
-    let stands : IsStanding (paired numbers c.self.inside.words.items) c.args.self.now.frames =
+    let spans = c.self.inside.spans.items in
+    let words = c.self.inside.words.items in
+    let stands : IsStanding (paired numbers spans words) c.args.self.now.frames =
     record { is = ap (λ (d : Image). d.frames) c.self.view_is; rising = c.self.invariant.parts.rising } in
-    let none = searched numbers frames c.args.number (Err c.in-Err.field-0) (as_many numbers c.self.inside.words.items)
-    c.self.invariant.parts.rising
-    (rw (sym c.deref-2.ensures.value) c.in-Err.ensures.bound) (rw (sym c.deref-2.ensures.value) c.in-Err.ensures.position) in
+    let none = searched numbers (map (words_at words) spans) c.args.number (Err c.in-Err.field-0)
+    (as_many_frames numbers spans words c.self.invariant.as_many) c.self.invariant.parts.rising
+    (rw (sym c.deref.ensures.value) c.in-Err.ensures.bound) (rw (sym c.deref.ensures.value) c.in-Err.ensures.position) in
     sym none ∙ sym (get_of _ _ c.args.number stands)
+
+pub returns-in-Ok : goal.returns-in-Ok
+returns-in-Ok c =
+    let numbers = c.self.inside.numbers.items in
+    let spans = c.self.inside.spans.items in
+    let words = c.self.inside.words.items in
+    let span = c.index-span.result.now in
+    let stands : IsStanding (paired numbers spans words) c.args.self.now.frames =
+    record { is = ap (λ (d : Image). d.frames) c.self.view_is; rising = c.self.invariant.parts.rising } in
+    let bound : c.in-Ok.k < length numbers = rw (sym c.deref.ensures.value) c.in-Ok.ensures.bound in
+    let found = searched numbers (map (words_at words) spans) c.args.number (Ok c.in-Ok.k)
+    (as_many_frames numbers spans words c.self.invariant.as_many) c.self.invariant.parts.rising bound
+    (rw (sym c.deref.ensures.value) c.in-Ok.ensures.position) [] in
+    let at : get_or (map (words_at words) spans) c.in-Ok.k [] ≡ words_at words span =
+    get_or-map (words_at words) spans c.in-Ok.k span [] (omega (arith, bound, c.self.invariant.as_many))
+    ∙ ap (words_at words) (sym c.index-span.ensures) in
+    let lent : c.among_zeros.result ≡ words_at words span =
+    c.among_zeros.ensures ∙ ap (λ (ws : List ℕ). spread span.before (take (span.start + span.len - span.start) (drop span.start ws))) c.deref-in-Ok.ensures.value
+    ∙ ap (λ (n : ℕ). spread span.before (take n (drop span.start words))) (omega arith) in
+    ap (λ (ws : List ℕ). Some ws) (lent ∙ sym at) ∙ sym found ∙ sym (get_of _ _ c.args.number stands)

@@ -1,6 +1,6 @@
 use Rattle.std.proofs.Common.{◌≤◌, ◌-◌, length}
 use Rattle.vs_walk.specs.inside.Traversed.{AreZeros}
-use Rattle.vs_walk.proofs.traversal.next_word.Given as goal
+use Rattle.vs_walk.proofs.zeros.next_word.Given as goal
 
 abbrev pub invariant-loop-index : goal.invariant-loop-index
 invariant-loop-index l = record {
