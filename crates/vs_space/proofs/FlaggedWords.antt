@@ -32,7 +32,7 @@ record IsAlike (old new : ℕ) : Type 0 where
   low : new % 32 ≡ old % 32
   high : new / 128 ≡ old / 128
 
-pub alike : {old new : ℕ} → IsSameButFlags old new → IsAlike old new
+alike : {old new : ℕ} → IsSameButFlags old new → IsAlike old new
 alike {old} {new} is = record {
   low = low_bits new old (is.bits 0 (λ e. omega arith) (λ e. omega arith)) (is.bits 1 (λ e. omega arith) (λ e. omega arith))
       (is.bits 2 (λ e. omega arith) (λ e. omega arith)) (is.bits 3 (λ e. omega arith) (λ e. omega arith)) (is.bits 4 (λ e. omega arith) (λ e. omega arith));
