@@ -97,9 +97,9 @@ module _ {old new : Memory} (is : AreSameButFlags old new) where
       (_, _, first, second, is.words n _ _ first second)
 
   flagged_found : (level n a : ℕ) → 1 ≤ level → found_at level new n a ≡ found_at level old n a
+  unfolding found_at
   flagged_found level n a some = by (finite.get old n) refl where
     by : (o : Option (List ℕ)) → finite.get old n ≡ o → found_at level new n a ≡ found_at level old n a
-    unfolding found_at
     by None none =
         let gone : finite.get new n ≡ None = no_frame (finite.get new n) (is.frames n ∙ ap is_some none) in
         ap (option_map (meaning level)) (word_alike old new n (index_at level a) (gone ∙ sym none))
@@ -122,7 +122,7 @@ module _ {old new : Memory} (is : AreSameButFlags old new) where
     some_level high zero a n at =
         let above = table_before top root old 0 a n high at in
         let words = words_found 1 old above.0 a _ above.3 in
-        absurd (no_table_below _ n above.1 words.2)
+        absurd (no_table_below (slice_index words.0 (index_at 1 a)) n above.1 words.2)
     some_level high (suc level) a n at = omega arith
 
     -- ---- what holds of a page table

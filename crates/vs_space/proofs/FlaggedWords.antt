@@ -9,7 +9,7 @@ use Rattle.std.proofs.lemmas.List.{get_or_past}
 use Rattle.std.proofs.lemmas.List.Elements.{length_all_zip, AllZip-get_or}
 use Rattle.std.proofs.lemmas.Nat.Bits.{same_from_bits}
 use Rattle.vs_types.specs.Depth.{entry_bytes}
-use Rattle.vs_types.specs.Entry.{meaning, is_leaf, has_reserved, rights_of, address_in, size_at, table_word, leaf_word}
+use Rattle.vs_types.specs.Entry.{meaning, is_leaf, has_reserved, rights_of, size_at, table_word, leaf_word}
 use Rattle.vs_types.specs.declared.page.Rights.{Rights}
 use Rattle.vs_types.specs.declared.entry.Meaning.{Meaning}
 use Rattle.vs_types.specs.declared.entry.Meaning.TheVariants as entry
@@ -50,6 +50,10 @@ said_same : (p p' r r' l l' : Bool) (x x' : Rights) (a a' n n' : ℕ) → p ≡ 
     → said p r l x a n ≡ said p' r' l' x' a' n'
 said_same p p' r r' l l' x x' a a' n n' same_p same_r same_l same_x same_a same_n = rw (same_p, same_r, same_l, same_x, same_a, same_n) refl
 
+-- above the levels of pages a set bit 7 is reserved
+reserved_deep : (level word : ℕ) → 3 < level → has_reserved level word ≡ (bit_at word 7 == 1)
+reserved_deep level word deep = grind arith
+
 rights_same : (w w' u u' x x' : ℕ) → w ≡ w' → u ≡ u' → x ≡ x'
     → ◌≡◌ {A = Rights} (record { write = w == 1; user = u == 1; exec = not (x == 1) }) (record { write = w' == 1; user = u' == 1; exec = not (x' == 1) })
 rights_same w w' u u' x x' same_w same_u same_x = rw (same_w, same_u, same_x) refl
@@ -79,7 +83,7 @@ module _ {old new : ℕ} (is : IsAlike old new) where
   same_leaf : (level : ℕ) → is_leaf level new ≡ is_leaf level old
   same_leaf level = ap (λ b. (level == 1) || (nat_le level 3 && (b == 1))) bit_7
 
-  same_address : (below : ℕ) → address_in (entry_bytes (suc below)) new ≡ address_in (entry_bytes (suc below)) old
+  same_address : (below : ℕ) → new % 2 ^ 52 / entry_bytes (suc below) * entry_bytes (suc below) ≡ old % 2 ^ 52 / entry_bytes (suc below) * entry_bytes (suc below)
   same_address below =
       let exponent : 3 + 9 * suc below ≡ 12 + 9 * below = omega arith in
       let by : new % 2 ^ 52 / 2 ^ (12 + 9 * below) ≡ old % 2 ^ 52 / 2 ^ (12 + 9 * below) =
@@ -96,9 +100,11 @@ module _ {old new : ℕ} (is : IsAlike old new) where
       let none : new % 2 ^ 12 / 2 ^ 13 ≡ old % 2 ^ 12 / 2 ^ 13 = omega arith in ap (λ n. not (n == 0)) none
   same_reserved (suc (suc zero)) some = reserved_from (new % 2 ^ 21 / 2 ^ 13) (old % 2 ^ 21 / 2 ^ 13) (omega (arith, is.high)) _ _ bit_7
   same_reserved (suc (suc (suc zero))) some = reserved_from (new % 2 ^ 30 / 2 ^ 13) (old % 2 ^ 30 / 2 ^ 13) (omega (arith, is.high)) _ _ bit_7
-  same_reserved (suc (suc (suc (suc level)))) some = ap (λ b. b == 1) bit_7
+  same_reserved (suc (suc (suc (suc level)))) some =
+      reserved_deep (suc (suc (suc (suc level)))) new (omega arith) ∙ ap (λ b. b == 1) bit_7
+      ∙ sym (reserved_deep (suc (suc (suc (suc level)))) old (omega arith))
 
-  pub same_meaning : (level : ℕ) → 1 ≤ level → meaning level new ≡ meaning level old
+  same_meaning : (level : ℕ) → 1 ≤ level → meaning level new ≡ meaning level old
   same_meaning zero some = absurd (omega (arith, some))
   same_meaning (suc below) some = said_same _ _ _ _ _ _ _ _ _ _ _ _ (ap (λ b. b == 1) bit_0) (same_reserved (suc below) some) (same_leaf (suc below))
       same_rights (same_address below) same_number
