@@ -122,9 +122,9 @@ module _ (handle : Table) (words after : Words) (marks : List FrameMark) (are : 
   }
 
   pub sound_stays : IsSound handle words marks → IsSound handle after marks
-  sound_stays sound = λ usable. let open = sound (sym status_stays ∙ usable) in record {
-    laid_out = laid_out open.laid_out;
-    keeps = rw long (flagged_kept (depth_in handle) handle.root handle.base (length words) in_use _ open.keeps);
+  sound_stays sound = λ usable. let was = sound (sym status_stays ∙ usable) in record {
+    laid_out = laid_out was.laid_out;
+    keeps = rw long (flagged_kept (depth_in handle) handle.root handle.base (length words) in_use _ was.keeps);
   }
 
   pub space_stays : (lenders : Lenders) {space : Space} → IsTableOf (table_in lenders handle words marks) space

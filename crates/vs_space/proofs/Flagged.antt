@@ -16,9 +16,9 @@ use Rattle.vs_types.specs.declared.depth.Depth.{Depth}
 use Rattle.vs_types.proofs.Pages.{three_levels}
 use Rattle.vs_arena.specs.Store.{Store, Notes, Lenders}
 use Rattle.vs_walk.specs.Memory.{Memory, AreWhole}
-use Rattle.vs_walk.specs.Walk.{all_rights, walk, walk_from}
+use Rattle.vs_walk.specs.Walk.{all_rights, walk_from}
 use Rattle.vs_walk.proofs.TranslatedBits.{no_table_below}
-use Rattle.vs_space.specs.Held.{numbered, word_at, held_in, AreNumbered}
+use Rattle.vs_space.specs.Held.{numbered}
 use Rattle.vs_space.specs.Path.{found_at, table_at}
 use Rattle.vs_space.specs.Tree.{IsTree, IsFilled, IsReached}
 use Rattle.vs_space.specs.Table.{IsTableOf}
@@ -140,8 +140,7 @@ module _ {old new : Memory} (is : AreSameButFlags old new) where
     flagged_reached high reached = record {
       path = λ n used.
           let was = reached.path n (used_before n used) in
-          let here = both n (used_before n used) in
-          (
+          let here = both n (used_before n used) in (
             was.0,
             was.1,
             flagged_table was.0 was.1 ∙ was.2,
