@@ -27,10 +27,10 @@ option : (n : Option ℕ) → has_float (option_data n) ≡ false
 option None = refl
 option (Some n) = refl
 
-event : (number : ℕ) (named : Option Event) → has_float (event_data number named) ≡ false
-event number None = refl
-event number (Some (Call replica thread request)) = refl
-event number (Some (Reply call at answer)) = refl
+event : (index : ℕ) (named : Option Event) → has_float (event_data index named) ≡ false
+event index None = refl
+event index (Some (Call replica thread request)) = refl
+event index (Some (Reply call at answer)) = refl
 
 changed : (update : Option PlacedUpdate) → has_float (changed_data update) ≡ false
 changed None = refl

@@ -41,10 +41,10 @@ reply_data reply = object
 
 -- the event that a number names: a call, a reply, or null
 abbrev pub event_data : ℕ → Option Event → Data
-event_data number None = null
-event_data number (Some (Call replica thread request)) =
-    call_data record { event = number; replica = replica; thread = thread; request = request }
-event_data number (Some (Reply call at answer)) = reply_data record { event = number; call = call; at = at; answer = answer }
+event_data index None = null
+event_data index (Some (Call replica thread request)) =
+    call_data record { event = index; replica = replica; thread = thread; request = request }
+event_data index (Some (Reply call at answer)) = reply_data record { event = index; call = call; at = at; answer = answer }
 
 -- an update and its place, or null
 abbrev pub changed_data : Option PlacedUpdate → Data

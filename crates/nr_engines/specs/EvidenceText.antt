@@ -1,5 +1,6 @@
 -- What `explain` prints: the lines of the verdict, and for a no a line for each fact that shows the fault.
 use Rattle.std.specs.Prelude.{ℕ, ◌++◌, List, [], ◌∷◌, codes, decimal, flat_map, Option, Some, None}
+use Rattle.vs_types.specs.declared.answer.Answer.{Answer}
 use Rattle.vs_types.specs.declared.op.Action.TheVariants.{Map, Unmap, Protect}
 use Rattle.vs_types.specs.declared.request.Query.{Query}
 use Rattle.vs_types.specs.declared.request.Query.TheVariants.{Update, Resolve, Access}
@@ -44,43 +45,51 @@ request_text (Resolve address) = codes "resolve " ++ hexadecimal address
 request_text (Access address mode access) = codes "access " ++ (mode_text mode ++ (space ++ (access_text access ++ (space ++ hexadecimal address))))
 
 -- the line of a call: its number, its thread, its replica and what it asks
-abbrev pub call_line : RecordedCall → List ℕ
+unfoldable pub call_line : RecordedCall → List ℕ
 call_line call = codes "call " ++ (decimal call.event ++ (codes ", thread " ++ (decimal call.thread ++ (codes ", replica " ++ (decimal call.replica
     ++ (codes ": " ++ (request_text call.request ++ line_end)))))))
 
 -- the line of a reply: its event, the call that it answers, its `at` and its answer
-abbrev pub reply_line : RecordedReply → List ℕ
+unfoldable pub reply_line : RecordedReply → List ℕ
 reply_line reply = codes "reply " ++ (decimal reply.event ++ (codes " to call " ++ (decimal reply.call ++ (codes ", at " ++ (decimal reply.at
     ++ (codes ": " ++ (answer_text reply.answer ++ line_end)))))))
 
 -- the line of the event that a number names, if there is one
-abbrev pub event_line : ℕ → Option Event → List ℕ
+unfoldable pub event_line : ℕ → Option Event → List ℕ
 event_line number None = codes "event " ++ (decimal number ++ codes ": none\n")
 event_line number (Some (Call replica thread request)) =
     call_line record { event = number; replica = replica; thread = thread; request = request }
 event_line number (Some (Reply call at answer)) = reply_line record { event = number; call = call; at = at; answer = answer }
 
 -- the line of a number, behind words
-abbrev pub number_line : List ℕ → ℕ → List ℕ
+unfoldable pub number_line : List ℕ → ℕ → List ℕ
 number_line words number = words ++ (decimal number ++ line_end)
 
 -- the same where there may be none
-abbrev pub option_line : List ℕ → Option ℕ → List ℕ
+unfoldable pub option_line : List ℕ → Option ℕ → List ℕ
 option_line words None = words ++ codes "none\n"
 option_line words (Some number) = number_line words number
 
--- the line of the last update that changed how an address looks
-abbrev pub changed_line : Option PlacedUpdate → List ℕ
+-- the line of an answer, behind words
+unfoldable pub answer_line : List ℕ → Answer → List ℕ
+answer_line words answer = words ++ (answer_text answer ++ line_end)
+
+-- the last update that changed how an address looks, to the end of its line
+unfoldable pub changed_line : Option PlacedUpdate → List ℕ
 changed_line None = codes "last changed by: none\n"
 changed_line (Some update) = codes "last changed by place " ++ (decimal update.place ++ (codes ", " ++ call_line update.call))
 
+-- the line of an address, and what changed last how it looks
+unfoldable pub address_line : ℕ → Option PlacedUpdate → List ℕ
+address_line address changed = codes "address " ++ (hexadecimal address ++ (codes ", " ++ changed_line changed))
+
 -- the line of an entry of a table
-abbrev pub step_line : Step → List ℕ
+unfoldable pub step_line : Step → List ℕ
 step_line step = codes "level " ++ (decimal step.level ++ (codes ", frame " ++ (decimal step.frame ++ (codes ", index " ++ (decimal step.index
     ++ (codes ": " ++ (hexadecimal step.word ++ line_end)))))))
 
 -- the lines of the entries on a way from the root; the way to the root itself has none
-abbrev pub way_lines : List Step → List ℕ
+unfoldable pub way_lines : List Step → List ℕ
 way_lines [] = codes "it is the root\n"
 way_lines (step ∷ steps) = flat_map step_line (step ∷ steps)
 
@@ -127,8 +136,7 @@ early_lines early =
 
 abbrev pub other_answer_lines : OtherAnswer → List ℕ
 other_answer_lines wrong =
-    call_line wrong.call ++ (reply_line wrong.reply ++ (codes "the space answers: " ++ (answer_text wrong.wanted ++ (line_end
-    ++ (codes "address " ++ (hexadecimal wrong.address ++ (codes ", " ++ changed_line wrong.changed)))))))
+    call_line wrong.call ++ (reply_line wrong.reply ++ (answer_line (codes "the space answers: ") wrong.wanted ++ address_line wrong.address wrong.changed))
 
 abbrev pub long_prefix_lines : LongPrefix → List ℕ
 long_prefix_lines wrong = number_line (codes "applied: ") wrong.applied ++ number_line (codes "entries of the log: ") wrong.places
@@ -148,8 +156,8 @@ stray_lines wrong = codes "no table leads to frame " ++ (decimal wrong.frame ++ 
 
 abbrev pub difference_lines : Difference → List ℕ
 difference_lines wrong =
-    number_line (codes "applied: ") wrong.applied ++ (codes "the dump: " ++ (walk_text wrong.found ++ (codes "the space: "
-    ++ (answer_text wrong.wanted ++ (line_end ++ (codes "address " ++ (hexadecimal wrong.address ++ (codes ", " ++ changed_line wrong.changed))))))))
+    number_line (codes "applied: ") wrong.applied ++ ((codes "the dump: " ++ walk_text wrong.found)
+    ++ (answer_line (codes "the space: ") wrong.wanted ++ address_line wrong.address wrong.changed))
 
 -- the lines of the evidence
 unfoldable pub evidence_text : Evidence → List ℕ

@@ -6,10 +6,9 @@ ghost use Rattle.nr_engines.specs.EvidenceText.{no_update_lines, open_lines, oth
 ghost use Rattle.nr_engines.specs.EvidenceText.{shared_lines, short_prefix_lines, stray_lines, stray_reply_lines, two_places_lines, two_replies_lines};
 
 use crate::fact_text::{
-    call_line, changed_line, event_line, format_lines, option_line, push_steps, reply_line,
-    step_line, way_lines,
+    address_line, answer_line, call_line, event_line, format_lines, number_line, option_line,
+    push_steps, reply_line, step_line, way_lines,
 };
-use crate::run_text::answer_text;
 use crate::text::walk_text;
 use nr_explain::{
     Difference, EarlyCall, Evidence, LongPrefix, Misplaced, NoUpdate, OpenCalls, OtherAnswer,
@@ -76,21 +75,19 @@ fn past_end_lines(alloc: Global, wrong: PastEnd) -> Result<String, AllocError>
 {
     let call = call_line(alloc, wrong.call)?;
     let reply = reply_line(alloc, wrong.reply)?;
-    let places = wrong.places;
-    format!(in alloc; "{call}{reply}entries of the log: {places}\n")
+    let places = number_line(alloc, "entries of the log: ", u64::from(wrong.places))?;
+    format!(in alloc; "{call}{reply}{places}")
 }
 
 fn early_lines(alloc: Global, early: EarlyCall) -> Result<String, AllocError>
     ensures { IfOk result (λ text. string_bytes text ≡ early_lines early) }
 {
     let call = call_line(alloc, early.call)?;
-    let entries = early.entries;
-    let floor = early.floor;
+    let entries = number_line(alloc, "entries before it: ", u64::from(early.entries))?;
+    let floor = number_line(alloc, "known when it was made: ", early.floor)?;
     let reply = reply_line(alloc, early.reply)?;
     let answered = call_line(alloc, early.answered)?;
-    format!(in alloc;
-        "{call}entries before it: {entries}\nknown when it was made: {floor}\n{reply}{answered}"
-    )
+    format!(in alloc; "{call}{entries}{floor}{reply}{answered}")
 }
 
 fn other_answer_lines(alloc: Global, wrong: OtherAnswer) -> Result<String, AllocError>
@@ -98,28 +95,27 @@ fn other_answer_lines(alloc: Global, wrong: OtherAnswer) -> Result<String, Alloc
 {
     let call = call_line(alloc, wrong.call)?;
     let reply = reply_line(alloc, wrong.reply)?;
-    let wanted = answer_text(alloc, wrong.wanted)?;
-    let address = wrong.address;
-    let changed = changed_line(alloc, wrong.changed)?;
-    format!(in alloc; "{call}{reply}the space answers: {wanted}\naddress 0x{address:x}, {changed}")
+    let wanted = answer_line(alloc, "the space answers: ", wrong.wanted)?;
+    let changed = address_line(alloc, wrong.address, wrong.changed)?;
+    format!(in alloc; "{call}{reply}{wanted}{changed}")
 }
 
 fn long_prefix_lines(alloc: Global, wrong: LongPrefix) -> Result<String, AllocError>
     ensures { IfOk result (λ text. string_bytes text ≡ long_prefix_lines wrong) }
 {
-    let applied = wrong.applied;
-    let places = wrong.places;
-    format!(in alloc; "applied: {applied}\nentries of the log: {places}\n")
+    let applied = number_line(alloc, "applied: ", u64::from(wrong.applied))?;
+    let places = number_line(alloc, "entries of the log: ", u64::from(wrong.places))?;
+    format!(in alloc; "{applied}{places}")
 }
 
 fn short_prefix_lines(alloc: Global, wrong: ShortPrefix) -> Result<String, AllocError>
     ensures { IfOk result (λ text. string_bytes text ≡ short_prefix_lines wrong) }
 {
-    let applied = wrong.applied;
-    let known = wrong.known;
+    let applied = number_line(alloc, "applied: ", u64::from(wrong.applied))?;
+    let known = number_line(alloc, "known there: ", wrong.known)?;
     let reply = reply_line(alloc, wrong.reply)?;
     let call = call_line(alloc, wrong.call)?;
-    format!(in alloc; "applied: {applied}\nknown there: {known}\n{reply}{call}")
+    format!(in alloc; "{applied}{known}{reply}{call}")
 }
 
 fn shared_lines(alloc: Global, wrong: &SharedTable) -> Result<String, AllocError>
@@ -150,14 +146,11 @@ fn stray_lines(alloc: Global, wrong: StrayTable) -> Result<String, AllocError>
 fn difference_lines(alloc: Global, wrong: &Difference) -> Result<String, AllocError>
     ensures { IfOk result (λ text. string_bytes text ≡ difference_lines wrong.now) }
 {
-    let applied = wrong.applied;
+    let applied = number_line(alloc, "applied: ", u64::from(wrong.applied))?;
     let found = walk_text(alloc, wrong.found)?;
-    let wanted = answer_text(alloc, wrong.wanted)?;
-    let address = wrong.address;
-    let changed = changed_line(alloc, wrong.changed)?;
-    format!(in alloc;
-        "applied: {applied}\nthe dump: {found}the space: {wanted}\naddress 0x{address:x}, {changed}"
-    )
+    let wanted = answer_line(alloc, "the space: ", wrong.wanted)?;
+    let changed = address_line(alloc, wrong.address, wrong.changed)?;
+    format!(in alloc; "{applied}the dump: {found}{wanted}{changed}")
 }
 
 /// The lines of the evidence of a fault.

@@ -1,6 +1,6 @@
 //! What evidence is made of, as JSON: calls, replies, entries of tables.
 
-ghost use Rattle.std.specs.Prelude.{◌≡◌, IfOk, map};
+ghost use Rattle.std.specs.Prelude.{◌≡◌, IfOk, Some, map};
 ghost use Rattle.serde_json.specs.View.{view};
 ghost use Rattle.nr_engines.specs.EvidenceJson.{call_data, changed_data, event_data, option_data, reply_data, step_data, way_data};
 
@@ -35,40 +35,46 @@ pub(crate) fn reply_value(alloc: Global, reply: RecordedReply) -> Result<Value, 
     json!(in alloc; {"answer": answer, "at": reply.at, "call": reply.call, "event": reply.event})
 }
 
-/// The event that a number names: a call, a reply, or null.
-pub(crate) fn event_value(
-    alloc: Global,
-    number: u32,
-    named: Option<Event>,
-) -> Result<Value, AllocError>
-    ensures { IfOk result (λ value. view value ≡ event_data number named) }
+fn one_event_value(alloc: Global, index: u32, event: Event) -> Result<Value, AllocError>
+    ensures { IfOk result (λ value. view value ≡ event_data index (Some event)) }
 {
-    match named {
-        None => Ok(Value::Null),
-        Some(
-            Event::Call {
+    match event {
+        Event::Call {
+            replica,
+            thread,
+            request,
+        } => {
+            let call = RecordedCall {
+                event: index,
                 replica,
                 thread,
                 request,
-            },
-        ) => call_value(
-            alloc,
-            RecordedCall {
-                event: number,
-                replica,
-                thread,
-                request,
-            },
-        ),
-        Some(Event::Reply { call, at, answer }) => reply_value(
-            alloc,
-            RecordedReply {
-                event: number,
+            };
+            call_value(alloc, call)
+        }
+        Event::Reply { call, at, answer } => {
+            let reply = RecordedReply {
+                event: index,
                 call,
                 at,
                 answer,
-            },
-        ),
+            };
+            reply_value(alloc, reply)
+        }
+    }
+}
+
+/// The event that a number names: a call, a reply, or null.
+pub(crate) fn event_value(
+    alloc: Global,
+    index: u32,
+    named: Option<Event>,
+) -> Result<Value, AllocError>
+    ensures { IfOk result (λ value. view value ≡ event_data index named) }
+{
+    match named {
+        None => Ok(Value::Null),
+        Some(event) => one_event_value(alloc, index, event),
     }
 }
 

@@ -1,16 +1,16 @@
 //! The lines of what evidence is made of: calls, replies, entries of tables.
 
-ghost use Rattle.std.specs.Prelude.{◌≡◌, ◌++◌, IfOk, OnOk, flat_map, string_bytes};
+ghost use Rattle.std.specs.Prelude.{◌≡◌, ◌++◌, IfOk, OnOk, Some, flat_map, string_bytes};
 ghost use Rattle.nr_script.specs.Words.{access_text, mode_text};
-ghost use Rattle.nr_engines.specs.EvidenceText.{call_line, changed_line, event_line, format_lines};
-ghost use Rattle.nr_engines.specs.EvidenceText.{option_line, reply_line, request_text, step_line, way_lines};
+ghost use Rattle.nr_engines.specs.EvidenceText.{address_line, answer_line, call_line, changed_line, event_line, format_lines};
+ghost use Rattle.nr_engines.specs.EvidenceText.{number_line, option_line, reply_line, request_text, step_line, way_lines};
 
 use crate::run_text::answer_text;
 use crate::text::{mark, size_text};
 use nr_explain::{PlacedUpdate, RecordedCall, RecordedReply, Step};
 use nr_trace::{Event, Format};
 use std::alloc::{AllocError, Global};
-use vs_types::{Access, Action, Mode, Query, Request};
+use vs_types::{Access, Action, Answer, Mode, Query, Request};
 
 fn mode_text(mode: Mode) -> &'static str
     ensures { result.now ≡ mode_text mode }
@@ -66,6 +66,7 @@ pub(crate) fn request_text(alloc: Global, request: Request) -> Result<String, Al
 }
 
 /// The line of a call.
+#[tactic(auto, unfolding(crate::specs::EvidenceText::call_line))]
 pub(crate) fn call_line(alloc: Global, call: RecordedCall) -> Result<String, AllocError>
     ensures { IfOk result (λ text. string_bytes text ≡ call_line call) }
 {
@@ -77,6 +78,7 @@ pub(crate) fn call_line(alloc: Global, call: RecordedCall) -> Result<String, All
 }
 
 /// The line of a reply.
+#[tactic(auto, unfolding(crate::specs::EvidenceText::reply_line))]
 pub(crate) fn reply_line(alloc: Global, reply: RecordedReply) -> Result<String, AllocError>
     ensures { IfOk result (λ text. string_bytes text ≡ reply_line reply) }
 {
@@ -87,44 +89,66 @@ pub(crate) fn reply_line(alloc: Global, reply: RecordedReply) -> Result<String, 
     format!(in alloc; "reply {event} to call {call}, at {at}: {told}\n")
 }
 
-/// The line of the event that a number names.
-pub(crate) fn event_line(
-    alloc: Global,
-    number: u32,
-    named: Option<Event>,
-) -> Result<String, AllocError>
-    ensures { IfOk result (λ text. string_bytes text ≡ event_line number named) }
+/// The line of an event.
+#[tactic(auto, unfolding(crate::specs::EvidenceText::event_line))]
+fn one_event_line(alloc: Global, index: u32, event: Event) -> Result<String, AllocError>
+    ensures { IfOk result (λ text. string_bytes text ≡ event_line index (Some event)) }
 {
-    match named {
-        None => format!(in alloc; "event {number}: none\n"),
-        Some(
-            Event::Call {
+    match event {
+        Event::Call {
+            replica,
+            thread,
+            request,
+        } => {
+            let call = RecordedCall {
+                event: index,
                 replica,
                 thread,
                 request,
-            },
-        ) => call_line(
-            alloc,
-            RecordedCall {
-                event: number,
-                replica,
-                thread,
-                request,
-            },
-        ),
-        Some(Event::Reply { call, at, answer }) => reply_line(
-            alloc,
-            RecordedReply {
-                event: number,
+            };
+            call_line(alloc, call)
+        }
+        Event::Reply { call, at, answer } => {
+            let reply = RecordedReply {
+                event: index,
                 call,
                 at,
                 answer,
-            },
-        ),
+            };
+            reply_line(alloc, reply)
+        }
+    }
+}
+
+/// The line of the event that a number names.
+#[tactic(auto, unfolding(crate::specs::EvidenceText::event_line))]
+pub(crate) fn event_line(
+    alloc: Global,
+    index: u32,
+    named: Option<Event>,
+) -> Result<String, AllocError>
+    ensures { IfOk result (λ text. string_bytes text ≡ event_line index named) }
+{
+    match named {
+        None => format!(in alloc; "event {index}: none\n"),
+        Some(event) => one_event_line(alloc, index, event),
     }
 }
 
 /// The line of a number, behind words.
+#[tactic(auto, unfolding(crate::specs::EvidenceText::number_line))]
+pub(crate) fn number_line(
+    alloc: Global,
+    words: &'static str,
+    number: u64,
+) -> Result<String, AllocError>
+    ensures { IfOk result (λ text. string_bytes text ≡ number_line words.now number) }
+{
+    format!(in alloc; "{words}{number}\n")
+}
+
+/// The same where there may be none.
+#[tactic(auto, unfolding(crate::specs::EvidenceText::option_line, crate::specs::EvidenceText::number_line))]
 pub(crate) fn option_line(
     alloc: Global,
     words: &'static str,
@@ -138,11 +162,22 @@ pub(crate) fn option_line(
     }
 }
 
-/// The line of the last update that changed how an address looks.
-pub(crate) fn changed_line(
+/// The line of an answer, behind words.
+#[tactic(auto, unfolding(crate::specs::EvidenceText::answer_line))]
+pub(crate) fn answer_line(
     alloc: Global,
-    changed: Option<PlacedUpdate>,
+    words: &'static str,
+    answer: Answer,
 ) -> Result<String, AllocError>
+    ensures { IfOk result (λ text. string_bytes text ≡ answer_line words.now answer) }
+{
+    let answer = answer_text(alloc, answer)?;
+    format!(in alloc; "{words}{answer}\n")
+}
+
+/// The last update that changed how an address looks, to the end of its line.
+#[tactic(auto, unfolding(crate::specs::EvidenceText::changed_line))]
+fn changed_line(alloc: Global, changed: Option<PlacedUpdate>) -> Result<String, AllocError>
     ensures { IfOk result (λ text. string_bytes text ≡ changed_line changed) }
 {
     match changed {
@@ -155,7 +190,21 @@ pub(crate) fn changed_line(
     }
 }
 
+/// The line of an address, and what changed last how it looks.
+#[tactic(auto, unfolding(crate::specs::EvidenceText::address_line))]
+pub(crate) fn address_line(
+    alloc: Global,
+    address: u64,
+    changed: Option<PlacedUpdate>,
+) -> Result<String, AllocError>
+    ensures { IfOk result (λ text. string_bytes text ≡ address_line address changed) }
+{
+    let changed = changed_line(alloc, changed)?;
+    format!(in alloc; "address 0x{address:x}, {changed}")
+}
+
 /// The line of an entry of a table.
+#[tactic(auto, unfolding(crate::specs::EvidenceText::step_line))]
 pub(crate) fn step_line(alloc: Global, step: Step) -> Result<String, AllocError>
     ensures { IfOk result (λ text. string_bytes text ≡ step_line step) }
 {
@@ -178,6 +227,7 @@ pub(crate) fn push_steps(alloc: Global, text: &mut String, steps: &[Step]) -> Re
 }
 
 /// The lines of the entries on a way from the root.
+#[tactic(auto, unfolding(crate::specs::EvidenceText::way_lines))]
 pub(crate) fn way_lines(alloc: Global, steps: &[Step]) -> Result<String, AllocError>
     ensures { IfOk result (λ text. string_bytes text ≡ way_lines steps.now) }
 {
