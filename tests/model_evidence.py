@@ -254,11 +254,23 @@ def lines_of(fault, shown):
 
 # ---- the whole answer ----
 
+def counts_of(trace, order):
+    """How much a right trace has."""
+    space, placed = model.Space(trace.levels, trace.tables), set(trace.log)
+    for call in trace.log:
+        space.apply(trace.events[call])
+    return {"calls": len(order), "updates": len(placed), "reads": sum(call not in placed for call in order),
+            "replicas": trace.replicas, "pages": len(space.pages)}
+
+
 def explained(data):
-    """The verdict's lines, the evidence of a no, and its lines."""
+    """The verdict's lines; how much a yes has, or the evidence of a no; and the lines of that."""
     text, status = model.verdict(data)
     if status == 0:
-        return text, {"verdict": "yes", "order": [int(word) for word in text.split()[2:]]}, []
+        order = [int(word) for word in text.split()[2:]]
+        counts = counts_of(model.read(data), order)
+        lines = [f"{words}: {counts[words]}" for words in ("calls", "updates", "reads", "replicas", "pages")]
+        return text, {"verdict": "yes", "order": order, "counts": counts}, lines
     _, _, fault, *numbers = text.split()
     if fault == "Format":
         shown = {"fault": fault, "format": " ".join(numbers)}

@@ -23,10 +23,12 @@ class Evidence:
     paths: list = dataclasses.field(default_factory=list)
 
 
-def of_yes(trace, order):
+def of_yes(trace, order, counts):
     shown = " ".join(map(str, order[:40])) + (" .." if len(order) > 40 else "")
+    has = [many(counts[words + "s"], words) for words in ("update", "read", "replica", "page")]
     return Evidence("This run is right: in the recorded order each answer is that of one address space, and each dump fits it.",
-                    [f"The order has {many(len(order), 'call')}: {shown}" if order else "There are no calls."])
+                    [f"The order has {many(len(order), 'call')}: {shown}" if order else "There are no calls.",
+                     f"There are {', '.join(has[:-1])}, and in the end {has[-1]}."])
 
 
 def of_format(trace, shown):
@@ -227,7 +229,7 @@ def evidence(trace, said):
     if (name == "Format") != (trace.broken is not None):
         raise LookupError
     if verdict == "yes":
-        return verdict, of_yes(trace, whole["order"])
+        return verdict, of_yes(trace, whole["order"], whole["counts"])
     check_events(trace, shown)
     found = OF_FAULT[name](trace, shown)
     found.facts += [f"Most often this tells {TELLS[name]}."] if name in TELLS else []

@@ -64,5 +64,5 @@ evidence_has_no_float (evidence.StrayFrame wrong) = refl
 evidence_has_no_float (evidence.Differs wrong) = ap one (changed wrong.changed)
 
 pub explanation_has_no_float : (explanation : Explanation) → has_float (explanation_data explanation) ≡ false
-explanation_has_no_float (Yes order) = ap one (numbers order)
+explanation_has_no_float (Yes order counts) = ap one (numbers order)
 explanation_has_no_float (No fault shown) = ap one (evidence_has_no_float shown)

@@ -5,6 +5,7 @@ use Rattle.serde_json.specs.View.{items_of}
 use Rattle.serde_json.specs.Written.{compact_text}
 use Rattle.nr_trace.specs.declared.event.Event.{Event}
 use Rattle.nr_trace.specs.declared.event.Event.TheVariants.{Call, Reply}
+use Rattle.nr_explain.specs.declared.counts.Counts.{Counts}
 use Rattle.nr_explain.specs.declared.evidence.RecordedCall.{RecordedCall}
 use Rattle.nr_explain.specs.declared.evidence.RecordedReply.{RecordedReply}
 use Rattle.nr_explain.specs.declared.evidence.PlacedUpdate.{PlacedUpdate}
@@ -160,11 +161,21 @@ evidence_data (evidence.Differs wrong) = object
     (member (codes "replica") (number_data wrong.replica)
     (member (codes "wanted") (string (answer_text wrong.wanted)) no_members)))))))
 
--- the verdict's first line, with the order of a yes, or the evidence of a no
+-- how much a right trace has
+abbrev pub counts_data : Counts → Data
+counts_data counts = object
+    (member (codes "calls") (number_data counts.calls)
+    (member (codes "pages") (number_data counts.pages)
+    (member (codes "reads") (number_data counts.reads)
+    (member (codes "replicas") (number_data counts.replicas)
+    (member (codes "updates") (number_data counts.updates) no_members)))))
+
+-- the verdict's first line, with how much a yes has and its order, or the evidence of a no
 abbrev pub explanation_data : Explanation → Data
-explanation_data (Yes order) = object
+explanation_data (Yes order counts) = object
+    (member (codes "counts") (counts_data counts)
     (member (codes "order") (array (items_of (map number_data order)))
-    (member (codes "verdict") (string (codes "yes")) no_members))
+    (member (codes "verdict") (string (codes "yes")) no_members)))
 explanation_data (No fault shown) = object
     (member (codes "evidence") (evidence_data shown)
     (member (codes "verdict") (string (codes "no " ++ fault_text fault)) no_members))

@@ -1,4 +1,4 @@
--- What `explain` prints: the lines of the verdict, and for a no a line for each fact that shows the fault.
+-- What `explain` prints: the lines of the verdict, and for a no a line for each fact that shows the fault, for a yes how much there is.
 use Rattle.std.specs.Prelude.{ℕ, ◌++◌, List, [], ◌∷◌, codes, decimal, flat_map, Option, Some, None}
 use Rattle.vs_types.specs.declared.answer.Answer.{Answer}
 use Rattle.vs_types.specs.declared.op.Action.TheVariants.{Map, Unmap, Protect}
@@ -8,6 +8,7 @@ use Rattle.nr_trace.specs.declared.event.Event.{Event}
 use Rattle.nr_trace.specs.declared.event.Event.TheVariants.{Call, Reply}
 use Rattle.nr_trace.specs.declared.fault.Format.{Format}
 use Rattle.nr_trace.specs.declared.fault.Format.TheVariants as formats
+use Rattle.nr_explain.specs.declared.counts.Counts.{Counts}
 use Rattle.nr_explain.specs.declared.evidence.RecordedCall.{RecordedCall}
 use Rattle.nr_explain.specs.declared.evidence.RecordedReply.{RecordedReply}
 use Rattle.nr_explain.specs.declared.evidence.PlacedUpdate.{PlacedUpdate}
@@ -179,7 +180,13 @@ evidence_text (evidence.ReservedBit wrong) = reserved_lines wrong
 evidence_text (evidence.StrayFrame wrong) = stray_lines wrong
 evidence_text (evidence.Differs wrong) = difference_lines wrong
 
+-- the lines of how much a right trace has
+abbrev pub counts_lines : Counts → List ℕ
+counts_lines counts =
+    number_line (codes "calls: ") counts.calls ++ (number_line (codes "updates: ") counts.updates ++ (number_line (codes "reads: ") counts.reads
+    ++ (number_line (codes "replicas: ") counts.replicas ++ number_line (codes "pages: ") counts.pages)))
+
 -- the lines of an explanation
 abbrev pub explanation_text : Explanation → List ℕ
-explanation_text (Yes order) = yes_text order
+explanation_text (Yes order counts) = yes_text order ++ counts_lines counts
 explanation_text (No fault shown) = no_text fault ++ evidence_text shown

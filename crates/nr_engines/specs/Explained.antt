@@ -12,7 +12,7 @@ told_explanation true explanation = explanation_json explanation
 told_explanation false explanation = explanation_text explanation
 
 abbrev pub explanation_status : Explanation → ℕ
-explanation_status (Yes order) = 0
+explanation_status (Yes order counts) = 0
 explanation_status (No fault shown) = 1
 
 -- the text and the status are those of an explanation of these bytes

@@ -3,7 +3,7 @@
 ghost use Rattle.std.specs.Prelude.{◌≡◌, IfOk, string_bytes};
 ghost use Rattle.serde_json.specs.View.{view};
 ghost use Rattle.nr_explain.specs.declared.evidence.Evidence.TheVariants as evidence;
-ghost use Rattle.nr_engines.specs.EvidenceJson.{evidence_data};
+ghost use Rattle.nr_engines.specs.EvidenceJson.{counts_data, evidence_data};
 
 use crate::fact_json::{
     call_value, changed_value, event_value, option_value, reply_value, step_value, way_value,
@@ -11,7 +11,7 @@ use crate::fact_json::{
 use crate::run_text::answer_text;
 use crate::text::{format_text, walk_words};
 use nr_explain::{
-    Difference, EarlyCall, Evidence, LongPrefix, Misplaced, MissingTable, NoUpdate, OpenCalls,
+    Counts, Difference, EarlyCall, Evidence, LongPrefix, Misplaced, MissingTable, NoUpdate, OpenCalls,
     OtherAnswer, PastEnd, ReservedEntry, SharedTable, ShortPrefix, StrayReply, StrayTable,
     TwoPlaces, TwoReplies,
 };
@@ -173,6 +173,13 @@ fn difference_value(alloc: Global, wrong: &Difference) -> Result<Value, AllocErr
     let found = walk_words(alloc, wrong.found)?;
     let wanted = answer_text(alloc, wrong.wanted)?;
     json!(in alloc; {"address": address, "applied": wrong.applied, "changed": changed, "fault": "Differs", "found": found, "replica": wrong.replica, "wanted": wanted})
+}
+
+/// How much a right trace has.
+pub(crate) fn counts_value(alloc: Global, counts: Counts) -> Result<Value, AllocError>
+    ensures { IfOk result (λ value. view value ≡ counts_data counts) }
+{
+    json!(in alloc; {"calls": counts.calls, "pages": counts.pages, "reads": counts.reads, "replicas": counts.replicas, "updates": counts.updates})
 }
 
 /// The evidence of a fault.

@@ -1,7 +1,7 @@
 //! The lines of the evidence of each fault.
 
 ghost use Rattle.std.specs.Prelude.{◌≡◌, IfOk, string_bytes};
-ghost use Rattle.nr_engines.specs.EvidenceText.{difference_lines, early_lines, evidence_text, long_prefix_lines, misplaced_lines};
+ghost use Rattle.nr_engines.specs.EvidenceText.{counts_lines, difference_lines, early_lines, evidence_text, long_prefix_lines, misplaced_lines};
 ghost use Rattle.nr_engines.specs.EvidenceText.{no_update_lines, open_lines, other_answer_lines, past_end_lines, reserved_lines};
 ghost use Rattle.nr_engines.specs.EvidenceText.{shared_lines, short_prefix_lines, stray_lines, stray_reply_lines, two_places_lines, two_replies_lines};
 
@@ -11,7 +11,7 @@ use crate::fact_text::{
 };
 use crate::text::walk_text;
 use nr_explain::{
-    Difference, EarlyCall, Evidence, LongPrefix, Misplaced, NoUpdate, OpenCalls, OtherAnswer,
+    Counts, Difference, EarlyCall, Evidence, LongPrefix, Misplaced, NoUpdate, OpenCalls, OtherAnswer,
     PastEnd, ReservedEntry, SharedTable, ShortPrefix, StrayReply, StrayTable, TwoPlaces,
     TwoReplies,
 };
@@ -151,6 +151,18 @@ fn difference_lines(alloc: Global, wrong: &Difference) -> Result<String, AllocEr
     let wanted = answer_line(alloc, "the space: ", wrong.wanted)?;
     let changed = address_line(alloc, wrong.address, wrong.changed)?;
     format!(in alloc; "{applied}the dump: {found}{wanted}{changed}")
+}
+
+/// The lines of how much a right trace has.
+pub(crate) fn counts_lines(alloc: Global, counts: Counts) -> Result<String, AllocError>
+    ensures { IfOk result (λ text. string_bytes text ≡ counts_lines counts) }
+{
+    let calls = number_line(alloc, "calls: ", counts.calls)?;
+    let updates = number_line(alloc, "updates: ", counts.updates)?;
+    let reads = number_line(alloc, "reads: ", counts.reads)?;
+    let replicas = number_line(alloc, "replicas: ", u64::from(counts.replicas))?;
+    let pages = number_line(alloc, "pages: ", counts.pages)?;
+    format!(in alloc; "{calls}{updates}{reads}{replicas}{pages}")
 }
 
 /// The lines of the evidence of a fault.

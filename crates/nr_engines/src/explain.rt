@@ -10,8 +10,8 @@ ghost use Rattle.nr_engines.specs.Refusals.{IsEndFault, WritesAnswersAlone};
 ghost use Rattle.nr_engines.specs.Answers.{HasReadFew, WritesReport};
 
 use crate::ends::{read_trace, write_report};
-use crate::evidence_json::evidence_value;
-use crate::evidence_text::evidence_text;
+use crate::evidence_json::{counts_value, evidence_value};
+use crate::evidence_text::{counts_lines, evidence_text};
 use crate::fault::ProgFault;
 use crate::report::Report;
 use crate::text::{fault_text, no_text, yes_text};
@@ -26,7 +26,7 @@ fn status_of(explanation: &Explanation) -> u8
     ensures { result ≡ explanation_status explanation.now }
 {
     match explanation {
-        Explanation::Yes(_) => 0,
+        Explanation::Yes(_, _) => 0,
         Explanation::No(_, _) => 1,
     }
 }
@@ -36,7 +36,11 @@ fn explanation_text(alloc: Global, explanation: &Explanation) -> Result<String, 
     ensures { IfOk result (λ text. string_bytes text ≡ explanation_text explanation.now) }
 {
     match explanation {
-        Explanation::Yes(order) => yes_text(alloc, order.calls()),
+        Explanation::Yes(order, counts) => {
+            let yes = yes_text(alloc, order.calls())?;
+            let lines = counts_lines(alloc, *counts)?;
+            format!(in alloc; "{yes}{lines}")
+        }
         Explanation::No(fault, shown) => {
             let no = no_text(alloc, *fault)?;
             let lines = evidence_text(alloc, shown)?;
@@ -61,9 +65,10 @@ fn explanation_value(alloc: Global, explanation: &Explanation) -> Result<Value, 
     ensures { IfOk result (λ value. view value ≡ explanation_data explanation.now) }
 {
     match explanation {
-        Explanation::Yes(order) => {
+        Explanation::Yes(order, counts) => {
+            let counts = counts_value(alloc, *counts)?;
             let order = order_value(alloc, order.calls())?;
-            json!(in alloc; {"order": order, "verdict": "yes"})
+            json!(in alloc; {"counts": counts, "order": order, "verdict": "yes"})
         }
         Explanation::No(fault, shown) => {
             let evidence = evidence_value(alloc, shown)?;
