@@ -28,7 +28,7 @@ def of_yes(trace, order, counts):
     has = [many(counts[words + "s"], words) for words in ("update", "read", "replica", "page")]
     return Evidence("This run is right: in the recorded order each answer is that of one address space, and each dump fits it.",
                     [f"The order has {many(len(order), 'call')}: {shown}" if order else "There are no calls.",
-                     f"There are {', '.join(has[:-1])}, and in the end {has[-1]}."])
+                     f"It has {', '.join(has[:-1])}, and in the end {has[-1]}."])
 
 
 def of_format(trace, shown):
