@@ -60,7 +60,12 @@ fn no_update_value(alloc: Global, wrong: NoUpdate) -> Result<Value, AllocError>
     ensures { IfOk result (λ value. view value ≡ evidence_data (evidence.NotAnUpdate wrong)) }
 {
     let named = event_value(alloc, wrong.call, wrong.named)?;
-    json!(in alloc; {"call": wrong.call, "fault": "NotAnUpdate", "named": named, "place": wrong.place})
+    json!(in alloc; {
+        "call": wrong.call,
+        "fault": "NotAnUpdate",
+        "named": named,
+        "place": wrong.place
+    })
 }
 
 #[tactic(auto, unfolding(crate::specs::EvidenceJson::evidence_data))]
@@ -68,7 +73,12 @@ fn two_places_value(alloc: Global, places: TwoPlaces) -> Result<Value, AllocErro
     ensures { IfOk result (λ value. view value ≡ evidence_data (evidence.PlacedTwice places)) }
 {
     let call = call_value(alloc, places.call)?;
-    json!(in alloc; {"call": call, "fault": "PlacedTwice", "first": places.first, "second": places.second})
+    json!(in alloc; {
+        "call": call,
+        "fault": "PlacedTwice",
+        "first": places.first,
+        "second": places.second
+    })
 }
 
 #[tactic(auto, unfolding(crate::specs::EvidenceJson::evidence_data))]
@@ -79,7 +89,13 @@ fn misplaced_value(alloc: Global, wrong: Misplaced) -> Result<Value, AllocError>
     let own = option_value(wrong.own);
     let reply = reply_value(alloc, wrong.reply)?;
     let there = option_value(wrong.there);
-    json!(in alloc; {"call": call, "fault": "NotPlaced", "own": own, "reply": reply, "there": there})
+    json!(in alloc; {
+        "call": call,
+        "fault": "NotPlaced",
+        "own": own,
+        "reply": reply,
+        "there": there
+    })
 }
 
 #[tactic(auto, unfolding(crate::specs::EvidenceJson::evidence_data))]
@@ -98,7 +114,14 @@ fn early_value(alloc: Global, early: EarlyCall) -> Result<Value, AllocError>
     let answered = call_value(alloc, early.answered)?;
     let call = call_value(alloc, early.call)?;
     let reply = reply_value(alloc, early.reply)?;
-    json!(in alloc; {"answered": answered, "call": call, "entries": early.entries, "fault": "Early", "floor": early.floor, "reply": reply})
+    json!(in alloc; {
+        "answered": answered,
+        "call": call,
+        "entries": early.entries,
+        "fault": "Early",
+        "floor": early.floor,
+        "reply": reply
+    })
 }
 
 #[tactic(auto, unfolding(crate::specs::EvidenceJson::evidence_data))]
@@ -111,14 +134,26 @@ fn other_answer_value(alloc: Global, wrong: OtherAnswer) -> Result<Value, AllocE
     let changed = changed_value(alloc, wrong.changed)?;
     let reply = reply_value(alloc, wrong.reply)?;
     let wanted = answer_text(alloc, wrong.wanted)?;
-    json!(in alloc; {"address": address, "call": call, "changed": changed, "fault": "WrongAnswer", "reply": reply, "wanted": wanted})
+    json!(in alloc; {
+        "address": address,
+        "call": call,
+        "changed": changed,
+        "fault": "WrongAnswer",
+        "reply": reply,
+        "wanted": wanted
+    })
 }
 
 #[tactic(auto, unfolding(crate::specs::EvidenceJson::evidence_data))]
 fn long_prefix_value(alloc: Global, wrong: LongPrefix) -> Result<Value, AllocError>
     ensures { IfOk result (λ value. view value ≡ evidence_data (evidence.PrefixPastLog wrong)) }
 {
-    json!(in alloc; {"applied": wrong.applied, "fault": "PrefixPastLog", "places": wrong.places, "replica": wrong.replica})
+    json!(in alloc; {
+        "applied": wrong.applied,
+        "fault": "PrefixPastLog",
+        "places": wrong.places,
+        "replica": wrong.replica
+    })
 }
 
 #[tactic(auto, unfolding(crate::specs::EvidenceJson::evidence_data))]
@@ -127,7 +162,14 @@ fn short_prefix_value(alloc: Global, wrong: ShortPrefix) -> Result<Value, AllocE
 {
     let call = call_value(alloc, wrong.call)?;
     let reply = reply_value(alloc, wrong.reply)?;
-    json!(in alloc; {"applied": wrong.applied, "call": call, "fault": "PrefixShort", "known": wrong.known, "replica": wrong.replica, "reply": reply})
+    json!(in alloc; {
+        "applied": wrong.applied,
+        "call": call,
+        "fault": "PrefixShort",
+        "known": wrong.known,
+        "replica": wrong.replica,
+        "reply": reply
+    })
 }
 
 #[tactic(auto, unfolding(crate::specs::EvidenceJson::evidence_data))]
@@ -135,7 +177,12 @@ fn missing_value(alloc: Global, wrong: &MissingTable) -> Result<Value, AllocErro
     ensures { IfOk result (λ value. view value ≡ evidence_data (evidence.MissingFrame wrong.now)) }
 {
     let path = way_value(alloc, wrong.path.as_slice())?;
-    json!(in alloc; {"fault": "MissingFrame", "frame": wrong.frame, "path": path, "replica": wrong.replica})
+    json!(in alloc; {
+        "fault": "MissingFrame",
+        "frame": wrong.frame,
+        "path": path,
+        "replica": wrong.replica
+    })
 }
 
 #[tactic(auto, unfolding(crate::specs::EvidenceJson::evidence_data))]
@@ -144,7 +191,13 @@ fn shared_value(alloc: Global, wrong: &SharedTable) -> Result<Value, AllocError>
 {
     let first = way_value(alloc, wrong.first.as_slice())?;
     let second = way_value(alloc, wrong.second.as_slice())?;
-    json!(in alloc; {"fault": "SharedFrame", "first": first, "frame": wrong.frame, "replica": wrong.replica, "second": second})
+    json!(in alloc; {
+        "fault": "SharedFrame",
+        "first": first,
+        "frame": wrong.frame,
+        "replica": wrong.replica,
+        "second": second
+    })
 }
 
 #[tactic(auto, unfolding(crate::specs::EvidenceJson::evidence_data))]
@@ -153,7 +206,12 @@ fn reserved_value(alloc: Global, wrong: &ReservedEntry) -> Result<Value, AllocEr
 {
     let entry = step_value(alloc, wrong.entry)?;
     let path = way_value(alloc, wrong.path.as_slice())?;
-    json!(in alloc; {"entry": entry, "fault": "ReservedBit", "path": path, "replica": wrong.replica})
+    json!(in alloc; {
+        "entry": entry,
+        "fault": "ReservedBit",
+        "path": path,
+        "replica": wrong.replica
+    })
 }
 
 #[tactic(auto, unfolding(crate::specs::EvidenceJson::evidence_data))]
@@ -172,14 +230,28 @@ fn difference_value(alloc: Global, wrong: &Difference) -> Result<Value, AllocErr
     let changed = changed_value(alloc, wrong.changed)?;
     let found = walk_words(alloc, wrong.found)?;
     let wanted = answer_text(alloc, wrong.wanted)?;
-    json!(in alloc; {"address": address, "applied": wrong.applied, "changed": changed, "fault": "Differs", "found": found, "replica": wrong.replica, "wanted": wanted})
+    json!(in alloc; {
+        "address": address,
+        "applied": wrong.applied,
+        "changed": changed,
+        "fault": "Differs",
+        "found": found,
+        "replica": wrong.replica,
+        "wanted": wanted
+    })
 }
 
 /// How much a right trace has.
 pub(crate) fn counts_value(alloc: Global, counts: Counts) -> Result<Value, AllocError>
     ensures { IfOk result (λ value. view value ≡ counts_data counts) }
 {
-    json!(in alloc; {"calls": counts.calls, "pages": counts.pages, "reads": counts.reads, "replicas": counts.replicas, "updates": counts.updates})
+    json!(in alloc; {
+        "calls": counts.calls,
+        "pages": counts.pages,
+        "reads": counts.reads,
+        "replicas": counts.replicas,
+        "updates": counts.updates
+    })
 }
 
 /// The evidence of a fault.

@@ -25,7 +25,12 @@ pub(crate) fn call_value(alloc: Global, call: RecordedCall) -> Result<Value, All
     ensures { IfOk result (λ value. view value ≡ call_data call) }
 {
     let request = request_text(alloc, call.request)?;
-    json!(in alloc; {"event": call.event, "replica": call.replica, "request": request, "thread": call.thread})
+    json!(in alloc; {
+        "event": call.event,
+        "replica": call.replica,
+        "request": request,
+        "thread": call.thread
+    })
 }
 
 pub(crate) fn reply_value(alloc: Global, reply: RecordedReply) -> Result<Value, AllocError>
