@@ -5,3 +5,4 @@ pub mod WholeInput
 pub mod Simulations
 pub mod ServedRuns
 pub mod RunTexts
+pub mod NoFloats

@@ -1,6 +1,9 @@
 pub mod Text
 pub mod RunText
 pub mod Addresses
+pub mod EvidenceText
+pub mod EvidenceJson
+pub mod Explained
 pub mod Answers
 pub mod Refusals
 pub mod Simulation
@@ -17,6 +20,9 @@ pub use Rattle.nr_trace.specs.Feed
 pub use Rattle.nr_trace.specs.FirstFault
 pub use Rattle.nr_audit.specs.Verdict
 pub use Rattle.nr_audit.specs.Headline
+pub use Rattle.nr_explain.specs.Explanation
+pub use Rattle.serde_json.specs.Written
 pub use Rattle.nr_core.specs.State
 pub use Rattle.nr_core.specs.Run
+pub use Rattle.nr_script.specs.Words
 pub use Rattle.nr_script.specs.Script

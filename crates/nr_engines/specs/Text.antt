@@ -88,9 +88,13 @@ mark given letter = if given then letter else codes "-"
 abbrev pub rights_text : Rights → List ℕ
 rights_text rights = mark rights.write (codes "w") ++ (mark rights.user (codes "u") ++ mark rights.exec (codes "x"))
 
--- the line of a walk
-unfoldable pub walk_text : Walk → List ℕ
-walk_text NotMapped = codes "not mapped" ++ line_end
-walk_text Reserved = codes "reserved" ++ line_end
-walk_text Missing = codes "missing" ++ line_end
-walk_text (Mapped phys size rights) = codes "mapped " ++ (hexadecimal phys ++ (space ++ (size_text size ++ (space ++ (rights_text rights ++ line_end)))))
+-- where a walk ends
+unfoldable pub walk_words : Walk → List ℕ
+walk_words NotMapped = codes "not mapped"
+walk_words Reserved = codes "reserved"
+walk_words Missing = codes "missing"
+walk_words (Mapped phys size rights) = codes "mapped " ++ (hexadecimal phys ++ (space ++ (size_text size ++ (space ++ rights_text rights))))
+
+-- its line
+abbrev pub walk_text : Walk → List ℕ
+walk_text ends = walk_words ends ++ line_end

@@ -1,4 +1,5 @@
 use crate::audit::audit_io;
+use crate::explain::explain_io;
 use crate::fault::ProgFault;
 use crate::resolve::resolve_io;
 use crate::served_run::run_io;
@@ -14,6 +15,8 @@ use std::thread::Threads;
 pub enum Command<'a> {
     /// Judge the trace.
     Audit,
+    /// Judge the trace, and tell what shows its fault; and as JSON.
+    Explain(bool),
     /// Walk at this address, as the command line spells it, in the dump of this replica.
     Resolve(&'a str, u8),
     /// Take the protocol's core through the steps of the script; and write the recording instead of the verdict on it.
@@ -32,7 +35,7 @@ impl Command<'_> {
     ///
     /// # Errors
     ///
-    /// Those of `audit_io`, of `resolve_io`, of `simulate_io`, or of `run_io`.
+    /// Those of `audit_io`, of `explain_io`, of `resolve_io`, of `simulate_io`, or of `run_io`.
     pub fn run<T: Threads + Wait + Sync, R: Read, W: Write>(
         self,
         rt: &T,
@@ -47,6 +50,7 @@ impl Command<'_> {
     {
         match self {
             Command::Audit => audit_io(alloc, reader, writer),
+            Command::Explain(as_json) => explain_io(alloc, reader, writer, as_json),
             Command::Resolve(address, replica) => {
                 resolve_io(alloc, reader, writer, address, replica)
             }

@@ -1,12 +1,17 @@
 //! The engines of the program, each over a reader and a writer: `audit_io` writes the verdict on a trace, `resolve_io` where an
-//! address leads in one of its dumps, and `simulate_io` the verdict on the protocol's core after the steps of a script. What is
-//! written is a function of what is read.
+//! address leads in one of its dumps, `explain_io` the verdict and what shows a fault, and `simulate_io` the verdict on the
+//! protocol's core after the steps of a script. What is written is a function of what is read.
 #![tactic(auto)]
 
 mod address;
 mod audit;
 mod command;
 mod ends;
+mod evidence_json;
+mod evidence_text;
+mod explain;
+mod fact_json;
+mod fact_text;
 mod fault;
 mod report;
 mod resolve;
@@ -20,6 +25,7 @@ mod text;
 pub use audit::{audit_io, audit_read};
 pub use command::Command;
 pub use ends::{read_trace, write_text};
+pub use explain::{explain_io, explained_read};
 pub use fault::ProgFault;
 pub use report::Report;
 pub use resolve::{resolve_io, resolve_read};

@@ -12,7 +12,7 @@ use vs_types::{Answer, Rights, Size};
 
 /// A page that was told of, behind a word.
 #[tactic(auto, unfolding(crate::specs::RunText::answer_text))]
-fn answer_text(alloc: Global, answer: Answer) -> Result<String, AllocError>
+pub(crate) fn answer_text(alloc: Global, answer: Answer) -> Result<String, AllocError>
     ensures { IfOk result (λ text. string_bytes text ≡ answer_text answer) }
 {
     match answer {

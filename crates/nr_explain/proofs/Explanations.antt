@@ -20,6 +20,7 @@ shown_of_spelled bytes trace fault shown spelled is = (trace, spelled, is)
 
 pub explained_of_spelled : (bytes : List ℕ) (trace : Recording) (explanation : Explanation) → Spells bytes trace → IsExplanationOn trace explanation
     → IsExplanationOf bytes explanation
-explained_of_spelled bytes trace (Yes order) spelled is = of_spelled bytes trace (verdicts.Yes order) spelled is
+explained_of_spelled bytes trace (Yes order counts) spelled is =
+    (of_spelled bytes trace (verdicts.Yes order) spelled is.0, (trace, spelled, is.1))
 explained_of_spelled bytes trace (No fault shown) spelled is =
     (of_spelled bytes trace (verdicts.No fault) spelled is.0, shown_of_spelled bytes trace fault shown spelled is.1)

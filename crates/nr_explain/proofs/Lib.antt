@@ -11,3 +11,4 @@ pub mod Dumped
 pub mod WrongAnswers
 pub mod Explanations
 pub mod TwoWays
+pub mod Counting

@@ -1,4 +1,4 @@
--- What an explanation says of bytes: the verdict on them, and for a no the evidence.
+-- What an explanation says of bytes: the verdict on them, and for a no the evidence, for a yes how much there is.
 use Rattle.std.specs.Prelude.{◌≡◌, ℕ, List}
 use Rattle.nr_trace.specs.Recording.{Recording}
 use Rattle.nr_trace.specs.Spelling.{Spells}
@@ -7,7 +7,9 @@ use Rattle.nr_trace.specs.declared.fault.Fault.{Fault}
 use Rattle.nr_trace.specs.declared.fault.Fault.TheVariants as faults
 use Rattle.nr_audit.specs.Verdict.{IsVerdictOf}
 use Rattle.nr_audit.specs.declared.verdict.Verdict.TheVariants as verdicts
+use Rattle.nr_explain.specs.Counts.{IsCountOf}
 use Rattle.nr_explain.specs.Evidence.{IsEvidence}
+use Rattle.nr_explain.specs.declared.counts.Counts.{Counts}
 use Rattle.nr_explain.specs.declared.evidence.Evidence.{Evidence}
 use Rattle.nr_explain.specs.declared.evidence.Evidence.TheVariants as evidence
 use Rattle.nr_explain.specs.declared.explaining.Explanation.{Explanation}
@@ -18,7 +20,11 @@ abbrev pub IsEvidenceOf : List ℕ → Fault → Evidence → Type 0
 IsEvidenceOf bytes fault (evidence.Format format) = (fault ≡ faults.Format format) × HasFormatFault bytes format
 IsEvidenceOf bytes fault shown = (trace : Recording) × Spells bytes trace × IsEvidence trace fault shown
 
--- the verdict on the bytes, and evidence of their first fault
+-- the counts are those of the trace that the bytes spell
+abbrev pub IsCountOfBytes : List ℕ → Counts → Type 0
+IsCountOfBytes bytes counts = (trace : Recording) × Spells bytes trace × IsCountOf trace counts
+
+-- the verdict on the bytes; how much is right, or evidence of their first fault
 abbrev pub IsExplanationOf : List ℕ → Explanation → Type 0
-IsExplanationOf bytes (Yes order) = IsVerdictOf bytes (verdicts.Yes order)
+IsExplanationOf bytes (Yes order counts) = IsVerdictOf bytes (verdicts.Yes order) × IsCountOfBytes bytes counts
 IsExplanationOf bytes (No fault shown) = IsVerdictOf bytes (verdicts.No fault) × IsEvidenceOf bytes fault shown

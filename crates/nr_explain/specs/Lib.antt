@@ -1,4 +1,5 @@
 pub mod Facts
 pub mod Evidence
+pub mod Counts
 pub mod Explanation
 pub mod inside

@@ -8,6 +8,7 @@ ghost use Rattle.nr_explain.specs.inside.Searches.{IsOfDump};
 
 use crate::answers::other_answer;
 use crate::calls::{open_calls, stray_reply, two_replies};
+use crate::counts::{Counts, count};
 use crate::dumps::{
     difference, long_prefix, missing_table, reserved_entry, shared_table, stray_table,
 };
@@ -22,8 +23,8 @@ use vs_types::{Fail, Memory};
 /// What an audit finds, and what shows it.
 #[derive(Debug, Drop)]
 pub enum Explanation {
-    /// The trace is right, with this order of its calls.
-    Yes(Order),
+    /// The trace is right, with this order of its calls, and has so much.
+    Yes(Order, Counts),
     /// The first fault, and what shows it.
     No(Fault, Evidence),
 }
@@ -89,12 +90,15 @@ fn explain_dump(alloc: Global, trace: &Trace, fault: Fault) -> Result<Evidence, 
     }
 }
 
-/// The verdict on a trace, and for a no what shows the fault.
+/// The verdict on a trace, and for a no what shows the fault, for a yes how much the trace has.
 fn explain_trace(alloc: Global, trace: &Trace) -> Result<Explanation, Memory>
     ensures { IfOk result (IsExplanationOn trace.now) }
 {
     match judge(alloc, trace)? {
-        Verdict::Yes(order) => Ok(Explanation::Yes(order)),
+        Verdict::Yes(order) => {
+            let counts = count(alloc, trace, &order)?;
+            Ok(Explanation::Yes(order, counts))
+        }
         Verdict::No(fault) => {
             let shown = explain(alloc, trace, fault)?;
             Ok(Explanation::No(fault, shown))
@@ -102,9 +106,9 @@ fn explain_trace(alloc: Global, trace: &Trace) -> Result<Explanation, Memory>
     }
 }
 
-/// The verdict on bytes of which this was read, and for a no what shows the fault.
+/// The verdict on bytes of which this was read, and for a no what shows the fault, for a yes how much the trace has.
 ///
-/// Takes what `judge` takes, and then what `explain` takes.
+/// Takes what `judge` takes, and then what `explain` takes, or for a yes a space and a list of its pages.
 ///
 /// # Errors
 ///

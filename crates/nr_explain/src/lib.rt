@@ -3,6 +3,7 @@
 
 mod answers;
 mod calls;
+mod counts;
 mod dumps;
 mod evidence;
 mod explaining;
@@ -13,6 +14,7 @@ mod paths;
 mod replay;
 mod searching;
 
+pub use counts::Counts;
 pub use evidence::{
     Difference, EarlyCall, Evidence, LongPrefix, Misplaced, MissingTable, NoUpdate, OpenCalls,
     OtherAnswer, PastEnd, PlacedUpdate, RecordedCall, RecordedReply, ReservedEntry, SharedTable,

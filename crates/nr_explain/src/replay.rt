@@ -40,7 +40,7 @@ fn apply_place(trace: &Trace, space: &mut PlainSpace, place: u32) -> Result<(), 
 }
 
 /// The space after this many places.
-fn space_at(alloc: Global, trace: &Trace, end: u32) -> Result<PlainSpace, Memory>
+pub(crate) fn space_at(alloc: Global, trace: &Trace, end: u32) -> Result<PlainSpace, Memory>
     requires { end ≤ length trace.now.log }
     ensures { IfOk result (λ space. space ≡ space_of trace.now.layout (space_after trace.now (take end trace.now.log))) }
 {

@@ -12,7 +12,7 @@ use Rattle.clap.specs.declared.error.kind.ErrorKind.{ErrorKind}
 use Rattle.clap.specs.declared.parser.matches.SubCommand.{SubCommand}
 use Rattle.clap.specs.declared.parser.matches.ArgMatches.TheViews.{out-SubCommand}
 use Rattle.nrvs.specs.CommandLine.{Asks, IsFlag, IsNumber, IsReplica, IsSetup, IsTurns}
-use Rattle.nr_engines.specs.declared.command.Command.TheVariants.{Audit, Resolve, Run, Simulate}
+use Rattle.nr_engines.specs.declared.command.Command.TheVariants.{Audit, Explain, Resolve, Run, Simulate}
 use Rattle.nr_engines.specs.declared.setup.Setup.{Setup}
 
 -- one kind more may come
@@ -70,6 +70,10 @@ number_of least most default t u number same h = subst (λ (text : Option Text).
 pub flag_of : (t u : Option Text) (flag : Bool) → t ≡ u → (t ≡ None → flag ≡ false) → (t ≡ Some (codes "true") → flag ≡ true)
     → (t ≡ Some (codes "false") → flag ≡ false) → IsFlag u flag
 flag_of t u flag same absent set unset = record { none = λ e. absent (same ∙ e); yes = λ e. set (same ∙ e); no = λ e. unset (same ∙ e) }
+
+pub asks_explain : (sub : Option (Text × List Row)) (rows : List Row) (as_json : Bool) → sub ≡ Some (codes "explain", rows)
+    → IsFlag (one_of (codes "json") rows) as_json → Asks sub (Explain as_json)
+asks_explain sub rows as_json is flag = subst (λ s. Asks s (Explain as_json)) (sym is) (refl, flag)
 
 pub asks_simulate : (sub : Option (Text × List Row)) (rows : List Row) (setup : Setup) (as_trace : Bool) → sub ≡ Some (codes "simulate", rows)
     → IsSetup rows setup → IsFlag (one_of (codes "trace") rows) as_trace → Asks sub (Simulate setup as_trace)

@@ -11,7 +11,7 @@ use Rattle.clap.specs.declared.builder.value_parser.ValueParser.TheVariants as p
 use Rattle.clap.specs.declared.builder.action.ArgAction.TheVariants.{SetTrue}
 use Rattle.clap.specs.declared.error.kind.ErrorKind.TheVariants as kind
 use Rattle.nr_engines.specs.declared.command.Command.{Command}
-use Rattle.nr_engines.specs.declared.command.Command.TheVariants.{Audit, Resolve, Simulate, Run}
+use Rattle.nr_engines.specs.declared.command.Command.TheVariants.{Audit, Explain, Resolve, Simulate, Run}
 use Rattle.nr_engines.specs.declared.setup.Setup.{Setup}
 use Rattle.nrvs.specs.declared.words.NoWords.{NoWords}
 use Rattle.nrvs.specs.declared.words.NoWords.TheVariants.{Memory, NotText}
@@ -52,12 +52,19 @@ tables_option = number_option (codes "tables") (parsers.Signed (pos 1) (pos 4096
 abbrev pub trace_option : Rule
 trace_option = record (new_rule (codes "trace")) { long = Some (codes "trace"); action = Some SetTrue }
 
+-- --json, which has no value
+abbrev pub json_option : Rule
+json_option = record (new_rule (codes "json")) { long = Some (codes "json"); action = Some SetTrue }
+
 -- the most turns of a call
 abbrev pub turns_option : Rule
 turns_option = number_option (codes "turns") (parsers.Signed (pos 1) (pos 4294967295)) (codes "100000")
 
 abbrev pub audit_app : App
 audit_app = new_app (codes "audit")
+
+abbrev pub explain_app : App
+explain_app = with_rule (new_app (codes "explain")) json_option
 
 abbrev pub resolve_app : App
 resolve_app = with_rule (with_rule (new_app (codes "resolve")) address_option) replica_option
@@ -75,7 +82,8 @@ program_app = record (new_app (codes "nrvs")) {
 }
 
 abbrev pub command_line : App
-command_line = with_subcommand (with_subcommand (with_subcommand (with_subcommand program_app audit_app.top) resolve_app.top) simulate_app.top) run_app.top
+command_line = with_subcommand (with_subcommand (with_subcommand (with_subcommand (with_subcommand program_app audit_app.top) explain_app.top)
+    resolve_app.top) simulate_app.top) run_app.top
 
 -- the number that a text is, or 0 where it is none below 256, or there is none
 abbrev pub IsReplica : Option Text → ℕ → Type 0
@@ -110,6 +118,7 @@ pub record IsSetup (given : List Row) (setup : Setup) : Type 0 where
 abbrev pub Asks : Option (Text × List Row) → Command → Type 0
 Asks None command = ⊥
 Asks (Some given) Audit = given.0 ≡ codes "audit"
+Asks (Some given) (Explain as_json) = (given.0 ≡ codes "explain") × IsFlag (one_of (codes "json") given.1) as_json
 Asks (Some given) (Resolve address replica) =
     (given.0 ≡ codes "resolve") × (unwrap_or (first_of (codes "address") given.1) [] ≡ address.now) × IsReplica (one_of (codes "replica") given.1) replica
 Asks (Some given) (Simulate setup as_trace) =

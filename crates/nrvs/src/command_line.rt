@@ -1,7 +1,7 @@
 //! The words that the program knows.
 ghost use Rattle.std.specs.Prelude.{◌≡◌, false, IfOk};
 ghost use Rattle.clap.specs.Words.{app_of, rule_of};
-ghost use Rattle.nrvs.specs.CommandLine.{command_line, number_option, resolve_app, run_app, simulate_app, IsLocal};
+ghost use Rattle.nrvs.specs.CommandLine.{command_line, explain_app, number_option, resolve_app, run_app, simulate_app, IsLocal};
 
 use clap::builder::ValueParser;
 use clap::{Arg, ArgAction, Command, value_parser};
@@ -9,6 +9,21 @@ use std::alloc::{AllocError, Global};
 
 /// The version that `--version` prints.
 const VERSION: &str = "0.1.0";
+
+fn explain<'a>(alloc: Global) -> Result<Command<'a>, AllocError>
+    ensures app { IfOk result (λ command. app_of command ≡ explain_app) }
+    ensures local { IfOk result IsLocal }
+{
+    let json = Arg::new(alloc, "json")
+        .long("json")
+        .action(ArgAction::SetTrue)
+        .help("Prints one JSON object");
+    Command::new(alloc, "explain")
+        .about(
+            "Reads a trace from standard input and prints whether it is right, and what shows a fault",
+        )
+        .arg(json)
+}
 
 fn resolve<'a>(alloc: Global) -> Result<Command<'a>, AllocError>
     ensures app { IfOk result (λ command. app_of command ≡ resolve_app) }
@@ -113,6 +128,7 @@ pub fn command_line<'a>(alloc: Global) -> Result<Command<'a>, AllocError>
     let audit = Command::new(alloc, "audit").about(
         "Reads a trace from standard input and prints whether it is right",
     );
+    let explain = explain(alloc)?;
     let resolve = resolve(alloc)?;
     let simulate = simulate(alloc)?;
     let run = run(alloc)?;
@@ -122,6 +138,7 @@ pub fn command_line<'a>(alloc: Global) -> Result<Command<'a>, AllocError>
         .subcommand_required(true)
         .disable_help_subcommand(true)
         .subcommand(audit)?
+        .subcommand(explain)?
         .subcommand(resolve)?
         .subcommand(simulate)?
         .subcommand(run)

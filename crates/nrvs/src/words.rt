@@ -90,6 +90,10 @@ fn read_words<'a>(alloc: Global, words: &'a [String]) -> Result<Command<'a>, Err
     let matches = line.try_get_matches_from_mut(words)?;
     match matches.subcommand() {
         Some(("audit", _)) => Ok(Command::Audit),
+        Some(("explain", given)) => {
+            let as_json = given.get_flag("json");
+            Ok(Command::Explain(as_json))
+        }
         Some(("resolve", given)) => {
             let address = given.get_str("address").unwrap_or("");
             let replica = given.get_one::<u8>("replica").unwrap_or(0);

@@ -26,9 +26,10 @@ returns c =
     let program_is : app_of c.disable_help_subcommand.result ≡ program_app = ap app_of_fields c.disable_help_subcommand.ensures
     ∙ ap no_help (ap app_of_fields c.subcommand_required.ensures ∙ ap needs (ap app_of_fields c.version.ensures ∙ ap versioned (ap app_of_fields c.about.ensures ∙ c.new-2.ensures.app))) in
     let one_is = c.in_ok-subcommand.ensures.shape audit_local ∙ ap₂ with_subcommand program_is (ap top audit_is) in
-    let two_is = c.in_ok-subcommand-2.ensures.shape c.in_ok-resolve.ensures.local ∙ ap₂ with_subcommand one_is (ap top c.in_ok-resolve.ensures.app) in
-    let three_is = c.in_ok-subcommand-3.ensures.shape c.in_ok-simulate.ensures.local ∙ ap₂ with_subcommand two_is (ap top c.in_ok-simulate.ensures.app) in
+    let two_is = c.in_ok-subcommand-2.ensures.shape c.in_ok-explain.ensures.local ∙ ap₂ with_subcommand one_is (ap top c.in_ok-explain.ensures.app) in
+    let three_is = c.in_ok-subcommand-3.ensures.shape c.in_ok-resolve.ensures.local ∙ ap₂ with_subcommand two_is (ap top c.in_ok-resolve.ensures.app) in
+    let four_is = c.in_ok-subcommand-4.ensures.shape c.in_ok-simulate.ensures.local ∙ ap₂ with_subcommand three_is (ap top c.in_ok-simulate.ensures.app) in
     record {
-      app = IfOk-weaker c.subcommand-4.result _ _ (λ command h. h.shape c.in_ok-run.ensures.local
-          ∙ ap₂ with_subcommand three_is (ap top c.in_ok-run.ensures.app)) c.subcommand-4.ensures;
+      app = IfOk-weaker c.subcommand-5.result _ _ (λ command h. h.shape c.in_ok-run.ensures.local
+          ∙ ap₂ with_subcommand four_is (ap top c.in_ok-run.ensures.app)) c.subcommand-5.ensures;
     }

@@ -5,7 +5,7 @@ use Rattle.clap.specs.Faults.{fault_of, is_simple_and_free}
 use Rattle.std.specs.Str.Parse.{ParsesUnsigned, ExplainsUnsignedError, HasUnsignedDigitsIfOk}
 use Rattle.clap.proofs.WalkLemmas.{first_value-rows, one_text-rows}
 use Rattle.nrvs.specs.CommandLine.{command_line, IsReplica, IsTurns}
-use Rattle.nrvs.proofs.CommandLines.{one_more, same_error, entered, text_or_none, replica_read, asks_audit, asks_resolve, asks_run, asks_simulate, flag_of}
+use Rattle.nrvs.proofs.CommandLines.{one_more, same_error, entered, text_or_none, replica_read, asks_audit, asks_explain, asks_resolve, asks_run, asks_simulate, flag_of}
 use Rattle.nrvs.proofs.words.read_words.Goals as goal
 
 pub returns-in_err-matches-clause-fault : goal.returns-in_err-matches-clause-fault
@@ -32,6 +32,26 @@ returns-in-Some-audit-default-clause-asks c =
     let parsed : subcommand_rows_of c.in_ok-matches.matches ≡ subcommand_of command_line texts =
     (c.in_ok-matches.ensures.ok.2 (ap is_simple app_is)).1 ∙ ap (λ (a : App). subcommand_of a texts) app_is in
     asks_audit _ _ parsed (ap Some (sym arm.is-audit) ∙ arm.ensures.name)
+
+pub returns-in-Some-explain-default-clause-faultless : goal.returns-in-Some-explain-default-clause-faultless
+returns-in-Some-explain-default-clause-faultless c =
+    let app_is : app_of c.in_ok-line.line ≡ command_line = c.in_ok-line.ensures.app in
+    subst (λ (a : App). fault_of a (map (λ word. string_bytes word) c.args.words.now) ≡ []) app_is
+    (c.in_ok-matches.ensures.kinds (ap is_simple_and_free app_is))
+
+pub returns-in-Some-explain-default-clause-asks : goal.returns-in-Some-explain-default-clause-asks
+returns-in-Some-explain-default-clause-asks c =
+    let app_is : app_of c.in_ok-line.line ≡ command_line = c.in_ok-line.ensures.app in
+    let arm = c.in-Some-explain-default in
+    let found = found_of arm.given.now in
+    let texts = map (λ word. string_bytes word) c.args.words.now in
+    let parsed : subcommand_rows_of c.in_ok-matches.matches ≡ subcommand_of command_line texts =
+    (c.in_ok-matches.ensures.ok.2 (ap is_simple app_is)).1 ∙ ap (λ (a : App). subcommand_of a texts) app_is in
+    let name_is = ap Some (sym arm.is-explain) ∙ arm.ensures.name in
+    let sub_is = sym parsed ∙ entered _ (codes "explain") (rows_of found) name_is arm.ensures.rows in
+    let flag = c.get_flag-as_json.ensures in
+    asks_explain _ (rows_of found) c.get_flag-as_json.result sub_is
+    (flag_of _ _ _ (one_text-rows found (codes "json")) flag.none flag.value flag.other)
 
 pub returns-in-Some-resolve-default-clause-faultless : goal.returns-in-Some-resolve-default-clause-faultless
 returns-in-Some-resolve-default-clause-faultless c =

@@ -1,0 +1,68 @@
+-- No float stands in the JSON of an explanation.
+use Rattle.std.proofs.Common.{◌≡◌, ℕ, Bool, false, ◌||◌, List, [], ◌∷◌, Option, Some, None, ap, ap₂, map, refl}
+use Rattle.serde_json.specs.View.{items_of}
+use Rattle.serde_json.specs.Written.{has_float, items_have_float}
+use Rattle.nr_trace.specs.declared.event.Event.{Event}
+use Rattle.nr_trace.specs.declared.event.Event.TheVariants.{Call, Reply}
+use Rattle.nr_explain.specs.declared.evidence.PlacedUpdate.{PlacedUpdate}
+use Rattle.nr_explain.specs.declared.evidence.Step.{Step}
+use Rattle.nr_explain.specs.declared.evidence.Evidence.{Evidence}
+use Rattle.nr_explain.specs.declared.evidence.Evidence.TheVariants as evidence
+use Rattle.nr_explain.specs.declared.explaining.Explanation.{Explanation}
+use Rattle.nr_explain.specs.declared.explaining.Explanation.TheVariants.{Yes, No}
+use Rattle.nr_engines.specs.EvidenceJson.{changed_data, event_data, evidence_data, explanation_data, number_data, option_data, step_data, way_data}
+
+numbers : (order : List ℕ) → items_have_float (items_of (map number_data order)) ≡ false
+numbers [] = refl
+numbers (call ∷ more) = numbers more
+
+steps : (way : List Step) → items_have_float (items_of (map step_data way)) ≡ false
+steps [] = refl
+steps (step ∷ more) = steps more
+
+way : (entries : List Step) → has_float (way_data entries) ≡ false
+way entries = steps entries
+
+option : (n : Option ℕ) → has_float (option_data n) ≡ false
+option None = refl
+option (Some n) = refl
+
+event : (index : ℕ) (named : Option Event) → has_float (event_data index named) ≡ false
+event index None = refl
+event index (Some (Call replica thread request)) = refl
+event index (Some (Reply call at answer)) = refl
+
+changed : (update : Option PlacedUpdate) → has_float (changed_data update) ≡ false
+changed None = refl
+changed (Some update) = refl
+
+-- one of the members may be any of these, or two
+abbrev one : Bool → Bool
+one b = b || false
+
+abbrev two : Bool → Bool → Bool
+two a b = a || (b || false)
+
+pub evidence_has_no_float : (shown : Evidence) → has_float (evidence_data shown) ≡ false
+unfolding evidence_data
+evidence_has_no_float (evidence.Format format) = refl
+evidence_has_no_float (evidence.ThreadOpen calls) = refl
+evidence_has_no_float (evidence.NoSuchCall stray) = ap one (event stray.reply.call stray.named)
+evidence_has_no_float (evidence.AnsweredTwice replies) = refl
+evidence_has_no_float (evidence.NotAnUpdate wrong) = ap one (event wrong.call wrong.named)
+evidence_has_no_float (evidence.PlacedTwice places) = refl
+evidence_has_no_float (evidence.NotPlaced wrong) = ap₂ two (option wrong.own) (option wrong.there)
+evidence_has_no_float (evidence.PastLog wrong) = refl
+evidence_has_no_float (evidence.Early early) = refl
+evidence_has_no_float (evidence.WrongAnswer wrong) = ap one (changed wrong.changed)
+evidence_has_no_float (evidence.PrefixPastLog wrong) = refl
+evidence_has_no_float (evidence.PrefixShort wrong) = refl
+evidence_has_no_float (evidence.MissingFrame wrong) = ap one (way wrong.path.items)
+evidence_has_no_float (evidence.SharedFrame wrong) = ap₂ two (way wrong.first.items) (way wrong.second.items)
+evidence_has_no_float (evidence.ReservedBit wrong) = ap one (way wrong.path.items)
+evidence_has_no_float (evidence.StrayFrame wrong) = refl
+evidence_has_no_float (evidence.Differs wrong) = ap one (changed wrong.changed)
+
+pub explanation_has_no_float : (explanation : Explanation) → has_float (explanation_data explanation) ≡ false
+explanation_has_no_float (Yes order counts) = ap one (numbers order)
+explanation_has_no_float (No fault shown) = ap one (evidence_has_no_float shown)

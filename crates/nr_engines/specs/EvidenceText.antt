@@ -1,0 +1,192 @@
+-- What `explain` prints: the lines of the verdict, and for a no a line for each fact that shows the fault, for a yes how much there is.
+use Rattle.std.specs.Prelude.{ℕ, ◌++◌, List, [], ◌∷◌, codes, decimal, flat_map, Option, Some, None}
+use Rattle.vs_types.specs.declared.answer.Answer.{Answer}
+use Rattle.vs_types.specs.declared.op.Action.TheVariants.{Map, Unmap, Protect}
+use Rattle.vs_types.specs.declared.request.Query.{Query}
+use Rattle.vs_types.specs.declared.request.Query.TheVariants.{Update, Resolve, Access}
+use Rattle.nr_trace.specs.declared.event.Event.{Event}
+use Rattle.nr_trace.specs.declared.event.Event.TheVariants.{Call, Reply}
+use Rattle.nr_trace.specs.declared.fault.Format.{Format}
+use Rattle.nr_trace.specs.declared.fault.Format.TheVariants as formats
+use Rattle.nr_explain.specs.declared.counts.Counts.{Counts}
+use Rattle.nr_explain.specs.declared.evidence.RecordedCall.{RecordedCall}
+use Rattle.nr_explain.specs.declared.evidence.RecordedReply.{RecordedReply}
+use Rattle.nr_explain.specs.declared.evidence.PlacedUpdate.{PlacedUpdate}
+use Rattle.nr_explain.specs.declared.evidence.Step.{Step}
+use Rattle.nr_explain.specs.declared.evidence.OpenCalls.{OpenCalls}
+use Rattle.nr_explain.specs.declared.evidence.StrayReply.{StrayReply}
+use Rattle.nr_explain.specs.declared.evidence.TwoReplies.{TwoReplies}
+use Rattle.nr_explain.specs.declared.evidence.NoUpdate.{NoUpdate}
+use Rattle.nr_explain.specs.declared.evidence.TwoPlaces.{TwoPlaces}
+use Rattle.nr_explain.specs.declared.evidence.Misplaced.{Misplaced}
+use Rattle.nr_explain.specs.declared.evidence.PastEnd.{PastEnd}
+use Rattle.nr_explain.specs.declared.evidence.EarlyCall.{EarlyCall}
+use Rattle.nr_explain.specs.declared.evidence.OtherAnswer.{OtherAnswer}
+use Rattle.nr_explain.specs.declared.evidence.LongPrefix.{LongPrefix}
+use Rattle.nr_explain.specs.declared.evidence.ShortPrefix.{ShortPrefix}
+use Rattle.nr_explain.specs.declared.evidence.SharedTable.{SharedTable}
+use Rattle.nr_explain.specs.declared.evidence.ReservedEntry.{ReservedEntry}
+use Rattle.nr_explain.specs.declared.evidence.StrayTable.{StrayTable}
+use Rattle.nr_explain.specs.declared.evidence.Difference.{Difference}
+use Rattle.nr_explain.specs.declared.evidence.Evidence.{Evidence}
+use Rattle.nr_explain.specs.declared.evidence.Evidence.TheVariants as evidence
+use Rattle.nr_explain.specs.declared.explaining.Explanation.{Explanation}
+use Rattle.nr_explain.specs.declared.explaining.Explanation.TheVariants.{Yes, No}
+use Rattle.nr_engines.specs.Text.{hexadecimal, line_end, no_text, rights_text, size_text, space, walk_text, yes_text}
+use Rattle.nr_script.specs.Words.{access_text, mode_text}
+use Rattle.nr_engines.specs.RunText.{answer_text}
+
+-- what a call asks, as a script has it
+unfoldable pub request_text : Query → List ℕ
+request_text (Update (Map page)) = codes "map " ++ (size_text page.size ++ (space ++ (hexadecimal page.base ++ (space ++ (hexadecimal page.phys
+    ++ (space ++ rights_text page.rights))))))
+request_text (Update (Unmap base)) = codes "unmap " ++ hexadecimal base
+request_text (Update (Protect base rights)) = codes "protect " ++ (hexadecimal base ++ (space ++ rights_text rights))
+request_text (Resolve address) = codes "resolve " ++ hexadecimal address
+request_text (Access address mode access) = codes "access " ++ (mode_text mode ++ (space ++ (access_text access ++ (space ++ hexadecimal address))))
+
+-- the line of a call: its number, its thread, its replica and what it asks
+unfoldable pub call_line : RecordedCall → List ℕ
+call_line call = codes "call " ++ (decimal call.event ++ (codes ", thread " ++ (decimal call.thread ++ (codes ", replica " ++ (decimal call.replica
+    ++ (codes ": " ++ (request_text call.request ++ line_end)))))))
+
+-- the line of a reply: its event, the call that it answers, its `at` and its answer
+unfoldable pub reply_line : RecordedReply → List ℕ
+reply_line reply = codes "reply " ++ (decimal reply.event ++ (codes " to call " ++ (decimal reply.call ++ (codes ", at " ++ (decimal reply.at
+    ++ (codes ": " ++ (answer_text reply.answer ++ line_end)))))))
+
+-- the line of the event that a number names, if there is one
+unfoldable pub event_line : ℕ → Option Event → List ℕ
+event_line number None = codes "event " ++ (decimal number ++ codes ": none\n")
+event_line number (Some (Call replica thread request)) =
+    call_line record { event = number; replica = replica; thread = thread; request = request }
+event_line number (Some (Reply call at answer)) = reply_line record { event = number; call = call; at = at; answer = answer }
+
+-- the line of a number, behind words
+unfoldable pub number_line : List ℕ → ℕ → List ℕ
+number_line words number = words ++ (decimal number ++ line_end)
+
+-- the same where there may be none
+unfoldable pub option_line : List ℕ → Option ℕ → List ℕ
+option_line words None = words ++ codes "none\n"
+option_line words (Some number) = number_line words number
+
+-- the line of an answer, behind words
+unfoldable pub answer_line : List ℕ → Answer → List ℕ
+answer_line words answer = words ++ (answer_text answer ++ line_end)
+
+-- the last update that changed how an address looks, to the end of its line
+unfoldable pub changed_line : Option PlacedUpdate → List ℕ
+changed_line None = codes "last changed by: none\n"
+changed_line (Some update) = codes "last changed by place " ++ (decimal update.place ++ (codes ", " ++ call_line update.call))
+
+-- the line of an address, and what changed last how it looks
+unfoldable pub address_line : ℕ → Option PlacedUpdate → List ℕ
+address_line address changed = codes "address " ++ (hexadecimal address ++ (codes ", " ++ changed_line changed))
+
+-- the line of an entry of a table
+unfoldable pub step_line : Step → List ℕ
+step_line step = codes "level " ++ (decimal step.level ++ (codes ", frame " ++ (decimal step.frame ++ (codes ", index " ++ (decimal step.index
+    ++ (codes ": " ++ (hexadecimal step.word ++ line_end)))))))
+
+-- the lines of the entries on a way from the root; the way to the root itself has none
+unfoldable pub way_lines : List Step → List ℕ
+way_lines [] = codes "it is the root\n"
+way_lines (step ∷ steps) = flat_map step_line (step ∷ steps)
+
+-- the unit that is wrong, and what is allowed there
+unfoldable pub format_lines : Format → List ℕ
+format_lines formats.Truncated = codes "the bytes end before the last unit does\n"
+format_lines formats.BadMagic = codes "bytes 0 to 3 are NRVT\n"
+format_lines formats.BadVersion = codes "bytes 4 and 5 are the version, 1 or 2\n"
+format_lines formats.BadCount = codes "a count is out of its range\n"
+format_lines (formats.BadEvent index) = codes "event " ++ (decimal index ++ codes ": 24 bytes that spell no call and no reply here\n")
+format_lines (formats.BadFrame replica index) =
+    codes "replica " ++ (decimal replica ++ (codes ", frame " ++ (decimal index
+    ++ codes ": its number is not above the one before it, or not below 0x10000000000\n")))
+format_lines formats.Trailing = codes "a byte stands after the last unit\n"
+
+abbrev pub open_lines : OpenCalls → List ℕ
+open_lines calls = call_line calls.first ++ call_line calls.second
+
+abbrev pub stray_reply_lines : StrayReply → List ℕ
+stray_reply_lines stray = reply_line stray.reply ++ event_line stray.reply.call stray.named
+
+abbrev pub two_replies_lines : TwoReplies → List ℕ
+two_replies_lines replies = call_line replies.call ++ (reply_line replies.first ++ reply_line replies.second)
+
+abbrev pub no_update_lines : NoUpdate → List ℕ
+no_update_lines wrong =
+    codes "place " ++ (decimal wrong.place ++ (codes " has " ++ (decimal wrong.call ++ (line_end ++ event_line wrong.call wrong.named))))
+
+abbrev pub two_places_lines : TwoPlaces → List ℕ
+two_places_lines places =
+    codes "places " ++ (decimal places.first ++ (codes " and " ++ (decimal places.second ++ (line_end ++ call_line places.call))))
+
+abbrev pub misplaced_lines : Misplaced → List ℕ
+misplaced_lines wrong =
+    call_line wrong.call ++ (reply_line wrong.reply ++ (option_line (codes "its place: ") wrong.own ++ option_line (codes "the call there: ") wrong.there))
+
+abbrev pub past_end_lines : PastEnd → List ℕ
+past_end_lines wrong = call_line wrong.call ++ (reply_line wrong.reply ++ number_line (codes "entries of the log: ") wrong.places)
+
+abbrev pub early_lines : EarlyCall → List ℕ
+early_lines early =
+    call_line early.call ++ (number_line (codes "entries before it: ") early.entries ++ (number_line (codes "known when it was made: ") early.floor
+    ++ (reply_line early.reply ++ call_line early.answered)))
+
+abbrev pub other_answer_lines : OtherAnswer → List ℕ
+other_answer_lines wrong =
+    call_line wrong.call ++ (reply_line wrong.reply ++ (answer_line (codes "the space answers: ") wrong.wanted ++ address_line wrong.address wrong.changed))
+
+abbrev pub long_prefix_lines : LongPrefix → List ℕ
+long_prefix_lines wrong = number_line (codes "applied: ") wrong.applied ++ number_line (codes "entries of the log: ") wrong.places
+
+abbrev pub short_prefix_lines : ShortPrefix → List ℕ
+short_prefix_lines wrong =
+    number_line (codes "applied: ") wrong.applied ++ (number_line (codes "known there: ") wrong.known ++ (reply_line wrong.reply ++ call_line wrong.call))
+
+abbrev pub shared_lines : SharedTable → List ℕ
+shared_lines wrong = codes "one way:\n" ++ (way_lines wrong.first.items ++ (codes "another:\n" ++ way_lines wrong.second.items))
+
+abbrev pub reserved_lines : ReservedEntry → List ℕ
+reserved_lines wrong = flat_map step_line wrong.path.items ++ step_line wrong.entry
+
+abbrev pub stray_lines : StrayTable → List ℕ
+stray_lines wrong = codes "no table leads to frame " ++ (decimal wrong.frame ++ line_end)
+
+abbrev pub difference_lines : Difference → List ℕ
+difference_lines wrong =
+    number_line (codes "applied: ") wrong.applied ++ ((codes "the dump: " ++ walk_text wrong.found)
+    ++ (answer_line (codes "the space: ") wrong.wanted ++ address_line wrong.address wrong.changed))
+
+-- the lines of the evidence
+unfoldable pub evidence_text : Evidence → List ℕ
+evidence_text (evidence.Format format) = format_lines format
+evidence_text (evidence.ThreadOpen calls) = open_lines calls
+evidence_text (evidence.NoSuchCall stray) = stray_reply_lines stray
+evidence_text (evidence.AnsweredTwice replies) = two_replies_lines replies
+evidence_text (evidence.NotAnUpdate wrong) = no_update_lines wrong
+evidence_text (evidence.PlacedTwice places) = two_places_lines places
+evidence_text (evidence.NotPlaced wrong) = misplaced_lines wrong
+evidence_text (evidence.PastLog wrong) = past_end_lines wrong
+evidence_text (evidence.Early early) = early_lines early
+evidence_text (evidence.WrongAnswer wrong) = other_answer_lines wrong
+evidence_text (evidence.PrefixPastLog wrong) = long_prefix_lines wrong
+evidence_text (evidence.PrefixShort wrong) = short_prefix_lines wrong
+evidence_text (evidence.MissingFrame wrong) = way_lines wrong.path.items
+evidence_text (evidence.SharedFrame wrong) = shared_lines wrong
+evidence_text (evidence.ReservedBit wrong) = reserved_lines wrong
+evidence_text (evidence.StrayFrame wrong) = stray_lines wrong
+evidence_text (evidence.Differs wrong) = difference_lines wrong
+
+-- the lines of how much a right trace has
+abbrev pub counts_lines : Counts → List ℕ
+counts_lines counts =
+    number_line (codes "calls: ") counts.calls ++ (number_line (codes "updates: ") counts.updates ++ (number_line (codes "reads: ") counts.reads
+    ++ (number_line (codes "replicas: ") counts.replicas ++ number_line (codes "pages: ") counts.pages)))
+
+-- the lines of an explanation
+abbrev pub explanation_text : Explanation → List ℕ
+explanation_text (Yes order counts) = yes_text order ++ counts_lines counts
+explanation_text (No fault shown) = no_text fault ++ evidence_text shown

@@ -1,0 +1,149 @@
+ghost use Rattle.std.specs.Prelude.{◌≡◌, ◌++◌, ℕ, IfOk, IfErr, List, codes, map, string_bytes};
+ghost use Rattle.serde_json.specs.Data.{array};
+ghost use Rattle.nr_engines.specs.Text.{fault_text};
+ghost use Rattle.nr_trace.specs.Feed.{Reads};
+ghost use Rattle.serde_json.specs.View.{items_of, view};
+ghost use Rattle.nr_engines.specs.EvidenceText.{explanation_text};
+ghost use Rattle.nr_engines.specs.EvidenceJson.{explanation_data, explanation_json, number_data};
+ghost use Rattle.nr_engines.specs.Explained.{explanation_status, told_explanation, IsExplained};
+ghost use Rattle.nr_engines.specs.Refusals.{IsEndFault, WritesAnswersAlone};
+ghost use Rattle.nr_engines.specs.Answers.{HasReadFew, WritesReport};
+
+use crate::ends::{read_trace, write_report};
+use crate::evidence_json::{counts_value, evidence_value};
+use crate::evidence_text::{counts_lines, evidence_text};
+use crate::fault::ProgFault;
+use crate::report::Report;
+use crate::text::{fault_text, no_text, yes_text};
+use nr_explain::{Explanation, explain_read};
+use nr_trace::{Format, Trace};
+use serde_json::{Value, json};
+use std::alloc::{AllocError, Global};
+use std::io::{Read, Write};
+use vs_types::{Fail, Memory};
+
+fn status_of(explanation: &Explanation) -> u8
+    ensures { result ≡ explanation_status explanation.now }
+{
+    match explanation {
+        Explanation::Yes(_, _) => 0,
+        Explanation::No(_, _) => 1,
+    }
+}
+
+/// The lines that `explain` prints. Takes memory for the text.
+fn explanation_text(alloc: Global, explanation: &Explanation) -> Result<String, AllocError>
+    ensures { IfOk result (λ text. string_bytes text ≡ explanation_text explanation.now) }
+{
+    match explanation {
+        Explanation::Yes(order, counts) => {
+            let yes = yes_text(alloc, order.calls())?;
+            let lines = counts_lines(alloc, *counts)?;
+            format!(in alloc; "{yes}{lines}")
+        }
+        Explanation::No(fault, shown) => {
+            let no = no_text(alloc, *fault)?;
+            let lines = evidence_text(alloc, shown)?;
+            format!(in alloc; "{no}{lines}")
+        }
+    }
+}
+
+/// The calls of an order.
+fn order_value(alloc: Global, order: &[u32]) -> Result<Value, AllocError>
+    ensures { IfOk result (λ value. view value ≡ array (items_of (map number_data order.now))) }
+{
+    let mut calls = Vec::new(alloc);
+    for call in order {
+        calls.push(Value::from(*call))?;
+    }
+    Ok(Value::Array(calls))
+}
+
+/// The object that `explain --json` prints.
+fn explanation_value(alloc: Global, explanation: &Explanation) -> Result<Value, AllocError>
+    ensures { IfOk result (λ value. view value ≡ explanation_data explanation.now) }
+{
+    match explanation {
+        Explanation::Yes(order, counts) => {
+            let counts = counts_value(alloc, *counts)?;
+            let order = order_value(alloc, order.calls())?;
+            json!(in alloc; {"counts": counts, "order": order, "verdict": "yes"})
+        }
+        Explanation::No(fault, shown) => {
+            let evidence = evidence_value(alloc, shown)?;
+            let fault = fault_text(alloc, *fault)?;
+            let verdict = format!(in alloc; "no {fault}")?;
+            json!(in alloc; {"evidence": evidence, "verdict": verdict})
+        }
+    }
+}
+
+/// The line that `explain --json` prints. Takes memory for the object and for the line.
+#[tactic(auto, using(crate::proofs::NoFloats::explanation_has_no_float))]
+fn explanation_json(alloc: Global, explanation: &Explanation) -> Result<String, AllocError>
+    ensures { IfOk result (λ text. string_bytes text ≡ explanation_json explanation.now) }
+{
+    let value = explanation_value(alloc, explanation)?;
+    let mut text = value.to_string(alloc)?;
+    text.push_str("\n")?;
+    Ok(text)
+}
+
+fn told_explanation(
+    alloc: Global,
+    as_json: bool,
+    explanation: &Explanation,
+) -> Result<String, AllocError>
+    ensures { IfOk result (λ text. string_bytes text ≡ told_explanation as_json explanation.now) }
+{
+    if as_json {
+        explanation_json(alloc, explanation)
+    } else {
+        explanation_text(alloc, explanation)
+    }
+}
+
+/// What `explain` answers to what was read of an input: the lines of its explanation, or the JSON object of it, and 0 where it
+/// is a right trace, else 1. Takes memory for the judgement, the evidence and the text.
+///
+/// # Errors
+///
+/// `Memory` where a growth of memory was refused, here or as the input was read.
+pub fn explained_read(
+    alloc: Global,
+    read: Result<Trace, Fail<Format>>,
+    as_json: bool,
+) -> Result<Report, Memory>
+    ensures { (bytes : List ℕ) → Reads bytes read → IfOk result (λ report. IsExplained as_json bytes (string_bytes report.text) report.status) }
+{
+    let explanation = explain_read(alloc, read)?;
+    let text = told_explanation(alloc, as_json, &explanation)?;
+    Ok(Report {
+        text,
+        status: status_of(&explanation),
+    })
+}
+
+/// Reads a trace in blocks, judges it, and writes the verdict and, for a no, what shows the fault, as lines or as one JSON
+/// object; the status is 0 where it is right, else 1. It stops reading as soon as a whole unit has a fault, or a byte stands
+/// after the last unit. Where it gives no answer some input may have been read, and nothing was written but where that failed.
+///
+/// # Errors
+///
+/// `CannotRead` and `CannotWrite` where an end gave an error, `Memory` where a growth of memory was refused.
+pub fn explain_io<R: Read, W: Write>(
+    alloc: Global,
+    reader: &mut R,
+    writer: &mut W,
+    as_json: bool,
+) -> Result<u8, ProgFault>
+    ensures ok { IfOk result (WritesReport (IsExplained as_json) (R.remaining reader.old) (W.contents writer.old) (W.contents writer.new)) }
+    ensures err { IfErr result IsEndFault }
+    ensures alone { WritesAnswersAlone writer.old writer.new result }
+    ensures few { HasReadFew (R.remaining reader.old) (R.remaining reader.new) }
+{
+    let read = read_trace(alloc, reader)?;
+    let report = explained_read(alloc, read, as_json)?;
+    write_report(writer, &report)
+}

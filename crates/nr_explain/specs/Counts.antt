@@ -1,0 +1,15 @@
+-- How much a right trace has.
+use Rattle.std.specs.Prelude.{◌≡◌, ◌+◌, length}
+use Rattle.vs_types.specs.Space.{pages}
+use Rattle.nr_trace.specs.Recording.{Recording}
+use Rattle.nr_trace.specs.Orders.{recorded_order, space_after}
+use Rattle.nr_explain.specs.declared.counts.Counts.{Counts}
+
+-- the calls of the recorded order, the updates among them, which are the log, and the others, which are reads; the replicas; and the
+-- pages of the space after the whole log
+pub record IsCountOf (trace : Recording) (counts : Counts) : Type 0 where
+  pub calls : counts.calls ≡ length (recorded_order trace)
+  pub updates : counts.updates ≡ length trace.log
+  pub reads : counts.updates + counts.reads ≡ counts.calls
+  pub replicas : counts.replicas ≡ trace.layout.replicas
+  pub pages : counts.pages ≡ length (pages (space_after trace trace.log))

@@ -1,0 +1,298 @@
+#!/usr/bin/env python3
+"""What shows a fault, computed a second time in plain Python beside `model_auditor.py`: written from docs/FORMATS.md and
+docs/DEFINITIONS.md alone, to compare with. Nothing here is proved, and nothing rests on it.
+
+    model_evidence.py <TRACE            what `nrvs explain` prints, with its status
+    model_evidence.py --json <TRACE     what `nrvs explain --json` prints, with its status
+"""
+import json
+import sys
+
+import model_auditor as model
+from model_auditor import Call, Reply
+
+FORMAT_LINES = {
+    "Truncated": "the bytes end before the last unit does",
+    "BadMagic": "bytes 0 to 3 are NRVT",
+    "BadVersion": "bytes 4 and 5 are the version, 1 or 2",
+    "BadCount": "a count is out of its range",
+    "BadEvent": "event {}: 24 bytes that spell no call and no reply here",
+    "BadFrame": "replica {}, frame {}: its number is not above the one before it, or not below 0x10000000000",
+    "Trailing": "a byte stands after the last unit",
+}
+
+
+# ---- words ----
+
+def rights_words(rights):
+    return "".join(letter if rights & bit else "-" for letter, bit in zip("wux", (model.WRITE, model.USER, model.EXEC)))
+
+
+def request_words(call):
+    """As a script has it."""
+    size, rights = model.SIZE_NAMES[call.size], rights_words(call.rights)
+    return {model.MAP: f"map {size} {call.address:#x} {call.phys:#x} {rights}",
+            model.UNMAP: f"unmap {call.address:#x}",
+            model.PROTECT: f"protect {call.address:#x} {rights}",
+            model.RESOLVE: f"resolve {call.address:#x}",
+            model.ACCESS: f"access {'su'[call.rights & 1]} {'rwx'[call.size]} {call.address:#x}"}[call.kind]
+
+
+def answer_words(answer):
+    page = f"{answer.value:#x} {model.SIZE_NAMES[answer.size]} {rights_words(answer.rights)}"
+    return {model.DONE: "done", model.OVERLAP: f"overlap {answer.value:#x}", model.FULL: f"full {answer.value}",
+            model.REMOVED: f"removed {page}", model.NOT_MAPPED: "not mapped", model.INSIDE: f"inside {answer.value:#x}",
+            model.CHANGED: f"changed {rights_words(answer.rights)}", model.MAPPED: f"mapped {page}",
+            model.ALLOWED: f"allowed {answer.value:#x}", model.PAGE_FAULT: f"fault {answer.value}"}[answer.code]
+
+
+# ---- facts: each as JSON, and as a line of text ----
+
+def event_fact(trace, number):
+    if number >= len(trace.events):
+        return None
+    event = trace.events[number]
+    if isinstance(event, Call):
+        return {"event": number, "thread": event.thread, "replica": event.replica, "request": request_words(event)}
+    return {"event": number, "call": event.call, "at": event.at, "answer": answer_words(event.answer)}
+
+
+def event_line(fact, number=None):
+    if fact is None:
+        return f"event {number}: none"
+    if "request" in fact:
+        return f"call {fact['event']}, thread {fact['thread']}, replica {fact['replica']}: {fact['request']}"
+    return f"reply {fact['event']} to call {fact['call']}, at {fact['at']}: {fact['answer']}"
+
+
+def step_line(step):
+    return f"level {step['level']}, frame {step['frame']}, index {step['index']}: {step['word']}"
+
+
+def way_lines(way):
+    return [step_line(step) for step in way] or ["it is the root"]
+
+
+def changed_words(changed):
+    return f"place {changed['place']}, {event_line(changed['call'])}" if changed else "none"
+
+
+# ---- what is sought in the trace ----
+
+def place_of(trace, call):
+    return trace.log.index(call) if call in trace.log else None
+
+
+def replies_of(trace):
+    """Each reply by its event's index, of the calls it can answer."""
+    return {i: event for i, event in enumerate(trace.events) if isinstance(event, Reply)}
+
+
+def known_by(trace, reply):
+    return reply.at + model.is_update(trace, reply.call)
+
+
+def look(trace, address, places):
+    """How an address looks after so many places of the log, and the last that changed it."""
+    space, changed = model.Space(trace.levels, trace.tables), None
+    asked = Call(0, 0, model.RESOLVE, 0, 0, address, 0)
+    looks = space.look(asked)
+    for place in range(places):
+        space.apply(trace.events[trace.log[place]])
+        if space.look(asked) != looks:
+            looks, changed = space.look(asked), {"place": place, "call": event_fact(trace, trace.log[place])}
+    return looks, changed
+
+
+def ways_to(trace, dump, fits):
+    """The ways from the root to a table for which this holds, by the order of the traversal."""
+    def visit(frame, level, way):
+        if fits(frame, level):
+            yield list(way)
+        for index, word in enumerate(dump.frames.get(frame, ())):
+            entry = model.entry(word, level) if word & 1 else "absent"
+            if isinstance(entry, tuple) and not entry[0]:
+                step = {"level": level, "frame": frame, "index": index, "word": f"{word:#x}"}
+                yield from visit(entry[1] >> 12, level - 1, way + [step])
+
+    return visit(dump.root, trace.levels, [])
+
+
+# ---- the evidence of each fault, by what the fault names ----
+
+def of_thread_open(trace, index):
+    thread = trace.events[index].thread
+    first = max(i for i in range(index) if isinstance(trace.events[i], Call) and trace.events[i].thread == thread)
+    return {"first": event_fact(trace, first), "second": event_fact(trace, index)}
+
+
+def of_no_such_call(trace, index):
+    return {"reply": event_fact(trace, index), "named": event_fact(trace, trace.events[index].call)}
+
+
+def of_answered_twice(trace, index):
+    call = trace.events[index].call
+    first = min(i for i, reply in replies_of(trace).items() if reply.call == call)
+    return {"call": event_fact(trace, call), "first": event_fact(trace, first), "second": event_fact(trace, index)}
+
+
+def of_not_an_update(trace, place):
+    return {"place": place, "call": trace.log[place], "named": event_fact(trace, trace.log[place])}
+
+
+def of_placed_twice(trace, place):
+    return {"call": event_fact(trace, trace.log[place]), "first": place_of(trace, trace.log[place]), "second": place}
+
+
+def of_not_placed(trace, index):
+    reply = trace.events[index]
+    there = trace.log[reply.at] if reply.at < len(trace.log) else None
+    return {"call": event_fact(trace, reply.call), "reply": event_fact(trace, index), "own": place_of(trace, reply.call), "there": there}
+
+
+def of_past_log(trace, index):
+    return {"call": event_fact(trace, trace.events[index].call), "reply": event_fact(trace, index), "places": len(trace.log)}
+
+
+def of_early(trace, number):
+    told = {i: known_by(trace, reply) for i, reply in replies_of(trace).items() if i < number}
+    floor = max(told.values())
+    index = min(i for i in told if told[i] == floor)
+    entries = place_of(trace, number)
+    if not model.is_update(trace, number):
+        entries = next(reply.at for reply in replies_of(trace).values() if reply.call == number)
+    return {"call": event_fact(trace, number), "entries": entries, "floor": floor, "reply": event_fact(trace, index),
+            "answered": event_fact(trace, trace.events[index].call)}
+
+
+def of_wrong_answer(trace, number):
+    index, reply = next((i, reply) for i, reply in replies_of(trace).items() if reply.call == number)
+    space, call = model.Space(trace.levels, trace.tables), trace.events[number]
+    for each in trace.log[:reply.at]:
+        space.apply(trace.events[each])
+    wanted = space.apply(call) if model.is_update(trace, number) else space.look(call)
+    address = wanted.value if wanted.code in (model.OVERLAP, model.INSIDE) else call.address
+    return {"call": event_fact(trace, number), "reply": event_fact(trace, index), "wanted": answer_words(wanted),
+            "address": f"{address:#x}", "changed": look(trace, address, reply.at)[1]}
+
+
+def of_prefix_past_log(trace, r):
+    return {"replica": r, "applied": trace.dumps[r].applied, "places": len(trace.log)}
+
+
+def of_prefix_short(trace, r):
+    applied = trace.dumps[r].applied
+    index, reply = next((i, reply) for i, reply in replies_of(trace).items()
+                        if trace.events[reply.call].replica == r and known_by(trace, reply) > applied)
+    return {"replica": r, "applied": applied, "known": known_by(trace, reply), "reply": event_fact(trace, index),
+            "call": event_fact(trace, reply.call)}
+
+
+def of_missing_frame(trace, r, frame):
+    return {"replica": r, "frame": frame, "path": next(ways_to(trace, trace.dumps[r], lambda number, level: number == frame))}
+
+
+def of_shared_frame(trace, r, frame):
+    ways = ways_to(trace, trace.dumps[r], lambda number, level: number == frame)
+    return {"replica": r, "frame": frame, "first": next(ways), "second": next(ways)}
+
+
+def of_reserved_bit(trace, r, frame, index):
+    dump = trace.dumps[r]
+    word = dump.frames[frame][index]
+    path = next(ways_to(trace, dump, lambda number, level: number == frame and model.entry(word, level) == "reserved"))
+    entry = {"level": trace.levels - len(path), "frame": frame, "index": index, "word": f"{word:#x}"}
+    return {"replica": r, "path": path, "entry": entry}
+
+
+def of_stray_frame(trace, r, frame):
+    return {"replica": r, "frame": frame}
+
+
+def of_differs(trace, r, address):
+    dump = trace.dumps[r]
+    wanted, changed = look(trace, address, dump.applied)
+    return {"replica": r, "applied": dump.applied, "address": f"{address:#x}", "found": model.walk(trace, dump, address),
+            "wanted": answer_words(wanted), "changed": changed}
+
+
+OF_FAULT = dict(zip(model.FAULTS[1:], (of_thread_open, of_no_such_call, of_answered_twice, of_not_an_update, of_placed_twice,
+                                       of_not_placed, of_past_log, of_early, of_wrong_answer, of_prefix_past_log, of_prefix_short,
+                                       of_missing_frame, of_shared_frame, of_reserved_bit, of_stray_frame, of_differs)))
+
+
+# ---- the lines of text ----
+
+def lines_of(fault, shown):
+    """The lines after the verdict's."""
+    both = [event_line(shown["call"])] if isinstance(shown.get("call"), dict) else []
+    both += [event_line(shown["reply"])] if shown.get("reply") else []
+    if "changed" in shown:
+        last = f"address {shown['address']}, last changed by {changed_words(shown['changed'])}"
+        last = last if shown["changed"] else last.replace("changed by ", "changed by: ")
+    return {
+        "ThreadOpen": lambda: [event_line(shown["first"]), event_line(shown["second"])],
+        "NoSuchCall": lambda: both + [event_line(shown["named"], shown["reply"]["call"])],
+        "AnsweredTwice": lambda: both + [event_line(shown["first"]), event_line(shown["second"])],
+        "NotAnUpdate": lambda: [f"place {shown['place']} has {shown['call']}", event_line(shown["named"], shown["call"])],
+        "PlacedTwice": lambda: [f"places {shown['first']} and {shown['second']}"] + both,
+        "NotPlaced": lambda: both + [f"{words}: {'none' if place is None else place}"
+                                     for words, place in (("its place", shown["own"]), ("the call there", shown["there"]))],
+        "PastLog": lambda: both + [f"entries of the log: {shown['places']}"],
+        "Early": lambda: [both[0], f"entries before it: {shown['entries']}", f"known when it was made: {shown['floor']}", both[1],
+                          event_line(shown["answered"])],
+        "WrongAnswer": lambda: both + [f"the space answers: {shown['wanted']}", last],
+        "PrefixPastLog": lambda: [f"applied: {shown['applied']}", f"entries of the log: {shown['places']}"],
+        "PrefixShort": lambda: [f"applied: {shown['applied']}", f"known there: {shown['known']}", both[1], both[0]],
+        "MissingFrame": lambda: way_lines(shown["path"]),
+        "SharedFrame": lambda: ["one way:"] + way_lines(shown["first"]) + ["another:"] + way_lines(shown["second"]),
+        "ReservedBit": lambda: [step_line(step) for step in shown["path"] + [shown["entry"]]],
+        "StrayFrame": lambda: [f"no table leads to frame {shown['frame']}"],
+        "Differs": lambda: [f"applied: {shown['applied']}", f"the dump: {shown['found']}", f"the space: {shown['wanted']}", last],
+    }[fault]()
+
+
+# ---- the whole answer ----
+
+def counts_of(trace, order):
+    """How much a right trace has."""
+    space, placed = model.Space(trace.levels, trace.tables), set(trace.log)
+    for call in trace.log:
+        space.apply(trace.events[call])
+    return {"calls": len(order), "updates": len(placed), "reads": sum(call not in placed for call in order),
+            "replicas": trace.replicas, "pages": len(space.pages)}
+
+
+def explained(data):
+    """The verdict's lines; how much a yes has, or the evidence of a no; and the lines of that."""
+    text, status = model.verdict(data)
+    if status == 0:
+        order = [int(word) for word in text.split()[2:]]
+        counts = counts_of(model.read(data), order)
+        lines = [f"{words}: {counts[words]}" for words in ("calls", "updates", "reads", "replicas", "pages")]
+        return text, {"verdict": "yes", "order": order, "counts": counts}, lines
+    _, _, fault, *numbers = text.split()
+    if fault == "Format":
+        shown = {"fault": fault, "format": " ".join(numbers)}
+        return text, {"verdict": text.strip(), "evidence": shown}, [FORMAT_LINES[numbers[0]].format(*numbers[1:])]
+    trace = model.read(data)
+    shown = OF_FAULT[fault](trace, *(int(number, 0) for number in numbers))
+    return text, {"verdict": text.strip(), "evidence": {"fault": fault, **shown}}, lines_of(fault, shown)
+
+
+def explain(data):
+    """What `nrvs explain` prints, and its status."""
+    text, _, lines = explained(data)
+    return text + "".join(line + "\n" for line in lines), int(text.startswith("no"))
+
+
+def explain_json(data):
+    """What `nrvs explain --json` prints, and its status."""
+    text, whole, _ = explained(data)
+    return json.dumps(whole, separators=(",", ":"), sort_keys=True) + "\n", int(text.startswith("no"))
+
+
+if __name__ == "__main__":
+    said, ended = (explain_json if sys.argv[1:] == ["--json"] else explain)(sys.stdin.buffer.read())
+    sys.stdout.write(said)
+    sys.exit(ended)
