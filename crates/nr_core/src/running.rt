@@ -30,8 +30,10 @@ pub fn run_steps(
     steps: &[Step],
 ) -> Result<Trace, Memory>
     requires { AreScripts config (map (λ script. script.items) scripts.items) }
-    ensures recording { IfOk result (IsRecordingOf (after_steps (start config (map (λ script. script.items) scripts.items)) steps.now)) }
-    ensures spelled { IfOk result (λ trace. (fault : Format) → HasFormatFault (spelling trace) fault → ⊥) }
+    ensures recording { IfOk result (IsRecordingOf
+        (after_steps (start config (map (λ script. script.items) scripts.items)) steps.now)) }
+    ensures spelled { IfOk result (λ trace.
+        (fault : Format) → HasFormatFault (spelling trace) fault → ⊥) }
     ensures well_formed { IfOk result HasCleanLog }
     ensures dumps { IfOk result HasRightDumps }
     ensures answers { IfOk result (λ trace. (call : ℕ) → Holds trace (WrongAnswer call) → ⊥) }

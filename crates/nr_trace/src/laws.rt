@@ -154,7 +154,8 @@ pub fn spaces_go_on_by_places()
 /// Bytes have the fault `Trailing` exactly where a front of them spells a trace, and more bytes come after it.
 pub fn trailing_bytes_follow_a_trace()
     ensures { (bytes : List ℕ) → HasFormatFault bytes Trailing
-        ↔ ((front : List ℕ) × (more : List ℕ) × (trace : Recording) × (bytes ≡ front ++ more) × (more ≢ []) × Spells front trace) }
+        ↔ ((front : List ℕ) × (more : List ℕ) × (trace : Recording) × (bytes ≡ front ++ more)
+        × (more ≢ []) × Spells front trace) }
 {}
 
 /// Where bytes spell a trace, each front of them that lacks some has the fault `Truncated`.
