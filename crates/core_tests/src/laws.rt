@@ -11,6 +11,7 @@ ghost use Rattle.nr_trace.specs.Spelling.{Spells};
 
 /// Whatever the steps: the verdict on the spelling of a recording of them is yes, with its recorded order.
 pub fn steps_are_judged_yes()
-    ensures { (trace : Recording) (bytes : List ℕ) (verdict : Verdict) → IsRecordingOfSteps trace → Spells bytes trace → IsVerdictOf bytes verdict
+    ensures { (trace : Recording) (bytes : List ℕ) (verdict : Verdict) → IsRecordingOfSteps trace
+        → Spells bytes trace → IsVerdictOf bytes verdict
         → verdict ≡ Yes (recorded_order trace) }
 {}

@@ -70,7 +70,8 @@ struct Shared {
 }
 
 fn new_log(alloc: Global) -> Result<Shared, Fail>
-    ensures log { IfOk result (λ s. (s.first.log ≡ s.log) × (s.second.log ≡ s.log) × (s.third.log ≡ s.log)) }
+    ensures log { IfOk result (λ s. (s.first.log ≡ s.log) × (s.second.log ≡ s.log)
+        × (s.third.log ≡ s.log)) }
     ensures owns { IfOk result (λ s. (s.first.view.owns ≡ 0 ∷ []) × (s.second.view.owns ≡ 1 ∷ [])) }
 {
     let (log, mut passes) = RingLog::<Two>::new(alloc, Depth::Four, 2, 1)?;

@@ -19,7 +19,7 @@ use Rattle.vs_plain.specs.Plain.{BoundedSpace}
 use Rattle.nr_trace.specs.Recording.{Recording}
 use Rattle.nr_trace.specs.Calls.{Invocation, Response, call_of, operation_in, operation_of, reply_to}
 use Rattle.nr_trace.specs.Orders.{before, updates, operations, space_after, answer_in, recorded_order}
-use Rattle.nr_trace.specs.Faults.{Holds, Earlier, IsWrong}
+use Rattle.nr_trace.specs.Faults.{HasFault, Earlier, IsWrong}
 use Rattle.nr_trace.specs.Laws.{HasCleanLog}
 use Rattle.nr_trace.specs.declared.fault.Fault.{Fault}
 use Rattle.nr_trace.specs.declared.fault.Fault.TheVariants.{WrongAnswer}
@@ -227,7 +227,7 @@ module _ (trace : Recording) (order : List ℕ) (listed : order ≡ recorded_ord
     holds = wrong;
     none_earlier = λ other among holds earlier. no_earlier other among holds earlier;
   } where
-    no_earlier : (other : Fault) → IsAnswerFault other → Holds trace other → Earlier trace other (WrongAnswer (get_or order k 0)) → ⊥
+    no_earlier : (other : Fault) → IsAnswerFault other → HasFault trace other → Earlier trace other (WrongAnswer (get_or order k 0)) → ⊥
     no_earlier (WrongAnswer call) among holds earlier =
         let counted = ap length (before_here k within) in
         let taken = length-take-le k order (omega arith) in

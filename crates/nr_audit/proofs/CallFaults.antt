@@ -7,7 +7,7 @@ use Rattle.std.proofs.lemmas.List.{get_or-replicate, get_or_past, length-set, le
 use Rattle.std.proofs.lemmas.Bool.{cases_lt, cases_eq}
 use Rattle.nr_trace.specs.Recording.{Recording}
 use Rattle.nr_trace.specs.Calls.{Invocation, call_of, Response, reply_of, Answers, IsCall}
-use Rattle.nr_trace.specs.Faults.{Holds, Earlier, OpensTwice, IsReplyWith}
+use Rattle.nr_trace.specs.Faults.{HasFault, Earlier, OpensTwice, IsReplyWith}
 use Rattle.nr_trace.specs.declared.fault.Fault.{Fault}
 use Rattle.nr_trace.specs.declared.fault.Fault.TheVariants.{ThreadOpen, NoSuchCall, AnsweredTwice}
 use Rattle.nr_trace.specs.declared.event.Event.TheVariants.{Call, Reply}
@@ -81,11 +81,11 @@ unanswered trace end call (Some reply) e h = absurd (cc)
 abbrev pub IsIdle : List (Option ℕ) → List (Option ℕ) → ℕ → Type 0
 IsIdle last table thread = (call : ℕ) → get_or last thread None ≡ Some call → get_or table call None ≢ None
 
-none_at : (trace : Recording) (i : ℕ) → (OpensTwice trace i → ⊥) → (Holds trace (NoSuchCall i) → ⊥) → (Holds trace (AnsweredTwice i) → ⊥)
+none_at : (trace : Recording) (i : ℕ) → (OpensTwice trace i → ⊥) → (HasFault trace (NoSuchCall i) → ⊥) → (HasFault trace (AnsweredTwice i) → ⊥)
     → HasNone (IsCallFaultAt i) trace
 none_at trace i a b c (ThreadOpen j) among holds = a (subst (λ k. OpensTwice trace k) among holds)
-none_at trace i a b c (NoSuchCall j) among holds = b (subst (λ k. Holds trace (NoSuchCall k)) among holds)
-none_at trace i a b c (AnsweredTwice j) among holds = c (subst (λ k. Holds trace (AnsweredTwice k)) among holds)
+none_at trace i a b c (NoSuchCall j) among holds = b (subst (λ k. HasFault trace (NoSuchCall k)) among holds)
+none_at trace i a b c (AnsweredTwice j) among holds = c (subst (λ k. HasFault trace (AnsweredTwice k)) among holds)
 none_at trace i a b c fault among holds = absurd among
 
 open_is_first : (trace : Recording) (i : ℕ) (other : Fault) → IsCallFaultAt i other → Earlier trace other (ThreadOpen i) → ⊥
@@ -94,17 +94,17 @@ open_is_first trace i (NoSuchCall j) among earlier = let h = lower_number 2 j 3 
 open_is_first trace i (AnsweredTwice j) among earlier = let h = lower_number 2 j 4 i 2 earlier among in absurd (omega arith)
 open_is_first trace i fault among earlier = absurd among
 
-no_call_is_first : (trace : Recording) (i : ℕ) (other : Fault) → (OpensTwice trace i → ⊥) → IsCallFaultAt i other → Holds trace other
+no_call_is_first : (trace : Recording) (i : ℕ) (other : Fault) → (OpensTwice trace i → ⊥) → IsCallFaultAt i other → HasFault trace other
     → Earlier trace other (NoSuchCall i) → ⊥
 no_call_is_first trace i (ThreadOpen j) idle among holds earlier = idle (subst (λ k. OpensTwice trace k) among holds)
 no_call_is_first trace i (NoSuchCall j) idle among holds earlier = let h = lower_number 2 j 3 i 3 earlier among in absurd (omega arith)
 no_call_is_first trace i (AnsweredTwice j) idle among holds earlier = let h = lower_number 2 j 4 i 3 earlier among in absurd (omega arith)
 no_call_is_first trace i fault idle among holds earlier = absurd among
 
-twice_is_first : (trace : Recording) (i : ℕ) (other : Fault) → (OpensTwice trace i → ⊥) → (Holds trace (NoSuchCall i) → ⊥) → IsCallFaultAt i other
-    → Holds trace other → Earlier trace other (AnsweredTwice i) → ⊥
+twice_is_first : (trace : Recording) (i : ℕ) (other : Fault) → (OpensTwice trace i → ⊥) → (HasFault trace (NoSuchCall i) → ⊥) → IsCallFaultAt i other
+    → HasFault trace other → Earlier trace other (AnsweredTwice i) → ⊥
 twice_is_first trace i (ThreadOpen j) idle such among holds earlier = idle (subst (λ k. OpensTwice trace k) among holds)
-twice_is_first trace i (NoSuchCall j) idle such among holds earlier = such (subst (λ k. Holds trace (NoSuchCall k)) among holds)
+twice_is_first trace i (NoSuchCall j) idle such among holds earlier = such (subst (λ k. HasFault trace (NoSuchCall k)) among holds)
 twice_is_first trace i (AnsweredTwice j) idle such among holds earlier = let h = lower_number 2 j 4 i 4 earlier among in absurd (omega arith)
 twice_is_first trace i fault idle such among holds earlier = absurd among
 

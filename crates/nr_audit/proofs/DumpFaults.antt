@@ -9,7 +9,7 @@ use Rattle.vs_walk.specs.Dump.{Image}
 use Rattle.nr_trace.specs.Recording.{Recording}
 use Rattle.nr_trace.specs.Calls.{Response, reply_of}
 use Rattle.nr_trace.specs.Orders.{space_after}
-use Rattle.nr_trace.specs.Faults.{Holds, Earlier, rank, RestsOnMore, HasDump}
+use Rattle.nr_trace.specs.Faults.{HasFault, Earlier, rank, RestsOnMore, HasDump}
 use Rattle.nr_trace.specs.declared.fault.Fault.{Fault}
 use Rattle.nr_trace.specs.declared.fault.Fault.TheVariants.{PrefixPastLog, PrefixShort, MissingFrame, SharedFrame, ReservedBit, StrayFrame, Differs}
 use Rattle.nr_trace.proofs.LawsOfCalls.{reply_in_event}
@@ -101,9 +101,9 @@ none_lower replica (StrayFrame at frame) among lt = omega arith
 none_lower replica (Differs at address) among lt = omega arith
 none_lower replica other among lt = among
 
-one_lower : (trace : Recording) (replica : ℕ) (other : Fault) → (Holds trace (PrefixPastLog replica) → ⊥) → IsDumpFaultAt replica other → Holds trace other
+one_lower : (trace : Recording) (replica : ℕ) (other : Fault) → (HasFault trace (PrefixPastLog replica) → ⊥) → IsDumpFaultAt replica other → HasFault trace other
     → number_of other < 12 → ⊥
-one_lower trace replica (PrefixPastLog at) none among holds lt = none (subst (λ r. Holds trace (PrefixPastLog r)) among holds)
+one_lower trace replica (PrefixPastLog at) none among holds lt = none (subst (λ r. HasFault trace (PrefixPastLog r)) among holds)
 one_lower trace replica (PrefixShort at) none among holds lt = omega arith
 one_lower trace replica (MissingFrame at frame) none among holds lt = omega arith
 one_lower trace replica (SharedFrame at frame) none among holds lt = omega arith
@@ -141,7 +141,7 @@ reply_below trace index reply is = let (event, at, own) = reply_in_event (slice_
 module _ (trace : Recording) (replica : ℕ) (dump : Image) (is : slice_get trace.dumps replica ≡ Some dump) where
   -- what holds of the dump holds of the trace
   told : (fault : DumpFault) → dumps.HoldsOfDump trace.layout.depth dump (space_after trace (take dump.applied trace.log)) fault
-      → Holds trace (at_replica replica fault)
+      → HasFault trace (at_replica replica fault)
   told (of_dump.MissingFrame frame) holds = (dump, is, holds)
   told (of_dump.SharedFrame frame) holds = (dump, is, holds)
   told (of_dump.ReservedBit frame index) holds = (dump, is, holds)
@@ -152,7 +152,7 @@ module _ (trace : Recording) (replica : ℕ) (dump : Image) (is : slice_get trac
   own_dump at other same there = same_Some other dump (sym there ∙ ap (slice_get trace.dumps) same ∙ is)
 
   -- a fault of the replica that holds is one of its prefix, or one of the dump's
-  back : (other : Fault) → IsDumpFaultAt replica other → Holds trace other → (number_of other < 13)
+  back : (other : Fault) → IsDumpFaultAt replica other → HasFault trace other → (number_of other < 13)
       ⊎ ((fault : DumpFault) × dumps.HoldsOfDump trace.layout.depth dump (space_after trace (take dump.applied trace.log)) fault
       × (number_in fault ≡ number_of other))
   back (PrefixPastLog at) among holds = inl (lit< tt)
@@ -194,10 +194,10 @@ module _ (trace : Recording) (replica : ℕ) (dump : Image) (is : slice_get trac
       )
   back other among holds = absurd among
 
-  past_log : Holds trace (PrefixPastLog replica) → length trace.log < dump.applied
+  past_log : HasFault trace (PrefixPastLog replica) → length trace.log < dump.applied
   past_log holds = subst (λ (d : Image). length trace.log < d.applied) (own_dump replica holds.0 refl holds.1) holds.2
 
-  rests_on_more : Holds trace (PrefixShort replica) → RestsOnMore trace replica dump
+  rests_on_more : HasFault trace (PrefixShort replica) → RestsOnMore trace replica dump
   rests_on_more holds = subst (λ (d : Image). RestsOnMore trace replica d) (own_dump replica holds.0 refl holds.1) holds.2
 
   -- a fault of a lower number comes earlier
@@ -240,7 +240,7 @@ module _ (trace : Recording) (replica : ℕ) (dump : Image) (is : slice_get trac
   }
 
   module _ (within : dump.applied ≤ length trace.log) where
-    not_past : Holds trace (PrefixPastLog replica) → ⊥
+    not_past : HasFault trace (PrefixPastLog replica) → ⊥
     not_past holds = let past = past_log holds in omega arith
 
     pub first_short : (needs : List ℕ) → AreNeeds trace (length trace.events) needs → dump.applied < get_or needs replica 0
@@ -267,7 +267,7 @@ module _ (trace : Recording) (replica : ℕ) (dump : Image) (is : slice_get trac
         }
 
     module _ (needs : List ℕ) (are : AreNeeds trace (length trace.events) needs) (enough : get_or needs replica 0 ≤ dump.applied) where
-      not_short : Holds trace (PrefixShort replica) → ⊥
+      not_short : HasFault trace (PrefixShort replica) → ⊥
       not_short holds =
           let rests = rests_on_more holds in
           let most = are.most replica rests.index rests.reply (record {
@@ -281,9 +281,9 @@ module _ (trace : Recording) (replica : ℕ) (dump : Image) (is : slice_get trac
           let more = rests.more in
           omega arith
 
-      no_prefix : (other : Fault) → IsDumpFaultAt replica other → Holds trace other → number_of other < 13 → ⊥
-      no_prefix (PrefixPastLog at) among holds lt = not_past (subst (λ r. Holds trace (PrefixPastLog r)) among holds)
-      no_prefix (PrefixShort at) among holds lt = not_short (subst (λ r. Holds trace (PrefixShort r)) among holds)
+      no_prefix : (other : Fault) → IsDumpFaultAt replica other → HasFault trace other → number_of other < 13 → ⊥
+      no_prefix (PrefixPastLog at) among holds lt = not_past (subst (λ r. HasFault trace (PrefixPastLog r)) among holds)
+      no_prefix (PrefixShort at) among holds lt = not_short (subst (λ r. HasFault trace (PrefixShort r)) among holds)
       no_prefix (MissingFrame at frame) among holds lt = omega arith
       no_prefix (SharedFrame at frame) among holds lt = omega arith
       no_prefix (ReservedBit at frame index) among holds lt = omega arith

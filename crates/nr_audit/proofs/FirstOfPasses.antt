@@ -6,7 +6,7 @@ use Rattle.std.specs.declared.cmp.Ordering.TheVariants.{Less}
 use Rattle.std.proofs.lemmas.Bool.{cases_lt}
 use Rattle.nr_trace.specs.Recording.{Recording}
 use Rattle.nr_trace.specs.Orders.{before, recorded_order}
-use Rattle.nr_trace.specs.Faults.{Holds, rank, IsFirst}
+use Rattle.nr_trace.specs.Faults.{HasFault, rank, IsFirst}
 use Rattle.nr_trace.specs.Laws.{HasCleanLog, IsFaultless}
 use Rattle.nr_trace.specs.declared.fault.Fault.{Fault}
 use Rattle.nr_trace.specs.declared.fault.Fault.TheVariants.{Format, ThreadOpen, NoSuchCall, AnsweredTwice, NotAnUpdate, PlacedTwice, NotPlaced, PastLog, Early}
@@ -71,7 +71,7 @@ pub record AreOfPass (pass : ℕ) (Among : Fault → Type 0) : Type 0 where
 
 -- no fault of a pass before this one holds
 abbrev pub HasNoneBefore : ℕ → Recording → Type 0
-HasNoneBefore pass trace = (fault : Fault) → pass_of fault < pass → Holds trace fault → ⊥
+HasNoneBefore pass trace = (fault : Fault) → pass_of fault < pass → HasFault trace fault → ⊥
 
 pub none_of_format : (trace : Recording) → HasNoneBefore 2 trace
 none_of_format trace (Format fault) lt holds = holds

@@ -5,7 +5,7 @@ use Rattle.std.proofs.lemmas.Bool.{cases_lt, false≢true}
 use Rattle.nr_trace.specs.Recording.{Recording}
 use Rattle.nr_trace.specs.Calls.{call_of, IsCall}
 use Rattle.nr_trace.specs.Orders.{floor}
-use Rattle.nr_trace.specs.Faults.{Holds, Earlier, StandsAfter}
+use Rattle.nr_trace.specs.Faults.{HasFault, Earlier, StandsAfter}
 use Rattle.nr_trace.specs.Laws.{HasCleanLog}
 use Rattle.nr_trace.specs.declared.fault.Fault.{Fault}
 use Rattle.nr_trace.specs.declared.fault.Fault.TheVariants.{Early}
@@ -18,8 +18,8 @@ pub floor_ranks : (trace : Recording) → IsRanked IsFloorFaultAt 5 trace
 floor_ranks trace index (Early call) among = (9, ap (λ i. 5 ∷ i ∷ 9 ∷ []) among)
 floor_ranks trace index fault among = absurd among
 
-none_at : (trace : Recording) (index : ℕ) → (Holds trace (Early index) → ⊥) → HasNone (IsFloorFaultAt index) trace
-none_at trace index none (Early call) among holds = none (subst (λ c. Holds trace (Early c)) among holds)
+none_at : (trace : Recording) (index : ℕ) → (HasFault trace (Early index) → ⊥) → HasNone (IsFloorFaultAt index) trace
+none_at trace index none (Early call) among holds = none (subst (λ c. HasFault trace (Early c)) among holds)
 none_at trace index none fault among holds = absurd among
 
 stands_as_call : (trace : Recording) (call entries : ℕ) → StandsAfter trace call entries → IsCall trace call

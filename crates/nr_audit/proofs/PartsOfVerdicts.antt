@@ -7,7 +7,7 @@ use Rattle.nr_trace.specs.Recording.{Recording}
 use Rattle.nr_trace.specs.Spelling.{Spells}
 use Rattle.nr_trace.specs.FirstFault.{HasFormatFault}
 use Rattle.nr_trace.specs.Orders.{recorded_order, HasItsCalls, KeepsPrecedence, HasTheAnswers}
-use Rattle.nr_trace.specs.Faults.{Holds, IsFirst, IsFirstOf}
+use Rattle.nr_trace.specs.Faults.{HasFault, IsFirst, IsFirstOf}
 use Rattle.nr_trace.specs.Laws.{IsFaultless}
 use Rattle.nr_trace.specs.declared.fault.Fault.{Fault}
 use Rattle.nr_trace.specs.declared.fault.Fault.TheVariants.{Format, ThreadOpen, NoSuchCall, AnsweredTwice, NotAnUpdate, PlacedTwice, NotPlaced, PastLog, Early}
@@ -87,7 +87,7 @@ sides bytes fault h = inr h
 none_of_faultless : (bytes : List ℕ) (trace : Recording) (fault : Fault) → Spells bytes trace → IsFaultless trace → IsFirstOf bytes fault → ⊥
 none_of_faultless bytes trace fault spelled faultless first = elim (sides bytes fault first) [
   | inl format ↦ no_fault bytes trace format.0 spelled format.1
-  | inr other ↦ faultless fault (subst (λ t. Holds t fault) (one_trace bytes other.0 trace other.1 spelled) other.2.holds)
+  | inr other ↦ faultless fault (subst (λ t. HasFault t fault) (one_trace bytes other.0 trace other.1 spelled) other.2.holds)
 ]
 
 pub same_of : (bytes : List ℕ) (a b : Verdict) → IsVerdictOf bytes a → IsVerdictOf bytes b → a ≡ b

@@ -4,7 +4,7 @@ use Rattle.std.specs.Prelude.{slice_get}
 use Rattle.std.proofs.lemmas.Bool.{cases_lt}
 use Rattle.nr_trace.specs.Recording.{Recording}
 use Rattle.nr_trace.specs.Calls.{IsUpdate, IsRead, Response, reply_of}
-use Rattle.nr_trace.specs.Faults.{Holds, Earlier, IsReplyWith}
+use Rattle.nr_trace.specs.Faults.{HasFault, Earlier, IsReplyWith}
 use Rattle.nr_trace.specs.declared.fault.Fault.{Fault}
 use Rattle.nr_trace.specs.declared.fault.Fault.TheVariants.{NotPlaced, PastLog}
 use Rattle.nr_trace.specs.declared.event.Event.TheVariants.{Reply}
@@ -14,9 +14,9 @@ use Rattle.nr_audit.specs.inside.Passes.{IsPositionFaultAt, IsPositionFault}
 use Rattle.nr_audit.proofs.Ranks.{IsRanked, none_of_all, first_of_all, lower_number}
 use Rattle.nr_audit.proofs.CallsAndReplies.{reply_here, no_reply_past, no_reply_with}
 
-none_at : (trace : Recording) (index : ℕ) → (Holds trace (NotPlaced index) → ⊥) → (Holds trace (PastLog index) → ⊥) → HasNone (IsPositionFaultAt index) trace
-none_at trace index a b (NotPlaced j) among holds = a (subst (λ k. Holds trace (NotPlaced k)) among holds)
-none_at trace index a b (PastLog j) among holds = b (subst (λ k. Holds trace (PastLog k)) among holds)
+none_at : (trace : Recording) (index : ℕ) → (HasFault trace (NotPlaced index) → ⊥) → (HasFault trace (PastLog index) → ⊥) → HasNone (IsPositionFaultAt index) trace
+none_at trace index a b (NotPlaced j) among holds = a (subst (λ k. HasFault trace (NotPlaced k)) among holds)
+none_at trace index a b (PastLog j) among holds = b (subst (λ k. HasFault trace (PastLog k)) among holds)
 none_at trace index a b fault among holds = absurd among
 
 pub position_ranks : (trace : Recording) → IsRanked IsPositionFaultAt 4 trace
@@ -46,9 +46,9 @@ placed_is_first trace index (NotPlaced j) among earlier = let h = lower_number 4
 placed_is_first trace index (PastLog j) among earlier = let h = lower_number 4 j 8 index 7 earlier among in absurd (omega arith)
 placed_is_first trace index fault among earlier = absurd among
 
-past_is_first : (trace : Recording) (index : ℕ) (other : Fault) → (Holds trace (NotPlaced index) → ⊥) → IsPositionFaultAt index other → Holds trace other
+past_is_first : (trace : Recording) (index : ℕ) (other : Fault) → (HasFault trace (NotPlaced index) → ⊥) → IsPositionFaultAt index other → HasFault trace other
     → Earlier trace other (PastLog index) → ⊥
-past_is_first trace index (NotPlaced j) none among holds earlier = none (subst (λ k. Holds trace (NotPlaced k)) among holds)
+past_is_first trace index (NotPlaced j) none among holds earlier = none (subst (λ k. HasFault trace (NotPlaced k)) among holds)
 past_is_first trace index (PastLog j) none among holds earlier = let h = lower_number 4 j 8 index 8 earlier among in absurd (omega arith)
 past_is_first trace index fault none among holds earlier = absurd among
 
@@ -66,7 +66,7 @@ module _ (trace : Recording) (index call at : ℕ) (answer : Answer) (is : slice
     none_earlier = λ other among held earlier. placed_is_first trace index other among earlier;
   }
 
-  not_misplaced : (IsUpdate trace call × (slice_get trace.log at ≢ Some call) → ⊥) → Holds trace (NotPlaced index) → ⊥
+  not_misplaced : (IsUpdate trace call × (slice_get trace.log at ≢ Some call) → ⊥) → HasFault trace (NotPlaced index) → ⊥
   not_misplaced none held = none (it_is (λ reply. IsUpdate trace reply.call × (slice_get trace.log reply.at ≢ Some reply.call)) held)
 
   pub first_past_log : (IsUpdate trace call × (slice_get trace.log at ≢ Some call) → ⊥) → IsRead trace call × (length trace.log < at)

@@ -2,7 +2,7 @@
 use Rattle.std.specs.Prelude.{ℕ, List}
 use Rattle.vs_types.specs.Config.{Layout}
 use Rattle.vs_types.specs.declared.request.Query.{Query}
-use Rattle.nr_trace.specs.Faults.{Holds}
+use Rattle.nr_trace.specs.Faults.{HasFault}
 use Rattle.nr_trace.specs.Recording.{Recording}
 use Rattle.nr_trace.specs.declared.fault.Fault.TheVariants.{PrefixPastLog, PrefixShort, MissingFrame, SharedFrame, ReservedBit, StrayFrame, Differs}
 use Rattle.nr_core.specs.State.{start}
@@ -16,10 +16,10 @@ IsRecordingOfSteps trace =
 
 -- no fault holds of a dump: of how many entries it says, of its table, of what it translates
 pub record HasRightDumps (trace : Recording) : Type 0 where
-  pub within : (replica : ℕ) → Holds trace (PrefixPastLog replica) → ⊥
-  pub enough : (replica : ℕ) → Holds trace (PrefixShort replica) → ⊥
-  pub none_missing : (replica number : ℕ) → Holds trace (MissingFrame replica number) → ⊥
-  pub none_shared : (replica number : ℕ) → Holds trace (SharedFrame replica number) → ⊥
-  pub none_reserved : (replica number index : ℕ) → Holds trace (ReservedBit replica number index) → ⊥
-  pub none_stray : (replica number : ℕ) → Holds trace (StrayFrame replica number) → ⊥
-  pub translates : (replica address : ℕ) → Holds trace (Differs replica address) → ⊥
+  pub within : (replica : ℕ) → HasFault trace (PrefixPastLog replica) → ⊥
+  pub enough : (replica : ℕ) → HasFault trace (PrefixShort replica) → ⊥
+  pub none_missing : (replica number : ℕ) → HasFault trace (MissingFrame replica number) → ⊥
+  pub none_shared : (replica number : ℕ) → HasFault trace (SharedFrame replica number) → ⊥
+  pub none_reserved : (replica number index : ℕ) → HasFault trace (ReservedBit replica number index) → ⊥
+  pub none_stray : (replica number : ℕ) → HasFault trace (StrayFrame replica number) → ⊥
+  pub translates : (replica address : ℕ) → HasFault trace (Differs replica address) → ⊥

@@ -35,7 +35,8 @@ pub(crate) fn note(batch: &mut Vec<Collected>, answered: Answered)
 
 /// The answer that is noted for the first update of a thread.
 pub(crate) fn find_noted(batch: &[Collected], thread: u16) -> Option<Answered>
-    ensures { result ≡ option_and_then (λ update. update.noted) (find (λ update. update.thread == thread) batch.now) }
+    ensures { result ≡ option_and_then (λ update. update.noted)
+        (find (λ update. update.thread == thread) batch.now) }
 {
     for update in batch {
         if update.thread == thread {
@@ -54,7 +55,8 @@ pub(crate) fn keep_others(batch: &mut Vec<Collected>, thread: u16)
 
 /// The entries of the batch stand at the log's end.
 pub(crate) fn push_entries(log: &mut Vec<LogEntry>, batch: &[Collected]) -> Result<(), Memory>
-    ensures ok { OnOk result (log.new.items ≡ log.old.items ++ map (λ update. update.entry) batch.now) }
+    ensures ok { OnOk result
+        (log.new.items ≡ log.old.items ++ map (λ update. update.entry) batch.now) }
     ensures err { OnErr result (log.new.items ≡ log.old.items) }
 {
     log.reserve(batch.len())?;

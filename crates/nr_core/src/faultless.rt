@@ -3,7 +3,7 @@
 
 ghost use Rattle.std.specs.Prelude.{◌≡◌, ℕ, Some, slice_get};
 ghost use Rattle.vs_walk.specs.Dump.{Image};
-ghost use Rattle.nr_trace.specs.Faults.{Holds};
+ghost use Rattle.nr_trace.specs.Faults.{HasFault};
 ghost use Rattle.nr_trace.specs.Laws.{HasCleanLog, IsFaultless};
 ghost use Rattle.nr_trace.specs.Orders.{IsLegalOrder, FitsOrder, recorded_order};
 ghost use Rattle.nr_trace.specs.Recording.{Recording};
@@ -23,29 +23,40 @@ pub fn recorded_calls_are_well_formed()
 /// Each dump is that of the space after the first entries of the log, as many as it says, and no answer given at its replica rests on
 /// more. Its table has no fault.
 pub fn dumps_are_of_the_log()
-    ensures within { (trace : Recording) (replica : ℕ) → IsRecordingOfSteps trace → Holds trace (PrefixPastLog replica) → ⊥ }
-    ensures enough { (trace : Recording) (replica : ℕ) → IsRecordingOfSteps trace → Holds trace (PrefixShort replica) → ⊥ }
-    ensures none_missing { (trace : Recording) (replica number : ℕ) → IsRecordingOfSteps trace → Holds trace (MissingFrame replica number) → ⊥ }
-    ensures none_shared { (trace : Recording) (replica number : ℕ) → IsRecordingOfSteps trace → Holds trace (SharedFrame replica number) → ⊥ }
-    ensures none_reserved { (trace : Recording) (replica number index : ℕ) → IsRecordingOfSteps trace → Holds trace (ReservedBit replica number index) → ⊥ }
-    ensures none_stray { (trace : Recording) (replica number : ℕ) → IsRecordingOfSteps trace → Holds trace (StrayFrame replica number) → ⊥ }
-    ensures translates { (trace : Recording) (replica address : ℕ) → IsRecordingOfSteps trace → Holds trace (Differs replica address) → ⊥ }
+    ensures within { (trace : Recording) (replica : ℕ) → IsRecordingOfSteps trace
+        → HasFault trace (PrefixPastLog replica) → ⊥ }
+    ensures enough { (trace : Recording) (replica : ℕ) → IsRecordingOfSteps trace
+        → HasFault trace (PrefixShort replica) → ⊥ }
+    ensures none_missing { (trace : Recording) (replica number : ℕ) → IsRecordingOfSteps trace
+        → HasFault trace (MissingFrame replica number) → ⊥ }
+    ensures none_shared { (trace : Recording) (replica number : ℕ) → IsRecordingOfSteps trace
+        → HasFault trace (SharedFrame replica number) → ⊥ }
+    ensures none_reserved { (trace : Recording) (replica number index : ℕ)
+        → IsRecordingOfSteps trace → HasFault trace (ReservedBit replica number index) → ⊥ }
+    ensures none_stray { (trace : Recording) (replica number : ℕ) → IsRecordingOfSteps trace
+        → HasFault trace (StrayFrame replica number) → ⊥ }
+    ensures translates { (trace : Recording) (replica address : ℕ) → IsRecordingOfSteps trace
+        → HasFault trace (Differs replica address) → ⊥ }
 {}
 
 /// Each answer is that of the one space after the entries of the log before the update's place, or after those that the read saw.
 pub fn answers_are_of_the_log()
-    ensures { (trace : Recording) (call : ℕ) → IsRecordingOfSteps trace → Holds trace (WrongAnswer call) → ⊥ }
+    ensures { (trace : Recording) (call : ℕ) → IsRecordingOfSteps trace
+        → HasFault trace (WrongAnswer call) → ⊥ }
 {}
 
 /// No call stands before an entry that was known by a reply before the call was made.
 pub fn no_call_is_early()
-    ensures { (trace : Recording) (call : ℕ) → IsRecordingOfSteps trace → Holds trace (Early call) → ⊥ }
+    ensures { (trace : Recording) (call : ℕ) → IsRecordingOfSteps trace
+        → HasFault trace (Early call) → ⊥ }
 {}
 
 /// So no fault holds of the recording. Its order is legal, a linearization of the calls, and each dump fits it.
 pub fn no_list_of_steps_makes_a_fault()
     ensures faultless { (trace : Recording) → IsRecordingOfSteps trace → IsFaultless trace }
-    ensures legal { (trace : Recording) → IsRecordingOfSteps trace → IsLegalOrder trace (recorded_order trace) }
-    ensures fits { (trace : Recording) (replica : ℕ) (dump : Image) → IsRecordingOfSteps trace → slice_get trace.dumps replica ≡ Some dump
+    ensures legal { (trace : Recording) → IsRecordingOfSteps trace
+        → IsLegalOrder trace (recorded_order trace) }
+    ensures fits { (trace : Recording) (replica : ℕ) (dump : Image) → IsRecordingOfSteps trace
+        → slice_get trace.dumps replica ≡ Some dump
         → FitsOrder trace (recorded_order trace) replica dump }
 {}

@@ -61,7 +61,8 @@ fn all_in_first(events: &[Recorded]) -> bool
 
 /// Version 1 where it has the depth and all events, else version 2.
 fn version_of(config: Config, events: &[Recorded]) -> Version
-    ensures { result ≡ (if depth_in_first config.depth && list_all event_in_first events.now then V1 else V2) }
+    ensures { result
+        ≡ (if depth_in_first config.depth && list_all event_in_first events.now then V1 else V2) }
 {
     match config.depth() {
         Depth::Four if all_in_first(events) => Version::V1,
@@ -83,7 +84,8 @@ fn calls_in(alloc: Global, log: &[LogEntry]) -> Result<Vec<u32>, Memory>
 /// A dump of each replica.
 fn dumps_of(alloc: Global, config: Config, replicas: &[ReplicaState]) -> Result<Vec<Dump>, Memory>
     requires { All (IsReplica config) replicas.now }
-    ensures each { IfOk result (λ dumps. AllZip (IsDumpOf config.depth) (map replica_in replicas.now) dumps.items) }
+    ensures each { IfOk result (λ dumps.
+        AllZip (IsDumpOf config.depth) (map replica_in replicas.now) dumps.items) }
     ensures frames { IfOk result (λ dumps. All (λ dump. 1 ≤ finite.len dump.frames) dumps.items) }
 {
     let mut dumps = Vec::with_capacity(alloc, replicas.len())?;

@@ -12,7 +12,9 @@ use crate::state::Core;
 impl Core {
     /// Whether there is this replica.
     pub(crate) fn has_replica(&self, replica: u8) -> bool
-        ensures { MatchBool result ((there : states.Replica) × (slice_get self.now.replicas replica ≡ Some there)) (slice_get self.now.replicas replica ≡ None) }
+        ensures { MatchBool result ((there : states.Replica)
+            × (slice_get self.now.replicas replica ≡ Some there))
+            (slice_get self.now.replicas replica ≡ None) }
     {
         usize::from(replica) < self.replicas.len()
     }
@@ -35,7 +37,8 @@ impl Core {
     /// How far a replica has come.
     pub(crate) fn marks(&self, replica: u8) -> Marks
         requires { IsSome (slice_get self.now.replicas replica) }
-        ensures { (there : states.Replica) → slice_get self.now.replicas replica ≡ Some there → result ≡ marks_of there }
+        ensures { (there : states.Replica) → slice_get self.now.replicas replica ≡ Some there
+            → result ≡ marks_of there }
     {
         self.stored(replica).marks
     }

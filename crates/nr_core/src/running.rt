@@ -1,6 +1,6 @@
 //! A whole run of steps.
 ghost use Rattle.std.specs.Prelude.{◌≡◌, ℕ, IfOk, map};
-ghost use Rattle.nr_trace.specs.Faults.{Holds};
+ghost use Rattle.nr_trace.specs.Faults.{HasFault};
 ghost use Rattle.nr_trace.specs.FirstFault.{HasFormatFault};
 ghost use Rattle.nr_trace.specs.Laws.{HasCleanLog, IsFaultless};
 ghost use Rattle.nr_trace.specs.Spelling.{spelling};
@@ -30,12 +30,14 @@ pub fn run_steps(
     steps: &[Step],
 ) -> Result<Trace, Memory>
     requires { AreScripts config (map (λ script. script.items) scripts.items) }
-    ensures recording { IfOk result (IsRecordingOf (after_steps (start config (map (λ script. script.items) scripts.items)) steps.now)) }
-    ensures spelled { IfOk result (λ trace. (fault : Format) → HasFormatFault (spelling trace) fault → ⊥) }
+    ensures recording { IfOk result (IsRecordingOf
+        (after_steps (start config (map (λ script. script.items) scripts.items)) steps.now)) }
+    ensures spelled { IfOk result (λ trace.
+        (fault : Format) → HasFormatFault (spelling trace) fault → ⊥) }
     ensures well_formed { IfOk result HasCleanLog }
     ensures dumps { IfOk result HasRightDumps }
-    ensures answers { IfOk result (λ trace. (call : ℕ) → Holds trace (WrongAnswer call) → ⊥) }
-    ensures in_time { IfOk result (λ trace. (call : ℕ) → Holds trace (Early call) → ⊥) }
+    ensures answers { IfOk result (λ trace. (call : ℕ) → HasFault trace (WrongAnswer call) → ⊥) }
+    ensures in_time { IfOk result (λ trace. (call : ℕ) → HasFault trace (Early call) → ⊥) }
     ensures faultless { IfOk result IsFaultless }
 {
     let mut core = Core::new(alloc, config, scripts)?;

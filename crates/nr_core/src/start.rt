@@ -21,7 +21,8 @@ impl Core {
     /// Out of memory.
     pub fn new(alloc: Global, config: Config, scripts: Vec<Vec<Request>>) -> Result<Core, Memory>
         requires { AreScripts config (map (λ script. script.items) scripts.items) }
-        ensures { IfOk result (λ core. core ≡ start config (map (λ script. script.items) scripts.items)) }
+        ensures { IfOk result (λ core.
+            core ≡ start config (map (λ script. script.items) scripts.items)) }
     {
         let threads = new_threads(alloc, scripts)?;
         let replicas = new_replicas(alloc, config)?;
@@ -55,7 +56,8 @@ fn new_threads(alloc: Global, scripts: Vec<Vec<Request>>) -> Result<Vec<ThreadSt
 
 /// Replicas as they are at the start, as many as the layout has.
 fn new_replicas(alloc: Global, config: Config) -> Result<Vec<ReplicaState>, Memory>
-    ensures seen { IfOk result (λ replicas. map replica_in replicas.items ≡ replicate config.replicas new_replica) }
+    ensures seen { IfOk result (λ replicas.
+        map replica_in replicas.items ≡ replicate config.replicas new_replica) }
     ensures each { IfOk result (λ replicas. All (IsReplica config) replicas.items) }
 {
     let mut replicas = Vec::new(alloc);

@@ -29,7 +29,9 @@ impl Model for Core {
 
     ghost coded = { Prim.hlevel (codes, finite.code {R = nat_cmp} coded_ℕ page_contract.the_row.coded) };
 
-    ghost view = { λ c. state_in c.config c.events.items c.log.items c.completed c.replicas.items c.threads.items };
+    ghost view = { λ c.
+        state_in c.config c.events.items c.log.items c.completed c.replicas.items c.threads.items };
 
-    ghost invariant = { λ c. AreParts c.config c.events.items c.log.items c.replicas.items c.threads.items };
+    ghost invariant = { λ c.
+        AreParts c.config c.events.items c.log.items c.replicas.items c.threads.items };
 }

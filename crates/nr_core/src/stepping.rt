@@ -15,7 +15,9 @@ impl Core {
     ///
     /// Out of memory: the core is unchanged.
     pub fn step(&mut self, step: Step) -> Result<bool, Memory>
-        ensures { MatchResult result (λ done. IsStepped self.old (after_step self.old step) done self.new) (λ _. self.new ≡ self.old) }
+        ensures { MatchResult result
+            (λ done. IsStepped self.old (after_step self.old step) done self.new)
+            (λ _. self.new ≡ self.old) }
     {
         let thread = step.thread;
         match step.act {

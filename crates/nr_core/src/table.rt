@@ -48,8 +48,10 @@ impl Table {
     /// Does an operation.
     pub(crate) fn apply(&mut self, op: Op) -> Answer
         requires { IsAction self.old.pages.depth op }
-        ensures answer { result ≡ (step self.old.pages.depth self.old.pages.limit self.old.of.0 op).answer }
-        ensures space { self.new.of.0 ≡ (step self.old.pages.depth self.old.pages.limit self.old.of.0 op).space }
+        ensures answer { result
+            ≡ (step self.old.pages.depth self.old.pages.limit self.old.of.0 op).answer }
+        ensures space { self.new.of.0
+            ≡ (step self.old.pages.depth self.old.pages.limit self.old.of.0 op).space }
         ensures depth { self.new.pages.depth ≡ self.old.pages.depth }
         ensures limit { self.new.pages.limit ≡ self.old.pages.limit }
     {

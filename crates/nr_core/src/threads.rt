@@ -11,7 +11,8 @@ use crate::state::Core;
 impl Core {
     /// How far a thread has come, if there is such a thread.
     pub(crate) fn stage(&self, thread: u16) -> Option<Stage>
-        ensures { MatchOption result (slice_get self.now.threads thread ≡ None) (IsAt self.now thread) }
+        ensures { MatchOption result (slice_get self.now.threads thread ≡ None)
+            (IsAt self.now thread) }
     {
         let t = usize::from(thread);
         if t < self.threads.len() {
@@ -33,7 +34,8 @@ impl Core {
 
     /// The replica whose lock a thread holds, if any, if there is such a thread.
     pub(crate) fn holds(&self, thread: u16) -> Option<Option<u8>>
-        ensures { MatchOption result (slice_get self.now.threads thread ≡ None) (HoldsJust self.now thread) }
+        ensures { MatchOption result (slice_get self.now.threads thread ≡ None)
+            (HoldsJust self.now thread) }
     {
         let t = usize::from(thread);
         if t < self.threads.len() {
@@ -55,7 +57,10 @@ impl Core {
 
     /// The replica whose lock a thread holds.
     pub(crate) fn lock_of(&self, thread: u16) -> Option<u8>
-        ensures { MatchOption result ((go : states.Thread → ℕ → states.Replica → Option states.State) → by_holder self.now thread go ≡ None) (HoldsLock self.now thread) }
+        ensures { MatchOption result
+            ((go : states.Thread → ℕ → states.Replica → Option states.State)
+                → by_holder self.now thread go ≡ None)
+            (HoldsLock self.now thread) }
     {
         let holds = self.holds(thread)?;
         let r = holds?;

@@ -30,7 +30,8 @@ fn status_of(verdict: &Verdict) -> u8
 ///
 /// `Memory` where a growth of memory was refused, here or as the input was read.
 pub fn audit_read(alloc: Global, read: Result<Trace, Fail<Format>>) -> Result<Report, Memory>
-    ensures { (bytes : List ℕ) → Reads bytes read → IfOk result (λ report. IsAudit bytes (string_bytes report.text) report.status) }
+    ensures { (bytes : List ℕ) → Reads bytes read
+        → IfOk result (λ report. IsAudit bytes (string_bytes report.text) report.status) }
 {
     let verdict = judge_read(alloc, read)?;
     let text = verdict_text(alloc, &verdict)?;
@@ -52,7 +53,8 @@ pub fn audit_io<R: Read, W: Write>(
     reader: &mut R,
     writer: &mut W,
 ) -> Result<u8, ProgFault>
-    ensures ok { IfOk result (WritesReport IsAudit (R.remaining reader.old) (W.contents writer.old) (W.contents writer.new)) }
+    ensures ok { IfOk result (WritesReport IsAudit (R.remaining reader.old) (W.contents writer.old)
+        (W.contents writer.new)) }
     ensures err { IfErr result IsEndFault }
     ensures alone { WritesAnswersAlone writer.old writer.new result }
     ensures few { HasReadFew (R.remaining reader.old) (R.remaining reader.new) }

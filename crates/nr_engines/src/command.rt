@@ -43,7 +43,8 @@ impl Command<'_> {
         reader: &mut R,
         writer: &mut W,
     ) -> Result<u8, ProgFault>
-        ensures ok { IfOk result (WritesReport (IsAnswer self.entry) (R.remaining reader.old) (W.contents writer.old) (W.contents writer.new)) }
+        ensures ok { IfOk result (WritesReport (IsAnswer self.entry) (R.remaining reader.old)
+            (W.contents writer.old) (W.contents writer.new)) }
         ensures err { IfErr result (IsRefusal self.entry (R.remaining reader.old)) }
         ensures alone { WritesAnswersAlone writer.old writer.new result }
         ensures few { ReadsFew self.entry (R.remaining reader.old) (R.remaining reader.new) }

@@ -20,8 +20,10 @@ const MOST_BYTES: usize = 70_647_893;
 /// Reads into the block: how many bytes, none at the end of the input. A read that was interrupted is tried again.
 pub(crate) fn read_block<R: Read>(reader: &mut R, block: &mut [u8]) -> Result<usize, ProgFault>
     ensures bound { ReadsAtMost result block.new }
-    ensures ok { IfOk result (λ count. Consumes (R.remaining reader.old) (R.remaining reader.new) (take count block.new)) }
-    ensures end { IfOk result (λ count. count ≡ 0 → 0 < length block.old → IsAtEnd (R.remaining reader.new)) }
+    ensures ok { IfOk result (λ count.
+        Consumes (R.remaining reader.old) (R.remaining reader.new) (take count block.new)) }
+    ensures end { IfOk result (λ count. count ≡ 0 → 0 < length block.old
+        → IsAtEnd (R.remaining reader.new)) }
     ensures err { IfErr result (λ fault. fault ≡ ProgFault.CannotRead) }
     ensures kept { IfErr result (λ _. Keeps (R.remaining reader.old) (R.remaining reader.new)) }
 {
@@ -99,7 +101,8 @@ pub fn write_text<W: Write>(writer: &mut W, text: &[u8]) -> Result<(), ProgFault
 
 /// Writes a report's lines and nothing else, and gives its status.
 pub(crate) fn write_report<W: Write>(writer: &mut W, report: &Report) -> Result<u8, ProgFault>
-    ensures ok { IfOk result (λ status. (status ≡ report.now.status) × Appends (W.contents writer.old) (W.contents writer.new) (string_bytes report.now.text)) }
+    ensures ok { IfOk result (λ status. (status ≡ report.now.status)
+        × Appends (W.contents writer.old) (W.contents writer.new) (string_bytes report.now.text)) }
     ensures err { IfErr result (λ fault. fault ≡ ProgFault.CannotWrite) }
 {
     write_text(writer, report.text.as_bytes())?;

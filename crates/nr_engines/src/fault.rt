@@ -84,7 +84,8 @@ impl ProgFault {
     ///
     /// `CannotWrite` where the writer gave an error.
     pub fn tell<W: Write>(&self, errors: &mut W) -> Result<(), ProgFault>
-        ensures ok { OnOk result (Appends (W.contents errors.old) (W.contents errors.new) (refusal_line self.now)) }
+        ensures ok { OnOk result
+            (Appends (W.contents errors.old) (W.contents errors.new) (refusal_line self.now)) }
         ensures err { IfErr result (λ fault. fault ≡ ProgFault.CannotWrite) }
     {
         write_text(errors, self.words().as_bytes())?;

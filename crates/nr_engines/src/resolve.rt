@@ -68,7 +68,8 @@ pub fn resolve_io<R: Read, W: Write>(
     address: &str,
     replica: u8,
 ) -> Result<u8, ProgFault>
-    ensures ok { IfOk result (WritesReport (IsResolve address.now replica) (R.remaining reader.old) (W.contents writer.old) (W.contents writer.new)) }
+    ensures ok { IfOk result (WritesReport (IsResolve address.now replica) (R.remaining reader.old)
+        (W.contents writer.old) (W.contents writer.new)) }
     ensures err { IfErr result (IsResolveFault address.now replica (R.remaining reader.old)) }
     ensures alone { WritesAnswersAlone writer.old writer.new result }
     ensures few { HasReadFew (R.remaining reader.old) (R.remaining reader.new) }

@@ -74,7 +74,8 @@ fn push_thread(
     thread: usize,
     said: &[Said],
 ) -> Result<(), AllocError>
-    ensures { OnOk result (string_bytes text.new ≡ string_bytes text.old ++ flat_map (call_line thread) said.now) }
+    ensures { OnOk result
+        (string_bytes text.new ≡ string_bytes text.old ++ flat_map (call_line thread) said.now) }
 {
     for call in said {
         push_call(alloc, text, thread, *call)?;
@@ -84,7 +85,8 @@ fn push_thread(
 
 /// The lines of a verified run. Takes memory for the text.
 pub(crate) fn verified_text(alloc: Global, threads: &[Vec<Said>]) -> Result<String, AllocError>
-    ensures { IfOk result (λ text. string_bytes text ≡ verified_text (map (λ said. said.items) threads.now)) }
+    ensures { IfOk result (λ text.
+        string_bytes text ≡ verified_text (map (λ said. said.items) threads.now)) }
 {
     let mut text = String::new(alloc);
     for (thread, said) in threads.iter().enumerate() {

@@ -66,7 +66,8 @@ pub fn input_script<R: Read>(
 ) -> Result<Script, ProgFault>
     ensures ok { IfOk result (HasReadScript depth (R.remaining reader.old)) }
     ensures threads { IfOk result (λ script. (1 ≤ script.threads) × (script.threads ≤ 64)) }
-    ensures scripts { IfOk result (λ script. (layout : Layout) → layout.depth ≡ depth → layout.threads ≡ script.threads
+    ensures scripts { IfOk result (λ script. (layout : Layout) → layout.depth ≡ depth
+        → layout.threads ≡ script.threads
         → AreScripts layout (map (λ list. list.items) script.requests.items)) }
     ensures err { IfErr result (IsScriptFault depth (R.remaining reader.old)) }
     ensures few { HasReadAtMost 16777217 (R.remaining reader.old) (R.remaining reader.new) }

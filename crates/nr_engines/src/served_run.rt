@@ -98,7 +98,8 @@ fn run_named<J: LogName + Send + Sync, W: Write, T: Threads + Wait + Sync>(
     requires replicas { config.replicas ≡ J.replicas }
     requires passes { J.passes ≡ config.replicas + config.threads }
     requires scripts { AreScripts config (map (λ script. script.items) scripts.items) }
-    ensures ok { IfOk result (λ status. (text : List ℕ) × TellsRun config (map (λ script. script.items) scripts.items) as_trace text status
+    ensures ok { IfOk result (λ status. (text : List ℕ)
+        × TellsRun config (map (λ script. script.items) scripts.items) as_trace text status
         × Appends (W.contents writer.old) (W.contents writer.new) text) }
     ensures err { IfErr result IsRunEnd }
     ensures alone { WritesAnswersAlone writer.old writer.new result }
@@ -130,7 +131,8 @@ pub fn run_io<T: Threads + Wait + Sync, R: Read, W: Write>(
     turns: u32,
     as_trace: bool,
 ) -> Result<u8, ProgFault>
-    ensures ok { IfOk result (WritesReport (IsServedRun setup as_trace) (R.remaining reader.old) (W.contents writer.old) (W.contents writer.new)) }
+    ensures ok { IfOk result (WritesReport (IsServedRun setup as_trace) (R.remaining reader.old)
+        (W.contents writer.old) (W.contents writer.new)) }
     ensures err { IfErr result (IsRunFault setup.depth (R.remaining reader.old)) }
     ensures alone { WritesAnswersAlone writer.old writer.new result }
     ensures few { HasReadAtMost 16777217 (R.remaining reader.old) (R.remaining reader.new) }

@@ -22,7 +22,8 @@ use vs_types::{Config, Memory};
 /// A recording of the core after the script's steps. It takes what `run_steps` takes.
 fn simulate(alloc: Global, setup: Setup, script: Script) -> Result<Trace, Memory>
     requires threads { (1 ≤ script.threads) × (script.threads ≤ 64) }
-    requires scripts { (layout : Layout) → layout.depth ≡ setup.depth → layout.threads ≡ script.threads
+    requires scripts { (layout : Layout) → layout.depth ≡ setup.depth
+        → layout.threads ≡ script.threads
         → AreScripts layout (map (λ list. list.items) script.requests.items) }
     ensures recording { IfOk result (IsRecordingOfScript setup script) }
     ensures faultless { IfOk result IsFaultless }
@@ -48,7 +49,8 @@ pub fn simulate_io<R: Read, W: Write>(
     setup: Setup,
     as_trace: bool,
 ) -> Result<u8, ProgFault>
-    ensures ok { IfOk result (WritesReport (IsSimulation setup as_trace) (R.remaining reader.old) (W.contents writer.old) (W.contents writer.new)) }
+    ensures ok { IfOk result (WritesReport (IsSimulation setup as_trace) (R.remaining reader.old)
+        (W.contents writer.old) (W.contents writer.new)) }
     ensures yes { IfOk result (λ status. status ≡ 0) }
     ensures err { IfErr result (IsSimulationFault setup.depth (R.remaining reader.old)) }
     ensures alone { WritesAnswersAlone writer.old writer.new result }

@@ -6,7 +6,7 @@ use Rattle.std.proofs.lemmas.Option.{same_Some}
 use Rattle.vs_walk.specs.Dump.{Image}
 use Rattle.nr_trace.specs.Recording.{Recording}
 use Rattle.nr_trace.specs.Calls.{Answers, Invocation, IsCall, IsUpdate, Response, call_of, reply_of}
-use Rattle.nr_trace.specs.Faults.{Earlier, Holds, IsFirst, OpensTwice}
+use Rattle.nr_trace.specs.Faults.{Earlier, HasFault, IsFirst, OpensTwice}
 use Rattle.nr_trace.specs.Laws.{HasCleanLog}
 use Rattle.nr_trace.specs.declared.fault.Fault.TheVariants.{AnsweredTwice, Differs, Early, NoSuchCall, NotAnUpdate, NotPlaced, PastLog, PlacedTwice, PrefixPastLog, ThreadOpen}
 use Rattle.nr_trace.proofs.LawsOfCalls.{placed_is_update, update_from_not_not, update_is_call}
@@ -64,7 +64,7 @@ some_or_none None = inr refl
 some_or_none (Some x) = inl refl
 
 -- a reply that is not one to no call names an earlier call
-pub names_call : (trace : Recording) (index : ℕ) (reply : Response) → (Holds trace (NoSuchCall index) → ⊥) → reply_of trace index ≡ Some reply
+pub names_call : (trace : Recording) (index : ℕ) (reply : Response) → (HasFault trace (NoSuchCall index) → ⊥) → reply_of trace index ≡ Some reply
     → (reply.call < index) × IsCall trace reply.call
 names_call trace index reply none e = by_order (cases_lt reply.call index) (some_or_none (call_of trace reply.call)) where
   too_late : reply.call < index → index ≤ reply.call → ⊥

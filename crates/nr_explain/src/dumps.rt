@@ -142,7 +142,8 @@ pub(crate) fn difference(
     requires { IsFirst trace.now (Differs replica address) }
     ensures replica { IfOk result (λ wrong. wrong.replica ≡ replica) }
     ensures address { IfOk result (λ wrong. wrong.address ≡ address) }
-    ensures is { IfOk result (λ wrong. HasDump trace.now wrong.replica (IsDifference trace.now wrong)) }
+    ensures is { IfOk result (λ wrong.
+        HasDump trace.now wrong.replica (IsDifference trace.now wrong)) }
 {
     let dump = &trace.dumps()[replica as usize];
     let applied = dump.applied();

@@ -20,7 +20,8 @@ pub(crate) fn event_at(trace: &Trace, index: u32) -> Option<Event>
 
 /// The call of this number, if there is one.
 pub(crate) fn find_call(trace: &Trace, index: u32) -> Option<RecordedCall>
-    ensures is { MatchOption result (call_of trace.now index ≡ None) (λ call. IsCallOf trace.now call × (call.event ≡ index)) }
+    ensures is { MatchOption result (call_of trace.now index ≡ None)
+        (λ call. IsCallOf trace.now call × (call.event ≡ index)) }
     ensures well_formed { IfSome result (λ call. IsQuery trace.now.layout.depth call.request) }
 {
     match trace.events().get(index as usize)?.event() {
@@ -40,7 +41,8 @@ pub(crate) fn find_call(trace: &Trace, index: u32) -> Option<RecordedCall>
 
 /// The reply that the event of this index is, if it is one.
 pub(crate) fn find_reply(trace: &Trace, index: u32) -> Option<RecordedReply>
-    ensures { MatchOption result (reply_of trace.now index ≡ None) (λ reply. IsReplyOf trace.now reply × (reply.event ≡ index)) }
+    ensures { MatchOption result (reply_of trace.now index ≡ None)
+        (λ reply. IsReplyOf trace.now reply × (reply.event ≡ index)) }
 {
     match event_at(trace, index)? {
         Event::Call { .. } => None,

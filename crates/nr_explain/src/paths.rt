@@ -1,6 +1,7 @@
 //! Ways through the tables of a dump.
 
 ghost use Rattle.std.specs.Prelude.{◌≡◌, ◌≤◌, ◌<◌, ◌↔◌, [], IfOk, IsTrue, MatchOption, length};
+ghost use Rattle.vs_types.specs.declared.limits.TheConstants.{MOST_LEVELS};
 ghost use Rattle.vs_types.specs.Depth.{levels};
 ghost use Rattle.nr_explain.specs.inside.Ways.{GoesNowhere, GoesOnTo, HasTwoWays, IsAnotherWay, IsMet, IsReservedAt, IsSearched};
 ghost use Rattle.nr_explain.specs.Facts.{HasReservedWord};
@@ -24,7 +25,7 @@ pub(crate) struct Target {
 /// Whether the word of a frame at an index has a reserved bit set, as an entry of a level.
 fn is_reserved(dump: &Dump, level: u8, frame: u64, index: u16) -> bool
     requires some_level { 1 ≤ level }
-    requires few_levels { level ≤ 5 }
+    requires few_levels { level ≤ MOST_LEVELS }
     ensures { IsTrue result ↔ IsReservedAt dump.now.frames level frame index }
 {
     let Some(words) = dump.words(frame) else {
@@ -49,7 +50,7 @@ fn is_same(left: &[Step], right: &[Step]) -> bool
 /// Whether a way that ends at the frame, as a table of a level, is one that is looked for.
 fn is_met(dump: &Dump, target: &Target, level: u8, way: &[Step]) -> bool
     requires some_level { 1 ≤ level }
-    requires few_levels { level ≤ 5 }
+    requires few_levels { level ≤ MOST_LEVELS }
     ensures { IsTrue result ↔ IsMet dump.now.frames target.now level way.now }
 {
     let has_word = match target.reserved {
@@ -72,7 +73,7 @@ fn go_on(
     way: &mut Vec<Step>,
 ) -> Result<bool, Memory>
     requires some_level { 1 ≤ level }
-    requires few_levels { level ≤ 5 }
+    requires few_levels { level ≤ MOST_LEVELS }
     ensures { IfOk result (IsSearched dump.now.frames target.now level number way.old.items way.new.items) }
 {
     if number == target.frame && is_met(dump, target, level, way) {

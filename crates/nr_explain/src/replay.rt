@@ -29,8 +29,10 @@ fn serve(space: &mut PlainSpace, request: Request) -> Result<Answer, Memory>
 /// Applies the update of a place to the space before it.
 fn apply_place(trace: &Trace, space: &mut PlainSpace, place: u32) -> Result<(), Memory>
     requires within { place < length trace.now.log }
-    requires before { space.old ≡ space_of trace.now.layout (space_after trace.now (take place trace.now.log)) }
-    ensures { OnOk result (space.new ≡ space_of trace.now.layout (space_after trace.now (take (place + 1) trace.now.log))) }
+    requires before { space.old
+        ≡ space_of trace.now.layout (space_after trace.now (take place trace.now.log)) }
+    ensures { OnOk result (space.new
+        ≡ space_of trace.now.layout (space_after trace.now (take (place + 1) trace.now.log))) }
 {
     let log = trace.log();
     if let Some(request) = request_of(trace, log[place as usize]) {
@@ -42,7 +44,8 @@ fn apply_place(trace: &Trace, space: &mut PlainSpace, place: u32) -> Result<(), 
 /// The space after this many places.
 pub(crate) fn space_at(alloc: Global, trace: &Trace, end: u32) -> Result<PlainSpace, Memory>
     requires { end ≤ length trace.now.log }
-    ensures { IfOk result (λ space. space ≡ space_of trace.now.layout (space_after trace.now (take end trace.now.log))) }
+    ensures { IfOk result (λ space.
+        space ≡ space_of trace.now.layout (space_after trace.now (take end trace.now.log))) }
 {
     let config = trace.config();
     let mut space = PlainSpace::new(alloc, config.tables(), config.depth());
@@ -61,7 +64,8 @@ pub(crate) fn answer_after(
 ) -> Result<Answer, Memory>
     requires within { end ≤ length trace.now.log }
     requires fits { IsQuery trace.now.layout.depth request }
-    ensures { IfOk result (λ answer. answer ≡ answer_in trace.now.layout (space_after trace.now (take end trace.now.log)) request) }
+    ensures { IfOk result (λ answer. answer
+        ≡ answer_in trace.now.layout (space_after trace.now (take end trace.now.log)) request) }
 {
     let mut space = space_at(alloc, trace, end)?;
     serve(&mut space, request)

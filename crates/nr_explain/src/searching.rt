@@ -41,7 +41,8 @@ pub(crate) fn first_reply(trace: &Trace, call: u32, end: u32) -> Option<Recorded
 pub(crate) fn first_place(trace: &Trace, call: u32, end: u32) -> Option<u32>
     requires { end ≤ length trace.now.log }
     ensures { MatchOption result (IsUnplacedBelow trace.now call end)
-        (λ place. (place < end) × (slice_get trace.now.log place ≡ Some call) × IsUnplacedBelow trace.now call place) }
+        (λ place. (place < end) × (slice_get trace.now.log place ≡ Some call)
+        × IsUnplacedBelow trace.now call place) }
 {
     let log = trace.log();
     for place in 0..end {
@@ -73,7 +74,8 @@ pub(crate) fn binding_reply(trace: &Trace, end: u32) -> (u64, Option<RecordedRep
 
 /// The reply of an event, where it is one to a call made at a replica and more than so many entries are known by it.
 fn resting_at(trace: &Trace, replica: u8, applied: u32, index: u32) -> Option<ShortPrefix>
-    ensures { MatchOption result (RestsAt trace.now replica applied index → ⊥) (IsResting trace.now replica applied) }
+    ensures { MatchOption result (RestsAt trace.now replica applied index → ⊥)
+        (IsResting trace.now replica applied) }
 {
     let reply = find_reply(trace, index)?;
     let call = find_call(trace, reply.call)?;
@@ -92,7 +94,8 @@ fn resting_at(trace: &Trace, replica: u8, applied: u32, index: u32) -> Option<Sh
 
 /// The first reply to a call made at a replica by which more than so many entries are known.
 pub(crate) fn first_resting(trace: &Trace, replica: u8, applied: u32) -> Option<ShortPrefix>
-    ensures { MatchOption result ((index : ℕ) → index < length trace.now.events → RestsAt trace.now replica applied index → ⊥)
+    ensures { MatchOption result ((index : ℕ) → index < length trace.now.events
+        → RestsAt trace.now replica applied index → ⊥)
         (IsResting trace.now replica applied) }
 {
     let events = trace.events().len();

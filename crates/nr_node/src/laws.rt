@@ -14,22 +14,29 @@ ghost use Rattle.nr_node.specs.Spaces.{answer_at, space_at};
 /// A log that has gone on says the same of the places that the earlier log had: the entries there, the spaces after them, and
 /// what each operation is answered there.
 pub fn later_logs_say_the_same()
-    ensures entry { (earlier later : Log) (place : ℕ) (entry : LogEntry) → HasGoneOn earlier later → slice_get earlier.entries place ≡ Some entry
+    ensures entry { (earlier later : Log) (place : ℕ) (entry : LogEntry) → HasGoneOn earlier later
+        → slice_get earlier.entries place ≡ Some entry
         → slice_get later.entries place ≡ Some entry }
-    ensures space { (depth : Depth) (tables n : ℕ) (earlier later : Log) → HasGoneOn earlier later → n ≤ tail earlier
+    ensures space { (depth : Depth) (tables n : ℕ) (earlier later : Log) → HasGoneOn earlier later
+        → n ≤ tail earlier
         → space_at depth tables later.entries n ≡ space_at depth tables earlier.entries n }
-    ensures answer { (depth : Depth) (tables place : ℕ) (op : Action) (earlier later : Log) → HasGoneOn earlier later → place ≤ tail earlier
-        → answer_at depth tables later.entries place op ≡ answer_at depth tables earlier.entries place op }
+    ensures answer { (depth : Depth) (tables place : ℕ) (op : Action) (earlier later : Log)
+        → HasGoneOn earlier later → place ≤ tail earlier
+        → answer_at depth tables later.entries place op
+        ≡ answer_at depth tables earlier.entries place op }
 {}
 
 /// The space after one entry more is that after a step by its operation, of which the answer is the one at its place.
 pub fn spaces_go_on_by_entries()
-    ensures { (depth : Depth) (tables place : ℕ) (log : Log) (entry : LogEntry) → slice_get log.entries place ≡ Some entry
-        → space_at depth tables log.entries (place + 1) ≡ (step depth tables (space_at depth tables log.entries place) entry.op).space }
+    ensures { (depth : Depth) (tables place : ℕ) (log : Log) (entry : LogEntry)
+        → slice_get log.entries place ≡ Some entry
+        → space_at depth tables log.entries (place + 1)
+        ≡ (step depth tables (space_at depth tables log.entries place) entry.op).space }
 {}
 
 /// The space after entries of a history's log is a space of the log's depth.
 pub fn entries_make_spaces()
-    ensures { (depth : Depth) (tables replicas n : ℕ) (events : List LogEvent) → IsLogHistory depth replicas events
+    ensures { (depth : Depth) (tables replicas n : ℕ) (events : List LogEvent)
+        → IsLogHistory depth replicas events
         → IsSpace depth (space_at depth tables (log_after replicas events).entries n) }
 {}

@@ -52,8 +52,10 @@ impl<S: FrameStore, J: LogName> Model for Node<S, J> {
 
     ghost view = { λ n. node_state n.pass n.replica n.batch.items n.first };
 
-    ghost invariant = { λ n. IsNode J.depth J.replicas (node_state n.pass n.replica n.batch.items n.first)
-        × Follows J.depth J.replicas (node_state n.pass n.replica n.batch.items n.first) n.replica };
+    ghost invariant = { λ n.
+        IsNode J.depth J.replicas (node_state n.pass n.replica n.batch.items n.first)
+        × Follows J.depth J.replicas
+        (node_state n.pass n.replica n.batch.items n.first) n.replica };
 }
 
 impl<S: FrameStore + Drop, J: LogName> Node<S, J> {
@@ -153,11 +155,14 @@ impl<S: FrameStore, J: LogName> Node<S, J> {
         requires unplaced { self.old.first ≡ None }
         ensures log { self.new.known.log ≡ self.old.known.log }
         ensures appended { IfOk result (λ place.
-            HasAppended J.depth J.replicas self.old.known.view (entries_of self.old.batch) place self.new.known.view) }
-        ensures placed { IfOk result (λ place. self.new ≡ record self.old { known = self.new.known; first = Some place }) }
+            HasAppended J.depth J.replicas self.old.known.view
+            (entries_of self.old.batch) place self.new.known.view) }
+        ensures placed { IfOk result (λ place.
+            self.new ≡ record self.old { known = self.new.known; first = Some place }) }
         ensures looked { OnErr result (HasStayed J.depth J.replicas self.old self.new) }
         ensures refused { IfErr result
-            (IsReason (log_of J.replicas self.new) (length self.old.batch) self.old.known.view self.new.known.view) }
+            (IsReason (log_of J.replicas self.new)
+            (length self.old.batch) self.old.known.view self.new.known.view) }
     {
         ask_for(&self.batch, &mut self.entries);
         let first = log.append(rt, &mut self.pass, self.entries.as_slice())?;
@@ -183,12 +188,15 @@ impl<S: FrameStore, J: LogName> Node<S, J> {
         requires log { self.old.known.log ≡ log.now }
         requires empty { answers.old.items ≡ [] }
         ensures log { self.new.known.log ≡ self.old.known.log }
-        ensures caught_up { IfOk result (λ count. HasCaughtUp J.depth J.replicas self.old count self.new) }
+        ensures caught_up { IfOk result (λ count.
+            HasCaughtUp J.depth J.replicas self.old count self.new) }
         ensures answered { OnOk result (answers.new.items
-            ≡ answers_of J.depth self.old.tables (log_of J.replicas self.new).entries self.old.first self.old.batch) }
+            ≡ answers_of J.depth self.old.tables
+            (log_of J.replicas self.new).entries self.old.first self.old.batch) }
         ensures stayed { OnErr result (HasStayed J.depth J.replicas self.old self.new) }
         ensures moved { OnErr result (HasMoved self.old.known.view self.new.known.view) }
-        ensures ahead { OnErr result (applied_of J.replicas self.new + 1 ≤ tail (log_of J.replicas self.new)) }
+        ensures ahead { OnErr result
+            (applied_of J.replicas self.new + 1 ≤ tail (log_of J.replicas self.new)) }
         ensures no_answer { OnErr result (answers.new.items ≡ []) }
     {
         let applied = self.replica.applied();
@@ -215,7 +223,8 @@ impl<S: FrameStore, J: LogName> Node<S, J> {
     pub fn access(&self, address: u64, mode: Mode, access: Access) -> (u32, Answer)
         requires { IsCanonical J.depth address }
         ensures at { result.0 ≡ applied_of J.replicas self.now }
-        ensures answer { result.1 ≡ allow (node_space J.depth J.replicas self.now) address mode access }
+        ensures answer { result.1
+            ≡ allow (node_space J.depth J.replicas self.now) address mode access }
     {
         let answer = self.replica.access(address, mode, access);
         (self.replica.applied(), answer)
@@ -225,7 +234,8 @@ impl<S: FrameStore, J: LogName> Node<S, J> {
     pub fn told(&self, place: u32) -> Option<(LogEntry, Answer)>
         ensures { MatchOption result (applied_of J.replicas self.now ≤ place) (λ told.
             (slice_get (log_of J.replicas self.now).entries place ≡ Some told.0)
-            × (told.1 ≡ answer_at J.depth self.now.tables (log_of J.replicas self.now).entries place told.0.op)
+            × (told.1 ≡ answer_at J.depth self.now.tables
+            (log_of J.replicas self.now).entries place told.0.op)
             × (place + 1 ≤ applied_of J.replicas self.now)) }
     {
         self.replica.told(place)
@@ -253,9 +263,13 @@ impl<S: FrameStore, J: LogName> Node<S, J> {
         requires log { (self.old.known.log ≡ log.now) × (told.old.log ≡ log.now) }
         ensures same { self.new ≡ self.old }
         ensures log { told.new.log ≡ told.old.log }
-        ensures met { StartsWith told.new.view.seen self.old.known.view.seen × StartsWith told.new.view.seen told.old.view.seen }
-        ensures advances { All (λ replica. HasSeenAdvances replica told.new.view.seen told.old.view.seen) told.old.view.owns }
-        ensures looked { HasLooked J.depth J.replicas (joined told.old.view (copy_of self.old.known.view)) told.new.view }
+        ensures met { StartsWith told.new.view.seen self.old.known.view.seen
+            × StartsWith told.new.view.seen told.old.view.seen }
+        ensures advances { All
+            (λ replica. HasSeenAdvances replica told.new.view.seen told.old.view.seen)
+            told.old.view.owns }
+        ensures looked { HasLooked J.depth J.replicas
+            (joined told.old.view (copy_of self.old.known.view)) told.new.view }
     {
         log.meet(rt, &mut self.pass, told);
     }
@@ -274,7 +288,8 @@ fn take_entries<J: LogName, R: Wait>(
     requires applied { taken_by J.replicas pass.old.view ≡ applied }
     requires empty { entries.old.items ≡ [] }
     ensures log { pass.new.log ≡ pass.old.log }
-    ensures took { OnOk result (HasTakenAll J.depth J.replicas pass.old.view entries.new.items pass.new.view) }
+    ensures took { OnOk result
+        (HasTakenAll J.depth J.replicas pass.old.view entries.new.items pass.new.view) }
     ensures looked { OnErr result (HasLooked J.depth J.replicas pass.old.view pass.new.view) }
     ensures moved { OnErr result (HasMoved pass.old.view pass.new.view) }
     ensures ahead { OnErr result

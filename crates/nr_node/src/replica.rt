@@ -42,7 +42,8 @@ impl<S: FrameStore> Model for Replica<S> {
 
     ghost Value = { ReplicaState };
 
-    ghost view = { λ r. record { depth = r.space.depth; tables = r.space.limit; entries = entries_told r.told.items } };
+    ghost view = { λ r. record { depth = r.space.depth; tables = r.space.limit;
+        entries = entries_told r.told.items } };
 
     ghost invariant = { λ r. IsReplica r.space r.told.items (vec_capacity r.told) };
 }
@@ -52,7 +53,8 @@ impl<S: FrameStore + Drop> Replica<S> {
     /// ever needs, but for dumps.
     pub(crate) fn new(alloc: Global, store: S, depth: Depth) -> Result<Replica<S>, Fail<NoRoot>>
         requires { S.frames store ≡ finite.empty }
-        ensures made { IfOk result (λ r. r ≡ record { depth = depth; tables = S.size store; entries = [] }) }
+        ensures made { IfOk result (λ r.
+            r ≡ record { depth = depth; tables = S.size store; entries = [] }) }
         ensures no_root { IfErr result (IfRefused (λ _. S.size store ≡ 0)) }
     {
         let told = Vec::with_capacity(alloc, LOG_PLACES as usize)?;
@@ -102,8 +104,10 @@ impl<S: FrameStore> Replica<S> {
         answers: &mut ArrayVec<Answered, RING>,
     )
         requires empty { answers.old.items ≡ [] }
-        requires stand { (place : ℕ) → first ≡ Some place → StandFrom self.now.entries place batch.now.items }
-        ensures { answers.new.items ≡ answers_of self.now.depth self.now.tables self.now.entries first batch.now.items }
+        requires stand { (place : ℕ) → first ≡ Some place
+            → StandFrom self.now.entries place batch.now.items }
+        ensures { answers.new.items
+            ≡ answers_of self.now.depth self.now.tables self.now.entries first batch.now.items }
     {
         if let Some(first) = first {
             self.answer_from(first, batch, answers);
@@ -119,7 +123,8 @@ impl<S: FrameStore> Replica<S> {
     )
         requires empty { answers.old.items ≡ [] }
         requires stand { StandFrom self.now.entries first batch.now.items }
-        ensures { answers.new.items ≡ answered_from self.now.depth self.now.tables self.now.entries first batch.now.items }
+        ensures { answers.new.items
+            ≡ answered_from self.now.depth self.now.tables self.now.entries first batch.now.items }
     {
         let mut place = first;
         for waiting in batch.as_slice() {
@@ -148,15 +153,18 @@ impl<S: FrameStore> Replica<S> {
     /// Whether an access of a canonical address is allowed.
     pub(crate) fn access(&self, address: u64, mode: Mode, access: Access) -> Answer
         requires { IsCanonical self.now.depth address }
-        ensures { result ≡ allow (space_of self.now.depth self.now.tables self.now.entries) address mode access }
+        ensures { result
+            ≡ allow (space_of self.now.depth self.now.tables self.now.entries) address mode access }
     {
         self.space.access(address, mode, access)
     }
 
     /// The entry at a place with its answer; `None` where the place is not below the number of entries.
     pub(crate) fn told(&self, place: u32) -> Option<(LogEntry, Answer)>
-        ensures told { MatchOption result (length self.now.entries ≤ place) (λ told. (slice_get self.now.entries place ≡ Some told.0)
-            × (told.1 ≡ answer_at self.now.depth self.now.tables self.now.entries place told.0.op)) }
+        ensures told { MatchOption result (length self.now.entries ≤ place)
+            (λ told. (slice_get self.now.entries place ≡ Some told.0)
+            × (told.1
+                ≡ answer_at self.now.depth self.now.tables self.now.entries place told.0.op)) }
         ensures within { IfSome result (λ _. place < LOG_PLACES) }
     {
         let told = self.told.get(place as usize)?;
@@ -169,7 +177,8 @@ impl<S: FrameStore> Replica<S> {
         ensures translates { IfOk result (λ dump. TranslatesAs self.now.depth dump.frames dump.root
             (space_of self.now.depth self.now.tables self.now.entries)) }
         ensures frames { IfOk result (λ dump. finite.len dump.frames
-            ≡ table_count self.now.depth (space_of self.now.depth self.now.tables self.now.entries)) }
+            ≡ table_count self.now.depth
+            (space_of self.now.depth self.now.tables self.now.entries)) }
     {
         let _frames = self.space.tables();
         let root = self.space.root();

@@ -71,7 +71,8 @@ impl<J: LogName, K: ReplicasName> Local<J, K> {
         slots: &Slots<Fitting<J>>,
     ) -> Result<bool, AppendFault>
         requires { log.now ≡ K.log }
-        ensures { IfErr result (λ fault. fault ≡ LogEnded → 65520 < tail (log_of J.replicas self.new)) }
+        ensures { IfErr result (λ fault. fault ≡ LogEnded
+            → 65520 < tail (log_of J.replicas self.new)) }
     {
         if self.node.held() == Held::Nothing {
             self.collect(rt, slots);
@@ -88,7 +89,8 @@ impl<J: LogName, K: ReplicasName> Local<J, K> {
     /// Appends the batch, where it has no place yet. Whether it did.
     fn put_batch<R: Wait>(&mut self, rt: &R, log: &RingLog<J>) -> Result<bool, AppendFault>
         requires log { log.now ≡ K.log }
-        ensures ended { IfErr result (λ fault. fault ≡ LogEnded → 65520 < tail (log_of J.replicas self.new)) }
+        ensures ended { IfErr result (λ fault. fault ≡ LogEnded
+            → 65520 < tail (log_of J.replicas self.new)) }
     {
         let _applied = self.node.applied();
         match self.node.held() {
@@ -127,7 +129,8 @@ impl<J: LogName, K: ReplicasName> Local<J, K> {
 
     /// The answer of an update, where the log has it at the place that was told, which is not below that one, and answers it so.
     fn recall(&self, from: u32, answered: Answered) -> Option<Answer>
-        ensures { IfSome result (λ answer. IsAnsweredAt J.depth K.tables from (log_of J.replicas self.now)
+        ensures { IfSome result (λ answer.
+            IsAnsweredAt J.depth K.tables from (log_of J.replicas self.now)
             (record { call = answered.call; op = answered.op }) answered.place answer) }
     {
         let (entry, answer) = self.node.told(answered.place)?;
@@ -153,9 +156,11 @@ impl<J: LogName, K: ReplicasName> Local<J, K> {
     ) -> Option<(u32, Answer)>
         requires log { (log.now ≡ K.log) × (pass.old.log ≡ K.log) }
         ensures log { pass.new.log ≡ pass.old.log }
-        ensures heard { IfSome result (λ _. HasHeard J.depth J.replicas pass.old.view pass.new.view) }
+        ensures heard { IfSome result (λ _.
+            HasHeard J.depth J.replicas pass.old.view pass.new.view) }
         ensures unheard { IfNone result (pass.new ≡ pass.old) }
-        ensures confirmed { IfSome result (λ update. IsAnsweredAt J.depth K.tables from (log_after J.replicas pass.new.view.seen)
+        ensures confirmed { IfSome result (λ update.
+            IsAnsweredAt J.depth K.tables from (log_after J.replicas pass.new.view.seen)
             (record { call = answered.call; op = answered.op }) update.0 update.1) }
     {
         let place = answered.place;
@@ -178,9 +183,11 @@ impl<J: LogName, K: ReplicasName> Local<J, K> {
         requires log { (log.now ≡ K.log) × (pass.old.log ≡ K.log) }
         requires canonical { IsCanonical J.depth address }
         ensures log { pass.new.log ≡ pass.old.log }
-        ensures heard { IfSome result (λ _. HasHeard J.depth J.replicas pass.old.view pass.new.view) }
+        ensures heard { IfSome result (λ _.
+            HasHeard J.depth J.replicas pass.old.view pass.new.view) }
         ensures unheard { IfNone result (pass.new ≡ pass.old) }
-        ensures read { IfSome result (λ read. IsReadAt J.depth K.tables completed (log_after J.replicas pass.new.view.seen)
+        ensures read { IfSome result (λ read.
+            IsReadAt J.depth K.tables completed (log_after J.replicas pass.new.view.seen)
             (answer_in question address) read.0 read.1) }
     {
         if self.node.applied() < completed {
@@ -197,7 +204,8 @@ impl<J: LogName, K: ReplicasName> Local<J, K> {
         requires { IsCanonical J.depth address }
         ensures at { result.0 ≡ applied_of J.replicas self.now }
         ensures written { result.0 ≤ tail (log_of J.replicas self.now) }
-        ensures answer { result.1 ≡ answer_in question address (node_space J.depth J.replicas self.now) }
+        ensures answer { result.1
+            ≡ answer_in question address (node_space J.depth J.replicas self.now) }
     {
         let _applied = self.node.applied();
         match question {
@@ -212,7 +220,8 @@ impl<J: LogName, K: ReplicasName> Local<J, K> {
         ensures same { self.new ≡ self.old }
         ensures log { pass.new.log ≡ pass.old.log }
         ensures heard { HasHeard J.depth J.replicas pass.old.view pass.new.view }
-        ensures more { tail (log_of J.replicas self.old) ≤ tail (log_after J.replicas pass.new.view.seen) }
+        ensures more { tail (log_of J.replicas self.old)
+            ≤ tail (log_after J.replicas pass.new.view.seen) }
     {
         self.node.tell(rt, log, pass);
     }

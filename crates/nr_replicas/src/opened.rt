@@ -49,7 +49,8 @@ impl<J: LogName> OpenReplicas<J> {
         requires replicas { config.replicas ≡ J.replicas }
         requires passes { J.passes ≡ config.replicas + config.threads }
         ensures layout { IfOk result (λ made. made.0.layout ≡ config) }
-        ensures passes { IfOk result (λ made. made.1.items ≡ replicate config.threads (new_pass made.0.log [])) }
+        ensures passes { IfOk result (λ made.
+            made.1.items ≡ replicate config.threads (new_pass made.0.log [])) }
     {
         let replicas = config.replicas();
         let (log, mut passes) = RingLog::new(
@@ -147,7 +148,8 @@ fn share<J: LogName, K: ReplicasName>(
 ) -> Result<Vec<Shared<J, K>>, Memory>
     requires { All (IsNodeOf K.log K.tables) nodes.items }
     ensures count { IfOk result (λ shared. length shared.items ≡ length nodes.items) }
-    ensures slots { IfOk result (λ shared. All (λ n. n ≡ config.threads) (map (λ s. s.slots) shared.items)) }
+    ensures slots { IfOk result (λ shared.
+        All (λ n. n ≡ config.threads) (map (λ s. s.slots) shared.items)) }
 {
     let mut shared = Vec::new(alloc);
     for node in nodes {

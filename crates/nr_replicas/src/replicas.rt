@@ -46,7 +46,8 @@ impl<J: LogName, K: ReplicasName> Model for Replicas<J, K> {
 
     ghost view = { λ r. r.config };
 
-    ghost invariant = { λ r. (r.log ≡ K.log) × AreShared J.depth J.replicas K.tables r.config (map (λ s. s.slots) r.shared.items) };
+    ghost invariant = { λ r. (r.log ≡ K.log)
+        × AreShared J.depth J.replicas K.tables r.config (map (λ s. s.slots) r.shared.items) };
 }
 
 /// What an update does next.
@@ -110,8 +111,10 @@ impl<J: LogName, K: ReplicasName> Replicas<J, K> {
         requires fits { IsAction J.depth op }
         ensures log { pass.new.log ≡ pass.old.log }
         ensures heard { HasHeard J.depth J.replicas pass.old.view pass.new.view }
-        ensures answered { IfOk result (λ update. IsAnsweredAt J.depth K.tables (tail (log_after J.replicas pass.old.view.seen))
-            (log_after J.replicas pass.new.view.seen) (record { call = call; op = op }) update.0 update.1) }
+        ensures answered { IfOk result (λ update.
+            IsAnsweredAt J.depth K.tables (tail (log_after J.replicas pass.old.view.seen))
+            (log_after J.replicas pass.new.view.seen)
+            (record { call = call; op = op }) update.0 update.1) }
         ensures refused { IfErr result (IsFaultOf call (log_after J.replicas pass.new.view.seen)) }
     {
         let from = self.log.look(rt, pass).tail;
@@ -193,7 +196,8 @@ impl<J: LogName, K: ReplicasName> Replicas<J, K> {
     ) -> Combined
         requires log { pass.old.log ≡ K.log }
         ensures log { pass.new.log ≡ pass.old.log }
-        ensures heard { result ≡ Ended → HasHeard J.depth J.replicas pass.old.view pass.new.view × (65520 < tail (log_after J.replicas pass.new.view.seen)) }
+        ensures heard { result ≡ Ended → HasHeard J.depth J.replicas pass.old.view pass.new.view
+            × (65520 < tail (log_after J.replicas pass.new.view.seen)) }
         ensures unheard { result ≢ Ended → pass.new ≡ pass.old }
     {
         let Some(mut local) = attempt(rt, &home.local, backoff) else {
@@ -249,7 +253,8 @@ impl<J: LogName, K: ReplicasName> Replicas<J, K> {
         requires canonical { IsCanonical J.depth address }
         ensures log { pass.new.log ≡ pass.old.log }
         ensures heard { HasHeard J.depth J.replicas pass.old.view pass.new.view }
-        ensures read { IfOk result (λ read. IsReadAt J.depth K.tables (completed (log_after J.replicas pass.old.view.seen))
+        ensures read { IfOk result (λ read.
+            IsReadAt J.depth K.tables (completed (log_after J.replicas pass.old.view.seen))
             (log_after J.replicas pass.new.view.seen) (λ space. look space address) read.0 read.1) }
     {
         self.ask(rt, pass, thread, address, Question::Resolve, turns)
@@ -279,8 +284,10 @@ impl<J: LogName, K: ReplicasName> Replicas<J, K> {
         requires canonical { IsCanonical J.depth address }
         ensures log { pass.new.log ≡ pass.old.log }
         ensures heard { HasHeard J.depth J.replicas pass.old.view pass.new.view }
-        ensures read { IfOk result (λ read. IsReadAt J.depth K.tables (completed (log_after J.replicas pass.old.view.seen))
-            (log_after J.replicas pass.new.view.seen) (λ space. allow space address mode access) read.0 read.1) }
+        ensures read { IfOk result (λ read.
+            IsReadAt J.depth K.tables (completed (log_after J.replicas pass.old.view.seen))
+            (log_after J.replicas pass.new.view.seen)
+            (λ space. allow space address mode access) read.0 read.1) }
     {
         self.ask(
             rt,
@@ -307,7 +314,8 @@ impl<J: LogName, K: ReplicasName> Replicas<J, K> {
         requires canonical { IsCanonical J.depth address }
         ensures log { pass.new.log ≡ pass.old.log }
         ensures heard { HasHeard J.depth J.replicas pass.old.view pass.new.view }
-        ensures read { IfOk result (λ read. IsReadAt J.depth K.tables (completed (log_after J.replicas pass.old.view.seen))
+        ensures read { IfOk result (λ read.
+            IsReadAt J.depth K.tables (completed (log_after J.replicas pass.old.view.seen))
             (log_after J.replicas pass.new.view.seen) (answer_in question address) read.0 read.1) }
     {
         let completed = self.log.look(rt, pass).completed;

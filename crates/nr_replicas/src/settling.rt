@@ -98,7 +98,8 @@ fn node_of<J: LogName, K: ReplicasName, R: Wait>(
 /// The call numbers of the entries that a node has applied.
 fn calls_of<J: LogName>(alloc: Global, node: &Node<RawArena, J>) -> Result<Vec<u32>, Memory>
     ensures calls { IfOk result (λ calls.
-        calls.items ≡ map (λ entry. entry.call) (take (applied_of J.replicas node.now) (log_of J.replicas node.now).entries)) }
+        calls.items ≡ map (λ entry. entry.call)
+        (take (applied_of J.replicas node.now) (log_of J.replicas node.now).entries)) }
     ensures is_node { IsNode J.depth J.replicas node.now }
 {
     let mut calls = Vec::new(alloc);
@@ -119,7 +120,8 @@ fn passes_of<J: LogName, K: ReplicasName>(
     requires { All (IsNodeOf K.log K.tables) nodes.items }
     ensures passes { IfOk result (λ all. all.0.items ≡ map (λ node. node.known) nodes.items) }
     ensures count { IfOk result (λ all. length all.1.items ≡ length nodes.items) }
-    ensures dumps { IfOk result (λ all. AreDumpsOf J.depth J.replicas K.tables all.0.items all.1.items) }
+    ensures dumps { IfOk result (λ all.
+        AreDumpsOf J.depth J.replicas K.tables all.0.items all.1.items) }
 {
     let mut passes = Vec::new(alloc);
     let mut dumps = Vec::new(alloc);
@@ -171,7 +173,8 @@ fn add_rest<J: LogName, R: Wait>(
     ensures log { pass.new.log ≡ pass.old.log }
     ensures heard { HasHeard J.depth J.replicas pass.old.view pass.new.view }
     ensures rest { OnOk result (calls.new.items ≡ calls.old.items
-        ++ map (λ entry. entry.call) (drop (taken_by J.replicas pass.new.view) (log_after J.replicas pass.new.view.seen).entries)) }
+        ++ map (λ entry. entry.call) (drop (taken_by J.replicas pass.new.view)
+        (log_after J.replicas pass.new.view.seen).entries)) }
 {
     let mut entries = ArrayVec::new();
     log.fetch(rt, pass, &mut entries);

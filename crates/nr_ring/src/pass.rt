@@ -54,7 +54,8 @@ impl<J: LogName> LogPass<J> {
 
     /// The replica that it owns, or `None` where it owns none.
     pub fn replica(&self) -> Option<u8>
-        ensures { MatchOption result (self.now.view.owns ≡ []) (λ replica. self.now.view.owns ≡ replica ∷ []) }
+        ensures { MatchOption result (self.now.view.owns ≡ [])
+            (λ replica. self.now.view.owns ≡ replica ∷ []) }
     {
         self.replica
     }

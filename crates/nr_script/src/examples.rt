@@ -12,8 +12,10 @@ ghost use Rattle.nr_script.specs.declared.script.Script.{Script};
 /// A script of six lines. Thread 1 asks something, so there are two threads; the fifth line is the first that is a step.
 pub fn short_script_is_read()
     ensures says { AllZip (Says Four) (lines short_script) short_lines }
-    ensures script { (script : Script) → script.threads ≡ 2 → map (λ list. list.items) script.requests.items ≡ (map_it ∷ []) ∷ (resolve_it ∷ []) ∷ []
-        → script.steps.items ≡ two_steps → script.first_step ≡ Some 5 → IsScript Four short_script script }
+    ensures script { (script : Script) → script.threads ≡ 2
+        → map (λ list. list.items) script.requests.items ≡ (map_it ∷ []) ∷ (resolve_it ∷ []) ∷ []
+        → script.steps.items ≡ two_steps → script.first_step ≡ Some 5
+        → IsScript Four short_script script }
 {}
 
 /// Two spaces side by side part no words of a form, so that the second line is bad; the third is not looked at.

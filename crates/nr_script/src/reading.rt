@@ -33,7 +33,8 @@ impl Reading {
     pub(crate) fn ask(&mut self, thread: u16, request: Request) -> Result<(), Memory>
         requires { thread < 64 }
         ensures threads { OnOk result (self.new.threads ≡ max self.old.threads (thread + 1)) }
-        ensures asked { OnOk result (self.new.asked.items ≡ self.old.asked.items ++ (thread, request) ∷ []) }
+        ensures asked { OnOk result
+            (self.new.asked.items ≡ self.old.asked.items ++ (thread, request) ∷ []) }
         ensures steps { OnOk result (self.new.steps ≡ self.old.steps) }
         ensures first { OnOk result (self.new.first_step ≡ self.old.first_step) }
     {
@@ -47,7 +48,8 @@ impl Reading {
         ensures threads { OnOk result (self.new.threads ≡ self.old.threads) }
         ensures asked { OnOk result (self.new.asked ≡ self.old.asked) }
         ensures steps { OnOk result (self.new.steps.items ≡ self.old.steps.items ++ step ∷ []) }
-        ensures first { OnOk result (self.new.first_step ≡ option_or self.old.first_step (Some number)) }
+        ensures first { OnOk result
+            (self.new.first_step ≡ option_or self.old.first_step (Some number)) }
     {
         self.steps.push(step)?;
         self.first_step = self.first_step.or(Some(number));
@@ -61,7 +63,8 @@ impl Reading {
         line: &[u8],
         number: u32,
     ) -> Result<(), Fail<BadLine>>
-        ensures { (said : List Line) → IsReadSoFar said self.old → number ≡ length said + 1 → MatchResult result
+        ensures { (said : List Line) → IsReadSoFar said self.old → number ≡ length said + 1
+            → MatchResult result
             (λ _. (it : Line) × Says depth line.now it × IsReadSoFar (said ++ it ∷ []) self.new)
             (IfRefused (λ bad. (bad.0 ≡ number) × IsBadAfter depth said line.now)) }
     {
@@ -89,7 +92,8 @@ impl Reading {
 
 /// What this thread asks.
 fn asked_by(alloc: Global, asked: &[(u16, Request)], thread: u16) -> Result<Vec<Request>, Memory>
-    ensures { IfOk result (λ list. list.items ≡ map (λ it. it.1) (filter (λ it. it.0 == thread) asked.now)) }
+    ensures { IfOk result (λ list.
+        list.items ≡ map (λ it. it.1) (filter (λ it. it.0 == thread) asked.now)) }
 {
     let list = asked
         .iter()
@@ -106,7 +110,8 @@ pub(crate) fn by_thread(
     threads: u16,
 ) -> Result<Vec<Vec<Request>>, Memory>
     ensures { IfOk result (λ lists. map (λ list. list.items) lists.items
-        ≡ map (λ thread. map (λ it. it.1) (filter (λ it. it.0 == thread) asked.now)) (range_with_len 0 threads)) }
+        ≡ map (λ thread. map (λ it. it.1) (filter (λ it. it.0 == thread) asked.now))
+        (range_with_len 0 threads)) }
 {
     let mut lists = Vec::new(alloc);
     for thread in 0..threads {

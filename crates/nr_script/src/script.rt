@@ -73,7 +73,8 @@ pub fn read_script(alloc: Global, depth: Depth, bytes: &[u8]) -> Result<Script, 
     requires { length bytes.now ≤ SCRIPT_BYTES }
     ensures ok { IfOk result (IsScript depth bytes.now) }
     ensures threads { IfOk result (λ script. (1 ≤ script.threads) × (script.threads ≤ 64)) }
-    ensures scripts { IfOk result (λ script. (layout : Layout) → layout.depth ≡ depth → layout.threads ≡ script.threads
+    ensures scripts { IfOk result (λ script. (layout : Layout) → layout.depth ≡ depth
+        → layout.threads ≡ script.threads
         → AreScripts layout (map (λ list. list.items) script.requests.items)) }
     ensures err { IfErr result (IfRefused (λ bad. IsBadLine depth bytes.now bad.0)) }
 {

@@ -40,7 +40,8 @@ pub(crate) fn parse_number(word: &[u8]) -> Option<u8>
 /// The number that hexadecimal digits of either case spell.
 fn parse_hexadecimal(digits: &[u8]) -> Option<u64>
     requires { length digits.now ≤ 16 }
-    ensures { Finds (λ number. AllDigits 16 digits.now × (number ≡ digits_value 16 digits.now)) result }
+    ensures { Finds (λ number. AllDigits 16 digits.now
+        × (number ≡ digits_value 16 digits.now)) result }
 {
     let mut number = 0;
     for digit in digits {

@@ -26,20 +26,20 @@ use Rattle.vs_walk.proofs.ExamplesOfOneWord.{at_word, visits_of_nothing, fine}
 use Rattle.vs_walk.proofs.ExamplesOfTables as tables
 use Rattle.nr_trace.specs.Calls.{Invocation, Response, call_of, reply_of}
 use Rattle.nr_trace.specs.Examples.{empty_dump, missing_frame, shared_frame, reserved_bit, stray_frame, page_at_zero, unmapped_page, nothing_recorded}
-use Rattle.nr_trace.specs.Faults.{Holds, HasDump}
+use Rattle.nr_trace.specs.Faults.{HasFault, HasDump}
 use Rattle.nr_trace.specs.Laws.{IsFaultless}
 use Rattle.nr_trace.specs.Orders.{FitsOrder, space_after}
 use Rattle.nr_trace.specs.declared.fault.Fault.TheVariants.{Format, ThreadOpen, NoSuchCall, AnsweredTwice, NotAnUpdate, PlacedTwice, NotPlaced, PastLog, Early}
 use Rattle.nr_trace.specs.declared.fault.Fault.TheVariants.{WrongAnswer, PrefixPastLog, PrefixShort, MissingFrame, SharedFrame, ReservedBit, StrayFrame}
 use Rattle.nr_trace.specs.declared.fault.Fault.TheVariants.{Differs}
 
-pub missing : Holds missing_frame (MissingFrame 0 2)
+pub missing : HasFault missing_frame (MissingFrame 0 2)
 missing = (_, refl, tables.missing_frame)
 
-pub shared : Holds shared_frame (SharedFrame 0 1)
+pub shared : HasFault shared_frame (SharedFrame 0 1)
 shared = (_, refl, tables.shared_frame)
 
-pub reserved : Holds reserved_bit (ReservedBit 0 3 1)
+pub reserved : HasFault reserved_bit (ReservedBit 0 3 1)
 reserved = (_, refl, tables.reserved_bit)
 
 -- ---- a frame that isn't reached
@@ -61,7 +61,7 @@ least_stray zero l h = false≢true (subst IsSome none_at_zero h.0)
 least_stray (suc zero) l h = h.1 (subst (λ (ns : List ℕ). Contains ns 1) (sym only_root) (Contains-head {X = ℕ} 1 []))
 least_stray (suc (suc n)) l h = omega arith
 
-pub stray : Holds stray_frame (StrayFrame 0 2)
+pub stray : HasFault stray_frame (StrayFrame 0 2)
 stray = (_, refl, ((subst IsSome (sym second) refl, λ h. not_the_root (subst (λ (ns : List ℕ). Contains ns 2) only_root h)), least_stray))
 
 -- ---- a page that the space doesn't have
@@ -75,7 +75,7 @@ walked =
     ∙ at_word page_at_zero 2 2 all_rights 0 0 0x3007 (entry.Table 3 all_rights) (finite.get-from_entries nat_cmp_total rows 2) (omega arith) refl refl
     ∙ at_word page_at_zero 1 3 all_rights 0 0 0x87 (entry.Leaf 0 all_rights) (finite.get-from_entries nat_cmp_total rows 3) (omega arith) refl refl
 
-pub differs : Holds unmapped_page (Differs 0 0)
+pub differs : HasFault unmapped_page (Differs 0 0)
 differs = (_, refl, ((refl, other), λ o l h. omega arith)) where
   other : walk Four page_at_zero 1 0 ≢ as_walk (look no_pages 0)
   other e = let same : Mapped 0 M2 all_rights ≡ NotMapped = sym walked ∙ e ∙ ap as_walk (look_of_nothing 0) in cc

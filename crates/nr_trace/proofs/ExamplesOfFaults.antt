@@ -6,7 +6,7 @@ use Rattle.vs_types.specs.declared.answer.Answer.{Answer}
 use Rattle.vs_types.specs.declared.answer.Answer.TheVariants.{Done, Mapped, Allowed, Fault}
 use Rattle.vs_types.specs.declared.page.Size.TheVariants.{K4}
 use Rattle.nr_trace.specs.Calls.{Answers, IsCall}
-use Rattle.nr_trace.specs.Faults.{Holds}
+use Rattle.nr_trace.specs.Faults.{HasFault}
 use Rattle.vs_walk.specs.Walk.{all_rights}
 use Rattle.nr_trace.specs.Examples.{map_it, resolve_it, access_it, access_refused, looks_mapped, dump_of_page, with_log, with_replies, without_first_reply}
 use Rattle.nr_trace.specs.Examples.{with_applied}
@@ -14,31 +14,31 @@ use Rattle.nr_trace.specs.declared.fault.Fault.TheVariants.{ThreadOpen, NoSuchCa
 use Rattle.nr_trace.specs.declared.fault.Fault.TheVariants.{PrefixPastLog, PrefixShort}
 use Rattle.nr_trace.proofs.ExamplesOfAnswers.{resolve_answer, access_answer}
 
-pub not_an_update : Holds (with_log (2 ∷ [])) (NotAnUpdate 0)
+pub not_an_update : HasFault (with_log (2 ∷ [])) (NotAnUpdate 0)
 not_an_update = (2, refl, λ h. cc)
 
-pub placed_twice : Holds (with_log (0 ∷ 0 ∷ [])) (PlacedTwice 1)
+pub placed_twice : HasFault (with_log (0 ∷ 0 ∷ [])) (PlacedTwice 1)
 placed_twice = (0, refl, (0, lit< tt, refl))
 
-pub not_placed : Holds (with_replies 1 2 1 0x1123) (NotPlaced 1)
+pub not_placed : HasFault (with_replies 1 2 1 0x1123) (NotPlaced 1)
 not_placed = (record { call = 0; at = 1; answer = Done }, refl, (refl, λ e. none-some 0 e))
 
-pub past_log : Holds (with_replies 0 2 2 0x1123) (PastLog 3)
+pub past_log : HasFault (with_replies 0 2 2 0x1123) (PastLog 3)
 past_log = (record { call = 2; at = 2; answer = looks_mapped }, refl, (refl, lit< tt))
 
-pub no_such_call : Holds (with_replies 0 1 1 0x1123) (NoSuchCall 3)
+pub no_such_call : HasFault (with_replies 0 1 1 0x1123) (NoSuchCall 3)
 no_such_call = (record { call = 1; at = 1; answer = looks_mapped }, refl, λ h. no_call h.1) where
   no_call : IsCall (with_replies 0 1 1 0x1123) 1 → ⊥
   no_call h = cc
 
-pub answered_twice : Holds (with_replies 0 0 1 0x1123) (AnsweredTwice 3)
+pub answered_twice : HasFault (with_replies 0 0 1 0x1123) (AnsweredTwice 3)
 answered_twice = (record { call = 0; at = 1; answer = looks_mapped }, refl, (1, lit< tt, refl))
 
 not_answered : (reply : ℕ) → reply < 1 → Answers without_first_reply reply 0 → ⊥
 not_answered zero l h = cc
 not_answered (suc n) l h = omega arith
 
-pub thread_open : Holds without_first_reply (ThreadOpen 1)
+pub thread_open : HasFault without_first_reply (ThreadOpen 1)
 thread_open = record {
   made = record { replica = 0; thread = 0; request = resolve_it };
   is_made = refl;
@@ -56,7 +56,7 @@ other_address e = false≢true (ap (λ answer. eqb (address_of answer) 0x1123) e
   address_of (Mapped phys size rights) = phys
   address_of _ = 0
 
-pub wrong_answer : Holds (with_replies 0 2 1 0x1124) (WrongAnswer 2)
+pub wrong_answer : HasFault (with_replies 0 2 1 0x1124) (WrongAnswer 2)
 wrong_answer = record {
   made = record { replica = 0; thread = 0; request = resolve_it };
   is_made = refl;
@@ -68,7 +68,7 @@ wrong_answer = record {
 not_allowed : Fault 7 ≢ Allowed 0x1123
 not_allowed e = cc
 
-pub refused_wrongly : Holds access_refused (WrongAnswer 2)
+pub refused_wrongly : HasFault access_refused (WrongAnswer 2)
 refused_wrongly = record {
   made = record { replica = 0; thread = 0; request = access_it };
   is_made = refl;
@@ -77,10 +77,10 @@ refused_wrongly = record {
   differs = λ e. not_allowed (e ∙ access_answer);
 }
 
-pub prefix_past_log : Holds (with_applied 2) (PrefixPastLog 0)
+pub prefix_past_log : HasFault (with_applied 2) (PrefixPastLog 0)
 prefix_past_log = (record dump_of_page { applied = 2 }, refl, lit< tt)
 
-pub prefix_short : Holds (with_applied 0) (PrefixShort 0)
+pub prefix_short : HasFault (with_applied 0) (PrefixShort 0)
 prefix_short = (
   record dump_of_page { applied = 0 },
   refl,

@@ -12,7 +12,7 @@ use Rattle.nr_trace.specs.inside.Progress.{unit_bytes, said, Ahead, HasRead, IsF
 use Rattle.nr_trace.specs.inside.Feeding.{IsSound, AreFewer, IsCut, HasCome, IsFeeding, fed}
 use Rattle.nr_trace.specs.declared.fault.Format.{Format}
 use Rattle.nr_trace.specs.declared.fault.Format.TheVariants.{Truncated, Trailing}
-use Rattle.nr_trace.specs.declared.reading.parts.Reader.{Reader}
+use Rattle.nr_trace.specs.declared.reading.reader.Reader.{Reader}
 use Rattle.nr_trace.specs.declared.reading.feed.State.{State}
 use Rattle.nr_trace.specs.declared.reading.feed.State.TheVariants.{Open, Stopped}
 use Rattle.nr_trace.proofs.LawsOfFormat.{no_fault, one_fault}

@@ -24,11 +24,11 @@ use Rattle.nr_trace.specs.inside.Progress.{HasRead, AreInRange, IsOpened, IsRead
 use Rattle.nr_trace.specs.inside.Progress.{begun, opened_of, frame_begun, words_begun}
 use Rattle.nr_trace.specs.declared.fault.Format.{Format}
 use Rattle.nr_trace.specs.declared.fault.Format.TheVariants.{BadCount, BadFrame}
-use Rattle.nr_trace.specs.declared.reading.parts.Parts.{Parts}
-use Rattle.nr_trace.specs.declared.reading.parts.Opened.{Opened}
-use Rattle.nr_trace.specs.declared.reading.parts.OpenFrame.{OpenFrame}
-use Rattle.nr_trace.specs.declared.reading.parts.Reader.{Reader}
-use Rattle.nr_trace.specs.declared.reading.parts.Reader.TheVariants.{Dumps, Frame, Words}
+use Rattle.nr_trace.specs.declared.reading.reader.Parts.{Parts}
+use Rattle.nr_trace.specs.declared.reading.reader.Opened.{Opened}
+use Rattle.nr_trace.specs.declared.reading.reader.OpenFrame.{OpenFrame}
+use Rattle.nr_trace.specs.declared.reading.reader.Reader.{Reader}
+use Rattle.nr_trace.specs.declared.reading.reader.Reader.TheVariants.{Dumps, Frame, Words}
 use Rattle.nr_trace.proofs.Spelled.{spelling_of, more_dump}
 use Rattle.nr_trace.proofs.Units.{refused, passed, goes_on}
 

@@ -17,7 +17,7 @@ use Rattle.nr_trace.specs.FirstFault.{HasFormatFault}
 use Rattle.nr_trace.specs.Calls.{Invocation, call_of, Response}
 use Rattle.nr_trace.specs.Orders.{before, space_after, recorded_order}
 use Rattle.vs_walk.specs.Differences.{IsLeast, IsStray, TranslatesOtherwise}
-use Rattle.nr_trace.specs.Faults.{IsReplyWith, HasPlaced, HasDump, IsWrong, Holds, rank, Earlier, IsFirst, IsFirstOf}
+use Rattle.nr_trace.specs.Faults.{IsReplyWith, HasPlaced, HasDump, IsWrong, HasFault, rank, Earlier, IsFirst, IsFirstOf}
 use Rattle.nr_trace.specs.Laws.{HasCleanLog, HasRank}
 use Rattle.nr_trace.specs.declared.fault.Format.{Format as FormatFault}
 use Rattle.nr_trace.specs.declared.fault.Fault.{Fault}
@@ -63,7 +63,7 @@ reserved_same m n i j e = (cc, cc)
 
 -- ---- faults by their ranks
 
-pub same_rank : (trace : Recording) (f g : Fault) → HasRank trace f → HasRank trace g → Holds trace f → Holds trace g → rank trace f ≡ rank trace g → f ≡ g
+pub same_rank : (trace : Recording) (f g : Fault) → HasRank trace f → HasRank trace g → HasFault trace f → HasFault trace g → rank trace f ≡ rank trace g → f ≡ g
 same_rank trace (Format f) g a b h k e = absurd h
 same_rank trace (ThreadOpen i) (ThreadOpen j) a b h k e = ap ThreadOpen (ap second e)
 same_rank trace (NoSuchCall i) (NoSuchCall j) a b h k e = ap NoSuchCall (ap second e)
@@ -99,7 +99,7 @@ same_rank trace f g a b h k e =
     let number = ap third e in
     absurd (omega arith)
 
-pub ordered : (trace : Recording) (f g : Fault) → HasRank trace f → HasRank trace g → Holds trace f → Holds trace g
+pub ordered : (trace : Recording) (f g : Fault) → HasRank trace f → HasRank trace g → HasFault trace f → HasFault trace g
     → (f ≡ g) ⊎ (Earlier trace f g ⊎ Earlier trace g f)
 ordered trace f g a b h k = by_order (slice_cmp nat_cmp (rank trace f) (rank trace g)) refl where
   by_order : (r : Ordering) → slice_cmp nat_cmp (rank trace f) (rank trace g) ≡ r → (f ≡ g) ⊎ (Earlier trace f g ⊎ Earlier trace g f)
@@ -179,7 +179,7 @@ wrong_is_member trace call clean wrong =
     Contains-from_in call (recorded_order trace) (standing_is_member trace wrong.reply.at call both.1 both.0)
 
 -- a wrong answer that is earlier than another one is of a call that stands before the other's
-pub earlier_answer : (trace : Recording) (i j : ℕ) → HasCleanLog trace → Holds trace (WrongAnswer i) → Holds trace (WrongAnswer j)
+pub earlier_answer : (trace : Recording) (i j : ℕ) → HasCleanLog trace → HasFault trace (WrongAnswer i) → HasFault trace (WrongAnswer j)
     → Earlier trace (WrongAnswer i) (WrongAnswer j) → In i (before j (recorded_order trace))
 earlier_answer trace i j clean h k e =
     earlier_member i j (recorded_order trace) (in_from_Contains i (recorded_order trace) (wrong_is_member trace i clean h))

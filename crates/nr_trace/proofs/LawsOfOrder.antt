@@ -16,7 +16,7 @@ use Rattle.nr_trace.specs.Recording.{Recording}
 use Rattle.nr_trace.specs.Spelling.{answer_fields}
 use Rattle.nr_trace.specs.Calls.{Invocation, call_of, operation_of, address_of, IsCall, IsUpdate, IsRead, Response, reply_to, IsAnswered}
 use Rattle.nr_trace.specs.Orders.{below, before, updates, operations, space_after, answer_in, reads_at, recorded_order}
-use Rattle.nr_trace.specs.Faults.{Holds, StandsAfter}
+use Rattle.nr_trace.specs.Faults.{HasFault, StandsAfter}
 use Rattle.nr_trace.specs.Laws.{HasCleanLog, IsSerialOrder}
 use Rattle.nr_trace.specs.declared.fault.Fault.TheVariants.{WrongAnswer}
 use Rattle.nr_trace.proofs.LawsOfUnits.{answer_apart}
@@ -272,7 +272,7 @@ same_or_not a b =
       by_parts (inl c) (inl s) (inr n) v = inr (λ e. n (ap (λ x. (answer_fields x).rights) e))
       by_parts (inl c) (inl s) (inl r) (inr n) = inr (λ e. n (ap (λ x. (answer_fields x).value) e))
 
-pub right_answer : (trace : Recording) → ((call : ℕ) → Holds trace (WrongAnswer call) → ⊥) → (call : ℕ) (made : Invocation) (reply : Response)
+pub right_answer : (trace : Recording) → ((call : ℕ) → HasFault trace (WrongAnswer call) → ⊥) → (call : ℕ) (made : Invocation) (reply : Response)
     → call_of trace call ≡ Some made → reply_to trace call ≡ Some reply
     → reply.answer ≡ answer_in trace.layout (space_after trace (before call (recorded_order trace))) made.request
 right_answer trace right call made reply e f =
@@ -283,7 +283,7 @@ right_answer trace right call made reply e f =
       by_case (inl h) = h
       by_case (inr n) = absurd (right call (record { made = made; is_made = e; reply = reply; is_reply = f; differs = n }))
 
-pub legal_but_precedence : (trace : Recording) → HasCleanLog trace → ((call : ℕ) → Holds trace (WrongAnswer call) → ⊥)
+pub legal_but_precedence : (trace : Recording) → HasCleanLog trace → ((call : ℕ) → HasFault trace (WrongAnswer call) → ⊥)
     → IsSerialOrder trace (recorded_order trace)
 legal_but_precedence trace clean right = record {
   members = record {

@@ -8,7 +8,7 @@ use Rattle.std.proofs.lemmas.Option.{same_Some, none-some}
 use Rattle.nr_trace.specs.Recording.{Recording}
 use Rattle.nr_trace.specs.Calls.{operation_of, IsCall, IsUpdate, IsRead, Response, reply_in, reply_of, reply_to, Precedes}
 use Rattle.nr_trace.specs.Orders.{below, before, reads_at, recorded_order, known_by, floor, IsLegalOrder}
-use Rattle.nr_trace.specs.Faults.{Holds, StandsAfter}
+use Rattle.nr_trace.specs.Faults.{HasFault, StandsAfter}
 use Rattle.nr_trace.specs.Laws.{HasCleanLog}
 use Rattle.nr_trace.specs.declared.fault.Fault.TheVariants.{Early, WrongAnswer}
 use Rattle.nr_trace.proofs.LawsOfLists.{In, Contains-from_in, in_from_Contains, in_left, in_right, in_filtered, below_in}
@@ -104,13 +104,13 @@ first_in_front trace first second n reply clean k h l f g known (inr r) =
       by_order m (inr (inl less)) = in_front_of trace reply.at n first second clean less k (answered_stands trace first reply clean f).0 h
       by_order m (inr (inr more)) = absurd (omega arith)
 
-floor_kept : (trace : Recording) → ((call : ℕ) → Holds trace (Early call) → ⊥) → (call n : ℕ) → StandsAfter trace call n → floor trace call ≤ n
+floor_kept : (trace : Recording) → ((call : ℕ) → HasFault trace (Early call) → ⊥) → (call n : ℕ) → StandsAfter trace call n → floor trace call ≤ n
 floor_kept trace in_time call n h = by_order (cases_lt n (floor trace call)) where
   by_order : (n < floor trace call) ⊎ (floor trace call ≤ n) → floor trace call ≤ n
   by_order (inl l) = absurd (in_time call (n, h, l))
   by_order (inr l) = l
 
-pub keeps_precedence : (trace : Recording) → HasCleanLog trace → ((call : ℕ) → Holds trace (Early call) → ⊥) → (first second n : ℕ) → n ≤ length trace.log
+pub keeps_precedence : (trace : Recording) → HasCleanLog trace → ((call : ℕ) → HasFault trace (Early call) → ⊥) → (first second n : ℕ) → n ≤ length trace.log
     → StandsAfter trace second n → Precedes trace first second
     → In first (before second (recorded_order trace))
 keeps_precedence trace clean in_time first second n k h precedes =
@@ -125,7 +125,7 @@ keeps_precedence trace clean in_time first second n k h precedes =
     let f : reply_to trace first ≡ Some reply = ap (reply_to trace) (sym g) ∙ reply_is_first trace precedes.1 reply clean e in
     first_in_front trace first second n reply clean k h l f g (omega arith) (update_or_read trace first made)
 
-pub legal : (trace : Recording) → HasCleanLog trace → ((call : ℕ) → Holds trace (Early call) → ⊥) → ((call : ℕ) → Holds trace (WrongAnswer call) → ⊥)
+pub legal : (trace : Recording) → HasCleanLog trace → ((call : ℕ) → HasFault trace (Early call) → ⊥) → ((call : ℕ) → HasFault trace (WrongAnswer call) → ⊥)
     → IsLegalOrder trace (recorded_order trace)
 legal trace clean in_time right =
     let but = legal_but_precedence trace clean right in

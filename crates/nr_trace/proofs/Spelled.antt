@@ -10,8 +10,8 @@ use Rattle.nr_trace.specs.FirstFault.{AtLog, AtEvents, AtDumps}
 use Rattle.nr_trace.specs.inside.Progress.{HasRead, AreInRange, parts_spelling}
 use Rattle.nr_trace.specs.declared.event.Event.{Event}
 use Rattle.nr_trace.specs.declared.fault.Format.{Format}
-use Rattle.nr_trace.specs.declared.reading.parts.Parts.{Parts}
-use Rattle.nr_trace.specs.declared.reading.parts.Reader.TheVariants.{Dumps}
+use Rattle.nr_trace.specs.declared.reading.reader.Parts.{Parts}
+use Rattle.nr_trace.specs.declared.reading.reader.Reader.TheVariants.{Dumps}
 use Rattle.nr_trace.specs.declared.version.Version.{Version}
 
 behind_nothing : {X : Type 0} (f : X → List ℕ) (xs : List X) (l : List ℕ) → xs ≡ [] → l ++ flat_map f xs ≡ l

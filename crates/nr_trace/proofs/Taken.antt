@@ -19,8 +19,8 @@ use Rattle.nr_trace.specs.Recording.{IsEvent}
 use Rattle.nr_trace.specs.declared.event.Event.{Event}
 use Rattle.nr_trace.specs.declared.fault.Format.{Format}
 use Rattle.nr_trace.specs.declared.fault.Format.TheVariants.{BadEvent}
-use Rattle.nr_trace.specs.declared.reading.parts.Parts.{Parts}
-use Rattle.nr_trace.specs.declared.reading.parts.Reader.{Reader}
+use Rattle.nr_trace.specs.declared.reading.reader.Parts.{Parts}
+use Rattle.nr_trace.specs.declared.reading.reader.Reader.{Reader}
 use Rattle.nr_trace.specs.declared.version.Version.{Version}
 use Rattle.nr_trace.proofs.LawsOfUnits.{length-event, length_of_units}
 use Rattle.nr_trace.proofs.Spelled.{spelling_of, more_places, more_events}

@@ -10,7 +10,7 @@ use Rattle.nr_trace.specs.inside.Progress.{HasRead}
 use Rattle.nr_trace.specs.declared.event.Event.{Event}
 use Rattle.nr_trace.specs.declared.fault.Format.{Format}
 use Rattle.nr_trace.specs.declared.fault.Format.TheVariants.{BadEvent}
-use Rattle.nr_trace.specs.declared.reading.parts.Reader.{Reader}
+use Rattle.nr_trace.specs.declared.reading.reader.Reader.{Reader}
 use Rattle.nr_trace.specs.declared.version.Version.{Version}
 
 -- the unit spells nothing that fits

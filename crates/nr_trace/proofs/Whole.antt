@@ -12,9 +12,9 @@ use Rattle.nr_trace.specs.FirstFault.{AtFrames, AtDumps, AtEvents, AtLog}
 use Rattle.nr_trace.specs.inside.Progress.{unit_bytes, said, words_begun, Ahead, IsReady, IsRun}
 use Rattle.nr_trace.specs.declared.fault.Format.{Format}
 use Rattle.nr_trace.specs.declared.fault.Format.TheVariants.{Truncated, Trailing}
-use Rattle.nr_trace.specs.declared.reading.parts.OpenFrame.{OpenFrame}
-use Rattle.nr_trace.specs.declared.reading.parts.Reader.{Reader}
-use Rattle.nr_trace.specs.declared.reading.parts.Reader.TheVariants.{Magic, Version, Header, Log, Events, Dumps, Frame, Words}
+use Rattle.nr_trace.specs.declared.reading.reader.OpenFrame.{OpenFrame}
+use Rattle.nr_trace.specs.declared.reading.reader.Reader.{Reader}
+use Rattle.nr_trace.specs.declared.reading.reader.Reader.TheVariants.{Magic, Version, Header, Log, Events, Dumps, Frame, Words}
 use Rattle.nr_trace.specs.declared.version.Version as versions
 use Rattle.nr_trace.proofs.LawsOfUnits.{length_of_units}
 

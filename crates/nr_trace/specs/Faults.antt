@@ -63,24 +63,24 @@ abbrev pub HasDump : Recording → ℕ → (Image → Type 0) → Type 0
 HasDump trace replica P = (dump : Image) × (slice_get trace.dumps replica ≡ Some dump) × P dump
 
 -- what each fault but that of the format says of a trace
-abbrev pub Holds : Recording → Fault → Type 0
-Holds trace (Format fault) = ⊥
-Holds trace (ThreadOpen index) = OpensTwice trace index
-Holds trace (NoSuchCall index) = IsReplyWith trace index (λ reply. (reply.call < index) × IsCall trace reply.call → ⊥)
-Holds trace (AnsweredTwice index) = IsReplyWith trace index (λ reply. (earlier : ℕ) × (earlier < index) × Answers trace earlier reply.call)
-Holds trace (NotAnUpdate place) = HasPlaced trace place (λ call. IsUpdate trace call → ⊥)
-Holds trace (PlacedTwice place) = HasPlaced trace place (λ call. (earlier : ℕ) × (earlier < place) × (slice_get trace.log earlier ≡ Some call))
-Holds trace (NotPlaced index) = IsReplyWith trace index (λ reply. IsUpdate trace reply.call × (slice_get trace.log reply.at ≢ Some reply.call))
-Holds trace (PastLog index) = IsReplyWith trace index (λ reply. IsRead trace reply.call × (length trace.log < reply.at))
-Holds trace (Early call) = (entries : ℕ) × StandsAfter trace call entries × (entries < floor trace call)
-Holds trace (WrongAnswer call) = IsWrong trace call
-Holds trace (PrefixPastLog replica) = HasDump trace replica (λ dump. length trace.log < dump.applied)
-Holds trace (PrefixShort replica) = HasDump trace replica (RestsOnMore trace replica)
-Holds trace (MissingFrame replica number) = HasDump trace replica (λ dump. HasMissingFrame trace.layout.depth dump number)
-Holds trace (SharedFrame replica number) = HasDump trace replica (λ dump. HasSharedFrame trace.layout.depth dump number)
-Holds trace (ReservedBit replica number index) = HasDump trace replica (λ dump. HasReservedBit trace.layout.depth dump number index)
-Holds trace (StrayFrame replica number) = HasDump trace replica (λ dump. HasStrayFrame trace.layout.depth dump number)
-Holds trace (Differs replica address) =
+abbrev pub HasFault : Recording → Fault → Type 0
+HasFault trace (Format fault) = ⊥
+HasFault trace (ThreadOpen index) = OpensTwice trace index
+HasFault trace (NoSuchCall index) = IsReplyWith trace index (λ reply. (reply.call < index) × IsCall trace reply.call → ⊥)
+HasFault trace (AnsweredTwice index) = IsReplyWith trace index (λ reply. (earlier : ℕ) × (earlier < index) × Answers trace earlier reply.call)
+HasFault trace (NotAnUpdate place) = HasPlaced trace place (λ call. IsUpdate trace call → ⊥)
+HasFault trace (PlacedTwice place) = HasPlaced trace place (λ call. (earlier : ℕ) × (earlier < place) × (slice_get trace.log earlier ≡ Some call))
+HasFault trace (NotPlaced index) = IsReplyWith trace index (λ reply. IsUpdate trace reply.call × (slice_get trace.log reply.at ≢ Some reply.call))
+HasFault trace (PastLog index) = IsReplyWith trace index (λ reply. IsRead trace reply.call × (length trace.log < reply.at))
+HasFault trace (Early call) = (entries : ℕ) × StandsAfter trace call entries × (entries < floor trace call)
+HasFault trace (WrongAnswer call) = IsWrong trace call
+HasFault trace (PrefixPastLog replica) = HasDump trace replica (λ dump. length trace.log < dump.applied)
+HasFault trace (PrefixShort replica) = HasDump trace replica (RestsOnMore trace replica)
+HasFault trace (MissingFrame replica number) = HasDump trace replica (λ dump. HasMissingFrame trace.layout.depth dump number)
+HasFault trace (SharedFrame replica number) = HasDump trace replica (λ dump. HasSharedFrame trace.layout.depth dump number)
+HasFault trace (ReservedBit replica number index) = HasDump trace replica (λ dump. HasReservedBit trace.layout.depth dump number index)
+HasFault trace (StrayFrame replica number) = HasDump trace replica (λ dump. HasStrayFrame trace.layout.depth dump number)
+HasFault trace (Differs replica address) =
     HasDump trace replica (λ dump. HasDifference trace.layout.depth dump (space_after trace (take dump.applied trace.log)) address)
 
 -- where a fault stands: its pass, then its index in that pass, then its number. Answers are compared in the recorded order
@@ -108,8 +108,8 @@ Earlier trace first second = slice_cmp nat_cmp (rank trace first) (rank trace se
 
 -- the fault holds of the trace, and no earlier one does
 pub record IsFirst (trace : Recording) (fault : Fault) : Type 0 where
-  pub holds : Holds trace fault
-  pub none_earlier : (other : Fault) → Holds trace other → Earlier trace other fault → ⊥
+  pub holds : HasFault trace fault
+  pub none_earlier : (other : Fault) → HasFault trace other → Earlier trace other fault → ⊥
 
 -- the fault is the first one of the bytes
 abbrev pub IsFirstOf : List ℕ → Fault → Type 0

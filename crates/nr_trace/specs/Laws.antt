@@ -4,17 +4,17 @@ use Rattle.nr_trace.specs.Recording.{Recording}
 use Rattle.nr_trace.specs.Orders.{HasItsCalls, HasTheAnswers, recorded_order}
 use Rattle.nr_trace.specs.declared.fault.Fault.{Fault}
 use Rattle.nr_trace.specs.declared.fault.Fault.TheVariants.{ThreadOpen, NoSuchCall, AnsweredTwice, NotAnUpdate, PlacedTwice, NotPlaced, PastLog, WrongAnswer}
-use Rattle.nr_trace.specs.Faults.{Holds, StandsAfter}
+use Rattle.nr_trace.specs.Faults.{HasFault, StandsAfter}
 
 -- no fault holds of the events by themselves, of the log, or of a reply's place
 pub record HasCleanLog (trace : Recording) : Type 0 where
-  pub no_thread_open : (index : ℕ) → Holds trace (ThreadOpen index) → ⊥
-  pub no_such_call : (index : ℕ) → Holds trace (NoSuchCall index) → ⊥
-  pub none_twice : (index : ℕ) → Holds trace (AnsweredTwice index) → ⊥
-  pub updates_alone : (place : ℕ) → Holds trace (NotAnUpdate place) → ⊥
-  pub placed_once : (place : ℕ) → Holds trace (PlacedTwice place) → ⊥
-  pub all_placed : (index : ℕ) → Holds trace (NotPlaced index) → ⊥
-  pub none_past_log : (index : ℕ) → Holds trace (PastLog index) → ⊥
+  pub no_thread_open : (index : ℕ) → HasFault trace (ThreadOpen index) → ⊥
+  pub no_such_call : (index : ℕ) → HasFault trace (NoSuchCall index) → ⊥
+  pub none_twice : (index : ℕ) → HasFault trace (AnsweredTwice index) → ⊥
+  pub updates_alone : (place : ℕ) → HasFault trace (NotAnUpdate place) → ⊥
+  pub placed_once : (place : ℕ) → HasFault trace (PlacedTwice place) → ⊥
+  pub all_placed : (index : ℕ) → HasFault trace (NotPlaced index) → ⊥
+  pub none_past_log : (index : ℕ) → HasFault trace (PastLog index) → ⊥
 
 -- the call stands after some entries of the log
 abbrev pub Stands : Recording → ℕ → Type 0
@@ -32,4 +32,4 @@ HasRank trace fault = ⊤
 
 -- no fault holds but perhaps one of the format
 abbrev pub IsFaultless : Recording → Type 0
-IsFaultless trace = (fault : Fault) → Holds trace fault → ⊥
+IsFaultless trace = (fault : Fault) → HasFault trace fault → ⊥

@@ -8,7 +8,7 @@ ghost use Rattle.nr_trace.specs.declared.fault.Format.TheVariants.{BadMagic, Bad
 ghost use Rattle.nr_trace.specs.Examples.{access_it, access_refused, as_version_2, looks_mapped, map_it, map_then_access, map_then_resolve};
 ghost use Rattle.nr_trace.specs.Examples.{map_then_resolve_bytes, read_before_and_after, resolve_it, stale_read, unanswered_left_out, unanswered_too_early};
 ghost use Rattle.nr_trace.specs.Examples.{with_applied, with_log, with_replies, without_first_reply};
-ghost use Rattle.nr_trace.specs.Faults.{Holds};
+ghost use Rattle.nr_trace.specs.Faults.{HasFault};
 ghost use Rattle.nr_trace.specs.Orders.{answer_in, before, floor, recorded_order, space_after, FitsOrder, IsLegalOrder};
 ghost use Rattle.nr_trace.specs.Recording.{IsEvent};
 ghost use Rattle.nr_trace.specs.Spelling.{spelling, Spells};
@@ -34,13 +34,13 @@ pub fn read_before_and_after_order()
 /// A read that another replica's answer precedes has to see what that answer saw.
 pub fn stale_read_is_early()
     ensures floor { floor stale_read 3 ≡ 1 }
-    ensures early { Holds stale_read (Early 3) }
+    ensures early { HasFault stale_read (Early 3) }
 {}
 
 /// An update without an answer keeps its floor too.
 pub fn unanswered_update_too_early()
     ensures floor { floor unanswered_too_early 2 ≡ 2 }
-    ensures early { Holds unanswered_too_early (Early 2) }
+    ensures early { HasFault unanswered_too_early (Early 2) }
 {}
 
 /// The update is done, and the read sees its page.
@@ -75,16 +75,16 @@ pub fn unanswered_update_left_out()
 
 /// One change to a recording without fault makes one fault hold.
 pub fn one_fault_each()
-    ensures not_an_update { Holds (with_log (2 ∷ [])) (NotAnUpdate 0) }
-    ensures placed_twice { Holds (with_log (0 ∷ 0 ∷ [])) (PlacedTwice 1) }
-    ensures not_placed { Holds (with_replies 1 2 1 0x1123) (NotPlaced 1) }
-    ensures past_log { Holds (with_replies 0 2 2 0x1123) (PastLog 3) }
-    ensures no_such_call { Holds (with_replies 0 1 1 0x1123) (NoSuchCall 3) }
-    ensures answered_twice { Holds (with_replies 0 0 1 0x1123) (AnsweredTwice 3) }
-    ensures thread_open { Holds without_first_reply (ThreadOpen 1) }
-    ensures wrong_answer { Holds (with_replies 0 2 1 0x1124) (WrongAnswer 2) }
-    ensures prefix_past_log { Holds (with_applied 2) (PrefixPastLog 0) }
-    ensures prefix_short { Holds (with_applied 0) (PrefixShort 0) }
+    ensures not_an_update { HasFault (with_log (2 ∷ [])) (NotAnUpdate 0) }
+    ensures placed_twice { HasFault (with_log (0 ∷ 0 ∷ [])) (PlacedTwice 1) }
+    ensures not_placed { HasFault (with_replies 1 2 1 0x1123) (NotPlaced 1) }
+    ensures past_log { HasFault (with_replies 0 2 2 0x1123) (PastLog 3) }
+    ensures no_such_call { HasFault (with_replies 0 1 1 0x1123) (NoSuchCall 3) }
+    ensures answered_twice { HasFault (with_replies 0 0 1 0x1123) (AnsweredTwice 3) }
+    ensures thread_open { HasFault without_first_reply (ThreadOpen 1) }
+    ensures wrong_answer { HasFault (with_replies 0 2 1 0x1124) (WrongAnswer 2) }
+    ensures prefix_past_log { HasFault (with_applied 2) (PrefixPastLog 0) }
+    ensures prefix_short { HasFault (with_applied 0) (PrefixShort 0) }
 {}
 
 /// A read that asks for rights stands in the order like one that resolves, and is allowed what the page allows.
@@ -93,7 +93,7 @@ pub fn map_then_access_answers()
     ensures access { answer_in map_then_access.layout
         (space_after map_then_access (before 2 (recorded_order map_then_access))) access_it
         ≡ Allowed 0x1123 }
-    ensures refused { Holds access_refused (WrongAnswer 2) }
+    ensures refused { HasFault access_refused (WrongAnswer 2) }
 {}
 
 /// The version is one number of the spelling, and an access stands in traces of version 2 alone, as do five levels.
@@ -108,11 +108,11 @@ pub fn versions_apart()
 
 /// Each fault of a dump, where nothing is recorded.
 pub fn one_fault_of_each_dump()
-    ensures missing { Holds missing_frame (MissingFrame 0 2) }
-    ensures shared { Holds shared_frame (SharedFrame 0 1) }
-    ensures reserved { Holds reserved_bit (ReservedBit 0 3 1) }
-    ensures stray { Holds stray_frame (StrayFrame 0 2) }
-    ensures differs { Holds unmapped_page (Differs 0 0) }
+    ensures missing { HasFault missing_frame (MissingFrame 0 2) }
+    ensures shared { HasFault shared_frame (SharedFrame 0 1) }
+    ensures reserved { HasFault reserved_bit (ReservedBit 0 3 1) }
+    ensures stray { HasFault stray_frame (StrayFrame 0 2) }
+    ensures differs { HasFault unmapped_page (Differs 0 0) }
 {}
 
 /// Where nothing is recorded and the page table is empty, no fault holds, and the dump fits the order without calls.

@@ -14,7 +14,7 @@ ghost use Rattle.nr_trace.specs.Calls.{operation_of, reply_of, reply_to, Respons
 ghost use Rattle.nr_trace.specs.FirstFault.{HasFormatFault};
 ghost use Rattle.nr_trace.specs.Feed.{Ends, Fed, FeedsAll, Reads};
 ghost use Rattle.nr_trace.specs.Feed.Fed.{Taken};
-ghost use Rattle.nr_trace.specs.Faults.{Earlier, Holds, IsFirst, IsFirstOf, StandsAfter};
+ghost use Rattle.nr_trace.specs.Faults.{Earlier, HasFault, IsFirst, IsFirstOf, StandsAfter};
 ghost use Rattle.nr_trace.specs.Laws.{HasCleanLog, HasRank, IsFaultless, IsSerialOrder, Stands};
 ghost use Rattle.nr_trace.specs.Orders.{before, floor, known_by, recorded_order, space_after, updates, FitsOrder, IsLegalOrder};
 ghost use Rattle.nr_trace.specs.Recording.{Recording};
@@ -63,21 +63,22 @@ pub fn pieces_are_read_as_one()
 /// legal but for precedence.
 pub fn recorded_order_is_serial()
     ensures { (trace : Recording) → HasCleanLog trace
-        → ((call : ℕ) → Holds trace (WrongAnswer call) → ⊥)
+        → ((call : ℕ) → HasFault trace (WrongAnswer call) → ⊥)
         → IsSerialOrder trace (recorded_order trace) }
 {}
 
 /// Where moreover no call stands too early, the recorded order is legal.
 pub fn recorded_order_is_legal()
-    ensures { (trace : Recording) → HasCleanLog trace → ((call : ℕ) → Holds trace (Early call) → ⊥)
-        → ((call : ℕ) → Holds trace (WrongAnswer call) → ⊥)
+    ensures { (trace : Recording) → HasCleanLog trace
+        → ((call : ℕ) → HasFault trace (Early call) → ⊥)
+        → ((call : ℕ) → HasFault trace (WrongAnswer call) → ⊥)
         → IsLegalOrder trace (recorded_order trace) }
 {}
 
 /// Of two faults that hold of a trace, one is earlier, or they are one.
 pub fn faults_are_ordered()
     ensures { (trace : Recording) (first second : Fault) → HasRank trace first
-        → HasRank trace second → Holds trace first → Holds trace second
+        → HasRank trace second → HasFault trace first → HasFault trace second
         → (first ≡ second) ⊎ (Earlier trace first second ⊎ Earlier trace second first) }
 {}
 
@@ -125,8 +126,8 @@ pub fn recorded_order_by_entries()
 
 /// Of two wrong answers the one whose call stands before the other's is earlier.
 pub fn earlier_wrong_answer()
-    ensures { (trace : Recording) (i j : ℕ) → HasCleanLog trace → Holds trace (WrongAnswer i)
-        → Holds trace (WrongAnswer j)
+    ensures { (trace : Recording) (i j : ℕ) → HasCleanLog trace → HasFault trace (WrongAnswer i)
+        → HasFault trace (WrongAnswer j)
         → Earlier trace (WrongAnswer i) (WrongAnswer j) ↔ Contains (before j (recorded_order trace))
         i }
 {}
@@ -154,7 +155,8 @@ pub fn spaces_go_on_by_places()
 /// Bytes have the fault `Trailing` exactly where a front of them spells a trace, and more bytes come after it.
 pub fn trailing_bytes_follow_a_trace()
     ensures { (bytes : List ℕ) → HasFormatFault bytes Trailing
-        ↔ ((front : List ℕ) × (more : List ℕ) × (trace : Recording) × (bytes ≡ front ++ more) × (more ≢ []) × Spells front trace) }
+        ↔ ((front : List ℕ) × (more : List ℕ) × (trace : Recording) × (bytes ≡ front ++ more)
+        × (more ≢ []) × Spells front trace) }
 {}
 
 /// Where bytes spell a trace, each front of them that lacks some has the fault `Truncated`.

@@ -2,11 +2,11 @@
 
 mod dumps;
 mod event;
+mod events;
 mod feed;
-mod fields;
 mod header;
-mod parts;
-mod places;
+mod numbers;
+mod reader;
 mod room;
 mod whole;
 mod words;

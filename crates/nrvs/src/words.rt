@@ -1,4 +1,5 @@
 ghost use Rattle.std.specs.Prelude.{◌≡◌, ◌≤◌, ◌∷◌, [], false, IfOk, IfErr, MatchResult, codes, map, string_bytes};
+ghost use Rattle.vs_types.specs.declared.limits.TheConstants.{MOST_LEVELS};
 ghost use Rattle.vs_types.specs.Depth.{levels};
 ghost use Rattle.clap.specs.Words.{fault_of, found_of, kind_of, one_text, rows_of, subcommand_of, HasKind};
 ghost use Rattle.nrvs.specs.CommandLine.{command_line, kinds_of_no_words, Asks, IsNumber, IsSetup, IsTurns};
@@ -45,7 +46,7 @@ fn read_number(given: &ArgMatches<'_>, id: &str, least: u16, most: u16, default:
 
 fn depth_of(count: u16) -> Depth
     requires low { 4 ≤ count }
-    requires high { count ≤ 5 }
+    requires high { count ≤ MOST_LEVELS }
     ensures { levels result ≡ count }
 {
     if count == 5 { Depth::Five } else { Depth::Four }

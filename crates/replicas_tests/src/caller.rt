@@ -43,7 +43,8 @@ impl<'a, J: LogName, K: ReplicasName> Model for Caller<'a, J, K> {
 
     ghost view = { λ c. c.pass };
 
-    ghost invariant = { λ c. (c.pass.log ≡ K.log) × (c.thread < c.replicas.now.threads) × (c.depth ≡ J.depth) };
+    ghost invariant = { λ c.
+        (c.pass.log ≡ K.log) × (c.thread < c.replicas.now.threads) × (c.depth ≡ J.depth) };
 }
 
 impl<'a, J: LogName, K: ReplicasName> Caller<'a, J, K> {

@@ -87,7 +87,8 @@ fn use_none<S: FrameStore>(rt: &impl Abort, store: &mut S) {
 // A new store; where one growth of memory is refused, that of a second try.
 fn raw_arena(rt: &impl Abort, alloc: Global, n: usize) -> RawArena
     requires { n ≤ 4096 }
-    ensures { result ≡ record { base = 2 ^ 39; size = n; frames = finite.empty; notes = finite.empty } }
+    ensures { result
+        ≡ record { base = 2 ^ 39; size = n; frames = finite.empty; notes = finite.empty } }
 {
     match RawArena::new(alloc, BASE, n) {
         Ok(arena) => arena,

@@ -1,4 +1,5 @@
 ghost use Rattle.std.specs.Prelude.{◌≡◌, ◌+◌, ◌<◌, ◌≤◌, ◌||◌, map, None, option_map, IfOk, IfSome, IfNone, OnOk, OnErr};
+ghost use Rattle.vs_types.specs.declared.limits.TheConstants.{MOST_LEVELS};
 ghost use Rattle.std.specs.FinMap as finite;
 ghost use Rattle.std.specs.List.Sorted.{IsStrictlyIncreasing};
 ghost use Rattle.vs_types.specs.Space.{no_pages, pages, least_overlapped, table_count, IsSpace};
@@ -43,7 +44,7 @@ impl Model for PageMap {
 
 /// Whether the page begins in the stretch that the address's table of this level covers.
 fn begins_in_stretch(level: u8, address: u64, page: Option<Page>) -> bool
-    requires { level < 5 }
+    requires { level < MOST_LEVELS }
     ensures { result ≡ begins_in_stretch level address page }
 {
     let shift = 12 + 9 * level;
@@ -55,7 +56,7 @@ fn begins_in_stretch(level: u8, address: u64, page: Option<Page>) -> bool
 
 /// Whether one of the pages next to the address begins in that stretch.
 fn shares_table(level: u8, address: u64, below: Option<Page>, above: Option<Page>) -> bool
-    requires { level < 5 }
+    requires { level < MOST_LEVELS }
     ensures { result
         ≡ (begins_in_stretch level address below || begins_in_stretch level address above) }
 {

@@ -1,4 +1,5 @@
 ghost use Rattle.std.specs.Prelude.{◌<◌, ◌≤◌, ◌≡◌, ◌≢◌, ◌^◌, ◌+◌, ℕ, Contains, IsTrue, None, slice_index, IfOk, OnErr};
+ghost use Rattle.vs_types.specs.declared.limits.TheConstants.{MOST_LEVELS};
 ghost use Rattle.std.specs.FinMap as finite;
 ghost use Rattle.vs_types.specs.declared.answer.Answer.{Answer};
 ghost use Rattle.vs_types.specs.declared.entry.Meaning.{Meaning};
@@ -212,7 +213,7 @@ impl<S: FrameStore> Space<S> {
     fn resolve_at(&self, level: u8, descent: &Descent, address: u64) -> Answer
         requires canonical { IsCanonical self.now.depth address }
         requires some_level { 1 ≤ level }
-        requires few_levels { level ≤ 5 }
+        requires few_levels { level ≤ MOST_LEVELS }
         requires ended { HasEnded self.now address level descent.now.number descent.now.word
             descent.now.path }
         ensures { (space : spaces.Space) → IsTableOf self.now space → result ≡ look space address }
@@ -269,7 +270,7 @@ impl<S: FrameStore> Space<S> {
     fn overlapped(&self, page: Page, level: u8, met: Meaning) -> u64
         requires page { IsPage self.now.depth page }
         requires some_level { 1 ≤ level }
-        requires few_levels { level ≤ 5 }
+        requires few_levels { level ≤ MOST_LEVELS }
         requires present { met ≢ Meaning.Absent }
         requires ended { (number : ℕ) × HasMet self.now page level number met }
         ensures { IsTableStep self.now (Action.Map page) (Answer.Overlap result) self.now }
@@ -295,7 +296,7 @@ impl<S: FrameStore> Space<S> {
         requires leaf_written { leaf ≡ leaf_word page.size page.phys page.rights }
         requires leaf_read { meaning (level_of page.size) leaf
             ≡ Meaning.Leaf page.phys page.rights }
-        requires few_levels { level ≤ 5 }
+        requires few_levels { level ≤ MOST_LEVELS }
         requires absent { HasMet self.old page level last Meaning.Absent }
         ensures { IsTableStep self.old (Action.Map page) result self.new }
     {
@@ -334,7 +335,7 @@ impl<S: FrameStore> Space<S> {
     fn unmap_at(&mut self, level: u8, path: &[u64; PATH_LENGTH], word: u64, base: u64) -> Answer
         requires base { IsBase self.old.depth base }
         requires some_level { 1 ≤ level }
-        requires few_levels { level ≤ 5 }
+        requires few_levels { level ≤ MOST_LEVELS }
         requires ended { HasEnded self.old base level (slice_index path.now level) word path.now }
         ensures { IsTableStep self.old (Action.Unmap base) result self.new }
     {
@@ -372,7 +373,7 @@ impl<S: FrameStore> Space<S> {
     fn protect_at(&mut self, level: u8, descent: &Descent, base: u64, rights: RightsBits) -> Answer
         requires base { IsBase self.old.depth base }
         requires some_level { 1 ≤ level }
-        requires few_levels { level ≤ 5 }
+        requires few_levels { level ≤ MOST_LEVELS }
         requires ended { HasEnded self.old base level descent.now.number descent.now.word
             descent.now.path }
         ensures { IsTableStep self.old (Action.Protect base rights) result self.new }

@@ -3,7 +3,7 @@ ghost use Rattle.std.specs.FinMap as finite;
 ghost use Rattle.vs_arena.specs.Store.{zeros, IsInUse};
 ghost use Rattle.vs_types.specs.declared.depth.Depth.{Depth};
 ghost use Rattle.vs_types.specs.declared.frame.TheConstants.{FRAME_WORDS};
-ghost use Rattle.vs_types.specs.declared.limits.TheConstants.{TABLES};
+ghost use Rattle.vs_types.specs.declared.limits.TheConstants.{MOST_LEVELS, TABLES};
 ghost use Rattle.vs_types.specs.Depth.{levels, index_at, IsCanonical};
 ghost use Rattle.vs_walk.specs.Walk.{walk};
 ghost use Rattle.vs_walk.specs.declared.walk.Walk.{Walk};
@@ -199,7 +199,7 @@ impl<S: FrameStore> Tables<S> {
         requires in_use { IsSome (finite.get self.now.memory number) }
         requires written { AreWritten level self.now.memory number }
         requires some_level { 1 ≤ level }
-        requires few_levels { level ≤ 5 }
+        requires few_levels { level ≤ MOST_LEVELS }
         ensures { found_at level self.now.memory number address ≡ Some result }
     {
         read_written(level, self.word(number, index_at(level, address)))
@@ -260,7 +260,7 @@ impl<S: FrameStore> Tables<S> {
     pub(crate) fn first_present(&self, level: u8, number: u64) -> Option<usize>
         requires in_use { IsSome (finite.get self.now.memory number) }
         requires some_level { 1 ≤ level }
-        requires few_levels { level ≤ 5 }
+        requires few_levels { level ≤ MOST_LEVELS }
         ensures none { IfNone result
             ((i : ℕ) → i < FRAME_WORDS
             → entry_in level self.now.memory number i ≡ Some Meaning.Absent) }
@@ -330,7 +330,7 @@ impl<S: FrameStore> Tables<S> {
         requires absent { word_at self.old.memory last (index_at from address) ≡ Some 0 }
         requires some_level { 1 ≤ lowest }
         requires within { lowest ≤ from }
-        requires few_levels { from ≤ 5 }
+        requires few_levels { from ≤ MOST_LEVELS }
         requires room { finite.len self.old.memory + (from - lowest) ≤ self.old.limit }
         ensures extended { IsExtended self.old.memory self.new.memory address last from lowest
             result }

@@ -1,4 +1,5 @@
 ghost use Rattle.std.specs.Prelude.{◌≡◌, ◌<◌, ◌≤◌, ◌==◌, ◌%◌, ◌^◌};
+ghost use Rattle.vs_types.specs.declared.limits.TheConstants.{MOST_LEVELS};
 ghost use Rattle.std.specs.Int.{bit_at};
 ghost use Rattle.vs_types.specs.Entry.{leaf_word, meaning, rights_of};
 ghost use Rattle.vs_types.specs.Page.{level_of, bytes_of};
@@ -24,7 +25,7 @@ const NO_FETCH: u32 = 63;
 #[inline]
 pub(crate) fn read_written(level: u8, word: u64) -> Meaning
     requires some_level { 1 ≤ level }
-    requires few_levels { level ≤ 5 }
+    requires few_levels { level ≤ MOST_LEVELS }
     requires written { IsWritten level word }
     ensures { result ≡ meaning level word }
 {

@@ -1,4 +1,5 @@
 ghost use Rattle.std.specs.Prelude.{◌≡◌, ◌↔◌, ◌<◌, ◌≤◌, IsTrue};
+ghost use Rattle.vs_types.specs.declared.limits.TheConstants.{MOST_LEVELS};
 ghost use Rattle.vs_types.specs.Depth.{index_at};
 
 use crate::op::BadOp;
@@ -50,7 +51,7 @@ impl Depth {
 
 /// The index of the entry for an address in a table of this level: 0 to 511. The level of a root is the highest.
 pub fn index_at(level: u8, address: u64) -> usize
-    requires { level ≤ 5 }
+    requires { level ≤ MOST_LEVELS }
     ensures is { result ≡ index_at level address }
     ensures low { result < 512 }
 {

@@ -1,4 +1,5 @@
 ghost use Rattle.std.specs.Prelude.{◌≡◌, ◌<◌, ◌≤◌, ◌==◌, ◌%◌, ◌^◌, ℕ};
+ghost use Rattle.vs_types.specs.declared.limits.TheConstants.{MOST_LEVELS};
 
 use crate::page::{Rights, Size};
 use std::marker::Model;
@@ -99,7 +100,7 @@ impl Entry {
     /// What it says in a table of this level, 1 to 5.
     pub fn read(self, level: u8) -> Meaning
         requires some_level { 1 ≤ level }
-        requires few_levels { level ≤ 5 }
+        requires few_levels { level ≤ MOST_LEVELS }
         ensures { result ≡ meaning level self }
     {
         if !self.is_set(PRESENT) {
@@ -118,7 +119,7 @@ impl Entry {
     }
 
     fn has_reserved(self, level: u8) -> bool
-        requires few_levels { level ≤ 5 }
+        requires few_levels { level ≤ MOST_LEVELS }
         ensures { result ≡ has_reserved level self }
     {
         if self.is_leaf(level) {

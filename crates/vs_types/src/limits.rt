@@ -9,6 +9,9 @@ pub const THREADS: u16 = 64;
 /// The most tables of a space: frames of 4,096 bytes.
 pub const TABLES: u16 = 4_096;
 
+/// The most levels of tables.
+pub const MOST_LEVELS: u8 = 5;
+
 /// The places of a log: how many operations one run can do.
 pub const LOG_PLACES: u32 = 65_536;
 

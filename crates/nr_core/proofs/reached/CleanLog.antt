@@ -6,7 +6,7 @@ use Rattle.vs_types.specs.declared.log_entry.LogEntry.{LogEntry}
 use Rattle.vs_types.specs.declared.op.Action.{Action}
 use Rattle.vs_walk.specs.Dump.{Image}
 use Rattle.nr_trace.specs.Calls.{Invocation, operation_in, operation_of, IsUpdate}
-use Rattle.nr_trace.specs.Faults.{Holds}
+use Rattle.nr_trace.specs.Faults.{HasFault}
 use Rattle.nr_trace.specs.Laws.{HasCleanLog}
 use Rattle.nr_trace.specs.declared.version.Version.{Version}
 use Rattle.nr_trace.specs.declared.fault.Fault.TheVariants.{ThreadOpen, NotPlaced, PastLog}
@@ -32,7 +32,7 @@ clean state version dumps reached = record {
   all_placed = not_placed;
   none_past_log = past_log;
 } where
-  thread_open : (index : ℕ) → Holds (recording state version dumps) (ThreadOpen index) → ⊥
+  thread_open : (index : ℕ) → HasFault (recording state version dumps) (ThreadOpen index) → ⊥
   thread_open index h =
       let (reply, before, answers) = reached.calls.in_turn h.earlier index h.earlier_made h.made h.is_earlier h.is_earlier_made h.is_made h.same_thread in
       h.not_answered reply before (answers_to state version dumps reply h.earlier answers)
@@ -43,7 +43,7 @@ clean state version dumps reached = record {
       h (is_some_from (operation_of (recording state version dumps) call) entry.op
       (operation_at state version dumps call made entry.op (ap (call_at state.events) (sym e) ∙ is) (ap operation_in asks)))
 
-  not_placed : (index : ℕ) → Holds (recording state version dumps) (NotPlaced index) → ⊥
+  not_placed : (index : ℕ) → HasFault (recording state version dumps) (NotPlaced index) → ⊥
   not_placed index (reply, e, (is_update, out)) =
       let (made, before, is, right) = reached.replies index reply e in
       let (action, asks) = the_some (operation_of (recording state version dumps) reply.call) is_update in
@@ -52,7 +52,7 @@ clean state version dumps reached = record {
       let (entry, at, same) = right.placed action (ap (λ (m : Invocation). operation_in m.request) (sym one) ∙ operation) in
       out (at_mapped (λ (x : LogEntry). x.call) state.log reply.at entry at ∙ ap Some same)
 
-  past_log : (index : ℕ) → Holds (recording state version dumps) (PastLog index) → ⊥
+  past_log : (index : ℕ) → HasFault (recording state version dumps) (PastLog index) → ⊥
   past_log index (reply, e, (is_read, past)) =
       let (made, before, is, right) = reached.replies index reply e in
       beyond (at_within_reach made.request reply.at) right.known reached.completed (length-map state.log (λ (entry : LogEntry). entry.call)) past where

@@ -14,7 +14,7 @@ use Rattle.vs_walk.specs.Traversal.{walk_fault}
 use Rattle.vs_walk.specs.declared.walk.WalkFault.{WalkFault}
 use Rattle.nr_trace.specs.Calls.{Invocation}
 use Rattle.nr_trace.specs.Orders.{space_after}
-use Rattle.nr_trace.specs.Faults.{Holds}
+use Rattle.nr_trace.specs.Faults.{HasFault}
 use Rattle.nr_trace.specs.declared.version.Version.{Version}
 use Rattle.nr_trace.specs.declared.fault.Fault.TheVariants.{PrefixPastLog, PrefixShort, MissingFrame, SharedFrame, ReservedBit, StrayFrame, Differs}
 use Rattle.nr_core.specs.State.{State, Replica}
@@ -39,7 +39,7 @@ the_replica state dumps r dump are at =
       in_some (Some replica) e h = (replica, e, h)
 
 pub none_past_log : (state : State) (version : Version) (dumps : List Image) (r : ℕ) → IsReached state → AreDumps state dumps
-    → Holds (recording state version dumps) (PrefixPastLog r) → ⊥
+    → HasFault (recording state version dumps) (PrefixPastLog r) → ⊥
 none_past_log state version dumps r reached are (dump, at, past) =
     let (replica, there, is) = the_replica state dumps r dump are at in
     let of_replica = reached.replicas r replica there in
@@ -50,7 +50,7 @@ none_past_log state version dumps r reached are (dump, at, past) =
       beyond applied local a b c d e f = omega arith
 
 pub none_short : (state : State) (version : Version) (dumps : List Image) (r : ℕ) → IsReached state → AreDumps state dumps
-    → Holds (recording state version dumps) (PrefixShort r) → ⊥
+    → HasFault (recording state version dumps) (PrefixShort r) → ⊥
 none_short state version dumps r reached are (dump, at, rests) =
     let (replica, there, is) = the_replica state dumps r dump are at in
     let (made, before, is_made, right) = reached.replies rests.index rests.reply rests.is_reply in
@@ -66,31 +66,31 @@ no_fault : (dump : Image) (replica : Replica) (state : State) (fault : WalkFault
 no_fault dump replica state fault is e = none-some fault (sym is.faultless ∙ e)
 
 pub none_missing : (state : State) (version : Version) (dumps : List Image) (r number : ℕ) → AreDumps state dumps
-    → Holds (recording state version dumps) (MissingFrame r number) → ⊥
+    → HasFault (recording state version dumps) (MissingFrame r number) → ⊥
 none_missing state version dumps r number are (dump, at, h) =
     let (replica, there, is) = the_replica state dumps r dump are at in
     no_fault dump replica state _ is h
 
 pub none_shared : (state : State) (version : Version) (dumps : List Image) (r number : ℕ) → AreDumps state dumps
-    → Holds (recording state version dumps) (SharedFrame r number) → ⊥
+    → HasFault (recording state version dumps) (SharedFrame r number) → ⊥
 none_shared state version dumps r number are (dump, at, h) =
     let (replica, there, is) = the_replica state dumps r dump are at in
     no_fault dump replica state _ is h
 
 pub none_reserved : (state : State) (version : Version) (dumps : List Image) (r number index : ℕ) → AreDumps state dumps
-    → Holds (recording state version dumps) (ReservedBit r number index) → ⊥
+    → HasFault (recording state version dumps) (ReservedBit r number index) → ⊥
 none_reserved state version dumps r number index are (dump, at, h) =
     let (replica, there, is) = the_replica state dumps r dump are at in
     no_fault dump replica state _ is h
 
 pub none_stray : (state : State) (version : Version) (dumps : List Image) (r number : ℕ) → AreDumps state dumps
-    → Holds (recording state version dumps) (StrayFrame r number) → ⊥
+    → HasFault (recording state version dumps) (StrayFrame r number) → ⊥
 none_stray state version dumps r number are (dump, at, h) =
     let (replica, there, is) = the_replica state dumps r dump are at in
     is.none_stray number h.0
 
 pub none_differs : (state : State) (version : Version) (dumps : List Image) (r address : ℕ) → IsReached state → AreDumps state dumps
-    → Holds (recording state version dumps) (Differs r address) → ⊥
+    → HasFault (recording state version dumps) (Differs r address) → ⊥
 none_differs state version dumps r address reached are (dump, at, h) =
     let (replica, there, is) = the_replica state dumps r dump are at in
     let same : replica.space ≡ space_after (recording state version dumps) (take dump.applied (calls_of state.log)) =

@@ -5,7 +5,7 @@ use Rattle.vs_walk.specs.Dump.{Image}
 use Rattle.nr_trace.specs.Recording.{Recording}
 use Rattle.nr_trace.specs.Calls.{Response, reply_of}
 use Rattle.nr_trace.specs.Orders.{floor}
-use Rattle.nr_trace.specs.Faults.{Holds, StandsAfter}
+use Rattle.nr_trace.specs.Faults.{HasFault, StandsAfter}
 use Rattle.nr_trace.specs.declared.version.Version.{Version}
 use Rattle.nr_trace.specs.declared.fault.Fault.TheVariants.{Early}
 use Rattle.nr_trace.proofs.LawsOfCalls.{reply_event}
@@ -33,7 +33,7 @@ floor_within state version dumps call n (suc k) have behind l =
           omega arith
 
 pub none_early : (state : State) (version : Version) (dumps : List Image) (call : ℕ) → IsReached state
-    → Holds (recording state version dumps) (Early call) → ⊥
+    → HasFault (recording state version dumps) (Early call) → ⊥
 none_early state version dumps call reached (entries, stands, early) = by_kind stands where
   trace : Recording
   trace = recording state version dumps

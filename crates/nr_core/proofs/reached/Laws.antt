@@ -1,7 +1,7 @@
 -- No list of steps makes a fault.
 use Rattle.std.proofs.Common.{ℕ}
 use Rattle.nr_trace.specs.Recording.{Recording}
-use Rattle.nr_trace.specs.Faults.{Holds}
+use Rattle.nr_trace.specs.Faults.{HasFault}
 use Rattle.nr_trace.specs.Laws.{HasCleanLog, IsFaultless}
 use Rattle.nr_trace.specs.declared.fault.Fault.TheVariants.{Format, ThreadOpen, NoSuchCall, AnsweredTwice, NotAnUpdate, PlacedTwice, NotPlaced, PastLog, Early}
 use Rattle.nr_trace.specs.declared.fault.Fault.TheVariants.{WrongAnswer, PrefixPastLog, PrefixShort, MissingFrame, SharedFrame, ReservedBit, StrayFrame}
@@ -20,41 +20,41 @@ use Rattle.nr_core.proofs.reached.Runs.{each_is_reached}
 pub well_formed : (state : State) (trace : Recording) → IsReached state → IsRecordingOf state trace → HasCleanLog trace
 well_formed state trace reached is = of_recording HasCleanLog state trace is (λ version dumps are. clean_log state version dumps reached)
 
-pub past_log : (state : State) (trace : Recording) (r : ℕ) → IsReached state → IsRecordingOf state trace → Holds trace (PrefixPastLog r) → ⊥
+pub past_log : (state : State) (trace : Recording) (r : ℕ) → IsReached state → IsRecordingOf state trace → HasFault trace (PrefixPastLog r) → ⊥
 past_log state trace r reached is =
-    of_recording (λ t. Holds t (PrefixPastLog r) → ⊥) state trace is (λ version dumps are. none_past_log state version dumps r reached are)
+    of_recording (λ t. HasFault t (PrefixPastLog r) → ⊥) state trace is (λ version dumps are. none_past_log state version dumps r reached are)
 
-pub short : (state : State) (trace : Recording) (r : ℕ) → IsReached state → IsRecordingOf state trace → Holds trace (PrefixShort r) → ⊥
+pub short : (state : State) (trace : Recording) (r : ℕ) → IsReached state → IsRecordingOf state trace → HasFault trace (PrefixShort r) → ⊥
 short state trace r reached is =
-    of_recording (λ t. Holds t (PrefixShort r) → ⊥) state trace is (λ version dumps are. none_short state version dumps r reached are)
+    of_recording (λ t. HasFault t (PrefixShort r) → ⊥) state trace is (λ version dumps are. none_short state version dumps r reached are)
 
-pub missing : (state : State) (trace : Recording) (r number : ℕ) → IsRecordingOf state trace → Holds trace (MissingFrame r number) → ⊥
+pub missing : (state : State) (trace : Recording) (r number : ℕ) → IsRecordingOf state trace → HasFault trace (MissingFrame r number) → ⊥
 missing state trace r number is =
-    of_recording (λ t. Holds t (MissingFrame r number) → ⊥) state trace is (λ version dumps are. none_missing state version dumps r number are)
+    of_recording (λ t. HasFault t (MissingFrame r number) → ⊥) state trace is (λ version dumps are. none_missing state version dumps r number are)
 
-pub shared : (state : State) (trace : Recording) (r number : ℕ) → IsRecordingOf state trace → Holds trace (SharedFrame r number) → ⊥
+pub shared : (state : State) (trace : Recording) (r number : ℕ) → IsRecordingOf state trace → HasFault trace (SharedFrame r number) → ⊥
 shared state trace r number is =
-    of_recording (λ t. Holds t (SharedFrame r number) → ⊥) state trace is (λ version dumps are. none_shared state version dumps r number are)
+    of_recording (λ t. HasFault t (SharedFrame r number) → ⊥) state trace is (λ version dumps are. none_shared state version dumps r number are)
 
-pub reserved : (state : State) (trace : Recording) (r number index : ℕ) → IsRecordingOf state trace → Holds trace (ReservedBit r number index) → ⊥
+pub reserved : (state : State) (trace : Recording) (r number index : ℕ) → IsRecordingOf state trace → HasFault trace (ReservedBit r number index) → ⊥
 reserved state trace r number index is =
-    of_recording (λ t. Holds t (ReservedBit r number index) → ⊥) state trace is (λ version dumps are. none_reserved state version dumps r number index are)
+    of_recording (λ t. HasFault t (ReservedBit r number index) → ⊥) state trace is (λ version dumps are. none_reserved state version dumps r number index are)
 
-pub stray : (state : State) (trace : Recording) (r number : ℕ) → IsRecordingOf state trace → Holds trace (StrayFrame r number) → ⊥
+pub stray : (state : State) (trace : Recording) (r number : ℕ) → IsRecordingOf state trace → HasFault trace (StrayFrame r number) → ⊥
 stray state trace r number is =
-    of_recording (λ t. Holds t (StrayFrame r number) → ⊥) state trace is (λ version dumps are. none_stray state version dumps r number are)
+    of_recording (λ t. HasFault t (StrayFrame r number) → ⊥) state trace is (λ version dumps are. none_stray state version dumps r number are)
 
-pub differs : (state : State) (trace : Recording) (r address : ℕ) → IsReached state → IsRecordingOf state trace → Holds trace (Differs r address) → ⊥
+pub differs : (state : State) (trace : Recording) (r address : ℕ) → IsReached state → IsRecordingOf state trace → HasFault trace (Differs r address) → ⊥
 differs state trace r address reached is =
-    of_recording (λ t. Holds t (Differs r address) → ⊥) state trace is (λ version dumps are. none_differs state version dumps r address reached are)
+    of_recording (λ t. HasFault t (Differs r address) → ⊥) state trace is (λ version dumps are. none_differs state version dumps r address reached are)
 
-pub wrong : (state : State) (trace : Recording) (call : ℕ) → IsReached state → IsRecordingOf state trace → Holds trace (WrongAnswer call) → ⊥
+pub wrong : (state : State) (trace : Recording) (call : ℕ) → IsReached state → IsRecordingOf state trace → HasFault trace (WrongAnswer call) → ⊥
 wrong state trace call reached is =
-    of_recording (λ t. Holds t (WrongAnswer call) → ⊥) state trace is (λ version dumps are. none_wrong state version dumps call reached)
+    of_recording (λ t. HasFault t (WrongAnswer call) → ⊥) state trace is (λ version dumps are. none_wrong state version dumps call reached)
 
-pub early : (state : State) (trace : Recording) (call : ℕ) → IsReached state → IsRecordingOf state trace → Holds trace (Early call) → ⊥
+pub early : (state : State) (trace : Recording) (call : ℕ) → IsReached state → IsRecordingOf state trace → HasFault trace (Early call) → ⊥
 early state trace call reached is =
-    of_recording (λ t. Holds t (Early call) → ⊥) state trace is (λ version dumps are. none_early state version dumps call reached)
+    of_recording (λ t. HasFault t (Early call) → ⊥) state trace is (λ version dumps are. none_early state version dumps call reached)
 
 faultless : (state : State) (trace : Recording) → IsReached state → IsRecordingOf state trace → IsFaultless trace
 faultless state trace reached is (Format fault) h = h

@@ -8,7 +8,7 @@ use Rattle.vs_types.specs.declared.log_entry.LogEntry.{LogEntry}
 use Rattle.vs_walk.specs.Dump.{Image}
 use Rattle.nr_trace.specs.Calls.{Invocation, operation_in, operation_of, reply_of}
 use Rattle.nr_trace.specs.Orders.{before, space_after, operations, answer_in, recorded_order}
-use Rattle.nr_trace.specs.Faults.{Holds}
+use Rattle.nr_trace.specs.Faults.{HasFault}
 use Rattle.nr_trace.specs.declared.version.Version.{Version}
 use Rattle.nr_trace.specs.declared.fault.Fault.TheVariants.{WrongAnswer}
 use Rattle.nr_trace.proofs.LawsOfCalls.{reply_event, answered_stands}
@@ -47,7 +47,7 @@ space_of_log state version dumps n reached =
           operation_at state version dumps entry.call made entry.op is (ap operation_in asks)
 
 pub none_wrong : (state : State) (version : Version) (dumps : List Image) (call : ℕ) → IsReached state
-    → Holds (recording state version dumps) (WrongAnswer call) → ⊥
+    → HasFault (recording state version dumps) (WrongAnswer call) → ⊥
 none_wrong state version dumps call reached h = h.differs (is_right (reply_event trace call h.reply h.is_reply)) where
   trace : Rattle.nr_trace.specs.Recording.Recording
   trace = recording state version dumps

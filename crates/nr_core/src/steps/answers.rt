@@ -48,7 +48,9 @@ impl Core {
 
     /// The answer stands in the slot, or the thread has read: the reply is recorded, and no call is open.
     pub(crate) fn reply(&mut self, thread: u16) -> Result<bool, Memory>
-        ensures { MatchResult result (λ done. IsStepped self.old (steps.reply self.old thread) done self.new) (λ _. self.new ≡ self.old) }
+        ensures { MatchResult result
+            (λ done. IsStepped self.old (steps.reply self.old thread) done self.new)
+            (λ _. self.new ≡ self.old) }
     {
         let Some(stage) = self.stage(thread) else {
             return Ok(false);
@@ -64,7 +66,9 @@ impl Core {
     fn record_reply(&mut self, thread: u16, answered: Answered) -> Result<(), Memory>
         requires { IsOpen self.old thread }
         ensures { (before : states.Thread) → slice_get self.old.threads thread ≡ Some before
-            → MatchResult result (λ _. Some self.new ≡ steps.with_reply self.old thread before answered) (λ _. self.new ≡ self.old) }
+            → MatchResult result
+            (λ _. Some self.new ≡ steps.with_reply self.old thread before answered)
+            (λ _. self.new ≡ self.old) }
     {
         let event = answered.reply();
         if self.events.push(Recorded::of(event)).is_err() {
@@ -78,7 +82,8 @@ impl Core {
     fn answer_at(&self, replica: u8, request: Request) -> Answer
         requires there { IsSome (slice_get self.now.replicas replica) }
         requires fits { FitsRead self.now.layout.depth request }
-        ensures { (there : states.Replica) → slice_get self.now.replicas replica ≡ Some there → result ≡ answer_in self.now.layout there.space request }
+        ensures { (there : states.Replica) → slice_get self.now.replicas replica ≡ Some there
+            → result ≡ answer_in self.now.layout there.space request }
     {
         let table = &self.stored(replica).table;
         match request.query() {

@@ -19,7 +19,8 @@ use vs_types::LogEntry;
 fn apply_to(stored: &mut ReplicaState, entry: LogEntry)
     requires fits { IsAction stored.old.table.pages.depth entry.op }
     requires in_range { stored.old.marks.applied < LOG_PLACES }
-    ensures seen { (state : states.State) → IsReplica state.layout stored.old → replica_in stored.new ≡ steps.with_entry state (replica_in stored.old) entry }
+    ensures seen { (state : states.State) → IsReplica state.layout stored.old
+        → replica_in stored.new ≡ steps.with_entry state (replica_in stored.old) entry }
     ensures each { (layout : Layout) → IsReplica layout stored.old → IsReplica layout stored.new }
 {
     let answer = stored.table.apply(entry.op);
@@ -64,7 +65,8 @@ impl Core {
     /// The answer that is noted for the update of a thread.
     pub(crate) fn noted_for(&self, replica: u8, thread: u16) -> Option<Answered>
         requires { IsSome (slice_get self.now.replicas replica) }
-        ensures { (there : states.Replica) → slice_get self.now.replicas replica ≡ Some there → result ≡ steps.noted_for thread there }
+        ensures { (there : states.Replica) → slice_get self.now.replicas replica ≡ Some there
+            → result ≡ steps.noted_for thread there }
     {
         find_noted(&self.stored(replica).batch, thread)
     }

@@ -17,7 +17,9 @@ use vs_types::{LOG_PLACES, LogEntry, Memory};
 impl Core {
     /// The update in the slot of `from` is taken, and is the last of the batch.
     pub(crate) fn collect(&mut self, thread: u16, from: u16) -> Result<bool, Memory>
-        ensures { MatchResult result (λ done. IsStepped self.old (steps.collect self.old thread from) done self.new) (λ _. self.new ≡ self.old) }
+        ensures { MatchResult result
+            (λ done. IsStepped self.old (steps.collect self.old thread from) done self.new)
+            (λ _. self.new ≡ self.old) }
     {
         let Some(replica) = self.lock_of(thread) else {
             return Ok(false);
@@ -44,7 +46,8 @@ impl Core {
     /// Whether the batch has fewer than 16 updates and is not placed.
     fn has_place(&self, replica: u8) -> bool
         requires { IsSome (slice_get self.now.replicas replica) }
-        ensures { (there : states.Replica) → slice_get self.now.replicas replica ≡ Some there → result ≡ steps.has_place there }
+        ensures { (there : states.Replica) → slice_get self.now.replicas replica ≡ Some there
+            → result ≡ steps.has_place there }
     {
         let stored = self.stored(replica);
         stored.batch.len() < BATCH && !stored.marks.placed
@@ -54,8 +57,11 @@ impl Core {
     fn push_update(&mut self, replica: u8, update: Collected) -> Result<(), Memory>
         requires there { IsSome (slice_get self.old.replicas replica) }
         requires fits { IsAction self.old.layout.depth update.entry.op }
-        ensures pushed { (before : states.Replica) → slice_get self.old.replicas replica ≡ Some before
-            → MatchResult result (λ _. self.new ≡ with_replica self.old replica (steps.with_update before update)) (λ _. self.new ≡ self.old) }
+        ensures pushed { (before : states.Replica)
+            → slice_get self.old.replicas replica ≡ Some before
+            → MatchResult result
+            (λ _. self.new ≡ with_replica self.old replica (steps.with_update before update))
+            (λ _. self.new ≡ self.old) }
         ensures threads { self.new.threads ≡ self.old.threads }
         ensures layout { self.new.layout ≡ self.old.layout }
     {
@@ -68,7 +74,9 @@ impl Core {
 
     /// The batch, which is not empty nor placed, stands at the log's end, where there is room.
     pub(crate) fn append(&mut self, thread: u16) -> Result<bool, Memory>
-        ensures { MatchResult result (λ done. IsStepped self.old (steps.append self.old thread) done self.new) (λ _. self.new ≡ self.old) }
+        ensures { MatchResult result
+            (λ done. IsStepped self.old (steps.append self.old thread) done self.new)
+            (λ _. self.new ≡ self.old) }
     {
         let Some(replica) = self.lock_of(thread) else {
             return Ok(false);
@@ -91,7 +99,8 @@ impl Core {
     /// Whether a replica's batch may be appended.
     fn may_append(&self, replica: u8) -> bool
         requires { IsSome (slice_get self.now.replicas replica) }
-        ensures { (there : states.Replica) → slice_get self.now.replicas replica ≡ Some there → result ≡ steps.may_append self.now there }
+        ensures { (there : states.Replica) → slice_get self.now.replicas replica ≡ Some there
+            → result ≡ steps.may_append self.now there }
     {
         let stored = self.stored(replica);
         let n = stored.batch.len();
@@ -109,10 +118,14 @@ impl Core {
     /// The entries of a replica's batch stand at the log's end.
     fn extend_log(&mut self, replica: u8) -> Result<(), Memory>
         requires there { IsSome (slice_get self.old.replicas replica) }
-        requires room { (there : states.Replica) → slice_get self.old.replicas replica ≡ Some there → length self.old.log + length there.batch ≤ LOG_PLACES }
+        requires room { (there : states.Replica) → slice_get self.old.replicas replica ≡ Some there
+            → length self.old.log + length there.batch ≤ LOG_PLACES }
         ensures replicas { self.new.replicas ≡ self.old.replicas }
-        ensures extended { (before : states.Replica) → slice_get self.old.replicas replica ≡ Some before
-            → MatchResult result (λ _. self.new ≡ record self.old { log = self.old.log ++ map (λ update. update.entry) before.batch }) (λ _. self.new ≡ self.old) }
+        ensures extended { (before : states.Replica)
+            → slice_get self.old.replicas replica ≡ Some before
+            → MatchResult result (λ _. self.new ≡ record self.old
+                { log = self.old.log ++ map (λ update. update.entry) before.batch })
+            (λ _. self.new ≡ self.old) }
     {
         match push_entries(&mut self.log, &self.replicas[usize::from(replica)].batch) {
             Ok(()) => Ok(()),
@@ -140,7 +153,8 @@ impl Core {
 
     /// The entry at a place of the log.
     fn entry(&self, place: u32) -> Option<LogEntry>
-        ensures { MatchOption result (slice_get self.now.log place ≡ None) (IsEntry self.now place) }
+        ensures { MatchOption result (slice_get self.now.log place ≡ None)
+            (IsEntry self.now place) }
     {
         match self.log.get(place as usize) {
             Some(entry) => Some(*entry),

@@ -12,7 +12,9 @@ use vs_types::{Memory, Query, Request};
 impl Core {
     /// The next request of the script is recorded as a call.
     pub(crate) fn call(&mut self, thread: u16) -> Result<bool, Memory>
-        ensures { MatchResult result (λ done. IsStepped self.old (steps.call self.old thread) done self.new) (λ _. self.new ≡ self.old) }
+        ensures { MatchResult result
+            (λ done. IsStepped self.old (steps.call self.old thread) done self.new)
+            (λ _. self.new ≡ self.old) }
     {
         let Some(request) = self.next_request(thread) else {
             return Ok(false);
@@ -45,7 +47,8 @@ impl Core {
     /// The thread's call is recorded, and open.
     fn record_call(&mut self, thread: u16, request: Request) -> Result<(), Memory>
         requires { MayCall self.old thread request }
-        ensures { MatchResult result (λ _. Some self.new ≡ steps.call self.old thread) (λ _. self.new ≡ self.old) }
+        ensures { MatchResult result (λ _. Some self.new ≡ steps.call self.old thread)
+            (λ _. self.new ≡ self.old) }
     {
         let call = self.events.len() as u32;
         let replica = (thread % u16::from(self.config.replicas())) as u8;

@@ -5,7 +5,7 @@ use Rattle.nr_trace.specs.Feed.{Fed}
 use Rattle.nr_trace.specs.Feed.Fed.{Taken, Stopped}
 use Rattle.nr_trace.specs.inside.Progress.{unit_bytes, said, Ahead, IsReady}
 use Rattle.nr_trace.specs.declared.fault.Format.{Format}
-use Rattle.nr_trace.specs.declared.reading.parts.Reader.{Reader}
+use Rattle.nr_trace.specs.declared.reading.reader.Reader.{Reader}
 use Rattle.nr_trace.specs.declared.reading.feed.State.{State}
 use Rattle.nr_trace.specs.declared.reading.feed.State.TheVariants as states
 

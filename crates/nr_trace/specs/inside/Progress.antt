@@ -12,11 +12,11 @@ use Rattle.nr_trace.specs.Recording.{IsEvent, IsImage}
 use Rattle.nr_trace.specs.Spelling.{magic, version_word, counts, log_word, event, dump_head, frame_number, frame_words, dump}
 use Rattle.nr_trace.specs.FirstFault.{AtUnit, AtVersion, AtCounts, AtLog, AtEvents, AtDumps, AtFrames, IsNext, HasFormatFault}
 use Rattle.nr_trace.specs.declared.fault.Format.{Format}
-use Rattle.nr_trace.specs.declared.reading.parts.Parts.{Parts}
-use Rattle.nr_trace.specs.declared.reading.parts.Opened.{Opened}
-use Rattle.nr_trace.specs.declared.reading.parts.OpenFrame.{OpenFrame}
-use Rattle.nr_trace.specs.declared.reading.parts.Reader.{Reader}
-use Rattle.nr_trace.specs.declared.reading.parts.Reader.TheVariants.{Magic, Version, Header, Log, Events, Dumps, Frame, Words}
+use Rattle.nr_trace.specs.declared.reading.reader.Parts.{Parts}
+use Rattle.nr_trace.specs.declared.reading.reader.Opened.{Opened}
+use Rattle.nr_trace.specs.declared.reading.reader.OpenFrame.{OpenFrame}
+use Rattle.nr_trace.specs.declared.reading.reader.Reader.{Reader}
+use Rattle.nr_trace.specs.declared.reading.reader.Reader.TheVariants.{Magic, Version, Header, Log, Events, Dumps, Frame, Words}
 
 -- how many bytes the next unit has
 abbrev pub unit_bytes : Reader → Option ℕ

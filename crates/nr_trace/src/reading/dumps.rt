@@ -8,9 +8,9 @@ ghost use Rattle.nr_trace.specs.FirstFault.{IsNext};
 ghost use Rattle.nr_trace.specs.inside.Progress.{AreBelow, AreUnits, AtWords, begun, frame_begun, HasRead, IsOpened, IsReady, opened_of, Takes, words_begun};
 
 use crate::fault::Format;
-use crate::reading::fields::take_u64;
 use crate::reading::header::dump_head_of;
-use crate::reading::parts::{OpenFrame, Opened, Parts, Reader};
+use crate::reading::numbers::take_u64;
+use crate::reading::reader::{OpenFrame, Opened, Parts, Reader};
 use crate::reading::room::{make_room, room_step};
 use crate::reading::words::push_words;
 use vs_types::{FRAME_WORDS, Fail, Memory};

@@ -9,7 +9,7 @@ ghost use Rattle.nr_trace.specs.inside.Reading.{IsAnswerIn, IsRequestIn, SpellsE
 
 use crate::event::Event;
 use crate::fields::AnswerFields;
-use crate::reading::fields::{take_u8, take_u16, take_u32, take_u64};
+use crate::reading::numbers::{take_u8, take_u16, take_u32, take_u64};
 use crate::recorded::Recorded;
 use crate::version::Version;
 use vs_types::{Answer, Config, Depth, Request, RequestFields};

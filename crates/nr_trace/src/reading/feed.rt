@@ -8,7 +8,7 @@ ghost use Rattle.nr_trace.specs.inside.Progress.{said, unit_bytes};
 ghost use Rattle.nr_trace.specs.inside.Feeding.{AreFewer, HasCome, IsCut, IsSound};
 
 use crate::fault::Format;
-use crate::reading::parts::Reader;
+use crate::reading::reader::Reader;
 use crate::trace::Trace;
 use std::alloc::Global;
 use std::marker::Model;

@@ -6,7 +6,7 @@ ghost use Rattle.vs_types.specs.Finds.{Finds};
 ghost use Rattle.nr_trace.specs.inside.Reading.{SpellsCounts, SpellsHead};
 
 use crate::fields::{Counts, DumpHead};
-use crate::reading::fields::{take_u8, take_u16, take_u32, take_u64};
+use crate::reading::numbers::{take_u8, take_u16, take_u32, take_u64};
 use crate::version::Version;
 use vs_types::{CALLS, Config, Depth, LOG_PLACES, TABLES};
 

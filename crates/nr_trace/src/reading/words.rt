@@ -4,7 +4,7 @@ ghost use Rattle.std.specs.Prelude.{◌-◌, length};
 ghost use Rattle.nr_trace.specs.inside.Progress.{AreUnits};
 ghost use Rattle.nr_trace.specs.inside.Reading.{HasWords};
 
-use crate::reading::fields::take_u64;
+use crate::reading::numbers::take_u64;
 use vs_walk::OpenDump;
 
 /// Adds the words that the run spells to the frame that is coming.

@@ -3,6 +3,7 @@ use Rattle.std.specs.Prelude.{◌≡◌, ℕ, ◌<◌, ◌≤◌, List, Some, No
 use Rattle.vs_types.specs.Depth.{levels}
 use Rattle.vs_types.specs.Entry.{meaning}
 use Rattle.vs_types.specs.declared.depth.Depth.{Depth}
+use Rattle.vs_types.specs.declared.limits.TheConstants.{MOST_LEVELS}
 use Rattle.vs_types.specs.Page.{level_of}
 use Rattle.vs_types.specs.declared.page.Page.{Page}
 use Rattle.vs_types.specs.declared.entry.Meaning.{Meaning}
@@ -27,7 +28,7 @@ pub record EndsAt (depth : Depth) (memory : Memory) (root address lowest : ℕ) 
   pub last : end.number ≡ slice_index end.path end.level
   pub written : IsWritten end.level end.word
   pub some_level : 1 ≤ end.level
-  pub few_levels : end.level ≤ 5
+  pub few_levels : end.level ≤ MOST_LEVELS
 
 -- a descent through a page table, which goes on as far as it can, has ended at this level, at this word of the table with this number
 pub record HasEnded (t : PageTable) (address level number word : ℕ) (path : List ℕ) : Type 0 where

@@ -2,7 +2,7 @@ use Rattle.std.proofs.Common.{ℕ, ◌-◌, List, [], ◌∷◌, ◌++◌, Some,
 use Rattle.vs_walk.specs.Dump.{Image}
 use Rattle.nr_trace.specs.inside.Progress.{AtWords, frame_begun, words_begun, HasRead}
 use Rattle.nr_trace.specs.declared.fault.Format.{Format}
-use Rattle.nr_trace.specs.declared.reading.parts.Reader.TheVariants.{Frame}
+use Rattle.nr_trace.specs.declared.reading.reader.Reader.TheVariants.{Frame}
 use Rattle.nr_trace.proofs.Frames.{grown, frame_taken, dump_taken}
 use Rattle.nr_trace.proofs.reading.dumps.end_frame.Goals as goal
 

@@ -3,8 +3,8 @@ use Rattle.std.specs.FinMap as finite
 use Rattle.nr_trace.specs.FirstFault.{AtFrames, IsNext}
 use Rattle.nr_trace.specs.Spelling.{frame_number}
 use Rattle.nr_trace.specs.inside.Progress.{Ahead, BehindDumps, HasRead, said}
-use Rattle.nr_trace.specs.declared.reading.parts.OpenFrame.{OpenFrame}
-use Rattle.nr_trace.specs.declared.reading.parts.Reader.TheVariants.{Frame, Words}
+use Rattle.nr_trace.specs.declared.reading.reader.OpenFrame.{OpenFrame}
+use Rattle.nr_trace.specs.declared.reading.reader.Reader.TheVariants.{Frame, Words}
 use Rattle.nr_trace.specs.declared.fault.Format.TheVariants.{BadFrame}
 use Rattle.nr_trace.proofs.LawsOfUnits.{number_64}
 use Rattle.nr_trace.proofs.Frames.{number_taken, number_refused}

@@ -9,9 +9,9 @@ ghost use Rattle.nr_trace.specs.inside.Progress.{AreInRange, AreUnits, HasRead, 
 
 use crate::fault::Format;
 use crate::reading::event::event_of;
-use crate::reading::fields::{take_u16, take_u32};
 use crate::reading::header::counts_of;
-use crate::reading::parts::{Parts, Reader};
+use crate::reading::numbers::{take_u16, take_u32};
+use crate::reading::reader::{Parts, Reader};
 use crate::reading::room::make_room;
 use crate::recorded::Recorded;
 use crate::version::Version;

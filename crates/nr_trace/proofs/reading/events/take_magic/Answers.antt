@@ -4,9 +4,9 @@ use lib.Pointwise.{pointwise}
 use Rattle.nr_trace.specs.Spelling.{magic}
 use Rattle.nr_trace.specs.inside.Progress.{Ahead}
 use Rattle.nr_trace.specs.declared.fault.Format.TheVariants.{BadMagic}
-use Rattle.nr_trace.specs.declared.reading.parts.Reader.TheVariants.{Version}
+use Rattle.nr_trace.specs.declared.reading.reader.Reader.TheVariants.{Version}
 use Rattle.nr_trace.proofs.Units.{refused}
-use Rattle.nr_trace.proofs.reading.places.take_magic.Goals as goal
+use Rattle.nr_trace.proofs.reading.events.take_magic.Goals as goal
 
 pub returns-else-eq : goal.returns-else-eq
 returns-else-eq c = λ rest.

@@ -4,7 +4,7 @@ ghost use Rattle.std.specs.Prelude.{◌≡◌, ◌≤◌, ◌<◌, ◌++◌, [],
 
 use crate::fault::Format;
 use crate::reading::dumps::{take_dump_head, take_frame_number, take_words};
-use crate::reading::places::{take_events, take_header, take_magic, take_places, take_version};
+use crate::reading::events::{take_events, take_header, take_magic, take_places, take_version};
 use crate::recorded::Recorded;
 use crate::trace::Trace;
 use crate::version::Version;

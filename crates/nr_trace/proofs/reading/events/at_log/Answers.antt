@@ -3,7 +3,7 @@ use Rattle.nr_trace.specs.FirstFault.{AtEvents}
 use Rattle.nr_trace.specs.inside.Progress.{parts_spelling}
 use Rattle.nr_trace.proofs.Spelled.{no_place}
 use Rattle.nr_trace.proofs.Units.{goes_on}
-use Rattle.nr_trace.proofs.reading.places.at_log.Goals as goal
+use Rattle.nr_trace.proofs.reading.events.at_log.Goals as goal
 
 pub returns-then-places-eq0 : goal.returns-then-places-eq0
 returns-then-places-eq0 c =

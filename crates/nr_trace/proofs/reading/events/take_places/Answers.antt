@@ -2,7 +2,7 @@ use Rattle.std.proofs.Common.{◌/◌, ℕ, List, length, ap, subst, arith}
 use Rattle.std.proofs.lemmas.List.{length-append}
 use Rattle.nr_trace.specs.inside.Reading.{ArePlaced}
 use Rattle.nr_trace.proofs.Taken.{as_many_places, places_in_range, places_taken}
-use Rattle.nr_trace.proofs.reading.places.take_places.Goals as goal
+use Rattle.nr_trace.proofs.reading.events.take_places.Goals as goal
 
 pub at_log-requires-clause-in_range : goal.at_log-requires-clause-in_range
 at_log-requires-clause-in_range c =

@@ -6,7 +6,7 @@ use Rattle.nr_trace.specs.inside.Progress.{IsFault}
 use Rattle.nr_trace.specs.inside.Reading.{AreRecorded, IsBadEvent}
 use Rattle.nr_trace.specs.declared.event.Event.{Event}
 use Rattle.nr_trace.proofs.Taken.{as_many_events, events_in_range, events_taken, events_refused}
-use Rattle.nr_trace.proofs.reading.places.take_events.Goals as goal
+use Rattle.nr_trace.proofs.reading.events.take_events.Goals as goal
 
 pub returns-in_err-push_events : goal.returns-in_err-push_events
 returns-in_err-push_events c =

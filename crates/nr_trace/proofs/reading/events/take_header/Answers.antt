@@ -4,7 +4,7 @@ use Rattle.nr_trace.specs.FirstFault.{IsCounts, AtLog}
 use Rattle.nr_trace.specs.Spelling.{counts}
 use Rattle.nr_trace.specs.declared.fault.Format.TheVariants.{BadCount}
 use Rattle.nr_trace.proofs.Units.{refused}
-use Rattle.nr_trace.proofs.reading.places.take_header.Goals as goal
+use Rattle.nr_trace.proofs.reading.events.take_header.Goals as goal
 
 pub returns-in-None : goal.returns-in-None
 returns-in-None c = λ rest.

@@ -1,6 +1,6 @@
 use Rattle.std.proofs.Common.{rules, arith}
 use Rattle.nr_trace.proofs.Taken.{one_recorded, recorded_fit}
-use Rattle.nr_trace.proofs.reading.places.push_events.Goals as goal
+use Rattle.nr_trace.proofs.reading.events.push_events.Goals as goal
 
 pub overflow_cast-index : goal.overflow_cast-index
 overflow_cast-index c =
