@@ -115,7 +115,8 @@ pub fn explained_read(
     read: Result<Trace, Fail<Format>>,
     as_json: bool,
 ) -> Result<Report, Memory>
-    ensures { (bytes : List ℕ) → Reads bytes read → IfOk result (λ report. IsExplained as_json bytes (string_bytes report.text) report.status) }
+    ensures { (bytes : List ℕ) → Reads bytes read → IfOk result (λ report.
+        IsExplained as_json bytes (string_bytes report.text) report.status) }
 {
     let explanation = explain_read(alloc, read)?;
     let text = told_explanation(alloc, as_json, &explanation)?;
@@ -138,7 +139,8 @@ pub fn explain_io<R: Read, W: Write>(
     writer: &mut W,
     as_json: bool,
 ) -> Result<u8, ProgFault>
-    ensures ok { IfOk result (WritesReport (IsExplained as_json) (R.remaining reader.old) (W.contents writer.old) (W.contents writer.new)) }
+    ensures ok { IfOk result (WritesReport (IsExplained as_json) (R.remaining reader.old)
+        (W.contents writer.old) (W.contents writer.new)) }
     ensures err { IfErr result IsEndFault }
     ensures alone { WritesAnswersAlone writer.old writer.new result }
     ensures few { HasReadFew (R.remaining reader.old) (R.remaining reader.new) }
