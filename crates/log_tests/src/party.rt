@@ -50,8 +50,15 @@ pub trait OfLog {
 impl OfLog for Brand {
     ghost use Rattle.std.specs.Prelude.{[]};
 
-    ghost log = { record { words = 0; slots = 0; views_name = 0; atom = 0; block = 0; offset = 0;
-        slot_names = [] } };
+    ghost log = { record {
+      words = 0;
+      slots = 0;
+      views_name = 0;
+      atom = 0;
+      block = 0;
+      offset = 0;
+      slot_names = [];
+    } };
 }
 
 /// A log and one of its passes. Contracts see what the pass knows.

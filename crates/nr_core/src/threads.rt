@@ -59,7 +59,7 @@ impl Core {
     pub(crate) fn lock_of(&self, thread: u16) -> Option<u8>
         ensures { MatchOption result
             ((go : states.Thread → ℕ → states.Replica → Option states.State)
-                → by_holder self.now thread go ≡ None)
+            → by_holder self.now thread go ≡ None)
             (HoldsLock self.now thread) }
     {
         let holds = self.holds(thread)?;

@@ -42,8 +42,11 @@ impl<S: FrameStore> Model for Replica<S> {
 
     ghost Value = { ReplicaState };
 
-    ghost view = { λ r. record { depth = r.space.depth; tables = r.space.limit;
-        entries = entries_told r.told.items } };
+    ghost view = { λ r. record {
+      depth = r.space.depth;
+      tables = r.space.limit;
+      entries = entries_told r.told.items;
+    } };
 
     ghost invariant = { λ r. IsReplica r.space r.told.items (vec_capacity r.told) };
 }
@@ -164,7 +167,7 @@ impl<S: FrameStore> Replica<S> {
         ensures told { MatchOption result (length self.now.entries ≤ place)
             (λ told. (slice_get self.now.entries place ≡ Some told.0)
             × (told.1
-                ≡ answer_at self.now.depth self.now.tables self.now.entries place told.0.op)) }
+            ≡ answer_at self.now.depth self.now.tables self.now.entries place told.0.op)) }
         ensures within { IfSome result (λ _. place < LOG_PLACES) }
     {
         let told = self.told.get(place as usize)?;

@@ -31,5 +31,5 @@ impl<J: LogName, K: ReplicasName> Promise<Worker<J>> for Finished<J, K> {
     ghost use Rattle.nr_serve.specs.inside.Working.{IsDone};
 
     ghost kept_by = { λ promise worker.
-            IsDone promise.job.value.pen.clock K.log promise.job.value worker };
+        IsDone promise.job.value.pen.clock K.log promise.job.value worker };
 }

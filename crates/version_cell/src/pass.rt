@@ -20,8 +20,12 @@ impl<V, const N: usize> Model for Pass<V, N> {
 
     ghost Value = { CellPass V };
 
-    ghost view = { λ p. record { cell = p.seat.table_id; number = p.seat.id;
-        view = p.seat.me.0.client; words = p.words } };
+    ghost view = { λ p. record {
+      cell = p.seat.table_id;
+      number = p.seat.id;
+      view = p.seat.me.0.client;
+      words = p.words;
+    } };
 
     ghost invariant = { λ p. p.seat.me.0.stage ≡ Seen p.version p.version p.words };
 }

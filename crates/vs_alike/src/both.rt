@@ -56,8 +56,11 @@ impl<S: FrameStore + Drop> Both<S> {
     pub fn new(alloc: Global, store: S, depth: Depth) -> Result<Both<S>, NoRoot>
         requires { S.frames store ≡ finite.empty }
         ensures empty { IfOk result (λ both.
-            let empty : BoundedSpace = record { depth = depth; limit = S.size store;
-            space = no_pages } in both.plain ≡ empty) }
+            let empty : BoundedSpace = record {
+              depth = depth;
+              limit = S.size store;
+              space = no_pages;
+            } in both.plain ≡ empty) }
         ensures alike { IfOk result (λ both. AreAlike both.table both.plain) }
         ensures base { IfOk result (λ both. both.table.base ≡ S.base store) }
         ensures no_root { OnErr result (S.size store ≡ 0) }

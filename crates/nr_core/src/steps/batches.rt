@@ -124,7 +124,7 @@ impl Core {
         ensures extended { (before : states.Replica)
             → slice_get self.old.replicas replica ≡ Some before
             → MatchResult result (λ _. self.new ≡ record self.old
-                { log = self.old.log ++ map (λ update. update.entry) before.batch })
+            { log = self.old.log ++ map (λ update. update.entry) before.batch })
             (λ _. self.new ≡ self.old) }
     {
         match push_entries(&mut self.log, &self.replicas[usize::from(replica)].batch) {
