@@ -235,7 +235,10 @@ fn gathered(rt: HostRuntime) -> Result<(), Fail> {
     assert_eq!(rt; gathered.number(3), 5);
     assert!(rt; gathered.words(1).is_none());
     let words = gathered.words(4).ok_or("frame 4")?;
-    assert_eq!(rt; (words.word(0), words.word(1), words.word(511)), (0x5007, 0, 0));
+    assert_eq!(rt;
+        (words.word(0), words.word(1), words.word(511)),
+        (0x5007, 0, 0)
+    );
     Ok(())
 }
 
@@ -267,9 +270,15 @@ fn frame_by_words(rt: HostRuntime) -> Result<(), Fail> {
     let dump = dump.end_frame();
     assert_eq!(rt; (dump.applied(), dump.root(), dump.count()), (7, 1, 2));
     let words = dump.words(1).ok_or("frame 1")?;
-    assert_eq!(rt; (words.word(0), words.word(1), words.word(511)), (0x2007, 0, 0));
+    assert_eq!(rt;
+        (words.word(0), words.word(1), words.word(511)),
+        (0x2007, 0, 0)
+    );
     let words = dump.words(2).ok_or("frame 2")?;
-    assert_eq!(rt; (words.word(0), words.word(1), words.word(511)), (0, 1, 511));
+    assert_eq!(rt;
+        (words.word(0), words.word(1), words.word(511)),
+        (0, 1, 511)
+    );
     assert_eq!(rt; (words.next_nonzero(0), words.next_nonzero(512)), (1, 512));
     Ok(())
 }

@@ -1,15 +1,13 @@
 -- Words with zeros before them and behind.
-use Rattle.std.proofs.Common.{◌≡◌, ◌≢◌, ℕ, zero, suc, ◌+◌, ◌-◌, ◌^◌, ◌<◌, ◌≤◌, List, [], ◌∷◌, ◌++◌, length, take, drop, map, get_or, refl, inl, inr, sym, ap, subst, ◌∙◌}
+use Rattle.std.proofs.Common.{◌≡◌, ℕ, zero, suc, ◌+◌, ◌-◌, ◌^◌, ◌<◌, ◌≤◌, List, [], ◌∷◌, ◌++◌, length, take, drop, map, get_or, refl, sym, ap, ◌∙◌}
 use Rattle.std.proofs.Common.{arith, append_assoc}
-use Rattle.std.specs.Prelude.{All, replicate, min, ◌⊎◌}
+use Rattle.std.specs.Prelude.{All, replicate}
 use Rattle.std.proofs.Math.Seq.{drop-append_seam}
-use Rattle.std.proofs.lemmas.Bool.{cases_lt}
 use Rattle.std.proofs.lemmas.List.{take-append-le, drop-append-le, length-drop, length-append, length-replicate, length-map, take_all, append-nil, replicate_more, replicate-append-replicate, get_or-replicate, get_or_append_left, get_or-append_right}
-use Rattle.std.proofs.lemmas.List.Elements.{All-head, All-tail, All-append, All-replicate, All-weaker, All-get_or}
+use Rattle.std.proofs.lemmas.List.Elements.{All-head, All-tail, All-append, All-replicate, All-weaker}
 use Rattle.vs_types.specs.declared.frame.TheConstants.{FRAME_WORDS}
 use Rattle.vs_types.specs.Frame.{IsFrame}
 use Rattle.vs_walk.specs.inside.Kept.{among, spread, words_at, IsSpan}
-use Rattle.vs_walk.specs.inside.Traversed.{AreZeros}
 use Rattle.vs_walk.specs.declared.dump.Span.{Span}
 
 pub length_among : (before : ℕ) (words : List ℕ) (behind : ℕ) → length (among before words behind) ≡ before + length words + behind
@@ -48,33 +46,6 @@ zero_behind before words behind i low =
     get_or-append_right (replicate before 0) (words ++ replicate behind 0) before i 0 (length-replicate {A = ℕ} before 0) (omega (arith, low))
     ∙ get_or-append_right words (replicate behind 0) (length words) (i - before) 0 refl (omega (arith, low))
     ∙ zero_at behind (i - before - length words)
-
--- a word among zeros that is 0, where some of these words are
-pub zero_among : (before : ℕ) (words : List ℕ) (from place i : ℕ) → AreZeros words from place → (before ≤ i → from ≤ i - before)
-    → (before ≤ i → i - before < length words → i - before < place) → get_or (spread before words) i 0 ≡ 0
-zero_among before words from place i zeros behind ahead =
-    elim (cases_lt i before) [
-      | inl lt ↦ zero_before before words (FRAME_WORDS - (before + length words)) i lt
-      | inr ge ↦ elim (cases_lt (i - before) (length words)) [
-        | inl lt ↦ word_among before words (FRAME_WORDS - (before + length words)) i ge lt ∙ zeros (i - before) (behind ge) (ahead ge lt)
-        | inr past ↦ zero_behind before words (FRAME_WORDS - (before + length words)) i (omega (arith, ge, past))
-      ]
-    ]
-
--- the first word from an index on that is not 0, by that among the words between the zeros
-pub zeros_up_to : (before : ℕ) (words : List ℕ) (start from place end : ℕ) → from ≡ min (start - before) (length words) → AreZeros words from place
-    → end ≤ before + place ⊎ length words ≤ place → AreZeros (spread before words) start end
-zeros_up_to before words start from place end is zeros far i low lt =
-    zero_among before words from place i zeros (λ ge. omega (arith, is, low)) (λ ge within. elim far [
-      | inl near ↦ omega (arith, near, lt, ge)
-      | inr past ↦ omega (arith, past, within)
-    ])
-
-pub word_found : (before : ℕ) (words : List ℕ) (place : ℕ) → place < length words → get_or (spread before words) (before + place) 0 ≡ get_or words place 0
-word_found before words place lt =
-    let at : before + place - before ≡ place = omega arith in
-    word_among before words (FRAME_WORDS - (before + length words)) (before + place) (omega arith) (omega (arith, lt, at))
-    ∙ ap (λ n. get_or words n 0) at
 
 pub All_among : (P : ℕ → Type 0) (before : ℕ) (words : List ℕ) (behind : ℕ) → P 0 → All P words → All P (among before words behind)
 All_among P before words behind none all =
@@ -140,9 +111,6 @@ pub pushed_words : (words some : List ℕ) (span : Span) → span.start ≡ leng
 pushed_words words some span start len =
     let behind : drop span.start (words ++ some) ≡ some = ap (λ n. drop n (words ++ some)) start ∙ drop-append_seam words some in
     last_words (words ++ some) span (omega (arith, ap length behind, len)) ∙ ap (spread span.before) behind
-
-pub span_at : (end : ℕ) (spans : List Span) (k : ℕ) (d : Span) → All (IsSpan end) spans → k < length spans → IsSpan end (get_or spans k d)
-span_at end spans k d all lt = All-get_or (IsSpan end) spans k d lt all
 
 -- ---- the numbers of frames, and their words
 

@@ -11,6 +11,9 @@ use Rattle.nr_explain.proofs.paths.+go_on.Goals as goal
 use Rattle.nr_explain.proofs.paths.+go_on.Goals.{else-number-target-via-then-number-target+else-is_met, else-number-target-via-else-number-target}
 use Rattle.nr_explain.proofs.paths.+go_on.Goals.{in-Table+in_ok-push+in_ok-go_on+else-branch, in_default-read}
 
+abbrev step_of : ℕ → ℕ → ℕ → ℕ → Step
+step_of level number index word = record { level = level; frame = number; index = index; word = word }
+
 pub returns-in_default : goal.returns-in_default
 returns-in_default t c =
     let memory = c.args.dump.now.frames in
@@ -38,7 +41,8 @@ loop-index-preserved t c =
     elim c.match-read.branch [
       | in-Table+in_ok-push+in_ok-go_on+else-branch w ↦
           let step : Step = entry_of level number words index in
-          let pushed : w.push.new.self.items ≡ begun ++ step ∷ [] = w.in_ok-push.ensures.items ∙ ap (λ (l : List Step). l ++ step ∷ []) old.way in
+          let pushed : w.push.new.self.items ≡ begun ++ step ∷ [] = w.in_ok-push.ensures.items
+          ∙ ap (λ (word : ℕ). c.loop-index.way.items ++ step_of level number index word ∷ []) c.word-word.ensures ∙ ap (λ (l : List Step). l ++ step ∷ []) old.way in
           let searched = subst (λ (b : Bool). IsSearched memory target (level - 1) w.in-Table.next w.push.new.self.items w.go_on.new.way.items b)
           w.if-branch.false w.in_ok-go_on.ensures in
           let whole : w.go_on.new.way.items ≡ begun ++ step ∷ [] = searched.0 ∙ pushed in

@@ -1,4 +1,4 @@
-use Rattle.std.proofs.Common.{sym, ap, ◌∙◌, arith}
+use Rattle.std.proofs.Common.{sym, ◌∙◌, arith}
 use Rattle.nr_trace.proofs.Framed.{is_some, frame_put, dump_put, few_fit}
 use Rattle.nr_trace.proofs.writing.dumps.put_dump.Goals as goal
 

@@ -9,7 +9,7 @@ loop-index-preserved c =
     let old = c.args.out.now.items in
     let words = c.args.words.now in
     let index = c.loop-index.index in
-    let within : index < length words = omega (arith, c.loop-index-test.true, c.len.ensures.reads) in
+    let within : index < length words = omega (arith, c.loop-index-test.true, c.len-index-end.ensures.reads) in
     c.in_ok-put_u64.ensures ∙ ap (λ (l : List ℕ). l ++ to_be_bytes w64 c.word.result) c.loop-index.invariant
     ∙ ap (λ (w : ℕ). (old ++ flat_map (to_be_bytes w64) (take index words)) ++ to_be_bytes w64 w) c.word.ensures
     ∙ flat_map_more (to_be_bytes w64) old (take index words) (get_or words index 0)
@@ -18,4 +18,4 @@ loop-index-preserved c =
 pub returns : goal.returns
 returns c =
     c.loop-index.invariant ∙ ap (λ (ws : List ℕ). c.args.out.now.items ++ flat_map (to_be_bytes w64) ws)
-    (take_all c.loop-index.index c.args.words.now (omega (arith, c.loop-index-test.false, c.len.ensures.reads)))
+    (take_all c.loop-index.index c.args.words.now (omega (arith, c.loop-index-test.false, c.len-index-end.ensures.reads)))

@@ -4,7 +4,7 @@ use Rattle.std.specs.FinMap as finite
 use Rattle.std.specs.Ordering.{nat_cmp}
 use Rattle.vs_types.specs.declared.limits.TheConstants.{TABLES}
 use Rattle.vs_walk.specs.Dump.{Image}
-use Rattle.vs_walk.specs.inside.Kept.{paired, spread}
+use Rattle.vs_walk.specs.inside.Kept.{paired}
 use Rattle.vs_walk.specs.declared.dump.Span.{Span}
 use Rattle.vs_walk.proofs.Dumps.{from_sorted_push, entries_stand, numbers_push, count_push}
 use Rattle.vs_walk.proofs.Kept.{frame_pushed, kept_pushed}

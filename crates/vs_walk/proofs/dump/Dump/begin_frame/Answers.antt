@@ -2,7 +2,7 @@ use Rattle.std.proofs.Common.{◌≡◌, ◌<◌, length, map, sym, ap, subst, �
 use Rattle.std.specs.Prelude.{All}
 use Rattle.std.specs.FinMap as finite
 use Rattle.vs_types.specs.declared.limits.TheConstants.{TABLES}
-use Rattle.vs_walk.specs.inside.Kept.{paired, AreOpen}
+use Rattle.vs_walk.specs.inside.Kept.{paired}
 use Rattle.vs_walk.proofs.Dumps.{entries_stand}
 use Rattle.vs_walk.proofs.Kept.{frame_begins}
 use Rattle.vs_walk.proofs.dump.Dump.begin_frame.Goals as goal
