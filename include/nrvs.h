@@ -10,8 +10,10 @@
  * What the caller has to keep, which no call can test:
  *   - pointers are not null, aligned as their types are, and to as many elements as is said; none overlaps another;
  *   - of a handle that nrvs_table_new made, neither it nor what was lent to that call is written by others, and each further call is given
- *     the same frames and marks (another number of them is refused). A processor that walks the frames sets accessed and dirty flags in them, bits 5 and 6:
- *     no call looks at these, and their answers stay the same, which is tested; what is proved is proved of words without them;
+ *     the same frames and marks (another number of them is refused). But a processor that walks the frames may set accessed and dirty
+ *     flags in them, bits 5 and 6 of words whose bit 0 is 1, and the caller may clear these: what the calls answer stays the same, as is
+ *     proved of flags that change between calls. A protect clears those of its page. Of flags that are set while a call runs nothing is
+ *     proved;
  *   - a handle that was not made does not have the magic word by chance: let it be 0;
  *   - calls with one handle, and with memory that is lent to it, come one after the other. A processor may walk the frames meanwhile;
  *   - what a processor keeps in its TLB and paging-structure caches is invalidated after an unmap and a protect, and before a further

@@ -2,3 +2,4 @@ pub mod Status
 pub mod Reply
 pub mod Table
 pub mod Call
+pub mod Flags

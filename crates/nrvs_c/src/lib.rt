@@ -6,6 +6,7 @@
 mod asked;
 mod codes;
 mod exports;
+pub mod laws;
 mod reply;
 mod status;
 mod table;

@@ -22,3 +22,5 @@ pub mod Searches
 pub mod Maps
 pub mod News
 pub mod Traversed
+pub mod FlaggedWords
+pub mod Flagged

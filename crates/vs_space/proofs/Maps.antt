@@ -247,7 +247,8 @@ module _ {t : PageTable} (table : IsPageTable t) {page : Page} (good : IsPage t.
           filled = filled_by (but_write opened.filled here w ends) good.canonical
               (λ none. let walked = walk_on page.base (λ i from to. refl) in cc);
           reached = reached_write here w (ap table_in opened.absent)
-              (written_leaf (level_of page.size) w page.phys page.rights leads (leaf_at_level page.size w page.phys page.rights is_word))
+              (written_leaf (level_of page.size) w page.phys page.rights (level_some page.size) leads
+              (leaf_at_level page.size w page.phys page.rights is_word))
               opened.all_reached;
           whole = whole_write here w;
           root_fits = table.root_fits;

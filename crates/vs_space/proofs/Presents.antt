@@ -10,14 +10,13 @@ use Rattle.vs_arena.specs.Store.{zeros}
 use Rattle.vs_walk.specs.Memory.{Memory}
 use Rattle.vs_space.specs.Held.{word_at, with_word}
 use Rattle.vs_space.specs.Path.{found_at}
-use Rattle.vs_space.specs.Written.{word_for}
 use Rattle.vs_space.specs.Tree.{AreWritten}
 use Rattle.vs_space.proofs.Numbered.{get-insert_same, get-insert_other}
 use Rattle.vs_space.proofs.Paths.{words_found}
 use Rattle.vs_space.proofs.Writes.{get_written_other}
 use Rattle.vs_space.proofs.Trees.{one_meaning}
 use Rattle.vs_space.proofs.Links.{zeros_are}
-use Rattle.vs_space.proofs.Written.{word_alike}
+use Rattle.vs_space.proofs.Written.{word_alike, written_for}
 use Rattle.vs_space.proofs.Descents.{entry_read}
 use Rattle.vs_space.proofs.Prunes.{word_in}
 
@@ -36,7 +35,7 @@ pub absent_word : (level : ℕ) (m : Memory) (n a : ℕ) {index : ℕ} → AreWr
 absent_word level m n a written found is =
     let words = words_found level m n a entry.Absent found in
     let here = word_in m n (index_at level a) words.0 words.1 in
-    let zero : slice_index words.0 (index_at level a) ≡ 0 = (written (index_at level a) _ here).is ∙ ap (word_for level) words.2 in
+    let zero : slice_index words.0 (index_at level a) ≡ 0 = written_for (written (index_at level a) _ here) words.2 in
     ap (λ i. word_at m n i) is ∙ here ∙ ap Some zero
 
 -- a frame in use isn't one that is free

@@ -176,7 +176,7 @@ module _ {t : PageTable} (table : IsPageTable t) {base : ℕ} (good : IsBase t.d
     tree = tree_write here w ends;
     filled = filled_by (but_write (but_none base table.filled) here w ends) good.canonical
         (λ none. let walked = walk_to_leaf here w leads met.some base (λ i from to. refl) in cc);
-    reached = reached_write here w (ap table_in met.found) (written_leaf level w phys rights leads is_word) table.reached;
+    reached = reached_write here w (ap table_in met.found) (written_leaf level w phys rights met.some leads is_word) table.reached;
     whole = whole_write here w;
     root_fits = table.root_fits;
     some_space = ((step t.depth 0 table.some_space.0 (Protect base rights)).space, space_is table.some_space.1 0);

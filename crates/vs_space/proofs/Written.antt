@@ -1,5 +1,5 @@
 -- Words stay written as entries of their tables' levels.
-use Rattle.std.proofs.Common.{◌≡◌, ◌≢◌, ℕ, ◌<◌, List, [], Option, Some, ⊎_elim, refl, sym, ap, subst, ◌∙◌, arith}
+use Rattle.std.proofs.Common.{◌≡◌, ◌≢◌, ℕ, zero, suc, ◌%◌, ◌<◌, ◌≤◌, Bool, List, [], Option, Some, ⊎_elim, refl, sym, ap, subst, ◌∙◌, arith}
 use Rattle.std.specs.Prelude.{IsSome, option_map, unwrap_or, slice_index, slice_set}
 use Rattle.std.proofs.lemmas.Bool.{cases_eq}
 use Rattle.std.proofs.lemmas.List.{get_or-set_same, get_or-set_other}
@@ -18,6 +18,7 @@ use Rattle.vs_walk.specs.Walk.{all_rights}
 use Rattle.vs_space.specs.Held.{word_at, with_word}
 use Rattle.vs_space.specs.Path.{table_at, entry_in, HasPresent}
 use Rattle.vs_space.specs.Tree.{IsTree, IsReached, AreWritten}
+use Rattle.vs_space.specs.Flags.{flags_in}
 use Rattle.vs_space.specs.Written.{word_for, IsWritten}
 use Rattle.vs_space.proofs.Writes.{IsTreeAt, used_at, after_write, words_in, get_written, get_written_other}
 use Rattle.vs_space.proofs.Trees.{one_meaning}
@@ -28,15 +29,39 @@ use Rattle.vs_space.proofs.Links.{zeros_are}
 pub written_zero : (level : ℕ) → IsWritten level 0
 written_zero level = record { is = refl }
 
-written_as : (level word : ℕ) (e : Meaning) → meaning level word ≡ e → word ≡ word_for level e → IsWritten level word
-written_as level word e says is = record { is = is ∙ ap (word_for level) (sym says) }
+-- a word that is written, by what it says
+pub written_for : {level word : ℕ} {e : Meaning} → IsWritten level word → meaning level word ≡ e → word ≡ word_for level e (flags_in word)
+written_for {level} {word} written says = written.is ∙ ap (λ e. word_for level e (flags_in word)) says
+
+written_as : (level word : ℕ) (e : Meaning) → meaning level word ≡ e → word ≡ word_for level e (flags_in word) → IsWritten level word
+written_as level word e says is = record { is = is ∙ ap (λ e. word_for level e (flags_in word)) (sym says) }
+
+-- the words that are written have neither flag
+no_flags_table : (word number : ℕ) → word ≡ table_word number → flags_in word ≡ 0
+no_flags_table word number is = omega (arith, is)
+
+no_flags_leaf : (size : Size) (phys : ℕ) (w u x : Bool) → phys % 4096 ≡ 0 → flags_in (leaf_word size phys (record { write = w; user = u; exec = x })) ≡ 0
+no_flags_leaf K4 phys w u x aligned = grind arith
+no_flags_leaf M2 phys w u x aligned = grind arith
+no_flags_leaf G1 phys w u x aligned = grind arith
+
+-- a page is aligned at least to frames
+leaf_aligned : (level word phys : ℕ) (own : Rights) → 1 ≤ level → meaning level word ≡ entry.Leaf phys own → phys % 4096 ≡ 0
+leaf_aligned zero word phys own some says = absurd (omega (arith, some))
+leaf_aligned (suc zero) word phys own some says = grind arith
+leaf_aligned (suc (suc zero)) word phys own some says = grind arith
+leaf_aligned (suc (suc (suc zero))) word phys own some says = grind arith
+leaf_aligned (suc (suc (suc (suc level)))) word phys own some says = grind arith
 
 pub written_table : (level word number : ℕ) → meaning level word ≡ entry.Table number all_rights → word ≡ table_word number → IsWritten level word
-written_table level word number says is = written_as level word (entry.Table number all_rights) says is
+written_table level word number says is = written_as level word (entry.Table number all_rights) says (omega (arith, is, no_flags_table word number is))
 
-pub written_leaf : (level word phys : ℕ) (rights : Rights) → meaning level word ≡ entry.Leaf phys rights → word ≡ leaf_word (size_at level) phys rights
-    → IsWritten level word
-written_leaf level word phys rights says is = written_as level word (entry.Leaf phys rights) says is
+pub written_leaf : (level word phys : ℕ) (rights : Rights) → 1 ≤ level → meaning level word ≡ entry.Leaf phys rights
+    → word ≡ leaf_word (size_at level) phys rights → IsWritten level word
+written_leaf level word phys rights some says is =
+    let none : flags_in word ≡ 0 = ap flags_in is
+    ∙ no_flags_leaf (size_at level) phys rights.write rights.user rights.exec (leaf_aligned level word phys rights some says) in
+    written_as level word (entry.Leaf phys rights) says (omega (arith, is, none))
 
 pub size_same : (size : Size) → size_at (level_of size) ≡ size
 size_same K4 = refl
@@ -117,12 +142,12 @@ entry_other level m n i words got are low other =
       within = low;
       present = λ absent.
           let says : meaning level (slice_index words i) ≡ entry.Absent = one_meaning _ _ (ap (option_map (meaning level)) (sym here) ∙ absent) in
-          other ((are i (slice_index words i) here).is ∙ ap (word_for level) says);
+          other (written_for (are i (slice_index words i) here) says);
     }
 
 -- no word that is written has a reserved bit
 pub never_reserved : (level word : ℕ) → IsWritten level word → meaning level word ≡ entry.Reserved → ⊥
 never_reserved level word written reserved =
-    let none : word ≡ 0 = written.is ∙ ap (word_for level) reserved in
+    let none : word ≡ 0 = written_for written reserved in
     let wrong : entry.Reserved ≡ entry.Absent = sym reserved ∙ ap (meaning level) none in
     cc

@@ -1,5 +1,6 @@
 pub mod Held
 pub mod Path
+pub mod Flags
 pub mod Written
 pub mod Table
 pub mod Tree

@@ -4,6 +4,7 @@
 #![tactic(auto)]
 
 mod descent;
+pub mod laws;
 mod space;
 mod tables;
 mod word;

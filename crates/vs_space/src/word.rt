@@ -19,7 +19,8 @@ const PAGE_SIZE: u32 = 7;
 
 const NO_FETCH: u32 = 63;
 
-/// What a word says that is written as an entry of a table of this level: no reserved bit is looked for.
+/// What a word says that is written as an entry of a table of this level, whichever of its flags a processor has set since:
+/// no reserved bit is looked for.
 #[inline]
 pub(crate) fn read_written(level: u8, word: u64) -> Meaning
     requires some_level { 1 ≤ level }
