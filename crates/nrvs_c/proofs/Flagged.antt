@@ -1,15 +1,12 @@
 -- Lent memory in whose words the accessed flag and the dirty flag change: the page table in it stays.
-use Rattle.std.proofs.Common.{◌≡◌, ℕ, zero, suc, ◌<◌, ◌≤◌, ◌^◌, Bool, true, false, List, [], ◌∷◌, length, get_or, take, replicate, Some, None, ⊎_elim, refl, sym, ap, subst, ◌∙◌, arith}
+use Rattle.std.proofs.Common.{◌≡◌, ℕ, zero, suc, ◌<◌, Bool, true, false, List, [], ◌∷◌, length, get_or, take, Some, None, refl, sym, ap, subst, ◌∙◌, arith}
 use Rattle.std.specs.Prelude.{is_some, slice_index, slice_index_or, All, if◌then◌else◌, ◌+◌}
-use Rattle.std.specs.FinMap as finite
 use Rattle.std.specs.List.{AllZip}
-use Rattle.std.proofs.lemmas.Bool.{cases_lt}
-use Rattle.std.proofs.lemmas.List.{get_or_past}
 use Rattle.std.proofs.lemmas.List.Elements.{length_all_zip, AllZip-get_or}
 use Rattle.vs_types.specs.Frame.{IsFrame}
 use Rattle.vs_types.specs.Space.{Space}
-use Rattle.vs_arena.specs.Store.{Store, Lenders, zeros}
-use Rattle.vs_arena.specs.Marked.{marked, marked_frames, IsGivenBack, IsArena}
+use Rattle.vs_arena.specs.Store.{Store, Lenders}
+use Rattle.vs_arena.specs.Marked.{marked_frames, IsGivenBack, IsArena}
 use Rattle.vs_arena.specs.Lent.{frames_in}
 use Rattle.vs_arena.specs.LentMarks.{IsLentArena, uses_of_first}
 use Rattle.vs_arena.specs.declared.mark.FrameMark.{FrameMark}
@@ -19,7 +16,7 @@ use Rattle.vs_space.specs.Table.{IsTableOf}
 use Rattle.vs_space.proofs.FlaggedWords.{flagged_fits, flagged_zeros}
 use Rattle.vs_space.proofs.Flagged.{flagged_len, flagged_kept, flagged_space}
 use Rattle.nrvs_c.specs.Flags.{IsLentSameButFlags}
-use Rattle.nrvs_c.specs.Table.{depth_in, table_in, lent_status, IsUsable, IsOpen}
+use Rattle.nrvs_c.specs.Table.{depth_in, table_in, lent_status}
 use Rattle.nrvs_c.specs.Call.{IsSound}
 use Rattle.nrvs_c.specs.declared.table.Table.{Table}
 
