@@ -6,3 +6,4 @@ pub mod Simulations
 pub mod ServedRuns
 pub mod RunTexts
 pub mod NoFloats
+pub mod Joins

@@ -11,9 +11,9 @@ use crate::fact_json::{
 use crate::run_text::answer_text;
 use crate::text::{format_text, walk_words};
 use nr_explain::{
-    Counts, Difference, EarlyCall, Evidence, LongPrefix, Misplaced, MissingTable, NoUpdate, OpenCalls,
-    OtherAnswer, PastEnd, ReservedEntry, SharedTable, ShortPrefix, StrayReply, StrayTable,
-    TwoPlaces, TwoReplies,
+    Counts, Difference, EarlyCall, Evidence, LongPrefix, Misplaced, MissingTable, NoUpdate,
+    OpenCalls, OtherAnswer, PastEnd, ReservedEntry, SharedTable, ShortPrefix, StrayReply,
+    StrayTable, TwoPlaces, TwoReplies,
 };
 use nr_trace::Format;
 use serde_json::{Value, json};

@@ -11,9 +11,9 @@ use crate::fact_text::{
 };
 use crate::text::walk_text;
 use nr_explain::{
-    Counts, Difference, EarlyCall, Evidence, LongPrefix, Misplaced, NoUpdate, OpenCalls, OtherAnswer,
-    PastEnd, ReservedEntry, SharedTable, ShortPrefix, StrayReply, StrayTable, TwoPlaces,
-    TwoReplies,
+    Counts, Difference, EarlyCall, Evidence, LongPrefix, Misplaced, NoUpdate, OpenCalls,
+    OtherAnswer, PastEnd, ReservedEntry, SharedTable, ShortPrefix, StrayReply, StrayTable,
+    TwoPlaces, TwoReplies,
 };
 use std::alloc::{AllocError, Global};
 
