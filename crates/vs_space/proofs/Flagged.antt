@@ -140,8 +140,7 @@ module _ {old new : Memory} (is : AreSameButFlags old new) where
     flagged_reached high reached = record {
       path = λ n used.
           let was = reached.path n (used_before n used) in
-          let here = both n (used_before n used) in
-          (
+          let here = both n (used_before n used) in (
             was.0,
             was.1,
             flagged_table was.0 was.1 ∙ was.2,

@@ -1,10 +1,10 @@
 -- No word is given an accessed flag or a dirty flag.
-use Rattle.std.proofs.Common.{◌≡◌, ◌≢◌, ℕ, ◌<◌, List, [], Some, None, ⊎_elim, refl, sym, ap, subst, ◌∙◌, arith}
+use Rattle.std.proofs.Common.{◌≡◌, ◌≢◌, ℕ, ◌<◌, ◌≤◌, [], Some, None, ⊎_elim, refl, sym, ap, subst, ◌∙◌, arith}
 use Rattle.std.specs.Prelude.{IsSome, unwrap_or, slice_index, slice_set}
 use Rattle.std.proofs.lemmas.Bool.{cases_eq}
 use Rattle.std.proofs.lemmas.List.{get_or-set_same, get_or-set_other}
 use Rattle.std.specs.FinMap as finite
-use Rattle.vs_types.specs.Entry.{meaning, size_at, table_word, leaf_word}
+use Rattle.vs_types.specs.Entry.{meaning, size_at, leaf_word}
 use Rattle.vs_types.specs.declared.page.Rights.{Rights}
 use Rattle.vs_types.specs.declared.entry.Meaning.TheVariants as entry
 use Rattle.vs_arena.specs.Store.{zeros}
@@ -30,11 +30,13 @@ plain_leaf level word phys own some says is =
 
 -- a word with neither flag is written
 pub adds_written : (m : Memory) (n i w : ℕ) → AreWhole m → IsSome (finite.get m n) → i < 512 → flags_in w ≡ 0 → AddsNoFlags m (with_word m n i w)
-adds_written m n i w whole used low plain = record { stood = λ q j word got flagged. ⊎_elim
-    (λ (same : q ≡ n). subst (λ k. word_at m k j ≡ Some word) (sym same)
-    (own j word (subst (λ k. word_at (with_word m n i w) k j ≡ Some word) same got) flagged))
-    (λ (other : q ≢ n). sym (word_alike m (with_word m n i w) q j (get_written_other m n i w q other)) ∙ got)
-    (cases_eq q n) } where
+adds_written m n i w whole used low plain = record {
+  stood = λ q j word got flagged. ⊎_elim
+      (λ (same : q ≡ n). subst (λ k. word_at m k j ≡ Some word) (sym same)
+      (own j word (subst (λ k. word_at (with_word m n i w) k j ≡ Some word) same got) flagged))
+      (λ (other : q ≢ n). sym (word_alike m (with_word m n i w) q j (get_written_other m n i w q other)) ∙ got)
+      (cases_eq q n);
+} where
   own : (j word : ℕ) → word_at (with_word m n i w) n j ≡ Some word → flags_in word ≢ 0 → word_at m n j ≡ Some word
   own j word got flagged = ⊎_elim
       (λ (same : j ≡ i).
@@ -49,20 +51,24 @@ adds_written m n i w whole used low plain = record { stood = λ q j word got fla
 
 -- a frame is taken whose words are all 0
 pub adds_taken : (m : Memory) (f : ℕ) → AddsNoFlags m (finite.insert m f zeros)
-adds_taken m f = record { stood = λ q j word got flagged. ⊎_elim
-    (λ (same : q ≡ f).
-    let clear = ap (finite.get (finite.insert m f zeros)) same ∙ get-insert_same m f zeros in
-    let none : word ≡ 0 = one_word word 0 (sym got ∙ word_of (finite.insert m f zeros) q j (Some zeros) clear ∙ ap Some (zeros_are j)) in
-    absurd (flagged (ap flags_in none)))
-    (λ (other : q ≢ f). sym (word_alike m (finite.insert m f zeros) q j (get-insert_other m f zeros q other)) ∙ got)
-    (cases_eq q f) }
+adds_taken m f = record {
+  stood = λ q j word got flagged. ⊎_elim
+      (λ (same : q ≡ f).
+      let clear = ap (finite.get (finite.insert m f zeros)) same ∙ get-insert_same m f zeros in
+      let none : word ≡ 0 = one_word word 0 (sym got ∙ word_of (finite.insert m f zeros) q j (Some zeros) clear ∙ ap Some (zeros_are j)) in
+      absurd (flagged (ap flags_in none)))
+      (λ (other : q ≢ f). sym (word_alike m (finite.insert m f zeros) q j (get-insert_other m f zeros q other)) ∙ got)
+      (cases_eq q f);
+}
 
 -- a frame is given back
 pub adds_given : (m : Memory) (f : ℕ) → AddsNoFlags m (finite.remove m f)
-adds_given m f = record { stood = λ q j word got flagged. ⊎_elim
-    (λ (same : q ≡ f).
-    let gone = ap (finite.get (finite.remove m f)) same ∙ get-remove_same m f in
-    let wrong : None ≡ Some word = sym (word_of (finite.remove m f) q j None gone) ∙ got in
-    absurd (cc))
-    (λ (other : q ≢ f). sym (word_alike m (finite.remove m f) q j (get-remove_other m f q other)) ∙ got)
-    (cases_eq q f) }
+adds_given m f = record {
+  stood = λ q j word got flagged. ⊎_elim
+      (λ (same : q ≡ f).
+      let gone = ap (finite.get (finite.remove m f)) same ∙ get-remove_same m f in
+      let wrong : None ≡ Some word = sym (word_of (finite.remove m f) q j None gone) ∙ got in
+      absurd (cc))
+      (λ (other : q ≢ f). sym (word_alike m (finite.remove m f) q j (get-remove_other m f q other)) ∙ got)
+      (cases_eq q f);
+}
