@@ -18,7 +18,8 @@ use Rattle.vs_space.proofs.Trees.{but_alike}
 use Rattle.vs_space.proofs.Links.{IsLink, found_in_zeros, still_clear, linked, old_or_new, tree_link, walk_link, table_take, walk_take, tree_take}
 use Rattle.vs_space.proofs.Links.{new_unreached, found_take}
 use Rattle.vs_space.proofs.Reached.{reached_link}
-use Rattle.vs_space.proofs.Written.{written_table}
+use Rattle.vs_space.proofs.Written.{written_table, no_flags_table}
+use Rattle.vs_space.proofs.Plain.{adds_then, adds_taken, adds_written}
 
 module _ {depth : Depth} {m : Memory} {root base level number : ℕ} (opened : IsOpen depth m root base level number) (deep : 1 < level) {f : ℕ}
     (free : finite.get m f ≡ None) (whole : AreWhole (finite.insert m f zeros)) {w : ℕ} (leads : meaning level w ≡ entry.Table f all_rights)
@@ -65,6 +66,9 @@ pub extended_on : {old m : Memory} {base last from level number : ℕ} → IsExt
     → index ≡ index_at level base → IsExtended old (with_word (finite.insert m f zeros) number index w) base last from (level - 1) f
 extended_on {old} {m} {base} {last} {from} {level} {number} extended deep le f free whole {w} {index} leads is_word is_index = record {
   in_use = written_in_use (finite.insert m f zeros) number index w f (used_some _ f zeros (get-insert_same m f zeros));
+  plain = adds_then (adds_then extended.plain (adds_taken m f))
+      (adds_written (finite.insert m f zeros) number index w whole (IsInUse-insert m f zeros number extended.in_use) (omega (arith, is_index))
+      (no_flags_table w f is_word));
   more = omega (
     arith,
     len_written (finite.insert m f zeros) number index w (IsInUse-insert m f zeros number extended.in_use),

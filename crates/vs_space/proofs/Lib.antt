@@ -5,6 +5,7 @@ pub mod Writes
 pub mod Trees
 pub mod Links
 pub mod Written
+pub mod Plain
 pub mod Counts
 pub mod Reached
 pub mod Regions

@@ -25,6 +25,7 @@ use Rattle.vs_types.proofs.Spaces.{page_at_means, insert_space}
 use Rattle.vs_walk.specs.Memory.{Memory, AreWhole}
 use Rattle.vs_walk.specs.Walk.{as_walk}
 use Rattle.vs_walk.specs.declared.walk.Walk.TheVariants.{Mapped}
+use Rattle.vs_space.specs.Flags.{flags_in}
 use Rattle.vs_space.specs.Held.{with_word}
 use Rattle.vs_space.specs.Path.{found_at, table_in, SamePath}
 use Rattle.vs_space.specs.Tree.{NothingUnder}
@@ -33,13 +34,14 @@ use Rattle.vs_space.specs.inside.Descent.{IsDescent}
 use Rattle.vs_space.specs.Table.{PageTable, IsTableStep}
 use Rattle.vs_space.specs.Invariant.{IsSpaceOf, IsPageTable}
 use Rattle.vs_space.proofs.Paths.{table_below, words_found}
-use Rattle.vs_space.proofs.Writes.{IsTreeAt, walk_off_path, len_write}
+use Rattle.vs_space.proofs.Writes.{IsTreeAt, used_at, walk_off_path, len_write}
 use Rattle.vs_space.proofs.Trees.{tree_write, walk_to_leaf, but_none, but_write, filled_by}
 use Rattle.vs_space.proofs.Reached.{reached_write, whole_write}
 use Rattle.vs_space.proofs.Regions.{walk_in, leaf_page, nothing_at, translates_changed, covers_path, path_covers}
 use Rattle.vs_space.proofs.Protects.{IsMet, faultless, own_space, space_of, never_reserved, page_here, stays}
 use Rattle.vs_space.proofs.Meets.{met_of, never_table}
 use Rattle.vs_space.proofs.Prunes.{absent_under}
+use Rattle.vs_space.proofs.Plain.{adds_then, adds_written, plain_leaf}
 use Rattle.vs_space.proofs.Written.{size_same, written_leaf, leaf_at_level}
 use Rattle.vs_space.proofs.Overlaps.{overlapped_none, overlapped_least}
 use Rattle.vs_space.proofs.TableCounts.{count_added}
@@ -255,6 +257,10 @@ module _ {t : PageTable} (table : IsPageTable t) {page : Page} (good : IsPage t.
           some_space = ((step t.depth limit table.some_space.0 (Map page)).space, space_is table.some_space.1);
         }
 
+      plain_word : flags_in w ≡ 0
+      plain_word = plain_leaf (level_of page.size) w page.phys page.rights (level_some page.size) leads
+          (leaf_at_level page.size w page.phys page.rights is_word)
+
       -- as the code has it: the entry at this index
       pub mapped : {index : ℕ} → index ≡ index_at (level_of page.size) page.base → finite.len t.memory + (level - level_of page.size) ≤ t.limit
           → IsPageTable (record t { memory = with_word m' number index w })
@@ -266,6 +272,8 @@ module _ {t : PageTable} (table : IsPageTable t) {page : Page} (good : IsPage t.
               some_space = own_space table;
               same = refl;
               unchanged = λ refused. absurd (cc);
+              plain = adds_then extended.plain
+                  (adds_written m' number (index_at (level_of page.size) page.base) w whole (used_at here) (omega arith) plain_word);
               steps = λ space is. let of = space_of table is in (sym (answer_is room of), (space_is room of).is_of);
             },
           )

@@ -30,6 +30,7 @@ use Rattle.vs_space.specs.Table.{PageTable, IsTableOf, IsTableStep}
 use Rattle.vs_space.specs.Invariant.{IsPageTable, table_in_store}
 use Rattle.vs_space.proofs.Paths.{words_found}
 use Rattle.vs_space.proofs.Regions.{IsLeafPage}
+use Rattle.vs_space.proofs.Plain.{adds_written, plain_leaf}
 use Rattle.vs_space.proofs.Protects.{IsMet, own_space, space_of, absent_none, never_reserved, page_here, unmap_none, protect_none, unmap_inside, protect_inside}
 use Rattle.vs_space.proofs.Protects.{stays, answer_is, space_is, table_new}
 
@@ -198,6 +199,8 @@ module _ {t : PageTable} (table : IsPageTable t) {base level phys : ℕ} {path :
               some_space = own_space table;
               same = refl;
               unchanged = λ refused. absurd (cc);
+              plain = adds_written t.memory (slice_index path level) (index_at level base) w table.whole (used_met table descent refl) (omega arith)
+                  (plain_leaf level w phys rights descent.above leads_here word_here);
               steps = λ space is. let of = space_of table is in (
                 sym (answer_is table good met leads_here word_here begins_here of t.limit),
                 (space_is table good met leads_here word_here begins_here of t.limit).is_of,

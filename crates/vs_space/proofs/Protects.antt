@@ -31,6 +31,7 @@ use Rattle.vs_space.proofs.Writes.{IsTreeAt, walk_off_path, len_write}
 use Rattle.vs_space.proofs.Trees.{tree_write, walk_to_leaf, but_none, but_write, filled_by}
 use Rattle.vs_space.proofs.Reached.{reached_write, whole_write}
 use Rattle.vs_space.proofs.Written.{written_leaf}
+use Rattle.vs_space.proofs.Plain.{adds_none}
 use Rattle.vs_space.proofs.Regions.{walk_in, IsLeafPage, page_path, leaf_page, nothing_at, translates_changed, path_covers}
 
 -- the space that a page table is of
@@ -113,6 +114,7 @@ stays {t} table says = record {
   some_space = own_space table;
   same = refl;
   unchanged = λ refused. refl;
+  plain = adds_none t.memory;
   steps = λ space is.
       let e = says space is in
       (sym (ap (λ (s : Stepped). s.answer) e), subst (IsTableOf t) (sym (ap (λ (s : Stepped). s.space) e)) is);

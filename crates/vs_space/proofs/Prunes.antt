@@ -14,6 +14,7 @@ use Rattle.vs_types.specs.declared.entry.Meaning.TheVariants as entry
 use Rattle.vs_walk.specs.Memory.{Memory}
 use Rattle.vs_walk.specs.Walk.{walk}
 use Rattle.vs_walk.specs.declared.walk.Walk.TheVariants.{NotMapped, Mapped, Reserved}
+use Rattle.vs_space.specs.Flags.{AddsNoFlags}
 use Rattle.vs_space.specs.Held.{word_at, with_word}
 use Rattle.vs_space.specs.Path.{found_at, entry_in, IsFirstPresent, HasPresent, table_in, table_at, SamePath}
 use Rattle.vs_space.specs.Tree.{IsTree, NothingUnder, AreWritten}
@@ -26,6 +27,7 @@ use Rattle.vs_space.proofs.Trees.{but_alike, filled_up}
 use Rattle.vs_space.proofs.Links.{tree_unlink, table_unlink, table_kept, walk_unlink_off, walk_unlink_on, found_unlinked}
 use Rattle.vs_space.proofs.Reached.{reached_unlink, whole_write}
 use Rattle.vs_space.proofs.Written.{written_at}
+use Rattle.vs_space.proofs.Plain.{adds_then, adds_written, adds_given}
 use Rattle.vs_space.proofs.Descents.{entry_read}
 use Rattle.vs_space.proofs.Regions.{stretch_same}
 
@@ -106,6 +108,7 @@ pub record IsPruning (depth : Depth) (old m : Memory) (root base from level : �
   pub walks : (b : ℕ) → IsCanonical depth b → walk depth m root b ≡ walk depth old root b
   pub above : from ≤ level
   pub fewer : finite.len m + (level - from) ≡ finite.len old
+  pub plain : AddsNoFlags old m
 
 module _ {depth : Depth} {m : Memory} {root base level : ℕ} {path : List ℕ} (cut : IsCut depth m root base level path) where
   here : IsTreeAt (levels depth) m root level base (slice_index path level)
@@ -165,6 +168,7 @@ module _ {depth : Depth} {m : Memory} {root base level : ℕ} {path : List ℕ} 
     above = pruning.above;
     below = cut.below;
     fewer = pruning.fewer;
+    plain = pruning.plain;
     nothing = nothing_past;
     something = λ j over le nothing. something (omega arith) (under_longer depth m root base j (suc level) (omega arith) nothing);
   }
@@ -245,6 +249,11 @@ module _ {depth : Depth} {m : Memory} {root base level : ℕ} {path : List ℕ} 
     one_fewer = len-remove_used _ (slice_index path level) _ (words_in _ _ (emptied_used (slice_index path (level + 1)) (index_at (level + 1) base)))
         ∙ len_write parent 0
 
+    plain_after : AddsNoFlags m cleared
+    plain_after = adds_then
+        (adds_written m (slice_index path (level + 1)) (index_at (level + 1) base) 0 cut.whole (used_at parent) (omega arith) refl)
+        (adds_given (with_word m (slice_index path (level + 1)) (index_at (level + 1) base) 0) (slice_index path level))
+
     pub pruning_on : {index : ℕ} → index ≡ index_at (level + 1) base → {old : Memory} {from : ℕ} → IsPruning depth old m root base from level path
         → IsPruning depth old (finite.remove (with_word m (slice_index path (level + 1)) index 0) (slice_index path level)) root base from (level + 1) path
     pruning_on is_index {old} {from} pruning =
@@ -254,4 +263,5 @@ module _ {depth : Depth} {m : Memory} {root base level : ℕ} {path : List ℕ} 
           walks = λ b is_b. walks_same b is_b ∙ pruning.walks b is_b;
           above = omega (arith, pruning.above);
           fewer = omega (arith, one_fewer, pruning.fewer, pruning.above);
+          plain = adds_then pruning.plain plain_after;
         })

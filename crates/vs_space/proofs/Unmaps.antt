@@ -21,6 +21,7 @@ use Rattle.vs_types.proofs.Spaces.{remove_cases, put_back}
 use Rattle.vs_walk.specs.Memory.{Memory}
 use Rattle.vs_walk.specs.Walk.{walk}
 use Rattle.vs_walk.specs.declared.walk.Walk.TheVariants.{NotMapped, Reserved}
+use Rattle.vs_space.specs.Flags.{AddsNoFlags}
 use Rattle.vs_space.specs.Held.{with_word}
 use Rattle.vs_space.specs.Path.{table_in, SamePath}
 use Rattle.vs_space.specs.Tree.{NothingUnder}
@@ -28,10 +29,11 @@ use Rattle.vs_space.specs.inside.Prune.{IsCut, IsPruned}
 use Rattle.vs_space.specs.inside.Descent.{IsDescent}
 use Rattle.vs_space.specs.Table.{PageTable, IsTableOf, IsTableStep}
 use Rattle.vs_space.specs.Invariant.{IsSpaceOf, IsPageTable}
-use Rattle.vs_space.proofs.Writes.{IsTreeAt, table_above, found_on_path, walk_off_path, len_write, same_or_not}
+use Rattle.vs_space.proofs.Writes.{IsTreeAt, used_at, table_above, found_on_path, walk_off_path, len_write, same_or_not}
 use Rattle.vs_space.proofs.Trees.{tree_write, walk_to_absent, but_none, but_write}
 use Rattle.vs_space.proofs.Reached.{reached_write, whole_write}
 use Rattle.vs_space.proofs.Written.{written_zero}
+use Rattle.vs_space.proofs.Plain.{adds_then, adds_written}
 use Rattle.vs_space.proofs.Regions.{walk_in, IsLeafPage, page_path, nothing_at, translates_changed}
 use Rattle.vs_space.proofs.Protects.{faultless, own_space, space_of, tree_at}
 use Rattle.vs_space.proofs.TableCounts.{count_added}
@@ -75,6 +77,9 @@ module _ {t : PageTable} (table : IsPageTable t) {base level phys : ℕ} {path :
     reached = λ j from to. table_above here 0 base j from ∙ descent.reached j from to;
     absent = found_on_path here 0 base (λ i from to. refl);
   }
+
+  plain_cut : AddsNoFlags t.memory cut.memory
+  plain_cut = adds_written t.memory (slice_index path level) (index_at level base) 0 table.whole (used_at here) (omega arith) refl
 
   -- as the code has it: the entry at this index is cleared, and the highest table on the path is the root
   pub cut_here : {index top : ℕ} → index ≡ index_at level base → top ≡ t.root
@@ -165,6 +170,7 @@ module _ {t : PageTable} (table : IsPageTable t) {base level phys : ℕ} {path :
         some_space = own_space table;
         same = refl;
         unchanged = λ refused. absurd (cc);
+        plain = adds_then plain_cut pruned.plain;
         steps = λ space is. let of = space_of table is in (sym (answer_is of t.limit), after of t.limit);
       },
     )

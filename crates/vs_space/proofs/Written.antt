@@ -37,16 +37,16 @@ written_as : (level word : ℕ) (e : Meaning) → meaning level word ≡ e → w
 written_as level word e says is = record { is = is ∙ ap (λ e. word_for level e (flags_in word)) (sym says) }
 
 -- the words that are written have neither flag
-no_flags_table : (word number : ℕ) → word ≡ table_word number → flags_in word ≡ 0
+pub no_flags_table : (word number : ℕ) → word ≡ table_word number → flags_in word ≡ 0
 no_flags_table word number is = omega (arith, is)
 
-no_flags_leaf : (size : Size) (phys : ℕ) (w u x : Bool) → phys % 4096 ≡ 0 → flags_in (leaf_word size phys (record { write = w; user = u; exec = x })) ≡ 0
+pub no_flags_leaf : (size : Size) (phys : ℕ) (w u x : Bool) → phys % 4096 ≡ 0 → flags_in (leaf_word size phys (record { write = w; user = u; exec = x })) ≡ 0
 no_flags_leaf K4 phys w u x aligned = grind arith
 no_flags_leaf M2 phys w u x aligned = grind arith
 no_flags_leaf G1 phys w u x aligned = grind arith
 
 -- a page is aligned at least to frames
-leaf_aligned : (level word phys : ℕ) (own : Rights) → 1 ≤ level → meaning level word ≡ entry.Leaf phys own → phys % 4096 ≡ 0
+pub leaf_aligned : (level word phys : ℕ) (own : Rights) → 1 ≤ level → meaning level word ≡ entry.Leaf phys own → phys % 4096 ≡ 0
 leaf_aligned zero word phys own some says = absurd (omega (arith, some))
 leaf_aligned (suc zero) word phys own some says = grind arith
 leaf_aligned (suc (suc zero)) word phys own some says = grind arith
@@ -73,14 +73,14 @@ leaf_at_level size word phys rights is = is ∙ ap (λ z. leaf_word z phys right
 
 -- ---- the words of a frame
 
-word_of : (m : Memory) (n i : ℕ) (o : Option (List ℕ)) → finite.get m n ≡ o → word_at m n i ≡ option_map (λ words. slice_index words i) o
+pub word_of : (m : Memory) (n i : ℕ) (o : Option (List ℕ)) → finite.get m n ≡ o → word_at m n i ≡ option_map (λ words. slice_index words i) o
 unfolding word_at
 word_of m n i o got = ap (option_map (λ (words : List ℕ). slice_index words i)) got
 
 pub word_alike : (m m' : Memory) (n i : ℕ) → finite.get m' n ≡ finite.get m n → word_at m' n i ≡ word_at m n i
 word_alike m m' n i e = word_of m' n i (finite.get m n) e ∙ sym (word_of m n i (finite.get m n) refl)
 
-one_word : (x y : ℕ) → Some x ≡ Some y → x ≡ y
+pub one_word : (x y : ℕ) → Some x ≡ Some y → x ≡ y
 one_word x y e = cc
 
 -- frames that are the same have the same words

@@ -5,6 +5,8 @@ use Rattle.std.specs.FinMap as finite
 use Rattle.std.specs.Int.{bit_at}
 use Rattle.std.specs.List.{AllZip}
 use Rattle.vs_arena.specs.Store.{Store}
+use Rattle.vs_walk.specs.Memory.{Memory}
+use Rattle.vs_space.specs.Held.{word_at}
 
 -- the two flags of a word, as they stand in it
 abbrev pub flags_in : ℕ → ℕ
@@ -20,3 +22,7 @@ pub record AreSameButFlags (old new : Store) : Type 0 where
   pub frames : (frame : ℕ) → finite.contains_key new frame ≡ finite.contains_key old frame
   pub words : (frame : ℕ) (before after : List ℕ) → finite.get old frame ≡ Some before → finite.get new frame ≡ Some after
       → AllZip IsSameButFlags before after
+
+-- each word that has one of the two flags stood so before: none was given a flag
+pub record AddsNoFlags (old new : Memory) : Type 0 where
+  pub stood : (number index word : ℕ) → word_at new number index ≡ Some word → flags_in word ≢ 0 → word_at old number index ≡ Some word

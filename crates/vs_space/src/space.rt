@@ -12,6 +12,7 @@ ghost use Rattle.vs_types.specs.Space as spaces;
 ghost use Rattle.vs_types.specs.Space.{no_pages, table_count};
 ghost use Rattle.vs_types.specs.Step.{allow, look};
 ghost use Rattle.vs_walk.specs.Traversal.{traversal, reached, walk_fault};
+ghost use Rattle.vs_space.specs.Flags.{AddsNoFlags};
 ghost use Rattle.vs_space.specs.Table.{PageTable, IsTableOf, IsTableStep};
 ghost use Rattle.vs_space.specs.Kept.{KeepsTable, table_of};
 ghost use Rattle.vs_space.specs.Written.{IsWrittenTable};
@@ -83,6 +84,7 @@ impl<S: FrameStore + Drop> Space<S> {
     pub fn new(store: S, depth: Depth) -> Result<Space<S>, NoRoot>
         requires { S.frames store ≡ finite.empty }
         ensures empty { IfOk result (λ s. IsTableOf s no_pages) }
+        ensures plain { IfOk result (λ s. AddsNoFlags finite.empty s.memory) }
         ensures same_depth { IfOk result (λ s. s.depth ≡ depth) }
         ensures base { IfOk result (λ s. s.base ≡ S.base store) }
         ensures limit { IfOk result (λ s. s.limit ≡ S.size store) }

@@ -6,6 +6,7 @@ use Rattle.vs_types.specs.declared.depth.Depth.{Depth}
 use Rattle.vs_types.specs.declared.entry.Meaning.TheVariants as entry
 use Rattle.vs_walk.specs.Memory.{Memory, AreWhole}
 use Rattle.vs_walk.specs.Walk.{walk}
+use Rattle.vs_space.specs.Flags.{AddsNoFlags}
 use Rattle.vs_space.specs.Path.{found_at, table_at, SamePath}
 use Rattle.vs_space.specs.Tree.{IsTree, IsFilled, IsReached, NothingUnder}
 
@@ -35,5 +36,6 @@ pub record IsPruned (depth : Depth) (old new : Memory) (root base from level : �
   pub above : from ≤ level
   pub below : level ≤ levels depth
   pub fewer : finite.len new + (level - from) ≡ finite.len old
+  pub plain : AddsNoFlags old new
   pub nothing : NothingUnder depth new root level base
   pub something : (j : ℕ) → level < j → j ≤ levels depth → NothingUnder depth new root j base → ⊥
