@@ -276,6 +276,36 @@ static void flags(uint64_t levels)
 	take_back(&walked);
 }
 
+/* What only asks, and what is answered that it can't be done, leaves the handle and all that was lent as they were, frames that are not in
+   use among it. No call writes a mark that no frame has. */
+static void changes_nothing(uint64_t levels)
+{
+	struct lent l = lend(13), before = lend(13);
+	const struct nrvs_mark unused = l.marks[12];
+	uint64_t seed = 2;
+	size_t count;
+	int round;
+	l.frames = 12;
+	IS(nrvs_table_new(LENT(&l), levels, 500), NRVS_OK);
+	for (round = 0; round < 4000; round++) {
+		struct nrvs_reply r;
+		before.table = l.table;
+		memcpy(before.first, l.first, 13 * 4096);
+		memcpy(before.second, l.second, 13 * sizeof *l.marks);
+		IS(any_call(&l, draw(&seed, UINT64_C(1) << 31), &r), NRVS_OK);
+		if (r.code == NRVS_DONE || r.code == NRVS_REMOVED || r.code == NRVS_CHANGED) {
+			IS(memcmp(&l.marks[12], &unused, sizeof unused), 0);
+			continue;
+		}
+		IS(nrvs_table_tables(LENT(&l), &count), NRVS_OK);
+		IS(memcmp(&before.table, &l.table, sizeof l.table), 0);
+		IS(memcmp(before.first, l.first, 13 * 4096), 0);
+		IS(memcmp(before.second, l.second, 13 * sizeof *l.marks), 0);
+	}
+	take_back(&l);
+	take_back(&before);
+}
+
 int main(void)
 {
 	refuses();
@@ -286,6 +316,8 @@ int main(void)
 	fills(5);
 	flags(4);
 	flags(5);
+	changes_nothing(4);
+	changes_nothing(5);
 	printf("%d passed, %d failed\n", passed, failed);
 	return failed != 0;
 }

@@ -6,6 +6,7 @@ use Rattle.vs_types.specs.Query.{IsQuery}
 use Rattle.vs_types.specs.declared.limits.TheConstants.{LOG_PLACES}
 use Rattle.vs_types.specs.declared.op.Action.{Action}
 use Rattle.vs_types.specs.declared.request.Query.{Query}
+use Rattle.nr_audit.specs.Headline.{IsSpelledWith}
 use Rattle.nr_trace.specs.Calls.{Invocation, IsRead, Response, call_of, operation_of, reply_to}
 use Rattle.nr_trace.specs.Orders.{below}
 use Rattle.nr_trace.specs.Recording.{Recording}
@@ -72,6 +73,18 @@ AreAllCallsOf trace scripts answers = (thread : ℕ) (script : List Query) (item
 -- each thread's pass has seen all on which its answers rest
 abbrev pub HaveSeenAnswers : Recording → List Known → Type 0
 HaveSeenAnswers trace passes = (thread : ℕ) (pass : Known) → slice_get passes thread ≡ Some pass → HasSeenAnswers trace thread pass
+
+-- the bytes spell one trace, of this layout, in which the threads' calls are those of their scripts; its log is one log, of which each
+-- thread's pass has seen all on which the thread's answers rest
+pub record IsTraceOf (layout : Layout) (scripts : List (List Query)) (bytes : List ℕ) : Type 0 where
+  pub layout_is : IsSpelledWith bytes (λ trace. trace.layout ≡ layout)
+  pub answers : List (List Said)
+  pub answers_each : length answers ≡ length scripts
+  pub calls : IsSpelledWith bytes (λ trace. AreAllCallsOf trace scripts answers)
+  pub passes : List Known
+  pub passes_each : length passes ≡ length scripts
+  pub log : IsSpelledWith bytes (λ trace. IsLogOf layout trace.log passes)
+  pub seen : IsSpelledWith bytes (λ trace. HaveSeenAnswers trace passes)
 
 -- where the outcome is a verified run, its answers, trace, order and passes have the property
 abbrev pub IfVerified : {J : Type 0} → (List (List Said) → List ℕ → List ℕ → List Known → Type 0) → Outcome J → Type 0

@@ -9,7 +9,7 @@ ghost use Rattle.nr_trace.specs.Faults.{IsFirstOf};
 ghost use Rattle.nr_trace.specs.Laws.{IsFaultless};
 ghost use Rattle.nr_trace.specs.Orders.{recorded_order};
 ghost use Rattle.nr_serve.specs.Calls.{AreServed};
-ghost use Rattle.nr_serve.specs.Run.{AreAllCallsOf, HaveSeenAnswers, IfRefused, IfVerified, IsLogOf};
+ghost use Rattle.nr_serve.specs.Run.{AreAllCallsOf, HaveSeenAnswers, IfRefused, IfVerified, IsLogOf, IsTraceOf};
 ghost use Rattle.nr_serve.specs.inside.Ending.{IsWrittenOf, answers_of, passes_of, pens_of};
 
 use crate::outcome::{Answers, Outcome, Passes, TraceBytes};
@@ -153,6 +153,8 @@ pub(crate) fn ending<J: LogName, K: ReplicasName, R: Wait>(
     ensures right { IfOk result
         (IfVerified (λ answers trace order passes. AreRightWith trace order)) }
     ensures refused { IfOk result (IfRefused (λ trace fault. IsFirstOf trace fault)) }
+    ensures refused_run { (scripts : List (List Query)) → AreServed clock K.log scripts workers.items
+        → IfOk result (IfRefused (λ trace fault. IsTraceOf config scripts trace)) }
 {
     let Parts {
         pens,

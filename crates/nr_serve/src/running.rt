@@ -6,7 +6,7 @@ ghost use Rattle.nr_record.specs.Pen.{new_pens};
 ghost use Rattle.nr_trace.specs.Faults.{IsFirstOf};
 ghost use Rattle.nr_trace.specs.Laws.{IsFaultless};
 ghost use Rattle.nr_trace.specs.Orders.{recorded_order};
-ghost use Rattle.nr_serve.specs.Run.{AreAllCallsOf, AreScripts, HaveSeenAnswers, IfRefused, IfVerified, IsLogOf};
+ghost use Rattle.nr_serve.specs.Run.{AreAllCallsOf, AreScripts, HaveSeenAnswers, IfRefused, IfVerified, IsLogOf, IsTraceOf};
 
 use crate::ending::ending;
 use crate::no_thread::NoThread;
@@ -131,6 +131,8 @@ fn go_on<
     ensures right { IfOk result
         (IfVerified (λ answers trace order passes. AreRightWith trace order)) }
     ensures refused { IfOk result (IfRefused (λ trace fault. IsFirstOf trace fault)) }
+    ensures refused_run { IfOk result (IfRefused (λ trace fault.
+        IsTraceOf config (map (λ script. script.items) scripts.items) trace)) }
 {
     let Beginning {
         opened,
@@ -205,6 +207,8 @@ pub fn run<J: LogName + Send + Sync, G: Gate + Sync, R: Threads + Wait + Sync>(
     ensures right { IfOk result
         (IfVerified (λ answers trace order passes. AreRightWith trace order)) }
     ensures refused { IfOk result (IfRefused (λ trace fault. IsFirstOf trace fault)) }
+    ensures refused_run { IfOk result (IfRefused (λ trace fault.
+        IsTraceOf config (map (λ script. script.items) scripts.items) trace)) }
 {
     let beginning = begin(alloc, config, &scripts)?;
     go_on::<J, Brand, G, R>(rt, alloc, config, beginning, scripts, turns, gate)

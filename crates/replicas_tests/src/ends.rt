@@ -10,7 +10,7 @@ use std::process::Abort;
 use std::sync::Wait;
 use std::test::Fail;
 use std::thread::Threads;
-use vs_types::{Access, Answer, Config, Depth, Memory, Op};
+use vs_types::{Access, Answer, Config, Depth};
 
 /// How many entries a log has at most.
 const ENTRIES: u32 = 65_536;
@@ -29,16 +29,8 @@ fn assert_all(rt: &impl Abort, settled: &Settled, entries: u32) {
     }
 }
 
-/// Adds so many updates by the first thread, each of a page that there is not.
-fn push_updates(steps: &mut Vec<Step>, op: Op, count: u32) -> Result<(), Memory> {
-    for call in 0..count {
-        steps.push(Step::update(0, call, op, call, Answer::NotMapped))?;
-    }
-    Ok(())
-}
-
-/// A thread makes as many updates as a log takes, and then calls at the end of the log: the next update is told that it has ended,
-/// and those after it that the slot is occupied. Then come the steps of others.
+/// A thread makes as many updates as a log takes, each of a page that there is not, and then calls at the end of the log: the next
+/// update is told that it has ended, and those after it that the slot is occupied. Then come the steps of others.
 fn go_to_the_end<R: Wait + Abort + Threads + Sync>(
     rt: &R,
     alloc: Global,
@@ -48,7 +40,9 @@ fn go_to_the_end<R: Wait + Abort + Threads + Sync>(
 ) -> Result<(), Fail> {
     let op = unmap_a(rt, config.depth());
     let mut steps = Vec::new(alloc);
-    push_updates(&mut steps, op, ENTRIES)?;
+    for call in 0..ENTRIES {
+        steps.push(Step::update(0, call, op, call, Answer::NotMapped))?;
+    }
     let ended = UpdateFault::Ended(ENTRIES);
     steps.push(Step::fault(0, ENTRIES, op, TURNS, ended))?;
     let occupied = UpdateFault::Occupied;
@@ -94,7 +88,9 @@ fn batch_stays_at_the_end(rt: HostRuntime) -> Result<(), Fail> {
     let config = Config::new(Depth::Four, 1, 4, 4)?;
     let op = unmap_a(&rt, Depth::Four);
     let mut steps = Vec::new(rt.alloc());
-    push_updates(&mut steps, op, ALL_BUT_TWO)?;
+    for call in 0..ALL_BUT_TWO {
+        steps.push(Step::update(0, call, op, call, Answer::NotMapped))?;
+    }
     for (thread, call) in [(1, ALL_BUT_TWO), (2, ALL_BUT_TWO + 1)] {
         let stopped = UpdateFault::Stopped(call);
         steps.push(Step::fault(thread, call, op, 0, stopped))?;

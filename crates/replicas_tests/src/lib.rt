@@ -28,3 +28,5 @@ mod steps;
 mod stops;
 #[cfg(test)]
 mod threads;
+#[cfg(test)]
+mod turns;

@@ -29,3 +29,6 @@ returns-clause-calls g c = c.in_ok-outcome.ensures.calls _ c.in_ok-workers.ensur
 
 pub returns-clause-seen : goal.returns-clause-seen
 returns-clause-seen g c = c.in_ok-outcome.ensures.seen _ c.in_ok-workers.ensures
+
+pub returns-clause-refused_run : goal.returns-clause-refused_run
+returns-clause-refused_run g c = c.in_ok-outcome.ensures.refused_run _ c.in_ok-workers.ensures
