@@ -15,7 +15,9 @@
  *     proved of flags that change between calls. A protect clears those of its page. Of flags that are set while a call runs nothing is
  *     proved;
  *   - a handle that was not made does not have the magic word by chance: let it be 0;
- *   - calls with one handle, and with memory that is lent to it, come one after the other. A processor may walk the frames meanwhile;
+ *   - a call that changes a table (new, map, unmap, protect) runs alone among those with its handle, or with memory that is lent to it.
+ *     Those that only ask (resolve, access, tables) may run at once: they take both const, and write nothing of them. A processor may walk
+ *     the frames meanwhile;
  *   - what a processor keeps in its TLB and paging-structure caches is invalidated after an unmap and a protect, and before a further
  *     map, which may take a frame that the unmap gave back.
  */
@@ -96,6 +98,7 @@ enum {
 };
 
 #define NRVS_LENT struct nrvs_table *table, uint64_t (*words)[512], size_t frames, struct nrvs_mark *marks, size_t marked
+#define NRVS_SHOWN const struct nrvs_table *table, const uint64_t (*words)[512], size_t frames, const struct nrvs_mark *marks, size_t marked
 
 /* Makes a page table with no pages, whatever the handle and the memory have in them. Its root takes a frame. */
 uint32_t nrvs_table_new(NRVS_LENT, uint64_t levels, uint64_t base);
@@ -110,13 +113,13 @@ uint32_t nrvs_table_unmap(NRVS_LENT, uint64_t base, struct nrvs_reply *reply);
 uint32_t nrvs_table_protect(NRVS_LENT, uint64_t base, uint32_t rights, struct nrvs_reply *reply);
 
 /* Translates an address: NRVS_MAPPED or NRVS_NOT_MAPPED. */
-uint32_t nrvs_table_resolve(NRVS_LENT, uint64_t address, struct nrvs_reply *reply);
+uint32_t nrvs_table_resolve(NRVS_SHOWN, uint64_t address, struct nrvs_reply *reply);
 
 /* Whether an access is allowed, and where that is: NRVS_ALLOWED or NRVS_FAULT. */
-uint32_t nrvs_table_access(NRVS_LENT, uint64_t address, uint32_t mode, uint32_t access, struct nrvs_reply *reply);
+uint32_t nrvs_table_access(NRVS_SHOWN, uint64_t address, uint32_t mode, uint32_t access, struct nrvs_reply *reply);
 
 /* How many tables there are, the root among them. */
-uint32_t nrvs_table_tables(NRVS_LENT, size_t *count);
+uint32_t nrvs_table_tables(NRVS_SHOWN, size_t *count);
 
 #ifdef __cplusplus
 }

@@ -1,9 +1,11 @@
 /* The page table for C: each call once, each refusal, pages of all sizes against what was asked, and flags that a processor sets. */
+#define _DEFAULT_SOURCE
 #include "nrvs.h"
 
 #include <stdio.h>
 #include <stdlib.h>
 #include <string.h>
+#include <sys/mman.h>
 
 static int passed, failed;
 
@@ -306,6 +308,38 @@ static void changes_nothing(uint64_t levels)
 	take_back(&before);
 }
 
+/* What only asks works where handle, frames and marks can't be written. */
+static void only_reads(uint64_t levels)
+{
+	const size_t bytes = 13 * 4096;
+	char *memory = (char *)mmap(0, bytes, PROT_READ | PROT_WRITE, MAP_PRIVATE | MAP_ANONYMOUS, -1, 0);
+	uint64_t (*words)[512] = (uint64_t (*)[512])(void *)memory;
+	struct nrvs_table *table = (struct nrvs_table *)(void *)(memory + 12 * 4096);
+	struct nrvs_mark *marks = (struct nrvs_mark *)(table + 1);
+	struct nrvs_reply r;
+	size_t count = 0;
+	if (memory == (char *)MAP_FAILED)
+		exit(2);
+	IS(nrvs_table_new(table, words, 12, marks, 12, levels, 500), NRVS_OK);
+	IS(nrvs_table_map(table, words, 12, marks, 12, 0x401000, NRVS_4K, 0x7000, NRVS_WRITE, &r), NRVS_OK);
+	IS(nrvs_table_map(table, words, 12, marks, 12, 0x800000, NRVS_2M, 0x200000, NRVS_USER, &r), NRVS_OK);
+	IS(nrvs_table_unmap(table, words, 12, marks, 12, 0x401000, &r), NRVS_OK);
+	IS(mprotect(memory, bytes, PROT_READ), 0);
+	IS(nrvs_table_resolve(table, words, 12, marks, 12, 0x800123, &r), NRVS_OK);
+	REPLIES(r, NRVS_MAPPED, 0x200123, NRVS_2M, NRVS_USER);
+	IS(nrvs_table_resolve(table, words, 12, marks, 12, 0x401000, &r), NRVS_OK);
+	REPLIES(r, NRVS_NOT_MAPPED, 0, 0, 0);
+	IS(nrvs_table_resolve(table, words, 12, marks, 12, UINT64_C(1) << 60, &r), NRVS_NOT_CANONICAL);
+	IS(nrvs_table_access(table, words, 12, marks, 12, 0x800004, NRVS_USER_MODE, NRVS_READ, &r), NRVS_OK);
+	REPLIES(r, NRVS_ALLOWED, 0x200004, 0, 0);
+	IS(nrvs_table_access(table, words, 12, marks, 12, 0x401000, NRVS_USER_MODE, NRVS_STORE, &r), NRVS_OK);
+	REPLIES(r, NRVS_FAULT, 6, 0, 0);
+	IS(nrvs_table_tables(table, words, 12, marks, 12, &count), NRVS_OK);
+	IS(count, levels - 1);
+	IS(nrvs_table_tables(table, words, 11, marks, 12, &count), NRVS_BAD_FRAMES);
+	munmap(memory, bytes);
+}
+
 int main(void)
 {
 	refuses();
@@ -318,6 +352,8 @@ int main(void)
 	flags(5);
 	changes_nothing(4);
 	changes_nothing(5);
+	only_reads(4);
+	only_reads(5);
 	printf("%d passed, %d failed\n", passed, failed);
 	return failed != 0;
 }

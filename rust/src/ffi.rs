@@ -83,20 +83,20 @@ extern "C" {
     ) -> u32;
 
     pub(crate) fn nrvs_table_resolve(
-        table: *mut Table,
-        words: *mut Frame,
+        table: *const Table,
+        words: *const Frame,
         frames: usize,
-        marks: *mut Mark,
+        marks: *const Mark,
         marked: usize,
         address: u64,
         reply: *mut Reply,
     ) -> u32;
 
     pub(crate) fn nrvs_table_access(
-        table: *mut Table,
-        words: *mut Frame,
+        table: *const Table,
+        words: *const Frame,
         frames: usize,
-        marks: *mut Mark,
+        marks: *const Mark,
         marked: usize,
         address: u64,
         mode: u32,
@@ -105,10 +105,10 @@ extern "C" {
     ) -> u32;
 
     pub(crate) fn nrvs_table_tables(
-        table: *mut Table,
-        words: *mut Frame,
+        table: *const Table,
+        words: *const Frame,
         frames: usize,
-        marks: *mut Mark,
+        marks: *const Mark,
         marked: usize,
         count: *mut usize,
     ) -> u32;

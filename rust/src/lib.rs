@@ -22,7 +22,7 @@
 //! # use nrvs::{Depth, Frame, Mark, PageTable};
 //! let mut frames = vec![Frame::ZERO; 16];
 //! let mut marks = [Mark::default(); 16];
-//! let mut table = PageTable::new(Depth::Four, 0, &mut frames, &mut marks).unwrap();
+//! let table = PageTable::new(Depth::Four, 0, &mut frames, &mut marks).unwrap();
 //! let first = frames[0].0[0]; // lent
 //! table.tables();
 //! ```
@@ -30,7 +30,7 @@
 //! ```compile_fail,E0597
 //! # use nrvs::{Depth, Frame, Mark, PageTable};
 //! let mut frames = vec![Frame::ZERO; 16];
-//! let mut table = {
+//! let table = {
 //!     let mut marks = [Mark::default(); 16]; // does not live long enough
 //!     PageTable::new(Depth::Four, 0, &mut frames, &mut marks).unwrap()
 //! };

@@ -149,11 +149,21 @@ impl<'a> PageTable<'a> {
     /// # Errors
     ///
     /// `NotCanonical`.
-    pub fn resolve(&mut self, address: u64) -> Result<Option<Mapping>, BadRequest> {
-        let reply = self.call(|table, words, frames, marks, marked, reply| {
-            // SAFETY: `call` gives what the handle was made with.
-            unsafe { ffi::nrvs_table_resolve(table, words, frames, marks, marked, address, reply) }
-        })?;
+    pub fn resolve(&self, address: u64) -> Result<Option<Mapping>, BadRequest> {
+        let mut reply = Reply::default();
+        // SAFETY: the handle was made over these frames and marks, which no one else has written since.
+        let status = unsafe {
+            ffi::nrvs_table_resolve(
+                &self.handle,
+                self.frames.as_ptr(),
+                self.frames.len(),
+                self.marks.as_ptr(),
+                self.marks.len(),
+                address,
+                &mut reply,
+            )
+        };
+        refused(status)?;
         match reply.code {
             7 => Ok(Some(mapping_in(&reply))),
             4 => Ok(None),
@@ -166,23 +176,23 @@ impl<'a> PageTable<'a> {
     /// # Errors
     ///
     /// `NotCanonical`, or the page fault that the access makes.
-    pub fn access(&mut self, address: u64, mode: Mode, access: Access) -> Result<u64, AccessError> {
-        let reply = self.call(|table, words, frames, marks, marked, reply| {
-            // SAFETY: `call` gives what the handle was made with.
-            unsafe {
-                ffi::nrvs_table_access(
-                    table,
-                    words,
-                    frames,
-                    marks,
-                    marked,
-                    address,
-                    mode as u32,
-                    access as u32,
-                    reply,
-                )
-            }
-        })?;
+    pub fn access(&self, address: u64, mode: Mode, access: Access) -> Result<u64, AccessError> {
+        let mut reply = Reply::default();
+        // SAFETY: the handle was made over these frames and marks, which no one else has written since.
+        let status = unsafe {
+            ffi::nrvs_table_access(
+                &self.handle,
+                self.frames.as_ptr(),
+                self.frames.len(),
+                self.marks.as_ptr(),
+                self.marks.len(),
+                address,
+                mode as u32,
+                access as u32,
+                &mut reply,
+            )
+        };
+        refused(status)?;
         match reply.code {
             8 => Ok(reply.number),
             9 => Err(AccessError::Fault { code: reply.number }),
@@ -191,15 +201,15 @@ impl<'a> PageTable<'a> {
     }
 
     /// How many tables there are, the root among them.
-    pub fn tables(&mut self) -> usize {
+    pub fn tables(&self) -> usize {
         let mut count = 0;
         // SAFETY: the handle was made over these frames and marks, which no one else has written since.
         let status = unsafe {
             ffi::nrvs_table_tables(
-                &mut self.handle,
-                self.frames.as_mut_ptr(),
+                &self.handle,
+                self.frames.as_ptr(),
                 self.frames.len(),
-                self.marks.as_mut_ptr(),
+                self.marks.as_ptr(),
                 self.marks.len(),
                 &mut count,
             )
@@ -222,14 +232,20 @@ impl<'a> PageTable<'a> {
             self.marks.len(),
             &mut reply,
         );
-        match status {
-            0 => Ok(reply),
-            10 => Err(BadRequest::NotCanonical),
-            11 => Err(BadRequest::Unaligned),
-            12 => Err(BadRequest::PhysUnaligned),
-            13 => Err(BadRequest::PhysRange),
-            _ => unreachable!("no other status is promised of a table that was made"),
-        }
+        refused(status)?;
+        Ok(reply)
+    }
+}
+
+/// What a call of a table that was made is refused for.
+fn refused(status: u32) -> Result<(), BadRequest> {
+    match status {
+        0 => Ok(()),
+        10 => Err(BadRequest::NotCanonical),
+        11 => Err(BadRequest::Unaligned),
+        12 => Err(BadRequest::PhysUnaligned),
+        13 => Err(BadRequest::PhysRange),
+        _ => unreachable!("no other status is promised of a table that was made"),
     }
 }
 

@@ -197,6 +197,30 @@ fn frames_run_out_and_come_back() {
 }
 
 #[test]
+fn threads_ask_at_once() {
+    let (mut frames, mut marks) = (vec![DIRTY; 32], [Mark::default(); 32]);
+    let mut table = PageTable::new(Depth::Four, 7, &mut frames, &mut marks).unwrap();
+    for i in 0..8 {
+        assert_eq!(table.map(page(i << 30, Size::K4, i << 12, WRITE)), Ok(()));
+    }
+    let shared = &table;
+    std::thread::scope(|scope| {
+        for _ in 0..2 {
+            scope.spawn(move || {
+                for i in 0..8_000 {
+                    let (address, phys) = ((i % 8 << 30) + 5, (i % 8 << 12) + 5);
+                    assert_eq!(
+                        shared.access(address, Mode::Supervisor, Access::Write),
+                        Ok(phys)
+                    );
+                    assert_eq!(shared.tables(), 18);
+                }
+            });
+        }
+    });
+}
+
+#[test]
 fn the_memory_comes_back() {
     let (mut frames, mut marks) = (vec![DIRTY; 4], [Mark::default(); 4]);
     {

@@ -25,10 +25,7 @@ pub record Steps (old : Table) (words : List (List ℕ)) (marks : List FrameMark
   pub replied : reply ≡ reply_of answer
   pub step : IsTableStep (table_in [] old words marks) action answer (table_in [] new words' marks')
 
--- the handle can be used with the memory, and still can; the page table is as it was, and the reply is what is answered for its space
-pub record Tells (old : Table) (words : List (List ℕ)) (marks : List FrameMark) (answer : Space → Answer) (new : Table) (words' : List (List ℕ))
-    (marks' : List FrameMark) (reply : Reply) : Type 0 where
-  pub usable : IsUsable old words marks
-  pub still_usable : IsUsable new words' marks'
-  pub same : table_in [] new words' marks' ≡ table_in [] old words marks
-  pub replied : (space : Space) → IsTableOf (table_in [] old words marks) space → reply ≡ reply_of (answer space)
+-- the handle can be used with the memory, and the reply is what is answered for the space of its page table
+pub record Tells (handle : Table) (words : List (List ℕ)) (marks : List FrameMark) (answer : Space → Answer) (reply : Reply) : Type 0 where
+  pub usable : IsUsable handle words marks
+  pub replied : (space : Space) → IsTableOf (table_in [] handle words marks) space → reply ≡ reply_of (answer space)

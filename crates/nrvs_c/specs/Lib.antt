@@ -3,3 +3,4 @@ pub mod Reply
 pub mod Table
 pub mod Call
 pub mod Flags
+pub mod inside

@@ -1,5 +1,5 @@
 //! The calls for C. Each begins with the handle and the memory lent: frames of 512 words, and marks, which are as the last call
-//! with the handle left them.
+//! with the handle left them. A call that only asks is given all three to read, and can change none of them.
 ghost use Rattle.std.specs.Prelude.{◌≡◌, ◌≢◌, ◌≤◌, [], length};
 ghost use Rattle.vs_types.specs.Codes.{size_code, rights_code, mode_code, access_code};
 ghost use Rattle.vs_types.specs.Depth.{IsCanonical};
@@ -20,7 +20,7 @@ ghost use Rattle.nrvs_c.specs.Call.{IsSound, Steps, Tells};
 ghost use Rattle.nrvs_c.specs.Status.{new_status, status_if};
 ghost use Rattle.nrvs_c.specs.Table.{IsUsable, depth_in, lent_status, table_in};
 
-use crate::asked::{apply, make, resolve, tables};
+use crate::change::{apply, make};
 use crate::codes::{access_of, mode_of, rights_of, size_of};
 use crate::reply::Reply;
 use crate::status::{
@@ -28,6 +28,7 @@ use crate::status::{
     NOT_CANONICAL, OK, status_of,
 };
 use crate::table::Table;
+use crate::view::View;
 use vs_arena::{FRAME_WORDS, FrameMark};
 use vs_types::{Depth, Op, TABLES};
 
@@ -116,9 +117,9 @@ pub extern "C" fn nrvs_table_map(
     };
     match Op::map(table.depth(), base, size, physical, rights) {
         Ok(op) => {
-            let asked = apply(*table, words, marks, op);
-            *table = asked.table;
-            *reply = Reply::of(asked.answer);
+            let changed = apply(*table, words, marks, op);
+            *table = changed.table;
+            *reply = Reply::of(changed.answer);
             OK
         }
         Err(fault) => status_of(fault),
@@ -154,9 +155,9 @@ pub extern "C" fn nrvs_table_unmap(
     }
     match Op::unmap(table.depth(), base) {
         Ok(op) => {
-            let asked = apply(*table, words, marks, op);
-            *table = asked.table;
-            *reply = Reply::of(asked.answer);
+            let changed = apply(*table, words, marks, op);
+            *table = changed.table;
+            *reply = Reply::of(changed.answer);
             OK
         }
         Err(fault) => status_of(fault),
@@ -199,9 +200,9 @@ pub extern "C" fn nrvs_table_protect(
     };
     match Op::protect(table.depth(), base, rights) {
         Ok(op) => {
-            let asked = apply(*table, words, marks, op);
-            *table = asked.table;
-            *reply = Reply::of(asked.answer);
+            let changed = apply(*table, words, marks, op);
+            *table = changed.table;
+            *reply = Reply::of(changed.answer);
             OK
         }
         Err(fault) => status_of(fault),
@@ -211,25 +212,20 @@ pub extern "C" fn nrvs_table_protect(
 /// Translates an address: `Space::resolve`.
 #[unsafe(no_mangle)]
 pub extern "C" fn nrvs_table_resolve(
-    table: &mut Table,
-    words: &mut [[u64; FRAME_WORDS]],
-    marks: &mut [FrameMark],
+    table: &Table,
+    words: &[[u64; FRAME_WORDS]],
+    marks: &[FrameMark],
     address: u64,
     reply: &mut Reply,
 ) -> u32
-    requires { IsSound table.old words.old marks.old }
-    ensures not_usable { lent_status table.old words.old marks.old ≢ 0
-        → result ≡ lent_status table.old words.old marks.old }
-    ensures status { IsUsable table.old words.old marks.old
-        → result ≡ status_if (query_fault (depth_in table.old) (Query.Resolve address)) }
-    ensures sound { IsSound table.new words.new marks.new }
-    ensures done { result ≡ 0 → IsCanonical (depth_in table.old) address }
+    requires { IsSound table.now words.now marks.now }
+    ensures not_usable { lent_status table.now words.now marks.now ≢ 0
+        → result ≡ lent_status table.now words.now marks.now }
+    ensures status { IsUsable table.now words.now marks.now
+        → result ≡ status_if (query_fault (depth_in table.now) (Query.Resolve address)) }
+    ensures done { result ≡ 0 → IsCanonical (depth_in table.now) address }
     ensures told { result ≡ 0
-        → Tells table.old words.old marks.old (λ space. look space address) table.new words.new
-        marks.new reply.new }
-    ensures refused_table { result ≢ 0 → table.new ≡ table.old }
-    ensures refused_words { result ≢ 0 → words.new ≡ words.old }
-    ensures refused_marks { result ≢ 0 → marks.new ≡ marks.old }
+        → Tells table.now words.now marks.now (λ space. look space address) reply.new }
     ensures refused_reply { result ≢ 0 → reply.new ≡ reply.old }
 {
     let status = table.status(words, marks);
@@ -239,43 +235,41 @@ pub extern "C" fn nrvs_table_resolve(
     if !table.depth().is_canonical(address) {
         return NOT_CANONICAL;
     }
-    let asked = resolve(*table, words, marks, address);
-    *table = asked.table;
-    *reply = Reply::of(asked.answer);
+    let view = View {
+        table,
+        words,
+        marks,
+    };
+    *reply = Reply::of(view.resolve(address));
     OK
 }
 
 /// Whether an access of an address is allowed, and where that is: `Space::access`.
 #[unsafe(no_mangle)]
 pub extern "C" fn nrvs_table_access(
-    table: &mut Table,
-    words: &mut [[u64; FRAME_WORDS]],
-    marks: &mut [FrameMark],
+    table: &Table,
+    words: &[[u64; FRAME_WORDS]],
+    marks: &[FrameMark],
     address: u64,
     mode: u32,
     access: u32,
     reply: &mut Reply,
 ) -> u32
-    requires { IsSound table.old words.old marks.old }
-    ensures not_usable { lent_status table.old words.old marks.old ≢ 0
-        → result ≡ lent_status table.old words.old marks.old }
-    ensures no_mode { IsUsable table.old words.old marks.old
+    requires { IsSound table.now words.now marks.now }
+    ensures not_usable { lent_status table.now words.now marks.now ≢ 0
+        → result ≡ lent_status table.now words.now marks.now }
+    ensures no_mode { IsUsable table.now words.now marks.now
         → ((m : Mode) → mode ≡ mode_code m → ⊥)
         → result ≡ 8 }
-    ensures no_access { IsUsable table.old words.old marks.old → (m : Mode) → mode ≡ mode_code m
+    ensures no_access { IsUsable table.now words.now marks.now → (m : Mode) → mode ≡ mode_code m
         → ((a : Access) → access ≡ access_code a → ⊥) → result ≡ 9 }
-    ensures status { IsUsable table.old words.old marks.old → (m : Mode) → mode ≡ mode_code m
+    ensures status { IsUsable table.now words.now marks.now → (m : Mode) → mode ≡ mode_code m
         → (a : Access) → access ≡ access_code a
-        → result ≡ status_if (query_fault (depth_in table.old) (Query.Resolve address)) }
-    ensures sound { IsSound table.new words.new marks.new }
-    ensures done { result ≡ 0 → IsCanonical (depth_in table.old) address }
+        → result ≡ status_if (query_fault (depth_in table.now) (Query.Resolve address)) }
+    ensures done { result ≡ 0 → IsCanonical (depth_in table.now) address }
     ensures told { result ≡ 0 → (by : Mode) × (does : Access) × (mode ≡ mode_code by)
         × (access ≡ access_code does)
-        × Tells table.old words.old marks.old (λ space. allow space address by does) table.new
-        words.new marks.new reply.new }
-    ensures refused_table { result ≢ 0 → table.new ≡ table.old }
-    ensures refused_words { result ≢ 0 → words.new ≡ words.old }
-    ensures refused_marks { result ≢ 0 → marks.new ≡ marks.old }
+        × Tells table.now words.now marks.now (λ space. allow space address by does) reply.new }
     ensures refused_reply { result ≢ 0 → reply.new ≡ reply.old }
 {
     let status = table.status(words, marks);
@@ -291,44 +285,43 @@ pub extern "C" fn nrvs_table_access(
     if !table.depth().is_canonical(address) {
         return NOT_CANONICAL;
     }
-    let asked = resolve(*table, words, marks, address);
-    *table = asked.table;
-    *reply = Reply::of(asked.answer.accessed(mode, access));
+    let view = View {
+        table,
+        words,
+        marks,
+    };
+    *reply = Reply::of(view.resolve(address).accessed(mode, access));
     OK
 }
 
 /// How many tables there are, the root among them: `Space::tables`.
 #[unsafe(no_mangle)]
 pub extern "C" fn nrvs_table_tables(
-    table: &mut Table,
-    words: &mut [[u64; FRAME_WORDS]],
-    marks: &mut [FrameMark],
+    table: &Table,
+    words: &[[u64; FRAME_WORDS]],
+    marks: &[FrameMark],
     count: &mut usize,
 ) -> u32
-    requires { IsSound table.old words.old marks.old }
-    ensures not_usable { lent_status table.old words.old marks.old ≢ 0
-        → result ≡ lent_status table.old words.old marks.old }
-    ensures status { IsUsable table.old words.old marks.old → result ≡ 0 }
-    ensures sound { IsSound table.new words.new marks.new }
-    ensures same { result ≡ 0
-        → table_in [] table.new words.new marks.new ≡ table_in [] table.old words.old marks.old }
+    requires { IsSound table.now words.now marks.now }
+    ensures not_usable { lent_status table.now words.now marks.now ≢ 0
+        → result ≡ lent_status table.now words.now marks.now }
+    ensures status { IsUsable table.now words.now marks.now → result ≡ 0 }
+    ensures usable { result ≡ 0 → IsUsable table.now words.now marks.now }
     ensures counts { result ≡ 0 → (space : spaces.Space)
-        → IsTableOf (table_in [] table.old words.old marks.old) space
-        → count.new ≡ table_count (depth_in table.old) space }
-    ensures at_most { result ≡ 0 → count.new ≤ length words.old }
-    ensures usable { result ≡ 0 → IsUsable table.old words.old marks.old }
-    ensures still_usable { result ≡ 0 → IsUsable table.new words.new marks.new }
-    ensures refused_table { result ≢ 0 → table.new ≡ table.old }
-    ensures refused_words { result ≢ 0 → words.new ≡ words.old }
-    ensures refused_marks { result ≢ 0 → marks.new ≡ marks.old }
+        → IsTableOf (table_in [] table.now words.now marks.now) space
+        → count.new ≡ table_count (depth_in table.now) space }
+    ensures at_most { result ≡ 0 → count.new ≤ length words.now }
     ensures refused_count { result ≢ 0 → count.new ≡ count.old }
 {
     let status = table.status(words, marks);
     if status != OK {
         return status;
     }
-    let asked = tables(*table, words, marks);
-    *table = asked.table;
-    *count = asked.answer;
+    let view = View {
+        table,
+        words,
+        marks,
+    };
+    *count = view.tables();
     OK
 }

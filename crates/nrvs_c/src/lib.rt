@@ -3,13 +3,14 @@
 //! A call allocates nothing, and keeps no pointer once it has returned.
 #![tactic(auto)]
 
-mod asked;
+mod change;
 mod codes;
 mod exports;
 pub mod laws;
 mod reply;
 mod status;
 mod table;
+mod view;
 
 pub use reply::Reply;
 pub use table::Table;

@@ -1,11 +1,8 @@
-//! What is asked of a page table that is opened for it, and taken apart again.
+//! What is done to a page table, which is opened for it, and taken apart again.
 ghost use Rattle.std.specs.Prelude.{◌≡◌, ◌+◌, ◌^◌, ◌<◌, ◌≤◌, [], length};
-ghost use Rattle.std.specs.FinMap as finite;
-ghost use Rattle.vs_types.specs.Depth.{IsCanonical, levels};
+ghost use Rattle.vs_types.specs.Depth.{levels};
 ghost use Rattle.vs_types.specs.Operation.{IsAction};
-ghost use Rattle.vs_types.specs.Space as spaces;
-ghost use Rattle.vs_types.specs.Space.{no_pages, table_count};
-ghost use Rattle.vs_types.specs.Step.{allow, look};
+ghost use Rattle.vs_types.specs.Space.{no_pages};
 ghost use Rattle.vs_types.specs.declared.limits.TheConstants.{TABLES};
 ghost use Rattle.vs_space.specs.Table.{IsTableOf, IsTableStep};
 ghost use Rattle.nrvs_c.specs.Table.{IsOpen, IsUsable, depth_in, table_in};
@@ -13,15 +10,15 @@ ghost use Rattle.nrvs_c.specs.Table.{IsOpen, IsUsable, depth_in, table_in};
 use crate::table::{Closed, Table, close, open};
 use vs_arena::{FRAME_WORDS, FrameMark, LentArena};
 use vs_space::{NoRoot, Space};
-use vs_types::{Access, Answer, Depth, Mode, Op};
+use vs_types::{Answer, Depth, Op};
 
 /// The memory lent and the handle after a call, and what was answered.
 #[derive(Drop)]
-pub(crate) struct Asked<'a, 'b, T> {
+pub(crate) struct Changed<'a, 'b> {
     pub(crate) words: &'a mut [[u64; FRAME_WORDS]],
     pub(crate) marks: &'b mut [FrameMark],
     pub(crate) table: Table,
-    pub(crate) answer: T,
+    pub(crate) answer: Answer,
 }
 
 /// The page table with no pages in memory that is lent; at least one frame is.
@@ -57,7 +54,7 @@ pub(crate) fn apply<'a, 'b>(
     words: &'a mut [[u64; FRAME_WORDS]],
     marks: &'b mut [FrameMark],
     op: Op,
-) -> Asked<'a, 'b, Answer>
+) -> Changed<'a, 'b>
     requires open { IsOpen table words.old marks.old }
     requires well_formed { IsAction (depth_in table) op }
     ensures same_words { result.words.ghost_name ≡ words.entry.ghost_name }
@@ -74,74 +71,7 @@ pub(crate) fn apply<'a, 'b>(
         marks,
         table,
     } = close(space);
-    Asked {
-        words,
-        marks,
-        table,
-        answer,
-    }
-}
-
-/// Translates a canonical address.
-pub(crate) fn resolve<'a, 'b>(
-    table: Table,
-    words: &'a mut [[u64; FRAME_WORDS]],
-    marks: &'b mut [FrameMark],
-    address: u64,
-) -> Asked<'a, 'b, Answer>
-    requires open { IsOpen table words.old marks.old }
-    requires canonical { IsCanonical (depth_in table) address }
-    ensures same_words { result.words.ghost_name ≡ words.entry.ghost_name }
-    ensures same_marks { result.marks.ghost_name ≡ marks.entry.ghost_name }
-    ensures usable { IsUsable result.table result.words.now result.marks.now }
-    ensures open { IsOpen result.table result.words.now result.marks.now }
-    ensures same { table_in [] result.table result.words.now result.marks.now
-        ≡ table_in [] table words.old marks.old }
-    ensures answer { (space : spaces.Space)
-        → IsTableOf (table_in [] table words.old marks.old) space
-        → result.answer ≡ look space address }
-{
-    let space = open(table, words, marks);
-    let answer = space.resolve(address);
-    let Closed {
-        words,
-        marks,
-        table,
-    } = close(space);
-    Asked {
-        words,
-        marks,
-        table,
-        answer,
-    }
-}
-
-/// How many tables there are.
-pub(crate) fn tables<'a, 'b>(
-    table: Table,
-    words: &'a mut [[u64; FRAME_WORDS]],
-    marks: &'b mut [FrameMark],
-) -> Asked<'a, 'b, usize>
-    requires { IsOpen table words.old marks.old }
-    ensures same_words { result.words.ghost_name ≡ words.entry.ghost_name }
-    ensures same_marks { result.marks.ghost_name ≡ marks.entry.ghost_name }
-    ensures usable { IsUsable result.table result.words.now result.marks.now }
-    ensures open { IsOpen result.table result.words.now result.marks.now }
-    ensures same { table_in [] result.table result.words.now result.marks.now
-        ≡ table_in [] table words.old marks.old }
-    ensures counts { (space : spaces.Space)
-        → IsTableOf (table_in [] table words.old marks.old) space
-        → result.answer ≡ table_count (depth_in table) space }
-    ensures at_most { result.answer ≤ length words.old }
-{
-    let space = open(table, words, marks);
-    let answer = space.tables();
-    let Closed {
-        words,
-        marks,
-        table,
-    } = close(space);
-    Asked {
+    Changed {
         words,
         marks,
         table,

@@ -1,0 +1,2 @@
+-- The insides of calls: no public clause cites them.
+pub mod View
