@@ -3,7 +3,7 @@
  * Each call is given a handle and the memory that it works in. It allocates nothing, keeps no pointer, and takes no lock. What each
  * does is proved: its contract is that of the same call of `Space` (docs/PROMISES.md).
  *
- * The memory: `frames` frames of 512 words, and `marks`, one for each frame at least. Frame number `base + i` is words[i]: where
+ * The memory: the words of `frames` frames, and `marks`, one for each frame at least. Frame number `base + i` is words[i]: where
  * words[0] lies at the physical address `base * 4096`, a processor walks what is written there, from the root at `table->root * 4096`.
  * Neither need be 0 at first.
  *
@@ -30,6 +30,11 @@
 #ifdef __cplusplus
 extern "C" {
 #endif
+
+/* The words of a frame. A processor wants it aligned to 4,096 bytes, the library to 8. */
+struct nrvs_words {
+	uint64_t word[512];
+};
 
 /* What the library keeps of a frame. */
 struct nrvs_mark {
@@ -97,8 +102,9 @@ enum {
 	NRVS_PHYS_RANGE = 13     /* the page doesn't lie below physical 2^51 */
 };
 
-#define NRVS_LENT struct nrvs_table *table, uint64_t (*words)[512], size_t frames, struct nrvs_mark *marks, size_t marked
-#define NRVS_SHOWN const struct nrvs_table *table, const uint64_t (*words)[512], size_t frames, const struct nrvs_mark *marks, size_t marked
+#define NRVS_LENT struct nrvs_table *table, struct nrvs_words *words, size_t frames, struct nrvs_mark *marks, size_t marked
+#define NRVS_SHOWN \
+	const struct nrvs_table *table, const struct nrvs_words *words, size_t frames, const struct nrvs_mark *marks, size_t marked
 
 /* Makes a page table with no pages, whatever the handle and the memory have in them. Its root takes a frame. */
 uint32_t nrvs_table_new(NRVS_LENT, uint64_t levels, uint64_t base);

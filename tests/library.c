@@ -23,7 +23,7 @@ static void is(uint64_t told, uint64_t wanted, const char *what, int line)
 
 struct lent {
 	struct nrvs_table table;
-	uint64_t (*words)[512];
+	struct nrvs_words *words;
 	size_t frames;
 	struct nrvs_mark *marks;
 	size_t marked;
@@ -43,7 +43,7 @@ static struct lent lend(size_t frames)
 		exit(2);
 	memset(l.first, 0xAB, frames * 4096);
 	memset(l.second, 0xAB, frames * sizeof *l.marks);
-	l.words = (uint64_t (*)[512])l.first;
+	l.words = (struct nrvs_words *)l.first;
 	l.marks = (struct nrvs_mark *)l.second;
 	return l;
 }
@@ -110,7 +110,7 @@ static void refuses(void)
 	IS(nrvs_table_new(&l.table, l.words, 8, l.marks, 7, 4, 0), NRVS_BAD_MARKS);
 	IS(nrvs_table_new(LENT(&l), 4, (UINT64_C(1) << 40) - 7), NRVS_BAD_BASE);
 	IS(nrvs_table_new(LENT(&l), 4, UINT64_MAX), NRVS_BAD_BASE);
-	IS(l.words[0][0], UINT64_C(0xABABABABABABABAB));
+	IS(l.words[0].word[0], UINT64_C(0xABABABABABABABAB));
 	IS(nrvs_table_new(LENT(&l), 4, (UINT64_C(1) << 40) - 8), NRVS_OK);
 	IS(nrvs_table_map(LENT(&l), 0, 3, 0, 0, &r), NRVS_BAD_SIZE);
 	IS(nrvs_table_map(LENT(&l), 0, 256, 0, 0, &r), NRVS_BAD_SIZE);
@@ -137,7 +137,7 @@ static uint64_t walk(const struct lent *l, uint64_t address)
 	uint64_t number = l->table.root, word = 0;
 	int level;
 	for (level = (int)l->table.levels; level > 0; level--) {
-		word = l->words[number - l->table.base][address >> (3 + 9 * level) & 511];
+		word = l->words[number - l->table.base].word[address >> (3 + 9 * level) & 511];
 		if (!(word & 1) || (level < 4 && level > 1 && word & 128))
 			return word;
 		number = word >> 12 & ((UINT64_C(1) << 40) - 1);
@@ -218,7 +218,7 @@ static void fills(uint64_t levels)
 /* Sets the accessed flag in each present word of a table, and the dirty flag where it maps a page, as a processor does that walks. */
 static void touch(struct lent *l, uint64_t number, int level)
 {
-	uint64_t *words = l->words[number - l->table.base];
+	uint64_t *words = l->words[number - l->table.base].word;
 	int i;
 	for (i = 0; i < 512; i++) {
 		int leaf = level == 1 || (words[i] & 128);
@@ -313,7 +313,7 @@ static void only_reads(uint64_t levels)
 {
 	const size_t bytes = 13 * 4096;
 	char *memory = (char *)mmap(0, bytes, PROT_READ | PROT_WRITE, MAP_PRIVATE | MAP_ANONYMOUS, -1, 0);
-	uint64_t (*words)[512] = (uint64_t (*)[512])(void *)memory;
+	struct nrvs_words *words = (struct nrvs_words *)(void *)memory;
 	struct nrvs_table *table = (struct nrvs_table *)(void *)(memory + 12 * 4096);
 	struct nrvs_mark *marks = (struct nrvs_mark *)(table + 1);
 	struct nrvs_reply r;

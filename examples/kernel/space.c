@@ -6,7 +6,7 @@
 #include "say.h"
 
 /* What the library is lent. The kernel's addresses are physical ones, so frame number and place agree. */
-static uint64_t frames[SPACE_TABLES][512] __attribute__((section(".bss.large"), aligned(4096)));
+static struct nrvs_words frames[SPACE_TABLES] __attribute__((section(".bss.large"), aligned(4096)));
 static struct nrvs_mark marks[SPACE_TABLES];
 static struct nrvs_table table;
 
@@ -168,7 +168,7 @@ void space_count_flags(uint64_t *accessed, uint64_t *dirty)
 	*accessed = *dirty = 0;
 	for (unsigned i = 0; i < SPACE_TABLES; i++) {
 		for (unsigned k = 0; k < 512; k++) {
-			const uint64_t word = ((volatile uint64_t *)frames[i])[k];
+			const uint64_t word = ((volatile uint64_t *)frames[i].word)[k];
 
 			*accessed += word & 1 && word >> 5 & 1;
 			*dirty += word & 1 && word >> 6 & 1;
@@ -186,5 +186,5 @@ uint64_t space_tables(void)
 
 void space_send_trace(void)
 {
-	record_send(table.root, table.base, SPACE_TABLES, frames);
+	record_send(table.root, table.base, SPACE_TABLES, &frames[0].word);
 }
