@@ -3,9 +3,9 @@
  * Each call is given a handle and the memory that it works in. It allocates nothing, keeps no pointer, and takes no lock. What each
  * does is proved: its contract is that of the same call of `Space` (docs/PROMISES.md).
  *
- * The memory: the words of `frames` frames, and `marks`, one for each frame at least. Frame number `base + i` is words[i]: where
- * words[0] lies at the physical address `base * 4096`, a processor walks what is written there, from the root at `table->root * 4096`.
- * Neither need be 0 at first.
+ * The memory: the words of `frames` frames, and `marks`, one for each frame at least; what there are more stay as they are. Frame number
+ * `base + i` is words[i]: where words[0] lies at the physical address `base * 4096`, a processor walks what is written there, from the root
+ * at `table->root * 4096`. Neither need be 0 at first.
  *
  * What the caller has to keep, which no call can test:
  *   - pointers are not null, aligned as their types are, and to as many elements as is said; none overlaps another;

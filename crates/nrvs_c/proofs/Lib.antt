@@ -1,3 +1,4 @@
 pub mod Pages
 pub mod Flagged
 pub mod Views
+pub mod Surplus

@@ -1,5 +1,5 @@
 //! What is done to a page table, which is opened for it, and taken apart again.
-ghost use Rattle.std.specs.Prelude.{◌≡◌, ◌+◌, ◌^◌, ◌<◌, ◌≤◌, [], length};
+ghost use Rattle.std.specs.Prelude.{◌≡◌, ◌+◌, ◌^◌, ◌<◌, ◌≤◌, [], length, drop};
 ghost use Rattle.vs_types.specs.Depth.{levels};
 ghost use Rattle.vs_types.specs.Operation.{IsAction};
 ghost use Rattle.vs_types.specs.Space.{no_pages};
@@ -12,17 +12,62 @@ use vs_arena::{FRAME_WORDS, FrameMark, LentArena};
 use vs_space::{NoRoot, Space};
 use vs_types::{Answer, Depth, Op};
 
-/// The memory lent and the handle after a call, and what was answered.
-#[derive(Drop)]
-pub(crate) struct Changed<'a, 'b> {
-    pub(crate) words: &'a mut [[u64; FRAME_WORDS]],
-    pub(crate) marks: &'b mut [FrameMark],
-    pub(crate) table: Table,
-    pub(crate) answer: Answer,
+/// Makes a page table with no pages in memory that is lent; at least one frame is. What marks there are beyond one for each frame stay.
+pub(crate) fn make(
+    table: &mut Table,
+    words: &mut [[u64; FRAME_WORDS]],
+    marks: &mut [FrameMark],
+    depth: Depth,
+    base: u64,
+)
+    requires some { 0 < length words.old }
+    requires few { length words.old ≤ TABLES }
+    requires in_range { base + length words.old ≤ 2 ^ 40 }
+    requires marked { length words.old ≤ length marks.old }
+    ensures usable { IsUsable table.new words.new marks.new }
+    ensures open { IsOpen table.new words.new marks.new }
+    ensures empty { IsTableOf (table_in [] table.new words.new marks.new) no_pages }
+    ensures levels { table.new.levels ≡ levels depth }
+    ensures same_base { table.new.base ≡ base }
+    ensures surplus { drop (length words.old) marks.new ≡ drop (length words.old) marks.old }
+{
+    let (own, _) = marks.split_at_mut(words.len());
+    let closed = make_in(depth, base, words, own);
+    *table = closed.table;
 }
 
-/// The page table with no pages in memory that is lent; at least one frame is.
-pub(crate) fn make<'a, 'b>(
+/// Does an operation. What marks there are beyond one for each frame stay.
+pub(crate) fn apply(
+    table: &mut Table,
+    words: &mut [[u64; FRAME_WORDS]],
+    marks: &mut [FrameMark],
+    op: Op,
+) -> Answer
+    requires open { IsOpen table.old words.old marks.old }
+    requires well_formed { IsAction (depth_in table.old) op }
+    ensures usable { IsUsable table.new words.new marks.new }
+    ensures open { IsOpen table.new words.new marks.new }
+    ensures step { IsTableStep (table_in [] table.old words.old marks.old) op result
+        (table_in [] table.new words.new marks.new) }
+    ensures surplus { drop (length words.old) marks.new ≡ drop (length words.old) marks.old }
+{
+    let (own, _) = marks.split_at_mut(words.len());
+    let changed = apply_in(*table, words, own, op);
+    *table = changed.table;
+    changed.answer
+}
+
+/// The memory lent and the handle after an operation, and what was answered.
+#[derive(Drop)]
+struct Changed<'a, 'b> {
+    words: &'a mut [[u64; FRAME_WORDS]],
+    marks: &'b mut [FrameMark],
+    table: Table,
+    answer: Answer,
+}
+
+/// Does what `make` does, in as many marks as frames.
+fn make_in<'a, 'b>(
     depth: Depth,
     base: u64,
     words: &'a mut [[u64; FRAME_WORDS]],
@@ -48,8 +93,8 @@ pub(crate) fn make<'a, 'b>(
     }
 }
 
-/// Does an operation.
-pub(crate) fn apply<'a, 'b>(
+/// Does what `apply` does, in as many marks as frames.
+fn apply_in<'a, 'b>(
     table: Table,
     words: &'a mut [[u64; FRAME_WORDS]],
     marks: &'b mut [FrameMark],

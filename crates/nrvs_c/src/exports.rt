@@ -1,6 +1,6 @@
 //! The calls for C. Each begins with the handle and the memory lent: frames of 512 words, and marks, which are as the last call
 //! with the handle left them. A call that only asks is given all three to read, and can change none of them.
-ghost use Rattle.std.specs.Prelude.{◌≡◌, ◌≢◌, ◌≤◌, [], length};
+ghost use Rattle.std.specs.Prelude.{◌≡◌, ◌≢◌, ◌≤◌, [], length, drop};
 ghost use Rattle.vs_types.specs.Codes.{size_code, rights_code, mode_code, access_code};
 ghost use Rattle.vs_types.specs.Depth.{IsCanonical};
 ghost use Rattle.vs_types.specs.Operation.{action_fault};
@@ -50,6 +50,8 @@ pub extern "C" fn nrvs_table_new(
     ensures refused_table { result ≢ 0 → table.new ≡ table.old }
     ensures refused_words { result ≢ 0 → words.new ≡ words.old }
     ensures refused_marks { result ≢ 0 → marks.new ≡ marks.old }
+    ensures surplus_marks { drop (length words.old) marks.new
+        ≡ drop (length words.old) marks.old }
 {
     let depth = match levels {
         4 => Depth::Four,
@@ -65,8 +67,7 @@ pub extern "C" fn nrvs_table_new(
     if base > (1 << 40) - words.len() as u64 {
         return BAD_BASE;
     }
-    let made = make(depth, base, words, marks);
-    *table = made.table;
+    make(table, words, marks, depth, base);
     OK
 }
 
@@ -103,6 +104,8 @@ pub extern "C" fn nrvs_table_map(
     ensures refused_table { result ≢ 0 → table.new ≡ table.old }
     ensures refused_words { result ≢ 0 → words.new ≡ words.old }
     ensures refused_marks { result ≢ 0 → marks.new ≡ marks.old }
+    ensures surplus_marks { drop (length words.old) marks.new
+        ≡ drop (length words.old) marks.old }
     ensures refused_reply { result ≢ 0 → reply.new ≡ reply.old }
 {
     let status = table.status(words, marks);
@@ -117,9 +120,7 @@ pub extern "C" fn nrvs_table_map(
     };
     match Op::map(table.depth(), base, size, physical, rights) {
         Ok(op) => {
-            let changed = apply(*table, words, marks, op);
-            *table = changed.table;
-            *reply = Reply::of(changed.answer);
+            *reply = Reply::of(apply(table, words, marks, op));
             OK
         }
         Err(fault) => status_of(fault),
@@ -147,6 +148,8 @@ pub extern "C" fn nrvs_table_unmap(
     ensures refused_table { result ≢ 0 → table.new ≡ table.old }
     ensures refused_words { result ≢ 0 → words.new ≡ words.old }
     ensures refused_marks { result ≢ 0 → marks.new ≡ marks.old }
+    ensures surplus_marks { drop (length words.old) marks.new
+        ≡ drop (length words.old) marks.old }
     ensures refused_reply { result ≢ 0 → reply.new ≡ reply.old }
 {
     let status = table.status(words, marks);
@@ -155,9 +158,7 @@ pub extern "C" fn nrvs_table_unmap(
     }
     match Op::unmap(table.depth(), base) {
         Ok(op) => {
-            let changed = apply(*table, words, marks, op);
-            *table = changed.table;
-            *reply = Reply::of(changed.answer);
+            *reply = Reply::of(apply(table, words, marks, op));
             OK
         }
         Err(fault) => status_of(fault),
@@ -189,6 +190,8 @@ pub extern "C" fn nrvs_table_protect(
     ensures refused_table { result ≢ 0 → table.new ≡ table.old }
     ensures refused_words { result ≢ 0 → words.new ≡ words.old }
     ensures refused_marks { result ≢ 0 → marks.new ≡ marks.old }
+    ensures surplus_marks { drop (length words.old) marks.new
+        ≡ drop (length words.old) marks.old }
     ensures refused_reply { result ≢ 0 → reply.new ≡ reply.old }
 {
     let status = table.status(words, marks);
@@ -200,9 +203,7 @@ pub extern "C" fn nrvs_table_protect(
     };
     match Op::protect(table.depth(), base, rights) {
         Ok(op) => {
-            let changed = apply(*table, words, marks, op);
-            *table = changed.table;
-            *reply = Reply::of(changed.answer);
+            *reply = Reply::of(apply(table, words, marks, op));
             OK
         }
         Err(fault) => status_of(fault),

@@ -2,7 +2,7 @@ use Rattle.std.proofs.Common.{[], ◌∷◌, sym, subst}
 use Rattle.vs_space.specs.Table.{PageTable, IsTableStep}
 use Rattle.vs_space.proofs.Relent.{relent_step}
 use Rattle.nrvs_c.specs.Table.{table_in}
-use Rattle.nrvs_c.proofs.change.apply.Goals as goal
+use Rattle.nrvs_c.proofs.change.apply_in.Goals as goal
 
 pub returns-clause-step : goal.returns-clause-step
 returns-clause-step c =

@@ -6,7 +6,7 @@ returns-in-Ok-clause-done c = λ _. record {
   usable = search rules;
   still_usable = search rules;
   well_formed = search rules;
-  answer = c.apply-changed.result.answer;
+  answer = c.apply.result;
   replied = c.of.ensures;
   step = search rules;
 }
