@@ -1,6 +1,10 @@
-//! Gates that stop a thread, or hold it.
+//! Gates that stop a thread, hold it, or count.
 use nr_replicas::{Gate, Point, Signal};
+use std::alloc::Global;
+use std::process::Abort;
 use std::sync::atomic::{AtomicU32, Ordering};
+use std::thread;
+use vs_types::Memory;
 
 /// Says stop to one thread at one point.
 #[derive(Clone, Copy, Drop)]
@@ -16,13 +20,13 @@ impl Gate for StopAt {
     }
 }
 
-/// Holds a thread until the number has come so far; after 10,000,000 turns of its own it says stop.
+/// Holds a thread until the number has come so far; after 1,000,000 turns of its own it says stop.
 fn hold(come: &AtomicU32, least: u32) -> Signal {
-    for _ in 0..10_000_000u32 {
+    for _ in 0..1_000_000u32 {
         if come.load(Ordering::SeqCst) >= least {
             return Signal::Go;
         }
-        std::hint::spin_loop();
+        thread::yield_now();
     }
     Signal::Stop
 }
@@ -100,5 +104,121 @@ impl Gate for InTurn {
             },
             _ => Signal::Go,
         }
+    }
+}
+
+/// Holds each thread when it has made its call, until so many threads have.
+#[derive(Drop)]
+pub struct AllAtOnce {
+    threads: u32,
+    come: AtomicU32,
+}
+
+impl AllAtOnce {
+    pub fn new(threads: u32) -> AllAtOnce {
+        AllAtOnce {
+            threads,
+            come: AtomicU32::new(0),
+        }
+    }
+}
+
+impl Gate for AllAtOnce {
+    fn at(&self, _thread: u16, point: Point) -> Signal {
+        if point != Point::Called {
+            return Signal::Go;
+        }
+        self.come.fetch_add(1, Ordering::SeqCst);
+        hold(&self.come, self.threads)
+    }
+}
+
+/// Holds one thread at a point, until another has come to a point of its own; that one goes on from its call when the first is held.
+#[derive(Drop)]
+pub struct Around {
+    held: (u16, Point),
+    until: (u16, Point),
+    is_held: AtomicU32,
+    has_come: AtomicU32,
+}
+
+impl Around {
+    pub fn new(held: (u16, Point), until: (u16, Point)) -> Around {
+        Around {
+            held,
+            until,
+            is_held: AtomicU32::new(0),
+            has_come: AtomicU32::new(0),
+        }
+    }
+}
+
+impl Gate for Around {
+    fn at(&self, thread: u16, point: Point) -> Signal {
+        if (thread, point) == self.held {
+            self.is_held.store(1, Ordering::SeqCst);
+            return hold(&self.has_come, 1);
+        }
+        if (thread, point) == self.until {
+            self.has_come.store(1, Ordering::SeqCst);
+        }
+        if thread == self.until.0 && point == Point::Called {
+            hold(&self.is_held, 1)
+        } else {
+            Signal::Go
+        }
+    }
+}
+
+/// How often a thread was asked at each point.
+#[derive(Drop)]
+struct Asked {
+    called: AtomicU32,
+    appended: AtomicU32,
+    answered: AtomicU32,
+}
+
+/// Counts how often each thread is asked at each point.
+#[derive(Drop)]
+pub struct Counting {
+    threads: Vec<Asked>,
+}
+
+impl Counting {
+    pub fn new(alloc: Global, count: u32) -> Result<Counting, Memory> {
+        let mut threads = Vec::new(alloc);
+        for _ in 0..count {
+            threads.push(Asked {
+                called: AtomicU32::new(0),
+                appended: AtomicU32::new(0),
+                answered: AtomicU32::new(0),
+            })?;
+        }
+        Ok(Counting { threads })
+    }
+
+    /// How often a thread was asked when it had made a call, when it had appended a batch, and when it had an answer.
+    pub fn asked(&self, rt: &impl Abort, thread: usize) -> [u32; 3] {
+        let asked = self.threads.get(thread).expect(rt, "a thread of the run");
+        [
+            asked.called.load(Ordering::SeqCst),
+            asked.appended.load(Ordering::SeqCst),
+            asked.answered.load(Ordering::SeqCst),
+        ]
+    }
+}
+
+impl Gate for Counting {
+    fn at(&self, thread: u16, point: Point) -> Signal {
+        let Some(asked) = self.threads.get(usize::from(thread)) else {
+            return Signal::Stop;
+        };
+        let count = match point {
+            Point::Called => &asked.called,
+            Point::Appended => &asked.appended,
+            Point::Answered => &asked.answered,
+        };
+        count.fetch_add(1, Ordering::SeqCst);
+        Signal::Go
     }
 }

@@ -1,5 +1,5 @@
-//! Worked examples of runs, with values from elsewhere: a run of four lines, an empty one, two threads that really run at once, threads
-//! that a gate stops at each point, and each growth of memory refused in turn. No crate stands on this one.
+//! Worked examples of runs, with values from elsewhere: a run of four lines, an empty one, two threads that really run at once, the
+//! points at which a gate is asked, holds a thread or stops it, and each growth of memory refused in turn. No crate stands on this one.
 #![tactic(auto)]
 
 #[cfg(test)]
@@ -8,6 +8,8 @@ mod gates;
 mod growths;
 #[cfg(test)]
 mod hostile;
+#[cfg(test)]
+mod points;
 #[cfg(test)]
 mod runs;
 #[cfg(test)]

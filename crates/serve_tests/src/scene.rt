@@ -34,6 +34,17 @@ impl Shown {
         assert_eq!(rt; all[thread].as_slice(), said);
     }
 
+    /// What came of the call of a thread that makes one.
+    pub fn said_once(&self, rt: &impl Abort, thread: u16) -> Said {
+        let said = self
+            .answers
+            .threads()
+            .get(usize::from(thread))
+            .expect(rt, "a thread of the run");
+        assert!(rt; said.len() == 1);
+        said[0]
+    }
+
     /// The trace.
     pub fn read(&self, rt: &impl Abort, alloc: Global) -> Trace {
         read(alloc, self.trace.as_slice()).expect(rt, "a trace")
