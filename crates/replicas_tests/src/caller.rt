@@ -20,10 +20,12 @@ pub enum Said {
 }
 
 /// A call that was made, and what it was told.
-#[derive(Clone, Copy, Debug)]
+#[derive(Clone, Copy)]
 pub struct Made {
     pub query: Query,
     pub said: Said,
+    /// How many batches it appended, as its gate was asked.
+    pub batches: u32,
 }
 
 /// Some replicas, and the pass of one of their threads.
@@ -70,6 +72,14 @@ impl<'a, J: LogName, K: ReplicasName> Caller<'a, J, K> {
         ensures { result.log ≡ K.log }
     {
         self.pass
+    }
+
+    pub fn thread(&self) -> u16 {
+        self.thread
+    }
+
+    pub fn depth(&self) -> Depth {
+        self.depth
     }
 
     /// Makes a call, of an operation that is well formed at the depth, or about a canonical address.

@@ -34,8 +34,8 @@ fn assert_numbers(rt: &impl Abort, dump: &Dump, first: u64, tables: u16) {
     }
 }
 
-/// There is a dump for each replica: with frames of the replica's own numbers, as many as there are tables in a plain space after as
-/// many of these updates as it has applied, and with that space's pages. The updates are those of the log.
+/// There is a dump for each replica: with frames of the replica's own numbers, of which the root is the first, as many as a plain space
+/// has tables after as many of these updates as it has applied, and with that space's pages. The updates are those of the log.
 pub fn assert_dumps(
     rt: &impl Abort,
     alloc: Global,
@@ -50,7 +50,7 @@ pub fn assert_dumps(
         let applied = dump.applied() as usize;
         assert!(rt; applied <= updates.len());
         let space = space_after(rt, alloc, config, &updates[..applied])?;
-        assert_eq!(rt; dump.count(), space.tables());
+        assert_eq!(rt; (dump.root(), dump.count()), (first, space.tables()));
         assert_numbers(rt, dump, first, config.tables());
         check(alloc, dump, &space)?;
         first = first.wrapping_add(4096);

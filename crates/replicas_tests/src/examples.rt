@@ -1,13 +1,13 @@
 //! Calls one after another on few replicas.
 
-use crate::dumps::assert_dumps;
-use crate::steps::{Step, map_a, take, unmap_a};
+use crate::cases::Case;
+use crate::steps::{Asks, MAP, Step};
 use std::alloc::Global;
 use std::process::Abort;
 use std::sync::Wait;
 use std::test::Fail;
 use std::thread::Threads;
-use vs_types::{Access, Answer, Config, Depth, Rights, Size};
+use vs_types::{Access, Answer, Depth, Rights, Size};
 
 /// A page is mapped by the first of so many threads, and read by the last, which has made no call. Each thread has a replica with just
 /// the tables that the page takes.
@@ -17,26 +17,23 @@ fn map_and_read<R: Wait + Abort + Threads + Sync>(
     depth: Depth,
     count: u8,
 ) -> Result<(), Fail> {
-    let tables = u16::from(depth.levels());
-    let config = Config::new(depth, count, u16::from(count), tables)?;
-    let map = map_a(rt, depth);
+    let threads = u16::from(count);
+    let last = threads.saturating_sub(1);
     let mapped = Answer::Mapped(0x1123, Size::K4, Rights::ALL);
-    let last = u16::from(count).saturating_sub(1);
     let steps = [
-        Step::update(0, 0, map, 0, Answer::Done),
+        Step::update(0, 0, MAP, 0, Answer::Done),
         Step::read(last, 0x400123, 1, mapped),
         Step::read(last, 0x401000, 1, Answer::NotMapped),
         Step::access(last, 0x400123, Access::Write, 1, Answer::Allowed(0x1123)),
         Step::access(last, 0x401000, Access::Fetch, 1, Answer::Fault(20)),
     ];
-    let settled = take(rt, alloc, config, &steps)?;
-    let applied = [1u32; 4];
-    assert!(rt; usize::from(count) <= applied.len());
-    settled.assert(rt, [0u32].as_slice(), &applied[..usize::from(count)]);
-    for dump in settled.dumps.as_slice() {
-        assert_eq!(rt; dump.count(), usize::from(tables));
+    Case {
+        calls: &[0],
+        applied: [1; 4],
+        batches: 1,
+        ..Case::new(depth, count, threads, u16::from(depth.levels()), &steps)
     }
-    assert_dumps(rt, alloc, config, &settled, [map].as_slice())
+    .assert(rt, alloc)
 }
 
 #[test]
@@ -58,66 +55,94 @@ fn five_levels(rt: HostRuntime) -> Result<(), Fail> {
 /// Replicas at which nothing was done: each has a root, and nothing else.
 #[test]
 fn nothing_was_done(rt: HostRuntime) -> Result<(), Fail> {
-    let config = Config::new(Depth::Four, 4, 4, 4096)?;
-    let none = Vec::new(rt.alloc());
-    let settled = take(&rt, rt.alloc(), config, &none)?;
-    settled.assert(&rt, [].as_slice(), [0u32, 0, 0, 0].as_slice());
-    let mut root = 1u64 << 39;
-    for dump in settled.dumps.as_slice() {
-        assert_eq!(rt; (dump.root(), dump.count()), (root, 1));
-        root = root.wrapping_add(4096);
-    }
-    Ok(())
+    Case::new(Depth::Four, 4, 4, 4096, &[]).assert(&rt, rt.alloc())
 }
 
-/// A replica takes what the others have appended when one of its threads calls, or when the ring of 16 is full, and not before: of
-/// 40 updates at the first one the others have taken 32.
-#[test]
-fn one_node_for_all_replicas(rt: HostRuntime) -> Result<(), Fail> {
-    let unmap = unmap_a(&rt, Depth::Four);
-    let mut steps = Vec::new(rt.alloc());
-    let mut calls = Vec::new(rt.alloc());
-    for call in 0..40 {
-        steps.push(Step::update(0, call, unmap, call, Answer::NotMapped))?;
+/// So many updates of thread 0, each answered, and how many of them a replica takes whose threads make no call.
+fn leave_replicas_alone<R: Wait + Abort + Threads + Sync>(
+    rt: &R,
+    alloc: Global,
+    updates: u32,
+    taken: u32,
+) -> Result<(), Fail> {
+    let mut steps = Vec::new(alloc);
+    let mut calls = Vec::new(alloc);
+    for call in 0..updates {
+        let (asks, answer) = match call % 3 {
+            0 => (MAP, Answer::Done),
+            1 => (MAP, Answer::Overlap(0x400000)),
+            _ => (Asks::Unmap, Answer::Removed(0x1000, Size::K4, Rights::ALL)),
+        };
+        steps.push(Step::update(0, call, asks, call, answer))?;
         calls.push(call)?;
     }
     for replicas in [2, 3, 4] {
-        let config = Config::new(Depth::Four, replicas, 4, 4)?;
-        let settled = take(&rt, rt.alloc(), config, &steps)?;
-        let applied = [40u32, 32, 32, 32];
-        settled.assert(&rt, &calls, &applied[..usize::from(replicas)]);
+        Case {
+            calls: &calls,
+            applied: [updates, taken, taken, taken],
+            batches: updates,
+            ..Case::new(Depth::Four, replicas, 4, 4, &steps)
+        }
+        .assert(rt, alloc)?;
     }
     Ok(())
 }
 
-/// Each of seven threads works at the replica of its number modulo three, whether it updates or reads.
+/// A replica takes what the others have appended when one of its threads calls, or when the ring of 16 is full, and not before.
+#[test]
+fn replica_without_calls(rt: HostRuntime) -> Result<(), Fail> {
+    for (updates, taken) in [(1, 0), (16, 0), (17, 16), (32, 16), (33, 32), (40, 32)] {
+        leave_replicas_alone(&rt, rt.alloc(), updates, taken)?;
+    }
+    Ok(())
+}
+
+/// One update of thread 0 to 6, and what the three replicas have then applied.
+fn update_once<R: Wait + Abort + Threads + Sync>(
+    rt: &R,
+    alloc: Global,
+    steps: &[Step],
+    applied: [u32; 4],
+) -> Result<(), Fail> {
+    Case {
+        calls: &[9],
+        applied,
+        batches: 1,
+        ..Case::new(Depth::Four, 3, 7, 4, steps)
+    }
+    .assert(rt, alloc)
+}
+
+/// A thread updates alone, or reads or accesses after thread 0's update. The replicas that have then applied it.
+fn work_at_a_replica<R: Wait + Abort + Threads + Sync>(
+    rt: &R,
+    alloc: Global,
+    thread: u16,
+    alone: [u32; 4],
+    both: [u32; 4],
+) -> Result<(), Fail> {
+    let mapped = Answer::Mapped(0x1000, Size::K4, Rights::ALL);
+    let allowed = Answer::Allowed(0x1000);
+    let first = Step::update(0, 9, MAP, 0, Answer::Done);
+    let update = Step { thread, ..first };
+    let read = Step::read(thread, 0x400000, 1, mapped);
+    let access = Step::access(thread, 0x400000, Access::Write, 1, allowed);
+    update_once(rt, alloc, &[update], alone)?;
+    update_once(rt, alloc, &[first, read], both)?;
+    update_once(rt, alloc, &[first, access], both)
+}
+
+/// Each of seven threads works at the replica of its number modulo three, whether it updates, reads or accesses.
 #[test]
 fn thread_works_at_its_replica(rt: HostRuntime) -> Result<(), Fail> {
-    let config = Config::new(Depth::Four, 3, 7, 4)?;
-    let map = map_a(&rt, Depth::Four);
-    let mapped = Answer::Mapped(0x1000, Size::K4, Rights::ALL);
-    let applied = [
-        [1u32, 0, 0],
-        [0, 1, 0],
-        [0, 0, 1],
-        [1, 0, 0],
-        [0, 1, 0],
-        [0, 0, 1],
-        [1, 0, 0],
-    ];
-    for (thread, after) in applied.iter().enumerate() {
-        let thread = thread as u16;
-        let update = Step::update(thread, 9, map, 0, Answer::Done);
-        let settled = take(&rt, rt.alloc(), config, [update].as_slice())?;
-        settled.assert(&rt, [9u32].as_slice(), after.as_slice());
-        let steps = [
-            Step::update(0, 9, map, 0, Answer::Done),
-            Step::read(thread, 0x400000, 1, mapped),
-        ];
-        let settled = take(&rt, rt.alloc(), config, &steps)?;
-        let mut both = *after;
-        both[0] = 1;
-        settled.assert(&rt, [9u32].as_slice(), both.as_slice());
+    for thread in [0, 3, 6] {
+        work_at_a_replica(&rt, rt.alloc(), thread, [1, 0, 0, 0], [1, 0, 0, 0])?;
+    }
+    for thread in [1, 4] {
+        work_at_a_replica(&rt, rt.alloc(), thread, [0, 1, 0, 0], [1, 1, 0, 0])?;
+    }
+    for thread in [2, 5] {
+        work_at_a_replica(&rt, rt.alloc(), thread, [0, 0, 1, 0], [1, 0, 1, 0])?;
     }
     Ok(())
 }

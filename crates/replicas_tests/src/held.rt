@@ -1,37 +1,39 @@
-//! A thread that is held at its gate holds no lock.
+//! A thread that is held at its gate, while others make their calls.
 
-use crate::caller::{Caller, Said};
+use crate::caller::Caller;
 use crate::gate::CountingGate;
 use crate::scene::{Test, run};
-use crate::steps::{TURNS, map_a, unmap_a};
+use crate::steps::{Asks, MAP, Step, TURNS, take_step};
 use crossbeam_utils::Backoff;
-use nr_replicas::{Gate, Point, ReplicasName, Signal};
+use nr_replicas::{Gate, Point, ReplicasName, Signal, UpdateFault};
 use nr_ring::LogName;
-use std::alloc::Global;
 use std::process::Abort;
 use std::sync::Wait;
-use std::sync::atomic::{AtomicBool, Ordering};
+use std::sync::atomic::{AtomicU32, Ordering};
 use std::test::Fail;
 use std::thread;
 use std::thread::Threads;
-use vs_types::{Answer, Config, Depth, Op, Query, Rights, Size};
+use vs_types::{Answer, Config, Depth, Rights, Size};
 
-/// A gate that holds a thread until another has made its calls, and at last says stop.
+/// A gate that holds a thread until the others have made their calls, and then gives a signal.
 #[derive(Drop)]
 struct HoldingGate {
-    /// The thread has come to the gate.
-    come: AtomicBool,
-    /// The other has made its calls.
-    made: AtomicBool,
+    then: Signal,
+    /// How many threads are not held.
+    others: usize,
+    /// How often it was asked.
+    asked: AtomicU32,
+    /// How many of the others have made their calls.
+    made: AtomicU32,
 }
 
 impl Gate for HoldingGate {
     fn at(&self, _thread: u16, _point: Point) -> Signal {
-        self.come.store(true, Ordering::SeqCst);
+        self.asked.fetch_add(1, Ordering::SeqCst);
         let backoff = Backoff::new();
         for _ in 0..10_000_000u32 {
-            if self.made.load(Ordering::SeqCst) {
-                return Signal::Go;
+            if self.made.load(Ordering::SeqCst) as usize >= self.others {
+                return self.then;
             }
             backoff.snooze();
         }
@@ -40,11 +42,11 @@ impl Gate for HoldingGate {
 }
 
 impl HoldingGate {
-    /// Waits until the thread has come to the gate.
+    /// Waits until a thread has come to the gate.
     fn wait<R: Wait>(&self, rt: &R) {
         let backoff = Backoff::new();
         for _ in rt.forever() {
-            if self.come.load(Ordering::SeqCst) {
+            if self.asked.load(Ordering::SeqCst) > 0 {
                 return;
             }
             backoff.snooze();
@@ -53,42 +55,35 @@ impl HoldingGate {
     }
 }
 
-/// A thread's caller, and whether it is held.
-#[derive(Drop)]
-struct Worker<'a, J: LogName, K: ReplicasName> {
-    caller: Caller<'a, J, K>,
-    is_held: bool,
-}
-
-/// A worker that is held maps a page; another one removes it, when that one is held, and reads.
+/// Takes the steps of a caller's thread: the first thread's at the gate, and another one's when that one has come to it.
 fn work<'a, J: LogName, K: ReplicasName, R: Wait + Abort>(
     rt: &R,
-    worker: Worker<'a, J, K>,
+    caller: Caller<'a, J, K>,
+    steps: &[Step],
     gate: &HoldingGate,
-    map: Op,
-    unmap: Op,
 ) -> Caller<'a, J, K> {
-    let Worker {
-        mut caller,
-        is_held,
-    } = worker;
-    if is_held {
-        let said = caller.ask(rt, 0, Query::Update(map), TURNS, gate);
-        assert_eq!(rt; said, Said::Answer(0, Answer::Done));
-        return caller;
+    let mut caller = caller;
+    let thread = caller.thread();
+    let is_held = thread == 0;
+    if !is_held {
+        gate.wait(rt);
     }
-    gate.wait(rt);
     let open = CountingGate::new(None);
-    let said = caller.ask(rt, 1, Query::Update(unmap), TURNS, &open);
-    let removed = Answer::Removed(0x1000, Size::K4, Rights::ALL);
-    assert_eq!(rt; said, Said::Answer(1, removed));
-    let said = caller.ask(rt, 2, Query::Resolve(0x400000), TURNS, &open);
-    assert_eq!(rt; said, Said::Answer(2, Answer::NotMapped));
-    gate.made.store(true, Ordering::SeqCst);
+    for step in steps {
+        if step.thread == thread && is_held {
+            take_step(rt, &mut caller, step, gate);
+        } else if step.thread == thread {
+            take_step(rt, &mut caller, step, &open);
+        }
+    }
+    if !is_held {
+        gate.made.fetch_add(1, Ordering::SeqCst);
+    }
     caller
 }
 
-/// All workers at once, of which the first is held.
+/// All threads at once, each with its steps. The first is held at the gate of its first step, the only one at which it is asked,
+/// until the others have taken all of theirs; then the gate gives this signal.
 pub fn hold<
     'a,
     J: LogName + Send + Sync,
@@ -96,37 +91,56 @@ pub fn hold<
     R: Wait + Abort + Threads + Sync,
 >(
     rt: &R,
-    alloc: Global,
     callers: Vec<Caller<'a, J, K>>,
-    map: Op,
-    unmap: Op,
+    steps: &[Step],
+    then: Signal,
 ) -> Result<Vec<Caller<'a, J, K>>, Fail> {
-    let mut workers = Vec::new(alloc);
-    for caller in callers {
-        let is_held = workers.is_empty();
-        workers.push(Worker { caller, is_held })?;
-    }
     let gate = HoldingGate {
-        come: AtomicBool::new(false),
-        made: AtomicBool::new(false),
+        then,
+        others: callers.len().saturating_sub(1),
+        asked: AtomicU32::new(0),
+        made: AtomicU32::new(0),
     };
     let callers = thread::map_vec(
         rt,
-        workers,
-        &|worker: Worker<J, K>| { work(rt, worker, &gate, map, unmap) },
+        callers,
+        &|caller: Caller<J, K>| { work(rt, caller, steps, &gate) },
     )?;
+    assert_eq!(rt; gate.asked.load(Ordering::SeqCst), 1);
     Ok(callers)
 }
 
 /// Both threads have one replica, or each its own.
 #[test]
 fn no_lock_is_held_at_the_gate(rt: HostRuntime) -> Result<(), Fail> {
-    let map = map_a(&rt, Depth::Four);
-    let unmap = unmap_a(&rt, Depth::Four);
+    let removed = Answer::Removed(0x1000, Size::K4, Rights::ALL);
+    let steps = [
+        Step::update(0, 0, MAP, 0, Answer::Done),
+        Step::update(1, 1, Asks::Unmap, 1, removed),
+        Step::read(1, 0x400000, 2, Answer::NotMapped),
+    ];
     for replicas in [1, 2] {
         let config = Config::new(Depth::Four, replicas, 2, 4)?;
-        let settled = run(&rt, rt.alloc(), config, Test::Hold(map, unmap))?;
-        assert_eq!(rt; settled.calls.as_slice(), [0u32, 1].as_slice());
+        let settled = run(&rt, rt.alloc(), config, Test::Hold(&steps, Signal::Go))?;
+        settled.assert(&rt, &[0, 1], &[]);
     }
+    Ok(())
+}
+
+/// A call that is told to stop makes no further step: it appends no update that has come to a slot of its replica meanwhile, has its
+/// replica take no entry that has come to the log, and does not take its answer, so that its slot is occupied.
+#[test]
+fn no_step_after_the_stop(rt: HostRuntime) -> Result<(), Fail> {
+    let removed = Answer::Removed(0x1000, Size::K4, Rights::ALL);
+    let steps = [
+        Step::fault(0, 0, MAP, TURNS, UpdateFault::Stopped(0)),
+        Step::update(1, 1, Asks::Unmap, 1, removed),
+        Step::read(1, 0x400000, 2, Answer::NotMapped),
+        Step::fault(2, 2, MAP, 0, UpdateFault::Stopped(2)),
+        Step::fault(0, 3, MAP, TURNS, UpdateFault::Occupied),
+    ];
+    let config = Config::new(Depth::Four, 2, 3, 4)?;
+    let settled = run(&rt, rt.alloc(), config, Test::Hold(&steps, Signal::Stop))?;
+    settled.assert(&rt, &[0, 1], &[1, 2]);
     Ok(())
 }

@@ -38,7 +38,8 @@ fn judge_places(rt: &impl Abort, alloc: Global, settled: &Settled) -> Result<(),
     let mut call = 0u32;
     for (made, place) in made.iter().zip(places.iter()) {
         let may = may_be_told(*made, call, *place);
-        assert!(rt; may, "call {call} at {place:?}: {made:?}");
+        let said = made.said;
+        assert!(rt; may, "call {call} at {place:?}: {said:?}");
         call = call.wrapping_add(1);
     }
     Ok(())
@@ -88,9 +89,10 @@ fn judge_answers(
         judge_reads(rt, made, entries, &space);
     }
     for made in made {
+        let said = made.said;
         assert!(rt;
-            !matches!(made.said, Said::Answer(at, _) if at > entries),
-            "{made:?}"
+            !matches!(said, Said::Answer(at, _) if at > entries),
+            "{said:?}"
         );
     }
     Ok(updates)

@@ -3,7 +3,11 @@
 #![tactic(auto)]
 
 #[cfg(test)]
+mod batches;
+#[cfg(test)]
 mod caller;
+#[cfg(test)]
+mod cases;
 #[cfg(test)]
 mod draws;
 #[cfg(test)]

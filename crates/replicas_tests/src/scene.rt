@@ -7,7 +7,7 @@ use crate::gate::CountingGate;
 use crate::held::hold;
 use crate::steps::{Step, take_all};
 use crate::threads::{Drawn, make_at_once};
-use nr_replicas::{OpenReplicas, Replicas, ReplicasName};
+use nr_replicas::{OpenReplicas, Replicas, ReplicasName, Signal};
 use nr_ring::{LogName, LogPass};
 use std::alloc::Global;
 use std::marker::Brand;
@@ -15,7 +15,7 @@ use std::process::Abort;
 use std::sync::Wait;
 use std::test::Fail;
 use std::thread::Threads;
-use vs_types::{Config, Memory, Op};
+use vs_types::{Config, Memory};
 use vs_walk::Dump;
 
 /// The calls that a test makes on new replicas.
@@ -25,8 +25,8 @@ pub enum Test<'s> {
     Steps(&'s [Step], &'s CountingGate, bool),
     /// A script for each thread, all at once.
     Scripts(Vec<Vec<Drawn>>),
-    /// The first thread makes one update and is held at its gate, while the others make another.
-    Hold(Op, Op),
+    /// Steps of all threads at once, while the first is held at its gate, which then gives a signal.
+    Hold(&'s [Step], Signal),
 }
 
 /// What is left of replicas.
@@ -44,7 +44,6 @@ impl Settled {
     /// These calls stand in the log, and the dumps have applied as many entries as these.
     pub fn assert(&self, rt: &impl Abort, calls: &[u32], applied: &[u32]) {
         assert_eq!(rt; self.calls.as_slice(), calls);
-        assert_eq!(rt; self.dumps.len(), applied.len());
         for (dump, count) in self.dumps.iter().zip(applied.iter()) {
             assert_eq!(rt; dump.applied(), *count);
         }
@@ -123,8 +122,8 @@ fn make_calls<
             Ok((callers, Vec::new(alloc)))
         }
         Test::Scripts(scripts) => make_at_once(rt, alloc, callers, scripts),
-        Test::Hold(held, other) => {
-            let callers = hold(rt, alloc, callers, held, other)?;
+        Test::Hold(steps, then) => {
+            let callers = hold(rt, callers, steps, then)?;
             Ok((callers, Vec::new(alloc)))
         }
     }

@@ -1,48 +1,75 @@
 //! Calls one after another, each with what it is to be told.
 
 use crate::caller::{Caller, Said};
-use crate::gate::CountingGate;
-use crate::scene::{Settled, Test, run};
-use nr_replicas::{ReplicasName, UpdateFault};
+use nr_replicas::{Gate, ReplicasName, UpdateFault};
 use nr_ring::LogName;
-use std::alloc::Global;
 use std::process::Abort;
 use std::sync::Wait;
-use std::test::Fail;
-use std::thread::Threads;
-use vs_types::{Access, Answer, Config, Depth, Mode, Op, Query, Rights, Size};
+use vs_types::{Access, Answer, Depth, Mode, Op, Query, Rights, Size};
 
 /// How many turns a call has that is to be answered.
 pub const TURNS: u32 = 100_000;
 
+/// What a call asks.
+#[derive(Clone, Copy)]
+pub enum Asks {
+    /// A page of 4 KiB is mapped to 0x1000, with all rights: that of this number from 0x400000 on, each in 2 MiB of its own, so that it
+    /// takes a table.
+    Map(u32),
+    /// The page at 0x400000 goes.
+    Unmap,
+    /// The translation of an address.
+    Resolve(u64),
+    /// Whether an access in user mode is allowed.
+    Access(u64, Access),
+}
+
+impl Asks {
+    pub fn query(self, rt: &impl Abort, depth: Depth) -> Query {
+        match self {
+            Asks::Map(number) => {
+                let base = 0x400000 + 0x200000 * u64::from(number);
+                let op = Op::map(depth, base, Size::K4, 0x1000, Rights::ALL);
+                Query::Update(op.expect(rt, "a map"))
+            }
+            Asks::Unmap => Query::Update(Op::unmap(depth, 0x400000).expect(rt, "an unmap")),
+            Asks::Resolve(address) => Query::Resolve(address),
+            Asks::Access(address, access) => Query::Access(address, Mode::User, access),
+        }
+    }
+}
+
+/// The page at 0x400000 is mapped.
+pub const MAP: Asks = Asks::Map(0);
+
 /// A call of a thread, and what it is to be told.
-#[derive(Clone, Copy, Debug)]
+#[derive(Clone, Copy)]
 pub struct Step {
     pub thread: u16,
     pub call: u32,
-    pub query: Query,
+    pub asks: Asks,
     pub turns: u32,
     pub wanted: Said,
 }
 
 impl Step {
     /// The update is answered so.
-    pub fn update(thread: u16, call: u32, op: Op, place: u32, answer: Answer) -> Step {
+    pub fn update(thread: u16, call: u32, asks: Asks, place: u32, answer: Answer) -> Step {
         Step {
             thread,
             call,
-            query: Query::Update(op),
+            asks,
             turns: TURNS,
             wanted: Said::Answer(place, answer),
         }
     }
 
     /// The update is not answered.
-    pub fn fault(thread: u16, call: u32, op: Op, turns: u32, fault: UpdateFault) -> Step {
+    pub fn fault(thread: u16, call: u32, asks: Asks, turns: u32, fault: UpdateFault) -> Step {
         Step {
             thread,
             call,
-            query: Query::Update(op),
+            asks,
             turns,
             wanted: Said::Fault(fault),
         }
@@ -53,7 +80,7 @@ impl Step {
         Step {
             thread,
             call: 0,
-            query: Query::Resolve(address),
+            asks: Asks::Resolve(address),
             turns: TURNS,
             wanted: Said::Answer(at, answer),
         }
@@ -64,68 +91,52 @@ impl Step {
         Step {
             thread,
             call: 0,
-            query: Query::Access(address, Mode::User, access),
+            asks: Asks::Access(address, access),
             turns: TURNS,
             wanted: Said::Answer(at, answer),
         }
     }
+
+    /// The same call in so many turns. It is stopped where they are fewer than it takes.
+    pub fn in_turns(self, turns: u32, takes: u32) -> Step {
+        let wanted = if turns < takes {
+            Said::Stopped
+        } else {
+            self.wanted
+        };
+        Step {
+            turns,
+            wanted,
+            ..self
+        }
+    }
+}
+
+/// Makes the call of a step, at a gate.
+pub fn take_step<J: LogName, K: ReplicasName, G: Gate, R: Wait + Abort>(
+    rt: &R,
+    caller: &mut Caller<J, K>,
+    step: &Step,
+    gate: &G,
+) {
+    let (thread, call) = (step.thread, step.call);
+    let query = step.asks.query(rt, caller.depth());
+    let said = caller.ask(rt, call, query, step.turns, gate);
+    assert_eq!(rt; said, step.wanted, "call {call} of thread {thread}");
 }
 
 /// Makes the calls of these steps one after another, at a gate.
-pub fn take_all<J: LogName, K: ReplicasName, R: Wait + Abort>(
+pub fn take_all<J: LogName, K: ReplicasName, G: Gate, R: Wait + Abort>(
     rt: &R,
     callers: &mut Vec<Caller<J, K>>,
     steps: &[Step],
-    gate: &CountingGate,
+    gate: &G,
 ) {
-    for (number, step) in steps.iter().enumerate() {
+    for step in steps {
         let thread = usize::from(step.thread);
         let caller = callers
             .get_mut(thread)
             .expect(rt, "a thread of the replicas");
-        let said = caller.ask(rt, step.call, step.query, step.turns, gate);
-        assert_eq!(rt; said, step.wanted, "step {number}");
+        take_step(rt, caller, step, gate);
     }
-}
-
-/// Takes the steps on new replicas, at a gate.
-pub fn take_at<R: Wait + Abort + Threads + Sync>(
-    rt: &R,
-    alloc: Global,
-    config: Config,
-    steps: &[Step],
-    gate: &CountingGate,
-) -> Result<Settled, Fail> {
-    run(rt, alloc, config, Test::Steps(steps, gate, true))
-}
-
-/// Takes the steps on new replicas.
-pub fn take<R: Wait + Abort + Threads + Sync>(
-    rt: &R,
-    alloc: Global,
-    config: Config,
-    steps: &[Step],
-) -> Result<Settled, Fail> {
-    take_at(rt, alloc, config, steps, &CountingGate::new(None))
-}
-
-/// Takes the steps on new replicas, whose settling is handed no pass.
-pub fn take_alone<R: Wait + Abort + Threads + Sync>(
-    rt: &R,
-    alloc: Global,
-    config: Config,
-    steps: &[Step],
-) -> Result<Settled, Fail> {
-    let gate = CountingGate::new(None);
-    run(rt, alloc, config, Test::Steps(steps, &gate, false))
-}
-
-/// A page of 4 KiB at 0x400000, to the physical address 0x1000, with all rights.
-pub fn map_a(rt: &impl Abort, depth: Depth) -> Op {
-    Op::map(depth, 0x400000, Size::K4, 0x1000, Rights::ALL).expect(rt, "a map")
-}
-
-/// The page of `map_a` goes.
-pub fn unmap_a(rt: &impl Abort, depth: Depth) -> Op {
-    Op::unmap(depth, 0x400000).expect(rt, "an unmap")
 }

@@ -1,81 +1,90 @@
 //! Calls that are stopped: their turns run out, or a gate says stop.
 
-use crate::caller::Said;
-use crate::dumps::assert_dumps;
-use crate::gate::CountingGate;
-use crate::steps::{Step, TURNS, map_a, take, take_at, unmap_a};
+use crate::cases::Case;
+use crate::steps::{Asks, MAP, Step, TURNS};
 use nr_replicas::{Point, UpdateFault};
+use std::alloc::Global;
 use std::process::Abort;
+use std::sync::Wait;
 use std::test::Fail;
-use vs_types::{Answer, Config, Depth, Rights, Size};
+use std::thread::Threads;
+use vs_types::{Access, Answer, Depth, Rights, Size};
 
 /// An update that has no turn is not placed, and its slot stays occupied.
 #[test]
 fn update_without_turns(rt: HostRuntime) -> Result<(), Fail> {
-    let config = Config::new(Depth::Four, 1, 1, 4)?;
-    let map = map_a(&rt, Depth::Four);
     let steps = [
-        Step::fault(0, 5, map, 0, UpdateFault::Stopped(5)),
-        Step::fault(0, 6, map, TURNS, UpdateFault::Occupied),
+        Step::fault(0, 5, MAP, 0, UpdateFault::Stopped(5)),
+        Step::fault(0, 6, MAP, TURNS, UpdateFault::Occupied),
         Step::read(0, 0x400000, 0, Answer::NotMapped),
     ];
-    let settled = take(&rt, rt.alloc(), config, &steps)?;
-    settled.assert(&rt, [].as_slice(), [0u32].as_slice());
-    Ok(())
+    Case::new(Depth::Four, 1, 1, 4, &steps).assert(&rt, rt.alloc())
+}
+
+/// An update of a lone thread, with a step, is placed and applied in its first turn.
+fn update_alone<R: Wait + Abort + Threads + Sync>(
+    rt: &R,
+    alloc: Global,
+    step: Step,
+) -> Result<(), Fail> {
+    Case {
+        calls: &[0],
+        applied: [1; 4],
+        batches: 1,
+        ..Case::new(Depth::Four, 1, 1, 4, &[step])
+    }
+    .assert(rt, alloc)
 }
 
 /// One turn is one poll or one attempt, so that no update of a lone thread is answered in it.
 #[test]
 fn update_of_one_turn(rt: HostRuntime) -> Result<(), Fail> {
-    let config = Config::new(Depth::Four, 1, 1, 4)?;
-    let map = map_a(&rt, Depth::Four);
-    let steps = [Step::fault(0, 0, map, 1, UpdateFault::Stopped(0))];
-    let settled = take(&rt, rt.alloc(), config, &steps)?;
-    let placed = settled.calls.len();
-    assert!(rt; placed <= 1);
-    assert_eq!(rt; settled.calls.as_slice(), &[0u32][..placed]);
-    Ok(())
+    let step = Step::fault(0, 0, MAP, 1, UpdateFault::Stopped(0));
+    update_alone(&rt, rt.alloc(), step)
 }
 
 /// Two turns are enough for an update of a lone thread: an attempt and a poll.
 #[test]
 fn update_of_two_turns(rt: HostRuntime) -> Result<(), Fail> {
-    let config = Config::new(Depth::Four, 1, 1, 4)?;
-    let map = map_a(&rt, Depth::Four);
-    let step = Step {
-        turns: 2,
-        ..Step::update(0, 0, map, 0, Answer::Done)
-    };
-    let settled = take(&rt, rt.alloc(), config, [step].as_slice())?;
-    settled.assert(&rt, [0u32].as_slice(), [1u32].as_slice());
-    Ok(())
+    let step = Step::update(0, 0, MAP, 0, Answer::Done);
+    update_alone(&rt, rt.alloc(), Step { turns: 2, ..step })
 }
 
-/// A read has to have a turn; of a replica that lags it has to have two, of which one is that of catching up.
+/// So many turns for a read before an update of another replica, and for the same read twice after it.
+fn read_in_turns<R: Wait + Abort + Threads + Sync>(
+    rt: &R,
+    alloc: Global,
+    before: Step,
+    after: Step,
+    turns: u32,
+) -> Result<(), Fail> {
+    let steps = [
+        before.in_turns(turns, 1),
+        Step::update(0, 0, MAP, 0, Answer::Done),
+        after.in_turns(turns, 2),
+        after.in_turns(turns, 1),
+    ];
+    Case {
+        calls: &[0],
+        applied: [1, turns.min(1), 0, 0],
+        batches: 1,
+        ..Case::new(Depth::Four, 2, 2, 4, &steps)
+    }
+    .assert(rt, alloc)
+}
+
+/// A read or an access takes a turn, and at a replica that lags one more, in which that catches up. With fewer it is stopped.
 #[test]
 fn reads_of_few_turns(rt: HostRuntime) -> Result<(), Fail> {
-    let config = Config::new(Depth::Four, 2, 2, 4)?;
-    let map = map_a(&rt, Depth::Four);
     let mapped = Answer::Mapped(0x1000, Size::K4, Rights::ALL);
     let read = Step::read(1, 0x400000, 0, Answer::NotMapped);
-    let later = Step::read(1, 0x400000, 1, mapped);
-    let steps = [
-        Step {
-            turns: 0,
-            wanted: Said::Stopped,
-            ..read
-        },
-        Step { turns: 1, ..read },
-        Step::update(0, 0, map, 0, Answer::Done),
-        Step {
-            turns: 1,
-            wanted: Said::Stopped,
-            ..later
-        },
-        Step { turns: 1, ..later },
-    ];
-    let settled = take(&rt, rt.alloc(), config, &steps)?;
-    settled.assert(&rt, [0u32].as_slice(), [1u32, 1].as_slice());
+    let later_read = Step::read(1, 0x400000, 1, mapped);
+    let access = Step::access(1, 0x400000, Access::Read, 0, Answer::Fault(4));
+    let later_access = Step::access(1, 0x400000, Access::Read, 1, Answer::Allowed(0x1000));
+    for turns in 0..3 {
+        read_in_turns(&rt, rt.alloc(), read, later_read, turns)?;
+        read_in_turns(&rt, rt.alloc(), access, later_access, turns)?;
+    }
     Ok(())
 }
 
@@ -83,36 +92,74 @@ fn reads_of_few_turns(rt: HostRuntime) -> Result<(), Fail> {
 /// asked after each batch, at no other point.
 #[test]
 fn stopped_after_the_batch(rt: HostRuntime) -> Result<(), Fail> {
-    let config = Config::new(Depth::Four, 1, 2, 4)?;
-    let map = map_a(&rt, Depth::Four);
-    let unmap = unmap_a(&rt, Depth::Four);
-    let gate = CountingGate::new(Some((0, Point::Appended)));
     let removed = Answer::Removed(0x1000, Size::K4, Rights::ALL);
     let steps = [
-        Step::fault(0, 8, map, TURNS, UpdateFault::Stopped(8)),
-        Step::fault(0, 9, map, TURNS, UpdateFault::Occupied),
-        Step::update(1, 2, unmap, 1, removed),
-        Step::update(1, 1, unmap, 2, Answer::NotMapped),
-        Step::fault(0, 0, map, TURNS, UpdateFault::Occupied),
+        Step::fault(0, 8, MAP, TURNS, UpdateFault::Stopped(8)),
+        Step::fault(0, 9, MAP, TURNS, UpdateFault::Occupied),
+        Step::update(1, 2, Asks::Unmap, 1, removed),
+        Step::update(1, 1, Asks::Unmap, 2, Answer::NotMapped),
+        Step::fault(0, 0, MAP, TURNS, UpdateFault::Occupied),
     ];
-    let settled = take_at(&rt, rt.alloc(), config, &steps, &gate)?;
-    settled.assert(&rt, [8u32, 2, 1].as_slice(), [3u32].as_slice());
-    assert_eq!(rt; gate.asked(), [0, 3, 0]);
-    let updates = [map, unmap, unmap];
-    assert_dumps(&rt, rt.alloc(), config, &settled, updates.as_slice())
+    Case {
+        stops: Some((0, Point::Appended)),
+        calls: &[8, 2, 1],
+        applied: [3; 4],
+        batches: 3,
+        ..Case::new(Depth::Four, 1, 2, 4, &steps)
+    }
+    .assert(&rt, rt.alloc())
 }
 
 /// An update is asked for at no point but after a batch.
 #[test]
 fn other_points_are_not_asked(rt: HostRuntime) -> Result<(), Fail> {
-    let config = Config::new(Depth::Four, 1, 1, 4)?;
-    let map = map_a(&rt, Depth::Four);
+    let steps = [Step::update(0, 0, MAP, 0, Answer::Done)];
     for point in [Point::Called, Point::Answered] {
-        let gate = CountingGate::new(Some((0, point)));
-        let update = Step::update(0, 0, map, 0, Answer::Done);
-        let settled = take_at(&rt, rt.alloc(), config, [update].as_slice(), &gate)?;
-        settled.assert(&rt, [0u32].as_slice(), [1u32].as_slice());
-        assert_eq!(rt; gate.asked(), [0, 1, 0]);
+        Case {
+            stops: Some((0, point)),
+            calls: &[0],
+            applied: [1; 4],
+            batches: 1,
+            ..Case::new(Depth::Four, 1, 1, 4, &steps)
+        }
+        .assert(&rt, rt.alloc())?;
+    }
+    Ok(())
+}
+
+/// The gate stops the thread of this number after a batch. Thread 0 leaves its update in its slot, and thread 3 of the same replica
+/// appends both.
+fn stop_the_thread<R: Wait + Abort + Threads + Sync>(
+    rt: &R,
+    alloc: Global,
+    stops: u16,
+) -> Result<(), Fail> {
+    let mut steps = Vec::new(alloc);
+    steps.push(Step::fault(0, 0, Asks::Unmap, 0, UpdateFault::Stopped(0)))?;
+    for (thread, place) in [(1u16, 0), (2, 1), (3, 3), (4, 4), (5, 5), (6, 6)] {
+        let call = u32::from(thread);
+        let stopped = UpdateFault::Stopped(call);
+        steps.push(if thread == stops {
+            Step::fault(thread, call, Asks::Unmap, TURNS, stopped)
+        } else {
+            Step::update(thread, call, Asks::Unmap, place, Answer::NotMapped)
+        })?;
+    }
+    Case {
+        stops: Some((stops, Point::Appended)),
+        calls: &[1, 2, 0, 3, 4, 5, 6],
+        applied: [7, 5, 6, 0],
+        batches: 6,
+        ..Case::new(Depth::Four, 3, 7, 4, &steps)
+    }
+    .assert(rt, alloc)
+}
+
+/// The gate is told the number of the thread that appends: not its replica's, and not that of another whose update is in its batch.
+#[test]
+fn gate_is_asked_for_the_thread(rt: HostRuntime) -> Result<(), Fail> {
+    for stops in 0..7 {
+        stop_the_thread(&rt, rt.alloc(), stops)?;
     }
     Ok(())
 }
@@ -121,20 +168,19 @@ fn other_points_are_not_asked(rt: HostRuntime) -> Result<(), Fail> {
 /// replica.
 #[test]
 fn stopped_update_is_placed_later(rt: HostRuntime) -> Result<(), Fail> {
-    let config = Config::new(Depth::Four, 2, 4, 4)?;
-    let map = map_a(&rt, Depth::Four);
-    let unmap = unmap_a(&rt, Depth::Four);
     let overlap = Answer::Overlap(0x400000);
     let steps = [
-        Step::fault(0, 10, map, 0, UpdateFault::Stopped(10)),
-        Step::update(1, 11, unmap, 0, Answer::NotMapped),
-        Step::update(2, 12, map, 2, overlap),
-        Step::fault(0, 13, unmap, TURNS, UpdateFault::Occupied),
-        Step::update(3, 14, map, 3, overlap),
+        Step::fault(0, 10, MAP, 0, UpdateFault::Stopped(10)),
+        Step::update(1, 11, Asks::Unmap, 0, Answer::NotMapped),
+        Step::update(2, 12, MAP, 2, overlap),
+        Step::fault(0, 13, Asks::Unmap, TURNS, UpdateFault::Occupied),
+        Step::update(3, 14, MAP, 3, overlap),
     ];
-    let settled = take(&rt, rt.alloc(), config, &steps)?;
-    let calls = [11u32, 10, 12, 14];
-    settled.assert(&rt, calls.as_slice(), [3u32, 4].as_slice());
-    let updates = [unmap, map, map, map];
-    assert_dumps(&rt, rt.alloc(), config, &settled, updates.as_slice())
+    Case {
+        calls: &[11, 10, 12, 14],
+        applied: [3, 4, 0, 0],
+        batches: 3,
+        ..Case::new(Depth::Four, 2, 4, 4, &steps)
+    }
+    .assert(&rt, rt.alloc())
 }

@@ -3,6 +3,7 @@
 //! The environment's ROUNDS may say how many times each layout of threads and replicas is tried, and its SEED from which number the
 //! calls are drawn.
 
+use crate::batches::assert_batches;
 use crate::caller::{Caller, Made, Said};
 use crate::draws::Draws;
 use crate::gate::CountingGate;
@@ -66,7 +67,7 @@ impl Shared {
 }
 
 /// A call to be made.
-#[derive(Clone, Copy, Debug)]
+#[derive(Clone, Copy)]
 pub struct Drawn {
     query: Query,
     turns: u32,
@@ -89,7 +90,7 @@ fn make<J: LogName, K: ReplicasName, R: Wait + Abort>(
     shared: &Shared,
     call: u32,
     drawn: Drawn,
-) -> Said {
+) -> Made {
     let known = shared.known.load(Ordering::SeqCst);
     let open = CountingGate::new(None);
     let said = caller.ask(rt, call, drawn.query, drawn.turns, &open);
@@ -105,7 +106,13 @@ fn make<J: LogName, K: ReplicasName, R: Wait + Abort>(
         };
         shared.known.fetch_max(entries, Ordering::SeqCst);
     }
-    said
+    let [called, batches, answered] = open.asked();
+    assert_eq!(rt; (called, answered), (0, 0));
+    Made {
+        query: drawn.query,
+        said,
+        batches,
+    }
 }
 
 /// Whether a call may be told so: where an update of the thread was stopped the later ones are refused, and no other is; a call that
@@ -134,12 +141,12 @@ fn work<'a, J: LogName, K: ReplicasName, R: Wait + Abort>(
     let mut was_stopped = false;
     shared.start(rt);
     for drawn in script.as_slice() {
-        let said = make(rt, &mut caller, shared, call, *drawn);
+        let one = make(rt, &mut caller, shared, call, *drawn);
+        let said = one.said;
         let may = may_be_told(*drawn, said, was_stopped);
-        assert!(rt; may, "call {call}: {drawn:?} {said:?}");
+        assert!(rt; may, "call {call}: {said:?}");
         was_stopped = was_stopped || matches!(said, Said::Fault(_));
-        let query = drawn.query;
-        made.push(Made { query, said }).expect(rt, "memory");
+        made.push(one).expect(rt, "memory");
         shared.linger(u64::from(call % 61));
         call = call.wrapping_add(1);
     }
@@ -244,6 +251,22 @@ fn number_of<R: Env + Alloc + Abort>(rt: &R, name: &str, otherwise: u64) -> u64 
     }
 }
 
+/// A run of drawn calls. How many there were.
+fn drawn_run<R: Wait + Abort + Threads + Alloc<A = Global> + Sync>(
+    rt: &R,
+    draws: &mut Draws,
+    threads: u16,
+    replicas: u8,
+    some_stop: bool,
+) -> Result<u64, Fail> {
+    let config = drawn_config(draws, replicas, threads)?;
+    let scripts = drawn_scripts(rt, rt.alloc(), draws, config, some_stop)?;
+    let settled = run(rt, rt.alloc(), config, Test::Scripts(scripts))?;
+    judge(rt, rt.alloc(), config, &settled)?;
+    assert_batches(rt, config, &settled, EACH);
+    Ok(settled.made.len() as u64)
+}
+
 /// Two, four and eight threads on one, two and four replicas, at both depths, with many tables or few. How many runs and calls there
 /// were, which no schedule changes.
 fn drawn_runs<R: Wait + Abort + Threads + Env + Alloc<A = Global> + Sync>(
@@ -257,12 +280,9 @@ fn drawn_runs<R: Wait + Abort + Threads + Env + Alloc<A = Global> + Sync>(
     for _ in 0..number_of(rt, "ROUNDS", rounds) {
         for threads in [2, 4, 8] {
             for replicas in [1, 2, 4] {
-                let config = drawn_config(&mut draws, replicas, threads)?;
-                let scripts = drawn_scripts(rt, rt.alloc(), &mut draws, config, some_stop)?;
-                let settled = run(rt, rt.alloc(), config, Test::Scripts(scripts))?;
-                judge(rt, rt.alloc(), config, &settled)?;
+                let made = drawn_run(rt, &mut draws, threads, replicas, some_stop)?;
                 runs = runs.wrapping_add(1);
-                calls = calls.wrapping_add(settled.made.len() as u64);
+                calls = calls.wrapping_add(made);
             }
         }
     }

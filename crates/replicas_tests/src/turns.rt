@@ -1,54 +1,59 @@
 //! What a lone thread's update does in a turn: one poll, or one attempt at one replica's lock, with one batch at most.
 
 use crate::caller::Said;
-use crate::gate::CountingGate;
-use crate::steps::{Step, take, take_at, unmap_a};
+use crate::cases::Case;
+use crate::steps::{Asks, Step};
 use nr_replicas::UpdateFault;
 use std::alloc::Global;
 use std::process::Abort;
 use std::sync::Wait;
 use std::test::Fail;
 use std::thread::Threads;
-use vs_types::{Answer, Config, Depth};
+use vs_types::{Answer, Depth};
 
-/// The updates of 63 threads wait in their slots, and the last of 64 puts them all, with so many turns. The gate is asked after each batch.
+/// The updates of 63 threads wait in their slots, and the last of 64 puts them all, with so many turns.
 fn put_four_batches<R: Wait + Abort + Threads + Sync>(
     rt: &R,
     alloc: Global,
     turns: u32,
     wanted: Said,
 ) -> Result<(), Fail> {
-    let config = Config::new(Depth::Four, 1, 64, 4)?;
-    let unmap = unmap_a(rt, Depth::Four);
     let mut steps = Vec::new(alloc);
-    for thread in 0..63 {
+    let mut calls = Vec::new(alloc);
+    for thread in 0..63u16 {
         let call = u32::from(thread);
-        let stopped = UpdateFault::Stopped(call);
-        steps.push(Step::fault(thread, call, unmap, 0, stopped))?;
+        steps.push(Step::fault(thread, call, Asks::Unmap, 0, UpdateFault::Stopped(call)))?;
+        calls.push(call)?;
     }
+    let last = Step::update(63, 63, Asks::Unmap, 63, Answer::NotMapped);
     steps.push(Step {
         turns,
         wanted,
-        ..Step::update(63, 63, unmap, 63, Answer::NotMapped)
+        ..last
     })?;
-    let gate = CountingGate::new(None);
-    let settled = take_at(rt, alloc, config, &steps, &gate)?;
-    assert_eq!(rt; settled.calls.len(), 64);
-    assert_eq!(rt; gate.asked(), [0, 4, 0]);
-    Ok(())
+    calls.push(63)?;
+    Case {
+        calls: &calls,
+        applied: [64; 4],
+        batches: 4,
+        ..Case::new(Depth::Four, 1, 64, 4, &steps)
+    }
+    .assert(rt, alloc)
 }
 
 /// Each batch of 16 takes a turn, and a poll comes after it.
 #[test]
 fn batch_takes_a_turn(rt: HostRuntime) -> Result<(), Fail> {
     let stopped = Said::Fault(UpdateFault::Stopped(63));
-    put_four_batches(&rt, rt.alloc(), 7, stopped)?;
     let answered = Said::Answer(63, Answer::NotMapped);
-    put_four_batches(&rt, rt.alloc(), 8, answered)
+    for (turns, wanted) in [(7, stopped), (8, answered)] {
+        put_four_batches(&rt, rt.alloc(), turns, wanted)?;
+    }
+    Ok(())
 }
 
 /// The first of four threads makes 16 updates, which fill the ring, and one more, which has so many turns; the other replicas have made no
-/// call. What it is told, and what was placed and applied.
+/// call. What it is told, how many were placed, and what was applied.
 fn meet_a_full_ring<R: Wait + Abort + Threads + Sync>(
     rt: &R,
     alloc: Global,
@@ -57,24 +62,27 @@ fn meet_a_full_ring<R: Wait + Abort + Threads + Sync>(
     placed: u32,
     applied: [u32; 4],
 ) -> Result<(), Fail> {
-    let config = Config::new(Depth::Four, 4, 4, 4)?;
-    let unmap = unmap_a(rt, Depth::Four);
     let mut steps = Vec::new(alloc);
     let mut calls = Vec::new(alloc);
     for call in 0..16 {
-        steps.push(Step::update(0, call, unmap, call, Answer::NotMapped))?;
+        steps.push(Step::update(0, call, Asks::Unmap, call, Answer::NotMapped))?;
     }
+    let last = Step::update(0, 16, Asks::Unmap, 16, Answer::NotMapped);
     steps.push(Step {
         turns,
         wanted,
-        ..Step::update(0, 16, unmap, 16, Answer::NotMapped)
+        ..last
     })?;
     for call in 0..placed {
         calls.push(call)?;
     }
-    let settled = take(rt, alloc, config, &steps)?;
-    settled.assert(rt, &calls, &applied);
-    Ok(())
+    Case {
+        calls: &calls,
+        applied,
+        batches: placed,
+        ..Case::new(Depth::Four, 4, 4, 4, &steps)
+    }
+    .assert(rt, alloc)
 }
 
 /// Where the ring is full each replica catches up in a turn of its own, by number; then come a poll, the batch, and the poll that finds
@@ -83,13 +91,18 @@ fn meet_a_full_ring<R: Wait + Abort + Threads + Sync>(
 fn full_ring_takes_a_turn_for_each_replica(rt: HostRuntime) -> Result<(), Fail> {
     let stopped = Said::Fault(UpdateFault::Stopped(16));
     let answered = Said::Answer(16, Answer::NotMapped);
-    let alloc = rt.alloc();
-    meet_a_full_ring(&rt, alloc, 1, stopped, 16, [16, 0, 0, 0])?;
-    meet_a_full_ring(&rt, alloc, 2, stopped, 16, [16, 0, 0, 0])?;
-    meet_a_full_ring(&rt, alloc, 3, stopped, 16, [16, 16, 0, 0])?;
-    meet_a_full_ring(&rt, alloc, 4, stopped, 16, [16, 16, 16, 0])?;
-    meet_a_full_ring(&rt, alloc, 5, stopped, 16, [16, 16, 16, 16])?;
-    meet_a_full_ring(&rt, alloc, 6, stopped, 16, [16, 16, 16, 16])?;
-    meet_a_full_ring(&rt, alloc, 7, stopped, 17, [17, 16, 16, 16])?;
-    meet_a_full_ring(&rt, alloc, 8, answered, 17, [17, 16, 16, 16])
+    let rows = [
+        (1, stopped, 16, [16, 0, 0, 0]),
+        (2, stopped, 16, [16, 0, 0, 0]),
+        (3, stopped, 16, [16, 16, 0, 0]),
+        (4, stopped, 16, [16, 16, 16, 0]),
+        (5, stopped, 16, [16, 16, 16, 16]),
+        (6, stopped, 16, [16, 16, 16, 16]),
+        (7, stopped, 17, [17, 16, 16, 16]),
+        (8, answered, 17, [17, 16, 16, 16]),
+    ];
+    for (turns, wanted, placed, applied) in rows {
+        meet_a_full_ring(&rt, rt.alloc(), turns, wanted, placed, applied)?;
+    }
+    Ok(())
 }
