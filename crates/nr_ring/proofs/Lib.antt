@@ -18,3 +18,4 @@ pub mod Fetches
 pub mod Appends
 pub mod OwnTails
 pub mod Makers
+mod Codes

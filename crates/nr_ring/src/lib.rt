@@ -6,6 +6,7 @@
 
 mod batch;
 mod cell_words;
+mod code;
 pub mod examples;
 pub mod laws;
 mod log_event;

@@ -10,15 +10,20 @@ ghost use Rattle.nr_ring.specs.Entries.{HasAppended, IsReason, to_take};
 ghost use Rattle.nr_ring.specs.Pass.{new_pass, new_passes, tails_of};
 ghost use Rattle.nr_ring.specs.View.{HasSeenAdvances, StartsWith};
 ghost use Rattle.nr_ring.specs.Words.{IsWordsOf, new_words};
+ghost use Rattle.nr_ring.specs.inside.Codes.{code_of_log};
 ghost use Rattle.nr_ring.specs.inside.Held.{IsBelow, MadeOrMoved, left_from, new_view, owned, rest_of};
 
 use crate::batch::{list_changes, read_entries, test_room, why_not};
+use crate::code::{code_of, locals_in};
 use crate::name::LogName;
 use crate::pass::LogPass;
 use crate::rule::{Copies, FirstOwned, Happening, LogRule, Looking, Making};
 use crate::tails::{AppendFault, Moved, Tails};
 use crate::view::View;
-use crate::words::{CELL_WORDS, CHANGES, COMPLETED_WORD, COUNT_WORD, LOCAL_WORDS, OTHERS, RING};
+use crate::words::{
+    CELL_WORDS, CHANGES, COMPLETED_WORD, COUNT_WORD, LOCAL_WORDS, OTHERS, RING, RING_WORDS,
+    TAIL_WORD,
+};
 use arrayvec::ArrayVec;
 use std::alloc::Global;
 use std::marker::{Brand, Model, PhantomData};
@@ -29,7 +34,7 @@ use vs_types::{Depth, LogEntry, Memory, REPLICAS};
 /// The shared log: a ring of 16 entries and the tails, in one cell. Contracts see which log it is.
 #[derive(Drop)]
 pub struct RingLog<J: LogName> {
-    cell: VersionCell<View, LogRule<J>, CELL_WORDS>,
+    cell: VersionCell<View, LogRule<J>, RING_WORDS, CELL_WORDS>,
     depth: Depth,
     of: PhantomData<J>,
 }
@@ -66,8 +71,12 @@ impl<J: LogName> RingLog<J> {
         ensures { IfOk result (λ made. made.1.items ≡ new_passes made.0 replicas others) }
     {
         let mut words = [0; CELL_WORDS];
-        words[COUNT_WORD] = u64::from(replicas);
-        let (cell, mut first) = VersionCell::<View, LogRule<J>, CELL_WORDS>::new(alloc, &words)?;
+        let count = u64::from(replicas);
+        words[COUNT_WORD] = count;
+        let code = code_of(0, [0; 4], count);
+        let (cell, mut first) = VersionCell::<View, LogRule<J>, RING_WORDS, CELL_WORDS>::new(
+            alloc, &words, code,
+        )?;
         let log = RingLog {
             cell,
             depth,
@@ -173,10 +182,19 @@ impl<J: LogName> RingLog<J> {
         ensures view { MadeOrMoved J.depth J.replicas E.event pass.old.view pass.new.view result }
         ensures history { IsLogHistory J.depth J.replicas pass.new.view.seen }
     {
-        let local = LOCAL_WORDS + usize::from(replica);
+        let words = pass.inner.words();
         let place = u64::from(to);
-        let completed = pass.inner.words()[COMPLETED_WORD].max(place);
-        self.exchange::<E, R>(rt, pass, &[(COMPLETED_WORD, completed), (local, place)])
+        let completed = words[COMPLETED_WORD].max(place);
+        let mut locals = locals_in(words);
+        locals[usize::from(replica)] = place;
+        let code = code_of(words[TAIL_WORD], locals, words[COUNT_WORD]);
+        let local = LOCAL_WORDS + usize::from(replica);
+        self.exchange::<E, R>(
+            rt,
+            pass,
+            code,
+            &[(COMPLETED_WORD, completed), (local, place)],
+        )
     }
 
     /// Looks, and then appends 1 to 16 entries at the log's depth: the place of the first.
@@ -230,9 +248,12 @@ impl<J: LogName> RingLog<J> {
         ensures view { MadeOrMoved J.depth J.replicas E.event pass.old.view pass.new.view result }
         ensures history { IsLogHistory J.depth J.replicas pass.new.view.seen }
     {
+        let words = pass.inner.words();
+        let tail = words[TAIL_WORD] + batch.len() as u64;
+        let code = code_of(tail, locals_in(words), words[COUNT_WORD]);
         let mut changes: ArrayVec<(usize, u64), CHANGES> = ArrayVec::new();
-        list_changes(pass.inner.words(), batch, &mut changes);
-        self.exchange::<E, R>(rt, pass, changes.as_slice())
+        list_changes(words, batch, &mut changes);
+        self.exchange::<E, R>(rt, pass, code, changes.as_slice())
     }
 
     /// Looks, and gives all entries from the local tail of the replica that the pass owns to the tail, in order. The vector is
@@ -262,17 +283,21 @@ impl<J: LogName> RingLog<J> {
         read_entries(self.depth, words, local, entries);
     }
 
-    /// Changes the words that the pass saw last to those after an event, where the cell still has them; else it looks.
+    /// Changes the words that the pass saw last to those after an event, which have this code, where the cell still has them; else it
+    /// looks.
     fn exchange<E: Happening, R: Wait>(
         &self,
         rt: &R,
         pass: &mut LogPass<J>,
+        code: u64,
         changes: &[(usize, u64)],
     ) -> bool
         requires log { pass.old.log ≡ self.now }
         requires event { MayFollow J.depth (log_after J.replicas pass.old.view.seen) E.event
             × MayMake pass.old.view E.event }
         requires places { All (λ change. change.0 < CELL_WORDS) changes.now }
+        requires code { code
+            ≡ code_of_log (log_after_event (log_after J.replicas pass.old.view.seen) E.event) }
         requires next { (words : List ℕ) → IsWordsOf (log_after J.replicas pass.old.view.seen) words
             → IsWordsOf (log_after_event (log_after J.replicas pass.old.view.seen) E.event)
             (changed words changes.now) }
@@ -281,7 +306,7 @@ impl<J: LogName> RingLog<J> {
         ensures history { IsLogHistory J.depth J.replicas pass.new.view.seen }
     {
         self.cell
-            .exchange_as::<Making<E>, Looking<J>, R>(rt, &mut pass.inner, changes)
+            .exchange_as::<Making<E>, Looking<J>, R>(rt, &mut pass.inner, code, changes)
     }
 
     /// Tells one pass what another has seen: what `told` has then seen begins with all that either had seen, and nobody has

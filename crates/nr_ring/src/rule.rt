@@ -1,4 +1,5 @@
 //! The rule of the cell, and what each kind of step tells its pass.
+use crate::code::head_word;
 use crate::name::LogName;
 use crate::view::View;
 use atomic_table::{Join, Split};
@@ -12,14 +13,22 @@ pub struct LogRule<J: LogName> {
 
 impl<J: LogName> CellRule<View> for LogRule<J> {
     ghost use Rattle.nr_ring.specs.Rule.{IsKept};
-    ghost use Rattle.nr_ring.specs.inside.Held.{progress, new_view};
+    ghost use Rattle.nr_ring.specs.inside.Codes.{code_in, word_in};
+    ghost use Rattle.nr_ring.specs.inside.Held.{new_view};
     ghost use Rattle.std.specs.List.{range_with_len};
 
     ghost holds = { IsKept J.depth J.replicas J.passes };
 
     ghost first = { new_view (range_with_len 0 J.replicas) J.passes };
 
-    ghost progress = { progress };
+    ghost code = { code_in };
+
+    ghost head = { word_in };
+
+    #[inline(always)]
+    fn word(told_by: u64, place: usize) -> u64 {
+        head_word(told_by, place)
+    }
 }
 
 /// A look at the cell.

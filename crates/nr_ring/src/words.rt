@@ -24,5 +24,5 @@ pub const LOCAL_WORDS: usize = 2;
 /// The word of the number of replicas.
 pub const COUNT_WORD: usize = 6;
 
-/// The first of the words of the ring: two for each entry.
+/// The first of the words of the ring: two for each entry. The words before them are told by their code.
 pub const RING_WORDS: usize = 7;

@@ -1,3 +1,4 @@
 pub mod Keeps
 pub mod Readings
 pub mod Changing
+pub mod Heads

@@ -1,4 +1,5 @@
 pub mod Passes
 pub mod Changes
+pub mod Heads
 -- the table below the cell
 pub mod inside

@@ -1,26 +1,28 @@
 //! The cell.
-ghost use Rattle.std.specs.Prelude.{◌≡◌, ◌<◌, ℕ, [], ◌∷◌, All, IfOk, MatchBool};
+ghost use Rattle.std.specs.Prelude.{◌≡◌, ◌<◌, ◌≤◌, ◌^◌, ◌↔◌, ℕ, [], ◌∷◌, All, IfOk, IsTrue, MatchBool};
 ghost use Rattle.crossbeam_utils.specs.Register.{Forks, Merges, Turns, TurnsAt};
 ghost use Rattle.version_cell.specs.Changes.{changed};
+ghost use Rattle.version_cell.specs.Heads.{IsCoded};
 
 use crate::pass::Pass;
 use crate::plays::{Check, Cut, Glue, Versions};
 use crate::rule::{CellOutcome, CellRule};
-use crate::seats::{find, publish, take};
+use crate::seats::{find, publish, swap, take};
 use crate::stage::Doing;
 use atomic_table::{Join, Split, Table};
 use std::alloc::{AllocError, Global};
 use std::marker::Model;
 use std::sync::Wait;
 
-/// A cell of `N` words, which threads read and exchange as one. Contracts see which cell it is.
+/// A cell of `N` words, which threads read and exchange as one. Its version tells the first `H` of them. Contracts see which cell it
+/// is.
 #[derive(Drop)]
-pub struct VersionCell<V, P: CellRule<V>, const N: usize> {
-    table: Table<(), Doing<V>, Vec<u64>, Versions<P>, Global>,
+pub struct VersionCell<V, P: CellRule<V>, const H: usize, const N: usize> {
+    table: Table<(), Doing<V>, Vec<u64>, Versions<P, H>, Global>,
 }
 
-impl<V, P: CellRule<V>, const N: usize> Model for VersionCell<V, P, N> {
-    ghost use Rattle.std.specs.Prelude.{◌≡◌, ◌+◌, length};
+impl<V, P: CellRule<V>, const H: usize, const N: usize> Model for VersionCell<V, P, H, N> {
+    ghost use Rattle.std.specs.Prelude.{◌≡◌, ◌≤◌, ◌+◌, length};
     ghost use Rattle.atomic_table.specs.Seated.{TableId};
 
     ghost Value = { TableId };
@@ -28,11 +30,11 @@ impl<V, P: CellRule<V>, const N: usize> Model for VersionCell<V, P, N> {
     ghost view = { λ c. c.table.shared.table_id };
 
     ghost invariant = { λ c. (c.table.shared.table_id.words ≡ N + 1)
-        × (length c.table.shared.key.items ≡ N + 1) };
+        × (length c.table.shared.key.items ≡ N + 1) × (H ≤ N) };
 }
 
-impl<V, P: CellRule<V>, const N: usize> VersionCell<V, P, N> {
-    /// A cell with these words, and its first pass.
+impl<V, P: CellRule<V>, const H: usize, const N: usize> VersionCell<V, P, H, N> {
+    /// A cell with these words, whose code tells the first ones, and its first pass.
     ///
     /// # Errors
     ///
@@ -40,18 +42,23 @@ impl<V, P: CellRule<V>, const N: usize> VersionCell<V, P, N> {
     pub fn new(
         alloc: Global,
         words: &[u64; N],
-    ) -> Result<(VersionCell<V, P, N>, Pass<V, N>), AllocError>
-        requires { P.holds words.now (P.first ∷ []) }
+        code: u64,
+    ) -> Result<(VersionCell<V, P, H, N>, Pass<V, N>), AllocError>
+        requires rule { P.holds words.now (P.first ∷ []) }
+        requires head { H ≤ N }
+        requires code { (code ≡ P.code words.now) × (code < 2 ^ 63) }
+        requires coded { IsCoded P.code P.head H words.now }
         ensures { IfOk result (λ made. (made.1.cell ≡ made.0) × (made.1.view ≡ P.first)
             × (made.1.words ≡ words.now)) }
     {
+        let version = 2 * code;
         let mut start = Vec::new(alloc);
-        start.push(0)?;
+        start.push(version)?;
         start.extend_from_slice(words)?;
         let (table, seat) = Table::of_words(alloc, start.as_slice(), &start)?;
         let pass = Pass {
             seat,
-            version: 0,
+            version,
             words: *words,
         };
         Ok((VersionCell { table }, pass))
@@ -96,10 +103,10 @@ impl<V, P: CellRule<V>, const N: usize> VersionCell<V, P, N> {
         requires cell { pass.old.cell ≡ self.now }
         requires rule { Turns P.holds pass.old.number pass.old.view (λ x. x) M.then }
         ensures same { (pass.new.cell ≡ pass.old.cell) × (pass.new.number ≡ pass.old.number) }
-        ensures rises { P.progress pass.old.words < P.progress pass.new.words }
+        ensures rises { P.code pass.old.words < P.code pass.new.words }
         ensures rule { M.then pass.old.view pass.new.words pass.new.words pass.new.view }
     {
-        pass.version = find::<M, R, V, P, N>(
+        pass.version = find::<M, R, V, P, H, N>(
             rt,
             &self.table.shared,
             &mut pass.seat,
@@ -109,34 +116,45 @@ impl<V, P: CellRule<V>, const N: usize> VersionCell<V, P, N> {
     }
 
     /// Changes the words, each change putting a word at a place, where those of the pass are still those of the cell. Else it
-    /// looks, and the words that it finds have come further.
+    /// looks, and the words that it finds have come further. The code is that of the words after the changes.
     ///
-    /// Waits for the cell.
+    /// Where the code tells all that is new, it takes one step and nothing is waited for. Waits for the cell.
     pub fn exchange_as<E: CellOutcome<V>, M: CellOutcome<V>, R: Wait>(
         &self,
         rt: &R,
         pass: &mut Pass<V, N>,
+        code: u64,
         changes: &[(usize, u64)],
     ) -> bool
         requires cell { pass.old.cell ≡ self.now }
         requires places { All (λ change. change.0 < N) changes.now }
+        requires code { (code ≡ P.code (changed pass.old.words changes.now)) × (code < 2 ^ 63) }
+        requires coded { IsCoded P.code P.head H (changed pass.old.words changes.now) }
         requires rule { TurnsAt P.holds pass.old.number pass.old.view
             pass.old.words (changed pass.old.words changes.now) E.then }
-        requires rises { P.progress pass.old.words
-            < P.progress (changed pass.old.words changes.now) }
+        requires rises { P.code pass.old.words < code }
         requires look { Turns P.holds pass.old.number pass.old.view (λ x. x) M.then }
         ensures same { (pass.new.cell ≡ pass.old.cell) × (pass.new.number ≡ pass.old.number) }
         ensures rule { MatchBool result
             ((pass.new.words ≡ changed pass.old.words changes.now)
             × E.then pass.old.view pass.old.words pass.new.words pass.new.view)
-            ((P.progress pass.old.words < P.progress pass.new.words)
+            ((P.code pass.old.words < P.code pass.new.words)
             × M.then pass.old.view pass.new.words pass.new.words pass.new.view) }
     {
-        let version = pass.version;
         let table = &self.table.shared;
-        if take(table, &mut pass.seat, version, &pass.words) {
-            publish::<E, V, P, N>(table, &mut pass.seat, version + 1, &mut pass.words, changes);
-            pass.version = version + 2;
+        let (version, next) = (pass.version, 2 * code);
+        let seat = &mut pass.seat;
+        let words = &mut pass.words;
+        let exchanged = if lie_below(H, changes) {
+            swap::<E, V, P, H, N>(table, seat, version, next, words, changes)
+        } else if take::<V, P, H, N>(table, seat, version, words) {
+            publish::<E, V, P, H, N>(table, seat, version + 1, next, words, changes);
+            true
+        } else {
+            false
+        };
+        if exchanged {
+            pass.version = next;
             return true;
         }
         self.look_anew::<M, R>(rt, pass);
@@ -172,4 +190,11 @@ impl<V, P: CellRule<V>, const N: usize> VersionCell<V, P, N> {
         }
         self.look_as::<M, R>(rt, told);
     }
+}
+
+/// Whether all changes are of words below a place.
+fn lie_below(end: usize, changes: &[(usize, u64)]) -> bool
+    ensures { IsTrue result ↔ All (λ change. change.0 < end) changes.now }
+{
+    changes.iter().all(|change| change.0 < end)
 }

@@ -14,7 +14,7 @@ pub struct Pass<V, const N: usize> {
 }
 
 impl<V, const N: usize> Model for Pass<V, N> {
-    ghost use Rattle.std.specs.Prelude.{◌≡◌};
+    ghost use Rattle.std.specs.Prelude.{◌≡◌, ◌%◌};
     ghost use Rattle.version_cell.specs.Passes.{CellPass};
     ghost use Rattle.version_cell.specs.declared.stage.Stage.TheVariants.{Seen};
 
@@ -27,7 +27,8 @@ impl<V, const N: usize> Model for Pass<V, N> {
       words = p.words;
     } };
 
-    ghost invariant = { λ p. p.seat.me.0.stage ≡ Seen p.version p.version p.words };
+    ghost invariant = { λ p. (p.seat.me.0.stage ≡ Seen p.version p.version p.words)
+        × (p.version % 2 ≡ 0) };
 }
 
 impl<V, const N: usize> Pass<V, N> {

@@ -1,5 +1,5 @@
 //! The rule of the table that a cell lies in, and what each step on it tells.
-ghost use Rattle.version_cell.specs.inside.Steps.{checked, later, looked, peeked, published, put, taken};
+ghost use Rattle.version_cell.specs.inside.Steps.{checked, later, looked, peeked, published, put, swapped, taken};
 ghost use Rattle.version_cell.specs.inside.Versions.{doing};
 
 use crate::rule::{CellOutcome, CellRule};
@@ -8,30 +8,31 @@ use atomic_table::{Join, Play, Split, TableRule};
 use std::marker::PhantomData;
 
 /// Word 0 is the version, which is odd while a seat writes. Its key has the words at the start.
-pub struct Versions<P> {
+pub struct Versions<P, const H: usize> {
     of: PhantomData<P>,
 }
 
-impl<V, P: CellRule<V>> TableRule<(), Doing<V>, Vec<u64>> for Versions<P> {
-    ghost use Rattle.std.specs.Prelude.{drop, length};
+impl<V, P: CellRule<V>, const H: usize> TableRule<(), Doing<V>, Vec<u64>> for Versions<P, H> {
+    ghost use Rattle.std.specs.Prelude.{drop, length, slice_index};
     ghost use Rattle.version_cell.specs.inside.Versions.{Versioned, doing};
     ghost use Rattle.version_cell.specs.declared.stage.Stage.TheVariants.{Seen};
 
-    ghost holds = { λ start. Versioned (length start.items) P.holds P.progress };
+    ghost holds = { λ start. Versioned (length start.items) H P.holds P.code P.head };
 
-    ghost first = { λ start. doing (Seen 0 0 (drop 1 start.items)) P.first };
+    ghost first = { λ start. doing
+        (Seen (slice_index start.items 0) (slice_index start.items 0) (drop 1 start.items)) P.first };
 }
 
 /// A load of the version, with which a reading begins.
-pub(crate) struct Look<P> {
+pub(crate) struct Look<P, const H: usize> {
     of: PhantomData<P>,
 }
 
-impl<V, P: CellRule<V>> Play<(), Doing<V>> for Look<P> {
-    ghost then = { looked P.progress };
+impl<V, P: CellRule<V>, const H: usize> Play<(), Doing<V>> for Look<P, H> {
+    ghost then = { looked P.code P.head H };
 }
 
-/// A load of one of the words.
+/// A load of one of the words that the version doesn't tell.
 pub(crate) struct Peek;
 
 impl<V> Play<(), Doing<V>> for Peek {
@@ -61,13 +62,22 @@ impl<V> Play<(), Doing<V>> for Put {
     ghost then = { put };
 }
 
-/// The version goes to the even one after it, and the exchange has happened.
-pub(crate) struct Publish<M> {
-    of: PhantomData<M>,
+/// The version goes from the one that the seat has seen to that of other words, of which it tells all that are new.
+pub(crate) struct Swap<P, M, const H: usize> {
+    of: PhantomData<(P, M)>,
 }
 
-impl<V, M: CellOutcome<V>> Play<(), Doing<V>> for Publish<M> {
-    ghost then = { published M.then };
+impl<V, P: CellRule<V>, M: CellOutcome<V>, const H: usize> Play<(), Doing<V>> for Swap<P, M, H> {
+    ghost then = { swapped P.head H M.then };
+}
+
+/// The version goes to the even one of the words that were written, and the exchange has happened.
+pub(crate) struct Publish<P, M, const H: usize> {
+    of: PhantomData<(P, M)>,
+}
+
+impl<V, P: CellRule<V>, M: CellOutcome<V>, const H: usize> Play<(), Doing<V>> for Publish<P, M, H> {
+    ghost then = { published P.head H M.then };
 }
 
 /// Both seats have seen the same words.

@@ -58,9 +58,3 @@ rest_of replicas (Some replica) = range_with_len (replica + 1) (replicas - (repl
 abbrev pub MadeOrMoved : Depth → ℕ → LogEvent → View → View → Bool → Type 0
 MadeOrMoved depth replicas event before after made =
     MatchBool made (after ≡ with_event before event) (HasLooked depth replicas before after × HasMoved before after)
-
--- how far the words of the cell have come: the sum of the tail and the local tails, of which each event raises one
-abbrev pub progress : List ℕ → ℕ
-progress words =
-    slice_index words TAIL_WORD
-    + (slice_index words LOCAL_WORDS + (slice_index words (LOCAL_WORDS + 1) + (slice_index words (LOCAL_WORDS + 2) + slice_index words (LOCAL_WORDS + 3))))

@@ -1,12 +1,13 @@
-use Rattle.std.proofs.Common.{rules, ℕ, List, ap, sym, subst}
+use Rattle.std.proofs.Common.{rules, ◌≡◌, ℕ, List, ap, sym, subst}
 use Rattle.version_cell.specs.Changes.{changed}
 use Rattle.nr_ring.specs.Calls.{MayMake}
 use Rattle.nr_ring.specs.LogHistory.{MayFollow, log_after_event, log_after}
 use Rattle.nr_ring.specs.Pass.{Known}
 use Rattle.nr_ring.specs.Words.{IsWordsOf}
 use Rattle.nr_ring.specs.declared.view.View.{View}
+use Rattle.nr_ring.specs.inside.Codes.{code_of_log}
 use Rattle.nr_ring.specs.inside.Held.{MadeOrMoved}
-use Rattle.nr_ring.proofs.Exchanges.{event_progress, event_turns, exchange_tells}
+use Rattle.nr_ring.proofs.Exchanges.{event_coded, event_turns, exchange_tells}
 use Rattle.nr_ring.proofs.Turns.{look_turns}
 use Rattle.nr_ring.proofs.ring_log.RingLog.exchange.Goals as goal
 
@@ -22,7 +23,9 @@ exchange_as-requires g c =
     let Next : View → Type 0 = λ v. (words : List ℕ) → IsWordsOf (log_after replicas v.seen) words
     → IsWordsOf (log_after_event (log_after replicas v.seen) event) (changed words c.args.changes.now) in
     let may = subst May back c.requires.event in
-    let next = subst Next back c.requires.next c.pass.inside.inner.words is.words_are in (
+    let next = subst Next back c.requires.next c.pass.inside.inner.words is.words_are in
+    let Code : View → Type 0 = λ v. c.args.code ≡ code_of_log (log_after_event (log_after replicas v.seen) event) in
+    let coded = event_coded depth replicas view.seen event _ _ c.args.code is.few is.is_history is.words_are may.0 next (subst Code back c.requires.code) in (
       search rules,
       (
         search rules,
@@ -31,8 +34,14 @@ exchange_as-requires g c =
           (
             c.requires.places,
             (
-              event_turns depth replicas _ _ view event c.pass.inside.inner.words (changed c.pass.inside.inner.words c.args.changes.now) is.few is.words_are may.0 may.1 next,
-              (event_progress depth replicas view.seen event _ _ is.few is.is_history is.words_are may.0 next, look_turns _ _ _ _ _),
+              coded.0,
+              (
+                coded.1,
+                (
+                  event_turns depth replicas _ _ view event c.pass.inside.inner.words (changed c.pass.inside.inner.words c.args.changes.now) is.few is.words_are may.0 may.1 next,
+                  (coded.2, look_turns _ _ _ _ _),
+                ),
+              ),
             ),
           ),
         ),

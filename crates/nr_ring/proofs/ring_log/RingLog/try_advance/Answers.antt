@@ -1,4 +1,4 @@
-use Rattle.std.proofs.Common.{◌≡◌, ℕ, ◌+◌, ◌≤◌, max, set, List, ap, ◌∙◌, sym, subst, arith}
+use Rattle.std.proofs.Common.{◌≡◌, ℕ, ◌+◌, ◌≤◌, max, set, List, length, refl, ap, ◌∙◌, sym, subst, arith}
 use Rattle.std.specs.Prelude.{slice_index}
 use Rattle.nr_ring.specs.Calls.{MayMake}
 use Rattle.nr_ring.specs.LogHistory.{MayFollow, log_after_event, log_after}
@@ -7,6 +7,10 @@ use Rattle.nr_ring.specs.Words.{IsWordsOf}
 use Rattle.nr_ring.specs.declared.log_event.LogEvent.{LogEvent}
 use Rattle.nr_ring.specs.declared.log_event.LogEvent.TheVariants.{Advance}
 use Rattle.nr_ring.specs.declared.view.View.{View}
+use Rattle.nr_ring.specs.inside.Batch.{AreSmall}
+use Rattle.nr_ring.specs.inside.Codes.{code_of_log, locals_in}
+use Rattle.nr_ring.proofs.Appends.{are_small}
+use Rattle.nr_ring.proofs.Codes.{advance_code, small_locals, small_still}
 use Rattle.nr_ring.proofs.CellWords.{advance_words}
 use Rattle.nr_ring.proofs.SameWords.{words_same}
 use Rattle.nr_ring.proofs.ring_log.RingLog.try_advance.Goals as goal
@@ -21,9 +25,9 @@ exchange-requires-clause-event g c =
 pub exchange-requires-clause-next : goal.exchange-requires-clause-next
 exchange-requires-clause-next g c =
     let log = log_after g.J.LogName.replicas c.args.pass.now.view.seen in
-    let own = c.words.result.now in
+    let own = c.words-words.result.now in
     let Is : View → Type 0 = λ v. IsWordsOf (log_after g.J.LogName.replicas v.seen) own in
-    let are = subst Is (ap (λ (k : Known). k.view) c.pass.view_is) (rw c.words.ensures c.pass.invariant.words_are) in
+    let are = subst Is (ap (λ (k : Known). k.view) c.pass.view_is) (rw c.words-words.ensures c.pass.invariant.words_are) in
     let place = c.from-place.ensures in
     let local = c.from-local.ensures in
     λ words now.
@@ -37,3 +41,32 @@ exchange-requires-clause-next g c =
     let Next : List ℕ → Type 0 = λ ws. IsWordsOf (log_after_event log (Advance c.args.replica c.args.to)) ws in
     let After : LogEvent → Type 0 = λ event. IsWordsOf (log_after_event log event) after in
     subst After (sym c.requires.event) (subst Next (sym next) advanced)
+
+pub code_of-code-requires-clause-tail : goal.code_of-code-requires-clause-tail
+code_of-code-requires-clause-tail g c =
+    let small : AreSmall c.words-words.result.now = rw c.words-words.ensures (are_small _ _ _ _ _ c.pass.invariant) in small.tails 0 (omega arith)
+
+pub code_of-code-requires-clause-locals : goal.code_of-code-requires-clause-locals
+code_of-code-requires-clause-locals g c =
+    let own = c.words-words.result.now in
+    let small : AreSmall c.words-words.result.now = rw c.words-words.ensures (are_small _ _ _ _ _ c.pass.invariant) in
+    let Is : View → Type 0 = λ v. IsWordsOf (log_after g.J.LogName.replicas v.seen) own in
+    let are = subst Is (ap (λ (k : Known). k.view) c.pass.view_is) (rw c.words-words.ensures c.pass.invariant.words_are) in
+    small_still c.locals_in-locals.result _ _ (omega (arith, c.requires.may.0, ap (λ (l : List ℕ). length l) c.locals_in-locals.ensures)) (small_locals own c.locals_in-locals.result small c.locals_in-locals.ensures)
+    (omega (arith, c.requires.may.1.written, are.tail_is, small.tails 0 (omega arith), c.from-place.ensures))
+
+pub code_of-code-requires-clause-count : goal.code_of-code-requires-clause-count
+code_of-code-requires-clause-count g c =
+    let small : AreSmall c.words-words.result.now = rw c.words-words.ensures (are_small _ _ _ _ _ c.pass.invariant) in small.replicas
+
+pub exchange-requires-clause-code : goal.exchange-requires-clause-code
+exchange-requires-clause-code g c =
+    let log = log_after g.J.LogName.replicas c.args.pass.now.view.seen in
+    let own = c.words-words.result.now in
+    let small : AreSmall c.words-words.result.now = rw c.words-words.ensures (are_small _ _ _ _ _ c.pass.invariant) in
+    let Is : View → Type 0 = λ v. IsWordsOf (log_after g.J.LogName.replicas v.seen) own in
+    let are = subst Is (ap (λ (k : Known). k.view) c.pass.view_is) (rw c.words-words.ensures c.pass.invariant.words_are) in
+    let After : LogEvent → Type 0 = λ event. c.code_of-code.result ≡ code_of_log (log_after_event log event) in
+    let moved : set c.locals_in-locals.result c.from.result c.from-place.result ≡ set (locals_in own) c.args.replica c.args.to = λ i. set (c.locals_in-locals.ensures i) (c.from.ensures i) (c.from-place.ensures i) in
+    subst After (sym c.requires.event)
+    (c.code_of-code.ensures ∙ advance_code log own c.args.replica c.args.to _ _ _ are c.requires.may.1.there (omega (arith, are.replicas_are, small.replicas)) refl moved refl)

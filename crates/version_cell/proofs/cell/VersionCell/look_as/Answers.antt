@@ -7,4 +7,4 @@ use Rattle.version_cell.proofs.cell.VersionCell.look_as.Goals as goal
 pub load-version-requires : goal.load-version-requires
 load-version-requires g c =
     let Look : CellPass g.row.V.Denot → Type 0 = λ k. Turns g.P.CellRule.holds k.number k.view (λ x. x) g.M.CellOutcome.then in
-    (search rules, search rules, checks _ _ _ g.M.CellOutcome.then _ _ g.row.N _ c.self.invariant.1 (subst Look (sym c.pass.view_is) c.requires.rule))
+    (search rules, search rules, checks _ _ _ _ _ g.M.CellOutcome.then _ _ g.row.N _ c.self.invariant.1 (subst Look (sym c.pass.view_is) c.requires.rule))
