@@ -7,10 +7,10 @@ use Rattle.nr_trace.specs.Faults.{IsFirstOf}
 use Rattle.nr_trace.specs.Laws.{IsFaultless}
 use Rattle.nr_trace.specs.Orders.{recorded_order}
 use Rattle.nr_audit.specs.Headline.{AreRightWith, IsSpelledWith}
-use Rattle.nr_serve.specs.Run.{AreAllCallsOf, HaveSeenAnswers, IfRefused, IfVerified, IsLogOf}
+use Rattle.nr_serve.specs.Run.{AreAllCallsOf, HaveSeenAnswers, IfRefused, IfVerified, IsLogOf, IsTraceOf}
 use Rattle.nr_serve.specs.declared.outcome.Outcome.{Outcome}
 use Rattle.nr_serve.specs.declared.outcome.Outcome.TheVariants.{Verified, Refused}
-use Rattle.nr_engines.specs.ServedRun.{HasRunnable, IsRunEnd, IsRunFault, IsVerifiedRun, TellsRun, outcome_status, told_of}
+use Rattle.nr_engines.specs.ServedRun.{HasRunnable, IsRefusedRun, IsRunEnd, IsRunFault, IsVerifiedRun, TellsRun, outcome_status, told_of}
 use Rattle.nr_engines.specs.declared.fault.ProgFault.{ProgFault}
 use Rattle.nr_engines.specs.declared.fault.ProgFault.TheVariants.{BadAddress, NotCanonical, NoSuchReplica, InputTooLong, BadLine, NoThread, CannotRead, CannotWrite, Memory}
 
@@ -39,11 +39,18 @@ all_shown layout scripts (Verified answers trace order passes) layout_is answers
 }
 all_shown layout scripts (Refused trace fault) layout_is answers_each calls passes_each log seen faultless order_is right = tt
 
+-- the clauses of a refused run, together
+pub all_refused : {J : Type 0} (layout : Layout) (scripts : List (List Query)) (outcome : Outcome J)
+    → IfRefused (λ trace fault. IsTraceOf layout scripts trace) outcome → IfRefused (λ trace fault. IsFirstOf trace fault) outcome
+    → IfRefused (IsRefusedRun layout scripts) outcome
+all_refused layout scripts (Verified answers trace order passes) trace_of first = tt
+all_refused layout scripts (Refused trace fault) trace_of first = record { trace_of = trace_of; first = first }
+
 -- what is told of an outcome is told of the run
 pub tells_run : {J : Type 0} (layout : Layout) (scripts : List (List Query)) (as_trace : Bool) (outcome : Outcome J) (status : ℕ)
-    → IfVerified (IsVerifiedRun layout scripts) outcome → IfRefused (λ trace fault. IsFirstOf trace fault) outcome → status ≡ outcome_status outcome
+    → IfVerified (IsVerifiedRun layout scripts) outcome → IfRefused (IsRefusedRun layout scripts) outcome → status ≡ outcome_status outcome
     → TellsRun layout scripts as_trace (told_of as_trace outcome) status
-tells_run layout scripts as_trace (Verified answers trace order passes) status shown first same = inl (record {
+tells_run layout scripts as_trace (Verified answers trace order passes) status shown refused same = inl (record {
   answers = answers;
   trace = trace;
   order = order;
@@ -52,10 +59,10 @@ tells_run layout scripts as_trace (Verified answers trace order passes) status s
   text_is = refl;
   status_is = same;
 })
-tells_run layout scripts as_trace (Refused trace fault) status shown first same = inr (record {
+tells_run layout scripts as_trace (Refused trace fault) status shown refused same = inr (record {
   trace = trace;
   fault = fault;
-  first = first;
+  refused = refused;
   text_is = refl;
   status_is = same;
 })

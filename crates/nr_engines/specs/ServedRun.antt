@@ -9,7 +9,7 @@ use Rattle.nr_trace.specs.Laws.{IsFaultless}
 use Rattle.nr_trace.specs.Orders.{recorded_order}
 use Rattle.nr_trace.specs.declared.fault.Fault.{Fault}
 use Rattle.nr_audit.specs.Headline.{AreRightWith, IsSpelledWith}
-use Rattle.nr_serve.specs.Run.{AreAllCallsOf, HaveSeenAnswers, IsLogOf}
+use Rattle.nr_serve.specs.Run.{AreAllCallsOf, HaveSeenAnswers, IsLogOf, IsTraceOf}
 use Rattle.nr_serve.specs.declared.outcome.Outcome.{Outcome}
 use Rattle.nr_serve.specs.declared.outcome.Outcome.TheVariants.{Verified, Refused}
 use Rattle.nr_serve.specs.declared.said.Said.{Said}
@@ -36,6 +36,12 @@ pub record IsVerifiedRun (layout : Layout) (scripts : List (List Query)) (answer
   pub order_is : IsSpelledWith bytes (λ trace. order ≡ recorded_order trace)
   pub right : AreRightWith bytes order
 
+-- what a refused run of these scripts has to show: the bytes spell one trace, of these scripts and on one log, and this is its first
+-- fault
+pub record IsRefusedRun (layout : Layout) (scripts : List (List Query)) (bytes : List ℕ) (fault : Fault) : Type 0 where
+  pub trace_of : IsTraceOf layout scripts bytes
+  pub first : IsFirstOf bytes fault
+
 -- the bytes of the trace, where these are asked for; else the text
 abbrev pub asked_for : Bool → List ℕ → List ℕ → List ℕ
 asked_for true trace text = trace
@@ -51,17 +57,17 @@ pub record TellsVerified (layout : Layout) (scripts : List (List Query)) (as_tra
   pub text_is : text ≡ asked_for as_trace trace (verified_text answers)
   pub status_is : status ≡ 0
 
--- the first fault of a trace is told
-pub record TellsRefused (as_trace : Bool) (text : List ℕ) (status : ℕ) : Type 0 where
+-- a refused run of these scripts is told, by the first fault of its trace
+pub record TellsRefused (layout : Layout) (scripts : List (List Query)) (as_trace : Bool) (text : List ℕ) (status : ℕ) : Type 0 where
   pub trace : List ℕ
   pub fault : Fault
-  pub first : IsFirstOf trace fault
+  pub refused : IsRefusedRun layout scripts trace fault
   pub text_is : text ≡ asked_for as_trace trace (refused_text fault)
   pub status_is : status ≡ 1
 
 -- what came of a run of these scripts is told
 abbrev pub TellsRun : Layout → List (List Query) → Bool → List ℕ → ℕ → Type 0
-TellsRun layout scripts as_trace text status = TellsVerified layout scripts as_trace text status ⊎ TellsRefused as_trace text status
+TellsRun layout scripts as_trace text status = TellsVerified layout scripts as_trace text status ⊎ TellsRefused layout scripts as_trace text status
 
 -- what is told of an outcome, and its status
 abbrev pub told_of : {J : Type 0} → Bool → Outcome J → List ℕ
