@@ -3,7 +3,7 @@ use Rattle.std.proofs.lemmas.List.Elements.{All-append}
 use Rattle.vs_types.specs.Operation.{IsAction}
 use Rattle.nr_slots.specs.declared.waiting.Waiting.{Waiting}
 use Rattle.nr_node.proofs.Lists.{all_one}
-use Rattle.node_tests.proofs.node.pair.Goals as goal
+use Rattle.node_tests.proofs.bench.pair.Goals as goal
 
 pub returns-clause-fit : goal.returns-clause-fit
 returns-clause-fit c =

@@ -1,0 +1,224 @@
+//! A node on a log, as tests have it make calls.
+ghost use Rattle.std.specs.Prelude.{◌≡◌, All, [], ◌∷◌};
+ghost use Rattle.vs_types.specs.LogEntry.{IsLogEntry};
+ghost use Rattle.vs_types.specs.Operation.{IsAction};
+
+use arrayvec::ArrayVec;
+use nr_dump::check;
+use nr_node::{Held, Node};
+use nr_ring::{AppendFault, LogName, RingLog, Tails};
+use nr_slots::{Answered, Waiting};
+use std::alloc::Global;
+use std::marker::Model;
+use std::process::Abort;
+use std::sync::Wait;
+use std::test::Fail;
+use vs_arena::FrameStore;
+use vs_plain::PlainSpace;
+use vs_types::{Access, Answer, CALLS, Depth, LogEntry, Mode, Op, Rights, Size};
+
+/// An update of the page of 4 KiB at 0x400000.
+#[derive(Clone, Copy)]
+pub enum Update {
+    /// To the physical address 0x1000, with all rights.
+    Map,
+    Unmap,
+}
+
+impl Update {
+    pub fn op(self, rt: &impl Abort, depth: Depth) -> Op
+        ensures { IsAction depth result }
+    {
+        let made = match self {
+            Update::Map => Op::map(depth, 0x400000, Size::K4, 0x1000, Rights::ALL),
+            Update::Unmap => Op::unmap(depth, 0x400000),
+        };
+        let op = made.expect(rt, "an update");
+        assert!(rt; op.fits(depth));
+        op
+    }
+
+    /// The entry of a call that makes it.
+    pub fn entry(self, rt: &impl Abort, depth: Depth, call: u32) -> LogEntry
+        ensures { IsLogEntry depth result }
+    {
+        let op = self.op(rt, depth);
+        assert!(rt; call < CALLS);
+        LogEntry { call, op }
+    }
+}
+
+/// An update of a thread, by its call; and at its place what it is answered.
+#[derive(Clone, Copy)]
+pub struct Given(pub u16, pub u32, pub Update, pub u32, pub Answer);
+
+/// What a node does, and what it is told.
+#[derive(Clone, Copy)]
+pub enum Does {
+    /// It holds so much.
+    Has(Held),
+    HasApplied(u32),
+    /// It takes an update of each of two threads, by its call, to hold.
+    Holds([(u16, u32, Update); 2]),
+    /// Its batch gets this place.
+    Puts(u32),
+    /// The log has no room for it: the tail, the completed tail and the local ones.
+    IsFull(u32, u32, [u32; 4]),
+    /// It catches up by so many entries, and gives these answers.
+    CatchesUp(u32, &'static [Given]),
+    /// The entry at a place is a call's, of this update, which was answered so.
+    Told(u32, u32, Update, Answer),
+    /// It has not applied the entry of this place.
+    NotTold(u32),
+    /// The translation of an address, after so many entries.
+    Reads(u64, u32, Answer),
+    /// An access in user mode, after so many entries.
+    Accesses(u64, Access, u32, Answer),
+}
+
+/// A batch of two updates that are well formed at this depth.
+fn pair(first: Waiting, second: Waiting, depth: Depth) -> ArrayVec<Waiting, 16>
+    requires first { IsAction depth first.op }
+    requires second { IsAction depth second.op }
+    ensures items { result.items ≡ first ∷ second ∷ [] }
+    ensures fit { All (λ waiting. IsAction depth waiting.op) result.items }
+{
+    let mut batch = ArrayVec::new();
+    batch.push(first);
+    batch.push(second);
+    batch
+}
+
+/// A log and a node on it.
+#[derive(Drop)]
+pub struct Bench<'a, S: FrameStore, J: LogName> {
+    log: &'a RingLog<J>,
+    node: Node<S, J>,
+    depth: Depth,
+}
+
+impl<'a, S: FrameStore, J: LogName> Model for Bench<'a, S, J> {
+    ghost use Rattle.std.specs.Prelude.{◌≡◌};
+    ghost use Rattle.nr_ring.specs.Pass.{Known};
+
+    ghost Value = { Known };
+
+    ghost view = { λ b. b.node.known };
+
+    ghost invariant = { λ b. (b.node.known.log ≡ b.log.now) × (b.depth ≡ J.depth) };
+}
+
+impl<'a, S: FrameStore, J: LogName> Bench<'a, S, J> {
+    pub fn new(log: &'a RingLog<J>, node: Node<S, J>, depth: Depth) -> Bench<'a, S, J>
+        requires log { node.known.log ≡ log.now }
+        requires depth { depth ≡ J.depth }
+    {
+        Bench { log, node, depth }
+    }
+
+    /// Takes steps one after another.
+    pub fn take_all<R: Wait + Abort>(&mut self, rt: &R, steps: &[Does]) {
+        for (place, does) in steps.iter().enumerate() {
+            assert!(rt; self.take(rt, *does), "step {place}");
+        }
+    }
+
+    /// One step: whether the node is told so.
+    fn take<R: Wait + Abort>(&mut self, rt: &R, does: Does) -> bool {
+        match does {
+            Does::Has(held) => self.node.held() == held,
+            Does::HasApplied(count) => self.node.applied() == count,
+            Does::Holds(updates) => {
+                self.hold(rt, updates);
+                true
+            }
+            Does::Puts(place) => self.put(rt) == Ok(place),
+            Does::IsFull(tail, completed, local) => {
+                let tails = Tails {
+                    tail,
+                    completed,
+                    local,
+                };
+                self.put(rt) == Err(AppendFault::Full(tails))
+            }
+            Does::CatchesUp(count, answers) => self.catches_up(rt, count, answers),
+            Does::Told(place, call, update, answer) => {
+                let entry = update.entry(rt, self.depth, call);
+                self.node.told(place) == Some((entry, answer))
+            }
+            Does::NotTold(place) => self.node.told(place).is_none(),
+            Does::Reads(address, at, answer) => self.reads(rt, address, None) == (at, answer),
+            Does::Accesses(address, access, at, answer) => {
+                self.reads(rt, address, Some(access)) == (at, answer)
+            }
+        }
+    }
+
+    fn hold(&mut self, rt: &impl Abort, updates: [(u16, u32, Update); 2]) {
+        let [first, second] = updates;
+        assert!(rt; first.1 < CALLS && second.1 < CALLS);
+        let first = Waiting::new(first.0, first.1, first.2.op(rt, self.depth));
+        let second = Waiting::new(second.0, second.1, second.2.op(rt, self.depth));
+        let batch = pair(first, second, self.depth);
+        assert!(rt; self.node.held() == Held::Nothing);
+        self.node.hold(&batch);
+    }
+
+    /// Puts the batch that it holds.
+    fn put<R: Wait + Abort>(&mut self, rt: &R) -> Result<u32, AppendFault> {
+        match self.node.held() {
+            Held::Unplaced(_) => self.node.put_batch(rt, self.log),
+            _ => panic!(rt; "no batch without a place"),
+        }
+    }
+
+    /// Whether it catches up by so many entries, and gives these answers.
+    fn catches_up<R: Wait + Abort>(&mut self, rt: &R, count: u32, wanted: &[Given]) -> bool {
+        let mut answers = ArrayVec::new();
+        if self.node.catch_up(rt, self.log, &mut answers) != Ok(count)
+            || answers.len() != wanted.len()
+        {
+            return false;
+        }
+        for at in 0..wanted.len() {
+            let Given(thread, call, update, place, answer) = wanted[at];
+            let op = update.op(rt, self.depth);
+            let given = Answered {
+                thread,
+                call,
+                op,
+                place,
+                answer,
+            };
+            if answers[at] != given {
+                return false;
+            }
+        }
+        true
+    }
+
+    /// A read, or an access in user mode.
+    fn reads(&self, rt: &impl Abort, address: u64, access: Option<Access>) -> (u32, Answer) {
+        assert!(rt; self.depth.is_canonical(address));
+        match access {
+            None => self.node.read(address),
+            Some(access) => self.node.access(address, Mode::User, access),
+        }
+    }
+
+    /// The node has applied so many entries, and its dump has so many tables and is that of a plain space with the page.
+    pub fn assert_dump(
+        &self,
+        rt: &impl Abort,
+        alloc: Global,
+        applied: u32,
+        tables: usize,
+    ) -> Result<(), Fail> {
+        let dump = self.node.dump()?;
+        assert!(rt; dump.applied() == applied && dump.count() == tables);
+        let mut space = PlainSpace::new(alloc, 4096, self.depth);
+        assert!(rt; space.apply(Update::Map.op(rt, self.depth))? == Answer::Done);
+        check(alloc, &dump, &space)?;
+        Ok(())
+    }
+}
