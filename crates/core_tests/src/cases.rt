@@ -1,419 +1,303 @@
 //! Lists of steps, each with what its recording says.
-ghost use Rattle.std.specs.Prelude.{◌≡◌, map, IfOk};
-ghost use Rattle.nr_core.specs.Run.{AreScripts};
 
-use crate::scripts::{assert_scripts, map_a, order_of, resolve_a, step};
-use nr_core::{Act, Core, Step, run_steps};
-use nr_trace::{Event, Trace, Version};
-use std::alloc::Global;
-use std::process::Abort;
-use std::test::Fail;
-use vs_types::{Access, Answer, Config, Depth, Memory, Mode, Request, Rights, Size};
+use nr_core::Act;
+use nr_trace::Version;
+use vs_types::{Answer, BadConfig, Config, Depth, Rights, Size};
 
-fn call(replica: u8, thread: u16, request: Request) -> Event {
-    Event::Call {
-        replica,
-        thread,
-        request,
+/// What a call asks.
+#[derive(Clone, Copy)]
+pub enum Asks {
+    /// The page of 4 KiB at 0x400000 is mapped to 0x1000, with all rights.
+    Map,
+    /// 0x400123 is resolved.
+    Resolve,
+    /// Whether a user may write to 0x400123.
+    Write,
+    /// Whether a user may fetch from 0x401000.
+    Fetch,
+}
+
+/// An event.
+#[derive(Clone, Copy)]
+pub enum Item {
+    /// A call of a thread at a replica.
+    Call(u8, u16, Asks),
+    /// A call is answered at a place, or after so many entries.
+    Reply(u32, u32, Answer),
+}
+
+/// A step of a thread, and whether it is enabled.
+#[derive(Clone, Copy)]
+pub struct Row(pub u16, pub Act, pub bool);
+
+/// A list of steps, and what is recorded.
+#[derive(Clone, Copy)]
+pub struct Case {
+    pub name: &'static str,
+    pub depth: Depth,
+    pub replicas: u8,
+    pub threads: u16,
+    pub tables: u16,
+    /// By thread.
+    pub scripts: &'static [&'static [Asks]],
+    /// Rows, each list as often as it says.
+    pub steps: &'static [(u32, &'static [Row])],
+    pub version: Version,
+    /// The call at each place.
+    pub log: &'static [u32],
+    /// None is looked at where there is none here.
+    pub events: Option<&'static [Item]>,
+    /// The calls of the order with which the auditor says yes.
+    pub order: &'static [u32],
+    /// Of each replica, how many entries it has applied, and how many tables it has.
+    pub dumps: &'static [(u32, usize)],
+}
+
+impl Case {
+    pub fn config(&self) -> Result<Config, BadConfig> {
+        Config::new(self.depth, self.replicas, self.threads, self.tables)
     }
 }
 
-fn reply(call: u32, at: u32, answer: Answer) -> Event {
-    Event::Reply { call, at, answer }
-}
+/// How a resolve of 0x400123 finds the page.
+const MAPPED: Answer = Answer::Mapped(0x1123, Size::K4, Rights::ALL);
 
-/// How a resolve of 0x400123 finds the page of `map_a`.
-fn mapped() -> Answer {
-    Answer::Mapped(0x1123, Size::K4, Rights::ALL)
-}
+/// Thread 0 maps a page and thread 1 resolves an address in it. The last step is not enabled.
+const FIFTEEN: Case = Case {
+    name: "fifteen steps",
+    depth: Depth::Four,
+    replicas: 1,
+    threads: 2,
+    tables: 4096,
+    scripts: &[&[Asks::Map], &[Asks::Resolve]],
+    steps: &[(1, &FIRST_SIX), (1, &LAST_NINE)],
+    version: Version::V1,
+    log: &[0],
+    events: Some(&[
+        Item::Call(0, 0, Asks::Map),
+        Item::Call(0, 1, Asks::Resolve),
+        Item::Reply(0, 0, Answer::Done),
+        Item::Reply(1, 1, MAPPED),
+    ]),
+    order: &[0, 1],
+    dumps: &[(1, 4)],
+};
 
-/// That a trace has just these events.
-fn assert_events(rt: &impl Abort, trace: &Trace, events: &[Event]) {
-    assert_eq!(rt; trace.events().len(), events.len());
-    for (recorded, event) in trace.events().iter().zip(events.iter()) {
-        assert_eq!(rt; recorded.event(), *event);
-    }
-}
-
-/// That a trace has just these events, and that the auditor says yes with this order.
-fn assert_trace(
-    rt: &impl Abort,
-    alloc: Global,
-    trace: &Trace,
-    events: &[Event],
-    order: &[u32],
-) -> Result<(), Memory> {
-    assert_events(rt, trace, events);
-    assert_eq!(rt; order_of(rt, alloc, trace)?.calls(), order);
-    Ok(())
-}
-
-/// Thread 0 maps a page and thread 1 resolves an address in it.
-pub fn map_and_resolve(
-    rt: &impl Abort,
-    alloc: Global,
-    depth: Depth,
-) -> Result<Vec<Vec<Request>>, Memory> {
-    let map = vec![in alloc; map_a(rt, depth)]?;
-    let resolve = vec![in alloc; resolve_a(rt, depth)]?;
-    Ok(vec![in alloc; map, resolve]?)
-}
-
-/// The last step is not enabled.
-pub const FIFTEEN: [Step; 15] = [
-    Step {
-        thread: 0,
-        act: Act::Call,
-    },
-    Step {
-        thread: 1,
-        act: Act::Call,
-    },
-    Step {
-        thread: 0,
-        act: Act::Post,
-    },
-    Step {
-        thread: 0,
-        act: Act::Take(0),
-    },
-    Step {
-        thread: 0,
-        act: Act::Collect(0),
-    },
-    Step {
-        thread: 0,
-        act: Act::Append,
-    },
-    Step {
-        thread: 0,
-        act: Act::Advance,
-    },
-    Step {
-        thread: 0,
-        act: Act::Apply,
-    },
-    Step {
-        thread: 0,
-        act: Act::Answer(0),
-    },
-    Step {
-        thread: 0,
-        act: Act::Release,
-    },
-    Step {
-        thread: 1,
-        act: Act::Look,
-    },
-    Step {
-        thread: 1,
-        act: Act::Read,
-    },
-    Step {
-        thread: 0,
-        act: Act::Reply,
-    },
-    Step {
-        thread: 1,
-        act: Act::Reply,
-    },
-    Step {
-        thread: 1,
-        act: Act::Reply,
-    },
+const FIRST_SIX: [Row; 6] = [
+    Row(0, Act::Call, true),
+    Row(1, Act::Call, true),
+    Row(0, Act::Post, true),
+    Row(0, Act::Take(0), true),
+    Row(0, Act::Collect(0), true),
+    Row(0, Act::Append, true),
 ];
 
-/// That the trace is what the fifteen steps record.
-pub fn assert_events_of_fifteen(rt: &impl Abort, trace: &Trace) {
-    let events = [
-        call(0, 0, map_a(rt, Depth::Four)),
-        call(0, 1, resolve_a(rt, Depth::Four)),
-        reply(0, 0, Answer::Done),
-        reply(1, 1, mapped()),
-    ];
-    assert_events(rt, trace, &events);
-    assert_eq!(rt; trace.log(), [0u32].as_slice());
-    assert_eq!(rt; trace.dumps().len(), 1);
-    assert_eq!(rt;
-        (trace.dumps()[0].applied(), trace.dumps()[0].count()),
-        (1, 4)
-    );
-}
-
-#[test]
-fn fifteen_steps(rt: HostRuntime) -> Result<(), Fail> {
-    let alloc = rt.alloc();
-    let config = Config::new(Depth::Four, 1, 2, 4096)?;
-    let scripts = map_and_resolve(&rt, alloc, Depth::Four)?;
-    assert_scripts(&rt, config, &scripts);
-    let trace = run_steps(alloc, config, scripts, &FIFTEEN)?;
-    assert_eq!(rt; (trace.version(), trace.config()), (Version::V1, config));
-    assert_events_of_fifteen(&rt, &trace);
-    assert_eq!(rt; order_of(&rt, alloc, &trace)?.calls(), [0u32, 1].as_slice());
-    Ok(())
-}
+const LAST_NINE: [Row; 9] = [
+    Row(0, Act::Advance, true),
+    Row(0, Act::Apply, true),
+    Row(0, Act::Answer(0), true),
+    Row(0, Act::Release, true),
+    Row(1, Act::Look, true),
+    Row(1, Act::Read, true),
+    Row(0, Act::Reply, true),
+    Row(1, Act::Reply, true),
+    Row(1, Act::Reply, false),
+];
 
 /// Without the last nine steps, of which the first is the advance.
-#[test]
-fn six_steps(rt: HostRuntime) -> Result<(), Fail> {
-    let alloc = rt.alloc();
-    let config = Config::new(Depth::Four, 1, 2, 4096)?;
-    let scripts = map_and_resolve(&rt, alloc, Depth::Four)?;
-    assert_scripts(&rt, config, &scripts);
-    assert_eq!(rt; FIFTEEN[6], step(0, Act::Advance));
-    let trace = run_steps(alloc, config, scripts, &FIFTEEN[..6])?;
-    let events = [
-        call(0, 0, map_a(&rt, Depth::Four)),
-        call(0, 1, resolve_a(&rt, Depth::Four)),
-    ];
-    assert_eq!(rt; trace.log(), [0u32].as_slice());
-    assert_trace(&rt, alloc, &trace, &events, &[0])?;
-    assert_eq!(rt; trace.dumps().len(), 1);
-    assert_eq!(rt;
-        (trace.dumps()[0].applied(), trace.dumps()[0].count()),
-        (0, 1)
-    );
-    Ok(())
-}
-
-/// Two replicas: a read at the second waits for what a read at the first has shown.
-const STALE_READ: [Step; 23] = [
-    Step {
-        thread: 0,
-        act: Act::Call,
-    },
-    Step {
-        thread: 0,
-        act: Act::Post,
-    },
-    Step {
-        thread: 0,
-        act: Act::Take(0),
-    },
-    Step {
-        thread: 0,
-        act: Act::Collect(0),
-    },
-    Step {
-        thread: 0,
-        act: Act::Append,
-    },
-    Step {
-        thread: 0,
-        act: Act::Advance,
-    },
-    Step {
-        thread: 0,
-        act: Act::Apply,
-    },
-    Step {
-        thread: 0,
-        act: Act::Answer(0),
-    },
-    Step {
-        thread: 0,
-        act: Act::Release,
-    },
-    Step {
-        thread: 2,
-        act: Act::Call,
-    },
-    Step {
-        thread: 2,
-        act: Act::Look,
-    },
-    Step {
-        thread: 2,
-        act: Act::Read,
-    },
-    Step {
-        thread: 2,
-        act: Act::Reply,
-    },
-    Step {
-        thread: 1,
-        act: Act::Call,
-    },
-    Step {
-        thread: 1,
-        act: Act::Look,
-    },
-    Step {
-        thread: 1,
-        act: Act::Read,
-    },
-    Step {
-        thread: 1,
-        act: Act::Take(1),
-    },
-    Step {
-        thread: 1,
-        act: Act::Advance,
-    },
-    Step {
-        thread: 1,
-        act: Act::Apply,
-    },
-    Step {
-        thread: 1,
-        act: Act::Release,
-    },
-    Step {
-        thread: 1,
-        act: Act::Read,
-    },
-    Step {
-        thread: 1,
-        act: Act::Reply,
-    },
-    Step {
-        thread: 0,
-        act: Act::Reply,
-    },
-];
-
-#[test]
-fn no_stale_read(rt: HostRuntime) -> Result<(), Fail> {
-    let alloc = rt.alloc();
-    let config = Config::new(Depth::Four, 2, 3, 4096)?;
-    let mut scripts = map_and_resolve(&rt, alloc, Depth::Four)?;
-    scripts.push(vec![in alloc; resolve_a(&rt, Depth::Four)]?)?;
-    assert_scripts(&rt, config, &scripts);
-    let mut core = Core::new(alloc, config, scripts)?;
-    for (index, step) in STALE_READ.iter().enumerate() {
-        assert_eq!(rt; core.step(*step)?, index != 15, "step {index}");
-    }
-    let trace = core.trace()?;
-    let events = [
-        call(0, 0, map_a(&rt, Depth::Four)),
-        call(0, 2, resolve_a(&rt, Depth::Four)),
-        reply(1, 1, mapped()),
-        call(1, 1, resolve_a(&rt, Depth::Four)),
-        reply(3, 1, mapped()),
-        reply(0, 0, Answer::Done),
-    ];
-    assert_trace(&rt, alloc, &trace, &events, &[0, 1, 3])?;
-    Ok(())
-}
-
-#[test]
-fn names_nothing_that_is_there(rt: HostRuntime) -> Result<(), Fail> {
-    let alloc = rt.alloc();
-    let config = Config::new(Depth::Four, 1, 2, 4)?;
-    let scripts = map_and_resolve(&rt, alloc, Depth::Four)?;
-    assert_scripts(&rt, config, &scripts);
-    let mut core = Core::new(alloc, config, scripts)?;
-    assert_eq!(rt; core.step(step(63, Act::Take(9)))?, false);
-    assert_eq!(rt; core.step(step(0, Act::Release))?, false);
-    assert_eq!(rt; core.step(step(2, Act::Call))?, false);
-    assert_eq!(rt; core.step(step(0, Act::Take(1)))?, false);
-    assert_trace(&rt, alloc, &core.trace()?, &[], &[])?;
-    Ok(())
-}
-
-/// A whole update of a thread of replica 0, which combines its own.
-const UPDATE: [Act; 10] = [
-    Act::Call,
-    Act::Post,
-    Act::Take(0),
-    Act::Collect(0),
-    Act::Append,
-    Act::Advance,
-    Act::Apply,
-    Act::Answer(0),
-    Act::Release,
-    Act::Reply,
-];
-
-/// At this depth thread 0 maps, and thread 1 asks at the other replica whether it may write there, and fetch beside it.
-fn accesses_at(rt: &impl Abort, alloc: Global, depth: Depth) -> Result<(), Fail> {
-    let config = Config::new(depth, 2, 2, 8)?;
-    let write = Request::access(depth, 0x400123, Mode::User, Access::Write)?;
-    let fetch = Request::access(depth, 0x401000, Mode::User, Access::Fetch)?;
-    let map = vec![in alloc; map_a(rt, depth)]?;
-    let scripts = vec![in alloc; map, vec![in alloc; write, fetch]?]?;
-    assert_scripts(rt, config, &scripts);
-    let mut core = Core::new(alloc, config, scripts)?;
-    for act in UPDATE {
-        assert_eq!(rt; core.step(step(0, act))?, true, "{act:?}");
-    }
-    for act in [Act::Take(1), Act::Advance, Act::Apply, Act::Release] {
-        assert_eq!(rt; core.step(step(1, act))?, true, "{act:?}");
-    }
-    for _ in 0..2 {
-        for act in [Act::Call, Act::Look, Act::Read, Act::Reply] {
-            assert_eq!(rt; core.step(step(1, act))?, true, "{act:?}");
-        }
-    }
-    let trace = core.trace()?;
-    let events = [
-        call(0, 0, map_a(rt, depth)),
-        reply(0, 0, Answer::Done),
-        call(1, 1, write),
-        reply(2, 1, Answer::Allowed(0x1123)),
-        call(1, 1, fetch),
-        reply(4, 1, Answer::Fault(20)),
-    ];
-    assert_eq!(rt; (trace.version(), trace.config()), (Version::V2, config));
-    assert_trace(rt, alloc, &trace, &events, &[0, 2, 4])?;
-    Ok(())
-}
-
-#[test]
-fn accesses_at_both_depths(rt: HostRuntime) -> Result<(), Fail> {
-    accesses_at(&rt, rt.alloc(), Depth::Four)?;
-    accesses_at(&rt, rt.alloc(), Depth::Five)
-}
+const SIX: Case = Case {
+    name: "six steps",
+    steps: &[(1, &FIRST_SIX)],
+    events: Some(&[Item::Call(0, 0, Asks::Map), Item::Call(0, 1, Asks::Resolve)]),
+    order: &[0],
+    dumps: &[(0, 1)],
+    ..FIFTEEN
+};
 
 /// Five levels are recorded in version 2, also where no access is.
-#[test]
-fn fifteen_steps_at_five_levels(rt: HostRuntime) -> Result<(), Fail> {
-    let alloc = rt.alloc();
-    let config = Config::new(Depth::Five, 1, 2, 5)?;
-    let scripts = map_and_resolve(&rt, alloc, Depth::Five)?;
-    assert_scripts(&rt, config, &scripts);
-    let trace = run_steps(alloc, config, scripts, &FIFTEEN)?;
-    assert_eq!(rt; trace.version(), Version::V2);
-    assert_eq!(rt; order_of(&rt, alloc, &trace)?.calls(), [0u32, 1].as_slice());
-    assert_eq!(rt; trace.dumps().len(), 1);
-    assert_eq!(rt;
-        (trace.dumps()[0].applied(), trace.dumps()[0].count()),
-        (1, 5)
-    );
-    Ok(())
-}
+const FIFTEEN_AT_FIVE_LEVELS: Case = Case {
+    name: "fifteen steps at five levels",
+    depth: Depth::Five,
+    tables: 5,
+    version: Version::V2,
+    dumps: &[(1, 5)],
+    ..FIFTEEN
+};
+
+/// Two replicas: a read at the second waits for what a read at the first has shown.
+const STALE_READ: Case = Case {
+    name: "no stale read",
+    replicas: 2,
+    threads: 3,
+    scripts: &[&[Asks::Map], &[Asks::Resolve], &[Asks::Resolve]],
+    steps: &[(1, &READ_FIRST), (1, &READ_LATE)],
+    events: Some(&[
+        Item::Call(0, 0, Asks::Map),
+        Item::Call(0, 2, Asks::Resolve),
+        Item::Reply(1, 1, MAPPED),
+        Item::Call(1, 1, Asks::Resolve),
+        Item::Reply(3, 1, MAPPED),
+        Item::Reply(0, 0, Answer::Done),
+    ]),
+    order: &[0, 1, 3],
+    dumps: &[(1, 4), (1, 4)],
+    ..FIFTEEN
+};
+
+const READ_FIRST: [Row; 13] = [
+    Row(0, Act::Call, true),
+    Row(0, Act::Post, true),
+    Row(0, Act::Take(0), true),
+    Row(0, Act::Collect(0), true),
+    Row(0, Act::Append, true),
+    Row(0, Act::Advance, true),
+    Row(0, Act::Apply, true),
+    Row(0, Act::Answer(0), true),
+    Row(0, Act::Release, true),
+    Row(2, Act::Call, true),
+    Row(2, Act::Look, true),
+    Row(2, Act::Read, true),
+    Row(2, Act::Reply, true),
+];
+
+const READ_LATE: [Row; 10] = [
+    Row(1, Act::Call, true),
+    Row(1, Act::Look, true),
+    Row(1, Act::Read, false),
+    Row(1, Act::Take(1), true),
+    Row(1, Act::Advance, true),
+    Row(1, Act::Apply, true),
+    Row(1, Act::Release, true),
+    Row(1, Act::Read, true),
+    Row(1, Act::Reply, true),
+    Row(0, Act::Reply, true),
+];
+
+/// Steps that name nothing that is there.
+const NOTHING: Case = Case {
+    name: "names nothing that is there",
+    tables: 4,
+    steps: &[(1, &NAMELESS)],
+    log: &[],
+    events: Some(&[]),
+    order: &[],
+    dumps: &[(0, 1)],
+    ..FIFTEEN
+};
+
+const NAMELESS: [Row; 4] = [
+    Row(63, Act::Take(9), false),
+    Row(0, Act::Release, false),
+    Row(2, Act::Call, false),
+    Row(0, Act::Take(1), false),
+];
+
+/// Thread 0 maps, and thread 1 asks at the other replica whether a user may write there, and fetch beside it.
+const ACCESSES: Case = Case {
+    name: "accesses",
+    replicas: 2,
+    tables: 8,
+    scripts: &[&[Asks::Map], &[Asks::Write, Asks::Fetch]],
+    steps: &[(1, &UPDATE), (1, &CATCH_UP), (2, &READ)],
+    version: Version::V2,
+    events: Some(&[
+        Item::Call(0, 0, Asks::Map),
+        Item::Reply(0, 0, Answer::Done),
+        Item::Call(1, 1, Asks::Write),
+        Item::Reply(2, 1, Answer::Allowed(0x1123)),
+        Item::Call(1, 1, Asks::Fetch),
+        Item::Reply(4, 1, Answer::Fault(20)),
+    ]),
+    order: &[0, 2, 4],
+    dumps: &[(1, 4), (1, 4)],
+    ..FIFTEEN
+};
+
+const ACCESSES_AT_FIVE_LEVELS: Case = Case {
+    name: "accesses at five levels",
+    depth: Depth::Five,
+    dumps: &[(1, 5), (1, 5)],
+    ..ACCESSES
+};
+
+const CATCH_UP: [Row; 4] = [
+    Row(1, Act::Take(1), true),
+    Row(1, Act::Advance, true),
+    Row(1, Act::Apply, true),
+    Row(1, Act::Release, true),
+];
+
+const READ: [Row; 4] = [
+    Row(1, Act::Call, true),
+    Row(1, Act::Look, true),
+    Row(1, Act::Read, true),
+    Row(1, Act::Reply, true),
+];
+
+/// A whole update of thread 0.
+const UPDATE: [Row; 10] = [
+    Row(0, Act::Call, true),
+    Row(0, Act::Post, true),
+    Row(0, Act::Take(0), true),
+    Row(0, Act::Collect(0), true),
+    Row(0, Act::Append, true),
+    Row(0, Act::Advance, true),
+    Row(0, Act::Apply, true),
+    Row(0, Act::Answer(0), true),
+    Row(0, Act::Release, true),
+    Row(0, Act::Reply, true),
+];
+
+/// The same where the ring is full; and what makes room in it.
+const REFUSED_UPDATE: [Row; 14] = [
+    Row(0, Act::Call, true),
+    Row(0, Act::Post, true),
+    Row(0, Act::Take(0), true),
+    Row(0, Act::Collect(0), true),
+    Row(0, Act::Append, false),
+    Row(0, Act::Advance, false),
+    Row(0, Act::Apply, false),
+    Row(0, Act::Answer(0), false),
+    Row(0, Act::Release, true),
+    Row(0, Act::Reply, false),
+    Row(1, Act::Take(1), true),
+    Row(1, Act::Advance, true),
+    Row(0, Act::Take(0), true),
+    Row(0, Act::Append, true),
+];
+
+const SEVENTEEN: [u32; 17] = [
+    0, 2, 4, 6, 8, 10, 12, 14, 16, 18, 20, 22, 24, 26, 28, 30, 32,
+];
 
 /// After 16 updates of replica 0 nothing is appended until replica 1 has fetched.
-#[test]
-fn full_ring(rt: HostRuntime) -> Result<(), Fail> {
-    let alloc = rt.alloc();
-    let config = Config::new(Depth::Four, 2, 2, 4)?;
-    let mut updates = Vec::new(alloc);
-    for _ in 0..17 {
-        updates.push(map_a(&rt, Depth::Four))?;
-    }
-    let scripts = vec![in alloc; updates, Vec::new(alloc)]?;
-    assert_scripts(&rt, config, &scripts);
-    let mut core = Core::new(alloc, config, scripts)?;
-    for _ in 0..16 {
-        for act in UPDATE {
-            assert_eq!(rt; core.step(step(0, act))?, true, "{act:?}");
-        }
-    }
-    for act in UPDATE {
-        let done = core.step(step(0, act))?;
-        let enabled = !matches!(
-            act,
-            Act::Append | Act::Advance | Act::Apply | Act::Answer(_) | Act::Reply
-        );
-        assert_eq!(rt; done, enabled, "{act:?}");
-    }
-    assert_eq!(rt; core.step(step(1, Act::Take(1)))?, true);
-    assert_eq!(rt; core.step(step(1, Act::Advance))?, true);
-    assert_eq!(rt; core.step(step(0, Act::Take(0)))?, true);
-    assert_eq!(rt; core.step(step(0, Act::Append))?, true);
-    let trace = core.trace()?;
-    assert_eq!(rt; trace.log().len(), 17);
-    assert_eq!(rt; order_of(&rt, alloc, &trace)?.calls().len(), 17);
-    Ok(())
-}
+const FULL_RING: Case = Case {
+    name: "a full ring",
+    replicas: 2,
+    tables: 4,
+    scripts: &[&[Asks::Map; 17], &[]],
+    steps: &[(16, &UPDATE), (1, &REFUSED_UPDATE)],
+    log: &SEVENTEEN,
+    events: None,
+    order: &SEVENTEEN,
+    dumps: &[(16, 4), (0, 1)],
+    ..FIFTEEN
+};
+
+/// Each list of steps.
+pub static CASES: [Case; 8] = [
+    FIFTEEN,
+    SIX,
+    STALE_READ,
+    NOTHING,
+    ACCESSES,
+    ACCESSES_AT_FIVE_LEVELS,
+    FIFTEEN_AT_FIVE_LEVELS,
+    FULL_RING,
+];
+
+/// The fifteen steps with just the tables that the page takes.
+pub static FIFTEEN_WITH_FEW_TABLES: Case = Case {
+    tables: 4,
+    ..FIFTEEN
+};

@@ -1,50 +1,36 @@
 //! Refused growths of memory: each test is run with each of its growths refused in turn.
 
-use crate::cases::{FIFTEEN, assert_events_of_fifteen, map_and_resolve};
-use crate::scripts::assert_scripts;
-use nr_core::{Core, Step, run_steps};
-use nr_trace::Trace;
+use crate::cases::{Case, FIFTEEN_WITH_FEW_TABLES};
+use crate::examples::{assert_recorded, scripts_of, steps_of};
+use crate::scripts::{Tries, run_at_once, run_one_by_one};
+use std::alloc::Global;
+use std::process::Abort;
 use std::test::Fail;
-use vs_types::{Config, Depth, Memory};
-
-/// Takes a step, and again where memory was refused.
-fn step_again(core: &mut Core, step: Step) -> Result<bool, Memory> {
-    match core.step(step) {
-        Ok(done) => Ok(done),
-        Err(Memory) => core.step(step),
-    }
-}
-
-fn trace_again(core: &Core) -> Result<Trace, Memory> {
-    match core.trace() {
-        Ok(trace) => Ok(trace),
-        Err(Memory) => core.trace(),
-    }
-}
 
 /// A step or a recording that memory was refused to changes nothing: taken again it goes on from the same state.
+fn go_on(rt: &impl Abort, alloc: Global, case: &Case) -> Result<(), Fail> {
+    let config = case.config()?;
+    let (steps, enabled) = steps_of(alloc, case)?;
+    let scripts = scripts_of(alloc, case)?;
+    let (trace, made) = run_one_by_one(rt, alloc, config, scripts, &steps, Tries::Twice)?;
+    assert_eq!(rt; made, enabled);
+    assert_recorded(rt, &trace, case)
+}
+
 #[test]
 fn goes_on_from_the_same_state(rt: HostRuntime) -> Result<(), Fail> {
-    let alloc = rt.alloc();
-    let config = Config::new(Depth::Four, 1, 2, 4)?;
-    let scripts = map_and_resolve(&rt, alloc, Depth::Four)?;
-    assert_scripts(&rt, config, &scripts);
-    let mut core = Core::new(alloc, config, scripts)?;
-    for (index, step) in FIFTEEN.iter().enumerate() {
-        assert_eq!(rt; step_again(&mut core, *step)?, index != 14, "step {index}");
-    }
-    let trace = trace_again(&core)?;
-    assert_events_of_fifteen(&rt, &trace);
-    Ok(())
+    go_on(&rt, rt.alloc(), &FIFTEEN_WITH_FEW_TABLES)
+}
+
+fn run_whole(rt: &impl Abort, alloc: Global, case: &Case) -> Result<(), Fail> {
+    let config = case.config()?;
+    let (steps, _enabled) = steps_of(alloc, case)?;
+    let scripts = scripts_of(alloc, case)?;
+    let trace = run_at_once(rt, alloc, config, scripts, &steps)?;
+    assert_recorded(rt, &trace, case)
 }
 
 #[test]
 fn whole_run(rt: HostRuntime) -> Result<(), Fail> {
-    let alloc = rt.alloc();
-    let config = Config::new(Depth::Four, 1, 2, 4)?;
-    let scripts = map_and_resolve(&rt, alloc, Depth::Four)?;
-    assert_scripts(&rt, config, &scripts);
-    let trace = run_steps(alloc, config, scripts, &FIFTEEN)?;
-    assert_events_of_fifteen(&rt, &trace);
-    Ok(())
+    run_whole(&rt, rt.alloc(), &FIFTEEN_WITH_FEW_TABLES)
 }

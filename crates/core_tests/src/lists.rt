@@ -1,12 +1,10 @@
 //! Lists of 200 steps from a seed: the auditor says yes to the recording of each.
 //!
 //! The environment's LISTS may say how many lists there are, and its SEED from which number they are drawn.
-ghost use Rattle.std.specs.Prelude.{◌<◌, map};
-ghost use Rattle.nr_core.specs.Run.{AreScripts};
+ghost use Rattle.std.specs.Prelude.{◌<◌};
 
-use crate::scripts::{assert_scripts, order_of, step};
-use nr_core::{Act, Core, Step, run_steps};
-use nr_trace::{Trace, write};
+use crate::scripts::{Tries, assert_alike, order_of, run_at_once, run_one_by_one};
+use nr_core::{Act, Step};
 use std::alloc::{Alloc, Global};
 use std::env;
 use std::process::Abort;
@@ -146,7 +144,8 @@ fn steps_of(alloc: Global, draws: &mut Draws, config: Config) -> Result<Vec<Step
     for _ in 0..200 {
         let thread = draws.below(u32::from(config.threads())) as u16;
         let turn = &mut turns[usize::from(thread)];
-        steps.push(step(thread, act_of(draws, config, thread, *turn)))?;
+        let act = act_of(draws, config, thread, *turn);
+        steps.push(Step { thread, act })?;
         *turn = turn.wrapping_add(1) % 13;
     }
     Ok(steps)
@@ -190,24 +189,6 @@ impl Counts {
     }
 }
 
-/// The recording of the core after the steps, which are counted.
-fn recording_of(
-    alloc: Global,
-    config: Config,
-    scripts: Vec<Vec<Request>>,
-    steps: &[Step],
-    counts: &mut Counts,
-) -> Result<Trace, Memory>
-    requires { AreScripts config (map (λ script. script.items) scripts.items) }
-{
-    let mut core = Core::new(alloc, config, scripts)?;
-    for step in steps {
-        let done = core.step(*step)?;
-        counts.count(step.act, done);
-    }
-    core.trace()
-}
-
 /// A drawn list is run twice, step by step and at once: the recordings are the same, and the auditor says yes.
 fn one_list(
     rt: &impl Abort,
@@ -227,12 +208,13 @@ fn one_list(
     let mut same = Draws { state: draws.state };
     let scripts = scripts_of(rt, alloc, draws, config)?;
     let again = scripts_of(rt, alloc, &mut same, config)?;
-    assert_scripts(rt, config, &scripts);
-    assert_scripts(rt, config, &again);
     let steps = steps_of(alloc, draws, config)?;
-    let by_steps = recording_of(alloc, config, scripts, &steps, counts)?;
-    let at_once = run_steps(alloc, config, again, &steps)?;
-    assert!(rt; write(alloc, &by_steps)? == write(alloc, &at_once)?);
+    let (by_steps, made) = run_one_by_one(rt, alloc, config, scripts, &steps, Tries::Once)?;
+    for (step, made) in steps.iter().zip(made.iter()) {
+        counts.count(step.act, *made);
+    }
+    let at_once = run_at_once(rt, alloc, config, again, &steps)?;
+    assert_alike(rt, alloc, &by_steps, &at_once)?;
     order_of(rt, alloc, &at_once)?;
     Ok(())
 }

@@ -4,11 +4,11 @@ ghost use Rattle.vs_types.specs.Query.{IsQuery};
 ghost use Rattle.nr_core.specs.Run.{AreScripts};
 
 use nr_audit::{Order, Verdict, audit};
-use nr_core::{Act, Step};
+use nr_core::{Core, Step, run_steps};
 use nr_trace::{Trace, write};
 use std::alloc::Global;
 use std::process::Abort;
-use vs_types::{Config, Depth, Memory, Op, Request, Rights, Size};
+use vs_types::{Config, Depth, Memory, Request};
 
 /// That each request of a script is well formed at the depth.
 fn assert_fits(rt: &impl Abort, depth: Depth, script: &[Request])
@@ -20,7 +20,7 @@ fn assert_fits(rt: &impl Abort, depth: Depth, script: &[Request])
 }
 
 /// That there is one script for each thread, with requests that are few enough and well formed.
-pub fn assert_scripts(rt: &impl Abort, config: Config, scripts: &[Vec<Request>])
+fn assert_scripts(rt: &impl Abort, config: Config, scripts: &[Vec<Request>])
     ensures { AreScripts config (map (λ script. script.items) scripts.now) }
 {
     assert!(rt; scripts.len() == usize::from(config.threads()));
@@ -32,6 +32,63 @@ pub fn assert_scripts(rt: &impl Abort, config: Config, scripts: &[Vec<Request>])
     }
 }
 
+/// The recording of a run of the steps.
+pub fn run_at_once(
+    rt: &impl Abort,
+    alloc: Global,
+    config: Config,
+    scripts: Vec<Vec<Request>>,
+    steps: &[Step],
+) -> Result<Trace, Memory> {
+    assert_scripts(rt, config, &scripts);
+    run_steps(alloc, config, scripts, steps)
+}
+
+/// How often a call is tried to which memory is refused: one that it is refused to changes nothing.
+#[derive(Clone, Copy)]
+pub enum Tries {
+    Once,
+    Twice,
+}
+
+/// Takes a step.
+fn take(core: &mut Core, step: Step, tries: Tries) -> Result<bool, Memory> {
+    if let Tries::Twice = tries
+        && let Ok(done) = core.step(step)
+    {
+        return Ok(done);
+    }
+    core.step(step)
+}
+
+/// The recording of the core as it is.
+fn recording_of(core: &Core, tries: Tries) -> Result<Trace, Memory> {
+    if let Tries::Twice = tries
+        && let Ok(trace) = core.trace()
+    {
+        return Ok(trace);
+    }
+    core.trace()
+}
+
+/// The recording of the core after the steps; and of each step, whether it was made.
+pub fn run_one_by_one(
+    rt: &impl Abort,
+    alloc: Global,
+    config: Config,
+    scripts: Vec<Vec<Request>>,
+    steps: &[Step],
+    tries: Tries,
+) -> Result<(Trace, Vec<bool>), Memory> {
+    assert_scripts(rt, config, &scripts);
+    let mut core = Core::new(alloc, config, scripts)?;
+    let mut made = Vec::new(alloc);
+    for step in steps {
+        made.push(take(&mut core, *step, tries)?)?;
+    }
+    Ok((recording_of(&core, tries)?, made))
+}
+
 /// The order with which the auditor says yes to the spelling of a trace.
 pub fn order_of(rt: &impl Abort, alloc: Global, trace: &Trace) -> Result<Order, Memory> {
     let bytes = write(alloc, trace)?;
@@ -41,16 +98,13 @@ pub fn order_of(rt: &impl Abort, alloc: Global, trace: &Trace) -> Result<Order, 
     }
 }
 
-pub fn step(thread: u16, act: Act) -> Step {
-    Step { thread, act }
-}
-
-/// A page of 4 KiB at 0x400000 is mapped to 0x1000, with all rights.
-pub fn map_a(rt: &impl Abort, depth: Depth) -> Request {
-    let op = Op::map(depth, 0x400000, Size::K4, 0x1000, Rights::ALL).expect(rt, "a map");
-    Request::update(op)
-}
-
-pub fn resolve_a(rt: &impl Abort, depth: Depth) -> Request {
-    Request::resolve(depth, 0x400123).expect(rt, "a resolve")
+/// That two traces are spelled alike.
+pub fn assert_alike(
+    rt: &impl Abort,
+    alloc: Global,
+    one: &Trace,
+    other: &Trace,
+) -> Result<(), Memory> {
+    assert!(rt; write(alloc, one)? == write(alloc, other)?);
+    Ok(())
 }

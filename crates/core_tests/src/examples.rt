@@ -1,0 +1,118 @@
+//! Lists of steps, each with what its recording says: step by step and at once.
+
+use crate::cases::{Asks, CASES, Case, Item};
+use crate::scripts::{Tries, assert_alike, order_of, run_at_once, run_one_by_one};
+use nr_core::Step;
+use nr_trace::{Event, Trace};
+use std::alloc::Global;
+use std::process::Abort;
+use std::test::Fail;
+use vs_types::{Access, Config, Depth, Memory, Mode, Op, Request, Rights, Size};
+
+fn request_of(depth: Depth, asks: Asks) -> Result<Request, Fail> {
+    Ok(match asks {
+        Asks::Map => Request::update(Op::map(depth, 0x400000, Size::K4, 0x1000, Rights::ALL)?),
+        Asks::Resolve => Request::resolve(depth, 0x400123)?,
+        Asks::Write => Request::access(depth, 0x400123, Mode::User, Access::Write)?,
+        Asks::Fetch => Request::access(depth, 0x401000, Mode::User, Access::Fetch)?,
+    })
+}
+
+/// The scripts of a case.
+pub fn scripts_of(alloc: Global, case: &Case) -> Result<Vec<Vec<Request>>, Fail> {
+    let mut scripts = Vec::new(alloc);
+    for asked in case.scripts {
+        let mut script = Vec::new(alloc);
+        for asks in *asked {
+            script.push(request_of(case.depth, *asks)?)?;
+        }
+        scripts.push(script)?;
+    }
+    Ok(scripts)
+}
+
+/// The steps of a case, and whether each is enabled.
+pub fn steps_of(alloc: Global, case: &Case) -> Result<(Vec<Step>, Vec<bool>), Memory> {
+    let mut steps = Vec::new(alloc);
+    let mut enabled = Vec::new(alloc);
+    for (times, rows) in case.steps {
+        for _ in 0..*times {
+            for row in *rows {
+                steps.push(Step {
+                    thread: row.0,
+                    act: row.1,
+                })?;
+                enabled.push(row.2)?;
+            }
+        }
+    }
+    Ok((steps, enabled))
+}
+
+fn event_of(depth: Depth, item: Item) -> Result<Event, Fail> {
+    Ok(match item {
+        Item::Call(replica, thread, asks) => Event::Call {
+            replica,
+            thread,
+            request: request_of(depth, asks)?,
+        },
+        Item::Reply(call, at, answer) => Event::Reply { call, at, answer },
+    })
+}
+
+/// That a trace has just these events.
+fn assert_events(
+    rt: &impl Abort,
+    trace: &Trace,
+    depth: Depth,
+    events: &[Item],
+) -> Result<(), Fail> {
+    assert_eq!(rt; trace.events().len(), events.len());
+    for (recorded, item) in trace.events().iter().zip(events.iter()) {
+        assert_eq!(rt; recorded.event(), event_of(depth, *item)?);
+    }
+    Ok(())
+}
+
+/// That a trace has just these dumps.
+fn assert_dumps(rt: &impl Abort, trace: &Trace, dumps: &[(u32, usize)]) {
+    assert_eq!(rt; trace.dumps().len(), dumps.len());
+    for (dump, wanted) in trace.dumps().iter().zip(dumps.iter()) {
+        assert_eq!(rt; (dump.applied(), dump.count()), *wanted);
+    }
+}
+
+/// That a trace is the recording of the case.
+pub fn assert_recorded(rt: &impl Abort, trace: &Trace, case: &Case) -> Result<(), Fail> {
+    let config = case.config()?;
+    assert!(rt; trace.version() == case.version);
+    assert!(rt; trace.config() == config);
+    assert_eq!(rt; trace.log(), case.log);
+    if let Some(events) = case.events {
+        assert_events(rt, trace, case.depth, events)?;
+    }
+    assert_dumps(rt, trace, case.dumps);
+    Ok(())
+}
+
+/// The steps are made where they are enabled, and record what the case says, step by step and at once; and the auditor says yes to it.
+fn run(rt: &impl Abort, alloc: Global, case: &Case) -> Result<(), Fail> {
+    let config = case.config()?;
+    let (steps, enabled) = steps_of(alloc, case)?;
+    let scripts = scripts_of(alloc, case)?;
+    let (trace, made) = run_one_by_one(rt, alloc, config, scripts, &steps, Tries::Once)?;
+    assert_eq!(rt; made, enabled, "{}", case.name);
+    assert_recorded(rt, &trace, case)?;
+    let again = run_at_once(rt, alloc, config, scripts_of(alloc, case)?, &steps)?;
+    assert_alike(rt, alloc, &trace, &again)?;
+    assert_eq!(rt; order_of(rt, alloc, &again)?.calls(), case.order);
+    Ok(())
+}
+
+#[test]
+fn examples(rt: HostRuntime) -> Result<(), Fail> {
+    for case in &CASES {
+        run(&rt, rt.alloc(), case)?;
+    }
+    Ok(())
+}
