@@ -3,45 +3,58 @@ ghost use Rattle.std.specs.FinMap as finite;
 
 use crate::cases::{
     ACCESS, BOTH_HALVES, BOTH_HALVES_OF_FIVE, Call, FULL, FULL_OF_FIVE, GIGABYTE, LAST_PAGE,
-    OVERLAP, PROTECT, Row, UNMAP, operation,
+    OVERLAP, PROTECT, Row, UNMAP,
 };
 use std::alloc::Global;
 use std::process::Abort;
 use std::test::Fail;
 use vs_alike::{Both, Told};
 use vs_arena::{FrameStore, RawArena, VecArena};
-use vs_types::{Answer, Depth};
+use vs_types::{Answer, Depth, Query};
 
-/// Calls one after another, from no pages on.
+/// Calls one after another, from no pages on: a name, the limit of tables, how many tables more there are than a row says, where
+/// there is a page, and the rows.
 #[derive(Clone, Copy)]
-struct Case<'a> {
-    name: &'a str,
-    depth: Depth,
-    /// The limit of tables.
-    limit: u16,
-    /// How many tables more there are than a row says, where there is a page.
-    more: usize,
-    rows: &'a [Row],
-}
+struct Case<'a>(&'a str, u16, usize, &'a [Row]);
 
-/// What both answer to a call. A read must be of a canonical address.
+/// What both answer to a call.
 fn answers<S: FrameStore>(
     rt: &impl Abort,
     both: &mut Both<S>,
     call: Call,
 ) -> Result<Told<Answer>, Fail> {
     let depth = both.plain().depth();
-    if let Some(op) = operation(depth, call)? {
-        assert!(rt; op.fits(depth));
-        return Ok(both.apply(op)?);
-    }
-    match call {
-        Call::Resolve(address) if depth.is_canonical(address) => Ok(both.resolve(address)),
-        Call::Access(address, mode, access) if depth.is_canonical(address) => {
+    match call.request(depth)?.query() {
+        Query::Update(op) => {
+            assert!(rt; op.fits(depth));
+            Ok(both.apply(op)?)
+        }
+        Query::Resolve(address) => {
+            assert!(rt; depth.is_canonical(address));
+            Ok(both.resolve(address))
+        }
+        Query::Access(address, mode, access) => {
+            assert!(rt; depth.is_canonical(address));
             Ok(both.access(address, mode, access))
         }
-        _ => panic!(rt; "not canonical"),
     }
+}
+
+/// Whether both answer a call so, and then have so many tables.
+fn is_so<S: FrameStore>(
+    rt: &impl Abort,
+    both: &mut Both<S>,
+    call: Call,
+    answer: Answer,
+    tables: usize,
+) -> Result<bool, Fail> {
+    let told = answers(rt, both, call)?;
+    let counts = both.tables();
+    Ok(
+        (told.table, told.plain) == (answer, answer)
+            && (counts.table, counts.plain) == (tables, tables)
+            && both.table().tables() == tables,
+    )
 }
 
 /// Runs a case on both kinds of address space, the page table over this store, and holds each answer and each count against
@@ -50,86 +63,78 @@ fn run<S: FrameStore + Drop>(
     rt: &impl Abort,
     alloc: Global,
     store: S,
-    case: &Case,
+    depth: Depth,
+    case: Case,
 ) -> Result<(), Fail>
     requires { S.frames store ≡ finite.empty }
 {
-    let name = case.name;
-    let mut both = Both::new(alloc, store, case.depth)?;
-    assert_eq!(rt; both.plain().pages()?.len(), 0, "{name}");
-    for (place, Row(call, answer, tables)) in case.rows.iter().enumerate() {
-        let told = answers(rt, &mut both, *call)?;
+    let Case(name, _, more, rows) = case;
+    let mut both = Both::new(alloc, store, depth)?;
+    assert!(rt; both.plain().pages()?.is_empty());
+    for (place, Row(call, answer, tables)) in rows.iter().enumerate() {
         let tables = if *tables > 1 {
-            tables.saturating_add(case.more)
+            tables.saturating_add(more)
         } else {
             1
         };
-        let told = (told.table, told.plain);
-        assert_eq!(rt; told, (*answer, *answer), "{name}, row {place}");
-        let counts = (both.tables().table, both.tables().plain);
-        assert_eq!(rt; counts, (tables, tables), "{name}, row {place}");
-        assert_eq!(rt; both.table().tables(), tables, "{name}, row {place}");
+        assert!(rt;
+            is_so(rt, &mut both, *call, *answer, tables)?,
+            "{name}, row {place}"
+        );
     }
     Ok(())
 }
 
 /// Runs each case over both stores.
-fn run_all(rt: &impl Abort, alloc: Global, cases: &[Case]) -> Result<(), Fail> {
+fn run_all(rt: &impl Abort, alloc: Global, depth: Depth, cases: &[Case]) -> Result<(), Fail> {
     for case in cases {
-        let limit = usize::from(case.limit);
-        assert!(rt; limit <= 4096, "{}", case.name);
-        run(rt, alloc, VecArena::new(alloc, 1 << 39, limit)?, case)?;
-        run(rt, alloc, RawArena::new(alloc, 1 << 39, limit)?, case)?;
+        let limit = usize::from(case.1);
+        assert!(rt; limit <= 4096);
+        run(
+            rt,
+            alloc,
+            VecArena::new(alloc, 1 << 39, limit)?,
+            depth,
+            *case,
+        )?;
+        run(
+            rt,
+            alloc,
+            RawArena::new(alloc, 1 << 39, limit)?,
+            depth,
+            *case,
+        )?;
     }
     Ok(())
 }
 
 #[test]
 fn worked_examples(rt: HostRuntime) -> Result<(), Fail> {
-    let case = |name, limit, rows| Case {
-        name,
-        depth: Depth::Four,
-        limit,
-        more: 0,
-        rows,
-    };
     let cases = [
-        case("both halves", 4096, BOTH_HALVES.as_slice()),
-        case("overlap names the least base", 4096, OVERLAP.as_slice()),
-        case("gigabyte page", 4096, GIGABYTE.as_slice()),
-        case("last page", 4096, LAST_PAGE.as_slice()),
-        case("full names its need", 3, FULL.as_slice()),
-        case("unmap frees tables", 4096, UNMAP.as_slice()),
-        case("protect changes rights", 4096, PROTECT.as_slice()),
-        case("accesses by rights", 4096, ACCESS.as_slice()),
+        Case("both halves", 4096, 0, &BOTH_HALVES),
+        Case("overlap names the least base", 4096, 0, &OVERLAP),
+        Case("gigabyte page", 4096, 0, &GIGABYTE),
+        Case("last page", 4096, 0, &LAST_PAGE),
+        Case("full names its need", 3, 0, &FULL),
+        Case("unmap frees tables", 4096, 0, &UNMAP),
+        Case("protect changes rights", 4096, 0, &PROTECT),
+        Case("accesses by rights", 4096, 0, &ACCESS),
     ];
-    run_all(&rt, rt.alloc(), cases.as_slice())
+    run_all(&rt, rt.alloc(), Depth::Four, &cases)
 }
 
 // The same calls as at four levels take one table more, below the root.
 #[test]
 fn worked_examples_at_five_levels(rt: HostRuntime) -> Result<(), Fail> {
-    let case = |name, limit, more, rows| Case {
-        name,
-        depth: Depth::Five,
-        limit,
-        more,
-        rows,
-    };
     let cases = [
-        case("overlap at five levels", 4096, 1, OVERLAP.as_slice()),
-        case("gigabyte page at five levels", 4096, 1, GIGABYTE.as_slice()),
-        case("last page at five levels", 4096, 1, LAST_PAGE.as_slice()),
-        case("unmap at five levels", 4096, 1, UNMAP.as_slice()),
-        case("protect at five levels", 4096, 1, PROTECT.as_slice()),
-        case("accesses at five levels", 4096, 1, ACCESS.as_slice()),
-        case(
-            "both halves of five",
-            4096,
-            0,
-            BOTH_HALVES_OF_FIVE.as_slice(),
-        ),
-        case("full at five levels", 4, 0, FULL_OF_FIVE.as_slice()),
+        Case("overlap", 4096, 1, &OVERLAP),
+        Case("gigabyte page", 4096, 1, &GIGABYTE),
+        Case("last page", 4096, 1, &LAST_PAGE),
+        Case("unmap", 4096, 1, &UNMAP),
+        Case("protect", 4096, 1, &PROTECT),
+        Case("accesses", 4096, 1, &ACCESS),
+        Case("both halves of five", 4096, 0, &BOTH_HALVES_OF_FIVE),
+        Case("full", 4, 0, &FULL_OF_FIVE),
     ];
-    run_all(&rt, rt.alloc(), cases.as_slice())
+    run_all(&rt, rt.alloc(), Depth::Five, &cases)
 }

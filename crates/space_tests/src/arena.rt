@@ -1,6 +1,6 @@
 ghost use Rattle.std.specs.Prelude.{◌≡◌, ◌+◌, ◌^◌, ◌≤◌};
 ghost use Rattle.std.specs.FinMap as finite;
-ghost use Rattle.vs_arena.specs.Store.{zeros};
+ghost use Rattle.vs_arena.specs.Store.{IsInUse, zeros};
 
 use crate::values::BASE;
 use std::alloc::Global;
@@ -9,79 +9,127 @@ use std::process::Abort;
 use std::test::Fail;
 use vs_arena::{Frame, FrameStore, RawArena, VecArena};
 
+// A frame that was taken, whose words are all 0.
 #[tactic(auto, using(vs_arena::proofs::Stores::in_use))]
 fn take_cleared<S: FrameStore>(rt: &impl Abort, store: &mut S) -> Frame
     ensures { S.frames store.new ≡ finite.insert (S.frames store.old) result zeros }
 {
     let frame = store.take().expect(rt, "no frame is left");
-    assert!(rt; store.frame(frame).iter().all(|word| *word == 0));
+    assert!(rt; is_cleared(store, frame));
     frame
 }
 
-// What a new store of two frames from `BASE` on does.
 #[tactic(auto, using(vs_arena::proofs::Stores::in_use))]
+fn take_number<S: FrameStore>(rt: &impl Abort, store: &mut S) -> u64 {
+    let frame = take_cleared(rt, store);
+    store.number(frame)
+}
+
+// The number of a frame that was taken, and given back while all its words were 0.
+#[tactic(auto, using(vs_arena::proofs::Stores::in_use))]
+fn take_and_give_zeroed<S: FrameStore>(rt: &impl Abort, store: &mut S) -> u64 {
+    let frame = take_cleared(rt, store);
+    let number = store.number(frame);
+    store.give_zeroed(frame);
+    number
+}
+
+fn is_cleared<S: FrameStore>(store: &S, frame: Frame) -> bool
+    requires { IsInUse (S.frames store.now) frame }
+{
+    for word in store.frame(frame) {
+        if *word != 0 {
+            return false;
+        }
+    }
+    true
+}
+
+fn write<S: FrameStore>(rt: &impl Abort, store: &mut S, number: u64, word: u64) {
+    let frame = store.at(number).expect(rt, "a frame in use");
+    store.set(frame, 0, word);
+}
+
+fn write_note<S: FrameStore>(rt: &impl Abort, store: &mut S, number: u64, note: u16) {
+    let frame = store.at(number).expect(rt, "a frame in use");
+    store.set_note(frame, note);
+}
+
+// Whether the frame in use with this number has this first word and this note.
+fn has<S: FrameStore>(store: &S, number: u64, word: u64, note: u16) -> bool {
+    let Some(frame) = store.at(number) else {
+        return false;
+    };
+    let index = number.wrapping_sub(BASE);
+    frame.index() as u64 == index && store.get(frame, 0) == word && store.note(frame) == note
+}
+
+fn give<S: FrameStore>(rt: &impl Abort, store: &mut S, number: u64) {
+    let frame = store.at(number).expect(rt, "a frame in use");
+    store.give(frame);
+    assert!(rt; store.at(number).is_none());
+}
+
+// What a new store of two frames from `BASE` on does.
 fn use_two<S: FrameStore>(rt: &impl Abort, store: &mut S) {
-    assert_eq!(rt; store.capacity(), 2);
-    let first = take_cleared(rt, store);
-    let second = take_cleared(rt, store);
-    assert_eq!(rt; store.used(), 2);
-    assert_eq!(rt; store.number(first) + store.number(second), 2 * BASE + 1);
-    assert_eq!(rt; store.at(BASE + 2), None);
-    assert_eq!(rt; store.take(), None);
+    assert!(rt; store.capacity() == 2);
+    let first = take_number(rt, store);
+    let second = take_number(rt, store);
+    assert!(rt; store.used() == 2);
+    assert!(rt; first.wrapping_add(second) == 2 * BASE + 1);
+    assert!(rt; store.at(BASE + 2).is_none());
+    assert!(rt; store.take().is_none());
+    write(rt, store, first, 5);
+    assert!(rt; has(store, first, 5, 0) && has(store, second, 0, 0));
+    write_note(rt, store, first, 65535);
+    write_note(rt, store, second, 3);
+    assert!(rt; has(store, first, 5, 65535) && has(store, second, 0, 3));
+    give(rt, store, first);
+    use_again(rt, store, first, second);
+}
 
-    store.set(first, 0, 5);
-    assert_eq!(rt; store.get(first, 0), 5);
-    assert_eq!(rt; store.get(second, 0), 0);
-
-    store.set_note(first, 65535);
-    store.set_note(second, 3);
-    assert_eq!(rt; store.note(first), 65535);
-    assert_eq!(rt; store.note(second), 3);
-
-    let number = store.number(first);
-    store.give(first);
-    assert_eq!(rt; store.at(number), None);
-    let again = take_cleared(rt, store);
-    assert_eq!(rt; store.get(again, 0), 0);
-    assert_eq!(rt; store.at(number), Some(again));
-    assert_eq!(rt; BASE + again.index() as u64, number);
-    assert_eq!(rt; store.note(again), 0);
-    assert_eq!(rt; store.note(second), 3);
-
-    store.give_zeroed(again);
-    assert_eq!(rt; store.at(number), None);
-    let once_more = take_cleared(rt, store);
-    assert_eq!(rt; once_more, again);
-    assert_eq!(rt; store.note(second), 3);
+// The first of two frames was given back, and is taken and given back again. The second stays as it is.
+fn use_again<S: FrameStore>(rt: &impl Abort, store: &mut S, first: u64, second: u64) {
+    assert!(rt; take_number(rt, store) == first);
+    assert!(rt; has(store, first, 0, 0) && has(store, second, 0, 3));
+    give(rt, store, first);
+    assert!(rt; take_and_give_zeroed(rt, store) == first);
+    assert!(rt; store.at(first).is_none());
+    assert!(rt; take_number(rt, store) == first);
+    assert!(rt; has(store, first, 0, 0) && has(store, second, 0, 3));
 }
 
 // All frames of a new store are taken, given back in that order, and taken again.
-#[tactic(auto, using(vs_arena::proofs::Stores::in_use))]
 fn use_all<S: FrameStore>(rt: &impl Abort, alloc: Global, store: &mut S) -> Result<(), Fail> {
     let mut order = Vec::new(alloc);
     for _ in 0..store.capacity() {
-        let frame = take_cleared(rt, store);
-        store.set(frame, 0, 5);
-        store.set(frame, 511, 7);
-        order.push(store.number(frame))?;
+        order.push(take_and_fill(rt, store))?;
     }
-    assert_eq!(rt; store.take(), None);
+    assert!(rt; store.take().is_none());
     for number in &order {
-        let frame = store.at(*number).expect(rt, "a frame in use");
-        store.give(frame);
+        give(rt, store, *number);
     }
-    assert_eq!(rt; store.used(), 0);
+    assert!(rt; store.used() == 0);
     for _ in 0..store.capacity() {
         take_cleared(rt, store);
     }
-    assert_eq!(rt; store.take(), None);
+    assert!(rt; store.take().is_none());
     Ok(())
 }
 
+// The number of a frame that was taken, whose first word and last one were written.
+#[tactic(auto, using(vs_arena::proofs::Stores::in_use))]
+fn take_and_fill<S: FrameStore>(rt: &impl Abort, store: &mut S) -> u64 {
+    let frame = take_cleared(rt, store);
+    store.set(frame, 0, 5);
+    store.set(frame, 511, 7);
+    store.number(frame)
+}
+
 fn use_none<S: FrameStore>(rt: &impl Abort, store: &mut S) {
-    assert_eq!(rt; store.capacity(), 0);
-    assert_eq!(rt; store.take(), None);
-    assert_eq!(rt; store.at(BASE), None);
+    assert!(rt; store.capacity() == 0);
+    assert!(rt; store.take().is_none());
+    assert!(rt; store.at(BASE).is_none());
 }
 
 // A new store; where one growth of memory is refused, that of a second try.
@@ -117,19 +165,17 @@ fn arenas_of_none(rt: HostRuntime) -> Result<(), Fail> {
 }
 
 // A new store of so many frames from a base on gives each of them once.
-#[tactic(auto, using(vs_arena::proofs::Stores::in_use))]
 fn use_sized<S: FrameStore>(rt: &impl Abort, store: &mut S, base: u64, n: usize) {
-    assert_eq!(rt; store.capacity(), n);
+    assert!(rt; store.capacity() == n);
+    let n = n as u64;
     let mut sum = 0u64;
     for _ in 0..n {
-        let frame = take_cleared(rt, store);
-        let number = store.number(frame);
-        assert!(rt; base <= number && number - base < n as u64);
-        sum = sum.wrapping_add(number - base);
+        let index = take_number(rt, store).wrapping_sub(base);
+        assert!(rt; index < n);
+        sum = sum.wrapping_add(index);
     }
-    let n = n as u64;
-    assert_eq!(rt; sum, n.wrapping_mul(n.wrapping_sub(1)) / 2);
-    assert_eq!(rt; store.take(), None);
+    assert!(rt; sum == n.wrapping_mul(n.wrapping_sub(1)) / 2);
+    assert!(rt; store.take().is_none());
 }
 
 // 0 to 64 frames at the least and the greatest bases, and at one between
@@ -151,8 +197,8 @@ fn arenas_at_many_bases(rt: HostRuntime) -> Result<(), Fail> {
 fn arenas_of_many_sizes(rt: HostRuntime) -> Result<(), Fail> {
     for step in 0..17 {
         let n = 16 + 255 * step;
-        assert_eq!(rt; VecArena::new(rt.alloc(), BASE, n)?.capacity(), n);
-        assert_eq!(rt; RawArena::new(rt.alloc(), BASE, n)?.capacity(), n);
+        assert!(rt; VecArena::new(rt.alloc(), BASE, n)?.capacity() == n);
+        assert!(rt; RawArena::new(rt.alloc(), BASE, n)?.capacity() == n);
     }
     Ok(())
 }
@@ -164,5 +210,5 @@ fn cross<T: Send>(value: T) -> T {
 #[test]
 fn arena_moves_to_another_thread(rt: HostRuntime) {
     let mut arena = cross(raw_arena(&rt, rt.alloc(), 2));
-    assert_eq!(rt; arena.take().is_some(), true);
+    assert!(rt; arena.take().is_some());
 }

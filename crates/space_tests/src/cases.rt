@@ -1,8 +1,8 @@
 use crate::values::{EXEC, USER_AND_EXEC, WRITE};
-use vs_types::{Access, Answer, BadOp, Depth, Mode, Op, Rights, Size};
+use vs_types::{Access, Answer, BadOp, Depth, Mode, Op, Request, Rights, Size};
 
 /// A call, by the numbers that it is made of.
-#[derive(Clone, Copy)]
+#[derive(Clone, Copy, PartialEq)]
 pub enum Call {
     /// A map of the page at this base, of this size, to this physical address, with these rights.
     Map(u64, Size, u64, Rights),
@@ -12,15 +12,20 @@ pub enum Call {
     Access(u64, Mode, Access),
 }
 
-/// The operation of a call, if it is one.
-pub fn operation(depth: Depth, call: Call) -> Result<Option<Op>, BadOp> {
-    let op = match call {
-        Call::Map(base, size, phys, rights) => Op::map(depth, base, size, phys, rights)?,
-        Call::Unmap(base) => Op::unmap(depth, base)?,
-        Call::Protect(base, rights) => Op::protect(depth, base, rights)?,
-        Call::Resolve(_) | Call::Access(_, _, _) => return Ok(None),
-    };
-    Ok(Some(op))
+impl Call {
+    /// What it asks, if it is well formed.
+    pub fn request(self, depth: Depth) -> Result<Request, BadOp> {
+        let op = match self {
+            Call::Map(base, size, phys, rights) => Op::map(depth, base, size, phys, rights)?,
+            Call::Unmap(base) => Op::unmap(depth, base)?,
+            Call::Protect(base, rights) => Op::protect(depth, base, rights)?,
+            Call::Resolve(address) => return Request::resolve(depth, address),
+            Call::Access(address, mode, access) => {
+                return Request::access(depth, address, mode, access);
+            }
+        };
+        Ok(Request::update(op))
+    }
 }
 
 /// A call, what it must be answered, and how many tables there must be after it.

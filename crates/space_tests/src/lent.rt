@@ -31,8 +31,8 @@ fn answers_rows(
     let mut space = Space::new(LentArena::new(BASE, words, marks), Depth::Four)?;
     for Row(call, told, tables) in rows.iter().copied() {
         space = reopened(space);
-        assert_eq!(rt; answer(rt, &mut space, call), told);
-        assert_eq!(rt; space.tables(), tables);
+        assert!(rt; answer(rt, &mut space, call) == told);
+        assert!(rt; space.tables() == tables);
     }
     assert!(rt; space.words(space.root()).is_some());
     Ok(())

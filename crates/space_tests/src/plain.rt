@@ -1,7 +1,6 @@
-use crate::values::DEPTHS;
 use std::process::Abort;
 use vs_plain::PlainSpace;
-use vs_types::{Access, Answer, Mode, Op, Page, Rights, Size};
+use vs_types::{Access, Answer, Depth, Mode, Op, Page, Rights, Size};
 
 /// Maps a page with all rights; where memory is refused, at a second try, before which the space must be unchanged.
 fn map(rt: &impl Abort, space: &mut PlainSpace, base: u64, size: Size, phys: u64) {
@@ -12,12 +11,12 @@ fn map(rt: &impl Abort, space: &mut PlainSpace, base: u64, size: Size, phys: u64
     let answer = match space.apply(op) {
         Ok(answer) => answer,
         Err(_) => {
-            assert_eq!(rt; (space.tables(), space.resolve(base)), before);
+            assert!(rt; (space.tables(), space.resolve(base)) == before);
             assert!(rt; op.fits(space.depth()));
             space.apply(op).expect(rt, "memory")
         }
     };
-    assert_eq!(rt; answer, Answer::Done);
+    assert!(rt; answer == Answer::Done);
 }
 
 fn pages(rt: &impl Abort, space: &PlainSpace) -> Vec<Page> {
@@ -28,55 +27,67 @@ fn pages(rt: &impl Abort, space: &PlainSpace) -> Vec<Page> {
 }
 
 /// As many tables as there can be, but for a few: one for each of 65,400 stretches of 2 MiB, and 128 of the next level.
+fn use_many(rt: &impl Abort, space: &mut PlainSpace, tables: usize) {
+    assert!(rt; space.tables() == 1);
+    for place in 0..65_400u64 {
+        map(rt, space, place << 21, Size::K4, 0x1000);
+    }
+    assert!(rt; space.tables() == tables);
+    let last = 65_399 << 21;
+    let mapped = Answer::Mapped(0x1FFF, Size::K4, Rights::ALL);
+    assert!(rt; space.resolve(last + 4095) == mapped);
+    assert!(rt; space.access(last + 4096, Mode::User, Access::Write) == Answer::Fault(6));
+    let pages = pages(rt, space);
+    assert!(rt; pages.len() == 65_400);
+    assert!(rt; pages[65_399].base == last);
+}
+
 #[test]
 fn pages_of_many_tables(rt: HostRuntime) {
-    for (depth, tables) in DEPTHS.into_iter().zip([65_530, 65_531]) {
-        let mut space = PlainSpace::new(rt.alloc(), 65_535, depth);
-        assert_eq!(rt; (space.depth(), space.tables()), (depth, 1));
-        for place in 0..65_400u64 {
-            map(&rt, &mut space, place << 21, Size::K4, 0x1000);
-        }
-        assert_eq!(rt; space.tables(), tables);
-        let last = 65_399 << 21;
-        assert_eq!(rt;
-            (
-                space.resolve(last + 4095),
-                space.access(last + 4096, Mode::User, Access::Write)
-            ),
-            (
-                Answer::Mapped(0x1FFF, Size::K4, Rights::ALL),
-                Answer::Fault(6)
-            )
-        );
-        let pages = pages(&rt, &space);
-        assert_eq!(rt; pages.len(), 65_400);
-        assert_eq!(rt; pages[65_399].base, last);
-    }
+    use_many(
+        &rt,
+        &mut PlainSpace::new(rt.alloc(), 65_535, Depth::Four),
+        65_530,
+    );
+    use_many(
+        &rt,
+        &mut PlainSpace::new(rt.alloc(), 65_535, Depth::Five),
+        65_531,
+    );
 }
 
 /// The pages by rising base, however they were mapped: in a list, and one after another.
+fn use_rising(rt: &impl Abort, space: &mut PlainSpace, depth: Depth) {
+    assert!(rt; space.depth() == depth && space.iter().next().is_none());
+    for place in 0..100u64 {
+        let base = (99 - place) << 21;
+        map(rt, space, base, Size::M2, base);
+    }
+    let listed = pages(rt, space);
+    let mut each = space.iter();
+    assert!(rt; each.size_hint() == (100, Some(100)));
+    for place in 0..100u64 {
+        let page = Some(Page {
+            base: place << 21,
+            phys: place << 21,
+            size: Size::M2,
+            rights: Rights::ALL,
+        });
+        assert!(rt; each.next() == page && listed.get(place as usize).copied() == page);
+    }
+    assert!(rt; each.next().is_none() && each.size_hint() == (0, Some(0)));
+}
+
 #[test]
 fn pages_by_rising_base(rt: HostRuntime) {
-    for depth in DEPTHS {
-        let mut space = PlainSpace::new(rt.alloc(), 4096, depth);
-        assert!(rt; space.iter().next().is_none());
-        for place in 0..100u64 {
-            let base = (99 - place) << 21;
-            map(&rt, &mut space, base, Size::M2, base);
-        }
-        let listed = pages(&rt, &space);
-        let mut each = space.iter();
-        assert_eq!(rt; each.size_hint(), (100, Some(100)));
-        for place in 0..100u64 {
-            let page = Some(Page {
-                base: place << 21,
-                phys: place << 21,
-                size: Size::M2,
-                rights: Rights::ALL,
-            });
-            assert_eq!(rt; each.next(), page);
-            assert_eq!(rt; listed.get(place as usize).copied(), page);
-        }
-        assert_eq!(rt; (each.next(), each.size_hint()), (None, (0, Some(0))));
-    }
+    use_rising(
+        &rt,
+        &mut PlainSpace::new(rt.alloc(), 4096, Depth::Four),
+        Depth::Four,
+    );
+    use_rising(
+        &rt,
+        &mut PlainSpace::new(rt.alloc(), 4096, Depth::Five),
+        Depth::Five,
+    );
 }

@@ -1,10 +1,11 @@
-use crate::cases::{Call, Row, operation};
+use crate::cases::{Call, Row};
 use crate::values::{BASE, WRITE};
+use std::alloc::Global;
 use std::process::Abort;
 use std::test::Fail;
 use vs_arena::{FrameStore, VecArena};
 use vs_space::{NoRoot, Space};
-use vs_types::{Answer, Depth, Rights, Size};
+use vs_types::{Answer, Depth, Query, Rights, Size};
 use vs_walk::Frames;
 
 const ALL: Rights = Rights::ALL;
@@ -136,16 +137,20 @@ static AT_FIVE_LEVELS: [Step; 5] = [
     ),
 ];
 
-// The answer of a call that must be well formed.
+// The answer of an update or a resolve, which must be well formed.
 pub fn answer<S: FrameStore>(rt: &impl Abort, space: &mut Space<S>, call: Call) -> Answer {
     let depth = space.depth();
-    if let Some(op) = operation(depth, call).expect(rt, "a well-formed operation") {
-        assert!(rt; op.fits(depth));
-        return space.apply(op);
-    }
-    match call {
-        Call::Resolve(address) if depth.is_canonical(address) => space.resolve(address),
-        _ => panic!(rt; "no resolve of a canonical address"),
+    let request = call.request(depth).expect(rt, "a well-formed call");
+    match request.query() {
+        Query::Update(op) => {
+            assert!(rt; op.fits(depth));
+            space.apply(op)
+        }
+        Query::Resolve(address) => {
+            assert!(rt; depth.is_canonical(address));
+            space.resolve(address)
+        }
+        Query::Access(..) => panic!(rt; "an access"),
     }
 }
 
@@ -161,60 +166,66 @@ fn word<S: FrameStore>(rt: &impl Abort, space: &Space<S>, path: &[u16]) -> u64 {
     last
 }
 
+// Whether the call of a step is answered so, and the table then has so many tables and this word.
+fn is_so<S: FrameStore>(rt: &impl Abort, space: &mut Space<S>, step: Step) -> bool {
+    let Step(Row(call, told, tables), count, path, last) = step;
+    let path = path.get(..count).expect(rt, "a path of five words or less");
+    answer(rt, space, call) == told && space.tables() == tables && word(rt, space, path) == last
+}
+
+fn take_all(rt: &impl Abort, alloc: Global, depth: Depth, steps: &[Step]) -> Result<(), Fail> {
+    let mut space = Space::new(VecArena::new(alloc, BASE, 16)?, depth)?;
+    assert!(rt; space.depth() == depth && space.tables() == 1);
+    for (place, step) in steps.iter().enumerate() {
+        assert!(rt; is_so(rt, &mut space, *step), "row {place}");
+    }
+    assert!(rt; word(rt, &space, &[255]) % 4096 == 7);
+    Ok(())
+}
+
 #[test]
 fn words_of_pages(rt: HostRuntime) -> Result<(), Fail> {
-    let cases = [
-        (Depth::Four, AT_FOUR_LEVELS.as_slice()),
-        (Depth::Five, AT_FIVE_LEVELS.as_slice()),
-    ];
-    for (depth, steps) in cases {
-        let mut space = Space::new(VecArena::new(rt.alloc(), BASE, 16)?, depth)?;
-        assert_eq!(rt; (space.depth(), space.tables()), (depth, 1));
-        for (place, Step(row, count, path, last)) in steps.iter().enumerate() {
-            let Row(call, told, tables) = *row;
-            assert_eq!(rt; answer(&rt, &mut space, call), told, "row {place}");
-            assert_eq!(rt; space.tables(), tables, "row {place}");
-            let path = path.get(..*count).ok_or("a path of five words or less")?;
-            assert_eq!(rt; word(&rt, &space, path), *last, "row {place}");
-        }
-        assert_eq!(rt; word(&rt, &space, [255].as_slice()) % 4096, 7);
-    }
-    Ok(())
+    take_all(&rt, rt.alloc(), Depth::Four, &AT_FOUR_LEVELS)?;
+    take_all(&rt, rt.alloc(), Depth::Five, &AT_FIVE_LEVELS)
 }
 
 #[test]
 fn arena_of_two(rt: HostRuntime) -> Result<(), Fail> {
     let arena = VecArena::new(rt.alloc(), BASE, 0)?;
-    assert_eq!(rt; Space::new(arena, Depth::Four).err(), Some(NoRoot));
+    assert!(rt; Space::new(arena, Depth::Four).err() == Some(NoRoot));
     let mut space = Space::new(VecArena::new(rt.alloc(), BASE, 2)?, Depth::Four)?;
     let map = Call::Map(0x1000, Size::K4, 0x5000, ALL);
-    assert_eq!(rt; answer(&rt, &mut space, map), Answer::Full(4));
-    assert_eq!(rt; space.tables(), 1);
+    assert!(rt; answer(&rt, &mut space, map) == Answer::Full(4));
+    assert!(rt; space.tables() == 1);
     Ok(())
 }
 
-// A page in each of a thousand gibibytes: their tables, two of the level above, and at five levels one more below the root.
+// A page in each of a thousand gibibytes: so many tables.
+fn use_thousand<S: FrameStore>(rt: &impl Abort, space: &mut Space<S>, tables: usize) {
+    for number in 0..1000u64 {
+        let map = Call::Map(number << 30, Size::K4, number << 12, ALL);
+        assert!(rt; answer(rt, space, map) == Answer::Done);
+    }
+    assert!(rt; space.tables() == tables);
+    for number in 0..1000u64 {
+        let here = Answer::Mapped(number << 12, Size::K4, ALL);
+        let base = number << 30;
+        assert!(rt; answer(rt, space, Call::Resolve(base)) == here);
+        assert!(rt; answer(rt, space, Call::Resolve(base + 4096)) == Answer::NotMapped);
+    }
+    for number in 0..1000u64 {
+        let removed = Answer::Removed(number << 12, Size::K4, ALL);
+        assert!(rt; answer(rt, space, Call::Unmap(number << 30)) == removed);
+    }
+    assert!(rt; space.tables() == 1);
+}
+
+// A table for each page, two of the level above, and at five levels one more below the root.
 #[test]
 fn two_thousand_tables(rt: HostRuntime) -> Result<(), Fail> {
-    for (depth, tables) in [(Depth::Four, 2003), (Depth::Five, 2004)] {
-        let mut space = Space::new(VecArena::new(rt.alloc(), BASE, 2004)?, depth)?;
-        for number in 0..1000u64 {
-            let map = Call::Map(number << 30, Size::K4, number << 12, ALL);
-            assert_eq!(rt; answer(&rt, &mut space, map), Answer::Done);
-        }
-        assert_eq!(rt; space.tables(), tables);
-        for number in 0..1000u64 {
-            let here = Answer::Mapped(number << 12, Size::K4, ALL);
-            let base = number << 30;
-            assert_eq!(rt; answer(&rt, &mut space, Call::Resolve(base)), here);
-            let beside = answer(&rt, &mut space, Call::Resolve(base + 4096));
-            assert_eq!(rt; beside, Answer::NotMapped);
-        }
-        for number in 0..1000u64 {
-            let removed = Answer::Removed(number << 12, Size::K4, ALL);
-            assert_eq!(rt; answer(&rt, &mut space, Call::Unmap(number << 30)), removed);
-        }
-        assert_eq!(rt; space.tables(), 1);
-    }
+    let mut space = Space::new(VecArena::new(rt.alloc(), BASE, 2004)?, Depth::Four)?;
+    use_thousand(&rt, &mut space, 2003);
+    let mut space = Space::new(VecArena::new(rt.alloc(), BASE, 2004)?, Depth::Five)?;
+    use_thousand(&rt, &mut space, 2004);
     Ok(())
 }

@@ -1,199 +1,236 @@
+use crate::cases::Call;
 use crate::values::{EXEC, WRITE};
 use std::alloc::{AllocError, AllocFailed};
+use std::process::Abort;
 use vs_types::{
     Access, Action, Answer, BadConfig, BadOp, Config, Depth, Entry, Fail, LogEntry, Meaning,
-    Memory, Mode, Op, Page, Query, Request, Rights, Size, index_at,
+    Memory, Mode, Op, Query, Request, Rights, Size, index_at,
 };
+
+const FOUR: Depth = Depth::Four;
+
+const FIVE: Depth = Depth::Five;
+
+/// Calls that are not well formed, and why.
+static REFUSED: [(Depth, Call, BadOp); 11] = [
+    (
+        FOUR,
+        Call::Map(0x800000000001, Size::K4, 1, WRITE),
+        BadOp::NotCanonical,
+    ),
+    (
+        FOUR,
+        Call::Map(0x1000, Size::M2, 0, WRITE),
+        BadOp::Unaligned,
+    ),
+    (
+        FOUR,
+        Call::Map(0x200000, Size::M2, 0x1000, WRITE),
+        BadOp::PhysUnaligned,
+    ),
+    (
+        FOUR,
+        Call::Map(0, Size::K4, 0x8000000000000, WRITE),
+        BadOp::PhysRange,
+    ),
+    (FOUR, Call::Unmap(0x800000000000), BadOp::NotCanonical),
+    (FOUR, Call::Unmap(0xFFF), BadOp::Unaligned),
+    (FIVE, Call::Unmap(0x100000000000000), BadOp::NotCanonical),
+    (
+        FOUR,
+        Call::Protect(0xFFFF7FFFFFFFF000, WRITE),
+        BadOp::NotCanonical,
+    ),
+    (FOUR, Call::Protect(0x1001, WRITE), BadOp::Unaligned),
+    (FOUR, Call::Resolve(0x800000000000), BadOp::NotCanonical),
+    (
+        FIVE,
+        Call::Access(0x100000000000000, Mode::User, Access::Write),
+        BadOp::NotCanonical,
+    ),
+];
+
+/// Calls that are well formed at a depth, and whether they are with four levels.
+static UPDATES: [(Depth, Call, bool); 6] = [
+    (
+        FOUR,
+        Call::Map(0, Size::K4, 0x7FFFFFFFFF000, Rights::NONE),
+        true,
+    ),
+    (FOUR, Call::Unmap(0xFFFF800000000000), true),
+    (FOUR, Call::Protect(0x1000, WRITE), true),
+    (
+        FIVE,
+        Call::Map(0x400000, Size::K4, 0x1000, Rights::ALL),
+        true,
+    ),
+    (FIVE, Call::Unmap(0xFF00000000000000), false),
+    (FIVE, Call::Protect(0x1000, WRITE), true),
+];
+
+static READS: [(Depth, Call, bool); 3] = [
+    (FOUR, Call::Resolve(0x7FFFFFFFFFFF), true),
+    (FIVE, Call::Resolve(0xFFFFFFFFFFFFFF), false),
+    (
+        FIVE,
+        Call::Access(0x400123, Mode::User, Access::Fetch),
+        true,
+    ),
+];
 
 #[test]
 fn operations_not_well_formed(rt: HostRuntime) {
-    let cases = [
-        (
-            Op::map(Depth::Four, 0x800000000001, Size::K4, 1, WRITE),
-            BadOp::NotCanonical,
-        ),
-        (
-            Op::map(Depth::Four, 0x1000, Size::M2, 0, WRITE),
-            BadOp::Unaligned,
-        ),
-        (
-            Op::map(Depth::Four, 0x200000, Size::M2, 0x1000, WRITE),
-            BadOp::PhysUnaligned,
-        ),
-        (
-            Op::map(Depth::Four, 0, Size::K4, 0x8000000000000, WRITE),
-            BadOp::PhysRange,
-        ),
-        (Op::unmap(Depth::Four, 0x800000000000), BadOp::NotCanonical),
-        (Op::unmap(Depth::Four, 0xFFF), BadOp::Unaligned),
-        (
-            Op::unmap(Depth::Five, 0x100000000000000),
-            BadOp::NotCanonical,
-        ),
-        (
-            Op::protect(Depth::Four, 0xFFFF7FFFFFFFF000, WRITE),
-            BadOp::NotCanonical,
-        ),
-        (Op::protect(Depth::Four, 0x1001, WRITE), BadOp::Unaligned),
-    ];
-    for (op, why) in cases {
-        assert_eq!(rt; op, Err(why));
+    for (depth, call, why) in &REFUSED {
+        assert!(rt; call.request(*depth) == Err(*why));
     }
-    let read = Mode::User;
-    let cases = [
-        Request::resolve(Depth::Four, 0x800000000000),
-        Request::access(Depth::Five, 0x100000000000000, read, Access::Write),
-    ];
-    for request in cases {
-        assert_eq!(rt; request, Err(BadOp::NotCanonical));
-    }
+}
+
+/// The call that an operation makes, and whether it fits four levels and five.
+fn told(op: Op) -> (Call, bool, bool) {
+    let call = match op.action() {
+        Action::Map(page) => Call::Map(page.base, page.size, page.phys, page.rights),
+        Action::Unmap(base) => Call::Unmap(base),
+        Action::Protect(base, rights) => Call::Protect(base, rights),
+    };
+    (call, op.fits(FOUR), op.fits(FIVE))
+}
+
+/// A call is well formed, and is asked for as it was made. It has the fields that make it.
+fn is_asked(rt: &impl Abort, depth: Depth, call: Call, fits_four: bool) {
+    let request = call.request(depth).expect(rt, "a well-formed call");
+    let asked = match request.query() {
+        Query::Update(op) => told(op),
+        Query::Resolve(address) => (Call::Resolve(address), fits_four, true),
+        Query::Access(address, mode, access) => {
+            (Call::Access(address, mode, access), fits_four, true)
+        }
+    };
+    assert!(rt; asked == (call, fits_four, true));
+    assert!(rt; request.fits(FOUR) == fits_four && request.fits(FIVE));
+    assert!(rt; Request::of_fields(FIVE, request.fields()) == Some(request));
 }
 
 #[test]
 fn operations(rt: HostRuntime) {
-    let high = 0xFFFF800000000000;
-    let page = Page {
-        base: 0,
-        size: Size::K4,
-        phys: 0x7FFFFFFFFF000,
-        rights: Rights::NONE,
-    };
-    let cases = [
-        (
-            Op::map(Depth::Four, page.base, page.size, page.phys, page.rights),
-            Action::Map(page),
-            true,
-        ),
-        (Op::unmap(Depth::Four, high), Action::Unmap(high), true),
-        (
-            Op::protect(Depth::Four, 0x1000, WRITE),
-            Action::Protect(0x1000, WRITE),
-            true,
-        ),
-        (
-            Op::unmap(Depth::Five, 0xFF00000000000000),
-            Action::Unmap(0xFF00000000000000),
-            false,
-        ),
-    ];
-    for (made, action, fits_four) in cases {
-        let op = made.expect(&rt, "a well-formed operation");
-        let told = (op.action(), op.fits(Depth::Four), op.fits(Depth::Five));
-        assert_eq!(rt; told, (action, fits_four, true));
+    for (depth, call, fits_four) in &UPDATES {
+        is_asked(&rt, *depth, *call, *fits_four);
     }
 }
 
 #[test]
 fn requests(rt: HostRuntime) {
-    let op = Op::map(Depth::Five, 0x400000, Size::K4, 0x1000, Rights::ALL).expect(
-        &rt,
-        "an operation",
-    );
-    let far = Op::unmap(Depth::Five, 0xFF00000000000000).expect(&rt, "an operation");
-    let protect = Op::protect(Depth::Five, 0x1000, WRITE).expect(&rt, "an operation");
-    let (low, high) = (0x7FFFFFFFFFFF, 0xFFFFFFFFFFFFFF);
-    let cases = [
-        (Ok(Request::update(op)), Query::Update(op), true),
-        (Ok(Request::update(far)), Query::Update(far), false),
-        (Ok(Request::update(protect)), Query::Update(protect), true),
-        (
-            Request::resolve(Depth::Four, low),
-            Query::Resolve(low),
-            true,
-        ),
-        (
-            Request::resolve(Depth::Five, high),
-            Query::Resolve(high),
-            false,
-        ),
-        (
-            Request::access(Depth::Five, 0x400123, Mode::User, Access::Fetch),
-            Query::Access(0x400123, Mode::User, Access::Fetch),
-            true,
-        ),
-    ];
-    for (made, query, fits_four) in cases {
-        let request = made.expect(&rt, "a well-formed request");
-        let fits = (request.fits(Depth::Four), request.fits(Depth::Five));
-        assert_eq!(rt; (request.query(), fits), (query, (fits_four, true)));
-        let read = Request::of_fields(Depth::Five, request.fields());
-        assert_eq!(rt; read, Some(request));
+    for (depth, call, fits_four) in &READS {
+        is_asked(&rt, *depth, *call, *fits_four);
     }
 }
 
+const WRITTEN: Answer = Answer::Mapped(0x1123, Size::K4, WRITE);
+
+const RUN: Answer = Answer::Mapped(0x1123, Size::K4, EXEC);
+
+const ALLOWED: Answer = Answer::Allowed(0x1123);
+
+/// What a resolve answered, an access, and its answer.
+static ACCESSES: [(Answer, Mode, Access, Answer); 10] = [
+    (WRITTEN, Mode::Supervisor, Access::Write, ALLOWED),
+    (WRITTEN, Mode::User, Access::Read, Answer::Fault(5)),
+    (WRITTEN, Mode::User, Access::Write, Answer::Fault(7)),
+    (WRITTEN, Mode::Supervisor, Access::Fetch, Answer::Fault(17)),
+    (WRITTEN, Mode::User, Access::Fetch, Answer::Fault(21)),
+    (
+        Answer::NotMapped,
+        Mode::Supervisor,
+        Access::Read,
+        Answer::Fault(0),
+    ),
+    (
+        Answer::NotMapped,
+        Mode::User,
+        Access::Write,
+        Answer::Fault(6),
+    ),
+    (
+        Answer::NotMapped,
+        Mode::User,
+        Access::Fetch,
+        Answer::Fault(20),
+    ),
+    (RUN, Mode::Supervisor, Access::Write, Answer::Fault(3)),
+    (RUN, Mode::Supervisor, Access::Fetch, ALLOWED),
+];
+
 #[test]
 fn accesses(rt: HostRuntime) {
-    let written = Answer::Mapped(0x1123, Size::K4, WRITE);
-    let run = Answer::Mapped(0x1123, Size::K4, EXEC);
-    let none = Answer::NotMapped;
-    let allowed = Answer::Allowed(0x1123);
-    let cases = [
-        (written, Mode::Supervisor, Access::Write, allowed),
-        (written, Mode::User, Access::Read, Answer::Fault(5)),
-        (written, Mode::User, Access::Write, Answer::Fault(7)),
-        (written, Mode::Supervisor, Access::Fetch, Answer::Fault(17)),
-        (written, Mode::User, Access::Fetch, Answer::Fault(21)),
-        (none, Mode::Supervisor, Access::Read, Answer::Fault(0)),
-        (none, Mode::User, Access::Write, Answer::Fault(6)),
-        (none, Mode::User, Access::Fetch, Answer::Fault(20)),
-        (run, Mode::Supervisor, Access::Write, Answer::Fault(3)),
-        (run, Mode::Supervisor, Access::Fetch, allowed),
-    ];
-    for (resolved, mode, access, answer) in cases {
-        assert_eq!(rt; resolved.accessed(mode, access), answer);
+    for (resolved, mode, access, answer) in &ACCESSES {
+        assert!(rt; resolved.accessed(*mode, *access) == *answer);
     }
 }
+
+/// Answers that are none to a resolve.
+static OTHERS: [Answer; 8] = [
+    Answer::Done,
+    Answer::Overlap(0x1000),
+    Answer::Full(4),
+    Answer::Removed(0x1000, Size::K4, Rights::ALL),
+    Answer::Inside(0x1000),
+    Answer::Changed(Rights::ALL),
+    Answer::Allowed(0x1123),
+    Answer::Fault(7),
+];
 
 /// No clause speaks of an answer that is none to a resolve: nothing is mapped then.
 #[test]
 fn accesses_of_other_answers(rt: HostRuntime) {
-    let answers = [
-        Answer::Done,
-        Answer::Overlap(0x1000),
-        Answer::Full(4),
-        Answer::Removed(0x1000, Size::K4, Rights::ALL),
-        Answer::Inside(0x1000),
-        Answer::Changed(Rights::ALL),
-        Answer::Allowed(0x1123),
-        Answer::Fault(7),
-    ];
-    for answer in answers {
+    for answer in &OTHERS {
         let write = answer.accessed(Mode::User, Access::Write);
         let fetch = answer.accessed(Mode::Supervisor, Access::Fetch);
-        assert_eq!(rt; (write, fetch), (Answer::Fault(6), Answer::Fault(16)));
+        assert!(rt; (write, fetch) == (Answer::Fault(6), Answer::Fault(16)));
     }
 }
 
 #[test]
 fn unused_entries(rt: HostRuntime) {
-    let op = Op::unmap(Depth::Four, 0).expect(&rt, "an operation");
-    assert_eq!(rt; LogEntry::default(), LogEntry { call: 0, op });
+    let unused = LogEntry::default();
+    assert!(rt; unused.call == 0);
+    assert!(rt; unused.op.action() == Action::Unmap(0));
 }
+
+/// A depth, replicas, threads and tables, and why they are no configuration, if so.
+static CONFIGURATIONS: [(Depth, u8, u16, u16, Option<BadConfig>); 7] = [
+    (FOUR, 0, 0, 0, Some(BadConfig::Replicas)),
+    (FIVE, 5, 1, 1, Some(BadConfig::Replicas)),
+    (FOUR, 1, 0, 1, Some(BadConfig::Threads)),
+    (FOUR, 1, 65, 1, Some(BadConfig::Threads)),
+    (FOUR, 1, 1, 4097, Some(BadConfig::Tables)),
+    (FOUR, 1, 1, 0, Some(BadConfig::Tables)),
+    (FOUR, 4, 64, 4096, None),
+];
 
 #[test]
 fn configurations(rt: HostRuntime) {
-    let cases = [
-        (Config::new(Depth::Four, 0, 0, 0), BadConfig::Replicas),
-        (Config::new(Depth::Five, 5, 1, 1), BadConfig::Replicas),
-        (Config::new(Depth::Four, 1, 0, 1), BadConfig::Threads),
-        (Config::new(Depth::Four, 1, 65, 1), BadConfig::Threads),
-        (Config::new(Depth::Four, 1, 1, 4097), BadConfig::Tables),
-        (Config::new(Depth::Four, 1, 1, 0), BadConfig::Tables),
-    ];
-    for (config, why) in cases {
-        assert_eq!(rt; config, Err(why));
+    for (depth, replicas, threads, tables, why) in CONFIGURATIONS {
+        match Config::new(depth, replicas, threads, tables) {
+            Err(refused) => assert!(rt; why == Some(refused)),
+            Ok(config) => {
+                let read = (config.depth(), config.replicas());
+                assert!(rt; why.is_none() && read == (depth, replicas));
+                assert!(rt; (config.threads(), config.tables()) == (threads, tables));
+            }
+        }
     }
-    let config = Config::new(Depth::Four, 4, 64, 4096).expect(&rt, "a configuration");
-    let read = (
-        config.depth(),
-        config.replicas(),
-        config.threads(),
-        config.tables(),
-    );
-    assert_eq!(rt; read, (Depth::Four, 4, 64, 4096));
-    assert_eq!(rt; (Depth::Four.levels(), Depth::Five.levels()), (4, 5));
-    assert_eq!(rt; index_at(5, 0xFF00000000000000), 256);
+    assert!(rt; (FOUR.levels(), FIVE.levels()) == (4, 5));
+    assert!(rt; index_at(5, 0xFF00000000000000) == 256);
 }
+
+/// A word of an entry, a level, and what it means there.
+static MEANINGS: [(u64, u8, Meaning); 6] = [
+    (0, 1, Meaning::Absent),
+    (0x202087, 2, Meaning::Reserved),
+    (0x8000000040000083, 3, Meaning::Leaf(0x40000000, WRITE)),
+    (0x2007, 4, Meaning::Table(2, Rights::ALL)),
+    (0x2007, 5, Meaning::Table(2, Rights::ALL)),
+    (0x87, 5, Meaning::Reserved),
+];
 
 #[test]
 fn entries(rt: HostRuntime) {
@@ -206,21 +243,11 @@ fn entries(rt: HostRuntime) {
         (Entry::table(2), 0x2007),
     ];
     for (entry, word) in words {
-        assert_eq!(rt; (entry.word(), Entry::new(word)), (word, entry));
+        assert!(rt; (entry.word(), Entry::new(word)) == (word, entry));
     }
-    let meanings = [
-        (Entry::new(0).read(1), Meaning::Absent),
-        (Entry::new(0x202087).read(2), Meaning::Reserved),
-        (
-            Entry::new(0x8000000040000083).read(3),
-            Meaning::Leaf(0x40000000, WRITE),
-        ),
-        (Entry::new(0x2007).read(4), Meaning::Table(2, Rights::ALL)),
-        (Entry::new(0x2007).read(5), Meaning::Table(2, Rights::ALL)),
-        (Entry::new(0x87).read(5), Meaning::Reserved),
-    ];
-    for (read, meaning) in meanings {
-        assert_eq!(rt; read, meaning);
+    for (word, level, meaning) in MEANINGS {
+        assert!(rt; 1 <= level && level <= 5);
+        assert!(rt; Entry::new(word).read(level) == meaning);
     }
 }
 
@@ -228,7 +255,7 @@ fn entries(rt: HostRuntime) {
 fn memory_refused(rt: HostRuntime) {
     for refused in [AllocError.into(), AllocFailed { value: 7u8 }.into()] {
         let refused: Memory = refused;
-        assert_eq!(rt; refused, Memory);
+        assert!(rt; refused == Memory);
     }
     for refused in [
         AllocError.into(),
@@ -236,6 +263,6 @@ fn memory_refused(rt: HostRuntime) {
         Memory.into(),
     ] {
         let refused: Fail<BadOp> = refused;
-        assert_eq!(rt; refused, Fail::Memory);
+        assert!(rt; refused == Fail::Memory);
     }
 }

@@ -1,9 +1,7 @@
-use vs_types::{Depth, Rights};
+use vs_types::Rights;
 
 /// The number of frame 0 of an arena: all pages lie below the tables.
 pub const BASE: u64 = 1 << 39;
-
-pub const DEPTHS: [Depth; 2] = [Depth::Four, Depth::Five];
 
 pub const WRITE: Rights = Rights {
     write: true,

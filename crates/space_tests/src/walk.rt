@@ -16,16 +16,61 @@ type Word = (usize, u64);
 /// The pages, with how many of the first frames are reached, or the fault.
 type Found = Result<([Option<Page>; 2], usize), WalkFault>;
 
+/// The tables of a case.
+#[derive(Clone, Copy)]
+enum Tables {
+    /// A root alone, with this word.
+    One(Word),
+    /// Three tables, of which the lowest has this word.
+    Three(Word),
+    /// Those of a page in either half.
+    Halves,
+    /// Those of one page under index 256 of a root at level 5, where the high half begins; those below it are tables of four levels.
+    High,
+}
+
+/// Two words of the first table and one of each other.
+fn words_of(tables: Tables) -> [Word; 6] {
+    match tables {
+        Tables::One(word) => [word, word, (0, 0), (0, 0), (0, 0), (0, 0)],
+        Tables::Three(word) => [
+            (0, 0x2007),
+            (0, 0x2007),
+            (0, 0x3007),
+            word,
+            (0, 0x1007),
+            (0, 0),
+        ],
+        Tables::Halves => [
+            (255, 0x3007),
+            (256, 0x2007),
+            (0, 0x40000087),
+            (511, 0x80000085),
+            (0, 0),
+            (0, 0),
+        ],
+        Tables::High => [
+            (256, 0x2007),
+            (256, 0x2007),
+            (0, 0x3007),
+            (0, 0x4007),
+            (0, 0x5007),
+            (0, 0x3007),
+        ],
+    }
+}
+
 fn one_word(word: Word) -> [u64; 512] {
     let mut words = [0; 512];
     words[word.0 % 512] = word.1;
     words
 }
 
-/// A dump of five frames, numbered from 1: two words of the first and one of each other.
-fn dump_of(alloc: Global, words: [Word; 6]) -> Result<Dump, Memory>
+/// A dump of five frames, numbered from 1, which are these tables.
+fn dump_of(alloc: Global, tables: Tables) -> Result<Dump, Memory>
     ensures { IfOk result (λ dump. IsDump dump) }
 {
+    let words = words_of(tables);
     let mut root = one_word(words[0]);
     root[words[1].0 % 512] = words[1].1;
     let mut dump = Dump::new(alloc, 7, 1);
@@ -39,216 +84,243 @@ fn dump_of(alloc: Global, words: [Word; 6]) -> Result<Dump, Memory>
     Ok(dump)
 }
 
-/// The tables of one page under index 256 of a root at level 5, where the high half begins; those below it are tables of
-/// four levels.
-const HIGH: [Word; 6] = [
-    (256, 0x2007),
-    (256, 0x2007),
-    (0, 0x3007),
-    (0, 0x4007),
-    (0, 0x5007),
-    (0, 0x3007),
+/// Tables from a root on, an address, its translation, and what is found of all.
+#[derive(Clone, Copy)]
+struct Case(Tables, u64, u64, Walk, Found);
+
+const FEWER: Rights = Rights {
+    write: true,
+    user: false,
+    exec: true,
+};
+
+const SMALL: Page = Page {
+    base: 0x400000,
+    size: Size::K4,
+    phys: 0x1000,
+    rights: FEWER,
+};
+
+const LOW: Page = Page {
+    base: 0x7FFFC0000000,
+    size: Size::G1,
+    phys: 0x80000000,
+    rights: USER_AND_EXEC,
+};
+
+const HIGH: Page = Page {
+    base: 0xFFFF800000000000,
+    size: Size::G1,
+    phys: 0x40000000,
+    rights: ALL,
+};
+
+const LARGE: Page = Page {
+    base: 0x200000,
+    size: Size::M2,
+    phys: 0x200000,
+    rights: ALL,
+};
+
+const FIRST: Page = Page {
+    base: 0xFFFF800000000000,
+    size: Size::K4,
+    phys: 0x5000,
+    rights: ALL,
+};
+
+const FIRST_OF_FIVE: Page = Page {
+    base: 0xFF00000000000000,
+    size: Size::K4,
+    phys: 0x3000,
+    rights: ALL,
+};
+
+const OF_FOUR_LEVELS: [Case; 5] = [
+    Case(
+        Tables::Three((2, 0x4003)),
+        1,
+        0x400123,
+        Walk::Mapped(0x1123, Size::K4, FEWER),
+        Ok(([Some(SMALL), None], 4)),
+    ),
+    Case(
+        Tables::Halves,
+        1,
+        0xFFFF800000000000,
+        Walk::Mapped(0x40000000, Size::G1, ALL),
+        Ok(([Some(LOW), Some(HIGH)], 3)),
+    ),
+    Case(
+        Tables::Three((1, 0x201087)),
+        1,
+        0x200000,
+        Walk::Mapped(0x200000, Size::M2, ALL),
+        Ok(([Some(LARGE), None], 3)),
+    ),
+    Case(
+        Tables::One((0, 0)),
+        1,
+        0,
+        Walk::NotMapped,
+        Ok(([None, None], 1)),
+    ),
+    Case(
+        Tables::High,
+        1,
+        0xFFFF800000000123,
+        Walk::Mapped(0x5123, Size::K4, ALL),
+        Ok(([Some(FIRST), None], 4)),
+    ),
 ];
 
-/// Tables whose lowest, the third, has this word.
-fn three(word: Word) -> [Word; 6] {
-    [
-        (0, 0x2007),
-        (0, 0x2007),
-        (0, 0x3007),
-        word,
-        (0, 0x1007),
-        (0, 0),
-    ]
-}
+const FAULTY: [Case; 3] = [
+    Case(
+        Tables::Three((1, 0x202087)),
+        1,
+        0x200000,
+        Walk::Reserved,
+        Err(WalkFault::Reserved(3, 1)),
+    ),
+    Case(
+        Tables::One((0, 0x1007)),
+        1,
+        0,
+        Walk::Mapped(0x1000, Size::K4, ALL),
+        Err(WalkFault::Shared(1)),
+    ),
+    Case(
+        Tables::One((0, 0x9007)),
+        1,
+        0,
+        Walk::Missing,
+        Err(WalkFault::Missing(9)),
+    ),
+];
 
-/// Tables that are their root alone, with this word.
-fn one(word: Word) -> [Word; 6] {
-    [word, word, (0, 0), (0, 0), (0, 0), (0, 0)]
-}
+const OF_FIVE_LEVELS: [Case; 4] = [
+    Case(
+        Tables::High,
+        1,
+        0xFF00000000000123,
+        Walk::Mapped(0x3123, Size::K4, ALL),
+        Ok(([Some(FIRST_OF_FIVE), None], 5)),
+    ),
+    Case(
+        Tables::One((0, 0x87)),
+        1,
+        0,
+        Walk::Reserved,
+        Err(WalkFault::Reserved(1, 0)),
+    ),
+    Case(
+        Tables::One((0, 0)),
+        1,
+        0xFFFFFFFFFFFFFF,
+        Walk::NotMapped,
+        Ok(([None, None], 1)),
+    ),
+    Case(
+        Tables::High,
+        9,
+        0,
+        Walk::Missing,
+        Err(WalkFault::Missing(9)),
+    ),
+];
 
-/// Tables from a root on, the translation of one address, and what is found of all.
-#[derive(Drop)]
-struct Case {
-    words: [Word; 6],
+/// What is found of all tables from a root on. The frames that are reached are the first.
+fn found(
+    rt: &impl Abort,
+    alloc: Global,
+    dump: &Dump,
     root: u64,
     depth: Depth,
-    address: u64,
-    walk: Walk,
-    found: Found,
-}
-
-fn page(base: u64, size: Size, phys: u64, rights: Rights) -> Option<Page> {
-    Some(Page {
-        base,
-        size,
-        phys,
-        rights,
-    })
-}
-
-fn run(rt: &impl Abort, alloc: Global, case: Case) -> Result<(), Fail> {
-    let dump = dump_of(alloc, case.words)?;
-    assert!(rt; case.depth.is_canonical(case.address));
-    let walk = translate(&dump, case.root, case.depth, case.address);
-    assert_eq!(rt; walk, case.walk);
-    let found = match leaves(alloc, &dump, case.root, case.depth) {
+) -> Result<Found, Memory>
+    requires { IsDump dump.now }
+{
+    match leaves(alloc, dump, root, depth) {
         Ok(found) => {
             let pages = found.pages.as_slice();
             assert!(rt; pages.len() <= 2);
             let count = found.reached.len();
-            let first = [1, 2, 3, 4, 5];
-            assert_eq!(rt; Some(found.reached.as_slice()), first.get(..count));
+            assert!(rt; Some(found.reached.as_slice()) == [1, 2, 3, 4, 5].get(..count));
             assert!(rt; found.reached.contains(1) && !found.reached.contains(6));
-            Ok(([pages.first().copied(), pages.get(1).copied()], count))
+            let pages = [pages.first().copied(), pages.get(1).copied()];
+            Ok(Ok((pages, count)))
         }
-        Err(vs_types::Fail::Refused(fault)) => Err(fault),
-        Err(vs_types::Fail::Memory) => {
-            let refused: Result<Found, Memory> = Err(Memory);
-            refused?
-        }
-    };
-    assert_eq!(rt; found, case.found);
-    Ok(())
-}
-
-/// Pages that are found: one or none, and the first frames.
-fn finds(found: Option<Page>, count: usize) -> Found {
-    Ok(([found, None], count))
-}
-
-/// A case of four levels, from frame 1 on.
-fn four(words: [Word; 6], address: u64, walk: Walk, found: Found) -> Case {
-    Case {
-        words,
-        root: 1,
-        depth: Depth::Four,
-        address,
-        walk,
-        found,
+        Err(vs_types::Fail::Refused(fault)) => Ok(Err(fault)),
+        Err(vs_types::Fail::Memory) => Err(Memory),
     }
+}
+
+fn run(rt: &impl Abort, alloc: Global, depth: Depth, cases: &[Case]) -> Result<(), Fail> {
+    for Case(tables, root, address, walk, all) in cases.iter().copied() {
+        let dump = dump_of(alloc, tables)?;
+        assert!(rt; depth.is_canonical(address));
+        assert!(rt; translate(&dump, root, depth, address) == walk);
+        assert!(rt; found(rt, alloc, &dump, root, depth)? == all);
+    }
+    Ok(())
 }
 
 #[test]
 fn dumps_of_four_levels(rt: HostRuntime) -> Result<(), Fail> {
-    let fewer = Rights {
-        write: true,
-        user: false,
-        exec: true,
-    };
-    let mut halves = one((255, 0x3007));
-    halves[1] = (256, 0x2007);
-    halves[2] = (0, 0x40000087);
-    halves[3] = (511, 0x80000085);
-    let low = page(0x7FFFC0000000, Size::G1, 0x80000000, USER_AND_EXEC);
-    let high = page(0xFFFF800000000000, Size::G1, 0x40000000, ALL);
-    let small = page(0x400000, Size::K4, 0x1000, fewer);
-    let large = page(0x200000, Size::M2, 0x200000, ALL);
-    let first = page(0xFFFF800000000000, Size::K4, 0x5000, ALL);
-    let small_walk = Walk::Mapped(0x1123, Size::K4, fewer);
-    let high_walk = Walk::Mapped(0x40000000, Size::G1, ALL);
-    let large_walk = Walk::Mapped(0x200000, Size::M2, ALL);
-    let first_walk = Walk::Mapped(0x5123, Size::K4, ALL);
-    let cases = [
-        four(three((2, 0x4003)), 0x400123, small_walk, finds(small, 4)),
-        four(halves, 0xFFFF800000000000, high_walk, Ok(([low, high], 3))),
-        four(three((1, 0x201087)), 0x200000, large_walk, finds(large, 3)),
-        four(one((0, 0)), 0, Walk::NotMapped, finds(None, 1)),
-        four(HIGH, 0xFFFF800000000123, first_walk, finds(first, 4)),
-    ];
-    for case in cases {
-        run(&rt, rt.alloc(), case)?;
-    }
-    Ok(())
+    let cases = OF_FOUR_LEVELS;
+    run(&rt, rt.alloc(), Depth::Four, &cases)
 }
 
 #[test]
 fn faulty_dumps(rt: HostRuntime) -> Result<(), Fail> {
-    let reserved = Err(WalkFault::Reserved(3, 1));
-    let shared = Err(WalkFault::Shared(1));
-    let missing = Err(WalkFault::Missing(9));
-    let mapped = Walk::Mapped(0x1000, Size::K4, ALL);
-    let cases = [
-        four(three((1, 0x202087)), 0x200000, Walk::Reserved, reserved),
-        four(one((0, 0x1007)), 0, mapped, shared),
-        four(one((0, 0x9007)), 0, Walk::Missing, missing),
-    ];
-    for case in cases {
-        run(&rt, rt.alloc(), case)?;
-    }
-    Ok(())
+    let cases = FAULTY;
+    run(&rt, rt.alloc(), Depth::Four, &cases)
 }
 
 #[test]
 fn dumps_of_five_levels(rt: HostRuntime) -> Result<(), Fail> {
-    let case = |words, root, address, walk, found| Case {
-        words,
-        root,
-        depth: Depth::Five,
-        address,
-        walk,
-        found,
-    };
-    let cases = [
-        case(
-            HIGH,
-            1,
-            0xFF00000000000123,
-            Walk::Mapped(0x3123, Size::K4, ALL),
-            finds(page(0xFF00000000000000, Size::K4, 0x3000, ALL), 5),
-        ),
-        case(
-            one((0, 0x87)),
-            1,
-            0,
-            Walk::Reserved,
-            Err(WalkFault::Reserved(1, 0)),
-        ),
-        case(
-            one((0, 0)),
-            1,
-            0xFFFFFFFFFFFFFF,
-            Walk::NotMapped,
-            finds(None, 1),
-        ),
-        case(HIGH, 9, 0, Walk::Missing, Err(WalkFault::Missing(9))),
-    ];
-    for case in cases {
-        run(&rt, rt.alloc(), case)?;
-    }
-    Ok(())
+    let cases = OF_FIVE_LEVELS;
+    run(&rt, rt.alloc(), Depth::Five, &cases)
 }
 
 /// The tables from the root, and those of four levels below it, of which the root is no part.
 #[test]
 fn gathered(rt: HostRuntime) -> Result<(), Fail> {
-    let dump = dump_of(rt.alloc(), HIGH)?;
-    assert_eq!(rt; (dump.applied(), dump.root(), dump.count()), (7, 1, 5));
+    let dump = dump_of(rt.alloc(), Tables::High)?;
+    assert!(rt; (dump.applied(), dump.root(), dump.count()) == (7, 1, 5));
     let gathered = Dump::gather(rt.alloc(), &dump, 1, Depth::Five, 3)?;
-    assert_eq!(rt;
-        (gathered.applied(), gathered.root(), gathered.count()),
-        (3, 1, 5)
-    );
+    assert!(rt; (gathered.applied(), gathered.root(), gathered.count()) == (3, 1, 5));
     let gathered = Dump::gather(rt.alloc(), &dump, 2, Depth::Four, 1)?;
-    assert_eq!(rt; (gathered.root(), gathered.count()), (2, 4));
+    assert!(rt; gathered.root() == 2);
     assert!(rt; gathered.count() == 4);
-    assert_eq!(rt; gathered.number(3), 5);
+    assert!(rt; gathered.number(3) == 5);
     assert!(rt; gathered.words(1).is_none());
-    let words = gathered.words(4).ok_or("frame 4")?;
-    assert_eq!(rt;
-        (words.word(0), words.word(1), words.word(511)),
-        (0x5007, 0, 0)
-    );
+    assert!(rt; has_words(&gathered, 4, [0x5007, 0, 0]));
     Ok(())
+}
+
+/// Whether the frame of this number has these words, at the indexes 0, 1 and 511.
+fn has_words(dump: &Dump, number: u64, wanted: [u64; 3]) -> bool {
+    match dump.words(number) {
+        Some(words) => [words.word(0), words.word(1), words.word(511)] == wanted,
+        None => false,
+    }
 }
 
 /// Eight words in a row, of which one or none is not 0.
 #[test]
 fn eight_zeros(rt: HostRuntime) -> Result<(), Fail> {
     let words = one_word((300, 5));
-    assert!(rt; are_zero(&words, 0) && are_zero(&words, 292));
-    assert!(rt; !are_zero(&words, 293) && !are_zero(&words, 300));
-    assert!(rt; are_zero(&words, 301) && are_zero(&words, 504));
+    for (at, zeros) in [
+        (0, true),
+        (292, true),
+        (293, false),
+        (300, false),
+        (301, true),
+        (504, true),
+    ] {
+        assert!(rt; at <= 504);
+        assert!(rt; are_zero(&words, at) == zeros);
+    }
     Ok(())
 }
 
@@ -263,22 +335,15 @@ fn frame_by_words(rt: HostRuntime) -> Result<(), Fail> {
             dump.push(word);
         }
     }
-    assert_eq!(rt; (dump.number(), dump.words_come()), (2, 512));
+    assert!(rt; (dump.number(), dump.words_come()) == (2, 512));
     if dump.words_come() < 512 {
         return Err("words that did not come".into());
     }
     let dump = dump.end_frame();
-    assert_eq!(rt; (dump.applied(), dump.root(), dump.count()), (7, 1, 2));
-    let words = dump.words(1).ok_or("frame 1")?;
-    assert_eq!(rt;
-        (words.word(0), words.word(1), words.word(511)),
-        (0x2007, 0, 0)
-    );
+    assert!(rt; (dump.applied(), dump.root(), dump.count()) == (7, 1, 2));
+    assert!(rt; has_words(&dump, 1, [0x2007, 0, 0]));
+    assert!(rt; has_words(&dump, 2, [0, 1, 511]));
     let words = dump.words(2).ok_or("frame 2")?;
-    assert_eq!(rt;
-        (words.word(0), words.word(1), words.word(511)),
-        (0, 1, 511)
-    );
-    assert_eq!(rt; (words.next_nonzero(0), words.next_nonzero(512)), (1, 512));
+    assert!(rt; (words.next_nonzero(0), words.next_nonzero(512)) == (1, 512));
     Ok(())
 }
