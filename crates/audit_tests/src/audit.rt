@@ -1,4 +1,5 @@
 use crate::audit_cases::{CALLS, Case, DUMPS, FORMATS, ORDERS};
+use crate::bytes::push_dump;
 use nr_audit::{Verdict, audit};
 use nr_trace::{Fault, Format};
 use std::alloc::{AllocError, Global};
@@ -26,16 +27,7 @@ pub(crate) fn trace_of(alloc: Global, case: &Case) -> Result<Vec<u8>, AllocError
         bytes.extend_from_slice(&event_bytes)?;
     }
     for dump in case.dumps {
-        let frames = dump.words.len().min(255) as u8;
-        bytes.extend_from_slice(&[0, 0, 0, dump.applied, 0, 0, 0, frames])?;
-        bytes.extend_from_slice(&dump.root.to_be_bytes())?;
-        for (index, word) in dump.words.iter().enumerate() {
-            bytes.extend_from_slice(&(index as u64 + 1).to_be_bytes())?;
-            for place in 0..512u64 {
-                let value = if place == word.0 { word.1 } else { 0 };
-                bytes.extend_from_slice(&value.to_be_bytes())?;
-            }
-        }
+        push_dump(&mut bytes, dump.applied, dump.root, dump.words)?;
     }
     Ok(bytes)
 }

@@ -1,14 +1,9 @@
 use nr_dump::DumpFault;
 use vs_types::{Depth, Size};
 
-/// 512 words.
-#[derive(Clone, Copy)]
-pub enum Frame {
-    /// 0 but for these at their indexes.
-    Words(&'static [(usize, u64)]),
-    /// Those of pages of 4 KiB each, one after another, with all rights, from this physical address on.
-    Pages(u64),
-}
+/// 512 words, 0 but for runs of them: the index of the first, how many there are, the first, and then each 4,096 more than the one
+/// before, so that tables or pages of 4 KiB come one after another.
+pub type Frame = &'static [(usize, usize, u64)];
 
 /// A dump of frames 1, 2, 3 and so on, pages of a space, each with all rights, and what a check of the two tells.
 #[derive(Clone, Copy)]
@@ -32,26 +27,41 @@ const EMPTY: Case = Case {
     told: Ok(()),
 };
 
-const NONE: Frame = Frame::Words(&[]);
+const NONE: Frame = &[];
 
-const TO_FIRST: Frame = Frame::Words(&[(0, 0x1007)]);
+const TO_FIRST: Frame = &[(0, 1, 0x1007)];
 
-const TO_SECOND: Frame = Frame::Words(&[(0, 0x2007)]);
+const TO_SECOND: Frame = &[(0, 1, 0x2007)];
 
-const TO_THIRD: Frame = Frame::Words(&[(0, 0x3007)]);
+const TO_THIRD: Frame = &[(0, 1, 0x3007)];
 
-const LARGE: Frame = Frame::Words(&[(0, 0x87)]);
+const LARGE: Frame = &[(0, 1, 0x87)];
 
 /// A small page.
 const SMALL: &[(u64, Size, u64)] = &[(0x400000, Size::K4, 0x1000)];
 
 /// The tables of one page under a root of five levels, whose index 256 begins the high half.
 const HIGH: &[Frame] = &[
-    Frame::Words(&[(256, 0x2007)]),
+    &[(256, 1, 0x2007)],
     TO_THIRD,
-    Frame::Words(&[(0, 0x4007)]),
-    Frame::Words(&[(0, 0x5007)]),
+    &[(0, 1, 0x4007)],
+    &[(0, 1, 0x5007)],
     TO_THIRD,
+];
+
+/// The tables of 4,096 pages of 4 KiB.
+pub static BIG: [Frame; 11] = [
+    TO_SECOND,
+    TO_THIRD,
+    &[(0, 8, 0x4007)],
+    &[(0, 512, 0x000007)],
+    &[(0, 512, 0x200007)],
+    &[(0, 512, 0x400007)],
+    &[(0, 512, 0x600007)],
+    &[(0, 512, 0x800007)],
+    &[(0, 512, 0xa00007)],
+    &[(0, 512, 0xc00007)],
+    &[(0, 512, 0xe00007)],
 ];
 
 /// Whatever the depth.
@@ -82,19 +92,19 @@ pub static AT_BOTH_DEPTHS: [Case; 9] = [
     },
     Case {
         name: "a missing frame, then a reserved bit",
-        frames: &[Frame::Words(&[(0, 0x2007), (1, 0x87)])],
+        frames: &[&[(0, 1, 0x2007), (1, 1, 0x87)]],
         told: Err(DumpFault::MissingFrame(2)),
         ..EMPTY
     },
     Case {
         name: "a reserved bit in the root",
-        frames: &[Frame::Words(&[(0, 0x2007), (1, 0x87)]), NONE],
+        frames: &[&[(0, 1, 0x2007), (1, 1, 0x87)], NONE],
         told: Err(DumpFault::ReservedBit(1, 1)),
         ..EMPTY
     },
     Case {
         name: "a frame reached twice",
-        frames: &[Frame::Words(&[(0, 0x2007), (1, 0x2007)]), NONE],
+        frames: &[&[(0, 1, 0x2007), (1, 1, 0x2007)], NONE],
         told: Err(DumpFault::SharedFrame(2)),
         ..EMPTY
     },
@@ -116,13 +126,13 @@ pub static AT_FOUR_LEVELS: [Case; 11] = [
     // bit 13 of a page of 2 MiB is reserved, and bit 12 is ignored
     Case {
         name: "bit 13 of a page of 2 MiB",
-        frames: &[TO_SECOND, TO_THIRD, Frame::Words(&[(1, 0x202087)])],
+        frames: &[TO_SECOND, TO_THIRD, &[(1, 1, 0x202087)]],
         told: Err(DumpFault::ReservedBit(3, 1)),
         ..EMPTY
     },
     Case {
         name: "bit 12 of a page of 2 MiB",
-        frames: &[TO_SECOND, TO_THIRD, Frame::Words(&[(1, 0x201087)])],
+        frames: &[TO_SECOND, TO_THIRD, &[(1, 1, 0x201087)]],
         told: Err(DumpFault::Differs(0x200000)),
         ..EMPTY
     },
@@ -134,33 +144,28 @@ pub static AT_FOUR_LEVELS: [Case; 11] = [
     },
     Case {
         name: "all rights",
-        frames: &[TO_SECOND, TO_THIRD, Frame::Words(&[(2, 0x4007)]), TO_FIRST],
+        frames: &[TO_SECOND, TO_THIRD, &[(2, 1, 0x4007)], TO_FIRST],
         pages: SMALL,
         told: Ok(()),
         ..EMPTY
     },
     Case {
         name: "fewer rights in a table",
-        frames: &[TO_SECOND, TO_THIRD, Frame::Words(&[(2, 0x4003)]), TO_FIRST],
+        frames: &[TO_SECOND, TO_THIRD, &[(2, 1, 0x4003)], TO_FIRST],
         pages: SMALL,
         told: Err(DumpFault::Differs(0x400000)),
         ..EMPTY
     },
     Case {
         name: "fewer rights in a page",
-        frames: &[
-            TO_SECOND,
-            TO_THIRD,
-            Frame::Words(&[(2, 0x4007)]),
-            Frame::Words(&[(0, 0x1006)]),
-        ],
+        frames: &[TO_SECOND, TO_THIRD, &[(2, 1, 0x4007)], &[(0, 1, 0x1006)]],
         pages: SMALL,
         told: Err(DumpFault::Differs(0x400000)),
         ..EMPTY
     },
     Case {
         name: "a page of 2 MiB",
-        frames: &[TO_SECOND, TO_THIRD, Frame::Words(&[(2, 0x600087)])],
+        frames: &[TO_SECOND, TO_THIRD, &[(2, 1, 0x600087)]],
         pages: &[(0x400000, Size::M2, 0x600000)],
         told: Ok(()),
         ..EMPTY
@@ -170,8 +175,8 @@ pub static AT_FOUR_LEVELS: [Case; 11] = [
         frames: &[
             TO_SECOND,
             TO_THIRD,
-            Frame::Words(&[(2, 0x4007)]),
-            Frame::Pages(0x600000),
+            &[(2, 1, 0x4007)],
+            &[(0, 512, 0x600007)],
         ],
         pages: &[(0x400000, Size::M2, 0x600000)],
         told: Err(DumpFault::Differs(0x400000)),
@@ -180,13 +185,13 @@ pub static AT_FOUR_LEVELS: [Case; 11] = [
     // addresses are compared as numbers, so the low half comes before the high half
     Case {
         name: "a page in the high half",
-        frames: &[Frame::Words(&[(256, 0x2007)]), Frame::Words(&[(0, 0x83)])],
+        frames: &[&[(256, 1, 0x2007)], &[(0, 1, 0x83)]],
         told: Err(DumpFault::Differs(0xFFFF800000000000)),
         ..EMPTY
     },
     Case {
         name: "another in the low half",
-        frames: &[Frame::Words(&[(256, 0x2007)]), Frame::Words(&[(0, 0x83)])],
+        frames: &[&[(256, 1, 0x2007)], &[(0, 1, 0x83)]],
         pages: &[(0x7FFFFFFFF000, Size::K4, 0x2000)],
         told: Err(DumpFault::Differs(0x7FFFFFFFF000)),
         ..EMPTY

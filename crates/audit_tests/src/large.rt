@@ -1,7 +1,10 @@
 //! One trace of 19 MB through each call that reads, judges, gathers or writes: five levels, version 2, thousands of empty tables.
 
+use crate::bytes::push_frame;
+use crate::pieces::is_read_in_pieces;
+use crate::trace::is_spelled;
 use nr_audit::{Verdict, audit, judge};
-use nr_trace::{Fault, Feed, Format, Trace, read, write};
+use nr_trace::{Fault, Format, read};
 use std::alloc::{AllocError, Global};
 use std::test::Fail;
 use vs_types::Depth;
@@ -14,30 +17,32 @@ const READS: u32 = 10_000;
 const FRAMES: u32 = 4_089;
 
 /// A frame of which the first words lead to tables that come one after another.
-fn push_frame(bytes: &mut Vec<u8>, number: u32, first: u32, tables: u64) -> Result<(), AllocError> {
-    bytes.extend_from_slice(&(number as u64).to_be_bytes())?;
-    for k in 0..512u64 {
-        let word = if k < tables {
-            (first as u64 + k) * 4096 + 7
-        } else {
-            0
-        };
-        bytes.extend_from_slice(&word.to_be_bytes())?;
-    }
-    Ok(())
+fn push_tables(
+    bytes: &mut Vec<u8>,
+    number: u32,
+    first: u32,
+    tables: u64,
+) -> Result<(), AllocError> {
+    push_frame(
+        bytes,
+        u64::from(number),
+        0,
+        tables,
+        u64::from(first) * 4096 + 7,
+    )
 }
 
 fn push_dump(bytes: &mut Vec<u8>, frames: u32) -> Result<(), AllocError> {
     bytes.extend_from_slice(&UPDATES.to_be_bytes())?;
     bytes.extend_from_slice(&frames.to_be_bytes())?;
     bytes.extend_from_slice(&1u64.to_be_bytes())?;
-    push_frame(bytes, 1, 2, if frames == 1 { 0 } else { 8 })?;
+    push_tables(bytes, 1, 2, if frames == 1 { 0 } else { 8 })?;
     if frames > 1 {
         for table in 0..8u32 {
-            push_frame(bytes, 2 + table, 10 + 510 * table, 510)?;
+            push_tables(bytes, 2 + table, 10 + 510 * table, 510)?;
         }
         for number in 10..=frames {
-            push_frame(bytes, number, 0, 0)?;
+            push_tables(bytes, number, 0, 0)?;
         }
     }
     Ok(())
@@ -75,18 +80,18 @@ fn large_trace(alloc: Global) -> Result<Vec<u8>, AllocError> {
 
 /// How many calls of the order there are, where these are the calls of the trace as they were made; or the fault.
 fn told(verdict: &Verdict) -> Result<usize, Option<Fault>> {
-    match verdict {
-        Verdict::Yes(order) => {
-            let calls = order.calls();
-            let mut made = (0..2 * (UPDATES + READS)).step_by(2);
-            if calls.iter().all(|call| made.next() == Some(*call)) {
-                Ok(calls.len())
-            } else {
-                Err(None)
-            }
+    let order = match verdict {
+        Verdict::Yes(order) => order,
+        Verdict::No(fault) => return Err(Some(*fault)),
+    };
+    let mut made = 0u32;
+    for call in order.calls() {
+        if *call != made {
+            return Err(None);
         }
-        Verdict::No(fault) => Err(Some(*fault)),
+        made = made.wrapping_add(2);
     }
+    Ok(order.calls().len())
 }
 
 /// The frames that a dump's tables lead to, and how many pages are found there.
@@ -109,13 +114,8 @@ fn read_and_written(rt: HostRuntime) -> Result<(), Fail> {
         20 + 80_000 + 60_000 * 24 + 2 * 16 + 4_090 * 4_104
     );
     let trace = read(alloc, &bytes)?;
-    assert!(rt; write(alloc, &trace)?.as_slice() == bytes.as_slice());
-    let mut feed = Feed::new(alloc);
-    for piece in bytes.chunks(1_000_003) {
-        feed.feed(piece)?;
-    }
-    let fed: Trace = feed.end()?;
-    assert!(rt; write(alloc, &fed)?.as_slice() == bytes.as_slice());
+    assert!(rt; is_spelled(alloc, &trace, &bytes)?);
+    assert!(rt; is_read_in_pieces(alloc, &bytes, 1_000_003)?);
     Ok(())
 }
 

@@ -7,9 +7,13 @@ mod audit;
 #[cfg(test)]
 mod audit_cases;
 #[cfg(test)]
+mod bytes;
+#[cfg(test)]
 mod dump;
 #[cfg(test)]
 mod dump_cases;
+#[cfg(test)]
+mod events;
 #[cfg(test)]
 mod explained;
 #[cfg(test)]

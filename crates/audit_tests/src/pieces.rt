@@ -1,12 +1,15 @@
+//! Traces that are read in pieces.
 ghost use Rattle.std.specs.Prelude.{◌<◌};
 
-use crate::trace::map_then_resolve_bytes;
-use nr_trace::{Feed, Format, read, write};
+use crate::bytes::map_then_resolve;
+use crate::trace::is_spelled;
+use nr_trace::{Feed, Format};
 use std::alloc::Global;
+use std::process::Abort;
 use std::test::Fail;
 
 /// Whether the bytes, which spell a trace, spell it in pieces of this length too.
-fn is_read_in_pieces(alloc: Global, bytes: &[u8], len: usize) -> Result<bool, Fail>
+pub fn is_read_in_pieces(alloc: Global, bytes: &[u8], len: usize) -> Result<bool, Fail>
     requires { 0 < len }
 {
     let mut feed = Feed::new(alloc);
@@ -14,20 +17,13 @@ fn is_read_in_pieces(alloc: Global, bytes: &[u8], len: usize) -> Result<bool, Fa
         feed.feed(piece)?;
     }
     let trace = feed.end()?;
-    Ok(write(alloc, &trace)?.as_slice() == bytes)
-}
-
-fn refusal<T: Drop>(given: Result<T, vs_types::Fail<Format>>) -> Option<Format> {
-    match given {
-        Err(vs_types::Fail::Refused(fault)) => Some(fault),
-        _ => None,
-    }
+    is_spelled(alloc, &trace, bytes)
 }
 
 #[test]
 fn pieces_of_every_kind_give_one_trace(rt: HostRuntime) -> Result<(), Fail> {
     let alloc = rt.alloc();
-    let bytes = map_then_resolve_bytes(alloc)?;
+    let bytes = map_then_resolve(alloc)?;
     for len in [1, 7, 4095, 4096] {
         assert!(rt; len > 0);
         assert!(rt; is_read_in_pieces(alloc, &bytes, len)?, "{len}");
@@ -35,48 +31,45 @@ fn pieces_of_every_kind_give_one_trace(rt: HostRuntime) -> Result<(), Fail> {
     Ok(())
 }
 
-#[test]
-fn a_fault_is_told_again(rt: HostRuntime) -> Result<(), Fail> {
-    let alloc = rt.alloc();
-    let mut feed = Feed::new(alloc);
-    assert!(rt; feed.feed(b"NRV").is_ok());
-    assert_eq!(rt; refusal(feed.feed(b"X")), Some(Format::BadMagic));
-    let bytes = map_then_resolve_bytes(alloc)?;
-    assert_eq!(rt; refusal(feed.feed(&bytes)), Some(Format::BadMagic));
-    assert_eq!(rt; refusal(feed.end()), Some(Format::BadMagic));
-    Ok(())
-}
+/// A piece, or the bytes of a whole trace; and what is told.
+type Piece = (Option<&'static [u8]>, Result<(), vs_types::Fail<Format>>);
 
-#[test]
-fn a_byte_behind_the_trace_is_told_at_once(rt: HostRuntime) -> Result<(), Fail> {
-    let alloc = rt.alloc();
-    let bytes = map_then_resolve_bytes(alloc)?;
-    let mut feed = Feed::new(alloc);
-    assert!(rt; feed.feed(&bytes).is_ok());
-    assert_eq!(rt; refusal(feed.feed(&[0])), Some(Format::Trailing));
-    Ok(())
-}
+const MAGIC: vs_types::Fail<Format> = vs_types::Fail::Refused(Format::BadMagic);
 
-#[test]
-fn bytes_cut_short_are_truncated(rt: HostRuntime) -> Result<(), Fail> {
-    let alloc = rt.alloc();
-    let bytes = map_then_resolve_bytes(alloc)?;
-    for len in 0..bytes.len() {
-        if len < 200 || len % 97 == 0 {
-            assert_eq!(rt;
-                refusal(read(alloc, &bytes[..len])),
-                Some(Format::Truncated)
-            );
-        }
+const TRAILING: vs_types::Fail<Format> = vs_types::Fail::Refused(Format::Trailing);
+
+/// A fault is told again.
+static OTHER_MAGIC: [Piece; 3] = [
+    (Some(b"NRV"), Ok(())),
+    (Some(b"X"), Err(MAGIC)),
+    (None, Err(MAGIC)),
+];
+
+/// A byte behind the trace is told at once.
+static BYTE_BEHIND: [Piece; 2] = [(None, Ok(())), (Some(&[0]), Err(TRAILING))];
+
+/// The pieces one after another, and then the end, which is told this.
+fn feed_all(
+    rt: &impl Abort,
+    alloc: Global,
+    pieces: &[Piece],
+    end: vs_types::Fail<Format>,
+) -> Result<(), Fail> {
+    let whole = map_then_resolve(alloc)?;
+    let mut feed = Feed::new(alloc);
+    for (piece, told) in pieces {
+        let bytes = match piece {
+            Some(bytes) => *bytes,
+            None => whole.as_slice(),
+        };
+        assert_eq!(rt; feed.feed(bytes), *told);
     }
+    assert_eq!(rt; feed.end().err(), Some(end));
     Ok(())
 }
 
 #[test]
-fn promised_events_that_do_not_come(rt: HostRuntime) -> Result<(), Fail> {
-    let header = [
-        0x4e, 0x52, 0x56, 0x54, 0, 1, 4, 1, 0, 1, 0, 1, 0, 1, 0, 0, 0, 2, 0, 0,
-    ];
-    assert_eq!(rt; refusal(read(rt.alloc(), &header)), Some(Format::Truncated));
-    Ok(())
+fn faults_are_told_from_then_on(rt: HostRuntime) -> Result<(), Fail> {
+    feed_all(&rt, rt.alloc(), &OTHER_MAGIC, MAGIC)?;
+    feed_all(&rt, rt.alloc(), &BYTE_BEHIND, TRAILING)
 }

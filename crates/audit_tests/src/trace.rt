@@ -1,114 +1,154 @@
-use crate::writing::{call, map_then_resolve_events, reply};
-use nr_trace::{Format, Version, read, write};
-use std::alloc::{AllocError, Global};
+//! Traces as they are read.
+
+use crate::bytes::{EMPTY, MAPPED, ROOT, TABLES, Words, bytes_of, changed, map_then_resolve};
+use crate::events::{ACCESS_EVENTS, Item, RESOLVE_EVENTS, events_of};
+use nr_trace::{Format, Trace, Version, read, write};
+use std::alloc::Global;
 use std::process::Abort;
 use std::test::Fail;
-use vs_types::{Access, Answer, Config, Depth, Mode, Request};
-use vs_walk::Frames;
+use vs_types::{Config, Depth};
+use vs_walk::{Dump, Frames};
 
-/// A frame whose words are 0, but for one.
-fn push_frame(bytes: &mut Vec<u8>, number: u64, index: usize, word: u64) -> Result<(), AllocError> {
-    bytes.extend_from_slice(&number.to_be_bytes())?;
-    for k in 0..512usize {
-        let here = if k == index { word } else { 0 };
-        bytes.extend_from_slice(&here.to_be_bytes())?;
+/// Bytes at indexes.
+type Changes = &'static [(usize, u8)];
+
+/// The bytes of a trace, and what they say.
+#[derive(Clone, Copy)]
+struct Example {
+    front: &'static [u8],
+    changes: Changes,
+    len: usize,
+    version: Version,
+    depth: Depth,
+    tables: u16,
+    log: &'static [u32],
+    events: &'static [Item],
+    /// How many entries the dump has applied.
+    applied: u8,
+    words: Words,
+}
+
+const NOTHING: Example = Example {
+    front: &EMPTY,
+    changes: &[],
+    len: 4140,
+    version: Version::V1,
+    depth: Depth::Four,
+    tables: 1,
+    log: &[],
+    events: &[],
+    applied: 0,
+    words: ROOT,
+};
+
+const RESOLVE: Example = Example {
+    front: &MAPPED,
+    len: 16_552,
+    tables: 4,
+    log: &[0],
+    events: RESOLVE_EVENTS,
+    applied: 1,
+    words: TABLES,
+    ..NOTHING
+};
+
+/// What makes of map-then-resolve one of version 2 whose second call is a user's write, which is allowed.
+const ACCESS: Changes = &[(5, 2), (76, 4), (77, 1), (78, 1), (97, 8), (99, 0)];
+
+static EXAMPLES: [Example; 5] = [
+    NOTHING,
+    RESOLVE,
+    Example {
+        changes: &[(5, 2)],
+        version: Version::V2,
+        ..RESOLVE
+    },
+    Example {
+        changes: ACCESS,
+        version: Version::V2,
+        events: ACCESS_EVENTS,
+        ..RESOLVE
+    },
+    Example {
+        changes: &[(5, 2), (6, 5)],
+        version: Version::V2,
+        depth: Depth::Five,
+        ..NOTHING
+    },
+];
+
+/// Whether the trace is spelled by these bytes.
+pub fn is_spelled(alloc: Global, trace: &Trace, bytes: &[u8]) -> Result<bool, Fail> {
+    Ok(write(alloc, trace)?.as_slice() == bytes)
+}
+
+/// Whether the frame of this number has this word at the index, and no other that is not 0.
+fn has_word(dump: &Dump, number: u64, index: u64, word: u64) -> bool {
+    let Some(words) = dump.words(number) else {
+        return false;
+    };
+    for place in 0..512usize {
+        let wanted = if place as u64 == index { word } else { 0 };
+        if words.word(place) != wanted {
+            return false;
+        }
     }
-    Ok(())
+    true
 }
 
-fn empty_bytes(alloc: Global) -> Result<Vec<u8>, AllocError> {
-    let mut bytes = vec![in alloc;
-        0x4e, 0x52, 0x56, 0x54, 0, 1, 4, 1, 0, 1, 0, 1, 0, 0, 0, 0, 0, 0, 0, 0, 0, 0, 0, 0, 0, 0,
-        0, 1, 0, 0, 0, 0, 0, 0, 0, 1,
-    ]?;
-    push_frame(&mut bytes, 1, 0, 0)?;
-    Ok(bytes)
-}
-
-pub(crate) fn map_then_resolve_bytes(alloc: Global) -> Result<Vec<u8>, AllocError> {
-    let mut bytes = vec![in alloc;
-        0x4e, 0x52, 0x56, 0x54, 0, 1, 4, 1, 0, 1, 0, 4, 0, 0, 0, 1, 0, 0, 0, 4, 0, 0, 0, 0, 0, 0,
-        0, 0, 0, 0, 7, 0, 0, 0, 0, 0, 0, 0x40, 0, 0, 0, 0, 0, 0, 0, 0, 0x10, 0, 1, 0, 0, 0, 0, 0,
-        0, 0, 0, 0, 0, 0, 0, 0, 0, 0, 0, 0, 0, 0, 0, 0, 0, 0, 0, 0, 0, 0, 3, 0, 0, 0, 0, 0, 0, 0,
-        0, 0x40, 0x01, 0x23, 0, 0, 0, 0, 0, 0, 0, 0, 1, 7, 0, 7, 0, 0, 0, 2, 0, 0, 0, 1, 0, 0, 0,
-        0, 0, 0, 0, 0, 0, 0, 0x11, 0x23, 0, 0, 0, 1, 0, 0, 0, 4, 0, 0, 0, 0, 0, 0, 0, 1,
-    ]?;
-    push_frame(&mut bytes, 1, 0, 0x2007)?;
-    push_frame(&mut bytes, 2, 0, 0x3007)?;
-    push_frame(&mut bytes, 3, 2, 0x4007)?;
-    push_frame(&mut bytes, 4, 0, 0x1007)?;
-    Ok(bytes)
-}
-
-/// The bytes with others at some indexes.
-fn changed(alloc: Global, bytes: &[u8], changes: &[(usize, u8)]) -> Result<Vec<u8>, AllocError> {
-    let mut changed = Vec::new(alloc);
-    for (k, old) in bytes.iter().enumerate() {
-        let other = changes.iter().find(|change| change.0 == k);
-        changed.push(other.map_or(*old, |change| change.1))?;
-    }
-    Ok(changed)
-}
-
-/// The fault with which the bytes are refused.
-fn fault_of(alloc: Global, bytes: &[u8]) -> Option<Format> {
-    match read(alloc, bytes) {
-        Err(vs_types::Fail::Refused(fault)) => Some(fault),
-        _ => None,
-    }
-}
-
-#[test]
-fn empty_trace(rt: HostRuntime) -> Result<(), Fail> {
-    let bytes = empty_bytes(rt.alloc())?;
-    assert_eq!(rt; bytes.len(), 4140);
-    let trace = read(rt.alloc(), &bytes)?;
-    assert!(rt; Config::new(Depth::Four, 1, 1, 1) == Ok(trace.config()));
-    assert!(rt; trace.log().is_empty());
-    assert!(rt; trace.events().is_empty());
-    assert_eq!(rt; trace.dumps().len(), 1);
-    let dump = &trace.dumps()[0];
-    assert_eq!(rt; dump.applied(), 0);
+/// The dump is what the example says, with no other frame.
+fn assert_dump(rt: &impl Abort, dump: &Dump, example: &Example) {
+    assert_eq!(rt; dump.applied(), u32::from(example.applied));
     assert_eq!(rt; dump.root(), 1);
-    assert_eq!(rt; dump.count(), 1);
-    assert!(rt;
-        dump.words(1)
-            .is_some_and(|words| words.next_nonzero(0) == 512)
-    );
-    Ok(())
+    assert_eq!(rt; dump.count(), example.words.len());
+    let mut number = 0u64;
+    for (index, word) in example.words {
+        number = number.wrapping_add(1);
+        assert!(rt; has_word(dump, number, *index, *word));
+    }
+    assert!(rt; dump.words(number.wrapping_add(1)).is_none());
 }
 
-#[test]
-fn map_then_resolve_is_written_again(rt: HostRuntime) -> Result<(), Fail> {
-    let bytes = map_then_resolve_bytes(rt.alloc())?;
-    let trace = read(rt.alloc(), &bytes)?;
-    let written = write(rt.alloc(), &trace)?;
-    assert!(rt; written.as_slice() == bytes.as_slice());
-    Ok(())
-}
-
-#[test]
-fn map_then_resolve(rt: HostRuntime) -> Result<(), Fail> {
-    let bytes = map_then_resolve_bytes(rt.alloc())?;
-    assert_eq!(rt; bytes.len(), 16_552);
-    let trace = read(rt.alloc(), &bytes)?;
-    assert!(rt; Config::new(Depth::Four, 1, 1, 4) == Ok(trace.config()));
-    assert!(rt; trace.log() == [0].as_slice());
-    assert!(rt; trace.events() == map_then_resolve_events(rt.alloc())?.as_slice());
+/// The trace is what the example says.
+fn assert_trace(
+    rt: &impl Abort,
+    alloc: Global,
+    trace: &Trace,
+    example: &Example,
+) -> Result<(), Fail> {
+    let config = Config::new(example.depth, 1, 1, example.tables);
+    assert!(rt; trace.version() == example.version);
+    assert!(rt; Ok(trace.config()) == config);
+    assert!(rt; trace.log() == example.log);
+    assert!(rt; trace.events() == events_of(alloc, example.events)?.as_slice());
     assert_eq!(rt; trace.dumps().len(), 1);
-    let dump = &trace.dumps()[0];
-    assert_eq!(rt; dump.applied(), 1);
-    assert_eq!(rt; dump.count(), 4);
-    assert!(rt;
-        dump.words(3)
-            .is_some_and(|words| words.word(2) == 0x4007 && words.word(1) == 0)
-    );
-    assert!(rt; dump.words(5).is_none());
+    for dump in trace.dumps() {
+        assert_dump(rt, dump, example);
+    }
+    Ok(())
+}
+
+/// Its bytes are read as what it says, and written again.
+fn run(rt: &impl Abort, alloc: Global, example: &Example) -> Result<(), Fail> {
+    let first = bytes_of(alloc, example.front, example.applied, example.words)?;
+    let bytes = changed(alloc, &first, example.changes)?;
+    assert_eq!(rt; bytes.len(), example.len);
+    let trace = read(alloc, &bytes)?;
+    assert_trace(rt, alloc, &trace, example)?;
+    assert!(rt; is_spelled(alloc, &trace, &bytes)?);
+    Ok(())
+}
+
+#[test]
+fn examples(rt: HostRuntime) -> Result<(), Fail> {
+    for example in &EXAMPLES {
+        run(&rt, rt.alloc(), example)?;
+    }
     Ok(())
 }
 
 /// Changes of the trace without calls, and the fault of each.
-static CHANGES_OF_EMPTY: [(&[(usize, u8)], Format); 8] = [
+static CHANGES_OF_EMPTY: [(Changes, Format); 8] = [
     (&[(13, 1), (15, 1)], Format::BadCount),
     (&[(5, 0)], Format::BadVersion),
     (&[(5, 3)], Format::BadVersion),
@@ -120,7 +160,7 @@ static CHANGES_OF_EMPTY: [(&[(usize, u8)], Format); 8] = [
 ];
 
 /// Changes of map-then-resolve, and the fault of each.
-static CHANGES: [(&[(usize, u8)], Format); 4] = [
+static CHANGES: [(Changes, Format); 4] = [
     (&[(31, 1)], Format::BadEvent(0)),
     (&[(4247, 1)], Format::BadFrame(0, 1)),
     (&[(97, 8), (99, 0)], Format::BadEvent(3)),
@@ -128,7 +168,7 @@ static CHANGES: [(&[(usize, u8)], Format); 4] = [
 ];
 
 /// Changes of the user's write, and the fault of each.
-static CHANGES_OF_ACCESS: [(&[(usize, u8)], Format); 9] = [
+static CHANGES_OF_ACCESS: [(Changes, Format); 9] = [
     (&[(5, 1)], Format::BadEvent(2)),
     (&[(76, 5)], Format::BadEvent(2)),
     (&[(77, 3)], Format::BadEvent(2)),
@@ -140,16 +180,21 @@ static CHANGES_OF_ACCESS: [(&[(usize, u8)], Format); 9] = [
     (&[(99, 1)], Format::BadEvent(3)),
 ];
 
-/// Reads the bytes with each of these changes, and holds the fault against what is expected.
-fn run(
+/// The bytes are refused with the fault.
+pub fn assert_refused(rt: &impl Abort, alloc: Global, bytes: &[u8], fault: Format) {
+    let told = read(alloc, bytes).err();
+    assert_eq!(rt; told, Some(vs_types::Fail::Refused(fault)));
+}
+
+/// The bytes with each of these changes are refused with its fault.
+fn refuse_all(
     rt: &impl Abort,
     alloc: Global,
     bytes: &[u8],
-    cases: &[(&'static [(usize, u8)], Format)],
+    cases: &[(Changes, Format)],
 ) -> Result<(), Fail> {
-    for (place, (changes, fault)) in cases.iter().enumerate() {
-        let told = fault_of(alloc, &changed(alloc, bytes, *changes)?);
-        assert_eq!(rt; told, Some(*fault), "case {place}");
+    for (changes, fault) in cases {
+        assert_refused(rt, alloc, &changed(alloc, bytes, *changes)?, *fault);
     }
     Ok(())
 }
@@ -157,58 +202,37 @@ fn run(
 #[test]
 fn malformed_bytes(rt: HostRuntime) -> Result<(), Fail> {
     let alloc = rt.alloc();
-    let empty = empty_bytes(alloc)?;
-    let first = map_then_resolve_bytes(alloc)?;
-    run(&rt, alloc, &empty, &CHANGES_OF_EMPTY)?;
-    run(&rt, alloc, &first, &CHANGES)?;
-    run(
-        &rt,
-        alloc,
-        &changed(alloc, &first, &ACCESS)?,
-        &CHANGES_OF_ACCESS,
-    )
+    let empty = bytes_of(alloc, &EMPTY, 0, ROOT)?;
+    let first = map_then_resolve(alloc)?;
+    let access = changed(alloc, &first, ACCESS)?;
+    refuse_all(&rt, alloc, &empty, &CHANGES_OF_EMPTY)?;
+    refuse_all(&rt, alloc, &first, &CHANGES)?;
+    refuse_all(&rt, alloc, &access, &CHANGES_OF_ACCESS)
 }
 
+/// A byte too many, one too few, none, and events that are promised and do not come.
 #[test]
 fn lengths(rt: HostRuntime) -> Result<(), Fail> {
     let alloc = rt.alloc();
-    let mut bytes = empty_bytes(alloc)?;
+    let mut bytes = bytes_of(alloc, &EMPTY, 0, ROOT)?;
     bytes.push(0)?;
-    assert_eq!(rt; fault_of(alloc, &bytes), Some(Format::Trailing));
+    assert_refused(&rt, alloc, &bytes, Format::Trailing);
     bytes.truncate(4139);
-    assert_eq!(rt; fault_of(alloc, &bytes), Some(Format::Truncated));
-    assert_eq!(rt; fault_of(alloc, &[]), Some(Format::Truncated));
-    Ok(())
-}
-
-// What makes of map-then-resolve one of version 2 whose second call is a user's write, which is allowed.
-const ACCESS: [(usize, u8); 6] = [(5, 2), (76, 4), (77, 1), (78, 1), (97, 8), (99, 0)];
-
-#[test]
-fn reads_that_ask_for_rights(rt: HostRuntime) -> Result<(), Fail> {
-    let alloc = rt.alloc();
-    let first = map_then_resolve_bytes(alloc)?;
-    let second = changed(alloc, &first, &[(5, 2)])?;
-    let trace = read(alloc, &second)?;
-    assert_eq!(rt; trace.version(), Version::V2);
-    assert!(rt; write(alloc, &trace)?.as_slice() == second.as_slice());
-    let bytes = changed(alloc, &first, &ACCESS)?;
-    let trace = read(alloc, &bytes)?;
-    let access = Request::access(Depth::Four, 0x400123, Mode::User, Access::Write)?;
-    let call = call(0, 0, access);
-    let reply = reply(2, 1, Answer::Allowed(0x1123));
-    assert_eq!(rt; trace.events().len(), 4);
-    assert!(rt; trace.events()[2] == call && trace.events()[3] == reply);
-    assert!(rt; write(alloc, &trace)?.as_slice() == bytes.as_slice());
+    assert_refused(&rt, alloc, &bytes, Format::Truncated);
+    assert_refused(&rt, alloc, &[], Format::Truncated);
+    let promised = changed(alloc, &EMPTY, &[(13, 1), (17, 2)])?;
+    assert_refused(&rt, alloc, &promised, Format::Truncated);
     Ok(())
 }
 
 #[test]
-fn five_levels(rt: HostRuntime) -> Result<(), Fail> {
+fn bytes_cut_short_are_truncated(rt: HostRuntime) -> Result<(), Fail> {
     let alloc = rt.alloc();
-    let bytes = changed(alloc, &empty_bytes(alloc)?, &[(5, 2), (6, 5)])?;
-    let trace = read(alloc, &bytes)?;
-    assert!(rt; Config::new(Depth::Five, 1, 1, 1) == Ok(trace.config()));
-    assert!(rt; write(alloc, &trace)?.as_slice() == bytes.as_slice());
+    let bytes = map_then_resolve(alloc)?;
+    for len in 0..bytes.len() {
+        if len < 200 || len % 97 == 0 {
+            assert_refused(&rt, alloc, &bytes[..len], Format::Truncated);
+        }
+    }
     Ok(())
 }

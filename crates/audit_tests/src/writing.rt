@@ -1,129 +1,160 @@
-use nr_trace::{Event, Format, Recorded, Trace, Version, write};
+//! Traces as they are made and written.
+
+use crate::bytes::{EMPTY, MAPPED, ROOT, bytes_of};
+use crate::events::{Asks, DONE, Item, MAP, RESOLVE, RESOLVE_EVENTS, RESOLVED, events_of};
+use nr_trace::{Format, Trace, Version, write};
 use std::alloc::Global;
+use std::process::Abort;
 use std::test::Fail;
-use vs_types::{Answer, Config, Depth, Op, Request, Rights, Size};
+use vs_types::{Config, Depth};
 use vs_walk::Dump;
 
-// The counts of one replica, one thread and one table with nothing recorded; the head of its dump; and the number of its
-// root.
-const EMPTY: [u8; 44] = [
-    0x4e, 0x52, 0x56, 0x54, 0, 1, 4, 1, 0, 1, 0, 1, 0, 0, 0, 0, 0, 0, 0, 0, // counts
-    0, 0, 0, 0, 0, 0, 0, 1, 0, 0, 0, 0, 0, 0, 0, 1, // head
-    0, 0, 0, 0, 0, 0, 0, 1, // number
-];
-
-// A map of the page at 0x400000, done, and a resolve of 0x400123; four tables; and the head of the dump.
-const MAPPED: [u8; 136] = [
-    0x4e, 0x52, 0x56, 0x54, 0, 1, 4, 1, 0, 1, 0, 4, 0, 0, 0, 1, 0, 0, 0, 4, // counts
-    0, 0, 0, 0, // place
-    0, 0, 0, 0, 0, 0, 7, 0, 0, 0, 0, 0, 0, 0x40, 0, 0, 0, 0, 0, 0, 0, 0, 0x10, 0, // call
-    1, 0, 0, 0, 0, 0, 0, 0, 0, 0, 0, 0, 0, 0, 0, 0, 0, 0, 0, 0, 0, 0, 0, 0, // reply
-    0, 0, 0, 0, 3, 0, 0, 0, 0, 0, 0, 0, 0, 0x40, 1, 0x23, 0, 0, 0, 0, 0, 0, 0, 0, // call
-    1, 7, 0, 7, 0, 0, 0, 2, 0, 0, 0, 1, 0, 0, 0, 0, 0, 0, 0, 0, 0, 0, 0x11, 0x23, // reply
-    0, 0, 0, 1, 0, 0, 0, 1, 0, 0, 0, 0, 0, 0, 0, 1, // head
-];
-
-fn config(tables: u16) -> Result<Config, Fail> {
-    Ok(Config::new(Depth::Four, 1, 1, tables)?)
+/// The dumps of a trace.
+#[derive(Clone, Copy)]
+enum Dumps {
+    None,
+    /// One without frames.
+    NoFrame,
+    /// One of a root without a page.
+    Root,
 }
 
-fn dumps(alloc: Global, applied: u32) -> Result<Vec<Dump>, Fail> {
-    let mut dump = Dump::new(alloc, applied, 1);
-    dump.push(1, &[0; 512])?;
-    let mut dumps = Vec::new(alloc);
-    dumps.push(dump)?;
-    Ok(dumps)
-}
-
-pub(crate) fn call(replica: u8, thread: u16, request: Request) -> Recorded {
-    Recorded::of(Event::Call {
-        replica,
-        thread,
-        request,
-    })
-}
-
-pub(crate) fn reply(call: u32, at: u32, answer: Answer) -> Recorded {
-    Recorded::of(Event::Reply { call, at, answer })
-}
-
-pub(crate) fn map_then_resolve_events(alloc: Global) -> Result<Vec<Recorded>, Fail> {
-    let map = Op::map(Depth::Four, 0x400000, Size::K4, 0x1000, Rights::ALL)?;
-    let mut events = Vec::new(alloc);
-    events.push(call(0, 0, Request::update(map)))?;
-    events.push(reply(0, 0, Answer::Done))?;
-    events.push(call(0, 0, Request::resolve(Depth::Four, 0x400123)?))?;
-    events.push(reply(2, 1, Answer::Mapped(0x1123, Size::K4, Rights::ALL)))?;
-    Ok(events)
-}
-
-#[test]
-fn empty_trace(rt: HostRuntime) -> Result<(), Fail> {
-    let none = Vec::new(rt.alloc());
-    let trace = Trace::new(
-        Version::V1,
-        config(1)?,
-        none,
-        Vec::new(rt.alloc()),
-        dumps(rt.alloc(), 0)?,
-    )?;
-    let bytes = write(rt.alloc(), &trace)?;
-    assert_eq!(rt; bytes.len(), 4140);
-    let (front, words) = bytes.split_at(44);
-    assert_eq!(rt; front, EMPTY.as_slice());
-    assert!(rt; words.iter().all(|byte| *byte == 0));
-    Ok(())
-}
-
-#[test]
-fn map_then_resolve(rt: HostRuntime) -> Result<(), Fail> {
-    let mut log = Vec::new(rt.alloc());
-    log.push(0)?;
-    let events = map_then_resolve_events(rt.alloc())?;
-    let trace = Trace::new(Version::V1, config(4)?, log, events, dumps(rt.alloc(), 1)?)?;
-    let bytes = write(rt.alloc(), &trace)?;
-    assert_eq!(rt; bytes.len(), 136 + 4104);
-    assert!(rt; bytes.as_slice().starts_with(MAPPED.as_slice()));
-    Ok(())
-}
-
-/// Why no trace of version 1 is made of no log, these events and these dumps, if none is.
-fn refusal(
-    alloc: Global,
+/// The parts of a trace of version 1, of one replica and one thread; and what stands before its dump, or why there is no such trace.
+#[derive(Clone, Copy)]
+struct Case {
     depth: Depth,
-    events: &[Recorded],
-    dumps: Vec<Dump>,
-) -> Result<Option<Format>, Fail> {
-    let config = Config::new(depth, 1, 1, 1)?;
-    let mut kept = Vec::new(alloc);
-    for event in events {
-        kept.push(*event)?;
+    tables: u16,
+    log: &'static [u32],
+    events: &'static [Item],
+    dumps: Dumps,
+    /// How many entries the dump has applied.
+    applied: u8,
+    told: Result<&'static [u8], Format>,
+}
+
+const NOTHING: Case = Case {
+    depth: Depth::Four,
+    tables: 1,
+    log: &[],
+    events: &[],
+    dumps: Dumps::Root,
+    applied: 0,
+    told: Ok(&EMPTY),
+};
+
+/// A reply to a call that is not there.
+const REPLY: Item = Item::Reply(7, 9, vs_types::Answer::Done);
+
+/// The counts, and that reply.
+const REPLIED: [u8; 44] = [
+    0x4e, 0x52, 0x56, 0x54, 0, 1, 4, 1, 0, 1, 0, 1, 0, 0, 0, 0, 0, 0, 0, 1, // counts
+    1, 0, 0, 0, 0, 0, 0, 7, 0, 0, 0, 9, 0, 0, 0, 0, 0, 0, 0, 0, 0, 0, 0, 0, // reply
+];
+
+static TRACES: [Case; 3] = [
+    NOTHING,
+    Case {
+        tables: 4,
+        log: &[0],
+        events: RESOLVE_EVENTS,
+        applied: 1,
+        told: Ok(&MAPPED),
+        ..NOTHING
+    },
+    Case {
+        events: &[REPLY],
+        told: Ok(&REPLIED),
+        ..NOTHING
+    },
+];
+
+/// A dump without frames comes after the events.
+static OUT_OF_RANGE: [Case; 5] = [
+    Case {
+        depth: Depth::Five,
+        told: Err(Format::BadCount),
+        ..NOTHING
+    },
+    Case {
+        events: &[REPLY],
+        dumps: Dumps::None,
+        told: Err(Format::BadCount),
+        ..NOTHING
+    },
+    Case {
+        events: &[REPLY, Item::Call(0, 1, Asks::Resolve(0))],
+        told: Err(Format::BadEvent(1)),
+        ..NOTHING
+    },
+    Case {
+        events: &[
+            MAP,
+            DONE,
+            RESOLVE,
+            RESOLVED,
+            Item::Call(1, 0, Asks::Resolve(0)),
+        ],
+        dumps: Dumps::NoFrame,
+        told: Err(Format::BadEvent(4)),
+        ..NOTHING
+    },
+    Case {
+        dumps: Dumps::NoFrame,
+        told: Err(Format::BadCount),
+        ..NOTHING
+    },
+];
+
+fn dumps_of(alloc: Global, dumps: Dumps, applied: u8) -> Result<Vec<Dump>, Fail> {
+    let mut dump = Dump::new(alloc, u32::from(applied), 1);
+    if let Dumps::Root = dumps {
+        dump.push(1, &[0; 512])?;
     }
-    Ok(Trace::new(Version::V1, config, Vec::new(alloc), kept, dumps).err())
+    let mut all = Vec::new(alloc);
+    if let Dumps::Root | Dumps::NoFrame = dumps {
+        all.push(dump)?;
+    }
+    Ok(all)
+}
+
+/// The bytes of the trace of the parts, or why there is none.
+fn written(alloc: Global, case: &Case) -> Result<Result<Vec<u8>, Format>, Fail> {
+    let config = Config::new(case.depth, 1, 1, case.tables)?;
+    let mut log = Vec::new(alloc);
+    log.extend_from_slice(case.log)?;
+    let events = events_of(alloc, case.events)?;
+    let dumps = dumps_of(alloc, case.dumps, case.applied)?;
+    match Trace::new(Version::V1, config, log, events, dumps) {
+        Ok(trace) => Ok(Ok(write(alloc, &trace)?)),
+        Err(fault) => Ok(Err(fault)),
+    }
+}
+
+/// What is told of the case.
+fn told(alloc: Global, case: &Case) -> Result<Result<Vec<u8>, Format>, Fail> {
+    match case.told {
+        Ok(front) => Ok(Ok(bytes_of(alloc, front, case.applied, ROOT)?)),
+        Err(fault) => Ok(Err(fault)),
+    }
+}
+
+fn run(rt: &impl Abort, alloc: Global, case: &Case) -> Result<(), Fail> {
+    assert!(rt; written(alloc, case)? == told(alloc, case)?);
+    Ok(())
+}
+
+#[test]
+fn traces(rt: HostRuntime) -> Result<(), Fail> {
+    for case in &TRACES {
+        run(&rt, rt.alloc(), case)?;
+    }
+    Ok(())
 }
 
 #[test]
 fn parts_out_of_range(rt: HostRuntime) -> Result<(), Fail> {
-    let alloc = rt.alloc();
-    let four = Depth::Four;
-    let reply = [reply(7, 9, Answer::Done)];
-    let other_thread = [reply[0], call(0, 1, Request::resolve(four, 0)?)];
-    let mut other_replica = map_then_resolve_events(alloc)?;
-    other_replica.push(call(1, 0, Request::resolve(four, 0)?))?;
-    let bad_count = Some(Format::BadCount);
-    let told = refusal(alloc, four, &reply, dumps(alloc, 0)?)?;
-    assert_eq!(rt; told, None);
-    let told = refusal(alloc, Depth::Five, &[], dumps(alloc, 0)?)?;
-    assert_eq!(rt; told, bad_count);
-    let told = refusal(alloc, four, &reply, Vec::new(alloc))?;
-    assert_eq!(rt; told, bad_count);
-    let told = refusal(alloc, four, &other_thread, dumps(alloc, 0)?)?;
-    assert_eq!(rt; told, Some(Format::BadEvent(1)));
-    // a dump without frames comes after the events
-    let no_frame = vec![in alloc; Dump::new(alloc, 0, 1)]?;
-    let told = refusal(alloc, four, &other_replica, no_frame)?;
-    assert_eq!(rt; told, Some(Format::BadEvent(4)));
-    let no_frame = vec![in alloc; Dump::new(alloc, 0, 1)]?;
-    assert_eq!(rt; refusal(alloc, four, &[], no_frame)?, bad_count);
+    for case in &OUT_OF_RANGE {
+        run(&rt, rt.alloc(), case)?;
+    }
     Ok(())
 }

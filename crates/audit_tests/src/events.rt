@@ -1,0 +1,72 @@
+//! The events of traces.
+
+use nr_trace::{Event, Recorded};
+use std::alloc::Global;
+use std::test::Fail;
+use vs_types::{Access, Answer, Depth, Mode, Op, Request, Rights, Size};
+
+/// What a call asks.
+#[derive(Clone, Copy)]
+pub enum Asks {
+    /// The page at 0x400000 is mapped to 0x1000, with all rights.
+    Map,
+    Resolve(u64),
+    /// Whether a user may write there.
+    Write(u64),
+}
+
+/// An event.
+#[derive(Clone, Copy)]
+pub enum Item {
+    /// The replica, the thread and what it asks.
+    Call(u8, u16, Asks),
+    /// The call, its place or what it saw, and the answer.
+    Reply(u32, u32, Answer),
+}
+
+pub const MAP: Item = Item::Call(0, 0, Asks::Map);
+
+pub const DONE: Item = Item::Reply(0, 0, Answer::Done);
+
+pub const RESOLVE: Item = Item::Call(0, 0, Asks::Resolve(0x400123));
+
+pub const RESOLVED: Item = Item::Reply(2, 1, Answer::Mapped(0x1123, Size::K4, Rights::ALL));
+
+/// A page is mapped, and an address in it resolved.
+pub const RESOLVE_EVENTS: &[Item] = &[MAP, DONE, RESOLVE, RESOLVED];
+
+/// The same with a user's write in place of the resolve.
+pub const ACCESS_EVENTS: &[Item] = &[
+    MAP,
+    DONE,
+    Item::Call(0, 0, Asks::Write(0x400123)),
+    Item::Reply(2, 1, Answer::Allowed(0x1123)),
+];
+
+fn request_of(asks: Asks) -> Result<Request, Fail> {
+    let depth = Depth::Four;
+    Ok(match asks {
+        Asks::Map => Request::update(Op::map(depth, 0x400000, Size::K4, 0x1000, Rights::ALL)?),
+        Asks::Resolve(address) => Request::resolve(depth, address)?,
+        Asks::Write(address) => Request::access(depth, address, Mode::User, Access::Write)?,
+    })
+}
+
+fn event_of(item: Item) -> Result<Event, Fail> {
+    match item {
+        Item::Call(replica, thread, asks) => Ok(Event::Call {
+            replica,
+            thread,
+            request: request_of(asks)?,
+        }),
+        Item::Reply(call, at, answer) => Ok(Event::Reply { call, at, answer }),
+    }
+}
+
+pub fn events_of(alloc: Global, items: &[Item]) -> Result<Vec<Recorded>, Fail> {
+    let mut events = Vec::new(alloc);
+    for item in items {
+        events.push(Recorded::of(event_of(*item)?))?;
+    }
+    Ok(events)
+}
