@@ -7,7 +7,7 @@ ghost use Rattle.nr_script.specs.inside.Reading.{IsAllRead};
 ghost use Rattle.nr_script.specs.declared.script.TheConstants.{SCRIPT_BYTES};
 
 use crate::parts::cut;
-use crate::reading::{Reading, by_thread};
+use crate::reading::Reading;
 use nr_core::Step;
 use std::alloc::Global;
 use vs_types::{Depth, Fail, Request};
@@ -44,12 +44,7 @@ fn read_lines(alloc: Global, depth: Depth, bytes: &[u8]) -> Result<Reading, Fail
     ensures ok { IfOk result (IsAllRead depth bytes.now) }
     ensures err { IfErr result (IfRefused (λ bad. IsBadLine depth bytes.now bad.0)) }
 {
-    let mut reading = Reading {
-        threads: 1,
-        asked: Vec::new(alloc),
-        steps: Vec::new(alloc),
-        first_step: None,
-    };
+    let mut reading = Reading::new(alloc)?;
     let mut left = Some(bytes);
     let mut number = 0;
     while let Some(text) = left {
@@ -79,7 +74,8 @@ pub fn read_script(alloc: Global, depth: Depth, bytes: &[u8]) -> Result<Script, 
     ensures err { IfErr result (IfRefused (λ bad. IsBadLine depth bytes.now bad.0)) }
 {
     let reading = read_lines(alloc, depth, bytes)?;
-    let requests = by_thread(alloc, reading.asked.as_slice(), reading.threads)?;
+    let mut requests = reading.lists;
+    requests.truncate(reading.threads as usize);
     let script = Script {
         threads: reading.threads,
         requests,

@@ -1,19 +1,21 @@
 use Rattle.std.proofs.Common.{◌∙◌}
 use Rattle.std.proofs.Common.{arith}
 use Rattle.nr_script.specs.Words.{lines}
-use Rattle.nr_script.proofs.Gathered.{all_by_thread}
+use Rattle.nr_script.proofs.Gathered.{first_lists}
 use Rattle.nr_script.proofs.Shares.{scripts_of, threads_in_range}
 use Rattle.nr_script.proofs.script.read_script.Goals as goal
 
 read : goal.returns-clause-ok
 read c =
     let all = c.in_ok-reading.ensures.ok in
+    let range = threads_in_range c.args.depth (lines c.args.bytes.now) all.said all.each_says in
     record {
       said = all.said;
       each_says = all.each_says;
       within_limits = all.kept.within_limits;
       threads_are = all.kept.threads_are;
-      requests_are = all_by_thread all.said _ _ _ (c.as_slice.ensures.value ∙ all.kept.asked_are) all.kept.threads_are c.in_ok-requests.ensures;
+      requests_are = first_lists all.said c.in_ok-reading.reading.lists.items c.truncate.new.self.items c.in_ok-reading.reading.threads c.truncate.ensures.items
+          (omega (arith, range.1, all.kept.threads_are)) all.kept.threads_are all.kept.lists_are;
       steps_are = all.kept.steps_are;
       first_step_is = all.kept.first_step_is;
     }

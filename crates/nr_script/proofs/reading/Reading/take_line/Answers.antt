@@ -5,10 +5,9 @@ use Rattle.nr_script.specs.declared.line.Line.{Line}
 use Rattle.nr_script.proofs.Gathered.{past_requests, read_passed_over, read_request, read_step}
 use Rattle.nr_script.proofs.reading.Reading.take_line.Goals as goal
 
-pub returns-then-len-ge-SCRIPT_REQUESTS : goal.returns-then-len-ge-SCRIPT_REQUESTS
-returns-then-len-ge-SCRIPT_REQUESTS c = λ said kept is.
-    let full : 65536 ≤ length c.args.self.now.asked.items =
-    omega (arith, c.if-len-ge-SCRIPT_REQUESTS.true, c.len.ensures, c.args.self.now.asked.ok.0) in (
+pub returns-then-self-ge-SCRIPT_REQUESTS : goal.returns-then-self-ge-SCRIPT_REQUESTS
+returns-then-self-ge-SCRIPT_REQUESTS c = λ said kept is.
+    let full : 65536 ≤ c.args.self.now.asked = c.if-self-ge-SCRIPT_REQUESTS.true in (
       refl,
       inr (
         c.in-Some.said,
@@ -26,22 +25,22 @@ returns-in-PassedOver c = λ said kept is. (
 
 pub returns-in_ok-ask-in-Request : goal.returns-in_ok-ask-in-Request
 returns-in_ok-ask-in-Request c = λ said kept is.
-    let few : length c.args.self.now.asked.items < 65536 =
-    omega (arith, c.if-len-ge-SCRIPT_REQUESTS.false, c.len.ensures, c.args.self.now.asked.ok.0) in
-    let ensures = c.in_ok-ask-in-Request.ensures in (
+    let few : c.args.self.now.asked < 65536 = c.if-self-ge-SCRIPT_REQUESTS.false in
+    let ensures = c.in_ok-ask-in-Request.ensures in
+    let says = subst (λ (it : Line). Says c.args.depth c.args.line.now it) c.in-Request.is c.in-Some.ensures in (
       _,
-      subst (λ (it : Line). Says c.args.depth c.args.line.now it) c.in-Request.is c.in-Some.ensures,
-      read_request said c.args.self.now c.ask.new.self c.in-Request.thread c.in-Request.request c.args.number kept is
-          ensures.threads ensures.asked ensures.steps ensures.first few,
+      says,
+      read_request said c.args.self.now c.ask.new.self c.in-Request.thread c.in-Request.request c.args.number kept is says.thread_fits
+          ensures.threads ensures.asked ensures.lists ensures.steps ensures.first few,
     )
 
 pub returns-in_ok-step-in-Step : goal.returns-in_ok-step-in-Step
 returns-in_ok-step-in-Step c = λ said kept is.
     let few : length c.args.self.now.steps.items < 1000000 =
-    omega (arith, c.if-len-ge-SCRIPT_STEPS.false, c.len-in-Step.ensures, c.args.self.now.steps.ok.0) in
+    omega (arith, c.if-len-ge-SCRIPT_STEPS.false, c.len.ensures, c.args.self.now.steps.ok.0) in
     let ensures = c.in_ok-step-in-Step.ensures in (
       _,
       subst (λ (it : Line). Says c.args.depth c.args.line.now it) c.in-Step.is c.in-Some.ensures,
       read_step said c.args.self.now c.step.new.self c.in-Step.step c.args.number kept is
-          ensures.threads ensures.asked ensures.steps ensures.first few,
+          ensures.threads ensures.asked ensures.lists ensures.steps ensures.first few,
     )
