@@ -5,6 +5,8 @@
 #[cfg(test)]
 mod log_words;
 #[cfg(test)]
+mod pair;
+#[cfg(test)]
 mod party;
 #[cfg(test)]
 mod ring;
@@ -17,8 +19,10 @@ mod ring_races;
 #[cfg(test)]
 mod ring_threads;
 #[cfg(test)]
-mod sizes;
+mod scene;
 #[cfg(test)]
 mod slots;
 #[cfg(test)]
 mod start;
+#[cfg(test)]
+mod steps;

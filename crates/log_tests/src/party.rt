@@ -1,43 +1,52 @@
-//! A log of four replicas at five levels, and its passes, each beside what a test has to know of it.
-ghost use Rattle.std.specs.Prelude.{◌≡◌, ◌<◌, ◌≤◌, ℕ, IfOk, Some, [], ◌∷◌, vec_len};
+//! A pass of a log, as tests have it make calls.
+ghost use Rattle.std.specs.Prelude.{◌≡◌, ◌<◌, ℕ};
 ghost use Rattle.vs_types.specs.LogEntry.{IsLogEntry};
-ghost use Rattle.vs_types.specs.declared.depth.Depth.TheVariants.{Five};
-ghost use Rattle.vs_types.specs.declared.limits.TheConstants.{CALLS};
-ghost use Rattle.nr_ring.specs.LogHistory.{IsLogHistory, log_after};
-ghost use Rattle.nr_ring.specs.Pass.{new_passes, tails_of};
+ghost use Rattle.nr_ring.specs.LogHistory.{Log, local_of, log_after};
+ghost use Rattle.nr_ring.specs.Pass.{tails_of};
 
 use crate::start::Start;
 use arrayvec::ArrayVec;
-use nr_ring::laws::needed_entries_fit_the_ring;
 use nr_ring::{AppendFault, LogName, LogPass, Moved, RingLog, Tails};
-use std::alloc::Global;
 use std::marker::{Brand, Model, PhantomData};
 use std::process::Abort;
 use std::sync::Wait;
-use std::test::Fail;
 use vs_types::{CALLS, Depth, LogEntry, Op};
 
-/// Names a log of four replicas at five levels, with four passes that own none.
-pub struct Four;
-
-impl LogName for Four {
-    ghost use Rattle.vs_types.specs.declared.depth.Depth.TheVariants.{Five};
-
-    ghost depth = { Five };
-
-    ghost replicas = { 4 };
-
-    ghost passes = { 8 };
+/// An entry by which a call unmaps a page. At five levels it is one that only these have.
+fn entry(rt: &impl Abort, depth: Depth, call: u32) -> LogEntry
+    ensures { IsLogEntry depth result }
+{
+    let base = match depth {
+        Depth::Four => 0x400000,
+        Depth::Five => 0xFF00000000000000,
+    };
+    let op = Op::unmap(depth, base).expect(rt, "a well-formed unmap");
+    assert!(rt; op.fits(depth));
+    assert!(rt; call < CALLS);
+    LogEntry { call, op }
 }
 
-/// An entry by which a call unmaps a page that only five levels have.
-fn far_entry(rt: &impl Abort, call: u32) -> LogEntry
-    requires { call < CALLS }
-    ensures { IsLogEntry Five result }
+/// The local tail of a replica.
+fn local(tails: &Tails, replica: u8) -> u32
+    requires { replica < 4 }
+    ensures { (log : Log) → tails.now ≡ tails_of log → result ≡ local_of log replica }
 {
-    let op = Op::unmap(Depth::Five, 0xFF00000000000000).expect(rt, "a well-formed unmap");
-    assert!(rt; op.fits(Depth::Five));
-    LogEntry { call, op }
+    match replica {
+        0 => tails.local[0],
+        1 => tails.local[1],
+        2 => tails.local[2],
+        _ => tails.local[3],
+    }
+}
+
+/// Whether no tail is below that of an earlier log.
+pub fn is_later(later: &Tails, earlier: &Tails) -> bool {
+    for at in 0..4 {
+        if later.local[at] < earlier.local[at] {
+            return false;
+        }
+    }
+    earlier.tail <= later.tail && earlier.completed <= later.completed
 }
 
 /// Names the log that parties are of.
@@ -63,158 +72,109 @@ impl OfLog for Brand {
 
 /// A log and one of its passes. Contracts see what the pass knows.
 #[derive(Drop)]
-pub struct Party<'a, K: OfLog> {
-    log: &'a RingLog<Four>,
-    pass: LogPass<Four>,
-    replica: Option<u8>,
+pub struct Party<'a, N: LogName, K: OfLog> {
+    log: &'a RingLog<N>,
+    pass: LogPass<N>,
+    depth: Depth,
     of: PhantomData<K>,
 }
 
-impl<'a, K: OfLog> Model for Party<'a, K> {
-    ghost use Rattle.std.specs.Prelude.{◌≡◌, ℕ, Some, [], ◌∷◌};
+impl<'a, N: LogName, K: OfLog> Model for Party<'a, N, K> {
+    ghost use Rattle.std.specs.Prelude.{◌≡◌};
     ghost use Rattle.nr_ring.specs.Pass.{Known};
 
     ghost Value = { Known };
 
     ghost view = { λ p. p.pass };
 
-    ghost invariant = { λ p. (p.log.now ≡ K.log) × (p.pass.log ≡ K.log)
-        × ((owned : ℕ) → p.replica ≡ Some owned → p.pass.view.owns ≡ owned ∷ []) };
+    ghost invariant = { λ p. (p.log.now ≡ K.log) × (p.pass.log ≡ K.log) × (p.depth ≡ N.depth) };
 }
 
-/// A log of four replicas at five levels, and its eight passes.
-pub struct NewLog {
-    pub log: RingLog<Four>,
-    pub passes: Vec<LogPass<Four>>,
-    ghost new: { passes.items ≡ new_passes log 4 4 },
-}
-
-pub fn new_log(alloc: Global) -> Result<NewLog, Fail> {
-    let (log, passes) = RingLog::<Four>::new(alloc, Depth::Five, 4, 4)?;
-    Ok(NewLog { log, passes })
-}
-
-/// The eight parties of a log: party r owns replica r, and those from 4 on own none.
-pub fn parties<'a, K: OfLog>(
-    log: &'a RingLog<Four>,
-    alloc: Global,
-    mut passes: Vec<LogPass<Four>>,
-) -> Result<Vec<Party<'a, K>>, Fail>
-    requires log { log.now ≡ K.log }
-    requires passes { passes.items ≡ new_passes K.log 4 4 }
-    ensures { IfOk result (λ parties. vec_len parties ≡ 8) }
-{
-    let parties = [
-        Party::new(log, passes.remove(0), Some(0)),
-        Party::new(log, passes.remove(0), Some(1)),
-        Party::new(log, passes.remove(0), Some(2)),
-        Party::new(log, passes.remove(0), Some(3)),
-        Party::new(log, passes.remove(0), None),
-        Party::new(log, passes.remove(0), None),
-        Party::new(log, passes.remove(0), None),
-        Party::new(log, passes.remove(0), None),
-    ];
-    Ok(Vec::from_array(alloc, parties)?)
-}
-
-/// A thread's parties: one that owns the replica of the thread's number, and one that owns none.
-#[derive(Drop)]
-pub struct Pair<'a, K: OfLog> {
-    pub number: u32,
-    pub owner: Party<'a, K>,
-    pub other: Party<'a, K>,
-}
-
-/// The parties of a log, two for each of four threads.
-pub fn pairs<'a, K: OfLog>(
-    log: &'a RingLog<Four>,
-    alloc: Global,
-    passes: Vec<LogPass<Four>>,
-) -> Result<Vec<Pair<'a, K>>, Fail>
-    requires log { log.now ≡ K.log }
-    requires passes { passes.items ≡ new_passes K.log 4 4 }
-{
-    let mut all = parties::<K>(log, alloc, passes)?;
-    let mut pairs = Vec::new(alloc);
-    for number in 0..4 {
-        let owner = all.remove(0);
-        let other = all.remove(all.len() - 1);
-        pairs.push(Pair {
-            number,
-            owner,
-            other,
-        })?;
-    }
-    Ok(pairs)
-}
-
-impl<'a, K: OfLog> Party<'a, K> {
-    fn new(log: &'a RingLog<Four>, pass: LogPass<Four>, replica: Option<u8>) -> Party<'a, K>
+impl<'a, N: LogName, K: OfLog> Party<'a, N, K> {
+    pub fn new(log: &'a RingLog<N>, pass: LogPass<N>, depth: Depth) -> Party<'a, N, K>
         requires log { (log.now ≡ K.log) × (pass.log ≡ K.log) }
-        requires owner { (owned : ℕ) → replica ≡ Some owned → pass.view.owns ≡ owned ∷ [] }
+        requires depth { depth ≡ N.depth }
     {
         Party {
             log,
             pass,
-            replica,
+            depth,
             of: PhantomData,
         }
     }
 
     /// The replica that it owns.
-    pub fn replica(&self) -> Option<usize> {
-        self.replica.map(usize::from)
+    pub fn replica(&self) -> Option<u8> {
+        self.pass.replica()
     }
 
     pub fn look<R: Wait>(&mut self, rt: &R) -> Tails
-        ensures history { IsLogHistory Five 4 self.new.view.seen }
-        ensures tails { result ≡ tails_of (log_after 4 self.new.view.seen) }
+        ensures { result ≡ tails_of (log_after N.replicas self.new.view.seen) }
     {
         self.log.look(rt, &mut self.pass)
     }
 
     /// Appends an entry of this call.
     pub fn append<R: Wait + Abort>(&mut self, rt: &R, call: u32) -> Result<u32, AppendFault> {
-        assert!(rt; call < CALLS);
-        self.log.append(rt, &mut self.pass, &[far_entry(rt, call)])
+        let entry = entry(rt, self.depth, call);
+        self.log.append(rt, &mut self.pass, &[entry])
     }
 
     /// Appends 16 entries of this call.
     pub fn append_all<R: Wait + Abort>(&mut self, rt: &R, call: u32) -> Result<u32, AppendFault> {
-        assert!(rt; call < CALLS);
-        let batch = [far_entry(rt, call); 16];
+        let batch = [entry(rt, self.depth, call); 16];
         self.log.append(rt, &mut self.pass, &batch)
     }
 
     /// What its replica has still to take; nothing where it owns none.
     pub fn fetch<R: Wait>(&mut self, rt: &R) -> ArrayVec<LogEntry, 16> {
         let mut entries = ArrayVec::new();
-        if let Some(_) = self.replica {
+        if let Some(_) = self.pass.replica() {
             self.log.fetch(rt, &mut self.pass, &mut entries);
         }
         entries
     }
 
-    /// Looks, and advances its replica to the tail; it does nothing where it owns none.
-    pub fn advance<R: Wait>(&mut self, rt: &R) -> Result<(), Moved> {
+    /// Whether it fetches entries of these calls.
+    pub fn fetches<R: Wait + Abort>(&mut self, rt: &R, calls: &[u32]) -> bool {
+        let entries = self.fetch(rt);
+        if entries.len() != calls.len() {
+            return false;
+        }
+        for at in 0..calls.len() {
+            if entries[at] != entry(rt, self.depth, calls[at]) {
+                return false;
+            }
+        }
+        true
+    }
+
+    /// Looks, and advances its replica to this place; it does nothing where it owns none.
+    pub fn advance_to<R: Wait + Abort>(&mut self, rt: &R, to: u32) -> Result<(), Moved> {
         let tails = self.look(rt);
-        self.advance_to(rt, tails)
+        self.advance_from(rt, tails, to)
+    }
+
+    /// The same, to the tail.
+    pub fn advance<R: Wait + Abort>(&mut self, rt: &R) -> Result<(), Moved> {
+        let tails = self.look(rt);
+        self.advance_from(rt, tails, tails.tail)
     }
 
     /// Looks, and advances its replica to the tail that it saw after another party has appended an entry of this call.
     pub fn advance_late<R: Wait + Abort>(
         &mut self,
         rt: &R,
-        other: &mut Party<'a, K>,
+        other: &mut Party<'a, N, K>,
         call: u32,
     ) -> Result<(), Moved> {
         let tails = self.look(rt);
-        assert_eq!(rt; other.append(rt, call), Ok(tails.tail));
-        self.advance_to(rt, tails)
+        assert!(rt; other.append(rt, call) == Ok(tails.tail));
+        self.advance_from(rt, tails, tails.tail)
     }
 
     /// Looks, waits for the other threads twice and then a while, and advances its replica to the tail that it saw.
-    pub fn advance_after<R: Wait>(
+    pub fn advance_after<R: Wait + Abort>(
         &mut self,
         rt: &R,
         start: &Start,
@@ -224,22 +184,25 @@ impl<'a, K: OfLog> Party<'a, K> {
         start.wait(rt);
         start.wait(rt);
         start.linger(pause);
-        self.advance_to(rt, tails)
+        self.advance_from(rt, tails, tails.tail)
     }
 
-    fn advance_to<R: Wait>(&mut self, rt: &R, tails: Tails) -> Result<(), Moved>
-        requires history { IsLogHistory Five 4 self.old.view.seen }
-        requires tails { tails ≡ tails_of (log_after 4 self.old.view.seen) }
+    /// Advances its replica from its local tail, where nothing is exchanged, to a place. These tails are those that it has seen.
+    fn advance_from<R: Wait + Abort>(&mut self, rt: &R, tails: Tails, to: u32) -> Result<(), Moved>
+        requires { tails ≡ tails_of (log_after N.replicas self.old.view.seen) }
     {
-        let Some(_) = self.replica else {
+        let Some(replica) = self.pass.replica() else {
             return Ok(());
         };
-        needed_entries_fit_the_ring();
-        self.log.advance(rt, &mut self.pass, tails.tail)
+        assert!(rt; replica < 4);
+        let local = local(&tails, replica);
+        assert!(rt; local <= to && to <= tails.tail);
+        assert!(rt; self.log.advance(rt, &mut self.pass, local).is_ok());
+        self.log.advance(rt, &mut self.pass, to)
     }
 
     /// Tells another party what this one has seen.
-    pub fn tell<R: Wait>(&mut self, rt: &R, told: &mut Party<'a, K>) {
+    pub fn tell<R: Wait>(&mut self, rt: &R, told: &mut Party<'a, N, K>) {
         self.log.meet(rt, &mut self.pass, &mut told.pass);
     }
 }

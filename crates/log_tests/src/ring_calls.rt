@@ -1,11 +1,9 @@
 //! Each call on a log of four replicas at five levels, by each party, after an event of each other: a call that tells what its
 //! pass saw before meets every clause.
-ghost use Rattle.std.specs.Prelude.{◌≡◌};
 
-use crate::party::{NewLog, OfLog, Party, new_log, parties};
-use nr_ring::{AppendFault, Moved, Tails};
-use std::alloc::Global;
-use std::marker::Brand;
+use crate::party::{OfLog, Party};
+use crate::scene::{OF_FOUR, Test, run};
+use nr_ring::{AppendFault, LogName, Moved, Tails};
 use std::process::Abort;
 use std::sync::Wait;
 use std::test::Fail;
@@ -40,48 +38,58 @@ static CALLS: [Call; 7] = [
 ];
 
 /// Looks, and is to see these tails.
-fn look<K: OfLog, R: Wait + Abort>(rt: &R, party: &mut Party<K>, tails: &Tails) {
-    assert_eq!(rt; party.look(rt), *tails);
+fn look<N: LogName, K: OfLog, R: Wait + Abort>(rt: &R, party: &mut Party<N, K>, tails: &Tails) {
+    assert!(rt; party.look(rt) == *tails);
 }
 
 /// Appends an entry, of which the call is its place.
-fn append<K: OfLog, R: Wait + Abort>(rt: &R, party: &mut Party<K>, tails: &mut Tails) {
+fn append<N: LogName, K: OfLog, R: Wait + Abort>(
+    rt: &R,
+    party: &mut Party<N, K>,
+    tails: &mut Tails,
+) {
     let place = tails.tail;
-    assert_eq!(rt; party.append(rt, place), Ok(place));
+    assert!(rt; party.append(rt, place) == Ok(place));
     tails.tail = place.saturating_add(1);
 }
 
 /// Its replica takes all entries.
-fn advance<K: OfLog, R: Wait + Abort>(rt: &R, party: &mut Party<K>, tails: &mut Tails) {
-    assert_eq!(rt; party.advance(rt), Ok(()));
+fn advance<N: LogName, K: OfLog, R: Wait + Abort>(
+    rt: &R,
+    party: &mut Party<N, K>,
+    tails: &mut Tails,
+) {
+    assert!(rt; party.advance(rt).is_ok());
     let tail = tails.tail;
     let Some(replica) = party.replica() else {
         return;
     };
     assert!(rt; replica < 4);
-    tails.local[replica] = tail;
+    tails.local[usize::from(replica)] = tail;
     tails.completed = tail;
 }
 
 /// Fetches, and is to get all entries that its replica has still to take.
-fn fetch<K: OfLog, R: Wait + Abort>(rt: &R, party: &mut Party<K>, tails: &Tails) {
-    let entries = party.fetch(rt);
+fn fetch<N: LogName, K: OfLog, R: Wait + Abort>(rt: &R, party: &mut Party<N, K>, tails: &Tails) {
     let Some(replica) = party.replica() else {
         return;
     };
     assert!(rt; replica < 4);
-    let local = tails.local[replica];
-    assert_eq!(rt; entries.len() as u32, tails.tail.saturating_sub(local));
-    for (at, entry) in entries.as_slice().iter().enumerate() {
-        assert_eq!(rt; entry.call, local.saturating_add(at as u32));
+    let local = tails.local[usize::from(replica)];
+    let count = tails.tail.saturating_sub(local);
+    assert!(rt; count <= 16);
+    let mut calls = [0; 16];
+    for at in 0..16 {
+        calls[at] = local.saturating_add(at as u32);
     }
+    assert!(rt; party.fetches(rt, &calls[..count as usize]));
 }
 
 /// The other makes its call, after the first has made an event.
-fn make_call<'a, K: OfLog, R: Wait + Abort>(
+fn make_call<'a, N: LogName, K: OfLog, R: Wait + Abort>(
     rt: &R,
-    first: &mut Party<'a, K>,
-    other: &mut Party<'a, K>,
+    first: &mut Party<'a, N, K>,
+    other: &mut Party<'a, N, K>,
     call: Call,
     tails: &mut Tails,
 ) {
@@ -91,14 +99,14 @@ fn make_call<'a, K: OfLog, R: Wait + Abort>(
         Call::Append => append(rt, other, tails),
         Call::AppendFull => {
             let full = AppendFault::Full(*tails);
-            assert_eq!(rt; other.append_all(rt, tails.tail), Err(full));
+            assert!(rt; other.append_all(rt, tails.tail) == Err(full));
         }
         Call::AdvanceLate => {
             let place = tails.tail;
             let late = other.advance_late(rt, first, place);
             tails.tail = place.saturating_add(1);
             let owns = other.replica().is_some();
-            assert_eq!(rt; late, if owns { Err(Moved) } else { Ok(()) });
+            assert!(rt; late == if owns { Err(Moved) } else { Ok(()) });
         }
         Call::Tell => {
             other.tell(rt, first);
@@ -116,10 +124,10 @@ fn make_call<'a, K: OfLog, R: Wait + Abort>(
 }
 
 /// The first party makes an event: an append, or an advance past an entry that the other appended.
-fn make_event<'a, K: OfLog, R: Wait + Abort>(
+fn make_event<'a, N: LogName, K: OfLog, R: Wait + Abort>(
     rt: &R,
-    first: &mut Party<'a, K>,
-    other: &mut Party<'a, K>,
+    first: &mut Party<'a, N, K>,
+    other: &mut Party<'a, N, K>,
     event: Event,
     tails: &mut Tails,
 ) {
@@ -133,10 +141,10 @@ fn make_event<'a, K: OfLog, R: Wait + Abort>(
 }
 
 /// All replicas take all entries, and all parties look.
-fn settle<'a, K: OfLog, R: Wait + Abort>(
+fn settle<'a, N: LogName, K: OfLog, R: Wait + Abort>(
     rt: &R,
-    first: &mut Party<'a, K>,
-    others: &mut [Party<'a, K>],
+    first: &mut Party<'a, N, K>,
+    others: &mut [Party<'a, N, K>],
     tails: &mut Tails,
 ) {
     advance(rt, first, tails);
@@ -150,10 +158,10 @@ fn settle<'a, K: OfLog, R: Wait + Abort>(
 }
 
 /// The first party makes each event, and one of the others each call after it.
-fn all_calls<'a, K: OfLog, R: Wait + Abort>(
+fn all_calls<'a, N: LogName, K: OfLog, R: Wait + Abort>(
     rt: &R,
-    first: &mut Party<'a, K>,
-    others: &mut [Party<'a, K>],
+    first: &mut Party<'a, N, K>,
+    others: &mut [Party<'a, N, K>],
     at: usize,
     tails: &mut Tails,
 ) {
@@ -167,11 +175,12 @@ fn all_calls<'a, K: OfLog, R: Wait + Abort>(
     }
 }
 
-fn each_call<K: OfLog, R: Wait + Abort>(rt: &R, alloc: Global, new: NewLog) -> Result<(), Fail>
-    requires { new.log ≡ K.log }
-{
-    let NewLog { log, passes } = new;
-    let mut all = parties::<K>(&log, alloc, passes)?;
+/// Each party makes each event, and each of the others each call after it.
+pub fn each_call<'a, N: LogName, K: OfLog, R: Wait + Abort>(
+    rt: &R,
+    parties: Vec<Party<'a, N, K>>,
+) -> Result<(), Fail> {
+    let mut all = parties;
     let mut tails = Tails {
         tail: 0,
         completed: 0,
@@ -190,6 +199,5 @@ fn each_call<K: OfLog, R: Wait + Abort>(rt: &R, alloc: Global, new: NewLog) -> R
 
 #[test]
 fn each_call_after_each_event(rt: HostRuntime) -> Result<(), Fail> {
-    let new = new_log(rt.alloc())?;
-    each_call::<Brand, HostRuntime>(&rt, rt.alloc(), new)
+    run(&rt, rt.alloc(), OF_FOUR, Test::EachCall)
 }

@@ -1,10 +1,10 @@
 //! No look is older than what had returned before it began. No clause says so: a pass that tells what it saw before meets them all.
-ghost use Rattle.std.specs.Prelude.{◌≡◌};
 
-use crate::party::{NewLog, OfLog, Pair, Party, new_log, pairs};
-use nr_ring::{AppendFault, Tails};
+use crate::pair::{Pair, pairs};
+use crate::party::{OfLog, Party, is_later};
+use crate::scene::{OF_FOUR, Test, run};
+use nr_ring::{AppendFault, LogName, Tails};
 use std::alloc::Global;
-use std::marker::Brand;
 use std::process::Abort;
 use std::sync::Wait;
 use std::sync::atomic::{AtomicU32, Ordering};
@@ -43,32 +43,41 @@ impl Told {
     fn raise(&self, tails: Tails) {
         self.tail.fetch_max(tails.tail, Ordering::SeqCst);
         self.completed.fetch_max(tails.completed, Ordering::SeqCst);
-        for (told, local) in self.local.iter().zip(tails.local.iter()) {
-            told.fetch_max(*local, Ordering::SeqCst);
+        for at in 0..4 {
+            self.local[at].fetch_max(tails.local[at], Ordering::SeqCst);
+        }
+    }
+
+    /// What calls have told up to now.
+    fn now(&self) -> Tails {
+        Tails {
+            tail: self.tail.load(Ordering::SeqCst),
+            completed: self.completed.load(Ordering::SeqCst),
+            local: [
+                self.local[0].load(Ordering::SeqCst),
+                self.local[1].load(Ordering::SeqCst),
+                self.local[2].load(Ordering::SeqCst),
+                self.local[3].load(Ordering::SeqCst),
+            ],
         }
     }
 
     /// Looks, and sees at least what was told before.
-    fn look<K: OfLog, R: Wait + Abort>(&self, rt: &R, party: &mut Party<K>) -> Tails {
-        let tail = self.tail.load(Ordering::SeqCst);
-        let completed = self.completed.load(Ordering::SeqCst);
-        let mut before = [0; 4];
-        for (local, told) in before.iter_mut().zip(self.local.iter()) {
-            *local = told.load(Ordering::SeqCst);
-        }
+    fn look<N: LogName, K: OfLog, R: Wait + Abort>(&self, rt: &R, party: &mut Party<N, K>) {
+        let before = self.now();
         let tails = party.look(rt);
-        assert!(rt; tail <= tails.tail);
-        assert!(rt; completed <= tails.completed);
-        for (now, local) in tails.local.iter().zip(before.iter()) {
-            assert!(rt; local <= now);
-        }
+        assert!(rt; is_later(&tails, &before));
         self.raise(tails);
-        tails
     }
 }
 
 /// An append, which may be refused where the replicas are late or another's event comes between.
-fn append<K: OfLog, R: Wait + Abort>(rt: &R, party: &mut Party<K>, call: u32, told: &Told) {
+fn append<N: LogName, K: OfLog, R: Wait + Abort>(
+    rt: &R,
+    party: &mut Party<N, K>,
+    call: u32,
+    told: &Told,
+) {
     match party.append(rt, call) {
         Ok(place) => {
             told.tail
@@ -79,7 +88,7 @@ fn append<K: OfLog, R: Wait + Abort>(rt: &R, party: &mut Party<K>, call: u32, to
     }
 }
 
-impl<'a, K: OfLog> Pair<'a, K> {
+impl<'a, N: LogName, K: OfLog> Pair<'a, N, K> {
     /// One call of eight kinds, and then a look by each party.
     fn act<R: Wait + Abort>(&mut self, rt: &R, round: u32, told: &Told) {
         match (self.number % 8 + round % 8) % 8 {
@@ -90,40 +99,34 @@ impl<'a, K: OfLog> Pair<'a, K> {
             2 => self.owner.tell(rt, &mut self.other),
             4 => append(rt, &mut self.other, round, told),
             6 => self.other.tell(rt, &mut self.owner),
-            _ => {
-                told.look(rt, &mut self.other);
-            }
+            _ => told.look(rt, &mut self.other),
         }
         told.look(rt, &mut self.owner);
         told.look(rt, &mut self.other);
     }
 }
 
-fn all_rounds<K: OfLog, R: Wait + Abort>(rt: &R, mut pair: Pair<K>, told: &Told) {
+fn all_rounds<N: LogName, K: OfLog, R: Wait + Abort>(rt: &R, mut pair: Pair<N, K>, told: &Told) {
     for round in 0..ROUNDS {
         pair.act(rt, round, told);
     }
 }
 
-fn run_rounds<K: OfLog + Send + Sync, R: Wait + Abort + Threads + Sync>(
-    rt: &R,
-    alloc: Global,
-    new: NewLog,
-) -> Result<(), Fail>
-    requires { new.log ≡ K.log }
-{
-    let NewLog { log, passes } = new;
-    let all = pairs::<K>(&log, alloc, passes)?;
+pub fn run_rounds<
+    N: LogName + Send + Sync,
+    K: OfLog + Send + Sync,
+    R: Wait + Abort + Threads + Sync,
+>(rt: &R, alloc: Global, parties: Vec<Party<N, K>>) -> Result<(), Fail> {
+    let all = pairs(rt, alloc, parties)?;
     let told = Told::new();
-    thread::map_vec(rt, all, &|pair: Pair<K>| all_rounds(rt, pair, &told))?;
+    thread::map_vec(rt, all, &|pair: Pair<N, K>| all_rounds(rt, pair, &told))?;
     Ok(())
 }
 
 #[test]
 fn no_look_is_old(rt: HostRuntime) -> Result<(), Fail> {
     for _ in 0..LOGS {
-        let new = new_log(rt.alloc())?;
-        run_rounds::<Brand, HostRuntime>(&rt, rt.alloc(), new)?;
+        run(&rt, rt.alloc(), OF_FOUR, Test::Rounds)?;
     }
     Ok(())
 }

@@ -1,13 +1,14 @@
 //! Short rounds in which four threads make calls at the same time. After each round all of them look, while nobody makes an event:
 //! a pass that took its words for those of the cell though another's exchange was under way then tells old tails.
-ghost use Rattle.std.specs.Prelude.{◌≡◌, ◌≤◌};
+ghost use Rattle.std.specs.Prelude.{◌≤◌};
 
-use crate::party::{NewLog, OfLog, Pair, new_log, pairs};
+use crate::pair::{Pair, pairs};
+use crate::party::{OfLog, Party};
+use crate::scene::{OF_FOUR, Test, run};
 use crate::start::Start;
 use crossbeam_utils::Backoff;
-use nr_ring::{Moved, Tails};
+use nr_ring::{LogName, Moved, Tails};
 use std::alloc::Global;
-use std::marker::Brand;
 use std::process::Abort;
 use std::sync::Wait;
 use std::test::Fail;
@@ -20,7 +21,7 @@ const LOGS: u32 = 1;
 /// How many rounds there are on each. Each round appends two entries, and a log has 65,536 at most.
 const ROUNDS: u32 = 1_000;
 
-impl<'a, K: OfLog> Pair<'a, K> {
+impl<'a, N: LogName, K: OfLog> Pair<'a, N, K> {
     /// What the thread does in a round, from 0 to 3.
     fn part(&self, round: u32) -> u32 {
         (self.number % 4 + round % 4) % 4
@@ -34,16 +35,16 @@ impl<'a, K: OfLog> Pair<'a, K> {
         let tail = 2 * round;
         if self.part(round) == 1 {
             let moved = self.owner.advance_after(rt, start, round % 61);
-            assert_eq!(rt; moved, if round == 0 { Ok(()) } else { Err(Moved) });
+            assert!(rt; moved == if round == 0 { Ok(()) } else { Err(Moved) });
             return;
         }
         start.wait(rt);
         if self.part(round) == 0 {
-            assert_eq!(rt; self.owner.append(rt, tail), Ok(tail));
+            assert!(rt; self.owner.append(rt, tail) == Ok(tail));
         }
         start.wait(rt);
         match self.part(round) {
-            0 => assert_eq!(rt; self.owner.append(rt, tail + 1), Ok(tail + 1)),
+            0 => assert!(rt; self.owner.append(rt, tail + 1) == Ok(tail + 1)),
             2 => {
                 start.linger(round % 53);
                 self.other.look(rt);
@@ -68,12 +69,12 @@ impl<'a, K: OfLog> Pair<'a, K> {
             completed: taken,
             local,
         };
-        assert_eq!(rt; self.owner.look(rt), tails, "round {round}");
-        assert_eq!(rt; self.other.look(rt), tails, "round {round}");
+        assert!(rt; self.owner.look(rt) == tails);
+        assert!(rt; self.other.look(rt) == tails);
     }
 
     /// Its replica takes all entries, but where it is to be late in the next round.
-    fn catch_up<R: Wait>(&mut self, rt: &R, round: u32) {
+    fn catch_up<R: Wait + Abort>(&mut self, rt: &R, round: u32) {
         if self.part(round) == 0 {
             return;
         }
@@ -89,7 +90,7 @@ impl<'a, K: OfLog> Pair<'a, K> {
 }
 
 /// One thread's rounds.
-fn all_rounds<K: OfLog, R: Wait + Abort>(rt: &R, mut pair: Pair<K>, start: &Start) {
+fn all_rounds<N: LogName, K: OfLog, R: Wait + Abort>(rt: &R, mut pair: Pair<N, K>, start: &Start) {
     for round in 0..ROUNDS {
         pair.race(rt, start, round);
         start.wait(rt);
@@ -99,25 +100,21 @@ fn all_rounds<K: OfLog, R: Wait + Abort>(rt: &R, mut pair: Pair<K>, start: &Star
     }
 }
 
-fn run_races<K: OfLog + Send + Sync, R: Wait + Abort + Threads + Sync>(
-    rt: &R,
-    alloc: Global,
-    new: NewLog,
-) -> Result<(), Fail>
-    requires { new.log ≡ K.log }
-{
-    let NewLog { log, passes } = new;
-    let all = pairs::<K>(&log, alloc, passes)?;
+pub fn run_races<
+    N: LogName + Send + Sync,
+    K: OfLog + Send + Sync,
+    R: Wait + Abort + Threads + Sync,
+>(rt: &R, alloc: Global, parties: Vec<Party<N, K>>) -> Result<(), Fail> {
+    let all = pairs(rt, alloc, parties)?;
     let start = Start::new();
-    thread::map_vec(rt, all, &|pair: Pair<K>| all_rounds(rt, pair, &start))?;
+    thread::map_vec(rt, all, &|pair: Pair<N, K>| all_rounds(rt, pair, &start))?;
     Ok(())
 }
 
 #[test]
 fn looks_after_races(rt: HostRuntime) -> Result<(), Fail> {
     for _ in 0..LOGS {
-        let new = new_log(rt.alloc())?;
-        run_races::<Brand, HostRuntime>(&rt, rt.alloc(), new)?;
+        run(&rt, rt.alloc(), OF_FOUR, Test::Races)?;
     }
     Ok(())
 }

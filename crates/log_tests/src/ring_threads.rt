@@ -1,79 +1,51 @@
-ghost use Rattle.std.specs.Prelude.{◌≡◌, ◌<◌, [], ◌∷◌};
-ghost use Rattle.vs_types.specs.declared.depth.Depth.TheVariants.{Four};
-ghost use Rattle.vs_types.specs.declared.limits.TheConstants.{CALLS};
-ghost use Rattle.nr_ring.specs.Calls.{HasLooked};
-ghost use Rattle.nr_ring.specs.LogHistory.{log_after};
-ghost use Rattle.nr_ring.specs.Pass.{tails_of};
+//! Threads that append and take entries at the same time, until the replicas have taken all.
 
-use crate::ring::{Two, entry};
-use arrayvec::ArrayVec;
+use crate::party::{OfLog, Party, is_later};
+use crate::scene::{Layout, Test, run};
 use crossbeam_utils::Backoff;
-use nr_ring::{AppendFault, LogPass, RingLog, Tails};
+use nr_ring::{AppendFault, LogName, Tails};
+use std::alloc::Global;
 use std::process::Abort;
 use std::sync::Wait;
 use std::sync::atomic::{AtomicU64, Ordering};
 use std::test::Fail;
-use std::thread::join;
+use std::thread;
+use std::thread::Threads;
 use vs_types::Depth;
 
-/// How many entries each thread appends.
+/// How many entries each of two threads appends.
 const ROUNDS: u32 = 10_000;
 
 /// Looks, and sees all entries that a thread had appended or seen before.
-fn look_now<R: Wait + Abort>(
+fn look_now<N: LogName, K: OfLog, R: Wait + Abort>(
     rt: &R,
-    log: &RingLog<Two>,
-    pass: &mut LogPass<Two>,
+    party: &mut Party<N, K>,
     known: &AtomicU64,
-) -> Tails
-    requires log { pass.old.log ≡ log.now }
-    ensures log { pass.new.log ≡ pass.old.log }
-    ensures looked { HasLooked Four 2 pass.old.view pass.new.view }
-    ensures tails { result ≡ tails_of (log_after 2 pass.new.view.seen) }
-{
+) -> Tails {
     let before = known.load(Ordering::SeqCst);
-    let tails = log.look(rt, pass);
+    let tails = party.look(rt);
     let tail = u64::from(tails.tail);
     assert!(rt; before <= tail);
     known.fetch_max(tail, Ordering::SeqCst);
     tails
 }
 
-/// Whether no tail is below that of an earlier log.
-fn is_later(later: Tails, earlier: Tails) -> bool {
-    let mut locals = earlier.local.iter().zip(later.local.iter());
-    earlier.tail <= later.tail
-        && earlier.completed <= later.completed
-        && locals.all(|(before, now)| before <= now)
-}
-
 /// Fetches the entries that the replica has still to take, and advances past them where no other thread's event comes between. It
 /// adds the calls of those that it took.
-fn take<R: Wait + Abort>(
+fn take<N: LogName, K: OfLog, R: Wait + Abort>(
     rt: &R,
-    log: &RingLog<Two>,
-    pass: &mut LogPass<Two>,
-    replica: usize,
+    party: &mut Party<N, K>,
+    replica: u8,
     known: &AtomicU64,
     taken: &mut Vec<u32>,
-)
-    requires log { pass.old.log ≡ log.now }
-    requires owner { (replica < 2) × (pass.old.view.owns ≡ replica ∷ []) }
-    ensures log { pass.new.log ≡ pass.old.log }
-    ensures owns { pass.new.view.owns ≡ pass.old.view.owns }
-{
-    let mut entries = ArrayVec::new();
-    log.fetch(rt, pass, &mut entries);
-    let tails = look_now(rt, log, pass, known);
-    let local = if replica == 0 {
-        tails.local[0]
-    } else {
-        tails.local[1]
-    };
-    assert_eq!(rt; local as usize, taken.len());
+) {
+    let entries = party.fetch(rt);
+    let tails = look_now(rt, party, known);
+    assert!(rt; replica < 4);
+    let local = tails.local[usize::from(replica)];
+    assert!(rt; local as usize == taken.len());
     let to = local.saturating_add(entries.len() as u32);
-    assert!(rt; to <= tails.tail);
-    if log.advance(rt, pass, to).is_ok() {
+    if party.advance_to(rt, to).is_ok() {
         for entry in entries.as_slice() {
             taken.push(entry.call).expect(rt, "memory");
         }
@@ -81,35 +53,27 @@ fn take<R: Wait + Abort>(
 }
 
 /// Appends one entry. While the log is full it takes entries, so that the other thread gets on.
-fn append_one<R: Wait + Abort>(
+fn append<N: LogName, K: OfLog, R: Wait + Abort>(
     rt: &R,
-    log: &RingLog<Two>,
-    pass: &mut LogPass<Two>,
-    replica: usize,
+    party: &mut Party<N, K>,
+    replica: u8,
     call: u32,
     known: &AtomicU64,
     taken: &mut Vec<u32>,
-)
-    requires log { pass.old.log ≡ log.now }
-    requires owner { (replica < 2) × (pass.old.view.owns ≡ replica ∷ []) }
-    requires call { call < CALLS }
-    ensures log { pass.new.log ≡ pass.old.log }
-    ensures owns { pass.new.view.owns ≡ pass.old.view.owns }
-{
-    let one = [entry(rt, call)];
+) {
     let backoff = Backoff::new();
     for _ in rt.forever() {
-        let seen = look_now(rt, log, pass, known);
-        match log.append(rt, pass, one.as_slice()) {
+        let seen = look_now(rt, party, known);
+        match party.append(rt, call) {
             Ok(place) => {
                 known.fetch_max(u64::from(place) + 1, Ordering::SeqCst);
                 return;
             }
             Err(AppendFault::LogEnded) => panic!(rt; "the log ended"),
-            Err(AppendFault::Moved(tails)) => assert!(rt; is_later(tails, seen)),
+            Err(AppendFault::Moved(tails)) => assert!(rt; is_later(&tails, &seen)),
             Err(AppendFault::Full(tails)) => {
-                assert!(rt; is_later(tails, seen));
-                take(rt, log, pass, replica, known, taken);
+                assert!(rt; is_later(&tails, &seen));
+                take(rt, party, replica, known, taken);
             }
         }
         backoff.snooze();
@@ -117,79 +81,65 @@ fn append_one<R: Wait + Abort>(
     unreachable!()
 }
 
-/// One thread's part: it appends its entries, advances after each, and goes on until its replica has taken all entries of both
-/// threads. The calls of these, in order.
-fn work<R: Wait + Abort>(
+/// One thread's part. One whose party owns a replica appends its entries, advances after each, and goes on until its replica has
+/// taken all entries of both threads; the other looks until all are there. The calls of the entries that it took, in order.
+fn work<N: LogName, K: OfLog, R: Wait + Abort>(
     rt: &R,
-    log: &RingLog<Two>,
-    pass: &mut LogPass<Two>,
-    replica: u32,
+    alloc: Global,
+    mut party: Party<N, K>,
     known: &AtomicU64,
-    taken: &mut Vec<u32>,
-)
-    requires log { pass.old.log ≡ log.now }
-    requires owner { (replica < 2) × (pass.old.view.owns ≡ replica ∷ []) }
-    ensures log { pass.new.log ≡ pass.old.log }
-{
-    for round in 0..ROUNDS {
-        let call = 2 * round + replica;
-        append_one(rt, log, pass, replica as usize, call, known, taken);
-        take(rt, log, pass, replica as usize, known, taken);
+) -> Vec<u32> {
+    let mut taken = Vec::new(alloc);
+    let owned = party.replica();
+    if let Some(replica) = owned {
+        for round in 0..ROUNDS {
+            let call = 2 * round + u32::from(replica);
+            append(rt, &mut party, replica, call, known, &mut taken);
+            take(rt, &mut party, replica, known, &mut taken);
+        }
     }
     let backoff = Backoff::new();
     for _ in rt.forever() {
-        if taken.len() == 20_000 {
-            return;
+        match owned {
+            Some(replica) => take(rt, &mut party, replica, known, &mut taken),
+            None if look_now(rt, &mut party, known).tail == 20_000 => return taken,
+            None => {}
         }
-        take(rt, log, pass, replica as usize, known, taken);
+        if taken.len() == 20_000 {
+            return taken;
+        }
         backoff.snooze();
     }
     unreachable!()
 }
 
-/// Looks until all entries of both threads are there.
-fn watch<R: Wait + Abort>(rt: &R, log: &RingLog<Two>, pass: &mut LogPass<Two>, known: &AtomicU64)
-    requires log { pass.old.log ≡ log.now }
-{
-    for _ in rt.forever() {
-        if look_now(rt, log, pass, known).tail == 20_000 {
-            return;
-        }
+/// The parties of a log of two replicas, each in a thread of its own. Both replicas take the same entries in the same order, and each
+/// thread's in the order in which it appended them.
+pub fn share<N: LogName + Send + Sync, K: OfLog + Send + Sync, R: Wait + Abort + Threads + Sync>(
+    rt: &R,
+    alloc: Global,
+    parties: Vec<Party<N, K>>,
+) -> Result<(), Fail> {
+    let known = AtomicU64::new(0);
+    let taken = thread::map_vec(
+        rt,
+        parties,
+        &|party: Party<N, K>| work(rt, alloc, party, &known),
+    )?;
+    let here = taken.first().ok_or("the first thread's")?;
+    let there = taken.get(1).ok_or("the second thread's")?;
+    assert!(rt; here == there);
+    let mut next = [0, 0];
+    for call in here.as_slice() {
+        let thread = (call % 2) as usize;
+        assert!(rt; call / 2 == next[thread]);
+        next[thread] = call / 2 + 1;
     }
-    unreachable!()
+    assert!(rt; next == [ROUNDS, ROUNDS]);
+    Ok(())
 }
 
 #[test]
 fn two_threads_share_a_log(rt: HostRuntime) -> Result<(), Fail> {
-    let (log, mut passes) = RingLog::<Two>::new(rt.alloc(), Depth::Four, 2, 1)?;
-    let mut first = passes.remove(0);
-    let mut second = passes.remove(0);
-    let mut third = passes.remove(0);
-    let mut here = Vec::new(rt.alloc());
-    let mut there = Vec::new(rt.alloc());
-    let known = AtomicU64::new(0);
-    join(
-        &rt,
-        || work(&rt, &log, &mut first, 0, &known, &mut here),
-        ||
-            requires log { (second.log ≡ log) × (third.log ≡ log) }
-            requires owner { second.view.owns ≡ 1 ∷ [] }
-        {
-            join(
-                &rt,
-                || work(&rt, &log, &mut second, 1, &known, &mut there),
-                || watch(&rt, &log, &mut third, &known),
-            );
-        },
-    );
-    // both replicas took the same entries in the same order, and each thread's in the order in which it appended them
-    assert_eq!(rt; here, there);
-    let mut next = [0, 0];
-    for call in here.as_slice() {
-        let thread = (call % 2) as usize;
-        assert_eq!(rt; call / 2, next[thread]);
-        next[thread] = call / 2 + 1;
-    }
-    assert_eq!(rt; next, [ROUNDS, ROUNDS]);
-    Ok(())
+    run(&rt, rt.alloc(), Layout::new(Depth::Four, 2, 1), Test::Share)
 }

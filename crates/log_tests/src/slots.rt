@@ -1,29 +1,137 @@
-ghost use Rattle.std.specs.Prelude.{◌≡◌, ◌+◌, ◌<◌, ◌≤◌};
-ghost use Rattle.vs_types.specs.declared.limits.TheConstants.{CALLS};
+//! Each call on slots in each state of a slot.
+ghost use Rattle.std.specs.Prelude.{◌≡◌};
 
 use arrayvec::ArrayVec;
-use nr_slots::{Answered, NotTaken, Occupied, Slots, Waiting};
+use nr_slots::{Answered, NotTaken, Slots};
+use std::alloc::Global;
 use std::process::Abort;
 use std::sync::Wait;
 use std::test::Fail;
 use vs_types::{Answer, CALLS, Depth, Op, Rights, Size};
 
-/// What a thread posts and is answered. Each has a call, an operation, a place and an answer of its own; thread 0 has call 0
-/// and the last place, thread 63 place 0.
-fn own(rt: &impl Abort, thread: u16) -> Answered
-    requires { thread < 64 }
-    ensures { (result.thread ≡ thread) × (result.call < CALLS) }
-{
-    let number = u64::from(thread);
-    let base = 0x200000 * (number + 1);
+/// What a thread does with its slot, and what it is told.
+#[derive(Clone, Copy)]
+enum Does {
+    /// It posts its update.
+    Posts,
+    /// Its update is refused.
+    PostsAgain,
+    /// Another update is refused.
+    PostsInVain,
+    /// Its update is answered.
+    Answers,
+    /// That is refused.
+    AnswersAgain,
+    /// Another answer to its call is refused.
+    AnswersInVain,
+    /// It polls its answer.
+    Polls,
+    /// It has none, and an answer to another call or of no thread is refused.
+    HasNoAnswer,
+}
+
+/// A step on slots.
+#[derive(Clone, Copy)]
+enum Step {
+    /// Each of so many threads, by rising number from this one on, does these in turn.
+    Each(u16, u16, &'static [Does]),
+    /// The 64 threads post, by falling number.
+    AllPost,
+    /// A collect takes the updates of so many threads, from this one on.
+    Collects(u16, u16),
+}
+
+/// No clause says what the locked calls do to a slot. Each call is tried on each of 64 slots in each of its states. What is
+/// refused is another update or answer than the slot has, and changes nothing.
+static EACH_STATE: [Step; 21] = [
+    Step::Each(0, 64, &[Does::HasNoAnswer, Does::AnswersInVain]),
+    Step::Collects(0, 0),
+    Step::AllPost,
+    Step::Each(
+        0,
+        64,
+        &[Does::PostsInVain, Does::AnswersInVain, Does::HasNoAnswer],
+    ),
+    Step::Collects(0, 16),
+    Step::Each(0, 16, &[Does::PostsInVain, Does::HasNoAnswer]),
+    Step::Each(
+        0,
+        16,
+        &[Does::Answers, Does::AnswersInVain, Does::PostsInVain],
+    ),
+    Step::Collects(16, 16),
+    Step::Each(16, 16, &[Does::PostsInVain, Does::HasNoAnswer]),
+    Step::Each(
+        16,
+        16,
+        &[Does::Answers, Does::AnswersInVain, Does::PostsInVain],
+    ),
+    Step::Collects(32, 16),
+    Step::Each(32, 16, &[Does::PostsInVain, Does::HasNoAnswer]),
+    Step::Each(
+        32,
+        16,
+        &[Does::Answers, Does::AnswersInVain, Does::PostsInVain],
+    ),
+    Step::Collects(48, 16),
+    Step::Each(48, 16, &[Does::PostsInVain, Does::HasNoAnswer]),
+    Step::Each(
+        48,
+        16,
+        &[Does::Answers, Does::AnswersInVain, Does::PostsInVain],
+    ),
+    Step::Collects(0, 0),
+    Step::Each(
+        0,
+        64,
+        &[Does::Polls, Does::AnswersInVain, Does::HasNoAnswer],
+    ),
+    Step::Collects(0, 0),
+    Step::Each(40, 1, &[Does::Posts]),
+    Step::Collects(40, 1),
+];
+
+static ROUND_TRIP: [Step; 3] = [
+    Step::Each(1, 1, &[Does::Posts, Does::PostsAgain]),
+    Step::Collects(1, 1),
+    Step::Each(
+        1,
+        1,
+        &[
+            Does::Answers,
+            Does::AnswersAgain,
+            Does::Polls,
+            Does::HasNoAnswer,
+            Does::Posts,
+        ],
+    ),
+];
+
+/// On the last of the most slots that there can be.
+static LAST_THREAD: [Step; 3] = [
+    Step::Each(65_534, 1, &[Does::Posts]),
+    Step::Collects(65_534, 1),
+    Step::Each(65_534, 1, &[Does::Answers, Does::Polls]),
+];
+
+static NO_THREAD: [Step; 2] = [
+    Step::Collects(0, 0),
+    Step::Each(0, 1, &[Does::AnswersAgain]),
+];
+
+/// What a thread posts and is answered. Of the threads 0 to 63 each has a call, an operation, a place and an answer of its own;
+/// thread 0 has call 0 and the last place, thread 63 place 0.
+fn of_thread(rt: &impl Abort, thread: u16) -> Answered {
+    let number = thread.min(63);
+    let base = 0x200000 * (u64::from(number) + 1);
     let rights = Rights {
-        write: thread < 32,
+        write: number < 32,
         ..Rights::ALL
     };
     let answers = [
         Answer::Overlap(base),
         Answer::Done,
-        Answer::Full(number + 4),
+        Answer::Full(u64::from(number) + 4),
         Answer::Removed(base, Size::M2, rights),
         Answer::NotMapped,
         Answer::Inside(base),
@@ -36,191 +144,137 @@ fn own(rt: &impl Abort, thread: u16) -> Answered
     ];
     Answered {
         thread,
-        call: 2047 * u32::from(thread),
-        op: ops[usize::from(thread % 3)].expect(rt, "a well-formed operation"),
-        place: 65_535 * (63 - u32::from(thread)) / 63,
-        answer: answers[usize::from(thread % 7)],
+        call: 2047 * u32::from(number),
+        op: ops[usize::from(number % 3)].expect(rt, "a well-formed operation"),
+        place: 65_535 * (63 - u32::from(number)) / 63,
+        answer: answers[usize::from(number % 7)],
     }
 }
 
-/// Posts the thread's update.
-fn post<R: Wait + Abort>(rt: &R, slots: &Slots, thread: u16)
-    requires { (slots.now ≡ 64) × (thread < 64) }
+/// Whether an update is posted.
+fn posts<R: Wait + Abort>(rt: &R, slots: &Slots, count: u16, update: Answered) -> bool
+    requires { slots.now ≡ count }
 {
-    let Answered { call, op, .. } = own(rt, thread);
-    assert_eq!(rt; slots.post(rt, thread, call, op), Ok(()), "thread {thread}");
+    assert!(rt; update.thread < count);
+    assert!(rt; update.call < CALLS);
+    slots
+        .post(rt, update.thread, update.call, update.op)
+        .is_ok()
 }
 
-/// Another update for the thread's slot is refused.
-fn post_in_vain<R: Wait + Abort>(rt: &R, slots: &Slots, thread: u16)
-    requires { (slots.now ≡ 64) × (thread < 64) }
+/// What a thread polls.
+fn poll<R: Wait + Abort>(rt: &R, slots: &Slots, count: u16, thread: u16) -> Option<Answered>
+    requires { slots.now ≡ count }
 {
-    let Answered { call, op, .. } = own(rt, (thread + 1) % 64);
-    assert_eq!(rt;
-        slots.post(rt, thread, call, op),
-        Err(Occupied),
-        "thread {thread}"
-    );
+    assert!(rt; thread < count);
+    slots.poll(rt, thread)
 }
 
-/// Answers the thread's update.
-fn answer<R: Wait + Abort>(rt: &R, slots: &Slots, thread: u16)
-    requires { thread < 64 }
-{
-    assert_eq!(rt;
-        slots.answer(rt, own(rt, thread)),
-        Ok(()),
-        "thread {thread}"
-    );
+/// Whether an answer is refused.
+fn is_not_taken<R: Wait>(rt: &R, slots: &Slots, answered: Answered) -> bool {
+    slots.answer(rt, answered) == Err(NotTaken)
 }
 
-/// Another answer to the thread's call is refused.
-fn answer_in_vain<R: Wait + Abort>(rt: &R, slots: &Slots, thread: u16)
-    requires { thread < 64 }
+/// What a thread does with its slot of so many: whether it is told so.
+fn take<R: Wait + Abort>(rt: &R, slots: &Slots, count: u16, thread: u16, does: Does) -> bool
+    requires { slots.now ≡ count }
 {
-    let Answered { call, .. } = own(rt, thread);
-    let other = Answered {
-        thread,
-        call,
-        ..own(rt, (thread + 1) % 64)
-    };
-    assert_eq!(rt; slots.answer(rt, other), Err(NotTaken), "thread {thread}");
-}
-
-/// The thread's slot has no answer, and another call or one of no thread is not answered.
-fn has_no_answer<R: Wait + Abort>(rt: &R, slots: &Slots, thread: u16)
-    requires { (slots.now ≡ 64) × (thread < 64) }
-{
-    let own = own(rt, thread);
-    let another_call = Answered {
-        call: own.call + 1,
-        ..own
-    };
-    let no_thread = Answered {
-        thread: thread + 64,
-        ..own
-    };
-    for wrong in [another_call, no_thread] {
-        assert_eq!(rt; slots.answer(rt, wrong), Err(NotTaken), "thread {thread}");
+    let own = of_thread(rt, thread);
+    let next = of_thread(rt, thread.wrapping_add(1) % 64);
+    match does {
+        Does::Posts => posts(rt, slots, count, own),
+        Does::PostsAgain => !posts(rt, slots, count, own),
+        Does::PostsInVain => !posts(rt, slots, count, Answered { thread, ..next }),
+        Does::Answers => slots.answer(rt, own).is_ok(),
+        Does::AnswersAgain => is_not_taken(rt, slots, own),
+        Does::AnswersInVain => {
+            let call = own.call;
+            is_not_taken(
+                rt,
+                slots,
+                Answered {
+                    thread,
+                    call,
+                    ..next
+                },
+            )
+        }
+        Does::Polls => poll(rt, slots, count, thread) == Some(own),
+        Does::HasNoAnswer => {
+            let call = own.call.wrapping_add(1);
+            let no_thread = Answered {
+                thread: thread.wrapping_add(64),
+                ..own
+            };
+            is_not_taken(rt, slots, Answered { call, ..own })
+                && is_not_taken(rt, slots, no_thread)
+                && poll(rt, slots, count, thread).is_none()
+        }
     }
-    assert_eq!(rt; slots.poll(rt, thread), None, "thread {thread}");
 }
 
-/// This update of a thread was collected.
-fn is_update_of(rt: &impl Abort, waiting: &Waiting, of: &Answered) {
-    assert_eq!(rt; waiting.thread, of.thread);
-    assert_eq!(rt; (waiting.call, waiting.op), (of.call, of.op));
-}
-
-/// Collects, and gets the updates of so many threads, from the first one on.
-fn collect<R: Wait + Abort>(rt: &R, slots: &Slots, first: u16, count: u16) {
+/// Whether the updates of so many threads are collected, from the first one on.
+fn collects<R: Wait + Abort>(rt: &R, slots: &Slots, first: u16, count: u16) -> bool {
     let mut batch = ArrayVec::new();
     slots.collect(rt, &mut batch);
-    assert_eq!(rt; batch.len(), usize::from(count));
-    for (place, waiting) in batch.as_slice().iter().enumerate() {
-        let thread = usize::from(first).saturating_add(place);
-        assert!(rt; thread < 64);
-        is_update_of(rt, waiting, &own(rt, thread as u16));
-    }
-}
-
-/// Collects this one update.
-fn collect_one<R: Wait + Abort>(rt: &R, slots: &Slots, wanted: &Answered) {
-    let mut batch = ArrayVec::new();
-    slots.collect(rt, &mut batch);
-    assert_eq!(rt; batch.len(), 1);
+    let mut thread = first;
     for waiting in batch.as_slice() {
-        is_update_of(rt, waiting, wanted);
+        let Answered { call, op, .. } = of_thread(rt, thread);
+        if (waiting.thread, waiting.call, waiting.op) != (thread, call, op) {
+            return false;
+        }
+        thread = thread.wrapping_add(1);
     }
+    thread.wrapping_sub(first) == count
 }
 
-/// The threads from the first one on have just been taken, and the later ones wait. They are answered.
-fn answer_taken<R: Wait + Abort>(rt: &R, slots: &Slots, first: u16)
-    requires { (slots.now ≡ 64) × (first + 16 ≤ 64) }
+/// Takes a step.
+fn make_step<R: Wait + Abort>(rt: &R, slots: &Slots, count: u16, step: Step)
+    requires { slots.now ≡ count }
 {
-    for thread in first..first + 16 {
-        post_in_vain(rt, slots, thread);
-        has_no_answer(rt, slots, thread);
-    }
-    for thread in first..first + 16 {
-        answer(rt, slots, thread);
-        answer_in_vain(rt, slots, thread);
-        post_in_vain(rt, slots, thread);
+    match step {
+        Step::Each(first, count_of, all) => {
+            for number in 0..count_of {
+                let thread = first.wrapping_add(number);
+                for does in all {
+                    assert!(rt; take(rt, slots, count, thread, *does), "thread {thread}");
+                }
+            }
+        }
+        Step::AllPost => {
+            for number in 0..64 {
+                assert!(rt; take(rt, slots, count, 63 - number, Does::Posts));
+            }
+        }
+        Step::Collects(first, many) => assert!(rt; collects(rt, slots, first, many)),
     }
 }
 
-/// No clause says what the locked calls do to a slot. Each call is tried on each of 64 slots in each of its states. What is
-/// refused is another update or answer than the slot has, and changes nothing.
+/// Takes steps on so many new slots.
+fn run<R: Wait + Abort>(rt: &R, alloc: Global, count: u16, steps: &[Step]) -> Result<(), Fail> {
+    let slots: Slots = Slots::new(alloc, count)?;
+    for next in steps {
+        make_step(rt, &slots, count, *next);
+    }
+    Ok(())
+}
+
 #[test]
 fn slots_in_each_state(rt: HostRuntime) -> Result<(), Fail> {
-    let slots = Slots::new(rt.alloc(), 64)?;
-    for thread in 0..64 {
-        has_no_answer(&rt, &slots, thread);
-        answer_in_vain(&rt, &slots, thread);
-    }
-    collect(&rt, &slots, 0, 0);
-    for thread in 0..64 {
-        post(&rt, &slots, 63 - thread);
-    }
-    for thread in 0..64 {
-        post_in_vain(&rt, &slots, thread);
-        answer_in_vain(&rt, &slots, thread);
-        has_no_answer(&rt, &slots, thread);
-    }
-    for batch in 0..4 {
-        collect(&rt, &slots, 16 * batch, 16);
-        answer_taken(&rt, &slots, 16 * batch);
-    }
-    collect(&rt, &slots, 0, 0);
-    for thread in 0..64 {
-        assert_eq!(rt;
-            slots.poll(&rt, thread),
-            Some(own(&rt, thread)),
-            "thread {thread}"
-        );
-        answer_in_vain(&rt, &slots, thread);
-        has_no_answer(&rt, &slots, thread);
-    }
-    collect(&rt, &slots, 0, 0);
-    post(&rt, &slots, 40);
-    collect(&rt, &slots, 40, 1);
-    Ok(())
+    run(&rt, rt.alloc(), 64, &EACH_STATE)
 }
 
 #[test]
 fn slot_round_trip(rt: HostRuntime) -> Result<(), Fail> {
-    let slots: Slots = Slots::new(rt.alloc(), 2)?;
-    let own = own(&rt, 1);
-    assert_eq!(rt; slots.post(&rt, 1, own.call, own.op), Ok(()));
-    assert_eq!(rt; slots.post(&rt, 1, own.call, own.op), Err(Occupied));
-    collect_one(&rt, &slots, &own);
-    assert_eq!(rt; slots.answer(&rt, own), Ok(()));
-    assert_eq!(rt; slots.answer(&rt, own), Err(NotTaken));
-    assert_eq!(rt; slots.poll(&rt, 1), Some(own));
-    assert_eq!(rt; slots.poll(&rt, 1), None);
-    assert_eq!(rt; slots.post(&rt, 1, own.call, own.op), Ok(()));
-    Ok(())
+    run(&rt, rt.alloc(), 2, &ROUND_TRIP)
 }
 
-/// The most slots that there can be.
 #[test]
 fn slots_of_all_threads(rt: HostRuntime) -> Result<(), Fail> {
-    let slots: Slots = Slots::new(rt.alloc(), 65_535)?;
-    let last = Answered {
-        thread: 65_534,
-        ..own(&rt, 63)
-    };
-    assert_eq!(rt; slots.post(&rt, last.thread, last.call, last.op), Ok(()));
-    collect_one(&rt, &slots, &last);
-    assert_eq!(rt; slots.answer(&rt, last), Ok(()));
-    assert_eq!(rt; slots.poll(&rt, last.thread), Some(last));
-    Ok(())
+    run(&rt, rt.alloc(), 65_535, &LAST_THREAD)
 }
 
 #[test]
 fn slots_of_no_thread(rt: HostRuntime) -> Result<(), Fail> {
-    let slots: Slots = Slots::new(rt.alloc(), 0)?;
-    collect(&rt, &slots, 0, 0);
-    assert_eq!(rt; slots.answer(&rt, own(&rt, 0)), Err(NotTaken));
-    Ok(())
+    run(&rt, rt.alloc(), 0, &NO_THREAD)
 }

@@ -1,0 +1,147 @@
+//! New logs, of which tests have the parties make calls.
+ghost use Rattle.std.specs.Prelude.{◌≡◌, ◌+◌, ◌≤◌};
+ghost use Rattle.vs_types.specs.declared.limits.TheConstants.{REPLICAS};
+ghost use Rattle.nr_ring.specs.declared.words.TheConstants.{OTHERS};
+ghost use Rattle.nr_ring.specs.Pass.{new_passes};
+
+use crate::party::{OfLog, Party};
+use crate::ring_calls::each_call;
+use crate::ring_fresh::run_rounds;
+use crate::ring_races::run_races;
+use crate::ring_threads::share;
+use crate::steps::{Step, fill, take_all};
+use nr_ring::{LogName, LogPass, OTHERS, RingLog};
+use std::alloc::Global;
+use std::marker::Brand;
+use std::process::Abort;
+use std::sync::Wait;
+use std::test::Fail;
+use std::thread::Threads;
+use vs_types::{Depth, Memory, REPLICAS};
+
+/// What the parties of a new log do.
+#[derive(Clone, Copy)]
+pub enum Test<'s> {
+    /// These calls one after another.
+    Steps(&'s [Step]),
+    /// They fill it to its end.
+    Fill,
+    /// Each makes each call after each event of another.
+    EachCall,
+    /// They make calls at the same time, and no look is old.
+    Rounds,
+    /// The same, in short rounds.
+    Races,
+    /// They append and take entries at the same time.
+    Share,
+}
+
+/// How a log is laid out.
+#[derive(Clone, Copy)]
+pub struct Layout {
+    pub depth: Depth,
+    pub replicas: u8,
+    /// How many of its passes own no replica.
+    pub others: u8,
+}
+
+/// A log of four replicas at five levels, with as many passes that own none.
+pub const OF_FOUR: Layout = Layout {
+    depth: Depth::Five,
+    replicas: 4,
+    others: 4,
+};
+
+impl Layout {
+    pub fn new(depth: Depth, replicas: u8, others: u8) -> Layout
+        ensures { (result.depth ≡ depth) × (result.replicas ≡ replicas) × (result.others ≡ others) }
+    {
+        Layout {
+            depth,
+            replicas,
+            others,
+        }
+    }
+}
+
+/// Makes a new log, and has its parties do what a test does.
+pub fn run<R: Wait + Abort + Threads + Sync>(
+    rt: &R,
+    alloc: Global,
+    layout: Layout,
+    test: Test,
+) -> Result<(), Fail> {
+    assert!(rt; 1 <= layout.replicas && layout.replicas <= REPLICAS);
+    assert!(rt; layout.others <= OTHERS);
+    run_on_log::<Brand, R>(rt, alloc, layout, test)
+}
+
+/// The same, where the log has a name.
+fn run_on_log<N: LogName + Send + Sync, R: Wait + Abort + Threads + Sync>(
+    rt: &R,
+    alloc: Global,
+    layout: Layout,
+    test: Test,
+) -> Result<(), Fail>
+    requires depth { layout.depth ≡ N.depth }
+    requires replicas { (layout.replicas ≡ N.replicas) × (1 ≤ layout.replicas)
+        × (layout.replicas ≤ REPLICAS) }
+    requires passes { (layout.others ≤ OTHERS) × (N.passes ≡ layout.replicas + layout.others) }
+{
+    let (log, passes) = RingLog::<N>::new(alloc, layout.depth, layout.replicas, layout.others)?;
+    run_named::<N, Brand, R>(rt, alloc, layout, &log, passes, test)
+}
+
+/// The same, where it is known which log it is.
+fn run_named<N: LogName + Send + Sync, K: OfLog + Send + Sync, R: Wait + Abort + Threads + Sync>(
+    rt: &R,
+    alloc: Global,
+    layout: Layout,
+    log: &RingLog<N>,
+    passes: Vec<LogPass<N>>,
+    test: Test,
+) -> Result<(), Fail>
+    requires depth { layout.depth ≡ N.depth }
+    requires log { log.now ≡ K.log }
+    requires passes { passes.items ≡ new_passes K.log layout.replicas layout.others }
+{
+    let parties = parties_of::<N, K>(alloc, log, layout, passes)?;
+    let count = usize::from(layout.replicas) + usize::from(layout.others);
+    assert_eq!(rt; parties.len(), count);
+    make_calls(rt, alloc, parties, test)
+}
+
+/// Has the parties of a new log do what a test does.
+fn make_calls<N: LogName + Send + Sync, K: OfLog + Send + Sync, R: Wait + Abort + Threads + Sync>(
+    rt: &R,
+    alloc: Global,
+    parties: Vec<Party<N, K>>,
+    test: Test,
+) -> Result<(), Fail> {
+    match test {
+        Test::Steps(steps) => take_all(rt, parties, steps),
+        Test::Fill => fill(rt, parties),
+        Test::EachCall => each_call(rt, parties),
+        Test::Rounds => run_rounds(rt, alloc, parties),
+        Test::Races => run_races(rt, alloc, parties),
+        Test::Share => share(rt, alloc, parties),
+    }
+}
+
+/// A party for each pass of a new log.
+fn parties_of<'a, N: LogName, K: OfLog>(
+    alloc: Global,
+    log: &'a RingLog<N>,
+    layout: Layout,
+    passes: Vec<LogPass<N>>,
+) -> Result<Vec<Party<'a, N, K>>, Memory>
+    requires depth { layout.depth ≡ N.depth }
+    requires log { log.now ≡ K.log }
+    requires passes { passes.items ≡ new_passes K.log layout.replicas layout.others }
+{
+    let mut parties = Vec::new(alloc);
+    for pass in passes {
+        parties.push(Party::new(log, pass, layout.depth))?;
+    }
+    Ok(parties)
+}

@@ -1,0 +1,108 @@
+//! Calls of a log's parties one after another, each with what it is to be told.
+
+use crate::party::{OfLog, Party};
+use nr_ring::{AppendFault, LogName, Moved, Tails};
+use std::process::Abort;
+use std::sync::Wait;
+use std::test::Fail;
+
+/// What a party does, and what it is told.
+#[derive(Clone, Copy)]
+pub enum Does {
+    /// It appends an entry of this call, which gets this place.
+    Appends(u32, u32),
+    /// It appends 16 entries of this call, of which the first gets this place.
+    AppendsAll(u32, u32),
+    /// For an entry there is no room: the tail, the completed tail and the local ones.
+    IsFull(u32, u32, [u32; 4]),
+    /// For 16 entries there is none.
+    IsFullForAll(u32, u32, [u32; 4]),
+    /// It sees these tails.
+    Looks(u32, u32, [u32; 4]),
+    /// It fetches entries of these calls.
+    Fetches(&'static [u32]),
+    /// It advances its replica to this place.
+    Advances(u32),
+    /// It looks, and then one of the parties after it, counted from 0, appends an entry of this call. An advance to the tail that it
+    /// saw is refused.
+    AdvancesLate(usize, u32),
+    /// One of the parties after it tells it what that has seen.
+    IsTold(usize),
+}
+
+/// A step of the party of this number.
+#[derive(Clone, Copy)]
+pub struct Step(pub usize, pub Does);
+
+fn tails(tail: u32, completed: u32, local: [u32; 4]) -> Tails {
+    Tails {
+        tail,
+        completed,
+        local,
+    }
+}
+
+/// Takes these steps one after another.
+pub fn take_all<N: LogName, K: OfLog, R: Wait + Abort>(
+    rt: &R,
+    parties: Vec<Party<N, K>>,
+    steps: &[Step],
+) -> Result<(), Fail> {
+    let mut parties = parties;
+    for (place, Step(number, does)) in steps.iter().enumerate() {
+        let (first, later) = parties
+            .split_at_mut_checked(number.saturating_add(1))
+            .expect(rt, "a party of this number");
+        let party = first.last_mut().expect(rt, "a party");
+        assert!(rt; take(rt, party, later, *does), "step {place}");
+    }
+    Ok(())
+}
+
+/// One step of a party, with those after it: whether it is told so.
+fn take<'a, N: LogName, K: OfLog, R: Wait + Abort>(
+    rt: &R,
+    party: &mut Party<'a, N, K>,
+    later: &mut [Party<'a, N, K>],
+    does: Does,
+) -> bool {
+    match does {
+        Does::Appends(call, place) => party.append(rt, call) == Ok(place),
+        Does::AppendsAll(call, place) => party.append_all(rt, call) == Ok(place),
+        Does::IsFull(tail, completed, local) => {
+            let full = AppendFault::Full(tails(tail, completed, local));
+            party.append(rt, 1) == Err(full)
+        }
+        Does::IsFullForAll(tail, completed, local) => {
+            let full = AppendFault::Full(tails(tail, completed, local));
+            party.append_all(rt, 2) == Err(full)
+        }
+        Does::Looks(tail, completed, local) => party.look(rt) == tails(tail, completed, local),
+        Does::Fetches(calls) => party.fetches(rt, calls),
+        Does::Advances(to) => party.advance_to(rt, to).is_ok(),
+        Does::AdvancesLate(other, call) => {
+            let other = later.get_mut(other).expect(rt, "a later party");
+            party.advance_late(rt, other, call) == Err(Moved)
+        }
+        Does::IsTold(by) => {
+            let by = later.get_mut(by).expect(rt, "a later party");
+            by.tell(rt, party);
+            true
+        }
+    }
+}
+
+/// The only party fills its log to the end.
+pub fn fill<N: LogName, K: OfLog, R: Wait + Abort>(
+    rt: &R,
+    parties: Vec<Party<N, K>>,
+) -> Result<(), Fail> {
+    let mut parties = parties;
+    let party = parties.first_mut().expect(rt, "a party");
+    for round in 0..4096 {
+        assert!(rt; party.append_all(rt, 0) == Ok(16 * round));
+        assert!(rt; party.advance_to(rt, 16 * round + 16).is_ok());
+    }
+    assert!(rt; party.append(rt, 1) == Err(AppendFault::LogEnded));
+    Ok(())
+}
