@@ -27,4 +27,6 @@ mod recorded;
 #[cfg(test)]
 mod trace;
 #[cfg(test)]
+mod units;
+#[cfg(test)]
 mod writing;

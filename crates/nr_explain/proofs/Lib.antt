@@ -12,3 +12,9 @@ pub mod WrongAnswers
 pub mod Explanations
 pub mod TwoWays
 pub mod Counting
+pub mod Passing
+pub mod NextUnits
+pub mod Runs
+pub mod BadUnits
+pub mod After
+pub mod Fed

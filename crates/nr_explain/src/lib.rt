@@ -11,8 +11,12 @@ mod floors;
 mod log;
 mod lookup;
 mod paths;
+mod positions;
 mod replay;
 mod searching;
+mod unit_feed;
+mod unit_numbers;
+mod units;
 
 pub use counts::Counts;
 pub use evidence::{
@@ -21,3 +25,5 @@ pub use evidence::{
     ShortPrefix, Step, StrayReply, StrayTable, TwoPlaces, TwoReplies,
 };
 pub use explaining::{Explanation, explain, explain_read};
+pub use unit_feed::UnitFeed;
+pub use units::{BadUnit, TraceUnit, Unread};

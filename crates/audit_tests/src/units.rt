@@ -1,0 +1,198 @@
+//! The unit that shows a fault of the format: which it is, where it begins, and what was read of it.
+
+ghost use Rattle.std.specs.Prelude.{◌<◌};
+
+use crate::bytes::map_then_resolve;
+use nr_explain::{TraceUnit, UnitFeed, Unread};
+use nr_trace::{Format, Trace};
+use std::alloc::{AllocError, Global};
+use std::process::Abort;
+use std::test::Fail;
+
+/// What is read of the bytes in pieces of this length.
+pub(crate) fn read_in_units(alloc: Global, bytes: &[u8], len: usize) -> Result<Trace, Unread>
+    requires { 0 < len }
+{
+    let mut feed = UnitFeed::new(alloc);
+    for piece in bytes.chunks(len) {
+        feed = feed.feed(piece)?;
+    }
+    feed.end()
+}
+
+/// Holds the unit that is bad, in pieces of every kind, against what is expected. It reads as many bytes as are said.
+fn holds(
+    rt: &impl Abort,
+    alloc: Global,
+    bytes: &[u8],
+    wanted: (Format, TraceUnit),
+    place: (usize, usize),
+) -> Result<(), Fail> {
+    let (fault, unit) = wanted;
+    let (offset, there) = place;
+    for len in [1, 24, 4096] {
+        assert!(rt; len > 0);
+        let Err(Unread::Bad(bad)) = read_in_units(alloc, bytes, len) else {
+            panic!(rt; "{offset}: no bad unit");
+        };
+        assert_eq!(rt; bad.fault, fault, "{offset}");
+        assert_eq!(rt; bad.unit, unit, "{offset}");
+        assert_eq!(rt; bad.offset, offset as u64, "{offset}");
+        let (_, rest) = bytes.split_at(bytes.len().min(offset));
+        assert_eq!(rt;
+            bad.read.as_slice(),
+            &rest[..rest.len().min(there)],
+            "{offset}"
+        );
+    }
+    Ok(())
+}
+
+/// The same of a recording with one byte changed, in a version at a number of levels.
+fn changed(
+    rt: &impl Abort,
+    alloc: Global,
+    layout: [u8; 2],
+    change: (usize, u8),
+    wanted: (Format, TraceUnit),
+    place: (usize, usize),
+) -> Result<(), Fail> {
+    let mut bytes = map_then_resolve(alloc)?;
+    let [version, levels] = layout;
+    for (at, byte) in [(5, version), (6, levels), change] {
+        if let Some(slot) = bytes.get_mut(at) {
+            *slot = byte;
+        }
+    }
+    holds(rt, alloc, &bytes, wanted, place)
+}
+
+#[test]
+fn each_unit_is_refused(rt: HostRuntime) -> Result<(), Fail> {
+    let alloc = rt.alloc();
+    for layout in [[1, 4], [2, 4], [2, 5]] {
+        changed(
+            &rt,
+            alloc,
+            layout,
+            (3, 0x58),
+            (Format::BadMagic, TraceUnit::Magic),
+            (0, 4),
+        )?;
+        changed(
+            &rt,
+            alloc,
+            layout,
+            (5, 3),
+            (Format::BadVersion, TraceUnit::Version),
+            (4, 2),
+        )?;
+        changed(
+            &rt,
+            alloc,
+            layout,
+            (7, 0),
+            (Format::BadCount, TraceUnit::Counts),
+            (6, 14),
+        )?;
+        changed(
+            &rt,
+            alloc,
+            layout,
+            (24, 2),
+            (Format::BadEvent(0), TraceUnit::Event(0)),
+            (24, 24),
+        )?;
+        changed(
+            &rt,
+            alloc,
+            layout,
+            (76, 9),
+            (Format::BadEvent(2), TraceUnit::Event(2)),
+            (72, 24),
+        )?;
+        changed(
+            &rt,
+            alloc,
+            layout,
+            (97, 99),
+            (Format::BadEvent(3), TraceUnit::Event(3)),
+            (96, 24),
+        )?;
+        changed(
+            &rt,
+            alloc,
+            layout,
+            (127, 0),
+            (Format::BadCount, TraceUnit::DumpHead(0)),
+            (120, 16),
+        )?;
+        changed(
+            &rt,
+            alloc,
+            layout,
+            (4247, 1),
+            (Format::BadFrame(0, 1), TraceUnit::FrameNumber(0, 1)),
+            (4240, 8),
+        )?;
+        changed(
+            &rt,
+            alloc,
+            layout,
+            (12448, 1),
+            (Format::BadFrame(0, 3), TraceUnit::FrameNumber(0, 3)),
+            (12448, 8),
+        )?;
+    }
+    Ok(())
+}
+
+#[test]
+fn each_unit_is_cut_off(rt: HostRuntime) -> Result<(), Fail> {
+    let alloc = rt.alloc();
+    let bytes = map_then_resolve(alloc)?;
+    for (len, unit, offset) in [
+        (0, TraceUnit::Magic, 0),
+        (3, TraceUnit::Magic, 0),
+        (5, TraceUnit::Version, 4),
+        (19, TraceUnit::Counts, 6),
+        (20, TraceUnit::Place(0), 20),
+        (23, TraceUnit::Place(0), 20),
+        (24, TraceUnit::Event(0), 24),
+        (71, TraceUnit::Event(1), 48),
+        (121, TraceUnit::DumpHead(0), 120),
+        (136, TraceUnit::FrameNumber(0, 0), 136),
+        (144, TraceUnit::FrameWords(0, 0), 144),
+        (4239, TraceUnit::FrameWords(0, 0), 144),
+        (4240, TraceUnit::FrameNumber(0, 1), 4240),
+        (16551, TraceUnit::FrameWords(0, 3), 12456),
+    ] {
+        let front = &bytes[..bytes.len().min(len)];
+        holds(
+            &rt,
+            alloc,
+            front,
+            (Format::Truncated, unit),
+            (offset, len.saturating_sub(offset)),
+        )?;
+    }
+    Ok(())
+}
+
+#[test]
+fn what_stands_behind_the_last_unit(rt: HostRuntime) -> Result<(), Fail> {
+    let alloc = rt.alloc();
+    let mut bytes = map_then_resolve(alloc)?;
+    for len in [1, 7, 4096] {
+        assert!(rt; len > 0);
+        assert!(rt; read_in_units(alloc, &bytes, len).is_ok(), "{len}");
+    }
+    bytes.extend_from_slice(&[7, 8])?;
+    holds(
+        &rt,
+        alloc,
+        &bytes,
+        (Format::Trailing, TraceUnit::Behind),
+        (16552, 1),
+    )
+}

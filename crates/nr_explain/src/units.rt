@@ -1,0 +1,80 @@
+//! The units of a trace, and the one that shows a fault of the format.
+
+ghost use Rattle.std.specs.Prelude.{◌≡◌};
+ghost use Rattle.nr_explain.specs.Units.{size};
+ghost use Rattle.nr_explain.specs.declared.units.Unread.TheVariants as reasons;
+
+use nr_trace::Format;
+use std::alloc::{AllocError, AllocFailed};
+
+/// A unit of a trace. Places, events, replicas and the frames of a dump are counted from 0.
+#[derive(Clone, Copy, Debug, PartialEq, Eq)]
+pub enum TraceUnit {
+    Magic,
+    Version,
+    Counts,
+    Place(u32),
+    Event(u32),
+    /// The head of a replica's dump.
+    DumpHead(u8),
+    /// The number of a frame in the dump of a replica.
+    FrameNumber(u8, u32),
+    /// The words of a frame in the dump of a replica.
+    FrameWords(u8, u32),
+    /// What stands behind the last unit.
+    Behind,
+}
+
+impl TraceUnit {
+    /// How many bytes it has. Behind the last unit one byte is looked at.
+    pub fn size(self) -> usize
+        ensures { result ≡ size self }
+    {
+        match self {
+            TraceUnit::Magic | TraceUnit::Place(_) => 4,
+            TraceUnit::Version => 2,
+            TraceUnit::Counts => 14,
+            TraceUnit::Event(_) => 24,
+            TraceUnit::DumpHead(_) => 16,
+            TraceUnit::FrameNumber(_, _) => 8,
+            TraceUnit::FrameWords(_, _) => 4096,
+            TraceUnit::Behind => 1,
+        }
+    }
+}
+
+/// The unit that shows a fault of the format.
+#[derive(Debug, Drop)]
+pub struct BadUnit {
+    pub fault: Format,
+    pub unit: TraceUnit,
+    /// How many bytes stand before it.
+    pub offset: u64,
+    /// Its bytes, or as many of them as there are.
+    pub read: Vec<u8>,
+}
+
+/// Why bytes were not read as a trace.
+#[derive(Debug, Drop)]
+pub enum Unread {
+    /// A growth of memory was refused.
+    Memory,
+    /// They spell no trace, as this unit shows.
+    Bad(BadUnit),
+}
+
+impl From<AllocError> for Unread {
+    ghost from_gives = { λ _ unread. unread ≡ reasons.Memory };
+
+    fn from(_error: AllocError) -> Unread {
+        Unread::Memory
+    }
+}
+
+impl<T: Drop> From<AllocFailed<T>> for Unread {
+    ghost from_gives = { λ _ unread. unread ≡ reasons.Memory };
+
+    fn from(_error: AllocFailed<T>) -> Unread {
+        Unread::Memory
+    }
+}
