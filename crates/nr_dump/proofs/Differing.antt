@@ -12,13 +12,13 @@ use Rattle.vs_types.specs.declared.page.Page.{Page}
 use Rattle.vs_types.proofs.Lists.{Contains-head, Contains-tail, Contains-cases, not_in_nil, find_found}
 use Rattle.vs_types.proofs.Pages.{covers_means, covers_base, same_page}
 use Rattle.vs_walk.specs.Differences.{IsLeast}
-use Rattle.vs_walk.specs.Laws.{covering, as_found}
+use Rattle.vs_walk.specs.Laws.{page_covering, as_found}
 use Rattle.vs_walk.proofs.LawsOfSpaces.{ArePages, rises_first, rises_rest}
 use Rattle.nr_dump.specs.inside.Comparing.{HeadsDiffer}
 
 -- the two lists translate a canonical address otherwise
 abbrev pub DiffersAt : Depth → List Page → List Page → ℕ → Type 0
-DiffersAt depth ps qs address = IsCanonical depth address × (as_found address (covering address ps) ≢ as_found address (covering address qs))
+DiffersAt depth ps qs address = IsCanonical depth address × (as_found address (page_covering address ps) ≢ as_found address (page_covering address qs))
 
 -- ---- pages by rising base
 
@@ -59,9 +59,9 @@ not_covered p address below = grind (arith, nat_tests)
 not_covered_behind : (p : Page) (address : ℕ) → end_of p ≤ address → covers p address ≡ false
 not_covered_behind p address behind = grind (arith, nat_tests)
 
-nothing_covers : (ps : List Page) (address : ℕ) → ((q : Page) → Contains ps q → address < q.base) → covering address ps ≡ None
+nothing_covers : (ps : List Page) (address : ℕ) → ((q : Page) → Contains ps q → address < q.base) → page_covering address ps ≡ None
 nothing_covers ps address above =
-    elim (covering address ps) as (λ o. covering address ps ≡ o → o ≡ None) [
+    elim (page_covering address ps) as (λ o. page_covering address ps ≡ o → o ≡ None) [
       | None ↦ λ is. refl
       | Some q ↦ λ is.
           let there = find_found (λ x. covers x address) ps q is in
@@ -70,14 +70,14 @@ nothing_covers ps address above =
           cc
     ] refl
 
-first_covers : (p : Page) (ps : List Page) → covering p.base (p ∷ ps) ≡ Some p
-first_covers p ps = ap (λ b. cond b (Some p) (covering p.base ps)) (covers_base p)
+first_covers : (p : Page) (ps : List Page) → page_covering p.base (p ∷ ps) ≡ Some p
+first_covers p ps = ap (λ b. cond b (Some p) (page_covering p.base ps)) (covers_base p)
 
-first_skipped : (p : Page) (ps : List Page) (address : ℕ) → covers p address ≡ false → covering address (p ∷ ps) ≡ covering address ps
-first_skipped p ps address not = ap (λ b. cond b (Some p) (covering address ps)) not
+first_skipped : (p : Page) (ps : List Page) (address : ℕ) → covers p address ≡ false → page_covering address (p ∷ ps) ≡ page_covering address ps
+first_skipped p ps address not = ap (λ b. cond b (Some p) (page_covering address ps)) not
 
-first_taken : (p : Page) (ps : List Page) (address : ℕ) → covers p address ≡ true → covering address (p ∷ ps) ≡ Some p
-first_taken p ps address is = ap (λ b. cond b (Some p) (covering address ps)) is
+first_taken : (p : Page) (ps : List Page) (address : ℕ) → covers p address ≡ true → page_covering address (p ∷ ps) ≡ Some p
+first_taken p ps address is = ap (λ b. cond b (Some p) (page_covering address ps)) is
 
 -- ---- lists whose first pages differ
 
@@ -89,14 +89,14 @@ above_nothing : (address : ℕ) → Above [] address
 above_nothing address q in_ps = absurd (not_in_nil q in_ps)
 
 -- a page of the one list alone, at its base
-one_alone : (depth : Depth) (ps qs : List Page) (p : Page) → IsCanonical depth p.base → covering p.base ps ≡ Some p → Above qs p.base
+one_alone : (depth : Depth) (ps qs : List Page) (p : Page) → IsCanonical depth p.base → page_covering p.base ps ≡ Some p → Above qs p.base
     → DiffersAt depth ps qs p.base
 one_alone depth ps qs p canonical here above =
     let nothing = nothing_covers qs p.base above in (
       canonical,
       λ same.
-          let mapped : as_found p.base (covering p.base ps) ≡ as_found p.base (Some p) = ap (as_found p.base) here in
-          let not : as_found p.base (covering p.base qs) ≡ as_found p.base None = ap (as_found p.base) nothing in
+          let mapped : as_found p.base (page_covering p.base ps) ≡ as_found p.base (Some p) = ap (as_found p.base) here in
+          let not : as_found p.base (page_covering p.base qs) ≡ as_found p.base None = ap (as_found p.base) nothing in
           let clash : as_found p.base (Some p) ≡ as_found p.base None = sym mapped ∙ same ∙ not in
           cc,
     )
@@ -114,9 +114,9 @@ both_at : (depth : Depth) (ps qs : List Page) (p q : Page) → p ≢ q → p.bas
 both_at depth ps qs p q differ base canonical = (
   canonical,
   λ same.
-      let left : as_found p.base (covering p.base (p ∷ ps)) ≡ as_found p.base (Some p) = ap (as_found p.base) (first_covers p ps) in
-      let there : covering p.base (q ∷ qs) ≡ Some q = subst (λ a. covering a (q ∷ qs) ≡ Some q) (sym base) (first_covers q qs) in
-      let right : as_found p.base (covering p.base (q ∷ qs)) ≡ as_found p.base (Some q) = ap (as_found p.base) there in
+      let left : as_found p.base (page_covering p.base (p ∷ ps)) ≡ as_found p.base (Some p) = ap (as_found p.base) (first_covers p ps) in
+      let there : page_covering p.base (q ∷ qs) ≡ Some q = subst (λ a. page_covering a (q ∷ qs) ≡ Some q) (sym base) (first_covers q qs) in
+      let right : as_found p.base (page_covering p.base (q ∷ qs)) ≡ as_found p.base (Some q) = ap (as_found p.base) there in
       let walked : as_found p.base (Some p) ≡ as_found p.base (Some q) = sym left ∙ same ∙ right in
       let size : p.size ≡ q.size = cc in
       let rights : p.rights ≡ q.rights = cc in

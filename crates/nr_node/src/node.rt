@@ -6,7 +6,7 @@ ghost use Rattle.vs_types.specs.Refusal.{IfRefused};
 ghost use Rattle.vs_types.specs.Space.{table_count};
 ghost use Rattle.vs_types.specs.Step.{allow, look};
 ghost use Rattle.vs_walk.specs.Walk.{TranslatesAs};
-ghost use Rattle.nr_ring.specs.Calls.{HasLooked, HasMoved, copy_of, joined};
+ghost use Rattle.nr_ring.specs.Calls.{HasLooked, HasMoved, copy_of, joint_view};
 ghost use Rattle.nr_ring.specs.Entries.{HasAppended, IsReason};
 ghost use Rattle.nr_ring.specs.LogHistory.{log_after, tail};
 ghost use Rattle.nr_ring.specs.View.{HasSeenAdvances, StartsWith};
@@ -269,7 +269,7 @@ impl<S: FrameStore, J: LogName> Node<S, J> {
             (λ replica. HasSeenAdvances replica told.new.view.seen told.old.view.seen)
             told.old.view.owns }
         ensures looked { HasLooked J.depth J.replicas
-            (joined told.old.view (copy_of self.old.known.view)) told.new.view }
+            (joint_view told.old.view (copy_of self.old.known.view)) told.new.view }
     {
         log.meet(rt, &mut self.pass, told);
     }

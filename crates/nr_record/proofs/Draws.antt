@@ -10,7 +10,7 @@ use lib.ListN.{get_elem?}
 use Rattle.atomic_table.specs.Table.{State, Me, Allows, keeps}
 use Rattle.atomic_table.proofs.Lists.{set_else}
 use Rattle.vs_types.specs.declared.limits.TheConstants.{CALLS, LOG_PLACES}
-use Rattle.nr_record.specs.Rule.{HasDrawn, IsKept, given, joined, keeping, spent, with_stamp}
+use Rattle.nr_record.specs.Rule.{HasDrawn, IsKept, given, joint_seat, left_seat, empty_seat, with_stamp}
 use Rattle.nr_record.specs.Stamps.{AreBelow, once_below, times}
 use Rattle.nr_record.specs.declared.view.View.{View}
 use Rattle.nr_record.proofs.Seats.{of_seat, sum_set, sum_has, sum_lt, sum_only}
@@ -98,9 +98,9 @@ sum_split f views seat v left right at same =
     omega (arith, sum_by-append f (set views seat left) (right ∷ []), sum_by-cons f right [], sum_set f views seat v left at, same)
 
 pub split_keeps : (calls quota seat : ℕ) (words : List ℕ) (views : List View) (v : View) → IsKept calls words views → get_elem? views seat ≡ some v
-    → quota ≤ v.quota → v.stamps ≡ [] → IsKept calls words (set views seat (keeping quota v) ++ given quota v ∷ [])
+    → quota ≤ v.quota → v.stamps ≡ [] → IsKept calls words (set views seat (left_seat quota v) ++ given quota v ∷ [])
 split_keeps calls quota seat words views v is at part fresh =
-    let left : View = keeping quota v in
+    let left : View = left_seat quota v in
     let right : View = given quota v in
     let P : View → Type 0 = λ u. length u.stamps ≤ 2 * u.quota in
     let empty : length v.stamps ≡ 0 = ap (λ (xs : List ℕ). length xs) fresh in
@@ -115,15 +115,15 @@ split_keeps calls quota seat words views v is at part fresh =
           sum_split (λ (u : View). times stamp u.stamps) views seat v left right at (omega arith) ∙ is.each_once stamp;
     }
 
-sum_join : (f : View → ℕ) (views : List View) (seat other : ℕ) (v w both spent : View) → get_elem? views seat ≡ some v → get_elem? views other ≡ some w
-    → (other ≡ seat → ⊥) → f both + f spent ≡ f v + f w → sum_by f (set (set views seat both) other spent) ≡ sum_by f views
-sum_join f views seat other v w both spent at there differ same =
+sum_join : (f : View → ℕ) (views : List View) (seat other : ℕ) (v w both idle : View) → get_elem? views seat ≡ some v → get_elem? views other ≡ some w
+    → (other ≡ seat → ⊥) → f both + f idle ≡ f v + f w → sum_by f (set (set views seat both) other idle) ≡ sum_by f views
+sum_join f views seat other v w both idle at there differ same =
     let there' : get_elem? (set views seat both) other ≡ some w = set_else views seat other both differ ∙ there in
-    omega (arith, sum_set f views seat v both at, sum_set f (set views seat both) other w spent there', same)
+    omega (arith, sum_set f views seat v both at, sum_set f (set views seat both) other w idle there', same)
 
 pub join_keeps : (calls seat other : ℕ) (words : List ℕ) (views : List View) (v w : View) → IsKept calls words views → get_elem? views seat ≡ some v
     → get_elem? views other ≡ some w → (other ≡ seat → ⊥)
-    → IsKept calls words (set (set views seat (joined v w)) other spent)
+    → IsKept calls words (set (set views seat (joint_seat v w)) other empty_seat)
 join_keeps calls seat other words views v w is at there differ =
     let P : View → Type 0 = λ u. length u.stamps ≤ 2 * u.quota in
     let first = of_seat P views seat v is.within at in
@@ -132,12 +132,12 @@ join_keeps calls seat other words views v w is at there differ =
     record {
       one_word = is.one_word;
       few = is.few;
-      quotas = sum_join (λ (u : View). u.quota) views seat other v w (joined v w) spent at there differ (omega arith) ∙ is.quotas;
-      within = All-set P (set views seat (joined v w)) other spent (omega arith)
-          (All-set P views seat (joined v w) (omega (arith, first, second, long)) is.within);
-      drawn = is.drawn ∙ sym (sum_join (λ (u : View). length u.stamps) views seat other v w (joined v w) spent at there differ (omega (arith, long)));
+      quotas = sum_join (λ (u : View). u.quota) views seat other v w (joint_seat v w) empty_seat at there differ (omega arith) ∙ is.quotas;
+      within = All-set P (set views seat (joint_seat v w)) other empty_seat (omega arith)
+          (All-set P views seat (joint_seat v w) (omega (arith, first, second, long)) is.within);
+      drawn = is.drawn ∙ sym (sum_join (λ (u : View). length u.stamps) views seat other v w (joint_seat v w) empty_seat at there differ (omega (arith, long)));
       each_once = λ stamp.
-          sum_join (λ (u : View). times stamp u.stamps) views seat other v w (joined v w) spent at there differ
+          sum_join (λ (u : View). times stamp u.stamps) views seat other v w (joint_seat v w) empty_seat at there differ
           (omega (arith, times_append stamp v.stamps w.stamps)) ∙ is.each_once stamp;
     }
 

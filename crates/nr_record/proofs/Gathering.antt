@@ -9,7 +9,7 @@ use Rattle.std.proofs.lemmas.List.Sums.{sum_by-cons, sum_by_push}
 use Rattle.std.proofs.lemmas.List.Elements.{All-push, All-cons, All-nil}
 use Rattle.atomic_table.specs.Seated.{TableId}
 use Rattle.nr_record.specs.Pen.{PenState, clock_of, stamps_of}
-use Rattle.nr_record.specs.Rule.{joined}
+use Rattle.nr_record.specs.Rule.{joint_seat}
 use Rattle.nr_record.specs.Stamps.{Rise}
 use Rattle.nr_record.specs.inside.Held.{IsHeld, IsTrueOf}
 use Rattle.nr_record.specs.declared.stamped.Stamped.{Stamped}
@@ -49,7 +49,7 @@ one_more f done pen =
     flat_map-append f done (pen ∷ []) ∙ ap (λ ys. flat_map f done ++ ys) (flat_map-cons f pen [] ∙ append-nil (f pen))
 
 pub gathered_more : (all rest : List PenState) (view other : View) (notes : List Stamped) (pen : PenState) → IsGathered all (pen ∷ rest) view notes
-    → other.quota ≡ pen.quota → other.stamps ≡ stamps_of pen → IsTrueOf pen → IsGathered all rest (joined view other) (notes ++ pen.made)
+    → other.quota ≡ pen.quota → other.stamps ≡ stamps_of pen → IsTrueOf pen → IsGathered all rest (joint_seat view other) (notes ++ pen.made)
 gathered_more all rest view other notes pen before quota stamps is = record {
   done = before.done ++ pen ∷ [];
   parts = before.parts ∙ sym (append_assoc before.done (pen ∷ []) rest);

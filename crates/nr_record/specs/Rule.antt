@@ -23,8 +23,8 @@ abbrev pub new_view : Plan → View
 new_view plan = record { plan = plan; quota = plan.calls; stamps = [] }
 
 -- a seat gives so much of its quota to a new seat, which has drawn nothing
-abbrev pub keeping : ℕ → View → View
-keeping quota seat = record { plan = seat.plan; quota = seat.quota - quota; stamps = seat.stamps }
+abbrev pub left_seat : ℕ → View → View
+left_seat quota seat = record { plan = seat.plan; quota = seat.quota - quota; stamps = seat.stamps }
 
 abbrev pub given : ℕ → View → View
 given quota seat = record { plan = seat.plan; quota = quota; stamps = [] }
@@ -40,11 +40,11 @@ pub record HasDrawn (before : View) (stamp : ℕ) (after : View) : Type 0 where
   pub in_range : stamp < CALLS
 
 -- a seat that is joined by another takes over its quota and its stamps, and the other has none
-abbrev pub joined : View → View → View
-joined seat other = record { plan = seat.plan; quota = seat.quota + other.quota; stamps = seat.stamps ++ other.stamps }
+abbrev pub joint_seat : View → View → View
+joint_seat seat other = record { plan = seat.plan; quota = seat.quota + other.quota; stamps = seat.stamps ++ other.stamps }
 
-abbrev pub spent : View
-spent = record {
+abbrev pub empty_seat : View
+empty_seat = record {
   plan = record { config = record { depth = Four; replicas = 1; threads = 1; tables = 1 }; calls = 0 };
   quota = 0;
   stamps = [];

@@ -3,7 +3,7 @@ ghost use Rattle.std.specs.Prelude.{◌≡◌, ◌*◌, ◌%◌, ◌<◌, ◌≤
 ghost use Rattle.vs_types.specs.declared.limits.TheConstants.{CALLS, LOG_PLACES};
 ghost use Rattle.nr_record.specs.Pen.{clock_of, new_pen, new_pens};
 ghost use Rattle.nr_record.specs.Stamps.{AreBelow};
-ghost use Rattle.nr_record.specs.Rule.{HasDrawn, joined, keeping};
+ghost use Rattle.nr_record.specs.Rule.{HasDrawn, joint_seat, left_seat};
 
 use crate::pen::Pen;
 use crate::rule::{Draws, Gives, Quota, Stamps, Takes};
@@ -60,7 +60,7 @@ impl Clock {
             × (replica < first.old.me.0.plan.config.replicas)
             × (thread < first.old.me.0.plan.config.threads) }
         ensures clock { first.new.table_id ≡ first.old.table_id }
-        ensures first { first.new.me.0 ≡ keeping quota first.old.me.0 }
+        ensures first { first.new.me.0 ≡ left_seat quota first.old.me.0 }
         ensures pen { IfOk result
             (λ pen. pen ≡ new_pen (clock_of self.now.word first.old.me.0.plan) thread quota) }
     {
@@ -73,7 +73,7 @@ impl Clock {
         requires clock { (seat.old.table_id ≡ self.now.word) × (other.table_id ≡ self.now.word) }
         requires held { other.me.1 ≡ [] }
         ensures clock { seat.new.table_id ≡ seat.old.table_id }
-        ensures view { seat.new.me.0 ≡ joined seat.old.me.0 other.me.0 }
+        ensures view { seat.new.me.0 ≡ joint_seat seat.old.me.0 other.me.0 }
     {
         self.table.shared.join_seat::<Takes>(seat, other);
     }

@@ -3,7 +3,7 @@ ghost use Rattle.std.specs.Prelude.{◌≡◌, ℕ, ◌+◌, ◌*◌, ◌<◌, �
 ghost use mathlib.Core.Option.{some};
 ghost use lib.ListN.{get_elem?};
 ghost use Rattle.vs_types.specs.declared.limits.TheConstants.{LOG_PLACES};
-ghost use Rattle.nr_record.specs.Rule.{HasDrawn, IsKept, given, joined, keeping, new_view, spent, with_stamp};
+ghost use Rattle.nr_record.specs.Rule.{HasDrawn, IsKept, given, joint_seat, left_seat, new_view, empty_seat, with_stamp};
 ghost use Rattle.nr_record.specs.Stamps.{AreBelow};
 ghost use Rattle.nr_record.specs.declared.view.Plan.{Plan};
 ghost use Rattle.nr_record.specs.declared.view.View.{View};
@@ -19,7 +19,7 @@ pub fn splits_keep_the_rule()
     ensures { (calls quota seat : ℕ) (words : List ℕ) (views : List View) (v : View)
         → IsKept calls words views → get_elem? views seat ≡ some v
         → quota ≤ v.quota → v.stamps ≡ []
-        → IsKept calls words (slice_set views seat (keeping quota v) ++ given quota v ∷ []) }
+        → IsKept calls words (slice_set views seat (left_seat quota v) ++ given quota v ∷ []) }
 {}
 
 /// Drawing keeps the rule: a seat with quota left draws the word, which is then greater by one, and no other seat has drawn that stamp.
@@ -40,7 +40,7 @@ pub fn joins_keep_the_rule()
     ensures { (calls seat other : ℕ) (words : List ℕ) (views : List View) (v w : View)
         → IsKept calls words views → get_elem? views seat ≡ some v
         → get_elem? views other ≡ some w → (other ≡ seat → ⊥)
-        → IsKept calls words (slice_set (slice_set views seat (joined v w)) other spent) }
+        → IsKept calls words (slice_set (slice_set views seat (joint_seat v w)) other empty_seat) }
 {}
 
 /// A seat that has the quotas of all calls has all stamps: they are the numbers below the word, each once.

@@ -41,9 +41,9 @@ pub struct Gives<Q: Quota> {
 }
 
 impl<Q: Quota> Split<View> for Gives<Q> {
-    ghost use Rattle.nr_record.specs.Rule.{keeping, given};
+    ghost use Rattle.nr_record.specs.Rule.{left_seat, given};
 
-    ghost left = { keeping Q.quota };
+    ghost left = { left_seat Q.quota };
 
     ghost right = { given Q.quota };
 }
@@ -52,9 +52,9 @@ impl<Q: Quota> Split<View> for Gives<Q> {
 pub struct Takes;
 
 impl Join<View> for Takes {
-    ghost use Rattle.nr_record.specs.Rule.{joined, spent};
+    ghost use Rattle.nr_record.specs.Rule.{joint_seat, empty_seat};
 
-    ghost both = { joined };
+    ghost both = { joint_seat };
 
-    ghost spent = { spent };
+    ghost spent = { empty_seat };
 }

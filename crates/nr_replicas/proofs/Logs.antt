@@ -6,7 +6,7 @@ use Rattle.vs_types.specs.Space.{Space}
 use Rattle.vs_types.specs.declared.answer.Answer.{Answer}
 use Rattle.vs_types.specs.declared.depth.Depth.{Depth}
 use Rattle.vs_types.specs.declared.log_entry.LogEntry.{LogEntry}
-use Rattle.nr_ring.specs.Calls.{HasLooked, copy_of, joined}
+use Rattle.nr_ring.specs.Calls.{HasLooked, copy_of, joint_view}
 use Rattle.nr_ring.specs.Laws.{HasGoneOn}
 use Rattle.nr_ring.specs.LogHistory.{Log, log_after, tail}
 use Rattle.nr_ring.specs.View.{StartsWith}
@@ -35,7 +35,7 @@ read_stays depth tables from p q answer_in at answer on is = record {
 }
 
 -- a pass that was told what another had seen, and then looked, has heard of more
-pub told_heard : (depth : Depth) (replicas : ℕ) (before other after : View) → HasLooked depth replicas (joined before (copy_of other)) after
+pub told_heard : (depth : Depth) (replicas : ℕ) (before other after : View) → HasLooked depth replicas (joint_view before (copy_of other)) after
     → HasHeard depth replicas before after
 told_heard depth replicas before other after is = record {
   is_history = is.is_history;
@@ -47,7 +47,7 @@ told_heard depth replicas before other after is = record {
 }
 
 -- its log has gone on from that of the other
-pub told_goes_on : (depth : Depth) (replicas : ℕ) (before other after : View) → HasLooked depth replicas (joined before (copy_of other)) after
+pub told_goes_on : (depth : Depth) (replicas : ℕ) (before other after : View) → HasLooked depth replicas (joint_view before (copy_of other)) after
     → StartsWith after.seen other.seen → HasGoneOn (log_after replicas other.seen) (log_after replicas after.seen)
 told_goes_on depth replicas before other after is begins = later_goes_on depth replicas other.seen after.seen is.is_history begins
 

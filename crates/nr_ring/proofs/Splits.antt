@@ -12,7 +12,7 @@ use Rattle.crossbeam_utils.specs.Register.{Forks}
 use Rattle.vs_types.specs.declared.depth.Depth.{Depth}
 use Rattle.nr_ring.specs.View.{HasSeenAdvances, made_from, made_by_pass, IsTrueOf}
 use Rattle.nr_ring.specs.Rule.{IsKept}
-use Rattle.nr_ring.specs.Calls.{AreCut, IsCut, copy_of, keeping, offshoot}
+use Rattle.nr_ring.specs.Calls.{AreCut, IsCut, copy_of, left_view, offshoot}
 use Rattle.nr_ring.specs.declared.view.View.{View}
 use Rattle.nr_ring.proofs.Views.{contains_item}
 use Rattle.nr_ring.proofs.Rights.{idle_still, rights_changed}
@@ -40,19 +40,19 @@ Owner views pass kept given j replica =
     (((j ≡ pass) × Contains kept replica) ⊎ ((j ≡ length views) × Contains given replica))
 
 owner : (views : List View) (pass : ℕ) (v : View) (kept given : List ℕ) (left right j : ℕ) (u : View) (replica : ℕ)
-    → get_elem? (set views pass (keeping v kept left) ++ offshoot v given right ∷ []) j ≡ some u → Contains u.owns replica
+    → get_elem? (set views pass (left_view v kept left) ++ offshoot v given right ∷ []) j ≡ some u → Contains u.owns replica
     → Owner views pass kept given j replica
 owner views pass v kept given left right j u replica there has =
     let P : View → Type 0 = λ z. Contains z.owns replica in
     ⊎_elim
-    (λ (first : get_elem? (set views pass (keeping v kept left)) j ≡ some u).
+    (λ (first : get_elem? (set views pass (left_view v kept left)) j ≡ some u).
     ⊎_elim
-    (λ (t : (j ≡ pass) × (keeping v kept left ≡ u)). inr (inl (t.0, subst P (sym t.1) has)))
+    (λ (t : (j ≡ pass) × (left_view v kept left ≡ u)). inr (inl (t.0, subst P (sym t.1) has)))
     (λ (t : (j ≢ pass) × (get_elem? views j ≡ some u)). inl (t.0, (u, t.1, has)))
-    (at_set views pass j (keeping v kept left) u first))
-    (λ (last : (j ≡ length (set views pass (keeping v kept left))) × (offshoot v given right ≡ u)). inr
-    (inr (last.0 ∙ length-set views pass (keeping v kept left), subst P (sym last.1) has)))
-    (at_end (set views pass (keeping v kept left)) (offshoot v given right) u j there)
+    (at_set views pass j (left_view v kept left) u first))
+    (λ (last : (j ≡ length (set views pass (left_view v kept left))) × (offshoot v given right ≡ u)). inr
+    (inr (last.0 ∙ length-set views pass (left_view v kept left), subst P (sym last.1) has)))
+    (at_end (set views pass (left_view v kept left)) (offshoot v given right) u j there)
 
 one_each : (depth : Depth) (replicas passes : ℕ) (words : List ℕ) (views : List View) (pass : ℕ) (v : View) (kept given : List ℕ) (p q replica : ℕ)
     → IsKept depth replicas passes words views → get_elem? views pass ≡ some v → IsCut v.owns kept given → Owner views pass kept given p replica
@@ -72,14 +72,14 @@ one_each depth replicas passes words views pass v kept given p q replica is at c
 one_each depth replicas passes words views pass v kept given p q replica is at cut (inr (inr a)) (inr (inr b)) = a.0 ∙ sym b.0
 
 pub split_forks : (depth : Depth) (replicas passes pass : ℕ) (v : View) (kept given : List ℕ) (left right : ℕ) → IsCut v.owns kept given
-    → AreCut v left right → Forks (IsKept depth replicas passes) pass v (keeping v kept left) (offshoot v given right)
+    → AreCut v left right → Forks (IsKept depth replicas passes) pass v (left_view v kept left) (offshoot v given right)
 split_forks depth replicas passes pass v kept given left right cut shares words views is at =
     let old = is.each_view pass v at in
-    let changed = set views pass (keeping v kept left) in
-    let wide : length changed ≡ length views = length-set views pass (keeping v kept left) in
+    let changed = set views pass (left_view v kept left) in
+    let wide : length changed ≡ length views = length-set views pass (left_view v kept left) in
     let Seen : ℕ → Type 0 = λ r. HasSeenAdvances r is.history v.seen in
     let T : ℕ → View → Type 0 = λ j z. IsTrueOf is.history (made_by_pass j is.makers) z in
-    let own : T pass (keeping v kept left) =
+    let own : T pass (left_view v kept left) =
     record {
       seen = old.seen;
       told = old.told;
@@ -104,10 +104,10 @@ split_forks depth replicas passes pass v kept given left right cut shares words 
           ⊎_elim
           (λ (first : get_elem? changed j ≡ some u).
           ⊎_elim
-          (λ (t : (j ≡ pass) × (keeping v kept left ≡ u)). let R : ℕ → Type 0 = λ i. T i (keeping v kept left) in let Q : View → Type 0 = λ z. T j z in
+          (λ (t : (j ≡ pass) × (left_view v kept left ≡ u)). let R : ℕ → Type 0 = λ i. T i (left_view v kept left) in let Q : View → Type 0 = λ z. T j z in
           subst Q t.1 (subst R (sym t.0) own))
           (λ (t : (j ≢ pass) × (get_elem? views j ≡ some u)). is.each_view j u t.1)
-          (at_set views pass j (keeping v kept left) u first))
+          (at_set views pass j (left_view v kept left) u first))
           (λ (last : (j ≡ length changed) × (offshoot v given right ≡ u)).
           let R : ℕ → Type 0 = λ i. T i (offshoot v given right) in let Q : View → Type 0 = λ z. T j z in subst Q last.1 (subst R (sym (last.0 ∙ wide)) new))
           (at_end changed (offshoot v given right) u j there);
@@ -117,13 +117,13 @@ split_forks depth replicas passes pass v kept given left right cut shares words 
       all_rights = omega (
         arith,
         sum_by_push (λ (z : View). z.rights) changed (offshoot v given right),
-        rights_changed views pass v (keeping v kept left) at,
+        rights_changed views pass v (left_view v kept left) at,
         is.all_rights,
         shares.all,
       );
       makers_right = λ j u there.
           ⊎_elim
-          (λ (first : get_elem? changed j ≡ some u). idle_still views pass (keeping v kept left) shares.of_makers is.makers_right j u first)
+          (λ (first : get_elem? changed j ≡ some u). idle_still views pass (left_view v kept left) shares.of_makers is.makers_right j u first)
           (λ (last : (j ≡ length changed) × (offshoot v given right ≡ u)). λ none. sym (ap (λ (z : View). z.mine) last.1))
           (at_end changed (offshoot v given right) u j there);
     }

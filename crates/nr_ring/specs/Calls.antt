@@ -52,8 +52,8 @@ pub record AreCut (view : View) (kept given : ℕ) : Type 0 where
   pub of_makers : kept ≡ 0 → view.mine ≡ []
 
 -- the view of a pass that keeps these replicas and so many rights
-abbrev pub keeping : View → List ℕ → ℕ → View
-keeping view kept rights = record { seen = view.seen; mine = view.mine; owns = kept; rights = rights; told = view.told }
+abbrev pub left_view : View → List ℕ → ℕ → View
+left_view view kept rights = record { seen = view.seen; mine = view.mine; owns = kept; rights = rights; told = view.told }
 
 -- and of the new pass: it has seen as much, and has made nothing
 abbrev pub offshoot : View → List ℕ → ℕ → View
@@ -65,8 +65,8 @@ copy_of view = offshoot view [] 0
 
 -- the view of a pass that another was joined to: it was told what the other had seen, and has its rights. What it has seen
 -- itself stays
-abbrev pub joined : View → View → View
-joined view other = record {
+abbrev pub joint_view : View → View → View
+joint_view view other = record {
   seen = view.seen;
   mine = view.mine;
   owns = view.owns;
@@ -75,8 +75,8 @@ joined view other = record {
 }
 
 -- the view of a pass that was joined away
-abbrev pub spent : View
-spent = record { seen = []; mine = []; owns = []; rights = 0; told = [] }
+abbrev pub empty_view : View
+empty_view = record { seen = []; mine = []; owns = []; rights = 0; told = [] }
 
 -- another pass's event has come: one that this pass had not seen before, and did not make
 abbrev pub HasMoved : View → View → Type 0

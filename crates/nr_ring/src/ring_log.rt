@@ -3,7 +3,7 @@ ghost use Rattle.std.specs.Prelude.{◌≡◌, ◌≤◌, ◌+◌, ◌-◌, ◌<
 ghost use Rattle.std.specs.List.{range_with_len};
 ghost use Rattle.version_cell.specs.Changes.{changed};
 ghost use Rattle.vs_types.specs.LogEntry.{IsLogEntry};
-ghost use Rattle.nr_ring.specs.Calls.{HasLooked, HasMoved, HasTaken, LiesAhead, MayMake, MayTake, copy_of, joined, with_event};
+ghost use Rattle.nr_ring.specs.Calls.{HasLooked, HasMoved, HasTaken, LiesAhead, MayMake, MayTake, copy_of, joint_view, with_event};
 ghost use Rattle.nr_ring.specs.LogHistory.{IsLogHistory, MayAdvance, MayAppend, MayFollow, log_after_event, log_after};
 ghost use Rattle.nr_ring.specs.declared.log_event.LogEvent.TheVariants.{Append, Advance};
 ghost use Rattle.nr_ring.specs.Entries.{HasAppended, IsReason, to_take};
@@ -323,7 +323,7 @@ impl<J: LogName> RingLog<J> {
             (λ replica. HasSeenAdvances replica told.new.view.seen told.old.view.seen)
             told.old.view.owns }
         ensures looked { HasLooked J.depth J.replicas
-            (joined told.old.view (copy_of pass.old.view)) told.new.view }
+            (joint_view told.old.view (copy_of pass.old.view)) told.new.view }
     {
         self.cell
             .meet_as::<Copies, Looking<J>, R>(rt, &mut pass.inner, &mut told.inner);

@@ -72,9 +72,9 @@ pub struct FirstOwned;
 
 impl Split<View> for FirstOwned {
     ghost use Rattle.std.specs.Prelude.{◌-◌, drop, take};
-    ghost use Rattle.nr_ring.specs.Calls.{keeping, offshoot};
+    ghost use Rattle.nr_ring.specs.Calls.{left_view, offshoot};
 
-    ghost left = { λ v. keeping v (drop 1 v.owns) (v.rights - 1) };
+    ghost left = { λ v. left_view v (drop 1 v.owns) (v.rights - 1) };
 
     ghost right = { λ v. offshoot v (take 1 v.owns) 1 };
 }
@@ -91,9 +91,9 @@ impl Split<View> for Copies {
 }
 
 impl Join<View> for Copies {
-    ghost use Rattle.nr_ring.specs.Calls.{joined, spent};
+    ghost use Rattle.nr_ring.specs.Calls.{joint_view, empty_view};
 
-    ghost both = { joined };
+    ghost both = { joint_view };
 
-    ghost spent = { spent };
+    ghost spent = { empty_view };
 }

@@ -5,7 +5,7 @@ ghost use lib.ListN.{get_elem?};
 ghost use Rattle.crossbeam_utils.specs.Register.{Forks, Merges, Turns};
 ghost use Rattle.vs_types.specs.declared.depth.Depth.{Depth};
 ghost use Rattle.vs_types.specs.declared.limits.TheConstants.{REPLICAS};
-ghost use Rattle.nr_ring.specs.Calls.{AreCut, IsCut, Looks, MayMake, joined, keeping, offshoot, spent, with_event};
+ghost use Rattle.nr_ring.specs.Calls.{AreCut, IsCut, Looks, MayMake, joint_view, left_view, offshoot, empty_view, with_event};
 ghost use Rattle.nr_ring.specs.LogHistory.{IsLogHistory, MayFollow, log_after_event, log_after};
 ghost use Rattle.nr_ring.specs.Laws.{IsMaker};
 ghost use Rattle.nr_ring.specs.Rule.{IsKept};
@@ -48,14 +48,14 @@ pub fn splits_keep_the_rule()
     ensures { (depth : Depth) (replicas passes pass : ℕ) (v : View) (kept given : List ℕ)
         (left right : ℕ) → IsCut v.owns kept given → AreCut v left right
         → Forks (IsKept depth replicas passes) pass v
-        (keeping v kept left) (offshoot v given right) }
+        (left_view v kept left) (offshoot v given right) }
 {}
 
 /// Joining a pass that has made nothing keeps the rule. It tells nothing of how the two lists that were seen compare; the next
 /// look tells that both are beginnings of what it sees.
 pub fn joins_keep_the_rule()
     ensures { (depth : Depth) (replicas passes pass other : ℕ) (v w : View) → w.mine ≡ []
-        → Merges (IsKept depth replicas passes) pass v other w (joined v w) spent }
+        → Merges (IsKept depth replicas passes) pass v other w (joint_view v w) empty_view }
 {}
 
 /// The rule holds of a new log, whose first pass has seen and made nothing and has all rights, whatever it owns.

@@ -9,7 +9,7 @@ use Rattle.vs_types.specs.Depth.{levels, index_at, IsCanonical}
 use Rattle.vs_types.specs.Entry.{meaning, all_rights}
 use Rattle.vs_types.specs.Page.{intersection}
 use Rattle.vs_types.specs.Space.{Space, page_at, table_count}
-use Rattle.vs_types.specs.Step.{look, looked}
+use Rattle.vs_types.specs.Step.{look, look_in_page}
 use Rattle.vs_types.specs.declared.answer.Answer.{Answer}
 use Rattle.vs_types.specs.declared.answer.Answer.TheVariants as answers
 use Rattle.vs_types.specs.declared.entry.Meaning.{Meaning}
@@ -73,11 +73,11 @@ not_mapped end (inl e) = ap answer_of e
 not_mapped end (inr (inl e)) = ap answer_of e
 not_mapped end (inr (inr e)) = ap answer_of e
 
-answer_looked : (address : ℕ) (at : Option Page) → answer_of (as_walk (looked address at)) ≡ looked address at
+answer_looked : (address : ℕ) (at : Option Page) → answer_of (as_walk (look_in_page address at)) ≡ look_in_page address at
 answer_looked address None = refl
 answer_looked address (Some page) = refl
 
-looked_walks : (address : ℕ) (at : Option Page) → as_walk (looked address at) ≢ Missing
+looked_walks : (address : ℕ) (at : Option Page) → as_walk (look_in_page address at) ≢ Missing
 looked_walks address None = λ e. cc
 looked_walks address (Some page) = λ e. cc
 

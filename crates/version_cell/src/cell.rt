@@ -118,7 +118,8 @@ impl<V, P: CellRule<V>, const H: usize, const N: usize> VersionCell<V, P, H, N> 
     /// Changes the words, each change putting a word at a place, where those of the pass are still those of the cell. Else it
     /// looks, and the words that it finds have come further. The code is that of the words after the changes.
     ///
-    /// Where the code tells all that is new, it takes one step and nothing is waited for. Waits for the cell.
+    /// Where the code tells all that is new, this is one step that waits for nobody. Otherwise it may wait for the cell, which
+    /// another pass may be changing.
     pub fn exchange_as<E: CellOutcome<V>, M: CellOutcome<V>, R: Wait>(
         &self,
         rt: &R,

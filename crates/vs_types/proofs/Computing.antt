@@ -9,7 +9,7 @@ use Rattle.vs_types.specs.Depth.{levels}
 use Rattle.vs_types.specs.Examples.{answers_from, answers, tables_after, look_after, allow_after}
 use Rattle.vs_types.specs.Page.{covers, overlaps}
 use Rattle.vs_types.specs.Space.{Space, no_pages, least, least_overlapped, page_at, tables_of_levels, table_count}
-use Rattle.vs_types.specs.Step.{Stepped, step, after_all, looked, allowed}
+use Rattle.vs_types.specs.Step.{Stepped, step, after_all, look_in_page, allow_in_page}
 use Rattle.vs_types.specs.declared.access.Mode.{Mode}
 use Rattle.vs_types.specs.declared.access.Access.{Access}
 use Rattle.vs_types.specs.declared.depth.Depth.{Depth}
@@ -72,28 +72,28 @@ count depth es = 1 + tables_of_levels (levels depth - 1) (map (λ e. e.1) es)
 abbrev pub at : Entries → ℕ → Option Page
 at es address = find (λ page. covers page address) (map (λ e. e.1) es)
 
-abbrev mapped : Depth → ℕ → Entries → Page → Option ℕ → Ran
-mapped depth limit es page (Some base) = record { entries = es; answer = Overlap base }
-mapped depth limit es page None =
+abbrev map_step : Depth → ℕ → Entries → Page → Option ℕ → Ran
+map_step depth limit es page (Some base) = record { entries = es; answer = Overlap base }
+map_step depth limit es page None =
     let grown = kept.put nat_cmp page.base page es in
     if nat_le (count depth grown) limit then record { entries = grown; answer = Done } else record { entries = es; answer = Full (count depth grown) }
 
-abbrev unmapped : Entries → ℕ → Option Page → Ran
-unmapped es base None = record { entries = es; answer = NotMapped }
-unmapped es base (Some page) =
+abbrev unmap_step : Entries → ℕ → Option Page → Ran
+unmap_step es base None = record { entries = es; answer = NotMapped }
+unmap_step es base (Some page) =
     if eqb page.base base then record { entries = without base es; answer = Removed page.phys page.size page.rights }
     else record { entries = es; answer = Inside page.base }
 
-abbrev protected : Entries → ℕ → Rights → Option Page → Ran
-protected es base rights None = record { entries = es; answer = NotMapped }
-protected es base rights (Some page) =
+abbrev protect_step : Entries → ℕ → Rights → Option Page → Ran
+protect_step es base rights None = record { entries = es; answer = NotMapped }
+protect_step es base rights (Some page) =
     if eqb page.base base then record { entries = kept.put nat_cmp page.base (record page { rights = rights }) es; answer = Changed page.rights }
     else record { entries = es; answer = Inside page.base }
 
 abbrev pub run_one : Depth → ℕ → Entries → Action → Ran
-run_one depth limit es (Map page) = mapped depth limit es page (least (map (λ p. p.base) (filter (overlaps page) (map (λ e. e.1) es))))
-run_one depth limit es (Unmap base) = unmapped es base (at es base)
-run_one depth limit es (Protect base rights) = protected es base rights (at es base)
+run_one depth limit es (Map page) = map_step depth limit es page (least (map (λ p. p.base) (filter (overlaps page) (map (λ e. e.1) es))))
+run_one depth limit es (Unmap base) = unmap_step es base (at es base)
+run_one depth limit es (Protect base rights) = protect_step es base rights (at es base)
 
 record Agrees (stepped : Stepped) (ran : Ran) : Type 0 where
   entries : finite.entries stepped.space ≡ ran.entries
@@ -179,10 +179,10 @@ page_computes depth limit actions address = ap (λ es. at es address) (entries_r
 
 -- how an address looks after them
 pub look_computes : (depth : Depth) (limit : ℕ) (actions : List Action) (address : ℕ)
-    → look_after depth limit actions address ≡ looked address (at (run_entries depth limit [] actions) address)
-look_computes depth limit actions address = ap (looked address) (page_computes depth limit actions address)
+    → look_after depth limit actions address ≡ look_in_page address (at (run_entries depth limit [] actions) address)
+look_computes depth limit actions address = ap (look_in_page address) (page_computes depth limit actions address)
 
 -- what an access is answered after them
 pub allow_computes : (depth : Depth) (limit : ℕ) (actions : List Action) (address : ℕ) (mode : Mode) (access : Access)
-    → allow_after depth limit actions address mode access ≡ allowed address mode access (at (run_entries depth limit [] actions) address)
-allow_computes depth limit actions address mode access = ap (allowed address mode access) (page_computes depth limit actions address)
+    → allow_after depth limit actions address mode access ≡ allow_in_page address mode access (at (run_entries depth limit [] actions) address)
+allow_computes depth limit actions address mode access = ap (allow_in_page address mode access) (page_computes depth limit actions address)

@@ -21,7 +21,7 @@ use Rattle.vs_types.proofs.Spaces.{same_key, is_true, both_true, below_key, hold
 use Rattle.vs_walk.specs.Memory.{Memory, AreWhole}
 use Rattle.vs_walk.specs.Walk.{as_walk, TranslatesAs}
 use Rattle.vs_walk.specs.Traversal.{traversal, found, walk_fault}
-use Rattle.vs_walk.specs.Laws.{covering, as_found}
+use Rattle.vs_walk.specs.Laws.{page_covering, as_found}
 use Rattle.vs_walk.specs.declared.walk.WalkFault.{WalkFault}
 use Rattle.vs_walk.specs.declared.walk.WalkFault.TheVariants as faults
 use Rattle.vs_walk.proofs.LawsOfTranslations.{not_reserved, not_missing}
@@ -80,9 +80,9 @@ pub record ArePages (depth : Depth) (ps : List Page) : Type 0 where
   pub apart : (p q : Page) (address : ℕ) → Contains ps p → Contains ps q → IsTrue (covers p address) → IsTrue (covers q address) → p ≡ q
   pub rise : AllPairs (λ p q. p.base < q.base) ps
 
-covering_own : {depth : Depth} {ps : List Page} → ArePages depth ps → (p : Page) → Contains ps p → covering p.base ps ≡ Some p
+covering_own : {depth : Depth} {ps : List Page} → ArePages depth ps → (p : Page) → Contains ps p → page_covering p.base ps ≡ Some p
 covering_own {depth} {ps} are p in_ps =
-    elim (covering p.base ps) as (λ o. covering p.base ps ≡ o → o ≡ Some p) [
+    elim (page_covering p.base ps) as (λ o. page_covering p.base ps ≡ o → o ≡ Some p) [
       | None ↦ λ e. let other = find_nothing (λ x. covers x p.base) ps p e in_ps in let here = covers_base p in cc
       | Some q ↦ λ e. let there = find_found (λ x. covers x p.base) ps q e in ap Some (are.apart q p p.base there.0 in_ps there.1 (covers_base p))
     ] refl
@@ -98,12 +98,12 @@ same_by_walk p q p_aligned q_aligned covered look =
 
 -- a page of the one is a page of the other
 pub in_other : {depth : Depth} {ps qs : List Page} → ArePages depth ps → ArePages depth qs
-    → ((address : ℕ) → IsCanonical depth address → as_found address (covering address ps) ≡ as_found address (covering address qs)) → (p : Page)
+    → ((address : ℕ) → IsCanonical depth address → as_found address (page_covering address ps) ≡ as_found address (page_covering address qs)) → (p : Page)
     → Contains ps p → Contains qs p
 in_other {depth} {ps} {qs} left right alike p in_ps =
-    let own : as_found p.base (covering p.base ps) ≡ as_found p.base (Some p) = ap (as_found p.base) (covering_own left p in_ps) in
-    let same : as_found p.base (Some p) ≡ as_found p.base (covering p.base qs) = sym own ∙ alike p.base (left.canonical p in_ps) in
-    elim (covering p.base qs) as (λ o. covering p.base qs ≡ o → as_found p.base (Some p) ≡ as_found p.base o → Contains qs p) [
+    let own : as_found p.base (page_covering p.base ps) ≡ as_found p.base (Some p) = ap (as_found p.base) (covering_own left p in_ps) in
+    let same : as_found p.base (Some p) ≡ as_found p.base (page_covering p.base qs) = sym own ∙ alike p.base (left.canonical p in_ps) in
+    elim (page_covering p.base qs) as (λ o. page_covering p.base qs ≡ o → as_found p.base (Some p) ≡ as_found p.base o → Contains qs p) [
       | None ↦ λ e is. cc
       | Some q ↦ λ e is.
           let there = find_found (λ x. covers x p.base) qs q e in
@@ -111,7 +111,7 @@ in_other {depth} {ps} {qs} left right alike p in_ps =
     ] refl same
 
 pub same_pages : {depth : Depth} {ps qs : List Page} → ArePages depth ps → ArePages depth qs
-    → ((address : ℕ) → IsCanonical depth address → as_found address (covering address ps) ≡ as_found address (covering address qs)) → ps ≡ qs
+    → ((address : ℕ) → IsCanonical depth address → as_found address (page_covering address ps) ≡ as_found address (page_covering address qs)) → ps ≡ qs
 same_pages {ps = ps} {qs = qs} left right alike =
     same_rising ps qs left.rise right.rise (in_other left right alike) (in_other right left (λ address canonical. sym (alike address canonical)))
 
@@ -182,7 +182,7 @@ pub found_translates : (depth : Depth) (memory : Memory) (root : ℕ) (space : S
     → found (traversal depth memory root) ≡ pages space → TranslatesAs depth memory root space
 found_translates depth memory root space whole none same address canonical =
     faultless_walk depth memory root address whole canonical none
-    ∙ ap (λ ps. as_found address (covering address ps)) same
+    ∙ ap (λ ps. as_found address (page_covering address ps)) same
     ∙ sym (as_looked space address (page_at space address) refl)
 
 found_well : (address : ℕ) (page : Option Page) → unfaulted (as_found address page) ≡ as_found address page

@@ -19,7 +19,7 @@ use Rattle.vs_walk.specs.Memory.{Memory, AreWhole}
 use Rattle.vs_walk.specs.Walk.{all_rights, walk}
 use Rattle.vs_walk.specs.Traversal.{Visit, OfFrame, OfLeaf, OfReservedBit, ReachedTable, entry_visits, table_visits, traversal, reached_by, reached, found}
 use Rattle.vs_walk.specs.Traversal.{walk_fault}
-use Rattle.vs_walk.specs.Laws.{covering, as_found, LeadsTo, IsTableAt, IsRoot, IsBelow, IsReservedWord}
+use Rattle.vs_walk.specs.Laws.{page_covering, as_found, LeadsTo, IsTableAt, IsRoot, IsBelow, IsReservedWord}
 use Rattle.vs_walk.specs.declared.walk.Walk.{Walk}
 use Rattle.vs_walk.specs.declared.walk.Walk.TheVariants.{NotMapped, Reserved, Missing, Mapped}
 use Rattle.vs_walk.specs.declared.walk.WalkFault.TheVariants as faults
@@ -42,14 +42,14 @@ nothing_found address None is = refl
 nothing_found address (Some page) is = cc
 
 pub each_walk : (depth : Depth) (memory : Memory) (root address : ℕ) → AreWhole memory → IsCanonical depth address → walk depth memory root address ≢ Reserved
-    → walk depth memory root address ≢ Missing → walk depth memory root address ≡ as_found address (covering address (found (traversal depth memory root)))
+    → walk depth memory root address ≢ Missing → walk depth memory root address ≡ as_found address (page_covering address (found (traversal depth memory root)))
 each_walk depth memory root address whole canonical fine there =
     same_unfaulted (walk depth memory root address) fine there ∙ walk_is_found depth memory root address whole canonical
 
 pub none_covers : (depth : Depth) (memory : Memory) (root address : ℕ) → AreWhole memory → IsCanonical depth address
-    → (walk depth memory root address ≡ Reserved) ⊎ (walk depth memory root address ≡ Missing) → covering address (found (traversal depth memory root)) ≡ None
+    → (walk depth memory root address ≡ Reserved) ⊎ (walk depth memory root address ≡ Missing) → page_covering address (found (traversal depth memory root)) ≡ None
 none_covers depth memory root address whole canonical wrong =
-    nothing_found address (covering address (found (traversal depth memory root)))
+    nothing_found address (page_covering address (found (traversal depth memory root)))
     (sym (⊎_elim (λ is. ap unfaulted is) (λ is. ap unfaulted is) wrong) ∙ walk_is_found depth memory root address whole canonical)
 
 pub visits_fine : (depth : Depth) (memory : Memory) (root : ℕ) → walk_fault depth memory root ≡ None → All (IsFine memory) (traversal depth memory root)
@@ -59,7 +59,7 @@ pub faultless_well : (depth : Depth) (memory : Memory) (root address : ℕ) → 
 faultless_well depth memory root address none = walk_well depth memory root address (visits_fine depth memory root none)
 
 pub faultless_walk : (depth : Depth) (memory : Memory) (root address : ℕ) → AreWhole memory → IsCanonical depth address → walk_fault depth memory root ≡ None
-    → walk depth memory root address ≡ as_found address (covering address (found (traversal depth memory root)))
+    → walk depth memory root address ≡ as_found address (page_covering address (found (traversal depth memory root)))
 faultless_walk depth memory root address whole canonical none =
     let well = faultless_well depth memory root address none in
     each_walk depth memory root address whole canonical well.0 well.1

@@ -18,7 +18,7 @@ use Rattle.vs_types.proofs.Pages.{covers_means}
 use Rattle.vs_walk.specs.Memory.{Memory, AreWhole}
 use Rattle.vs_walk.specs.Walk.{all_rights, walk_entry, walk_from, walk}
 use Rattle.vs_walk.specs.Traversal.{ReachedTable, canonical_from, entry_visits, table_visits, traversal, found_by, found}
-use Rattle.vs_walk.specs.Laws.{covering, as_found}
+use Rattle.vs_walk.specs.Laws.{page_covering, as_found}
 use Rattle.vs_walk.specs.declared.walk.Walk.{Walk}
 use Rattle.vs_walk.specs.declared.walk.Walk.TheVariants.{NotMapped, Reserved, Missing, Mapped}
 use Rattle.vs_walk.proofs.Walks.{walk_nowhere, walk_missing, walk_at}
@@ -57,7 +57,7 @@ lies_outside {depth} {page} low high bits lies outside =
 
 -- nothing that is found at another entry covers the address
 pub other_entry : (depth : Depth) (memory : Memory) → AreWhole memory → (level : ℕ) (table : ReachedTable) (index rest k word : ℕ) → IsPlaced (suc level) table
-    → rest < entry_bytes (suc level) → k ≢ index → covering (canonical_from depth (table.start + index * entry_bytes (suc level) + rest))
+    → rest < entry_bytes (suc level) → k ≢ index → page_covering (canonical_from depth (table.start + index * entry_bytes (suc level) + rest))
     (found (at_word_met depth memory level table (k, word))) ≡ None
 other_entry depth memory whole level table index rest k word placed small other =
     find_none (λ page. covers page (canonical_from depth (table.start + index * entry_bytes (suc level) + rest)))
@@ -99,7 +99,7 @@ leaf_walk : (depth : Depth) (level : ℕ) (table : ReachedTable) (index rest wor
     → meaning (suc level) word ≡ entry.Leaf phys own → rest < entry_bytes (suc level)
     → address ≡ canonical_from depth (table.start + index * entry_bytes (suc level) + rest) → address % entry_bytes (suc level) ≡ rest
     → Mapped (phys + address % entry_bytes (suc level)) (size_at (suc level)) (intersection table.rights own) ≡ as_found address
-    (covering address (record {
+    (page_covering address (record {
       base = canonical_from depth (table.start + index * entry_bytes (suc level));
       size = size_at (suc level);
       phys =
@@ -132,14 +132,14 @@ abbrev pub WalkIsFound : Depth → Memory → ℕ → Type 0
 WalkIsFound depth memory level = (table : ReachedTable) (address offset above : ℕ) → IsPlaced level table → offset < table_bytes level
     → address ≡ above * table_bytes level + offset → address ≡ canonical_from depth (table.start + offset)
     → unfaulted (walk_from memory level table.number table.rights address) ≡ as_found address
-    (covering address (found (table_visits depth memory level table)))
+    (page_covering address (found (table_visits depth memory level table)))
 
 entry_walk : (depth : Depth) (memory : Memory) (level : ℕ) (table : ReachedTable) (index rest word address above : ℕ) (means : Meaning)
     → WalkIsFound depth memory level → IsPlaced (suc level) table → meaning (suc level) word ≡ means → rest < entry_bytes (suc level)
     → address ≡ canonical_from depth (table.start + index * entry_bytes (suc level) + rest) → address % entry_bytes (suc level) ≡ rest
     → address ≡ above * entry_bytes (suc level) + rest → unfaulted
     (walk_entry (suc level) table.rights address (λ next own. walk_from memory level next own address) means) ≡ as_found address
-    (covering address (found (entry_visits depth (suc level) table index (λ next. table_visits depth memory level next) means)))
+    (page_covering address (found (entry_visits depth (suc level) table index (λ next. table_visits depth memory level next) means)))
 entry_walk depth memory level table index rest word address above entry.Absent lower placed is small at over split = refl
 entry_walk depth memory level table index rest word address above entry.Reserved lower placed is small at over split = refl
 entry_walk depth memory level table index rest word address above (entry.Leaf phys own) lower placed is small at over split =
@@ -156,34 +156,34 @@ words_walk : (depth : Depth) (memory : Memory) → AreWhole memory → (level : 
     → rest < entry_bytes (suc level) → address ≡ canonical_from depth (table.start + index * entry_bytes (suc level) + rest)
     → address % entry_bytes (suc level) ≡ rest → address ≡ above * entry_bytes (suc level) + rest
     → unfaulted (walk_from memory (suc level) table.number table.rights address) ≡ as_found address
-    (covering address (found (table_visits depth memory (suc level) table)))
+    (page_covering address (found (table_visits depth memory (suc level) table)))
 words_walk depth memory whole level table address index rest above words lower placed is place small at over split =
     let word : ℕ = get_or words index 0 in
     let means : Meaning = meaning (suc level) word in
-    let only : covering address (found (flat_map (at_word_met depth memory level table) (enumerate_from 0 words))) ≡ covering address
+    let only : page_covering address (found (flat_map (at_word_met depth memory level table) (enumerate_from 0 words))) ≡ page_covering address
     (found (at_word_met depth memory level table (0 + index, word))) =
     find_at_word (at_word_met depth memory level table) found_by (λ page. covers page address) words 0 index
-    (λ k other differs. subst (λ a. covering a (found (at_word_met depth memory level table (k, other))) ≡ None) (sym at)
+    (λ k other differs. subst (λ a. page_covering a (found (at_word_met depth memory level table (k, other))) ≡ None) (sym at)
     (other_entry depth memory whole level table index rest k other placed small (λ same. differs (same ∙ omega arith))))
     refl in
     ap unfaulted (walk_at memory level table.number table.rights address words means is (ap (λ i. meaning (suc level) (slice_index words i)) place))
     ∙ entry_walk depth memory level table index rest word address above means lower placed refl small at over split
-    ∙ ap (λ i. as_found address (covering address (found (at_word_met depth memory level table (i, word))))) (omega arith)
+    ∙ ap (λ i. as_found address (page_covering address (found (at_word_met depth memory level table (i, word))))) (omega arith)
     ∙ ap (as_found address) (sym only)
-    ∙ ap (λ ms. as_found address (covering address (found ms))) (sym (table_met depth memory level table words is))
+    ∙ ap (λ ms. as_found address (page_covering address (found ms))) (sym (table_met depth memory level table words is))
 
 -- the walk from a table is what is found in it
 pub table_walk : (depth : Depth) (memory : Memory) → AreWhole memory → (level : ℕ) → WalkIsFound depth memory level
 table_walk depth memory whole zero table address offset above placed lt split at =
     ap unfaulted (walk_nowhere memory table.number table.rights address)
-    ∙ ap (λ ms. as_found address (covering address (found ms))) (sym (nothing_met depth memory table))
+    ∙ ap (λ ms. as_found address (page_covering address (found ms))) (sym (nothing_met depth memory table))
 table_walk depth memory whole (suc level) table address offset above placed lt split at =
     elim (finite.get memory table.number) as (λ o. finite.get memory table.number ≡ o
     → unfaulted (walk_from memory (suc level) table.number table.rights address) ≡ as_found address
-    (covering address (found (table_visits depth memory (suc level) table)))) [
+    (page_covering address (found (table_visits depth memory (suc level) table)))) [
       | None ↦ λ is.
           ap unfaulted (walk_missing memory level table.number table.rights address is)
-          ∙ ap (λ ms. as_found address (covering address (found ms))) (sym (missing_met depth memory level table is))
+          ∙ ap (λ ms. as_found address (page_covering address (found ms))) (sym (missing_met depth memory level table is))
       | Some words ↦ λ is.
           let bytes : ℕ = entry_bytes (suc level) in
           let stand = stands bytes address offset above (entry_some (suc level)) (subst (λ n. offset < n) (table_is_entries level) lt)
@@ -199,7 +199,7 @@ table_walk depth memory whole (suc level) table address offset above placed lt s
 
 -- the walk of each canonical address
 pub walk_is_found : (depth : Depth) (memory : Memory) (root address : ℕ) → AreWhole memory → IsCanonical depth address
-    → unfaulted (walk depth memory root address) ≡ as_found address (covering address (found (traversal depth memory root)))
+    → unfaulted (walk depth memory root address) ≡ as_found address (page_covering address (found (traversal depth memory root)))
 walk_is_found depth memory root address whole canonical =
     let has = bits_of depth address canonical in
     table_walk depth memory whole (levels depth) (record { number = root; start = 0; rights = all_rights }) address has.bits has.above

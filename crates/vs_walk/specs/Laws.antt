@@ -13,8 +13,8 @@ use Rattle.vs_walk.specs.declared.walk.Walk.{Walk}
 use Rattle.vs_walk.specs.declared.walk.Walk.TheVariants.{NotMapped, Mapped}
 
 -- the page that covers an address, of some pages
-abbrev pub covering : ℕ → List Page → Option Page
-covering address pages = find (λ page. covers page address) pages
+abbrev pub page_covering : ℕ → List Page → Option Page
+page_covering address pages = find (λ page. covers page address) pages
 
 -- the walk of an address that this page covers, or no page
 abbrev pub as_found : ℕ → Option Page → Walk

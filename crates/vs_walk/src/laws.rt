@@ -13,7 +13,7 @@ ghost use Rattle.vs_walk.specs.Dump.{Image, IsDump};
 ghost use Rattle.vs_walk.specs.Memory.{Memory, AreWhole};
 ghost use Rattle.vs_walk.specs.Walk.{walk, TranslatesAs};
 ghost use Rattle.vs_walk.specs.Traversal.{OfReservedBit, traversal, found, reached, walk_fault};
-ghost use Rattle.vs_walk.specs.Laws.{covering, as_found, IsReservedWord};
+ghost use Rattle.vs_walk.specs.Laws.{page_covering, as_found, IsReservedWord};
 ghost use Rattle.vs_walk.specs.declared.walk.Walk.TheVariants as ends;
 ghost use Rattle.vs_walk.specs.declared.walk.WalkFault.TheVariants as faults;
 
@@ -42,18 +42,18 @@ pub fn found_pages_are_the_walks()
         → IsCanonical depth address
         → walk_fault depth memory root ≡ None
         → walk depth memory root address
-        ≡ as_found address (covering address (found (traversal depth memory root))) }
+        ≡ as_found address (page_covering address (found (traversal depth memory root))) }
     ensures each { (depth : Depth) (memory : Memory) (root address : ℕ) → AreWhole memory
         → IsCanonical depth address
         → walk depth memory root address ≢ ends.Reserved
         → walk depth memory root address ≢ ends.Missing
         → walk depth memory root address
-        ≡ as_found address (covering address (found (traversal depth memory root))) }
+        ≡ as_found address (page_covering address (found (traversal depth memory root))) }
     ensures none { (depth : Depth) (memory : Memory) (root address : ℕ) → AreWhole memory
         → IsCanonical depth address
         → (walk depth memory root address ≡ ends.Reserved) ⊎
         (walk depth memory root address ≡ ends.Missing)
-        → covering address (found (traversal depth memory root)) ≡ None }
+        → page_covering address (found (traversal depth memory root)) ≡ None }
 {}
 
 /// The pages that are found are well formed. Their bases rise, each page ends at the base of the next or before, and

@@ -6,7 +6,7 @@ ghost use Rattle.vs_walk.specs.Reached.{AreJust};
 ghost use Rattle.vs_walk.specs.Traversal.{traversal, reached, found, walk_fault};
 ghost use Rattle.vs_walk.specs.Walk.{walk};
 ghost use Rattle.vs_walk.specs.Memory.{AreWhole};
-ghost use Rattle.vs_walk.specs.Laws.{covering, as_found};
+ghost use Rattle.vs_walk.specs.Laws.{page_covering, as_found};
 
 use crate::frames::Frames;
 use crate::pages::{Leaves, Pages};
@@ -39,7 +39,7 @@ pub fn leaves<F: Frames>(
     ensures walked { IfOk result
         (λ leaves. AreWhole (F.memory frames.now) → (address : ℕ) → IsCanonical depth address
         → walk depth (F.memory frames.now) root address
-        ≡ as_found address (covering address leaves.pages)) }
+        ≡ as_found address (page_covering address leaves.pages)) }
     ensures first { IfErr result
         (IfRefused (λ fault. walk_fault depth (F.memory frames.now) root ≡ Some fault)) }
 {

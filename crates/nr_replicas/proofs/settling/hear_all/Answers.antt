@@ -1,7 +1,7 @@
 use Rattle.std.proofs.Common.{◌≡◌, ◌<◌, ◌≤◌, List, [], ◌∷◌, All, length, take, get_or, slice_set, ap, sym, subst, ◌∙◌, arith}
 use Rattle.std.proofs.lemmas.List.{set-get_or, take_all}
 use Rattle.std.proofs.lemmas.List.Elements.{All-append}
-use Rattle.nr_ring.specs.Calls.{HasLooked, copy_of, joined}
+use Rattle.nr_ring.specs.Calls.{HasLooked, copy_of, joint_view}
 use Rattle.nr_ring.specs.Pass.{Known}
 use Rattle.nr_ring.specs.View.{StartsWith}
 use Rattle.nr_node.proofs.Lists.{all_one, take_to_one_more}
@@ -26,7 +26,7 @@ loop-i-preserved g c =
     let here : pass ≡ get_or was i pass = subst Here c.index-passes-i.is (subst Found is.0 c.index-passes-i.is) in
     let within : i < length was = omega (arith, c.loop-i-test.true, ap (λ (l : List Known). length l) is.0) in
     let Begins : Known → Type 0 = λ p. StartsWith after.seen p.view.seen in
-    let looked : HasLooked depth replicas (joined before (copy_of pass.view)) after = c.meet.ensures.looked in
+    let looked : HasLooked depth replicas (joint_view before (copy_of pass.view)) after = c.meet.ensures.looked in
     let knows : StartsWith after.seen pass.view.seen = c.meet.ensures.met.0 in
     let goes_on : StartsWith after.seen before.seen = c.meet.ensures.met.1 in (
       ap (λ (p : Known). slice_set c.loop-i.passes i p) c.meet.ensures.pass ∙ set-get_or c.loop-i.passes i found ∙ is.0,

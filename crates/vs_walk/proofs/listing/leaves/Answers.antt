@@ -2,7 +2,7 @@ use Rattle.std.proofs.Common.{◌≡◌, ◌<◌, List, [], sym, ap, subst, ◌�
 use Rattle.std.specs.List.{AllPairs}
 use Rattle.vs_types.specs.declared.page.Page.{Page}
 use Rattle.vs_walk.specs.Traversal.{traversal, found}
-use Rattle.vs_walk.specs.Laws.{covering, as_found}
+use Rattle.vs_walk.specs.Laws.{page_covering, as_found}
 use Rattle.vs_walk.proofs.LawsOfTraversals.{faultless_walk}
 use Rattle.vs_walk.proofs.LawsOfRising.{pages_rise, bases_rise}
 use Rattle.vs_walk.proofs.listing.leaves.Goals as goal
@@ -22,4 +22,4 @@ returns-clause-walked g c whole address canonical =
     let ps = found (traversal c.args.depth (g.F.Frames.memory c.args.frames.now) c.args.root) in
     let listed : c.traverse.new.visitor ≡ ps = c.in_ok-reached.ensures.pages [] c.new-pages.ensures in
     faultless_walk c.args.depth (g.F.Frames.memory c.args.frames.now) c.args.root address whole canonical c.in_ok-reached.ensures.faultless
-    ∙ ap (λ (pages : List Page). as_found address (covering address pages)) (sym listed)
+    ∙ ap (λ (pages : List Page). as_found address (page_covering address pages)) (sym listed)

@@ -1,6 +1,6 @@
 use Rattle.std.proofs.Common.{rules, ℕ, ◌-◌, List, ap, ◌∙◌, sym, subst, drop, take, arith}
 use Rattle.nr_ring.specs.declared.view.View.{View}
-use Rattle.nr_ring.specs.Calls.{AreCut, IsCut, keeping, offshoot}
+use Rattle.nr_ring.specs.Calls.{AreCut, IsCut, left_view, offshoot}
 use Rattle.nr_ring.specs.inside.Held.{new_view, Remembers}
 use Rattle.nr_ring.specs.Words.{new_words}
 use Rattle.nr_ring.proofs.Splits.{split_forks}
@@ -36,7 +36,7 @@ returns-clause-first g c =
     let rights = c.args.first.now.view.rights in (
       c.split_pass-pass.ensures.same.0,
       c.split_pass-pass.ensures.same.2,
-      c.split_pass-pass.ensures.kept ∙ ap (λ (v : View). keeping v (drop 1 v.owns) (rights - 1)) c.requires.first.1
+      c.split_pass-pass.ensures.kept ∙ ap (λ (v : View). left_view v (drop 1 v.owns) (rights - 1)) c.requires.first.1
           ∙ ap (λ owns. new_view owns (rights - 1)) (keeps_rest replicas c.args.replica c.requires.few.1),
     )
 
