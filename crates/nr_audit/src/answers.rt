@@ -8,8 +8,9 @@ ghost use Rattle.nr_audit.specs.inside.Search.{HasNone, IsFirstAmong};
 ghost use Rattle.nr_audit.specs.inside.Passes.{IsAnswerFault};
 ghost use Rattle.nr_audit.specs.inside.Steps.{Serves, space_of};
 
-use crate::last_events::{answer_at, call_at};
+use crate::last_events::{LastEvents, answer_at, call_at};
 use crate::requests::request_of;
+use crate::verdict::Order;
 use nr_trace::{Fault, Trace};
 use std::alloc::Global;
 use vs_plain::PlainSpace;
@@ -43,17 +44,12 @@ fn agrees(told: Option<Answer>, answer: Answer) -> bool
     }
 }
 
-/// Serves the calls of a trace in the recorded order on one space, and looks for an answer that is not the space's. The calls
-/// come by their last events, and each is put in the place of its event. Gives the space after all of them, and takes
-/// memory for it.
-pub(crate) fn check_answers(
-    alloc: Global,
-    trace: &Trace,
-    order: &mut [u32],
-) -> Result<PlainSpace, Fail<Fault>>
+/// Serves the calls of a trace in the recorded order on one space, and looks for an answer that is not the space's. Puts each
+/// call in the place of its last event.
+fn serve_calls(alloc: Global, trace: &Trace, members: &mut [u32]) -> Result<PlainSpace, Fail<Fault>>
     requires clean { HasCleanLog trace.now }
-    requires listed { AreLastEvents trace.now (recorded_order trace.now) order.old }
-    ensures calls { OnOk result (order.new ≡ recorded_order trace.now) }
+    requires listed { AreLastEvents trace.now (recorded_order trace.now) members.old }
+    ensures calls { OnOk result (members.new ≡ recorded_order trace.now) }
     ensures space { IfOk result
         (λ space. space ≡ space_of trace.now.layout (space_after trace.now trace.now.log)) }
     ensures right { OnOk result (HasNone IsAnswerFault trace.now) }
@@ -61,7 +57,7 @@ pub(crate) fn check_answers(
 {
     let config = trace.config();
     let mut space = PlainSpace::new(alloc, config.tables(), config.depth());
-    for member in order.iter_mut() {
+    for member in members.iter_mut() {
         let event = *member;
         let call = call_at(trace, event);
         *member = call;
@@ -74,4 +70,25 @@ pub(crate) fn check_answers(
         }
     }
     Ok(space)
+}
+
+/// Serves the calls of a trace, which come by their last events in the recorded order, on one space, and looks for an answer
+/// that is not the space's. Gives the order of the calls, in the memory of the events, and the space after all of them, and
+/// takes memory for that.
+pub(crate) fn check_answers(
+    alloc: Global,
+    trace: &Trace,
+    events: LastEvents,
+) -> Result<(Order, PlainSpace), Fail<Fault>>
+    requires clean { HasCleanLog trace.now }
+    requires listed { AreLastEvents trace.now (recorded_order trace.now) events }
+    ensures calls { IfOk result (λ served. served.0 ≡ recorded_order trace.now) }
+    ensures space { IfOk result
+        (λ served. served.1 ≡ space_of trace.now.layout (space_after trace.now trace.now.log)) }
+    ensures right { OnOk result (HasNone IsAnswerFault trace.now) }
+    ensures first { IfErr result (IfRefused (IsFirstAmong IsAnswerFault trace.now)) }
+{
+    let mut members = events.into_events();
+    let space = serve_calls(alloc, trace, &mut members)?;
+    Ok((Order::of(members), space))
 }

@@ -10,7 +10,7 @@ ghost use Rattle.nr_audit.specs.Headline.{AreRightWith, HasFittingDumps, IsSpell
 ghost use Rattle.nr_audit.specs.Verdict.{IfYes, IsVerdictOf, IsVerdictOn};
 
 use crate::search::search;
-use crate::verdict::{Order, Verdict};
+use crate::verdict::Verdict;
 use nr_trace::{Fault, Format, Trace, read};
 use std::alloc::Global;
 use vs_types::{Fail, Memory};
@@ -41,7 +41,7 @@ pub fn judge(alloc: Global, trace: &Trace) -> Result<Verdict, Memory>
     ensures dumps { IfOk result (IfYes (HasFittingDumps trace.now)) }
 {
     match search(alloc, trace) {
-        Ok(order) => Ok(Verdict::Yes(Order::of(order))),
+        Ok(order) => Ok(Verdict::Yes(order)),
         Err(Fail::Memory) => Err(Memory),
         Err(Fail::Refused(fault)) => Ok(Verdict::No(fault)),
     }

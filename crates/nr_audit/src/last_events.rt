@@ -3,20 +3,59 @@ ghost use Rattle.nr_trace.specs.Calls.{IsCall, reply_of};
 ghost use Rattle.nr_audit.specs.inside.LastEvents.{call_at, AreLastEvents};
 
 use crate::history::History;
+use crate::verdict::Order;
 use nr_trace::{Event, Trace};
+use std::marker::Model;
 use vs_types::Answer;
 
-/// The last event of each call of an order, in place of the call: the reply to it, or the call itself where it has none. Such
-/// an event tells its call, and what that is answered. The history is given back.
-pub(crate) fn last_events(history: History, order: Vec<u32>) -> Vec<u32>
-    requires { All (IsCall history) order.items }
-    ensures { AreLastEvents history.entry order.items result.items }
+/// The calls of an order by the index of the last event of each: the reply to it, or the call itself where it has none. Such an
+/// event tells its call, and what that is answered. Contracts see the list of the events.
+#[derive(Drop)]
+pub(crate) struct LastEvents {
+    events: Vec<u32>,
+}
+
+impl Model for LastEvents {
+    ghost use Rattle.std.specs.Prelude.{ℕ, List};
+    ghost use Rattle.std.specs.Coded.{coded_ℕ, coded_list};
+
+    ghost Value = { List ℕ };
+
+    ghost coded = { coded_list coded_ℕ };
+
+    ghost view = { λ l. l.events.items };
+}
+
+impl LastEvents {
+    ghost use Rattle.std.specs.Prelude.{◌≡◌};
+
+    /// Those of an order, in the memory of it. The history is given back.
+    pub(crate) fn of(history: History, order: Order) -> LastEvents
+        requires { All (IsCall history) order }
+        ensures { AreLastEvents history.entry order result }
+    {
+        LastEvents {
+            events: put_last_events(history, order.into_calls()),
+        }
+    }
+
+    pub(crate) fn into_events(self) -> Vec<u32>
+        ensures { result.items ≡ self }
+    {
+        self.events
+    }
+}
+
+/// Puts the last event of each call in the place of the call.
+fn put_last_events(history: History, calls: Vec<u32>) -> Vec<u32>
+    requires { All (IsCall history) calls.items }
+    ensures { AreLastEvents history.entry calls.items result.items }
 {
-    let mut events = order;
-    for member in events.iter_mut() {
+    let mut members = calls;
+    for member in members.iter_mut() {
         *member = history.last_event(*member);
     }
-    events
+    members
 }
 
 /// The call of an event: that which a reply names, or the one that the event is.

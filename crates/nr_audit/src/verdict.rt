@@ -27,6 +27,12 @@ impl Order {
         Order { calls }
     }
 
+    pub(crate) fn into_calls(self) -> Vec<u32>
+        ensures { result.items ≡ self }
+    {
+        self.calls
+    }
+
     /// The calls from the first to the last.
     pub fn calls(&self) -> &[u32]
         ensures { result.now ≡ self.now }

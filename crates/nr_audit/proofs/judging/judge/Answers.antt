@@ -6,19 +6,19 @@ use Rattle.nr_audit.proofs.judging.judge.Goals as goal
 
 -- src/judging.rt:43:19
 pub returns-in-Ok-clause-members : goal.returns-in-Ok-clause-members
-returns-in-Ok-clause-members c = members_on c.args.trace.now (Yes c.of.result) (c.in-Ok.ensures.none.0, c.of.ensures ∙ c.in-Ok.ensures.none.1)
+returns-in-Ok-clause-members c = members_on c.args.trace.now (Yes c.in-Ok.order) c.in-Ok.ensures.none
 
 -- src/judging.rt:43:19
 pub returns-in-Ok-clause-precedence : goal.returns-in-Ok-clause-precedence
-returns-in-Ok-clause-precedence c = precedence_on c.args.trace.now (Yes c.of.result) (c.in-Ok.ensures.none.0, c.of.ensures ∙ c.in-Ok.ensures.none.1)
+returns-in-Ok-clause-precedence c = precedence_on c.args.trace.now (Yes c.in-Ok.order) c.in-Ok.ensures.none
 
 -- src/judging.rt:43:19
 pub returns-in-Ok-clause-answers : goal.returns-in-Ok-clause-answers
-returns-in-Ok-clause-answers c = answers_on c.args.trace.now (Yes c.of.result) (c.in-Ok.ensures.none.0, c.of.ensures ∙ c.in-Ok.ensures.none.1)
+returns-in-Ok-clause-answers c = answers_on c.args.trace.now (Yes c.in-Ok.order) c.in-Ok.ensures.none
 
 -- src/judging.rt:43:19
 pub returns-in-Ok-clause-dumps : goal.returns-in-Ok-clause-dumps
-returns-in-Ok-clause-dumps c = dumps_on c.args.trace.now (Yes c.of.result) (c.in-Ok.ensures.none.0, c.of.ensures ∙ c.in-Ok.ensures.none.1)
+returns-in-Ok-clause-dumps c = dumps_on c.args.trace.now (Yes c.in-Ok.order) c.in-Ok.ensures.none
 
 -- src/judging.rt:45:38
 pub returns-in-Err-Refused-clause-no : goal.returns-in-Err-Refused-clause-no

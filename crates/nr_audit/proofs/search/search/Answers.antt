@@ -35,8 +35,8 @@ returns-in_err-standing-clause-first c =
     let p = err_from_is_err_and c.from_residual-in_err-standing.result c.from_residual-in_err-standing.ensures.1 in
     rw (p.1, p.2) (refused_of c.in_ok-history.history c.args.trace.now _ c.in_ok-history.ensures.history c.in_err-standing.ensures.first)
 
-pub last_events-order-requires : goal.last_events-order-requires
-last_events-order-requires c =
+pub of-events-requires : goal.of-events-requires
+of-events-requires c =
     let t = c.in_ok-history.history in
     let calls = subst (λ t. HasNone IsCallFault t) (sym c.in_ok-history.ensures.history) c.in_ok-history.ensures.clean in
     let clean = clean_after_positions t (after_positions t calls c.in_ok-places.ensures.clean c.in_ok-standing.ensures.clean.0) in
@@ -51,23 +51,23 @@ check_answers-requires-clause-clean c =
 
 pub check_answers-requires-clause-listed : goal.check_answers-requires-clause-listed
 check_answers-requires-clause-listed c =
-    let t = c.args.trace.now in
-    subst (λ events. AreLastEvents t (recorded_order t) events) (sym c.deref_mut.ensures.value)
-    (subst (λ t. AreLastEvents t (recorded_order t) c.last_events-order.result.items) c.in_ok-history.ensures.history
-    (subst (λ order. AreLastEvents c.in_ok-history.history order c.last_events-order.result.items) c.in_ok-order.ensures c.last_events-order.ensures))
+    let t = c.in_ok-history.history in
+    let events = c.of-events.result in
+    subst (λ t. AreLastEvents t (recorded_order t) events) c.in_ok-history.ensures.history
+    (subst (λ order. AreLastEvents t order events) c.in_ok-order.ensures c.of-events.ensures)
 
-pub returns-in_err-space-clause-first : goal.returns-in_err-space-clause-first
-returns-in_err-space-clause-first c =
-    let p = err_from_is_err_and c.from_residual-in_err-space.result c.from_residual-in_err-space.ensures.1 in
+pub returns-in_err-order-2-clause-first : goal.returns-in_err-order-2-clause-first
+returns-in_err-order-2-clause-first c =
+    let p = err_from_is_err_and c.from_residual-in_err-order-2.result c.from_residual-in_err-order-2.ensures.1 in
     let same = c.in_ok-history.ensures.history in
     let t = c.in_ok-history.history in
     let calls = subst (λ t. HasNone IsCallFault t) (sym same) c.in_ok-history.ensures.clean in
     rw (p.1, p.2) (refused_of t c.args.trace.now _ same (refused_by_pass 6 IsAnswerFault t _ answer_faults
     (after_floors t calls c.in_ok-places.ensures.clean c.in_ok-standing.ensures.clean.0 c.in_ok-standing.ensures.clean.1)
-    (refused_in IsAnswerFault c.args.trace.now t _ (sym same) c.in_err-space.ensures.first)))
+    (refused_in IsAnswerFault c.args.trace.now t _ (sym same) c.in_err-order-2.ensures.first)))
 
 pub check_dumps-requires-clause-space : goal.check_dumps-requires-clause-space
-check_dumps-requires-clause-space c = c.in_ok-space.ensures.space
+check_dumps-requires-clause-space c = c.in_ok-order-2.ensures.space
 
 pub returns-in_err-check_dumps-clause-first : goal.returns-in_err-check_dumps-clause-first
 returns-in_err-check_dumps-clause-first c =
@@ -75,7 +75,7 @@ returns-in_err-check_dumps-clause-first c =
     let same = c.in_ok-history.ensures.history in
     let t = c.in_ok-history.history in
     let calls = subst (λ t. HasNone IsCallFault t) (sym same) c.in_ok-history.ensures.clean in
-    let right = subst (λ t. HasNone IsAnswerFault t) (sym same) c.in_ok-space.ensures.right in
+    let right = subst (λ t. HasNone IsAnswerFault t) (sym same) c.in_ok-order-2.ensures.right in
     rw (p.1, p.2) (refused_of t c.args.trace.now _ same (refused_by_pass 7 IsDumpFault t _ dump_faults
     (after_answers t calls c.in_ok-places.ensures.clean c.in_ok-standing.ensures.clean.0 c.in_ok-standing.ensures.clean.1 right)
     (refused_in IsDumpFault c.args.trace.now t _ (sym same) c.in_err-check_dumps.ensures.first)))
@@ -85,13 +85,9 @@ returns-clause-none c =
     let same = c.in_ok-history.ensures.history in
     let t = c.in_ok-history.history in
     let calls = subst (λ t. HasNone IsCallFault t) (sym same) c.in_ok-history.ensures.clean in
-    let right = subst (λ t. HasNone IsAnswerFault t) (sym same) c.in_ok-space.ensures.right in
-    let dumps = subst (λ t. HasNone IsDumpFault t) (sym same) c.in_ok-check_dumps.ensures.clean in
-    let events = c.last_events-order.result in
-    let order = c.check_answers.new.order in
-    let as_many : events.len ≡ length order = omega (arith, events.ok.0, ap length c.deref_mut.ensures.value, c.check_answers.auto.order) in (
+    let right = subst (λ t. HasNone IsAnswerFault t) (sym same) c.in_ok-order-2.ensures.right in
+    let dumps = subst (λ t. HasNone IsDumpFault t) (sym same) c.in_ok-check_dumps.ensures.clean in (
       subst (λ t. IsFaultless t) same (faultless_after_all t (after_dumps t calls c.in_ok-places.ensures.clean c.in_ok-standing.ensures.clean.0
           c.in_ok-standing.ensures.clean.1 right dumps)),
-      ap (λ n. take n (order ++ drop (length order) events.items)) as_many ∙ take-append_seam order (drop (length order) events.items)
-          ∙ c.in_ok-space.ensures.calls,
+      c.in_ok-order-2.ensures.calls,
     )

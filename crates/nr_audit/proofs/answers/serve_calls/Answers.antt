@@ -15,7 +15,7 @@ use Rattle.nr_audit.specs.inside.Steps.{Serves}
 use Rattle.nr_audit.proofs.AnswerFaults.{kept, space_visits, space_stays, none_wrong, first_wrong, wrong_here, right_here, no_call_is_right, answered, left}
 use Rattle.nr_audit.proofs.AnswerFaults.{space_of_order, right_more}
 use Rattle.nr_audit.proofs.LastEvents.{put_more, left_more}
-use Rattle.nr_audit.proofs.answers.check_answers.Goals as goal
+use Rattle.nr_audit.proofs.answers.serve_calls.Goals as goal
 
 pub loop-member-preserved-in_default : goal.loop-member-preserved-in_default
 loop-member-preserved-in_default c =
@@ -29,8 +29,8 @@ loop-member-preserved-in_default c =
     let asks = c.request_of.ensures.asks ∙ ap (λ n. option_map (λ (made : Invocation). made.request) (call_of trace n)) call in
     let none = sym asks ∙ c.in_default.is in
     record {
-      put = put_more order c.loop-member.order k c.call_at-call.result (omega arith) is.put call;
-      left = left_more c.loop-member.order c.args.order.now k c.call_at-call.result is.left;
+      put = put_more order c.loop-member.members k c.call_at-call.result (omega arith) is.put call;
+      left = left_more c.loop-member.members c.args.members.now k c.call_at-call.result is.left;
       space = is.space ∙ ap (λ s. kept trace.layout s) (space_stays trace order k 0 within none);
       right = right_more trace order k is.right (no_call_is_right trace order refl c.requires.clean (get_or order k 0) none);
     }
@@ -69,8 +69,8 @@ loop-member-preserved c =
     let serves = subst (λ (s : BoundedSpace). Serves s request c.in_ok-answer.answer c.serve.new.space) is.space c.in_ok-answer.ensures in
     let gives = answered trace.layout (space_after trace (take k order)) request c.in_ok-answer.answer c.serve.new.space serves in
     record {
-      put = put_more order c.loop-member.order k c.call_at-call.result (omega arith) is.put call;
-      left = left_more c.loop-member.order c.args.order.now k c.call_at-call.result is.left;
+      put = put_more order c.loop-member.members k c.call_at-call.result (omega arith) is.put call;
+      left = left_more c.loop-member.members c.args.members.now k c.call_at-call.result is.left;
       space = left trace.layout (space_after trace (take k order)) request c.in_ok-answer.answer c.serve.new.space serves
           ∙ ap (λ s. kept trace.layout s) (space_visits trace order k 0 request within asks);
       right = right_more trace order k is.right
@@ -80,7 +80,7 @@ loop-member-preserved c =
 
 pub returns-clause-calls : goal.returns-clause-calls
 returns-clause-calls c =
-    same_number_lists c.loop-member.order (recorded_order c.args.trace.now) (omega arith) (λ k lt. c.loop-member.invariant.put k (omega arith))
+    same_number_lists c.loop-member.members (recorded_order c.args.trace.now) (omega arith) (λ k lt. c.loop-member.invariant.put k (omega arith))
 
 pub returns-clause-space : goal.returns-clause-space
 returns-clause-space c =
