@@ -79,13 +79,16 @@ impl<S: FrameStore> Replica<S> {
     }
 
     /// Applies the next entry of the log.
-    pub(crate) fn apply(&mut self, entry: LogEntry)
-        requires fits { IsAction self.old.depth entry.op }
+    pub(crate) fn apply(&mut self, entry: &LogEntry)
+        requires fits { IsAction self.old.depth entry.now.op }
         requires room { length self.old.entries < LOG_PLACES }
-        ensures { self.new ≡ record self.old { entries = self.old.entries ++ entry ∷ [] } }
+        ensures { self.new ≡ record self.old { entries = self.old.entries ++ entry.now ∷ [] } }
     {
         let answer = self.space.apply(entry.op);
-        self.told.push_reserved(Told { entry, answer });
+        self.told.push_reserved(Told {
+            entry: *entry,
+            answer,
+        });
     }
 
     /// Applies entries of the log, in order.
@@ -95,7 +98,7 @@ impl<S: FrameStore> Replica<S> {
         ensures { self.new ≡ record self.old { entries = self.old.entries ++ entries.now.items } }
     {
         for entry in entries.as_slice() {
-            self.apply(*entry);
+            self.apply(entry);
         }
     }
 

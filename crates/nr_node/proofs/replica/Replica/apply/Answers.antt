@@ -9,7 +9,7 @@ use Rattle.nr_node.proofs.replica.Replica.apply.Goals as goal
 pub invariant_of-self : goal.invariant_of-self
 invariant_of-self g c =
     let told = c.self.inside.told.items in
-    let t : Told = record { entry = c.args.entry; answer = c.apply-answer.result } in
+    let t : Told = record { entry = c.args.entry.now; answer = c.apply-answer.result } in
     let few : length told < LOG_PLACES = omega (arith, c.requires.room, ap (λ (r : ReplicaState). length r.entries) c.self.view_is, length-map told (λ (u : Told). u.entry)) in
     let P : List Told → Type 0 = λ l. IsReplica c.apply-answer.new.self l (Rattle.std.specs.Vec.vec_capacity c.push_reserved.new.self) in
     subst P (sym c.push_reserved.ensures.items) (one_more c.self.inside.space c.apply-answer.new.self told t _ _ c.self.invariant c.apply-answer.ensures few c.push_reserved.ensures.capacity)
