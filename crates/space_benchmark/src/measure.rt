@@ -142,7 +142,9 @@ fn now(clock: &impl Clock) -> Result<Instant, ProgFault>
     Instant::now(clock).map_err(|_| ProgFault::NoClock)
 }
 
-/// Does the operations one after another, and gives the sum with their answers.
+/// Does the operations one after another, and gives the sum with their answers. It is a function of its own for each kind of store,
+/// so that no other code takes its registers.
+#[inline(never)]
 fn apply_all<S: FrameStore>(space: &mut Space<S>, ops: &[Op], mut sum: Sum) -> Sum
     requires { All (IsAction space.old.depth) ops.now }
     ensures { Applies space.old ops.now sum.value space.new result.value }
@@ -153,7 +155,8 @@ fn apply_all<S: FrameStore>(space: &mut Space<S>, ops: &[Op], mut sum: Sum) -> S
     sum
 }
 
-/// Resolves the addresses, and gives the sum with their answers.
+/// Resolves the addresses, and gives the sum with their answers. It is a function of its own, as `apply_all` is.
+#[inline(never)]
 fn resolve_all<S: FrameStore>(space: &Space<S>, addresses: &[u64], mut sum: Sum) -> Sum
     requires { All (IsCanonical space.now.depth) addresses.now }
     ensures { (s : spaces.Space) → IsTableOf space.now s → result.value ≡ sum_of_looks s sum.value addresses.now }
