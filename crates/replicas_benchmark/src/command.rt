@@ -12,7 +12,8 @@ pub fn run<R: Env + AllocGlobal + Print + Eprint + Clock + Threads + Wait + Sync
     match try_run(rt) {
         Ok(()) => 0,
         Err(fault) => {
-            let _ = eprintln!(rt; "{fault}");
+            let text = fault.text();
+            let _ = eprintln!(rt; "{text}");
             fault.status()
         }
     }
@@ -31,13 +32,17 @@ fn read_words<R: Env + AllocGlobal>(rt: &R) -> Result<Wanted, ProgFault> {
     let words: Vec<String> = env::args(rt)
         .map_err(|_| ProgFault::Memory)?
         .collect(rt.alloc())?;
-    let [_, threads, replicas, calls, reads] = words.as_slice() else {
+    parse_words(&words)
+}
+
+fn parse_words(words: &[String]) -> Result<Wanted, ProgFault> {
+    let [_, threads, replicas, calls, reads] = words else {
         return Err(ProgFault::BadWords);
     };
-    let threads = threads.parse::<u16>().map_err(|_| ProgFault::BadWords)?;
-    let replicas = replicas.parse::<u8>().map_err(|_| ProgFault::BadWords)?;
-    let calls = calls.parse::<u32>().map_err(|_| ProgFault::BadWords)?;
-    let reads = reads.parse::<u8>().map_err(|_| ProgFault::BadWords)?;
+    let threads = threads.parse::<u16>()?;
+    let replicas = replicas.parse::<u8>()?;
+    let calls = calls.parse::<u32>()?;
+    let reads = reads.parse::<u8>()?;
     if reads > 100 {
         return Err(ProgFault::BadWords);
     }
@@ -71,9 +76,7 @@ fn print_done<R: Print>(rt: &R, all: &[Done]) -> Result<(), ProgFault> {
             updates,
             sum,
         } = *done;
-        println!(rt; "reads {reads} updates {updates} sum {sum}").map_err(
-            |_| ProgFault::CannotWrite,
-        )?;
+        println!(rt; "reads {reads} updates {updates} sum {sum}")?;
     }
     Ok(())
 }
@@ -93,8 +96,7 @@ fn print_rate<R: Eprint>(
         .saturating_mul(1_000_000_000)
         .saturating_add(u64::from(measured.time.subsec_nanos()));
     let rate = all.saturating_mul(1_000_000_000) / nanos.max(1);
-    eprintln!(rt; "operations a second  {:>12}", "call").map_err(|_| ProgFault::CannotWrite)?;
-    eprintln!(rt; "reads_{reads}_{threads}_{replicas}  {rate:>12}").map_err(
-        |_| ProgFault::CannotWrite,
-    )
+    eprintln!(rt; "operations a second  {:>12}", "call")?;
+    eprintln!(rt; "reads_{reads}_{threads}_{replicas}  {rate:>12}")?;
+    Ok(())
 }

@@ -1,32 +1,40 @@
 use std::alloc::{AllocError, AllocFailed};
-use thiserror::Error;
+use std::io;
+use std::num::ParseIntError;
 
-/// Why the program ends early. The text goes to standard error.
-#[derive(Debug, Drop, Error)]
+/// Why the program ends early.
+#[derive(Clone, Copy)]
 pub enum ProgFault {
     /// The program's words aren't how many threads and replicas there are, how many calls a thread makes and how many of a hundred read.
-    #[error("usage: replicas_benchmark THREADS REPLICAS CALLS READS, up to 64 threads and 4 replicas, and up to 100 READS of a hundred calls")]
     BadWords,
     /// The threads' updates are more than the log has room for.
-    #[error("the log has ended")]
     LogEnded,
     /// A call was not answered, or its answer is not that of a mapped page.
-    #[error("a thread is stuck")]
     Stuck,
     /// The output gave an error.
-    #[error("cannot write")]
     CannotWrite,
     /// The clock gave an error.
-    #[error("cannot read the clock")]
     NoClock,
     /// A growth of memory was refused.
-    #[error("out of memory")]
     Memory,
 }
 
 impl ProgFault {
+    /// What is told on standard error.
+    pub fn text(self) -> &'static str {
+        match self {
+            ProgFault::BadWords =>
+                "usage: replicas_benchmark THREADS REPLICAS CALLS READS, up to 64 threads and 4 replicas, and up to 100 READS of a hundred calls",
+            ProgFault::LogEnded => "the log has ended",
+            ProgFault::Stuck => "a thread is stuck",
+            ProgFault::CannotWrite => "cannot write",
+            ProgFault::NoClock => "cannot read the clock",
+            ProgFault::Memory => "out of memory",
+        }
+    }
+
     /// The exit status: 3 where memory runs out, else 2.
-    pub fn status(&self) -> u8 {
+    pub fn status(self) -> u8 {
         match self {
             ProgFault::Memory => 3,
             ProgFault::BadWords
@@ -64,6 +72,18 @@ impl From<vs_types::BadConfig> for ProgFault {
 
 impl From<vs_types::BadOp> for ProgFault {
     fn from(_error: vs_types::BadOp) -> ProgFault {
+        ProgFault::BadWords
+    }
+}
+
+impl From<io::Error> for ProgFault {
+    fn from(_error: io::Error) -> ProgFault {
+        ProgFault::CannotWrite
+    }
+}
+
+impl From<ParseIntError> for ProgFault {
+    fn from(_error: ParseIntError) -> ProgFault {
         ProgFault::BadWords
     }
 }

@@ -78,25 +78,59 @@ fn measure_named<
     requires passes { All (λ pass. pass.log ≡ K.log) passes.items }
 {
     let replicas = opened.named::<K>()?;
-    let mut callers = callers_of(alloc, &replicas, config, passes)?;
+    let callers = callers_of(alloc, &replicas, config, passes)?;
+    measure_callers(rt, alloc, callers, work)
+}
+
+/// The first caller maps all pages, and then all make their calls.
+fn measure_callers<
+    J: LogName + Send + Sync,
+    K: ReplicasName + Send + Sync,
+    R: Threads + Wait + Clock + Sync,
+>(
+    rt: &R,
+    alloc: Global,
+    mut callers: Vec<Caller<J, K>>,
+    work: Work,
+) -> Result<Measured, ProgFault> {
     if let Some(first) = callers.first_mut() {
         map_pages(rt, first)?;
     }
-    let start = Instant::now(rt).map_err(|_| ProgFault::NoClock)?;
-    let results = thread::map_vec(
+    let start = now(rt)?;
+    let done = call_by_all(rt, callers, work)?;
+    let time = now(rt)?.duration_since(start);
+    Ok(Measured {
+        done: all_done(alloc, &done)?,
+        time,
+    })
+}
+
+/// Each caller makes its calls, in a thread of its own.
+fn call_by_all<J: LogName + Send + Sync, K: ReplicasName + Send + Sync, R: Threads + Wait + Sync>(
+    rt: &R,
+    callers: Vec<Caller<J, K>>,
+    work: Work,
+) -> Result<Vec<Result<Done, ProgFault>>, ProgFault> {
+    let done = thread::map_vec(
         rt,
         callers,
         &|caller: Caller<J, K>| -> Result<Done, ProgFault> { call_often(rt, caller, work) },
     )?;
-    let end = Instant::now(rt).map_err(|_| ProgFault::NoClock)?;
+    Ok(done)
+}
+
+/// What all threads did, or why the first of them that ended early did.
+fn all_done(alloc: Global, results: &[Result<Done, ProgFault>]) -> Result<Vec<Done>, ProgFault> {
     let mut done = Vec::new(alloc);
     for result in results {
-        done.push(result?)?;
+        done.push((*result)?)?;
     }
-    Ok(Measured {
-        done,
-        time: end.duration_since(start),
-    })
+    Ok(done)
+}
+
+/// What the clock says.
+fn now<R: Clock>(rt: &R) -> Result<Instant, ProgFault> {
+    Instant::now(rt).map_err(|_| ProgFault::NoClock)
 }
 
 /// A caller for each thread. The calls of the first begin with those that map the pages.
