@@ -3,6 +3,7 @@ ghost use Rattle.std.specs.Prelude.{◌≡◌, ◌+◌, ◌≤◌, ◌∷◌, �
 ghost use Rattle.vs_types.specs.LogEntry.{IsLogEntry};
 ghost use Rattle.vs_types.specs.declared.depth.Depth.TheVariants.{Four};
 
+use crate::clock::{now, since};
 use crate::entry::entry_of;
 use crate::fault::ProgFault;
 use arrayvec::ArrayVec;
@@ -14,7 +15,7 @@ use std::rt::Clock;
 use std::sync::Wait;
 use std::thread;
 use std::thread::Threads;
-use std::time::{Duration, Instant};
+use std::time::Duration;
 use vs_types::{Depth, LogEntry};
 
 /// How often a thread tries what the others may hinder, before it says that it is stuck.
@@ -50,41 +51,83 @@ pub fn append<J: LogName + Send + Sync, R: Threads + Wait + Clock + Sync>(
     requires calls { calls ≤ 65536 }
 {
     let (log, mut passes) = RingLog::<J>::new(alloc, Depth::Four, threads, 1)?;
-    let Some(mut own) = passes.pop() else {
+    let Some(own) = passes.pop() else {
         unreachable!()
     };
     let all = calls * u32::from(threads);
-    let start = Instant::now(rt).map_err(|_| ProgFault::NoClock)?;
-    let replicas = thread::map_vec(
-        rt,
-        passes,
-        &|pass: LogPass<J>| -> Result<Taken, ProgFault>
-            requires depth { J.depth ≡ Four }
-            requires log { pass.log ≡ log }
-            requires owner { (replica : ℕ) × (pass.view.owns ≡ replica ∷ []) }
-            requires calls { calls ≤ 65536 }
-        { append_and_take(rt, &log, pass, calls, all) },
-    )?;
-    let end = Instant::now(rt).map_err(|_| ProgFault::NoClock)?;
-    let mut taken = Vec::new(alloc);
-    for replica in replicas {
-        taken.push(replica?)?;
-    }
-    Ok(Appends {
-        tails: log.look(rt, &mut own),
-        taken,
-        time: end.duration_since(start),
-    })
+    append_on(rt, &log, own, passes, calls, all)
 }
 
-/// Appends so many entries, and takes entries until the replica has all that the threads append.
+/// The same, on a log, of which one pass looks at the end.
+fn append_on<J: LogName + Send + Sync, R: Threads + Wait + Clock + Sync>(
+    rt: &R,
+    log: &RingLog<J>,
+    mut own: LogPass<J>,
+    passes: Vec<LogPass<J>>,
+    calls: u32,
+    all: u32,
+) -> Result<Appends, ProgFault>
+    requires depth { J.depth ≡ Four }
+    requires own { own.log ≡ log.now }
+    requires log { All (λ pass. pass.log ≡ log.now) passes.items }
+    requires owners { All (λ pass. (replica : ℕ) × (pass.view.owns ≡ replica ∷ [])) passes.items }
+    requires calls { calls ≤ 65536 }
+{
+    let start = now(rt);
+    let taken = append_by_all(rt, log, passes, calls, all)?;
+    let time = since(start, now(rt))?;
+    let tails = log.look(rt, &mut own);
+    Ok(Appends { tails, taken, time })
+}
+
+/// The threads append and take, each with its pass.
+fn append_by_all<J: LogName + Send + Sync, R: Threads + Wait + Sync>(
+    rt: &R,
+    log: &RingLog<J>,
+    passes: Vec<LogPass<J>>,
+    calls: u32,
+    all: u32,
+) -> Result<Vec<Taken>, ProgFault>
+    requires depth { J.depth ≡ Four }
+    requires log { All (λ pass. pass.log ≡ log.now) passes.items }
+    requires owners { All (λ pass. (replica : ℕ) × (pass.view.owns ≡ replica ∷ [])) passes.items }
+    requires calls { calls ≤ 65536 }
+{
+    let taken = thread::map_vec(
+        rt,
+        passes,
+        &|pass: LogPass<J>| -> Taken
+            requires depth { J.depth ≡ Four }
+            requires log { pass.log ≡ log.now }
+            requires owner { (replica : ℕ) × (pass.view.owns ≡ replica ∷ []) }
+            requires calls { calls ≤ 65536 }
+        { append_and_take(rt, log, pass, calls, all) },
+    )?;
+    if have_taken(&taken, all) {
+        Ok(taken)
+    } else {
+        Err(ProgFault::Stuck)
+    }
+}
+
+/// Whether each replica has taken so many entries.
+fn have_taken(replicas: &[Taken], entries: u32) -> bool {
+    for taken in replicas {
+        if taken.entries != entries {
+            return false;
+        }
+    }
+    true
+}
+
+/// Appends so many entries, and takes entries until the replica has all that the threads append, or the thread is stuck.
 fn append_and_take<J: LogName, R: Wait>(
     rt: &R,
     log: &RingLog<J>,
     mut pass: LogPass<J>,
     calls: u32,
     all: u32,
-) -> Result<Taken, ProgFault>
+) -> Taken
     requires depth { J.depth ≡ Four }
     requires log { pass.log ≡ log.now }
     requires owner { (replica : ℕ) × (pass.view.owns ≡ replica ∷ []) }
@@ -95,17 +138,17 @@ fn append_and_take<J: LogName, R: Wait>(
         calls: 0,
     };
     for call in 0..calls {
-        append_all(rt, log, &mut pass, &[entry_of(call)], &mut taken)?;
+        append_all(rt, log, &mut pass, &[entry_of(call)], &mut taken);
     }
     let backoff = Backoff::new();
     for _ in 0..TRIES {
         if taken.entries == all {
-            return Ok(taken);
+            break;
         }
         take(rt, log, &mut pass, &mut taken);
         backoff.snooze();
     }
-    Err(ProgFault::Stuck)
+    taken
 }
 
 /// Appends a batch; where the log is full, the replica takes what it has still to take.
@@ -115,7 +158,7 @@ fn append_all<J: LogName, R: Wait>(
     pass: &mut LogPass<J>,
     batch: &[LogEntry],
     taken: &mut Taken,
-) -> Result<(), ProgFault>
+)
     requires log { pass.old.log ≡ log.now }
     requires owner { (replica : ℕ) × (pass.old.view.owns ≡ replica ∷ []) }
     requires count { (1 ≤ length batch.now) × (length batch.now ≤ 16) }
@@ -126,16 +169,14 @@ fn append_all<J: LogName, R: Wait>(
     let backoff = Backoff::new();
     for _ in 0..TRIES {
         match log.append(rt, pass, batch) {
-            Ok(_) => return Ok(()),
+            Ok(_) | Err(AppendFault::LogEnded) => return,
             Err(AppendFault::Full(_)) => {
                 take(rt, log, pass, taken);
                 backoff.snooze();
             }
             Err(AppendFault::Moved(_)) => backoff.spin(),
-            Err(AppendFault::LogEnded) => return Err(ProgFault::Stuck),
         }
     }
-    Err(ProgFault::Stuck)
 }
 
 /// Takes all entries that the replica has still to take, or none where another thread's event comes between.

@@ -16,7 +16,8 @@ pub fn run<R: Env + AllocGlobal + Print + Eprint + Clock + Threads + Wait + Sync
     match try_run(rt) {
         Ok(()) => 0,
         Err(fault) => {
-            let _ = eprintln!(rt; "{fault}");
+            let text = fault.text();
+            let _ = eprintln!(rt; "{text}");
             fault.status()
         }
     }
@@ -44,7 +45,11 @@ fn read_words<R: Env + AllocGlobal>(rt: &R) -> Result<Wanted, ProgFault> {
     let words: Vec<String> = env::args(rt)
         .map_err(|_| ProgFault::Memory)?
         .collect(rt.alloc())?;
-    let [_, call, threads, calls] = words.as_slice() else {
+    parse_words(&words)
+}
+
+fn parse_words(words: &[String]) -> Result<Wanted, ProgFault> {
+    let [_, call, threads, calls] = words else {
         return Err(ProgFault::BadWords);
     };
     let call = match call.as_str() {
@@ -52,8 +57,8 @@ fn read_words<R: Env + AllocGlobal>(rt: &R) -> Result<Wanted, ProgFault> {
         "appends" => Call::Append,
         _ => return Err(ProgFault::BadWords),
     };
-    let threads = threads.parse::<u8>().map_err(|_| ProgFault::BadWords)?;
-    let calls = calls.parse::<u32>().map_err(|_| ProgFault::BadWords)?;
+    let threads = threads.parse::<u8>()?;
+    let calls = calls.parse::<u32>()?;
     Ok(Wanted {
         call,
         threads,
@@ -105,19 +110,20 @@ fn make_appends<R: AllocGlobal + Clock + Threads + Wait + Sync>(
 /// How many looks there were, and the sum of the tails that they found.
 fn print_looks<R: Print>(rt: &R, all: u64, looks: &Looks) -> Result<(), ProgFault> {
     let tails = looks.tails;
-    println!(rt; "looks {all}").map_err(|_| ProgFault::CannotWrite)?;
-    println!(rt; "tails {tails}").map_err(|_| ProgFault::CannotWrite)
+    println!(rt; "looks {all}")?;
+    println!(rt; "tails {tails}")?;
+    Ok(())
 }
 
 /// The tails, and what each replica has taken.
 fn print_appends<R: Print>(rt: &R, appends: &Appends) -> Result<(), ProgFault> {
     let tail = appends.tails.tail;
     let completed = appends.tails.completed;
-    println!(rt; "tail {tail}").map_err(|_| ProgFault::CannotWrite)?;
-    println!(rt; "completed {completed}").map_err(|_| ProgFault::CannotWrite)?;
+    println!(rt; "tail {tail}")?;
+    println!(rt; "completed {completed}")?;
     for taken in &appends.taken {
         let Taken { entries, calls } = *taken;
-        println!(rt; "taken {entries} calls {calls}").map_err(|_| ProgFault::CannotWrite)?;
+        println!(rt; "taken {entries} calls {calls}")?;
     }
     Ok(())
 }
@@ -131,8 +137,9 @@ fn print_rate<R: Eprint>(
     time: Duration,
 ) -> Result<(), ProgFault> {
     let rate = rate(all, time);
-    eprintln!(rt; "operations a second  {name:>12}").map_err(|_| ProgFault::CannotWrite)?;
-    eprintln!(rt; "{threads}_threads            {rate:>12}").map_err(|_| ProgFault::CannotWrite)
+    eprintln!(rt; "operations a second  {name:>12}")?;
+    eprintln!(rt; "{threads}_threads            {rate:>12}")?;
+    Ok(())
 }
 
 /// How many operations fit into a second, where this many took this time.

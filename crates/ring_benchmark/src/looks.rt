@@ -1,7 +1,8 @@
 //! Looks: each thread looks at a log to which nothing is appended meanwhile.
-ghost use Rattle.std.specs.Prelude.{◌≡◌, ◌+◌, ◌≤◌};
+ghost use Rattle.std.specs.Prelude.{◌≡◌, ◌+◌, ◌≤◌, All};
 ghost use Rattle.vs_types.specs.declared.depth.Depth.TheVariants.{Four};
 
+use crate::clock::{now, since};
 use crate::entry::entry_of;
 use crate::fault::ProgFault;
 use nr_ring::{LogName, LogPass, RingLog};
@@ -10,7 +11,7 @@ use std::rt::Clock;
 use std::sync::Wait;
 use std::thread;
 use std::thread::Threads;
-use std::time::{Duration, Instant};
+use std::time::Duration;
 use vs_types::Depth;
 
 /// What the looks of all threads found, and the time that they took.
@@ -39,23 +40,50 @@ pub fn look<J: LogName + Send + Sync, R: Threads + Wait + Clock + Sync>(
     if log.append(rt, &mut own, &[entry_of(0); 16]).is_err() {
         return Err(ProgFault::Stuck);
     }
-    let start = Instant::now(rt).map_err(|_| ProgFault::NoClock)?;
+    look_on(rt, &log, passes, calls)
+}
+
+/// The same, on a log.
+fn look_on<J: LogName + Send + Sync, R: Threads + Wait + Clock + Sync>(
+    rt: &R,
+    log: &RingLog<J>,
+    passes: Vec<LogPass<J>>,
+    calls: u32,
+) -> Result<Looks, ProgFault>
+    requires log { All (λ pass. pass.log ≡ log.now) passes.items }
+{
+    let start = now(rt);
+    let tails = look_by_all(rt, log, passes, calls)?;
+    let time = since(start, now(rt))?;
+    Ok(Looks { tails, time })
+}
+
+/// The threads look, each with its pass. The sum of the tails that they find.
+fn look_by_all<J: LogName + Send + Sync, R: Threads + Wait + Sync>(
+    rt: &R,
+    log: &RingLog<J>,
+    passes: Vec<LogPass<J>>,
+    calls: u32,
+) -> Result<u64, ProgFault>
+    requires { All (λ pass. pass.log ≡ log.now) passes.items }
+{
     let sums = thread::map_vec(
         rt,
         passes,
         &|pass: LogPass<J>| -> u64
-            requires { pass.log ≡ log }
-        { look_often(rt, &log, pass, calls) },
+            requires { pass.log ≡ log.now }
+        { look_often(rt, log, pass, calls) },
     )?;
-    let end = Instant::now(rt).map_err(|_| ProgFault::NoClock)?;
-    let mut tails = 0u64;
-    for sum in &sums {
-        tails = tails.wrapping_add(*sum);
+    Ok(sum_of(&sums))
+}
+
+/// The sum of some numbers.
+fn sum_of(numbers: &[u64]) -> u64 {
+    let mut sum = 0u64;
+    for number in numbers {
+        sum = sum.wrapping_add(*number);
     }
-    Ok(Looks {
-        tails,
-        time: end.duration_since(start),
-    })
+    sum
 }
 
 /// Looks so many times, and adds up the tails that it finds.

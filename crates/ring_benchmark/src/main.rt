@@ -4,6 +4,7 @@
 #![tactic(auto)]
 
 mod appends;
+mod clock;
 mod command;
 mod entry;
 mod fault;
