@@ -11,9 +11,10 @@ use vs_types::Depth;
 /// Runs the program on its words, and gives the exit status.
 pub fn run(rt: &HostRuntime) -> u8 {
     match try_run(rt) {
-        Ok(status) => status,
+        Ok(()) => 0,
         Err(fault) => {
-            let _ = eprintln!(rt; "{fault}");
+            let text = fault.text();
+            let _ = eprintln!(rt; "{text}");
             fault.status()
         }
     }
@@ -56,7 +57,11 @@ fn read_words(rt: &HostRuntime) -> Result<Wanted, ProgFault> {
     let words: Vec<String> = env::args(rt)
         .map_err(|_| ProgFault::Memory)?
         .collect(rt.alloc())?;
-    let (rounds, store, depth) = match words.as_slice() {
+    parse_words(&words)
+}
+
+fn parse_words(words: &[String]) -> Result<Wanted, ProgFault> {
+    let (rounds, (store, depth)) = match words {
         [] | [_] => {
             return Ok(Wanted {
                 rounds: 1,
@@ -64,45 +69,60 @@ fn read_words(rt: &HostRuntime) -> Result<Wanted, ProgFault> {
                 depth: Depth::Four,
             });
         }
-        [_, rounds] => (rounds, Store::Vec, Depth::Four),
-        [_, rounds, five] if five.as_str() == "five" => (rounds, Store::Vec, Depth::Five),
-        [_, rounds, store] => (rounds, Store::named(store)?, Depth::Four),
+        [_, rounds] => (rounds, (Store::Vec, Depth::Four)),
+        [_, rounds, word] => (rounds, store_or_depth(word)?),
         [_, rounds, store, five] if five.as_str() == "five" => {
-            (rounds, Store::named(store)?, Depth::Five)
+            (rounds, (Store::named(store)?, Depth::Five))
         }
         _ => return Err(ProgFault::BadRounds),
     };
-    let rounds = rounds.parse::<u16>().map_err(|_| ProgFault::BadRounds)?;
     Ok(Wanted {
-        rounds,
+        rounds: rounds.parse::<u16>()?,
         store,
         depth,
     })
 }
 
+/// What one word beside the rounds asks for.
+fn store_or_depth(word: &str) -> Result<(Store, Depth), ProgFault> {
+    match word {
+        "five" => Ok((Store::Vec, Depth::Five)),
+        _ => Ok((Store::named(word)?, Depth::Four)),
+    }
+}
+
 /// Runs each workload on a page table of its own, and prints its sum and its times.
-fn try_run(rt: &HostRuntime) -> Result<u8, ProgFault> {
-    let alloc = rt.alloc();
-    let Wanted {
-        rounds,
-        store,
-        depth,
-    } = read_words(rt)?;
+fn try_run(rt: &HostRuntime) -> Result<(), ProgFault> {
+    let wanted = read_words(rt)?;
     eprintln!(rt;
         "operations a second  {:>12} {:>12} {:>12} {:>12}",
         "map", "resolve", "protect", "unmap"
-    )
-    .map_err(|_| ProgFault::CannotWrite)?;
+    )?;
     for workload in Workload::ALL {
-        let load = Load::new(alloc, workload, depth)?;
-        let measured = match store {
-            Store::Vec => measure(rt, VecArena::new(alloc, BASE, FRAMES)?, &load, rounds)?,
-            Store::Raw => measure(rt, RawArena::new(alloc, BASE, FRAMES)?, &load, rounds)?,
-            Store::Lent => measure_lent(rt, alloc, &load, rounds)?,
-        };
-        print(rt, workload, rounds, &measured)?;
+        run_workload(rt, workload, wanted)?;
     }
-    Ok(0)
+    Ok(())
+}
+
+fn run_workload(rt: &HostRuntime, workload: Workload, wanted: Wanted) -> Result<(), ProgFault> {
+    let load = Load::new(rt.alloc(), workload, wanted.depth)?;
+    let measured = measure_in(rt, rt.alloc(), wanted.store, &load, wanted.rounds)?;
+    print(rt, workload, wanted.rounds, measured)
+}
+
+/// Rounds of a workload over a store of this kind.
+fn measure_in(
+    clock: &impl Clock,
+    alloc: Global,
+    store: Store,
+    load: &Load,
+    rounds: u16,
+) -> Result<Measured, ProgFault> {
+    match store {
+        Store::Vec => measure(clock, VecArena::new(alloc, BASE, FRAMES)?, load, rounds),
+        Store::Raw => measure(clock, RawArena::new(alloc, BASE, FRAMES)?, load, rounds),
+        Store::Lent => measure_lent(clock, alloc, load, rounds),
+    }
 }
 
 /// Rounds of a workload over frames that are lent.
@@ -123,20 +143,19 @@ fn print(
     rt: &HostRuntime,
     workload: Workload,
     rounds: u16,
-    measured: &Measured,
+    measured: Measured,
 ) -> Result<(), ProgFault> {
     let name = workload.name();
     let sum = measured.sum.get();
-    println!(rt; "{name} {sum}").map_err(|_| ProgFault::CannotWrite)?;
+    println!(rt; "{name} {sum}")?;
     let timed = rounds.saturating_sub(1).max(1);
     let operations = u64::from(workload.pages()) * u64::from(timed);
     let map = rate(operations, measured.times.map);
     let resolve = rate(operations, measured.times.resolve);
     let protect = rate(operations, measured.times.protect);
     let unmap = rate(operations, measured.times.unmap);
-    eprintln!(rt; "{name:<19}  {map:>12} {resolve:>12} {protect:>12} {unmap:>12}").map_err(
-        |_| ProgFault::CannotWrite,
-    )
+    eprintln!(rt; "{name:<19}  {map:>12} {resolve:>12} {protect:>12} {unmap:>12}")?;
+    Ok(())
 }
 
 /// How many operations fit into a second, where this many took this time.
