@@ -2,6 +2,7 @@ use crate::calls::steps;
 use crate::fault::ProgFault;
 use crate::measure::{Measured, measure};
 use crate::scripts::{are_scripts, scripts};
+use std::alloc::Global;
 use std::env;
 use std::rt::{Clock, Env};
 use std::time::Duration;
@@ -12,7 +13,8 @@ pub fn run<R: Env + AllocGlobal + Print + Eprint + Clock>(rt: &R) -> u8 {
     match try_run(rt) {
         Ok(()) => 0,
         Err(fault) => {
-            let _ = eprintln!(rt; "{fault}");
+            let text = fault.text();
+            let _ = eprintln!(rt; "{text}");
             fault.status()
         }
     }
@@ -31,12 +33,16 @@ fn read_words<R: Env + AllocGlobal>(rt: &R) -> Result<Wanted, ProgFault> {
     let words: Vec<String> = env::args(rt)
         .map_err(|_| ProgFault::Memory)?
         .collect(rt.alloc())?;
-    let [_, threads, replicas, calls] = words.as_slice() else {
+    parse_words(&words)
+}
+
+fn parse_words(words: &[String]) -> Result<Wanted, ProgFault> {
+    let [_, threads, replicas, calls] = words else {
         return Err(ProgFault::BadWords);
     };
-    let threads = threads.parse::<u16>().map_err(|_| ProgFault::BadWords)?;
-    let replicas = replicas.parse::<u8>().map_err(|_| ProgFault::BadWords)?;
-    let calls = calls.parse::<u32>().map_err(|_| ProgFault::BadWords)?;
+    let threads = threads.parse::<u16>()?;
+    let replicas = replicas.parse::<u8>()?;
+    let calls = calls.parse::<u32>()?;
     let config = Config::new(Depth::Four, replicas, threads, TABLES)?;
     if threads % u16::from(replicas.max(1)) != 0 || calls > 65_536 {
         return Err(ProgFault::BadWords);
@@ -50,16 +56,25 @@ fn read_words<R: Env + AllocGlobal>(rt: &R) -> Result<Wanted, ProgFault> {
 /// Takes the steps, and prints what they came to and how many there were in a second.
 fn try_run<R: Env + AllocGlobal + Print + Eprint + Clock>(rt: &R) -> Result<(), ProgFault> {
     let Wanted { config, requests } = read_words(rt)?;
-    let alloc = rt.alloc();
-    let scripts = scripts(alloc, config.threads(), requests)?;
+    let (taken, measured) = take_steps(rt, rt.alloc(), config, requests)?;
+    print_measured(rt, taken, measured)?;
+    print_rate(rt, config, taken, measured.time)
+}
+
+/// How many steps there are, and what they came to.
+fn take_steps(
+    clock: &impl Clock,
+    alloc: Global,
+    config: Config,
+    requests: u32,
+) -> Result<(u64, Measured), ProgFault> {
     let steps = steps(alloc, config.threads(), config.replicas(), requests)?;
+    let scripts = scripts(alloc, config.threads(), requests)?;
     if !are_scripts(config, &scripts) {
         return Err(ProgFault::BadWords);
     }
-    let measured = measure(rt, alloc, config, scripts, &steps)?;
-    let taken = steps.len() as u64;
-    print_measured(rt, taken, measured)?;
-    print_rate(rt, config, taken, measured.time)
+    let measured = measure(clock, alloc, config, scripts, &steps)?;
+    Ok((steps.len() as u64, measured))
 }
 
 fn print_measured<R: Print>(rt: &R, steps: u64, measured: Measured) -> Result<(), ProgFault> {
@@ -70,10 +85,9 @@ fn print_measured<R: Print>(rt: &R, steps: u64, measured: Measured) -> Result<()
         places,
         ..
     } = measured;
-    println!(rt; "steps {steps} enabled {enabled}").map_err(|_| ProgFault::CannotWrite)?;
-    println!(rt; "events {events} entries {entries} places {places}").map_err(
-        |_| ProgFault::CannotWrite,
-    )
+    println!(rt; "steps {steps} enabled {enabled}")?;
+    println!(rt; "events {events} entries {entries} places {places}")?;
+    Ok(())
 }
 
 /// Steps a second.
@@ -85,10 +99,9 @@ fn print_rate<R: Eprint>(
 ) -> Result<(), ProgFault> {
     let (threads, replicas) = (config.threads(), config.replicas());
     let rate = rate(steps, time);
-    eprintln!(rt; "operations a second  {:>12}", "step").map_err(|_| ProgFault::CannotWrite)?;
-    eprintln!(rt; "threads_{threads}_{replicas}          {rate:>12}").map_err(
-        |_| ProgFault::CannotWrite,
-    )
+    eprintln!(rt; "operations a second  {:>12}", "step")?;
+    eprintln!(rt; "threads_{threads}_{replicas}          {rate:>12}")?;
+    Ok(())
 }
 
 /// How many steps fit into a second, where this many took this time.

@@ -1,26 +1,34 @@
 use std::alloc::{AllocError, AllocFailed};
-use thiserror::Error;
+use std::io;
+use std::num::ParseIntError;
 
-/// Why the program ends early. The text goes to standard error.
-#[derive(Debug, Drop, Error)]
+/// Why the program ends early.
+#[derive(Clone, Copy)]
 pub enum ProgFault {
     /// The program's words aren't how many threads, replicas and calls there are.
-    #[error("usage: core_benchmark THREADS REPLICAS CALLS, up to 64 threads, so many for each of up to 4 replicas, and 65536 calls in all")]
     BadWords,
     /// The output gave an error.
-    #[error("cannot write")]
     CannotWrite,
     /// The clock gave an error.
-    #[error("cannot read the clock")]
     NoClock,
     /// A growth of memory was refused.
-    #[error("out of memory")]
     Memory,
 }
 
 impl ProgFault {
+    /// What is told on standard error.
+    pub fn text(self) -> &'static str {
+        match self {
+            ProgFault::BadWords =>
+                "usage: core_benchmark THREADS REPLICAS CALLS, up to 64 threads, so many for each of up to 4 replicas, and 65536 calls in all",
+            ProgFault::CannotWrite => "cannot write",
+            ProgFault::NoClock => "cannot read the clock",
+            ProgFault::Memory => "out of memory",
+        }
+    }
+
     /// The exit status: 3 where memory runs out, else 2.
-    pub fn status(&self) -> u8 {
+    pub fn status(self) -> u8 {
         match self {
             ProgFault::Memory => 3,
             ProgFault::BadWords | ProgFault::CannotWrite | ProgFault::NoClock => 2,
@@ -54,6 +62,18 @@ impl From<vs_types::BadConfig> for ProgFault {
 
 impl From<vs_types::BadOp> for ProgFault {
     fn from(_error: vs_types::BadOp) -> ProgFault {
+        ProgFault::BadWords
+    }
+}
+
+impl From<io::Error> for ProgFault {
+    fn from(_error: io::Error) -> ProgFault {
+        ProgFault::CannotWrite
+    }
+}
+
+impl From<ParseIntError> for ProgFault {
+    fn from(_error: ParseIntError) -> ProgFault {
         ProgFault::BadWords
     }
 }

@@ -34,17 +34,31 @@ pub fn measure(
     requires { AreScripts config (map (λ script. script.items) scripts.items) }
 {
     let mut core = Core::new(alloc, config, scripts)?;
-    let start = Instant::now(clock).map_err(|_| ProgFault::NoClock)?;
-    let enabled = take(&mut core, steps)?;
-    let end = Instant::now(clock).map_err(|_| ProgFault::NoClock)?;
+    let (enabled, time) = time_steps(clock, &mut core, steps)?;
     let trace = core.trace()?;
     Ok(Measured {
         enabled,
         events: trace.events().len() as u64,
         entries: trace.log().len() as u64,
         places: places(&trace),
-        time: end.duration_since(start),
+        time,
     })
+}
+
+/// How many steps were enabled, and the time that all took.
+fn time_steps(
+    clock: &impl Clock,
+    core: &mut Core,
+    steps: &[Step],
+) -> Result<(u64, Duration), ProgFault> {
+    let start = now(clock)?;
+    let enabled = take(core, steps)?;
+    Ok((enabled, now(clock)?.duration_since(start)))
+}
+
+/// What the clock says.
+fn now(clock: &impl Clock) -> Result<Instant, ProgFault> {
+    Instant::now(clock).map_err(|_| ProgFault::NoClock)
 }
 
 /// Takes the steps in turn. How many were enabled.
