@@ -15,10 +15,10 @@ FORMAT_LINES = {
     "Truncated": "the bytes end before the last unit does",
     "BadMagic": "bytes 0 to 3 are NRVT",
     "BadVersion": "bytes 4 and 5 are the version, 1 or 2",
-    "BadCount": "a count is out of its range",
+    "BadCount": "levels 4 (version 2: or 5), replicas 1 to 4, threads 1 to 64, tables 1 to 4096, places to 65536, events to 131072, frames 1 to 4096",
     "BadEvent": "event {}: 24 bytes that spell no call and no reply here",
-    "BadFrame": "replica {}, frame {}: its number is not above the one before it, or not below 0x10000000000",
-    "Trailing": "a byte stands after the last unit",
+    "BadFrame": "replica {}, frame {}: its number is above the one before it, and below 0x10000000000",
+    "Trailing": "nothing stands after the last unit",
 }
 
 
@@ -252,6 +252,49 @@ def lines_of(fault, shown):
     }[fault]()
 
 
+# ---- the unit that shows a fault of the format ----
+
+def units_of(data):
+    """Each unit in turn: which it is, where it begins and how many bytes it has. What a count says is read when its unit is passed."""
+    def number(at, size):
+        return int.from_bytes(data[at:at + size], "big")
+
+    yield from (("magic", 0, 4), ("version", 4, 2), ("counts", 6, 14))
+    places, events = number(12, 4), number(16, 4)
+    yield from ((f"place {place}", 20 + 4 * place, 4) for place in range(places))
+    yield from ((f"event {index}", 20 + 4 * places + 24 * index, 24) for index in range(events))
+    at = 20 + 4 * places + 24 * events
+    for replica in range(data[7]):
+        yield f"head of dump {replica}", at, 16
+        frames = number(at + 4, 4)
+        at += 16
+        for index in range(frames):
+            yield f"number of frame {index} of dump {replica}", at, 8
+            yield f"words of frame {index} of dump {replica}", at + 8, 4096
+            at += 4104
+    yield "behind the last unit", at, 1
+
+
+def is_bad(data, name, numbers, unit, at, size):
+    """Whether the unit is that of the fault."""
+    if name == "Truncated":
+        return at + size > len(data)
+    if name == "BadCount":
+        frames = int.from_bytes(data[at + 4:at + 8], "big")
+        return unit == "counts" and model.verdict(data[:20])[0].split()[-1] == name or "head" in unit and not 1 <= frames <= 4096
+    return unit == {"BadMagic": "magic", "BadVersion": "version", "BadEvent": "event {}", "BadFrame": "number of frame {1} of dump {0}",
+                    "Trailing": "behind the last unit"}[name].format(*numbers)
+
+
+def of_format(data, name, numbers):
+    """The unit that shows the fault, and what was read of it; and the lines of that."""
+    unit, at, size = next(found for found in units_of(data) if is_bad(data, name, numbers, *found))
+    read = data[at:at + size]
+    shown = {"format": " ".join([name, *numbers]), "unit": unit, "offset": at, "size": size, "there": len(read), "read": read[:24].hex()}
+    return shown, [f"{unit}, at byte {at}", f"read {len(read)} of {size} bytes: {read[:24].hex() or 'none'}",
+                   FORMAT_LINES[name].format(*numbers)]
+
+
 # ---- the whole answer ----
 
 def counts_of(trace, order):
@@ -273,8 +316,8 @@ def explained(data):
         return text, {"verdict": "yes", "order": order, "counts": counts}, lines
     _, _, fault, *numbers = text.split()
     if fault == "Format":
-        shown = {"fault": fault, "format": " ".join(numbers)}
-        return text, {"verdict": text.strip(), "evidence": shown}, [FORMAT_LINES[numbers[0]].format(*numbers[1:])]
+        shown, lines = of_format(data, numbers[0], numbers[1:])
+        return text, {"verdict": text.strip(), "evidence": {"fault": fault, **shown}}, lines
     trace = model.read(data)
     shown = OF_FAULT[fault](trace, *(int(number, 0) for number in numbers))
     return text, {"verdict": text.strip(), "evidence": {"fault": fault, **shown}}, lines_of(fault, shown)

@@ -32,9 +32,13 @@ def of_yes(trace, order, counts):
 
 
 def of_format(trace, shown):
+    offset, read = shown["offset"], bytes.fromhex(shown["read"])
+    if trace.data[offset:][:shown["size"]][:24] != read:
+        raise LookupError
     return Evidence(f"These bytes are no trace: {trace.broken.why}.",
-                    [f"The format fault is {shown['format'].split()[0]}. The bytes break at offset {trace.broken.offset} "
-                     f"({trace.broken.offset:#x}); from there on they are: {trace.data[trace.broken.offset:][:24].hex(' ', 4) or 'none'}.",
+                    [f"The format fault is {shown['format'].split()[0]}, at this unit: {shown['unit']}. It begins at offset {offset} "
+                     f"({offset:#x}). Of its {many(shown['size'], 'byte')} there {'is' if shown['there'] == 1 else 'are'} {shown['there']}: "
+                     f"{read.hex(' ', 4) or 'none'}.",
                      f"Up to there stand {many(len(trace.log), 'place')} of the log, {many(len(trace.events), 'event')} and "
                      f"{many(sum(len(dump.frames) for dump in trace.dumps), 'frame')}."])
 

@@ -2,8 +2,9 @@
 
 use crate::audit::trace_of;
 use crate::audit_cases::{CALLS, Case, DUMPS, FORMATS, ORDERS};
+use crate::units::feed_in_units;
 use nr_explain::{Evidence, Explanation, Step, explain_read};
-use nr_trace::{Event, read};
+use nr_trace::Event;
 use std::alloc::{AllocError, Global};
 use std::process::Abort;
 use std::test::Fail;
@@ -150,6 +151,7 @@ fn numbers_of_dumps(numbers: &mut Vec<u64>, shown: &Evidence) -> Result<(), Allo
             number_of(wrong.wanted),
             after(wrong.changed.map(|update| update.place)),
         ]),
+        Evidence::Format(bad) => numbers.extend_from_slice(&[bad.offset, bad.read.len() as u64]),
         _ => Ok(()),
     }
 }
@@ -167,7 +169,8 @@ fn holds(
             continue;
         }
         let bytes = trace_of(alloc, case)?;
-        let Explanation::No(fault, shown) = explain_read(alloc, read(alloc, &bytes))? else {
+        let Explanation::No(fault, shown) = explain_read(alloc, feed_in_units(alloc, &bytes, 4096))?
+        else {
             panic!(rt; "{name}: yes");
         };
         assert_eq!(rt; Err(fault), case.verdict, "{name}");
@@ -238,7 +241,7 @@ fn orders_and_formats(rt: HostRuntime) -> Result<(), Fail> {
         "a large page in the root of five levels",
         &[5, 1, 0, 0x87],
     )?;
-    holds(&rt, alloc, &FORMATS, "an event of another kind", &[])
+    holds(&rt, alloc, &FORMATS, "an event of another kind", &[20, 24])
 }
 
 #[test]

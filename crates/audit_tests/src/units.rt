@@ -3,14 +3,25 @@
 ghost use Rattle.std.specs.Prelude.{◌<◌};
 
 use crate::bytes::map_then_resolve;
-use nr_explain::{TraceUnit, UnitFeed, Unread};
+use nr_explain::{BadUnit, TraceUnit, UnitFeed, Unread};
 use nr_trace::{Format, Trace};
 use std::alloc::{AllocError, Global};
 use std::process::Abort;
 use std::test::Fail;
+use vs_types::Memory;
 
-/// What is read of the bytes in pieces of this length.
-pub(crate) fn read_in_units(alloc: Global, bytes: &[u8], len: usize) -> Result<Trace, Unread>
+/// What is read of the bytes in pieces of this length: a trace, or the unit that is bad.
+fn read_in_units(alloc: Global, bytes: &[u8], len: usize) -> Result<Result<Trace, BadUnit>, Memory>
+    requires { 0 < len }
+{
+    match feed_in_units(alloc, bytes, len) {
+        Ok(trace) => Ok(Ok(trace)),
+        Err(Unread::Bad(bad)) => Ok(Err(bad)),
+        Err(Unread::Memory) => Err(Memory),
+    }
+}
+
+pub(crate) fn feed_in_units(alloc: Global, bytes: &[u8], len: usize) -> Result<Trace, Unread>
     requires { 0 < len }
 {
     let mut feed = UnitFeed::new(alloc);
@@ -32,7 +43,7 @@ fn holds(
     let (offset, there) = place;
     for len in [1, 24, 4096] {
         assert!(rt; len > 0);
-        let Err(Unread::Bad(bad)) = read_in_units(alloc, bytes, len) else {
+        let Err(bad) = read_in_units(alloc, bytes, len)? else {
             panic!(rt; "{offset}: no bad unit");
         };
         assert_eq!(rt; bad.fault, fault, "{offset}");
@@ -48,101 +59,43 @@ fn holds(
     Ok(())
 }
 
-/// The same of a recording with one byte changed, in a version at a number of levels.
-fn changed(
-    rt: &impl Abort,
-    alloc: Global,
-    layout: [u8; 2],
-    change: (usize, u8),
-    wanted: (Format, TraceUnit),
-    place: (usize, usize),
-) -> Result<(), Fail> {
-    let mut bytes = map_then_resolve(alloc)?;
-    let [version, levels] = layout;
-    for (at, byte) in [(5, version), (6, levels), change] {
-        if let Some(slot) = bytes.get_mut(at) {
-            *slot = byte;
-        }
-    }
-    holds(rt, alloc, &bytes, wanted, place)
-}
-
 #[test]
 fn each_unit_is_refused(rt: HostRuntime) -> Result<(), Fail> {
     let alloc = rt.alloc();
-    for layout in [[1, 4], [2, 4], [2, 5]] {
-        changed(
-            &rt,
-            alloc,
-            layout,
-            (3, 0x58),
-            (Format::BadMagic, TraceUnit::Magic),
-            (0, 4),
-        )?;
-        changed(
-            &rt,
-            alloc,
-            layout,
-            (5, 3),
-            (Format::BadVersion, TraceUnit::Version),
-            (4, 2),
-        )?;
-        changed(
-            &rt,
-            alloc,
-            layout,
-            (7, 0),
-            (Format::BadCount, TraceUnit::Counts),
-            (6, 14),
-        )?;
-        changed(
-            &rt,
-            alloc,
-            layout,
-            (24, 2),
-            (Format::BadEvent(0), TraceUnit::Event(0)),
-            (24, 24),
-        )?;
-        changed(
-            &rt,
-            alloc,
-            layout,
-            (76, 9),
-            (Format::BadEvent(2), TraceUnit::Event(2)),
-            (72, 24),
-        )?;
-        changed(
-            &rt,
-            alloc,
-            layout,
-            (97, 99),
-            (Format::BadEvent(3), TraceUnit::Event(3)),
-            (96, 24),
-        )?;
-        changed(
-            &rt,
-            alloc,
-            layout,
-            (127, 0),
-            (Format::BadCount, TraceUnit::DumpHead(0)),
-            (120, 16),
-        )?;
-        changed(
-            &rt,
-            alloc,
-            layout,
-            (4247, 1),
-            (Format::BadFrame(0, 1), TraceUnit::FrameNumber(0, 1)),
-            (4240, 8),
-        )?;
-        changed(
-            &rt,
-            alloc,
-            layout,
-            (12448, 1),
-            (Format::BadFrame(0, 3), TraceUnit::FrameNumber(0, 3)),
-            (12448, 8),
-        )?;
+    for (version, levels) in [(1, 4), (2, 4), (2, 5)] {
+        for (at, byte, fault, unit, offset, there) in [
+            (3, 0x58, Format::BadMagic, TraceUnit::Magic, 0, 4),
+            (5, 3, Format::BadVersion, TraceUnit::Version, 4, 2),
+            (7, 0, Format::BadCount, TraceUnit::Counts, 6, 14),
+            (24, 2, Format::BadEvent(0), TraceUnit::Event(0), 24, 24),
+            (76, 9, Format::BadEvent(2), TraceUnit::Event(2), 72, 24),
+            (97, 99, Format::BadEvent(3), TraceUnit::Event(3), 96, 24),
+            (127, 0, Format::BadCount, TraceUnit::DumpHead(0), 120, 16),
+            (
+                4247,
+                1,
+                Format::BadFrame(0, 1),
+                TraceUnit::FrameNumber(0, 1),
+                4240,
+                8,
+            ),
+            (
+                12448,
+                1,
+                Format::BadFrame(0, 3),
+                TraceUnit::FrameNumber(0, 3),
+                12448,
+                8,
+            ),
+        ] {
+            let mut bytes = map_then_resolve(alloc)?;
+            for (place, value) in [(5, version), (6, levels), (at, byte)] {
+                if let Some(slot) = bytes.get_mut(place) {
+                    *slot = value;
+                }
+            }
+            holds(&rt, alloc, &bytes, (fault, unit), (offset, there))?;
+        }
     }
     Ok(())
 }
@@ -168,13 +121,8 @@ fn each_unit_is_cut_off(rt: HostRuntime) -> Result<(), Fail> {
         (16551, TraceUnit::FrameWords(0, 3), 12456),
     ] {
         let front = &bytes[..bytes.len().min(len)];
-        holds(
-            &rt,
-            alloc,
-            front,
-            (Format::Truncated, unit),
-            (offset, len.saturating_sub(offset)),
-        )?;
+        let place = (offset, len.saturating_sub(offset));
+        holds(&rt, alloc, front, (Format::Truncated, unit), place)?;
     }
     Ok(())
 }
@@ -185,7 +133,7 @@ fn what_stands_behind_the_last_unit(rt: HostRuntime) -> Result<(), Fail> {
     let mut bytes = map_then_resolve(alloc)?;
     for len in [1, 7, 4096] {
         assert!(rt; len > 0);
-        assert!(rt; read_in_units(alloc, &bytes, len).is_ok(), "{len}");
+        assert!(rt; read_in_units(alloc, &bytes, len)?.is_ok(), "{len}");
     }
     bytes.extend_from_slice(&[7, 8])?;
     holds(

@@ -24,7 +24,7 @@ pub record IsFed (known left : Option (List ℕ)) (feed : Fed) (room : ℕ) : Ty
   pub no_fault_yet : HasNoFaultYet bytes
   pub counted : length bytes + room ≡ 70647893
 
-nothing_yet : HasNoFaultYet []
+pub nothing_yet : HasNoFaultYet []
 nothing_yet fault h = one_fault [] fault Truncated h (inl (omega arith, refl))
 
 pub starts : (known : Option (List ℕ)) (feed : Fed) → feed ≡ Taken [] → IsFed known known feed 70647893
@@ -69,7 +69,7 @@ pub reads_no_more : (known left new : Option (List ℕ)) (feed : Fed) (room : �
 reads_no_more known left new feed room fed keeps =
     reads_a_block known left new feed [] room fed (Consumes-kept left left new [] (Consumes-nil left) keeps) (omega arith) (omega arith)
 
-kept : (known : Option (List ℕ)) → Keeps known known
+pub kept : (known : Option (List ℕ)) → Keeps known known
 kept None = tt
 kept (Some whole) = refl
 

@@ -2,6 +2,8 @@ pub mod Addresses
 pub mod Input
 pub mod Reports
 pub mod WholeInput
+pub mod UnitInput
+pub mod UnitTexts
 pub mod Simulations
 pub mod ServedRuns
 pub mod RunTexts

@@ -45,7 +45,7 @@ two a b = a || (b || false)
 
 pub evidence_has_no_float : (shown : Evidence) → has_float (evidence_data shown) ≡ false
 unfolding evidence_data
-evidence_has_no_float (evidence.Format format) = refl
+evidence_has_no_float (evidence.Format bad) = refl
 evidence_has_no_float (evidence.ThreadOpen calls) = refl
 evidence_has_no_float (evidence.NoSuchCall stray) = ap one (event stray.reply.call stray.named)
 evidence_has_no_float (evidence.AnsweredTwice replies) = refl

@@ -14,6 +14,8 @@ use Rattle.nr_trace.specs.declared.fault.Fault.TheVariants as faults
 use Rattle.nr_audit.specs.Headline.{AreRightWith}
 use Rattle.nr_audit.specs.Verdict.{IfYes, IsVerdictOf}
 use Rattle.nr_audit.specs.declared.verdict.Verdict.{Verdict}
+use Rattle.nr_explain.specs.Units.{ReadsUnits}
+use Rattle.nr_explain.specs.declared.units.Unread.{Unread}
 use Rattle.nr_engines.specs.Text.{no_text, verdict_text, verdict_status, walk_text}
 use Rattle.nr_engines.specs.Addresses.{SpellsAddress}
 
@@ -74,6 +76,12 @@ pub record HasRead (known : Option (List ℕ)) (read : Result Recording (Fail Fo
   pub input : List ℕ
   pub is_read : IsReadOf known input
   pub read_is : Reads input read
+
+-- so an input was read unit by unit
+pub record HasReadUnits (known : Option (List ℕ)) (read : Result Recording Unread) : Type 0 where
+  pub input : List ℕ
+  pub is_read : IsReadOf known input
+  pub read_is : ReadsUnits input read
 
 -- how much was read: nothing is wrong yet with the bytes before the last block, and no trace has more than all but one of them
 pub record HasReadFew (old new : Option (List ℕ)) : Type 0 where

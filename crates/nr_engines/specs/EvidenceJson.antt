@@ -1,10 +1,11 @@
 -- What `explain --json` prints: one JSON object, its members by their names in the order of the alphabet, with no space between.
-use Rattle.std.specs.Prelude.{ℕ, ◌++◌, List, codes, map, Option, Some, None}
+use Rattle.std.specs.Prelude.{ℕ, ◌++◌, List, length, codes, map, Option, Some, None}
 use Rattle.serde_json.specs.Data.{Data, Members, array, member, no_members, null, number, object, string, unsigned}
 use Rattle.serde_json.specs.View.{items_of}
 use Rattle.serde_json.specs.Written.{compact_text}
 use Rattle.nr_trace.specs.declared.event.Event.{Event}
 use Rattle.nr_trace.specs.declared.event.Event.TheVariants.{Call, Reply}
+use Rattle.nr_explain.specs.Units.{size}
 use Rattle.nr_explain.specs.declared.counts.Counts.{Counts}
 use Rattle.nr_explain.specs.declared.evidence.RecordedCall.{RecordedCall}
 use Rattle.nr_explain.specs.declared.evidence.RecordedReply.{RecordedReply}
@@ -16,7 +17,7 @@ use Rattle.nr_explain.specs.declared.explaining.Explanation.{Explanation}
 use Rattle.nr_explain.specs.declared.explaining.Explanation.TheVariants.{Yes, No}
 use Rattle.nr_engines.specs.Text.{fault_text, format_text, hexadecimal, line_end, walk_words}
 use Rattle.nr_engines.specs.RunText.{answer_text}
-use Rattle.nr_engines.specs.EvidenceText.{request_text}
+use Rattle.nr_engines.specs.EvidenceText.{bytes_text, request_text, unit_text}
 
 abbrev pub number_data : ℕ → Data
 number_data n = number (unsigned n)
@@ -69,9 +70,14 @@ abbrev pub fault_member : List ℕ → Members → Members
 fault_member name more = member (codes "fault") (string name) more
 
 unfoldable pub evidence_data : Evidence → Data
-evidence_data (evidence.Format format) = object
+evidence_data (evidence.Format bad) = object
     (fault_member (codes "Format")
-    (member (codes "format") (string (format_text format)) no_members))
+    (member (codes "format") (string (format_text bad.fault))
+    (member (codes "offset") (number_data bad.offset)
+    (member (codes "read") (string (bytes_text bad.read.items))
+    (member (codes "size") (number_data (size bad.unit))
+    (member (codes "there") (number_data (length bad.read.items))
+    (member (codes "unit") (string (unit_text bad.unit)) no_members)))))))
 evidence_data (evidence.ThreadOpen calls) = object
     (fault_member (codes "ThreadOpen")
     (member (codes "first") (call_data calls.first)

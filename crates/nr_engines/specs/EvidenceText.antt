@@ -1,5 +1,6 @@
 -- What `explain` prints: the lines of the verdict, and for a no a line for each fact that shows the fault, for a yes how much there is.
-use Rattle.std.specs.Prelude.{ℕ, ◌++◌, List, [], ◌∷◌, codes, decimal, flat_map, Option, Some, None}
+use Rattle.std.specs.Prelude.{ℕ, ◌/◌, ◌%◌, ◌++◌, false, List, [], ◌∷◌, length, take, codes, decimal, flat_map, Option, Some, None}
+use Rattle.std.specs.Fmt.{digits}
 use Rattle.vs_types.specs.declared.answer.Answer.{Answer}
 use Rattle.vs_types.specs.declared.op.Action.TheVariants.{Map, Unmap, Protect}
 use Rattle.vs_types.specs.declared.request.Query.{Query}
@@ -8,6 +9,10 @@ use Rattle.nr_trace.specs.declared.event.Event.{Event}
 use Rattle.nr_trace.specs.declared.event.Event.TheVariants.{Call, Reply}
 use Rattle.nr_trace.specs.declared.fault.Format.{Format}
 use Rattle.nr_trace.specs.declared.fault.Format.TheVariants as formats
+use Rattle.nr_explain.specs.Units.{size}
+use Rattle.nr_explain.specs.declared.units.TraceUnit.{TraceUnit}
+use Rattle.nr_explain.specs.declared.units.TraceUnit.TheVariants as units
+use Rattle.nr_explain.specs.declared.units.BadUnit.{BadUnit}
 use Rattle.nr_explain.specs.declared.counts.Counts.{Counts}
 use Rattle.nr_explain.specs.declared.evidence.RecordedCall.{RecordedCall}
 use Rattle.nr_explain.specs.declared.evidence.RecordedReply.{RecordedReply}
@@ -94,17 +99,48 @@ unfoldable pub way_lines : List Step → List ℕ
 way_lines [] = codes "it is the root\n"
 way_lines (step ∷ steps) = flat_map step_line (step ∷ steps)
 
--- the unit that is wrong, and what is allowed there
+-- what is allowed there
 unfoldable pub format_lines : Format → List ℕ
 format_lines formats.Truncated = codes "the bytes end before the last unit does\n"
 format_lines formats.BadMagic = codes "bytes 0 to 3 are NRVT\n"
 format_lines formats.BadVersion = codes "bytes 4 and 5 are the version, 1 or 2\n"
-format_lines formats.BadCount = codes "a count is out of its range\n"
+format_lines formats.BadCount =
+    codes "levels 4 (version 2: or 5), replicas 1 to 4, threads 1 to 64, tables 1 to 4096, places to 65536, events to 131072, frames 1 to 4096\n"
 format_lines (formats.BadEvent index) = codes "event " ++ (decimal index ++ codes ": 24 bytes that spell no call and no reply here\n")
 format_lines (formats.BadFrame replica index) =
     codes "replica " ++ (decimal replica ++ (codes ", frame " ++ (decimal index
-    ++ codes ": its number is not above the one before it, or not below 0x10000000000\n")))
-format_lines formats.Trailing = codes "a byte stands after the last unit\n"
+    ++ codes ": its number is above the one before it, and below 0x10000000000\n")))
+format_lines formats.Trailing = codes "nothing stands after the last unit\n"
+
+-- which unit of a trace it is
+unfoldable pub unit_text : TraceUnit → List ℕ
+unit_text units.Magic = codes "magic"
+unit_text units.Version = codes "version"
+unit_text units.Counts = codes "counts"
+unit_text (units.Place place) = codes "place " ++ decimal place
+unit_text (units.Event index) = codes "event " ++ decimal index
+unit_text (units.DumpHead replica) = codes "head of dump " ++ decimal replica
+unit_text (units.FrameNumber replica index) = codes "number of frame " ++ (decimal index ++ (codes " of dump " ++ decimal replica))
+unit_text (units.FrameWords replica index) = codes "words of frame " ++ (decimal index ++ (codes " of dump " ++ decimal replica))
+unit_text units.Behind = codes "behind the last unit"
+
+-- two lower case digits for each byte
+abbrev pub byte_text : ℕ → List ℕ
+byte_text byte = digits 16 false (byte / 16) ++ digits 16 false (byte % 16)
+
+-- the first bytes, at most 24: a whole unit, but for the words of a frame
+abbrev pub bytes_text : List ℕ → List ℕ
+bytes_text bytes = flat_map byte_text (take 24 bytes)
+
+unfoldable pub read_text : List ℕ → List ℕ
+read_text [] = codes "none"
+read_text (byte ∷ bytes) = bytes_text (byte ∷ bytes)
+
+-- the unit, and where it begins; how many of its bytes there are, and the first of them; and what is allowed there
+abbrev pub bad_unit_lines : BadUnit → List ℕ
+bad_unit_lines bad =
+    unit_text bad.unit ++ (codes ", at byte " ++ (decimal bad.offset ++ (codes "\nread " ++ (decimal (length bad.read.items)
+    ++ (codes " of " ++ (decimal (size bad.unit) ++ (codes " bytes: " ++ (read_text bad.read.items ++ (line_end ++ format_lines bad.fault)))))))))
 
 abbrev pub open_lines : OpenCalls → List ℕ
 open_lines calls = call_line calls.first ++ call_line calls.second
@@ -162,7 +198,7 @@ difference_lines wrong =
 
 -- the lines of the evidence
 unfoldable pub evidence_text : Evidence → List ℕ
-evidence_text (evidence.Format format) = format_lines format
+evidence_text (evidence.Format bad) = bad_unit_lines bad
 evidence_text (evidence.ThreadOpen calls) = open_lines calls
 evidence_text (evidence.NoSuchCall stray) = stray_reply_lines stray
 evidence_text (evidence.AnsweredTwice replies) = two_replies_lines replies

@@ -15,7 +15,7 @@ use vs_types::Fail;
 pub(crate) const BLOCK: usize = 4096;
 
 /// The most bytes that are read of an input: one more than any trace has, so that the last of them is refused.
-const MOST_BYTES: usize = 70_647_893;
+pub(crate) const MOST_BYTES: usize = 70_647_893;
 
 /// Reads into the block: how many bytes, none at the end of the input. A read that was interrupted is tried again.
 pub(crate) fn read_block<R: Read>(reader: &mut R, block: &mut [u8]) -> Result<usize, ProgFault>

@@ -10,21 +10,31 @@ use crate::fact_json::{
 };
 use crate::run_text::answer_text;
 use crate::text::{format_text, walk_words};
+use crate::unit_text::{bytes_text, unit_text};
 use nr_explain::{
-    Counts, Difference, EarlyCall, Evidence, LongPrefix, Misplaced, MissingTable, NoUpdate,
-    OpenCalls, OtherAnswer, PastEnd, ReservedEntry, SharedTable, ShortPrefix, StrayReply,
+    BadUnit, Counts, Difference, EarlyCall, Evidence, LongPrefix, Misplaced, MissingTable,
+    NoUpdate, OpenCalls, OtherAnswer, PastEnd, ReservedEntry, SharedTable, ShortPrefix, StrayReply,
     StrayTable, TwoPlaces, TwoReplies,
 };
-use nr_trace::Format;
 use serde_json::{Value, json};
 use std::alloc::{AllocError, Global};
 
 #[tactic(auto, unfolding(crate::specs::EvidenceJson::evidence_data))]
-fn format_value(alloc: Global, format: Format) -> Result<Value, AllocError>
-    ensures { IfOk result (λ value. view value ≡ evidence_data (evidence.Format format)) }
+fn bad_unit_value(alloc: Global, bad: &BadUnit) -> Result<Value, AllocError>
+    ensures { IfOk result (λ value. view value ≡ evidence_data (evidence.Format bad.now)) }
 {
-    let is = format_text(alloc, format)?;
-    json!(in alloc; {"fault": "Format", "format": is})
+    let is = format_text(alloc, bad.fault)?;
+    let read = bytes_text(alloc, &bad.read)?;
+    let unit = unit_text(alloc, bad.unit)?;
+    json!(in alloc; {
+        "fault": "Format",
+        "format": is,
+        "offset": bad.offset,
+        "read": read,
+        "size": bad.unit.size(),
+        "there": bad.read.len(),
+        "unit": unit
+    })
 }
 
 #[tactic(auto, unfolding(crate::specs::EvidenceJson::evidence_data))]
@@ -259,7 +269,7 @@ pub(crate) fn evidence_value(alloc: Global, shown: &Evidence) -> Result<Value, A
     ensures { IfOk result (λ value. view value ≡ evidence_data shown.now) }
 {
     match shown {
-        Evidence::Format(format) => format_value(alloc, *format),
+        Evidence::Format(bad) => bad_unit_value(alloc, bad),
         Evidence::ThreadOpen(calls) => open_value(alloc, *calls),
         Evidence::NoSuchCall(stray) => stray_reply_value(alloc, *stray),
         Evidence::AnsweredTwice(replies) => two_replies_value(alloc, *replies),

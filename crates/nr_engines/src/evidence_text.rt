@@ -6,10 +6,11 @@ ghost use Rattle.nr_engines.specs.EvidenceText.{no_update_lines, open_lines, oth
 ghost use Rattle.nr_engines.specs.EvidenceText.{shared_lines, short_prefix_lines, stray_lines, stray_reply_lines, two_places_lines, two_replies_lines};
 
 use crate::fact_text::{
-    address_line, answer_line, call_line, event_line, format_lines, number_line, option_line,
-    push_steps, reply_line, step_line, way_lines,
+    address_line, answer_line, call_line, event_line, number_line, option_line, push_steps,
+    reply_line, step_line, way_lines,
 };
 use crate::text::walk_text;
+use crate::unit_text::bad_unit_lines;
 use nr_explain::{
     Counts, Difference, EarlyCall, Evidence, LongPrefix, Misplaced, NoUpdate, OpenCalls,
     OtherAnswer, PastEnd, ReservedEntry, SharedTable, ShortPrefix, StrayReply, StrayTable,
@@ -171,7 +172,7 @@ pub(crate) fn evidence_text(alloc: Global, shown: &Evidence) -> Result<String, A
     ensures { IfOk result (λ text. string_bytes text ≡ evidence_text shown.now) }
 {
     match shown {
-        Evidence::Format(format) => format_lines(alloc, *format),
+        Evidence::Format(bad) => bad_unit_lines(alloc, bad),
         Evidence::ThreadOpen(calls) => open_lines(alloc, *calls),
         Evidence::NoSuchCall(stray) => stray_reply_lines(alloc, *stray),
         Evidence::AnsweredTwice(replies) => two_replies_lines(alloc, *replies),

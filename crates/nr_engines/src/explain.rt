@@ -1,7 +1,7 @@
 ghost use Rattle.std.specs.Prelude.{◌≡◌, ◌++◌, ℕ, IfOk, IfErr, List, codes, map, string_bytes};
 ghost use Rattle.serde_json.specs.Data.{array};
 ghost use Rattle.nr_engines.specs.Text.{fault_text};
-ghost use Rattle.nr_trace.specs.Feed.{Reads};
+ghost use Rattle.nr_explain.specs.Units.{ReadsUnits};
 ghost use Rattle.serde_json.specs.View.{items_of, view};
 ghost use Rattle.nr_engines.specs.EvidenceText.{explanation_text};
 ghost use Rattle.nr_engines.specs.EvidenceJson.{explanation_data, explanation_json, number_data};
@@ -9,18 +9,19 @@ ghost use Rattle.nr_engines.specs.Explained.{explanation_status, told_explanatio
 ghost use Rattle.nr_engines.specs.Refusals.{IsEndFault, WritesAnswersAlone};
 ghost use Rattle.nr_engines.specs.Answers.{HasReadFew, WritesReport};
 
-use crate::ends::{read_trace, write_report};
+use crate::ends::write_report;
 use crate::evidence_json::{counts_value, evidence_value};
 use crate::evidence_text::{counts_lines, evidence_text};
 use crate::fault::ProgFault;
 use crate::report::Report;
 use crate::text::{fault_text, no_text, yes_text};
-use nr_explain::{Explanation, explain_read};
-use nr_trace::{Format, Trace};
+use crate::unit_input::read_units;
+use nr_explain::{Explanation, Unread, explain_read};
+use nr_trace::Trace;
 use serde_json::{Value, json};
 use std::alloc::{AllocError, Global};
 use std::io::{Read, Write};
-use vs_types::{Fail, Memory};
+use vs_types::Memory;
 
 fn status_of(explanation: &Explanation) -> u8
     ensures { result ≡ explanation_status explanation.now }
@@ -112,10 +113,10 @@ fn told_explanation(
 /// `Memory` where a growth of memory was refused, here or as the input was read.
 pub fn explained_read(
     alloc: Global,
-    read: Result<Trace, Fail<Format>>,
+    read: Result<Trace, Unread>,
     as_json: bool,
 ) -> Result<Report, Memory>
-    ensures { (bytes : List ℕ) → Reads bytes read → IfOk result (λ report.
+    ensures { (bytes : List ℕ) → ReadsUnits bytes read → IfOk result (λ report.
         IsExplained as_json bytes (string_bytes report.text) report.status) }
 {
     let explanation = explain_read(alloc, read)?;
@@ -145,7 +146,7 @@ pub fn explain_io<R: Read, W: Write>(
     ensures alone { WritesAnswersAlone writer.old writer.new result }
     ensures few { HasReadFew (R.remaining reader.old) (R.remaining reader.new) }
 {
-    let read = read_trace(alloc, reader)?;
+    let read = read_units(alloc, reader)?;
     let report = explained_read(alloc, read, as_json)?;
     write_report(writer, &report)
 }

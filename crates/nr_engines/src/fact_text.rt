@@ -248,15 +248,18 @@ pub(crate) fn format_lines(alloc: Global, fault: Format) -> Result<String, Alloc
         Format::Truncated => String::from_str(alloc, "the bytes end before the last unit does\n"),
         Format::BadMagic => String::from_str(alloc, "bytes 0 to 3 are NRVT\n"),
         Format::BadVersion => String::from_str(alloc, "bytes 4 and 5 are the version, 1 or 2\n"),
-        Format::BadCount => String::from_str(alloc, "a count is out of its range\n"),
+        Format::BadCount => String::from_str(
+            alloc,
+            "levels 4 (version 2: or 5), replicas 1 to 4, threads 1 to 64, tables 1 to 4096, places to 65536, events to 131072, frames 1 to 4096\n",
+        ),
         Format::BadEvent(index) => {
             format!(in alloc; "event {index}: 24 bytes that spell no call and no reply here\n")
         }
         Format::BadFrame(replica, index) => {
             format!(in alloc;
-                "replica {replica}, frame {index}: its number is not above the one before it, or not below 0x10000000000\n"
+                "replica {replica}, frame {index}: its number is above the one before it, and below 0x10000000000\n"
             )
         }
-        Format::Trailing => String::from_str(alloc, "a byte stands after the last unit\n"),
+        Format::Trailing => String::from_str(alloc, "nothing stands after the last unit\n"),
     }
 }

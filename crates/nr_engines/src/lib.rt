@@ -21,6 +21,8 @@ mod served_run;
 mod setup;
 mod simulate;
 mod text;
+mod unit_input;
+mod unit_text;
 
 pub use audit::{audit_io, audit_read};
 pub use command::Command;
@@ -33,3 +35,4 @@ pub use script_input::input_script;
 pub use served_run::run_io;
 pub use setup::Setup;
 pub use simulate::simulate_io;
+pub use unit_input::read_units;

@@ -103,7 +103,7 @@ one_run (Place place) lengths bytes no_place no_event run = absurd (no_place pla
 one_run (Event index) lengths bytes no_place no_event run = absurd (no_event index refl)
 one_run unit lengths bytes no_place no_event run = run
 
-size_some : (unit : TraceUnit) → 1 ≤ size unit
+pub size_some : (unit : TraceUnit) → 1 ≤ size unit
 size_some Magic = omega arith
 size_some VersionWord = omega arith
 size_some Counts = omega arith
@@ -136,7 +136,7 @@ length_dumps (dump ∷ dumps) all =
     let rest = length_dumps dumps (All-tail IsDump dump dumps all) in
     omega (arith, length-append dump (concat dumps), whole, first.all_frames, first.is_head.in_range.few_frames, rest)
 
-length_header : (version : Version) (numbers : Numbers) (front behind : List ℕ) → HasHeader version numbers front behind → length front ≡ 20 + length behind
+pub length_header : (version : Version) (numbers : Numbers) (front behind : List ℕ) → HasHeader version numbers front behind → length front ≡ 20 + length behind
 length_header version numbers front behind h =
     let spelled = counts (record { layout = numbers.layout; places = numbers.places; events = numbers.events }) in
     omega (

@@ -18,3 +18,5 @@ pub mod Runs
 pub mod BadUnits
 pub mod After
 pub mod Fed
+pub mod UnitsApart
+pub mod OneBadUnit

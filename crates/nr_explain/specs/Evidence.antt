@@ -6,7 +6,7 @@ use Rattle.vs_walk.specs.Dump.{Image}
 use Rattle.vs_walk.specs.Differences.{IsStray}
 use Rattle.vs_walk.specs.Walk.{walk, as_walk}
 use Rattle.nr_trace.specs.Recording.{Recording}
-use Rattle.nr_trace.specs.Calls.{Answers, IsCall, IsUpdate, IsRead, reply_to}
+use Rattle.nr_trace.specs.Calls.{Answers, Invocation, IsCall, IsUpdate, IsRead, Response, call_of, reply_of, reply_to}
 use Rattle.nr_trace.specs.Faults.{HasDump, StandsAfter}
 use Rattle.nr_trace.specs.Orders.{answer_in, before, floor, known_by, recorded_order, space_after}
 use Rattle.nr_trace.specs.declared.fault.Fault.{Fault}
@@ -94,7 +94,7 @@ pub record IsPastEnd (trace : Recording) (wrong : PastEnd) : Type 0 where
   pub places : wrong.places ≡ length trace.log
   pub past : wrong.places < wrong.reply.at
 
--- the call stands after fewer entries than its floor, which the reply before it tells
+-- the call stands after fewer entries than its floor, which a reply before it tells, the first that does: fewer were known before that
 pub record IsEarly (trace : Recording) (early : EarlyCall) : Type 0 where
   pub call : IsCallOf trace early.call
   pub stands : StandsAfter trace early.call.event early.entries
@@ -103,6 +103,7 @@ pub record IsEarly (trace : Recording) (early : EarlyCall) : Type 0 where
   pub reply : IsReplyOf trace early.reply
   pub known : known_by trace (response early.reply) ≡ early.floor
   pub before : early.reply.event < early.call.event
+  pub none_before : (index : ℕ) (reply : Response) → index < early.reply.event → reply_of trace index ≡ Some reply → known_by trace reply < early.floor
   pub answered : IsCallOf trace early.answered
   pub names : early.reply.call ≡ early.answered.event
 
@@ -123,7 +124,7 @@ pub record IsLongPrefix (trace : Recording) (wrong : LongPrefix) : Type 0 where
   pub places : wrong.places ≡ length trace.log
   pub past : wrong.places < wrong.applied
 
--- the dump has applied fewer entries than are known by the reply, which is to a call made at its replica
+-- the dump has applied fewer entries than are known by the reply, the first such to a call made at its replica
 pub record IsShortPrefix (trace : Recording) (wrong : ShortPrefix) : Type 0 where
   pub applied : HasDump trace wrong.replica (λ dump. dump.applied ≡ wrong.applied)
   pub reply : IsReplyOf trace wrong.reply
@@ -132,6 +133,8 @@ pub record IsShortPrefix (trace : Recording) (wrong : ShortPrefix) : Type 0 wher
   pub call : IsCallOf trace wrong.call
   pub names : wrong.reply.call ≡ wrong.call.event
   pub here : wrong.call.replica ≡ wrong.replica
+  pub none_before : (index : ℕ) (reply : Response) (made : Invocation) → index < wrong.reply.event → reply_of trace index ≡ Some reply
+      → call_of trace reply.call ≡ Some made → made.replica ≡ wrong.replica → known_by trace reply ≤ wrong.applied
 
 -- the steps lead from the root of a dump to the frame, as a table of this level
 abbrev pub IsRootPath : Recording → Image → ℕ → ℕ → List Step → Type 0
@@ -172,7 +175,7 @@ pub record IsDifference (trace : Recording) (wrong : Difference) (dump : Image) 
 
 -- the evidence shows the fault, and what it says is so
 abbrev pub IsEvidence : Recording → Fault → Evidence → Type 0
-IsEvidence trace fault (evidence.Format format) = ⊥
+IsEvidence trace fault (evidence.Format bad) = ⊥
 IsEvidence trace fault (evidence.ThreadOpen calls) = (fault ≡ faults.ThreadOpen calls.second.event) × AreOpen trace calls
 IsEvidence trace fault (evidence.NoSuchCall stray) = (fault ≡ faults.NoSuchCall stray.reply.event) × IsStrayReply trace stray
 IsEvidence trace fault (evidence.AnsweredTwice replies) = (fault ≡ faults.AnsweredTwice replies.second.event) × AreTwoReplies trace replies

@@ -2,12 +2,12 @@
 use Rattle.std.specs.Prelude.{◌≡◌, ℕ, List}
 use Rattle.nr_trace.specs.Recording.{Recording}
 use Rattle.nr_trace.specs.Spelling.{Spells}
-use Rattle.nr_trace.specs.FirstFault.{HasFormatFault}
 use Rattle.nr_trace.specs.declared.fault.Fault.{Fault}
 use Rattle.nr_trace.specs.declared.fault.Fault.TheVariants as faults
 use Rattle.nr_audit.specs.Verdict.{IsVerdictOf}
 use Rattle.nr_audit.specs.declared.verdict.Verdict.TheVariants as verdicts
 use Rattle.nr_explain.specs.Counts.{IsCountOf}
+use Rattle.nr_explain.specs.Units.{IsBadUnit}
 use Rattle.nr_explain.specs.Evidence.{IsEvidence}
 use Rattle.nr_explain.specs.declared.counts.Counts.{Counts}
 use Rattle.nr_explain.specs.declared.evidence.Evidence.{Evidence}
@@ -15,9 +15,9 @@ use Rattle.nr_explain.specs.declared.evidence.Evidence.TheVariants as evidence
 use Rattle.nr_explain.specs.declared.explaining.Explanation.{Explanation}
 use Rattle.nr_explain.specs.declared.explaining.Explanation.TheVariants.{Yes, No}
 
--- the evidence is the format fault of the bytes, or evidence of the trace that they spell
+-- the evidence is the bad unit of the bytes, or evidence of the trace that they spell
 abbrev pub IsEvidenceOf : List ℕ → Fault → Evidence → Type 0
-IsEvidenceOf bytes fault (evidence.Format format) = (fault ≡ faults.Format format) × HasFormatFault bytes format
+IsEvidenceOf bytes fault (evidence.Format bad) = (fault ≡ faults.Format bad.fault) × IsBadUnit bytes bad
 IsEvidenceOf bytes fault shown = (trace : Recording) × Spells bytes trace × IsEvidence trace fault shown
 
 -- the counts are those of the trace that the bytes spell

@@ -1,4 +1,5 @@
-use nr_trace::{Event, Format};
+use crate::units::BadUnit;
+use nr_trace::Event;
 use vs_types::{Answer, Request};
 use vs_walk::Walk;
 
@@ -204,7 +205,7 @@ pub struct Difference {
 /// What shows a fault. Each variant is that of the fault of its name.
 #[derive(Debug, Drop)]
 pub enum Evidence {
-    Format(Format),
+    Format(BadUnit),
     ThreadOpen(OpenCalls),
     NoSuchCall(StrayReply),
     AnsweredTwice(TwoReplies),

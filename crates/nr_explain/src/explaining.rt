@@ -1,8 +1,8 @@
 ghost use Rattle.std.specs.Prelude.{ℕ, IfOk, List};
-ghost use Rattle.nr_trace.specs.Feed.{Reads};
 ghost use Rattle.nr_trace.specs.Faults.{IsFirst};
 ghost use Rattle.nr_explain.specs.Evidence.{IsEvidence};
 ghost use Rattle.nr_explain.specs.Explanation.{IsExplanationOf};
+ghost use Rattle.nr_explain.specs.Units.{ReadsUnits};
 ghost use Rattle.nr_explain.specs.inside.Explained.{IsExplanationOn};
 ghost use Rattle.nr_explain.specs.inside.Searches.{IsOfDump};
 
@@ -15,10 +15,11 @@ use crate::dumps::{
 use crate::evidence::Evidence;
 use crate::floors::{early_call, short_prefix};
 use crate::log::{misplaced, no_update, past_end, two_places};
+use crate::units::Unread;
 use nr_audit::{Order, Verdict, judge};
-use nr_trace::{Fault, Format, Trace};
+use nr_trace::{Fault, Trace};
 use std::alloc::Global;
-use vs_types::{Fail, Memory};
+use vs_types::Memory;
 
 /// What an audit finds, and what shows it.
 #[derive(Debug, Drop)]
@@ -113,14 +114,14 @@ fn explain_trace(alloc: Global, trace: &Trace) -> Result<Explanation, Memory>
 /// # Errors
 ///
 /// `Memory` where a growth of memory was refused, here or as the bytes were read.
-pub fn explain_read(alloc: Global, read: Result<Trace, Fail<Format>>) -> Result<Explanation, Memory>
-    ensures { (bytes : List ℕ) → Reads bytes read → IfOk result (IsExplanationOf bytes) }
+pub fn explain_read(alloc: Global, read: Result<Trace, Unread>) -> Result<Explanation, Memory>
+    ensures { (bytes : List ℕ) → ReadsUnits bytes read → IfOk result (IsExplanationOf bytes) }
 {
     match read {
         Ok(trace) => explain_trace(alloc, &trace),
-        Err(Fail::Memory) => Err(Memory),
-        Err(Fail::Refused(format)) => {
-            Ok(Explanation::No(Fault::Format(format), Evidence::Format(format)))
+        Err(Unread::Memory) => Err(Memory),
+        Err(Unread::Bad(bad)) => {
+            Ok(Explanation::No(Fault::Format(bad.fault), Evidence::Format(bad)))
         }
     }
 }

@@ -8,6 +8,7 @@ mod dumps;
 mod evidence;
 mod explaining;
 mod floors;
+pub mod laws;
 mod log;
 mod lookup;
 mod paths;

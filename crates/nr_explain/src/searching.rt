@@ -2,7 +2,7 @@
 
 ghost use Rattle.std.specs.Prelude.{◌≡◌, ◌<◌, ◌≤◌, ℕ, MatchOption, Some, length, slice_get};
 ghost use Rattle.nr_trace.specs.Orders.{floor};
-ghost use Rattle.nr_explain.specs.inside.Searches.{IsBinding, IsFirstReply, IsLastCall, IsResting, IsUnplacedBelow, RestsAt};
+ghost use Rattle.nr_explain.specs.inside.Searches.{IsBinding, IsFirstReply, IsLastCall, IsResting, IsUnplacedBelow, RestsAt, RestsNowhere};
 
 use crate::evidence::{RecordedCall, RecordedReply, ShortPrefix};
 use crate::lookup::{entries_known, find_call, find_reply};
@@ -75,7 +75,7 @@ pub(crate) fn binding_reply(trace: &Trace, end: u32) -> (u64, Option<RecordedRep
 /// The reply of an event, where it is one to a call made at a replica and more than so many entries are known by it.
 fn resting_at(trace: &Trace, replica: u8, applied: u32, index: u32) -> Option<ShortPrefix>
     ensures { MatchOption result (RestsAt trace.now replica applied index → ⊥)
-        (IsResting trace.now replica applied) }
+        (λ found. IsResting trace.now replica applied found × (found.reply.event ≡ index)) }
 {
     let reply = find_reply(trace, index)?;
     let call = find_call(trace, reply.call)?;
@@ -94,15 +94,14 @@ fn resting_at(trace: &Trace, replica: u8, applied: u32, index: u32) -> Option<Sh
 
 /// The first reply to a call made at a replica by which more than so many entries are known.
 pub(crate) fn first_resting(trace: &Trace, replica: u8, applied: u32) -> Option<ShortPrefix>
-    ensures { MatchOption result ((index : ℕ) → index < length trace.now.events
-        → RestsAt trace.now replica applied index → ⊥)
-        (IsResting trace.now replica applied) }
+    ensures { MatchOption result (RestsNowhere trace.now replica applied (length trace.now.events))
+        (λ found. IsResting trace.now replica applied found
+        × RestsNowhere trace.now replica applied found.reply.event) }
 {
     let events = trace.events().len();
     for index in 0..events {
-        let found = resting_at(trace, replica, applied, index as u32);
-        if found.is_some() {
-            return found;
+        if let Some(found) = resting_at(trace, replica, applied, index as u32) {
+            return Some(found);
         }
     }
     None

@@ -1,9 +1,10 @@
 //! A trace that comes in pieces, of which each unit is known: where it begins, and what was read of it.
 
-ghost use Rattle.std.specs.Prelude.{◌≡◌, ◌≤◌, ◌<◌, ◌++◌, [], length, MatchResult};
+ghost use Rattle.std.specs.Prelude.{◌≡◌, ◌≢◌, ◌≤◌, ◌<◌, ◌++◌, [], length, IfErr, MatchResult};
 ghost use Rattle.nr_trace.specs.Feed.{HasNoFaultYet};
 ghost use Rattle.nr_explain.specs.Units.{size, IfBad, IsBadFor, ReadsUnits};
 ghost use Rattle.nr_explain.specs.inside.Positions.{taken, IsRun, IsSound};
+ghost use Rattle.nr_explain.specs.declared.units.Unread.TheVariants as reasons;
 
 use crate::positions::{Lengths, after, bad_unit, run_len};
 use crate::units::{BadUnit, TraceUnit, Unread};
@@ -157,7 +158,8 @@ impl UnitFeed {
     ///
     /// The unit that is cut off.
     pub fn end(self) -> Result<Trace, Unread>
-        ensures { ReadsUnits self result }
+        ensures reads { ReadsUnits self result }
+        ensures memory { IfErr result (λ unread. unread ≢ reasons.Memory) }
     {
         let UnitFeed { units, begun } = self;
         match units.feed.end() {

@@ -2,7 +2,7 @@
 use Rattle.std.specs.Prelude.{◌≡◌, ◌≢◌, ℕ, ◌+◌, ◌<◌, ◌≤◌, slice_get, Option, Some, None, IsSome, ⊤}
 use Rattle.nr_trace.specs.Recording.{Recording}
 use Rattle.nr_trace.specs.Calls.{Answers, Invocation, IsCall, Response, call_of, reply_of}
-use Rattle.nr_trace.specs.Orders.{known_by}
+use Rattle.nr_trace.specs.Orders.{floor, known_by}
 use Rattle.nr_trace.specs.declared.fault.Fault.{Fault}
 use Rattle.nr_trace.specs.declared.fault.Fault.TheVariants.{PrefixPastLog, PrefixShort, MissingFrame, SharedFrame, ReservedBit, StrayFrame, Differs}
 use Rattle.nr_explain.specs.Facts.{IsCallOf, IsReplyOf, response}
@@ -44,10 +44,11 @@ IsFirstReply trace call end (Some reply) =
 abbrev pub IsUnplacedBelow : Recording → ℕ → ℕ → Type 0
 IsUnplacedBelow trace call end = (place : ℕ) → place < end → slice_get trace.log place ≢ Some call
 
--- a reply by which just so many entries are known; or none, where none are known
+-- the first reply by which just so many entries are known; or none, where none are known
 abbrev pub IsBinding : Recording → ℕ → ℕ → Option RecordedReply → Type 0
 IsBinding trace end known None = known ≡ 0
-IsBinding trace end known (Some reply) = IsReplyOf trace reply × (reply.event < end) × (known_by trace (response reply) ≡ known)
+IsBinding trace end known (Some reply) =
+    IsReplyOf trace reply × (reply.event < end) × (known_by trace (response reply) ≡ known) × (floor trace reply.event < known)
 
 -- the log has calls alone
 abbrev pub HasOnlyCalls : Recording → Type 0
@@ -61,6 +62,10 @@ pub record RestsAt (trace : Recording) (replica applied index : ℕ) : Type 0 wh
   pub is_made : call_of trace reply.call ≡ Some made
   pub here : made.replica ≡ replica
   pub more : applied < known_by trace reply
+
+-- no event before an end is such a reply
+abbrev pub RestsNowhere : Recording → ℕ → ℕ → ℕ → Type 0
+RestsNowhere trace replica applied end = (index : ℕ) → index < end → RestsAt trace replica applied index → ⊥
 
 -- such a reply, with its call
 pub record IsResting (trace : Recording) (replica applied : ℕ) (found : ShortPrefix) : Type 0 where

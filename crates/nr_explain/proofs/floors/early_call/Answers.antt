@@ -2,6 +2,7 @@ use Rattle.std.proofs.Common.{◌≡◌, ℕ, ◌<◌, Option, sym, ap, subst, �
 use Rattle.nr_trace.specs.Faults.{StandsAfter}
 use Rattle.nr_trace.specs.Orders.{floor}
 use Rattle.nr_trace.proofs.LawsOfCalls.{stands_once}
+use Rattle.nr_trace.proofs.LawsOfPrecedence.{known_below_floor}
 use Rattle.nr_explain.specs.inside.Searches.{IsBinding}
 use Rattle.nr_explain.specs.declared.evidence.RecordedReply.{RecordedReply}
 use Rattle.nr_explain.proofs.FirstFaults.{clean_before_early}
@@ -40,6 +41,10 @@ returns-clause-is c =
       reply = binds.0;
       known = binds.2;
       before = subst (λ (n : ℕ). c.in-Some.reply.event < n) (sym event) binds.1;
+      none_before = λ index reply before is.
+          let few = known_below_floor trace index c.in-Some.reply.event reply before is in
+          let first = binds.3 in
+          omega arith;
       answered = c.call_at-in-Some.ensures.is;
       names = sym c.call_at-in-Some.ensures.event;
     }

@@ -1,8 +1,9 @@
-use Rattle.std.proofs.Common.{◌≡◌, ℕ, ◌<◌, Some, slice_get, sym, ap, subst, ◌∙◌, arith}
+use Rattle.std.proofs.Common.{◌≡◌, ℕ, ◌<◌, ◌≤◌, Some, slice_get, sym, ap, subst, ◌∙◌, arith}
 use Rattle.std.proofs.lemmas.Option.{slice_get_within}
 use Rattle.vs_walk.specs.Dump.{Image}
 use Rattle.nr_trace.specs.Orders.{known_by}
 use Rattle.nr_trace.proofs.LawsOfCalls.{reply_in_event}
+use Rattle.nr_explain.proofs.BindingReplies.{no_more_known}
 use Rattle.nr_explain.proofs.Dumped.{dump_read, one_dump}
 use Rattle.nr_explain.proofs.floors.short_prefix.Goals as goal
 
@@ -32,7 +33,7 @@ returns-clause-is c =
     let holds = c.requires.holds in
     let dump = c.index-dumps-replica.result in
     let there = dump_read trace c.dumps.result.now c.args.replica dump holds.0 c.dumps.ensures.reads holds.1 c.index-dumps-replica.is in
-    let found = c.in-Some.ensures in
+    let found = c.in-Some.ensures.0 in
     record {
       applied = (
         dump,
@@ -45,4 +46,7 @@ returns-clause-is c =
       call = found.call;
       names = found.names;
       here = found.here;
+      none_before = λ index reply made before is is_made at.
+          subst (λ (n : ℕ). known_by trace reply ≤ n) (sym found.applied_is) (no_more_known trace c.args.replica c.applied-applied.result c.in-Some.found.reply.event
+          c.in-Some.ensures.1 index reply made before is is_made (at ∙ found.replica_is));
     }

@@ -24,7 +24,8 @@ loop-index-preserved c =
             floor = rises low (floor trace index) (floor trace (index + 1)) (known_by trace (response reply)) known new old.floor after
                 w.entries_known-known.ensures w.if-known-floor.true w.floor-is;
             binding = subst (λ (o : Option RecordedReply). IsBinding trace (index + 1) new o) (sym w.binding-is)
-                (binding_here trace index known new reply w.in-Some.ensures.0 w.in-Some.ensures.1 w.entries_known-known.ensures w.floor-is);
+                (binding_here trace index low known new reply w.in-Some.ensures.0 w.in-Some.ensures.1 old.floor w.if-known-floor.true
+                w.entries_known-known.ensures w.floor-is);
           }
       | in-Some+else-known-floor w ↦
           let reply = w.in-Some.reply in

@@ -6,14 +6,14 @@ use Rattle.nr_explain.specs.Units.{IsBadUnit}
 use Rattle.nr_explain.proofs.Fed.{ends_spelled, ends_cut}
 use Rattle.nr_explain.proofs.unit_feed.UnitFeed.end.Goals as goal
 
-pub returns-in-Ok : goal.returns-in-Ok
-returns-in-Ok c =
+pub returns-in-Ok-clause-reads : goal.returns-in-Ok-clause-reads
+returns-in-Ok-clause-reads c =
     let units = c.self.inside.units in
     subst (λ (l : List ℕ). Spells l c.in-Ok.trace) c.self.view_is
     (ends_spelled units.feed units.offset units.next units.lengths c.self.inside.begun.items c.in-Ok.trace c.self.invariant.0 c.self.invariant.1 c.in-Ok.ensures)
 
-pub returns-in-Err-Refused : goal.returns-in-Err-Refused
-returns-in-Err-Refused c =
+pub returns-in-Err-Refused-clause-reads : goal.returns-in-Err-Refused-clause-reads
+returns-in-Err-Refused-clause-reads c =
     let units = c.self.inside.units in
     let fault = c.in-Err-Refused.fault in
     subst (λ (l : List ℕ). IsBadUnit l (record { fault = fault; unit = units.next; offset = units.offset; read = c.self.inside.begun })) c.self.view_is
