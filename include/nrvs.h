@@ -36,9 +36,9 @@ struct nrvs_words {
 	uint64_t word[512];
 };
 
-/* What the library keeps of a frame. */
+/* What the library keeps of a frame: 4 bytes, of any content at first. */
 struct nrvs_mark {
-	uint16_t own[3];
+	uint16_t own[2];
 };
 
 /* A page table. The caller reads `root`, and writes none of it. */
@@ -50,6 +50,7 @@ struct nrvs_table {
 	size_t frames;
 	size_t taken;
 	size_t given;
+	uint64_t last;
 };
 
 /* What a call answers; what an answer doesn't have is 0. */

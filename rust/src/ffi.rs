@@ -12,6 +12,7 @@ pub(crate) struct Table {
     frames: usize,
     taken: usize,
     given: usize,
+    last: u64,
 }
 
 /// An answer in numbers.

@@ -117,4 +117,4 @@ impl Frame {
 /// What the library keeps of a frame. It may have any content when it is lent.
 #[derive(Clone, Copy, Debug, Default)]
 #[repr(C)]
-pub struct Mark([u16; 3]);
+pub struct Mark([u16; 2]);

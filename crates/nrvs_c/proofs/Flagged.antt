@@ -109,13 +109,14 @@ module _ (handle : Table) (words after : Words) (marks : List FrameMark) (are : 
   pub status_stays : lent_status handle after marks ≡ lent_status handle words marks
   status_stays = rw long refl
 
-  laid_out : IsLentArena handle.base handle.taken handle.given words marks → IsLentArena handle.base handle.taken handle.given after marks
+  laid_out : IsLentArena handle.base handle.taken handle.given handle.last words marks → IsLentArena handle.base handle.taken handle.given handle.last after marks
   laid_out is = record {
     arena = rw long (arena_stays (uses_of_first handle.taken marks) (take handle.taken words) (take handle.taken after)
         (take_flagged handle.taken words after are) is.arena);
     taken_within = rw long is.taken_within;
     given_within = is.given_within;
     marks_for_each = rw long is.marks_for_each;
+    last_below = is.last_below;
   }
 
   pub sound_stays : IsSound handle words marks → IsSound handle after marks

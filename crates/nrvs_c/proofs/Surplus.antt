@@ -30,14 +30,13 @@ module _ (handle : Table) (words : Words) (marks other : List FrameMark) (agree 
   still_open : length words ≤ length other → IsOpen handle words marks → IsOpen handle words other
   still_open enough is =
       let taken : take handle.taken other ≡ take handle.taken marks = sym (agree handle.taken is.laid_out.taken_within) in
-      let given : take handle.given other ≡ take handle.given marks =
-      sym (agree handle.given (omega (arith, is.laid_out.given_within, is.laid_out.taken_within))) in
       record {
         laid_out = record {
-          arena = rw (taken, given) is.laid_out.arena;
+          arena = rw taken is.laid_out.arena;
           taken_within = is.laid_out.taken_within;
           given_within = is.laid_out.given_within;
           marks_for_each = enough;
+          last_below = is.laid_out.last_below;
         };
         keeps = rw taken is.keeps;
       }

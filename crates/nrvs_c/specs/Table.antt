@@ -32,5 +32,5 @@ IsUsable handle words marks = lent_status handle words marks ≡ 0
 
 -- words and marks are those with which the handle was left, where it was made
 pub record IsOpen (handle : Table) (words : List (List ℕ)) (marks : List FrameMark) : Type 0 where
-  pub laid_out : IsLentArena handle.base handle.taken handle.given words marks
+  pub laid_out : IsLentArena handle.base handle.taken handle.given handle.last words marks
   pub keeps : KeepsTable (depth_in handle) handle.root handle.base (length words) (frames_in handle.taken marks words) (notes_in handle.taken marks)

@@ -29,6 +29,8 @@ pub struct Table {
     pub taken: usize,
     /// How many of them were given back.
     pub given: usize,
+    /// The index of the one that was given back last, where one was.
+    pub last: u64,
 }
 
 impl Table {
@@ -85,6 +87,7 @@ pub(crate) fn open<'a, 'b>(
         marks,
         taken: table.taken,
         given: table.given,
+        last: table.last as u16,
     });
     Space::from_parts(SpaceParts {
         store,
@@ -109,6 +112,7 @@ pub(crate) fn close<'a, 'b>(space: Space<LentArena<'a, 'b>>) -> Closed<'a, 'b>
         marks,
         taken,
         given,
+        last,
     } = store.into_parts();
     let table = Table {
         magic: MADE,
@@ -118,6 +122,7 @@ pub(crate) fn close<'a, 'b>(space: Space<LentArena<'a, 'b>>) -> Closed<'a, 'b>
         frames: words.len(),
         taken,
         given,
+        last: u64::from(last),
     };
     Closed {
         words,

@@ -82,7 +82,7 @@ IsFree-past marks words = IsFree-from_mark marks words (length marks) (get_or_pa
 
 module _ {base size : ℕ} {words : List (List ℕ)} {marks : List Bool} {notes free : List ℕ} (arena : IsArena base size words marks notes free) where
   -- the frames that were given back aren't in use
-  apart : (index : ℕ) → get_or marks index false ≡ true → (k : ℕ) → k < length free → get_or free k 0 ≢ index
+  pub apart : (index : ℕ) → get_or marks index false ≡ true → (k : ℕ) → k < length free → get_or free k 0 ≢ index
   apart index is_marked k below same =
       true≢false (sym is_marked ∙ sym (ap (λ i. get_or marks i false) same) ∙ (arena.given_back k below).unmarked)
 
@@ -198,6 +198,12 @@ module _ {base size : ℕ} {words : List (List ℕ)} {marks : List Bool} {notes 
     pub last_given : IsGivenBack words marks index
     last_given = subst (IsGivenBack words marks) top (arena.given_back (length rest) (omega (arith, one_more)))
 
+    -- it is none of the others
+    pub apart_from_rest : (k : ℕ) → k < length rest → get_or rest k 0 ≢ index
+    apart_from_rest k below same =
+        let one : k ≡ length rest = arena.given_once k (length rest) (omega (arith, one_more, below)) (omega (arith, one_more)) (stays k below ∙ same ∙ sym top)
+        in omega (arith, one, below)
+
     -- to write zeros there changes nothing
     pub taken_clear : set words index zeros ≡ words
     taken_clear = ap (λ own. set words index own) (sym last_given.clear) ∙ set-get_or words index []
@@ -209,9 +215,6 @@ module _ {base size : ℕ} {words : List (List ℕ)} {marks : List Bool} {notes 
     pub IsArena-again : (note : ℕ) → IsArena base size words (set marks index true) (set notes index note) rest
     IsArena-again note =
         let added = len-insert_free (marked_frames marks words) index zeros (IsFree-from_mark marks words index last_given.unmarked) in
-        let other = λ (k : ℕ) (below : k < length rest). let differs : get_or rest k 0 ≢ index =
-        λ same. let one : k ≡ length rest = arena.given_once k (length rest) (omega (arith, one_more, below)) (omega (arith, one_more)) (stays k below ∙ same ∙ sym top)
-        in omega (arith, one, below) in differs in
         record {
           few_frames = arena.few_frames;
           numbers_fit = arena.numbers_fit;
@@ -222,7 +225,7 @@ module _ {base size : ℕ} {words : List (List ℕ)} {marks : List Bool} {notes 
           given_back = λ k below.
               let was = subst (IsGivenBack words marks) (stays k below) (arena.given_back k (omega (arith, one_more, below))) in record {
                 within = rw length-set was.within;
-                unmarked = get_or-set_other marks index (get_or rest k 0) true false (other k below) ∙ was.unmarked;
+                unmarked = get_or-set_other marks index (get_or rest k 0) true false (apart_from_rest k below) ∙ was.unmarked;
                 clear = was.clear;
               };
           given_once = λ j k j_below k_below same. arena.given_once j k (omega (arith, one_more, j_below)) (omega (arith, one_more, k_below))

@@ -5,7 +5,7 @@ ghost use Rattle.vs_arena.specs.Lent.{lent_frames};
 ghost use Rattle.vs_arena.specs.LentMarks.{IsLentArena};
 
 use crate::frame::{Frame, cleared_words};
-use crate::mark::FrameMark;
+use crate::mark::{FrameMark, IN_USE};
 use crate::store::FrameStore;
 use std::marker::Model;
 use vs_types::FRAME_WORDS;
@@ -24,8 +24,10 @@ pub struct LentArena<'a, 'b> {
     marks: &'b mut [FrameMark],
     /// How many frames were ever taken. They have the first places.
     taken: usize,
-    /// How many of them were given back. The first marks have a list of these; the last one is taken next.
+    /// How many of them were given back.
     given: usize,
+    /// The index of the one that was given back last, where one was: it is taken next. Its mark names the one before it.
+    last: u16,
 }
 
 impl<'a, 'b> Model for LentArena<'a, 'b> {
@@ -46,10 +48,10 @@ impl<'a, 'b> Model for LentArena<'a, 'b> {
       lenders = a.words.ghost_name ∷ a.marks.ghost_name ∷ [];
     } };
 
-    ghost invariant = { λ a. IsLentArena a.base a.taken a.given a.words.now a.marks.now };
+    ghost invariant = { λ a. IsLentArena a.base a.taken a.given a.last a.words.now a.marks.now };
 }
 
-/// A store over lent memory, taken apart: the memory, and three numbers. The frames in use are in the memory.
+/// A store over lent memory, taken apart: the memory, and four numbers. The frames in use are in the memory.
 #[derive(Debug, Drop)]
 pub struct LentParts<'a, 'b> {
     /// The number of the first frame.
@@ -62,6 +64,8 @@ pub struct LentParts<'a, 'b> {
     pub taken: usize,
     /// How many of them were given back.
     pub given: usize,
+    /// The index of the one that was given back last, where one was.
+    pub last: u16,
 }
 
 impl<'a, 'b> LentArena<'a, 'b> {
@@ -89,13 +93,14 @@ impl<'a, 'b> LentArena<'a, 'b> {
             marks,
             taken: 0,
             given: 0,
+            last: 0,
         }
     }
 
     /// Takes the store apart. Its frames stay in the memory that was lent, as `from_parts` finds them there.
     pub fn into_parts(self) -> LentParts<'a, 'b>
-        ensures laid_out { IsLentArena result.base result.taken result.given result.words.now
-            result.marks.now }
+        ensures laid_out { IsLentArena result.base result.taken result.given result.last
+            result.words.now result.marks.now }
         ensures same { lent_frames result.base result.taken result.words.now result.marks.now
             (result.words.ghost_name ∷ result.marks.ghost_name ∷ []) ≡ self.entry }
     {
@@ -105,6 +110,7 @@ impl<'a, 'b> LentArena<'a, 'b> {
             marks,
             taken,
             given,
+            last,
         } = self;
         LentParts {
             base,
@@ -112,12 +118,14 @@ impl<'a, 'b> LentArena<'a, 'b> {
             marks,
             taken,
             given,
+            last,
         }
     }
 
     /// The store that was taken apart into these.
     pub fn from_parts(parts: LentParts<'a, 'b>) -> LentArena<'a, 'b>
-        requires { IsLentArena parts.base parts.taken parts.given parts.words.now parts.marks.now }
+        requires { IsLentArena parts.base parts.taken parts.given parts.last parts.words.now
+            parts.marks.now }
         ensures { result
             ≡ lent_frames parts.entry.base parts.entry.taken parts.entry.words.now
             parts.entry.marks.now
@@ -129,6 +137,7 @@ impl<'a, 'b> LentArena<'a, 'b> {
             marks,
             taken,
             given,
+            last,
         } = parts;
         LentArena {
             base,
@@ -136,6 +145,7 @@ impl<'a, 'b> LentArena<'a, 'b> {
             marks,
             taken,
             given,
+            last,
         }
     }
 }
@@ -161,12 +171,12 @@ impl<'a, 'b> FrameStore for LentArena<'a, 'b> {
 
     fn take(&mut self) -> Option<Frame> {
         if self.given > 0 {
+            let index = self.last as usize;
             self.given -= 1;
-            let index = self.marks[self.given].free as usize;
+            self.last = self.marks[index].before;
             self.marks[index] = FrameMark {
-                in_use: 1,
+                before: IN_USE,
                 note: 0,
-                ..self.marks[index]
             };
             return Some(Frame::at_index(index));
         }
@@ -176,9 +186,8 @@ impl<'a, 'b> FrameStore for LentArena<'a, 'b> {
         }
         self.words[index] = cleared_words();
         self.marks[index] = FrameMark {
-            in_use: 1,
+            before: IN_USE,
             note: 0,
-            ..self.marks[index]
         };
         self.taken += 1;
         Some(Frame::at_index(index))
@@ -191,8 +200,8 @@ impl<'a, 'b> FrameStore for LentArena<'a, 'b> {
 
     fn give_zeroed(&mut self, frame: Frame) {
         let index = frame.index();
-        self.marks[index].in_use = 0;
-        self.marks[self.given].free = index as u16;
+        self.marks[index].before = self.last;
+        self.last = index as u16;
         self.given += 1;
     }
 
@@ -224,7 +233,7 @@ impl<'a, 'b> FrameStore for LentArena<'a, 'b> {
 
     fn at(&self, number: u64) -> Option<Frame> {
         let index = number.checked_sub(self.base)? as usize;
-        if index < self.taken && self.marks[index].in_use == 1 {
+        if index < self.taken && self.marks[index].before == IN_USE {
             Some(Frame::at_index(index))
         } else {
             None

@@ -1,5 +1,4 @@
 use Rattle.std.proofs.Common.{◌≡◌, take, sym, ap, subst, ◌∙◌, arith}
-use Rattle.std.proofs.lemmas.List.{length-set}
 use Rattle.std.specs.FinMap as finite
 use Rattle.vs_arena.specs.Store.{words_of, zeros}
 use Rattle.vs_arena.specs.Lent.{LentFrames}
@@ -7,23 +6,13 @@ use Rattle.vs_arena.specs.Marked.{marked_frames, marked_notes}
 use Rattle.vs_arena.specs.LentMarks.{uses_of_first, notes_of_first}
 use Rattle.vs_arena.proofs.Marked.{marked-unmark}
 use Rattle.vs_arena.proofs.MarkedFrames.{marked_here, marked_frames-unmark}
-use Rattle.vs_arena.proofs.LentArenas.{was_taken, room_to_give, taken_marks, unused_mark, uses-given, notes-given, given_marks, IsLentArena-give}
+use Rattle.vs_arena.proofs.LentArenas.{was_taken, taken_marks, uses-given, notes-given, given_marks, IsLentArena-give}
 use Rattle.vs_arena.proofs.lent_arena.LentArenaFrameStore.give_zeroed.Goals as goal
 
 pub bounds-self-inside-index : goal.bounds-self-inside-index
 bounds-self-inside-index c =
     let here = marked_here (uses_of_first c.self.inside.taken c.self.inside.marks.now) (take c.self.inside.taken c.self.inside.words.now) (ap (λ (a : LentFrames). a.frames) c.self.view_is) c.requires.in_use c.index-index.ensures.reads in
     omega (arith, was_taken c.self.invariant here, taken_marks c.self.invariant)
-
-pub bounds-self-inside-self-inside : goal.bounds-self-inside-self-inside
-bounds-self-inside-self-inside c =
-    let here = marked_here (uses_of_first c.self.inside.taken c.self.inside.marks.now) (take c.self.inside.taken c.self.inside.words.now) (ap (λ (a : LentFrames). a.frames) c.self.view_is) c.requires.in_use c.index-index.ensures.reads in
-    omega (
-      arith,
-      room_to_give c.self.invariant here,
-      taken_marks c.self.invariant,
-      length-set c.self.inside.marks.now c.index-index.result (unused_mark c.self.inside.marks.now c.index-index.result),
-    )
 
 pub invariant_of-self : goal.invariant_of-self
 invariant_of-self c =
