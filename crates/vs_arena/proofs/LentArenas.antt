@@ -258,7 +258,7 @@ module _ {base taken given last : ℕ} {words : List (List ℕ)} {marks : List F
         (λ k below. get_or-set_other befores last (get_or rest k 0) IN_USE 0
         (apart_from_rest lent.arena rest last popped k (omega (arith, below, length-chain fewer (get_or befores last 0) befores))))
 
-    -- what it names is a frame
+    -- it isn't in use, so its mark has another number
     named_other : (get_or marks last blank).before ≢ IN_USE
     named_other = eqb-false _ IN_USE (sym (column-at use_of taken marks last false taken_marks last_taken) ∙ last_one.unmarked)
 
