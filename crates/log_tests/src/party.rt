@@ -108,10 +108,10 @@ impl<'a, N: LogName, K: OfLog> Party<'a, N, K> {
         self.pass.replica()
     }
 
-    pub fn look<R: Wait>(&mut self, rt: &R) -> Tails
+    pub fn look(&mut self) -> Tails
         ensures { result ≡ tails_of (log_after N.replicas self.new.view.seen) }
     {
-        self.log.look(rt, &mut self.pass)
+        self.log.look(&mut self.pass)
     }
 
     /// Appends an entry of this call.
@@ -151,13 +151,13 @@ impl<'a, N: LogName, K: OfLog> Party<'a, N, K> {
 
     /// Looks, and advances its replica to this place; it does nothing where it owns none.
     pub fn advance_to<R: Wait + Abort>(&mut self, rt: &R, to: u32) -> Result<(), Moved> {
-        let tails = self.look(rt);
+        let tails = self.look();
         self.advance_from(rt, tails, to)
     }
 
     /// The same, to the tail.
     pub fn advance<R: Wait + Abort>(&mut self, rt: &R) -> Result<(), Moved> {
-        let tails = self.look(rt);
+        let tails = self.look();
         self.advance_from(rt, tails, tails.tail)
     }
 
@@ -168,7 +168,7 @@ impl<'a, N: LogName, K: OfLog> Party<'a, N, K> {
         other: &mut Party<'a, N, K>,
         call: u32,
     ) -> Result<(), Moved> {
-        let tails = self.look(rt);
+        let tails = self.look();
         assert!(rt; other.append(rt, call) == Ok(tails.tail));
         self.advance_from(rt, tails, tails.tail)
     }
@@ -180,7 +180,7 @@ impl<'a, N: LogName, K: OfLog> Party<'a, N, K> {
         start: &Start,
         pause: u32,
     ) -> Result<(), Moved> {
-        let tails = self.look(rt);
+        let tails = self.look();
         start.wait(rt);
         start.wait(rt);
         start.linger(pause);
@@ -202,7 +202,7 @@ impl<'a, N: LogName, K: OfLog> Party<'a, N, K> {
     }
 
     /// Tells another party what this one has seen.
-    pub fn tell<R: Wait>(&mut self, rt: &R, told: &mut Party<'a, N, K>) {
-        self.log.meet(rt, &mut self.pass, &mut told.pass);
+    pub fn tell(&mut self, told: &mut Party<'a, N, K>) {
+        self.log.meet(&mut self.pass, &mut told.pass);
     }
 }

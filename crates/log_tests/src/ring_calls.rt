@@ -39,7 +39,7 @@ static CALLS: [Call; 7] = [
 
 /// Looks, and is to see these tails.
 fn look<N: LogName, K: OfLog, R: Wait + Abort>(rt: &R, party: &mut Party<N, K>, tails: &Tails) {
-    assert!(rt; party.look(rt) == *tails);
+    assert!(rt; party.look() == *tails);
 }
 
 /// Appends an entry, of which the call is its place.
@@ -109,12 +109,12 @@ fn make_call<'a, N: LogName, K: OfLog, R: Wait + Abort>(
             assert!(rt; late == if owns { Err(Moved) } else { Ok(()) });
         }
         Call::Tell => {
-            other.tell(rt, first);
+            other.tell(first);
             append(rt, other, tails);
             look(rt, first, tails);
         }
         Call::BeTold => {
-            first.tell(rt, other);
+            first.tell(other);
             look(rt, other, tails);
             append(rt, first, tails);
         }

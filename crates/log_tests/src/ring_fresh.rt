@@ -65,7 +65,7 @@ impl Told {
     /// Looks, and sees at least what was told before.
     fn look<N: LogName, K: OfLog, R: Wait + Abort>(&self, rt: &R, party: &mut Party<N, K>) {
         let before = self.now();
-        let tails = party.look(rt);
+        let tails = party.look();
         assert!(rt; is_later(&tails, &before));
         self.raise(tails);
     }
@@ -96,9 +96,9 @@ impl<'a, N: LogName, K: OfLog> Pair<'a, N, K> {
             1 | 5 => {
                 let _moved = self.owner.advance(rt);
             }
-            2 => self.owner.tell(rt, &mut self.other),
+            2 => self.owner.tell(&mut self.other),
             4 => append(rt, &mut self.other, round, told),
-            6 => self.other.tell(rt, &mut self.owner),
+            6 => self.other.tell(&mut self.owner),
             _ => told.look(rt, &mut self.other),
         }
         told.look(rt, &mut self.owner);

@@ -47,11 +47,11 @@ impl<'a, N: LogName, K: OfLog> Pair<'a, N, K> {
             0 => assert!(rt; self.owner.append(rt, tail + 1) == Ok(tail + 1)),
             2 => {
                 start.linger(round % 53);
-                self.other.look(rt);
+                self.other.look();
             }
             _ => {
                 start.linger(round % 59);
-                self.owner.tell(rt, &mut self.other);
+                self.owner.tell(&mut self.other);
             }
         }
     }
@@ -69,8 +69,8 @@ impl<'a, N: LogName, K: OfLog> Pair<'a, N, K> {
             completed: taken,
             local,
         };
-        assert!(rt; self.owner.look(rt) == tails);
-        assert!(rt; self.other.look(rt) == tails);
+        assert!(rt; self.owner.look() == tails);
+        assert!(rt; self.other.look() == tails);
     }
 
     /// Its replica takes all entries, but where it is to be late in the next round.

@@ -23,7 +23,7 @@ fn look_now<N: LogName, K: OfLog, R: Wait + Abort>(
     known: &AtomicU64,
 ) -> Tails {
     let before = known.load(Ordering::SeqCst);
-    let tails = party.look(rt);
+    let tails = party.look();
     let tail = u64::from(tails.tail);
     assert!(rt; before <= tail);
     known.fetch_max(tail, Ordering::SeqCst);

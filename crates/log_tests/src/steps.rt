@@ -77,7 +77,7 @@ fn take<'a, N: LogName, K: OfLog, R: Wait + Abort>(
             let full = AppendFault::Full(tails(tail, completed, local));
             party.append_all(rt, 2) == Err(full)
         }
-        Does::Looks(tail, completed, local) => party.look(rt) == tails(tail, completed, local),
+        Does::Looks(tail, completed, local) => party.look() == tails(tail, completed, local),
         Does::Fetches(calls) => party.fetches(rt, calls),
         Does::Advances(to) => party.advance_to(rt, to).is_ok(),
         Does::AdvancesLate(other, call) => {
@@ -86,7 +86,7 @@ fn take<'a, N: LogName, K: OfLog, R: Wait + Abort>(
         }
         Does::IsTold(by) => {
             let by = later.get_mut(by).expect(rt, "a later party");
-            by.tell(rt, party);
+            by.tell(party);
             true
         }
     }

@@ -165,7 +165,7 @@ fn take_others<R: Wait + Abort>(rt: &R, log: &RingLog<Two>, pass: &mut LogPass<T
     requires log { pass.old.log ≡ log.now }
     requires owner { pass.old.view.owns ≡ 1 ∷ [] }
 {
-    let tails = log.look(rt, pass);
+    let tails = log.look(pass);
     assert!(rt; tails.local[1] <= 16 && 16 <= tails.tail);
     assert!(rt; log.advance(rt, pass, 16).is_ok());
 }

@@ -256,10 +256,8 @@ impl<S: FrameStore, J: LogName> Node<S, J> {
         self.replica.dump()
     }
 
-    /// Tells another pass of its log what it has seen.
-    ///
-    /// Waits for the log's cell.
-    pub fn tell<R: Wait>(&mut self, rt: &R, log: &RingLog<J>, told: &mut LogPass<J>)
+    /// Tells another pass of its log what it has seen. One load of the log's cell.
+    pub fn tell(&mut self, log: &RingLog<J>, told: &mut LogPass<J>)
         requires log { (self.old.known.log ≡ log.now) × (told.old.log ≡ log.now) }
         ensures same { self.new ≡ self.old }
         ensures log { told.new.log ≡ told.old.log }
@@ -271,7 +269,7 @@ impl<S: FrameStore, J: LogName> Node<S, J> {
         ensures looked { HasLooked J.depth J.replicas
             (joint_view told.old.view (copy_of self.old.known.view)) told.new.view }
     {
-        log.meet(rt, &mut self.pass, told);
+        log.meet(&mut self.pass, told);
     }
 }
 

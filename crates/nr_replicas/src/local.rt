@@ -146,9 +146,8 @@ impl<J: LogName, K: ReplicasName> Local<J, K> {
 
     /// The place and the answer of an update, where the log has it at the place that was told, which is not below that one, and
     /// answers it so. The pass is told then what the node has seen.
-    pub(crate) fn confirm<R: Wait>(
+    pub(crate) fn confirm(
         &mut self,
-        rt: &R,
         log: &RingLog<J>,
         pass: &mut LogPass<J>,
         from: u32,
@@ -165,7 +164,7 @@ impl<J: LogName, K: ReplicasName> Local<J, K> {
     {
         let place = answered.place;
         let answer = self.recall(from, answered)?;
-        self.node.tell(rt, log, pass);
+        self.node.tell(log, pass);
         Some((place, answer))
     }
 
@@ -195,7 +194,7 @@ impl<J: LogName, K: ReplicasName> Local<J, K> {
             return None;
         }
         let read = self.answer(address, question);
-        self.node.tell(rt, log, pass);
+        self.node.tell(log, pass);
         Some(read)
     }
 
@@ -215,7 +214,7 @@ impl<J: LogName, K: ReplicasName> Local<J, K> {
     }
 
     /// Tells a pass what the node has seen.
-    pub(crate) fn tell<R: Wait>(&mut self, rt: &R, log: &RingLog<J>, pass: &mut LogPass<J>)
+    pub(crate) fn tell(&mut self, log: &RingLog<J>, pass: &mut LogPass<J>)
         requires log { (log.now ≡ K.log) × (pass.old.log ≡ K.log) }
         ensures same { self.new ≡ self.old }
         ensures log { pass.new.log ≡ pass.old.log }
@@ -223,6 +222,6 @@ impl<J: LogName, K: ReplicasName> Local<J, K> {
         ensures more { tail (log_of J.replicas self.old)
             ≤ tail (log_after J.replicas pass.new.view.seen) }
     {
-        self.node.tell(rt, log, pass);
+        self.node.tell(log, pass);
     }
 }

@@ -117,7 +117,7 @@ impl<J: LogName, K: ReplicasName> Replicas<J, K> {
             (record { call = call; op = op }) update.0 update.1) }
         ensures refused { IfErr result (IsFaultOf call (log_after J.replicas pass.new.view.seen)) }
     {
-        let from = self.log.look(rt, pass).tail;
+        let from = self.log.look(pass).tail;
         let home = self.home(thread);
         if home.slots.post(rt, thread, call, op).is_err() {
             return Err(UpdateFault::Occupied);
@@ -130,7 +130,7 @@ impl<J: LogName, K: ReplicasName> Replicas<J, K> {
             place,
             answer,
         };
-        match hold(rt, &home.local).confirm(rt, &self.log, pass, from, answered) {
+        match hold(rt, &home.local).confirm(&self.log, pass, from, answered) {
             Some(update) => Ok(update),
             None => Err(UpdateFault::Stopped(call)),
         }
@@ -208,7 +208,7 @@ impl<J: LogName, K: ReplicasName> Replicas<J, K> {
             Ok(false) | Err(AppendFault::Moved(_)) => Combined::Went,
             Err(AppendFault::Full(_)) => Combined::Full,
             Err(AppendFault::LogEnded) => {
-                local.tell(rt, &self.log, pass);
+                local.tell(&self.log, pass);
                 Combined::Ended
             }
         }
@@ -318,7 +318,7 @@ impl<J: LogName, K: ReplicasName> Replicas<J, K> {
             IsReadAt J.depth K.tables (completed (log_after J.replicas pass.old.view.seen))
             (log_after J.replicas pass.new.view.seen) (answer_in question address) read.0 read.1) }
     {
-        let completed = self.log.look(rt, pass).completed;
+        let completed = self.log.look(pass).completed;
         let home = self.home(thread);
         let backoff = Backoff::new();
         for _ in 0..turns {

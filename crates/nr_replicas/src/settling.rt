@@ -50,10 +50,10 @@ impl<J: LogName, K: ReplicasName> Replicas<J, K> {
         let mut calls = calls_of(alloc, &nodes[0])?;
         let (mut others, dumps) = passes_of::<J, K>(alloc, nodes)?;
         let mut first = others.remove(0);
-        hear_all(rt, &log, &mut first, &mut others);
-        hear_all(rt, &log, &mut first, passes);
+        hear_all(&log, &mut first, &mut others);
+        hear_all(&log, &mut first, passes);
         add_rest(rt, &log, &mut first, &mut calls)?;
-        tell_all(rt, &log, &mut first, others);
+        tell_all(&log, &mut first, others);
         Ok((calls, dumps))
     }
 }
@@ -143,12 +143,7 @@ fn dump_of<J: LogName>(node: &Node<RawArena, J>) -> Result<Dump, Memory>
 }
 
 /// Tells a pass what all these have seen.
-fn hear_all<J: LogName, R: Wait>(
-    rt: &R,
-    log: &RingLog<J>,
-    first: &mut LogPass<J>,
-    passes: &mut [LogPass<J>],
-)
+fn hear_all<J: LogName>(log: &RingLog<J>, first: &mut LogPass<J>, passes: &mut [LogPass<J>])
     requires log { (first.old.log ≡ log.now) × All (λ pass. pass.log ≡ log.now) passes.old }
     ensures log { first.new.log ≡ first.old.log }
     ensures passes { passes.new ≡ passes.old }
@@ -157,7 +152,7 @@ fn hear_all<J: LogName, R: Wait>(
 {
     first.has_seen_a_history();
     for i in 0..passes.len() {
-        log.meet(rt, &mut passes[i], first);
+        log.meet(&mut passes[i], first);
     }
 }
 
@@ -185,18 +180,13 @@ fn add_rest<J: LogName, R: Wait>(
 }
 
 /// Tells passes what the first has seen. Each of them then sees no advance of its own replica there that it had not seen before.
-fn tell_all<J: LogName, R: Wait>(
-    rt: &R,
-    log: &RingLog<J>,
-    first: &mut LogPass<J>,
-    others: Vec<LogPass<J>>,
-)
+fn tell_all<J: LogName>(log: &RingLog<J>, first: &mut LogPass<J>, others: Vec<LogPass<J>>)
     requires log { (first.old.log ≡ log.now) × All (λ pass. pass.log ≡ log.now) others.items }
     requires begins { All (λ pass. StartsWith first.old.view.seen pass.view.seen) others.items }
     ensures first { first.new ≡ first.old }
     ensures taken { All (HasSeenOwnAdvances first.old.view.seen) others.items }
 {
     for mut other in others {
-        log.meet(rt, first, &mut other);
+        log.meet(first, &mut other);
     }
 }

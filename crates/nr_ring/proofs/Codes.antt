@@ -14,6 +14,7 @@ use Rattle.nr_ring.specs.Words.{IsWordsOf}
 use Rattle.nr_ring.specs.declared.log_event.LogEvent.{LogEvent}
 use Rattle.nr_ring.specs.declared.log_event.LogEvent.TheVariants.{Append, Advance}
 use Rattle.nr_ring.specs.inside.Batch.{AreSmall}
+use Rattle.nr_ring.specs.inside.Held.{IsHeadOf}
 use Rattle.nr_ring.specs.inside.Codes.{code_in, code_of, code_of_log, local_in, locals_in, room_of, word_in}
 
 -- words have the code of their log
@@ -165,7 +166,7 @@ event_raises depth log (Advance replica to) fits after few may = by_replica repl
 abbrev pub locals_of : Log → List ℕ
 locals_of log = local_of log 0 ∷ local_of log 1 ∷ local_of log 2 ∷ local_of log 3 ∷ []
 
-locals_are : (log : Log) (words : List ℕ) → IsWordsOf log words → locals_in words ≡ locals_of log
+locals_are : (log : Log) (words : List ℕ) → IsHeadOf log words → locals_in words ≡ locals_of log
 locals_are log words is = λ i. is.locals_are 0 (omega arith) i ∷ is.locals_are 1 (omega arith) i ∷ is.locals_are 2 (omega arith) i ∷ is.locals_are 3 (omega arith) i ∷ []
 
 -- the local tails after an advance
@@ -184,13 +185,13 @@ advanced_locals log replica to there few = by_replica replica there where
   by_replica (suc (suc (suc zero))) there = λ i. other 3 0 (λ e. omega arith) i ∷ other 3 1 (λ e. omega arith) i ∷ other 3 2 (λ e. omega arith) i ∷ here 3 there i ∷ []
   by_replica (suc (suc (suc (suc r)))) there = absurd (omega (arith, there, few))
 
-pub append_code : (log : Log) (words : List ℕ) (batch : List LogEntry) (t n : ℕ) (locals : List ℕ) → IsWordsOf log words → t ≡ slice_index words 0 + length batch → locals ≡ locals_in words → n ≡ slice_index words 6
+pub append_code : (log : Log) (words : List ℕ) (batch : List LogEntry) (t n : ℕ) (locals : List ℕ) → IsHeadOf log words → t ≡ slice_index words 0 + length batch → locals ≡ locals_in words → n ≡ slice_index words 6
     → code_of t locals n ≡ code_of_log (log_after_event log (Append batch))
 append_code log words batch t n locals is tail_is same count =
     let longer : t ≡ length (log.entries ++ batch) = omega (arith, tail_is, is.tail_is, length-append log.entries batch) in
     λ i. code_of (longer i) ((same ∙ locals_are log words is) i) ((count ∙ is.replicas_are) i)
 
-pub advance_code : (log : Log) (words : List ℕ) (replica to t n : ℕ) (locals : List ℕ) → IsWordsOf log words → replica < length log.locals → length log.locals ≤ 4
+pub advance_code : (log : Log) (words : List ℕ) (replica to t n : ℕ) (locals : List ℕ) → IsHeadOf log words → replica < length log.locals → length log.locals ≤ 4
     → t ≡ slice_index words 0 → locals ≡ set (locals_in words) replica to → n ≡ slice_index words 6 → code_of t locals n ≡ code_of_log (log_after_event log (Advance replica to))
 advance_code log words replica to t n locals is there few tail_is same count =
     let moved = same ∙ (ap (λ (l : List ℕ). set l replica to) (locals_are log words is) ∙ advanced_locals log replica to there few) in

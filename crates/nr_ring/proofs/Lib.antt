@@ -19,3 +19,4 @@ pub mod Appends
 pub mod OwnTails
 pub mod Makers
 mod Codes
+pub mod FirstWords

@@ -13,7 +13,7 @@ use Rattle.nr_ring.specs.Calls.{Looks, IsCut}
 use Rattle.nr_ring.specs.Pass.{tails_of}
 use Rattle.nr_ring.specs.declared.log_event.LogEvent.{LogEvent}
 use Rattle.nr_ring.specs.declared.view.View.{View}
-use Rattle.nr_ring.specs.inside.Held.{IsBelow, Remembers, left_from, new_view, owned, rest_of, tails_of_words}
+use Rattle.nr_ring.specs.inside.Held.{IsBelow, IsHeadOf, Remembers, left_from, new_view, owned, rest_of, tails_of_words}
 use Rattle.nr_ring.proofs.Histories.{history_fits}
 use Rattle.nr_ring.proofs.LocalTails.{greatest_least}
 use Rattle.nr_ring.proofs.NewLog.{new_is}
@@ -33,7 +33,7 @@ small_words depth replicas seen words is are word lt =
       by_word (suc (suc r)) lt log are ends local = let e : suc (suc r) ≡ 2 + r = omega arith in
           omega (arith, ap (slice_index words) e, are.locals_are r (omega arith), local r)
 
-pub tails_are : (log : Log) (words : List ℕ) → IsWordsOf log words → tails_of_words words ≡ tails_of log
+pub tails_are : (log : Log) (words : List ℕ) → IsHeadOf log words → tails_of_words words ≡ tails_of log
 tails_are log words are = λ i. record {
   tail = are.tail_is i;
   completed = are.completed_is i;

@@ -1,42 +1,45 @@
 //! Batches of entries and the words of the cell.
-ghost use Rattle.std.specs.Prelude.{◌≡◌, ◌<◌, ◌≤◌, ℕ, All, MatchResult, [], drop, length, slice_index};
+ghost use Rattle.std.specs.Prelude.{◌≡◌, ◌<◌, ◌≤◌, ◌+◌, ◌-◌, ℕ, List, All, MatchResult, [], drop, length};
 ghost use Rattle.version_cell.specs.Changes.{changed};
 ghost use Rattle.vs_types.specs.LogEntry.{IsLogEntry};
 ghost use Rattle.vs_types.specs.declared.limits.TheConstants.{CALLS, LOG_PLACES};
-ghost use Rattle.nr_ring.specs.LogHistory.{AllKeepUp, HasRoom, Log};
+ghost use Rattle.nr_ring.specs.LogHistory.{AllKeepUp, HasRoom, Log, tail as tail_of};
 ghost use Rattle.nr_ring.specs.Words.{IsAppended, IsWordsOf, word_of};
-ghost use Rattle.nr_ring.specs.inside.Batch.{AreSmall, Bars, CanBeRead, Explains};
+ghost use Rattle.nr_ring.specs.inside.Batch.{ArePlaces, AreSmall, Bars, CanBeRead, Explains, HaveEntries};
+ghost use Rattle.nr_ring.specs.inside.Held.{IsHeadOf};
 
 use crate::tails::{AppendFault, tails_in};
-use crate::words::{CELL_WORDS, CHANGES, COUNT_WORD, LOCAL_WORDS, RING, RING_WORDS, TAIL_WORD};
+use crate::words::{
+    CELL_WORDS, CHANGES, COUNT_WORD, LOADS, LOCAL_WORDS, RING, RING_WORDS, TAIL_WORD,
+};
 use arrayvec::ArrayVec;
 use vs_types::{Depth, LOG_PLACES, LogEntry, pack, unpack};
 
 /// Tests that so many entries may be appended: the log does not end before, and each replica has the room.
-pub(crate) fn test_room(words: &[u64; CELL_WORDS], count: u64) -> Result<(), AppendFault>
-    requires { AreSmall words.now × (count ≤ RING) }
-    ensures { (log : Log) → IsWordsOf log words.now
+pub(crate) fn test_room(head: &[u64; RING_WORDS], count: u64) -> Result<(), AppendFault>
+    requires { AreSmall head.now × (count ≤ RING) }
+    ensures { (log : Log) → IsHeadOf log head.now
         → MatchResult result (λ _. HasRoom log count × AllKeepUp log count) (Bars log count) }
 {
-    let end = words[TAIL_WORD] + count;
+    let end = head[TAIL_WORD] + count;
     if end > u64::from(LOG_PLACES) {
         return Err(AppendFault::LogEnded);
     }
-    for replica in 0..words[COUNT_WORD] as usize {
-        if end > words[LOCAL_WORDS + replica] + RING as u64 {
-            return Err(AppendFault::Full(tails_in(words)));
+    for replica in 0..head[COUNT_WORD] as usize {
+        if end > head[LOCAL_WORDS + replica] + RING as u64 {
+            return Err(AppendFault::Full(tails_in(head)));
         }
     }
     Ok(())
 }
 
-/// Why a batch of so many entries was not appended to the log with these words, which another pass changed.
-pub(crate) fn why_not(words: &[u64; CELL_WORDS], count: u64) -> AppendFault
-    requires { AreSmall words.now × (count ≤ RING) }
-    ensures { (log : Log) → IsWordsOf log words.now → Explains log count result }
+/// Why a batch of so many entries was not appended to the log with these first words, which another pass changed.
+pub(crate) fn why_not(head: &[u64; RING_WORDS], count: u64) -> AppendFault
+    requires { AreSmall head.now × (count ≤ RING) }
+    ensures { (log : Log) → IsHeadOf log head.now → Explains log count result }
 {
-    match test_room(words, count) {
-        Ok(()) => AppendFault::Moved(tails_in(words)),
+    match test_room(head, count) {
+        Ok(()) => AppendFault::Moved(tails_in(head)),
         Err(fault) => fault,
     }
 }
@@ -48,20 +51,21 @@ fn first_word(place: u64) -> usize
     RING_WORDS + 2 * (place % RING as u64) as usize
 }
 
-/// Adds the changes of the words that an append makes: each entry stands at its place in the ring, and the tail rises.
+/// Adds the changes of the words that an append makes to a log with this tail: each entry stands at its place in the ring, and the
+/// tail rises.
 pub(crate) fn list_changes(
-    words: &[u64; CELL_WORDS],
+    tail: u64,
     batch: &[LogEntry],
     changes: &mut ArrayVec<(usize, u64), CHANGES>,
 )
-    requires small { (slice_index words.now TAIL_WORD ≤ LOG_PLACES) × (length batch.now ≤ RING) }
+    requires small { (tail ≤ LOG_PLACES) × (length batch.now ≤ RING) }
     requires calls { All (λ entry. entry.call < CALLS) batch.now }
     requires empty { changes.old.items ≡ [] }
     ensures places { All (λ change. change.0 < CELL_WORDS) changes.new.items }
-    ensures appended { (log : Log) → IsWordsOf log words.now
-        → IsAppended log batch.now words.now (changed words.now changes.new.items) }
+    ensures appended { (log : Log) (words : List ℕ) → IsWordsOf log words → tail_of log ≡ tail
+        → IsAppended log batch.now words (changed words changes.new.items) }
 {
-    let mut place = words[TAIL_WORD];
+    let mut place = tail;
     for entry in batch {
         let [operation, rest] = pack(*entry);
         let at = first_word(place);
@@ -72,20 +76,35 @@ pub(crate) fn list_changes(
     changes.push((TAIL_WORD, place));
 }
 
-/// Adds the entries from a place to the tail, in order.
+/// Adds the places of the words of the entries from one place of the log to another.
+pub(crate) fn list_places(from: u64, to: u64, places: &mut ArrayVec<usize, LOADS>)
+    requires few { (from ≤ to) × (to ≤ from + RING) }
+    requires empty { places.old.items ≡ [] }
+    ensures within { All (λ place. (RING_WORDS ≤ place) × (place < CELL_WORDS)) places.new.items }
+    ensures listed { ArePlaces from (to - from) places.new.items }
+{
+    for place in from..to {
+        let at = first_word(place);
+        places.push(at);
+        places.push(at + 1);
+    }
+}
+
+/// Adds the entries from one place of the log to another, in order, whose words are among these.
 pub(crate) fn read_entries(
     depth: Depth,
     words: &[u64; CELL_WORDS],
     from: u64,
+    to: u64,
     entries: &mut ArrayVec<LogEntry, RING>,
 )
-    requires words { CanBeRead depth words.now from }
+    requires words { CanBeRead depth words.now from to }
     requires empty { entries.old.items ≡ [] }
-    ensures { (log : Log) → IsWordsOf log words.now → All (IsLogEntry depth) log.entries
-        → entries.new.items ≡ drop from log.entries }
+    ensures { (log : Log) → HaveEntries log from words.now → tail_of log ≡ to
+        → All (IsLogEntry depth) log.entries → entries.new.items ≡ drop from log.entries }
 {
-    for n in 0..words[TAIL_WORD] - from {
-        let at = first_word(from + n);
+    for place in from..to {
+        let at = first_word(place);
         match unpack(depth, [words[at], words[at + 1]]) {
             Some(entry) => entries.push(entry),
             None => unreachable!(),

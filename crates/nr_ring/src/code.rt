@@ -3,7 +3,7 @@ ghost use Rattle.std.specs.Prelude.{◌≡◌, ◌≤◌, All};
 ghost use Rattle.vs_types.specs.declared.limits.TheConstants.{LOG_PLACES, REPLICAS};
 ghost use Rattle.nr_ring.specs.inside.Codes.{code_of, local_in, locals_in, room_of, word_in};
 
-use crate::words::{CELL_WORDS, COMPLETED_WORD, COUNT_WORD, LOCAL_WORDS, RING, TAIL_WORD};
+use crate::words::{COMPLETED_WORD, COUNT_WORD, LOCAL_WORDS, RING, RING_WORDS, TAIL_WORD};
 
 /// How many entries fewer than the ring holds a replica has still to take; 0 for one that is absent.
 fn room_of(tail: u64, local: u64, present: bool) -> u64
@@ -69,15 +69,15 @@ pub(crate) fn head_word(code: u64, place: usize) -> u64
     }
 }
 
-/// The local tails that words have.
+/// The local tails that the first words have.
 #[inline(always)]
-pub(crate) fn locals_in(words: &[u64; CELL_WORDS]) -> [u64; 4]
-    ensures { result ≡ locals_in words.now }
+pub(crate) fn locals_in(head: &[u64; RING_WORDS]) -> [u64; 4]
+    ensures { result ≡ locals_in head.now }
 {
     [
-        words[LOCAL_WORDS],
-        words[LOCAL_WORDS + 1],
-        words[LOCAL_WORDS + 2],
-        words[LOCAL_WORDS + 3],
+        head[LOCAL_WORDS],
+        head[LOCAL_WORDS + 1],
+        head[LOCAL_WORDS + 2],
+        head[LOCAL_WORDS + 3],
     ]
 }

@@ -8,15 +8,15 @@ ghost use Rattle.nr_ring.specs.inside.Held.{Remembers};
 use crate::name::LogName;
 use crate::tails::{Tails, tails_in};
 use crate::view::View;
-use crate::words::CELL_WORDS;
+use crate::words::{CELL_WORDS, RING_WORDS};
 use std::marker::{Model, PhantomData};
 use version_cell::Pass;
 
-/// What one thread knows of a log: its pass to the cell, with the words that it saw last, and the replica that it owns, if any.
+/// What one thread knows of a log: its pass to the cell, with the tails that it saw last, and the replica that it owns, if any.
 /// Contracts see which log it is and what the pass knows of it.
 #[derive(Drop)]
 pub struct LogPass<J: LogName> {
-    pub(crate) inner: Pass<View, CELL_WORDS>,
+    pub(crate) inner: Pass<View, RING_WORDS, CELL_WORDS>,
     pub(crate) replica: Option<u8>,
     pub(crate) of: PhantomData<J>,
 }
@@ -34,7 +34,7 @@ impl<J: LogName> Model for LogPass<J> {
 
 impl<J: LogName> LogPass<J> {
     /// The pass to a log over one to its cell.
-    pub(crate) fn new(inner: Pass<View, CELL_WORDS>, replica: Option<u8>) -> LogPass<J>
+    pub(crate) fn new(inner: Pass<View, RING_WORDS, CELL_WORDS>, replica: Option<u8>) -> LogPass<J>
         requires { Remembers J.depth J.replicas inner.words replica inner.view }
         ensures { (result.log ≡ inner.cell) × (result.view ≡ inner.view) }
     {
@@ -49,7 +49,7 @@ impl<J: LogName> LogPass<J> {
     pub(crate) fn tails(&self) -> Tails
         ensures { result ≡ tails_of (log_after J.replicas self.now.view.seen) }
     {
-        tails_in(self.inner.words())
+        tails_in(self.inner.head())
     }
 
     /// The replica that it owns, or `None` where it owns none.

@@ -1,5 +1,5 @@
 //! The log: one cell that its threads share.
-ghost use Rattle.std.specs.Prelude.{◌≡◌, ◌≤◌, ◌+◌, ◌-◌, ◌<◌, ℕ, List, All, Contains, IfErr, IfOk, OnErr, OnOk, [], ◌∷◌, length};
+ghost use Rattle.std.specs.Prelude.{◌≡◌, ◌≤◌, ◌+◌, ◌-◌, ◌<◌, ℕ, List, All, Contains, IfErr, IfOk, IsFalse, IsTrue, OnErr, OnOk, [], ◌∷◌, length};
 ghost use Rattle.std.specs.List.{range_with_len};
 ghost use Rattle.version_cell.specs.Changes.{changed};
 ghost use Rattle.vs_types.specs.LogEntry.{IsLogEntry};
@@ -13,7 +13,7 @@ ghost use Rattle.nr_ring.specs.Words.{IsWordsOf, new_words};
 ghost use Rattle.nr_ring.specs.inside.Codes.{code_of_log};
 ghost use Rattle.nr_ring.specs.inside.Held.{IsBelow, MadeOrMoved, left_from, new_view, owned, rest_of};
 
-use crate::batch::{list_changes, read_entries, test_room, why_not};
+use crate::batch::{list_changes, list_places, read_entries, test_room, why_not};
 use crate::code::{code_of, locals_in};
 use crate::name::LogName;
 use crate::pass::LogPass;
@@ -21,10 +21,11 @@ use crate::rule::{Copies, FirstOwned, Happening, LogRule, Looking, Making};
 use crate::tails::{AppendFault, Moved, Tails};
 use crate::view::View;
 use crate::words::{
-    CELL_WORDS, CHANGES, COMPLETED_WORD, COUNT_WORD, LOCAL_WORDS, OTHERS, RING, RING_WORDS,
+    CELL_WORDS, CHANGES, COMPLETED_WORD, COUNT_WORD, LOADS, LOCAL_WORDS, OTHERS, RING, RING_WORDS,
     TAIL_WORD,
 };
 use arrayvec::ArrayVec;
+use crossbeam_utils::Backoff;
 use std::alloc::Global;
 use std::marker::{Brand, Model, PhantomData};
 use std::sync::Wait;
@@ -96,7 +97,11 @@ impl<J: LogName> RingLog<J> {
     }
 
     /// Splits a pass off the first one, which gives it the first replica that it owns and one of its rights.
-    fn split_off(&self, first: &mut Pass<View, CELL_WORDS>, replica: Option<u8>) -> LogPass<J>
+    fn split_off(
+        &self,
+        first: &mut Pass<View, RING_WORDS, CELL_WORDS>,
+        replica: Option<u8>,
+    ) -> LogPass<J>
         requires first { (first.old.cell ≡ self.now)
             × (first.old.view ≡ new_view (left_from J.replicas replica) first.old.view.rights) }
         requires right { 1 ≤ first.old.view.rights }
@@ -111,32 +116,30 @@ impl<J: LogName> RingLog<J> {
         LogPass::new(pass, replica)
     }
 
-    /// The tails of the log after all that the pass has then seen.
-    ///
-    /// One load where nothing has come since this pass saw the log; else it waits for the cell.
-    pub fn look<R: Wait>(&self, rt: &R, pass: &mut LogPass<J>) -> Tails
+    /// The tails of the log after all that the pass has then seen. One load of the cell.
+    pub fn look(&self, pass: &mut LogPass<J>) -> Tails
         requires { pass.old.log ≡ self.now }
         ensures log { pass.new.log ≡ pass.old.log }
         ensures looked { HasLooked J.depth J.replicas pass.old.view pass.new.view }
         ensures tails { result ≡ tails_of (log_after J.replicas pass.new.view.seen) }
     {
-        self.refresh(rt, pass);
+        self.refresh(pass);
         pass.tails()
     }
 
     /// Has the words of the pass be those of the cell.
-    fn refresh<R: Wait>(&self, rt: &R, pass: &mut LogPass<J>)
+    fn refresh(&self, pass: &mut LogPass<J>)
         requires { pass.old.log ≡ self.now }
         ensures log { pass.new.log ≡ pass.old.log }
         ensures looked { HasLooked J.depth J.replicas pass.old.view pass.new.view }
     {
-        self.cell.look_as::<Looking<J>, R>(rt, &mut pass.inner);
+        self.cell.look_as::<Looking<J>>(&mut pass.inner);
     }
 
     /// Raises the local tail of the replica that the pass owns to a place, and the completed tail to it where that is lower.
     /// Where the local tail is there already, nothing is exchanged.
     ///
-    /// Waits for the cell.
+    /// Where another pass's event has come it may wait for the cell.
     ///
     /// # Errors
     ///
@@ -156,7 +159,7 @@ impl<J: LogName> RingLog<J> {
         };
         let local = LOCAL_WORDS + usize::from(replica);
         let place = u64::from(to);
-        if pass.inner.words()[local] == place {
+        if pass.inner.head()[local] == place {
             return Ok(());
         }
         if self.try_advance::<Brand, R>(rt, pass, replica, to) {
@@ -182,12 +185,12 @@ impl<J: LogName> RingLog<J> {
         ensures view { MadeOrMoved J.depth J.replicas E.event pass.old.view pass.new.view result }
         ensures history { IsLogHistory J.depth J.replicas pass.new.view.seen }
     {
-        let words = pass.inner.words();
+        let head = pass.inner.head();
         let place = u64::from(to);
-        let completed = words[COMPLETED_WORD].max(place);
-        let mut locals = locals_in(words);
+        let completed = head[COMPLETED_WORD].max(place);
+        let mut locals = locals_in(head);
         locals[usize::from(replica)] = place;
-        let code = code_of(words[TAIL_WORD], locals, words[COUNT_WORD]);
+        let code = code_of(head[TAIL_WORD], locals, head[COUNT_WORD]);
         let local = LOCAL_WORDS + usize::from(replica);
         self.exchange::<E, R>(
             rt,
@@ -226,13 +229,13 @@ impl<J: LogName> RingLog<J> {
         ensures history { IsLogHistory J.depth J.replicas pass.new.view.seen }
     {
         let count = batch.len() as u64;
-        self.refresh(rt, pass);
+        self.refresh(pass);
         let place = pass.tails().tail;
-        test_room(pass.inner.words(), count)?;
+        test_room(pass.inner.head(), count)?;
         if self.try_append::<Brand, R>(rt, pass, batch) {
             return Ok(place);
         }
-        Err(why_not(pass.inner.words(), count))
+        Err(why_not(pass.inner.head(), count))
     }
 
     fn try_append<E: Happening, R: Wait>(
@@ -248,11 +251,11 @@ impl<J: LogName> RingLog<J> {
         ensures view { MadeOrMoved J.depth J.replicas E.event pass.old.view pass.new.view result }
         ensures history { IsLogHistory J.depth J.replicas pass.new.view.seen }
     {
-        let words = pass.inner.words();
-        let tail = words[TAIL_WORD] + batch.len() as u64;
-        let code = code_of(tail, locals_in(words), words[COUNT_WORD]);
+        let head = pass.inner.head();
+        let tail = head[TAIL_WORD];
+        let code = code_of(tail + batch.len() as u64, locals_in(head), head[COUNT_WORD]);
         let mut changes: ArrayVec<(usize, u64), CHANGES> = ArrayVec::new();
-        list_changes(words, batch, &mut changes);
+        list_changes(tail, batch, &mut changes);
         self.exchange::<E, R>(rt, pass, code, changes.as_slice())
     }
 
@@ -274,13 +277,47 @@ impl<J: LogName> RingLog<J> {
         ensures fetched { (replica : ℕ) → pass.old.view.owns ≡ replica ∷ []
             → entries.new.items ≡ to_take (log_after J.replicas pass.new.view.seen) replica }
     {
-        self.refresh(rt, pass);
+        self.refresh(pass);
+        let backoff = Backoff::new();
+        for _ in rt.forever() {
+            if self.try_fetch(pass, entries) {
+                return;
+            }
+            backoff.snooze();
+        }
+        unreachable!()
+    }
+
+    /// Gives the entries that the replica which the pass owns has still to take, as far as the pass has seen, and then looks. Where
+    /// another pass's event has come, or is about to, it gives none: their words in the cell may be those of others already.
+    fn try_fetch(&self, pass: &mut LogPass<J>, entries: &mut ArrayVec<LogEntry, RING>) -> bool
+        requires log { pass.old.log ≡ self.now }
+        requires owner { (replica : ℕ) × (pass.old.view.owns ≡ replica ∷ []) }
+        requires empty { entries.old.items ≡ [] }
+        ensures log { pass.new.log ≡ pass.old.log }
+        ensures looked { HasLooked J.depth J.replicas pass.old.view pass.new.view }
+        ensures fetched { IsTrue result → (replica : ℕ) → pass.old.view.owns ≡ replica ∷ []
+            → entries.new.items ≡ to_take (log_after J.replicas pass.new.view.seen) replica }
+        ensures none { IsFalse result → entries.new.items ≡ [] }
+    {
         let Some(replica) = pass.replica else {
             unreachable!()
         };
-        let words = pass.inner.words();
-        let local = words[LOCAL_WORDS + usize::from(replica)];
-        read_entries(self.depth, words, local, entries);
+        let head = pass.inner.head();
+        let from = head[LOCAL_WORDS + usize::from(replica)];
+        let to = head[TAIL_WORD];
+        let mut places: ArrayVec<usize, LOADS> = ArrayVec::new();
+        list_places(from, to, &mut places);
+        let mut words = [0; CELL_WORDS];
+        let inner = &mut pass.inner;
+        if !self
+            .cell
+            .load_as::<Looking<J>>(inner, places.as_slice(), &mut words)
+        {
+            return false;
+        }
+        read_entries(self.depth, &words, from, to, entries);
+        true
     }
 
     /// Changes the words that the pass saw last to those after an event, which have this code, where the cell still has them; else it
@@ -310,10 +347,8 @@ impl<J: LogName> RingLog<J> {
     }
 
     /// Tells one pass what another has seen: what `told` has then seen begins with all that either had seen, and nobody has
-    /// advanced the replica that it owns since it last saw the log itself.
-    ///
-    /// Waits for the cell.
-    pub fn meet<R: Wait>(&self, rt: &R, pass: &mut LogPass<J>, told: &mut LogPass<J>)
+    /// advanced the replica that it owns since it last saw the log itself. One load of the cell.
+    pub fn meet(&self, pass: &mut LogPass<J>, told: &mut LogPass<J>)
         requires log { (pass.old.log ≡ self.now) × (told.old.log ≡ self.now) }
         ensures pass { pass.new ≡ pass.old }
         ensures log { told.new.log ≡ told.old.log }
@@ -326,6 +361,6 @@ impl<J: LogName> RingLog<J> {
             (joint_view told.old.view (copy_of pass.old.view)) told.new.view }
     {
         self.cell
-            .meet_as::<Copies, Looking<J>, R>(rt, &mut pass.inner, &mut told.inner);
+            .meet_as::<Copies, Looking<J>>(&mut pass.inner, &mut told.inner);
     }
 }

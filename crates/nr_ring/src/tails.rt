@@ -1,7 +1,7 @@
 ghost use Rattle.std.specs.Prelude.{◌≡◌, ◌<◌, ◌^◌, ℕ, slice_index};
 ghost use Rattle.nr_ring.specs.inside.Held.{tails_of_words};
 
-use crate::words::{CELL_WORDS, COMPLETED_WORD, COUNT_WORD, LOCAL_WORDS, TAIL_WORD};
+use crate::words::{COMPLETED_WORD, COUNT_WORD, LOCAL_WORDS, RING_WORDS, TAIL_WORD};
 
 /// The tails of a log: how many entries it has, and how many of them have been taken. All are at most 65,536.
 #[derive(Clone, Copy, Debug, PartialEq, Eq)]
@@ -29,19 +29,19 @@ pub enum AppendFault {
     Moved(Tails),
 }
 
-/// The tails that the words of a log's cell have.
-pub(crate) fn tails_in(words: &[u64; CELL_WORDS]) -> Tails
-    requires { (word : ℕ) → word < COUNT_WORD → slice_index words.now word < 2 ^ 32 }
-    ensures { result ≡ tails_of_words words.now }
+/// The tails that the first words of a log's cell have.
+pub(crate) fn tails_in(head: &[u64; RING_WORDS]) -> Tails
+    requires { (word : ℕ) → word < COUNT_WORD → slice_index head.now word < 2 ^ 32 }
+    ensures { result ≡ tails_of_words head.now }
 {
     Tails {
-        tail: words[TAIL_WORD] as u32,
-        completed: words[COMPLETED_WORD] as u32,
+        tail: head[TAIL_WORD] as u32,
+        completed: head[COMPLETED_WORD] as u32,
         local: [
-            words[LOCAL_WORDS] as u32,
-            words[LOCAL_WORDS + 1] as u32,
-            words[LOCAL_WORDS + 2] as u32,
-            words[LOCAL_WORDS + 3] as u32,
+            head[LOCAL_WORDS] as u32,
+            head[LOCAL_WORDS + 1] as u32,
+            head[LOCAL_WORDS + 2] as u32,
+            head[LOCAL_WORDS + 3] as u32,
         ],
     }
 }

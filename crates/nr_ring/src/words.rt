@@ -12,6 +12,9 @@ pub const CELL_WORDS: usize = 39;
 /// The most words that an event changes: two for each entry of a batch, and the tail.
 pub const CHANGES: usize = 33;
 
+/// The most words that a fetch loads: two for each entry of the ring.
+pub const LOADS: usize = 32;
+
 /// The word of the tail.
 pub const TAIL_WORD: usize = 0;
 

@@ -76,7 +76,7 @@ fn append_on<J: LogName + Send + Sync, R: Threads + Wait + Clock + Sync>(
     let start = now(rt);
     let taken = append_by_all(rt, log, passes, calls, all)?;
     let time = since(start, now(rt))?;
-    let tails = log.look(rt, &mut own);
+    let tails = log.look(&mut own);
     Ok(Appends { tails, taken, time })
 }
 
@@ -188,7 +188,7 @@ fn take<J: LogName, R: Wait>(rt: &R, log: &RingLog<J>, pass: &mut LogPass<J>, ta
 {
     let mut entries = ArrayVec::new();
     log.fetch(rt, pass, &mut entries);
-    let tails = log.look(rt, pass);
+    let tails = log.look(pass);
     let count = entries.len() as u32;
     if taken.entries.saturating_add(count) != tails.tail {
         return;

@@ -72,7 +72,7 @@ fn look_by_all<J: LogName + Send + Sync, R: Threads + Wait + Sync>(
         passes,
         &|pass: LogPass<J>| -> u64
             requires { pass.log ≡ log.now }
-        { look_often(rt, log, pass, calls) },
+        { look_often(log, pass, calls) },
     )?;
     Ok(sum_of(&sums))
 }
@@ -87,17 +87,12 @@ fn sum_of(numbers: &[u64]) -> u64 {
 }
 
 /// Looks so many times, and adds up the tails that it finds.
-fn look_often<J: LogName, R: Wait>(
-    rt: &R,
-    log: &RingLog<J>,
-    mut pass: LogPass<J>,
-    calls: u32,
-) -> u64
+fn look_often<J: LogName>(log: &RingLog<J>, mut pass: LogPass<J>, calls: u32) -> u64
     requires { pass.log ≡ log.now }
 {
     let mut tails = 0u64;
     for _ in 0..calls {
-        tails = tails.wrapping_add(u64::from(log.look(rt, &mut pass).tail));
+        tails = tails.wrapping_add(u64::from(log.look(&mut pass).tail));
     }
     tails
 }

@@ -1,7 +1,11 @@
 -- Changes made one by one.
-use Rattle.std.proofs.Common.{◌≡◌, ℕ, suc, ◌+◌, ◌<◌, List, [], ◌∷◌, ◌++◌, length, take, get_or, set, refl, ap, ◌∙◌, arith}
+use Rattle.std.proofs.Common.{◌≡◌, ℕ, suc, ◌+◌, ◌<◌, List, [], ◌∷◌, ◌++◌, length, take, get_or, set, refl, ap, ◌∙◌, arith, length-set}
 use Rattle.std.proofs.Math.Seq.{take-suc}
 use Rattle.version_cell.specs.Changes.{changed}
+
+pub changed_long : (words : List ℕ) (changes : List (ℕ × ℕ)) → length (changed words changes) ≡ length words
+changed_long words [] = refl
+changed_long words (change ∷ changes) = changed_long (set words change.0 change.1) changes ∙ length-set words change.0 change.1
 
 pub changed_last : (words : List ℕ) (changes : List (ℕ × ℕ)) (last : ℕ × ℕ) → changed words (changes ++ last ∷ []) ≡ set (changed words changes) last.0 last.1
 changed_last words [] last = refl

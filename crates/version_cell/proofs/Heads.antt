@@ -5,7 +5,7 @@ use mathlib.Core.Logic.{dite}
 use native.Mathlib.Decide.{ℕ_discrete}
 use Rattle.version_cell.specs.Changes.{changed}
 use Rattle.version_cell.specs.Heads.{IsCoded}
-use Rattle.version_cell.specs.inside.Heads.{AgreeBelow, AgreeFrom, HasHead}
+use Rattle.version_cell.specs.inside.Heads.{AgreeFrom, AgreeTo, HasHead, IsHead}
 
 -- lists of one length with the same items are equal
 pub same_items : (xs ys : List ℕ) → length xs ≡ length ys → ((i : ℕ) → i < length ys → get_or xs i 0 ≡ get_or ys i 0) → xs ≡ ys
@@ -28,9 +28,12 @@ pub one_head : (head : ℕ → ℕ → ℕ) (c h : ℕ) (words xs ys : List ℕ)
 one_head head c h words xs ys p q = same_items xs ys (p.0.0 ∙ sym q.0.0)
     (λ i lt. ⊎_elim (λ (low : i < h). p.1 i low ∙ sym (q.1 i low)) (λ (high : h ≤ i). p.0.1 i high ∙ sym (q.0.1 i high)) (below_or_not i h))
 
+pub head_of_code : (code : List ℕ → ℕ) (head : ℕ → ℕ → ℕ) (c h : ℕ) (ys : List ℕ) → IsCoded code head h ys → c ≡ code ys → IsHead head c h ys
+head_of_code code head c h ys coded is i lt = coded i lt ∙ ap (λ (z : ℕ). head z i) (sym is)
+
 -- words that are coded have the head of their code
 pub coded_head : (code : List ℕ → ℕ) (head : ℕ → ℕ → ℕ) (c h : ℕ) (words ys : List ℕ) → AgreeFrom h words ys → IsCoded code head h ys → c ≡ code ys → HasHead head c h words ys
-coded_head code head c h words ys alike coded is = (alike, λ i lt. coded i lt ∙ ap (λ (z : ℕ). head z i) (sym is))
+coded_head code head c h words ys alike coded is = (alike, head_of_code code head c h ys coded is)
 
 pub agree_back : (h : ℕ) (xs ys : List ℕ) → AgreeFrom h xs ys → AgreeFrom h ys xs
 agree_back h xs ys alike = (sym alike.0, λ i high. sym (alike.1 i high))
@@ -62,15 +65,19 @@ put_low h place word words now low alike =
     (alike.0 ∙ sym (length-set words place word), λ i high. alike.1 i high ∙ sym (get_or-set_other words place i word 0 (λ e. omega (arith, low, high))))
 
 -- the next of the first words is put
-pub one_more_head : (head : ℕ → ℕ → ℕ) (c n word : ℕ) (before words : List ℕ) → n < length words → word ≡ head c n → HasHead head c n before words → HasHead head c (n + 1) before (set words n word)
-one_more_head head c n word before words within is has = (
-  (length-set words n word ∙ has.0.0, λ i high. get_or-set_other words n i word 0 (λ e. omega arith) ∙ has.0.1 i (omega arith)),
-  λ i lt. dite (ℕ_discrete i n)
-      (λ e. ap (λ (z : ℕ). get_or (set words n word) z 0) e ∙ (get_or-set_same words n word 0 within ∙ (is ∙ ap (λ (z : ℕ). head c z) (sym e))))
-      (λ other. get_or-set_other words n i word 0 other ∙ has.1 i (omega arith)),
-)
+pub one_more_head : (head : ℕ → ℕ → ℕ) (c n word : ℕ) (words : List ℕ) → n < length words → word ≡ head c n → IsHead head c n words → IsHead head c (n + 1) (set words n word)
+one_more_head head c n word words within is has i lt = dite (ℕ_discrete i n)
+    (λ e. ap (λ (z : ℕ). get_or (set words n word) z 0) e ∙ (get_or-set_same words n word 0 within ∙ (is ∙ ap (λ (z : ℕ). head c z) (sym e))))
+    (λ other. get_or-set_other words n i word 0 other ∙ has i (omega arith))
 
--- a later word leaves the first ones
-pub put_behind : (h i word : ℕ) (before words : List ℕ) → h ≤ i → AgreeBelow h before words → AgreeBelow h before (set words i word)
-put_behind h i word before words high alike =
-    (length-set words i word ∙ alike.0, λ j lt. get_or-set_other words i j word 0 (λ e. omega (arith, high, lt)) ∙ alike.1 j lt)
+-- a word that is put in both, of which one has the first ones alone
+pub put_first : (h place word : ℕ) (first words : List ℕ) → place < length first → place < length words → AgreeTo h first words → AgreeTo h (set first place word) (set words place word)
+put_first h place word first words inside within alike i lt = dite (ℕ_discrete i place)
+    (λ e. ap (λ (z : ℕ). get_or (set first place word) z 0) e
+    ∙ (get_or-set_same first place word 0 inside
+    ∙ (sym (get_or-set_same words place word 0 within) ∙ ap (λ (z : ℕ). get_or (set words place word) z 0) (sym e))))
+    (λ other. get_or-set_other first place i word 0 other ∙ (alike i lt ∙ sym (get_or-set_other words place i word 0 other)))
+
+-- a word behind the first ones, put in the words alone
+pub put_behind : (h place word : ℕ) (first words : List ℕ) → h ≤ place → AgreeTo h first words → AgreeTo h first (set words place word)
+put_behind h place word first words high alike i lt = alike i lt ∙ sym (get_or-set_other words place i word 0 (λ e. omega (arith, high, lt)))

@@ -16,7 +16,7 @@ use Rattle.crossbeam_utils.specs.Register.{TurnsAt, Turns, Forks, Merges}
 use Rattle.version_cell.specs.Heads.{IsCoded}
 use Rattle.version_cell.specs.inside.Heads.{HasHead}
 use Rattle.version_cell.specs.inside.Versions.{Knows, Versioned, client, doing}
-use Rattle.version_cell.specs.inside.Steps.{Checked, GrewTo, Peeked, Published, Swapped, Taken, Written, checked, later, looked, peeked, published, put, swapped, taken}
+use Rattle.version_cell.specs.inside.Steps.{GrewTo, Peeked, Published, Swapped, Taken, Watched, Written, later, looked, peeked, published, put, resting, swapped, taken, watched}
 use Rattle.atomic_table.proofs.Lists.{at_set, set_again, at_snoc, at_map}
 
 module _ {V : Type 0} (wide h : ℕ) (holds : List ℕ → List V → Type 0) (code : List ℕ → ℕ) (head : ℕ → ℕ → ℕ) where
@@ -58,22 +58,16 @@ module _ {V : Type 0} (wide h : ℕ) (holds : List ℕ → List V → Type 0) (c
     kept = kept;
   }
 
-  grew : (s : St) (r : Rule s) (id : ℕ) (st : Stage) → version s % 2 ≡ 0 → Knows h code s.words r.value r.writer id st → GrewTo code st (version s) r.value
-  grew s r id Idle even k = tt
-  grew s r id (Writing at old now) even k = tt
-  grew s r id (Seen at last x) even k = let a = k.0 in let b = k.1 in let c = k.2 in
-      dite (ℕ_discrete (version s) at) (λ same. inl (same, sym (k.3 (omega arith)))) (λ other. inr (k.4 (omega arith)))
+  watch_at : (s : St) (r : Rule s) (id : ℕ) (st : Stage) → Knows h code s.words r.value r.writer id st
+      → (st' : Stage) × Knows h code s.words r.value r.writer id st' × Watched (version s) st st'
+  watch_at s r id Idle k = (Idle, tt, refl)
+  watch_at s r id (Writing at old now) k = (Writing at old now, k, refl)
+  watch_at s r id (Seen at last x) k = let v : ℕ = version s in let a : at ≤ last = k.1 in let b : last ≤ v = k.2 in
+      (Seen at v x, (k.0, omega arith, le_refl v, k.3, k.4), (k.2, refl))
 
-  pub looks : (slots id : ℕ) (me : M) → Allows Rule slots id me 0 (λ x. x) (looked code head h (step slots 0 0 0 none) me)
-  looks slots id me s r _ at _ = let x : ℕ = version s in let v : V = me.0.client in dite (ℕ_discrete (x % 2) 0)
-      (λ even. let w : D = doing (Seen x x r.value) v in (
-        w,
-        keeps,
-        tt,
-        unmoved s r 0 id me.1 w (even, le_refl x, le_refl x, (λ _. refl), λ l. absurd (omega arith)) (same_clients r.value s.views id me.0 w at refl r.kept),
-        (refl, (λ _. (r.value, refl, grew s r id me.0.stage even (r.each_seat id me.0 at), omega (arith, r.version_is, even), r.coded)), λ odd. absurd (odd even)),
-      ))
-      (λ odd. (me.0, keeps, tt, unmoved s r 0 id me.1 me.0 (r.each_seat id me.0 at) (same_clients r.value s.views id me.0 me.0 at refl r.kept), (refl, (λ even. absurd (odd even)), λ _. refl)))
+  pub watches : (slots id : ℕ) (me : M) → Allows Rule slots id me 0 (λ x. x) (watched (step slots 0 0 0 none) me)
+  watches slots id me s r _ at _ = let p = watch_at s r id me.0.stage (r.each_seat id me.0 at) in let w : D = doing p.0 me.0.client in
+      (w, keeps, tt, unmoved s r 0 id me.1 w p.1 (same_clients r.value s.views id me.0 w at refl r.kept), (refl, p.2))
 
   peek_at : (s : St) (r : Rule s) (id i : ℕ) → h ≤ i → i + 1 < wide → (st : Stage) → Knows h code s.words r.value r.writer id st
       → (st' : Stage) × Knows h code s.words r.value r.writer id st' × Peeked i (get_or s.words (i + 1) 0) st st'
@@ -207,28 +201,36 @@ module _ {V : Type 0} (wide h : ℕ) (holds : List ℕ → List V → Type 0) (c
         → (w : V) × holds y (map client (set s.views id (doing st w))) × tells d.client r.value y w
     turned s r id d y st at asked = let t = asked (map client s.views) r.kept (at_map client s.views id d at) in (t.0, subst (holds y) (sym (map-set client s.views id (doing st t.0))) t.1, t.2)
 
-    check_at : (n : ℕ) → wide ≡ n + 1 → (s : St) (r : Rule s) (id : ℕ) (d : D) → get_elem? s.views id ≡ some d → Turns holds id d.client (λ x. x) tells → (st : Stage)
-        → Knows h code s.words r.value r.writer id st
-        → (w : V) × (st' : Stage) × Knows h code s.words r.value r.writer id st' × holds r.value (map client (set s.views id (doing st' w))) × Checked n tells (version s) d.client w st st'
-    check_at n is_wide s r id d at asked Idle k = (d.client, Idle, k, same_clients r.value s.views id d (doing Idle d.client) at refl r.kept, (refl, refl))
-    check_at n is_wide s r id d at asked (Writing a old now) k =
-        (d.client, Writing a old now, k, same_clients r.value s.views id d (doing (Writing a old now) d.client) at refl r.kept, (refl, refl))
-    check_at n is_wide s r id d at asked (Seen a last x) k = dite (ℕ_discrete (version s) a)
-        (λ is. let t = turned s r id d r.value (Seen a a x) at (asked r.value) in let same : x ≡ r.value = k.3 (omega arith) in let c : last ≤ version s = k.2 in (
-          t.0,
-          Seen a a x,
-          (k.0, le_refl a, omega arith, k.3, k.4),
-          t.1,
-          (
-            (λ _. (omega arith, omega (arith, ap (λ (l : List ℕ). length l) same, r.long, is_wide), refl, subst (λ (y : List ℕ). tells d.client y y t.0) (sym same) t.2)),
-            λ not. absurd (not is),
-          ),
-        ))
-        (λ not. (d.client, Seen a last x, k, same_clients r.value s.views id d (doing (Seen a last x) d.client) at refl r.kept, ((λ is. absurd (not is)), λ _. (refl, refl))))
+    grew : (s : St) (r : Rule s) (id : ℕ) (st : Stage) → Knows h code s.words r.value r.writer id st → GrewTo code st (version s) r.value
+    grew s r id Idle k = tt
+    grew s r id (Writing at old now) k = tt
+    grew s r id (Seen at last x) k = let v : ℕ = version s in let even : at % 2 ≡ 0 = k.0 in let a : at ≤ last = k.1 in let b : last ≤ v = k.2 in (
+      b,
+      dite (ℕ_discrete (2 * (v / 2)) at) (λ same. inl (same, sym (k.3 (omega arith)))) (λ other. inr (omega arith, k.4 (omega arith))),
+    )
 
-    pub checks : (slots id n : ℕ) (me : M) → wide ≡ n + 1 → Turns holds id me.0.client (λ x. x) tells → Allows Rule slots id me 0 (λ x. x) (checked n tells (step slots 0 0 0 none) me)
-    checks slots id n me is_wide asked s r _ at _ = let t = check_at n is_wide s r id me.0 at asked me.0.stage (r.each_seat id me.0 at) in
-        (doing t.1 t.0, keeps, tt, unmoved s r 0 id me.1 (doing t.1 t.0) t.2 t.3, t.4)
+    pub looks : (slots id n : ℕ) (me : M) → wide ≡ n + 1 → Turns holds id me.0.client (λ x. x) tells
+        → Allows Rule slots id me 0 (λ x. x) (looked code head h n tells (step slots 0 0 0 none) me)
+    looks slots id n me is_wide asked s r _ at _ =
+        let v : ℕ = version s in
+        let st : Stage = Seen (resting v) v r.value in
+        let t = turned s r id me.0 r.value st at (asked r.value) in
+        let w : D = doing st t.0 in
+        let twice = r.version_is in let long = r.long in (
+          w,
+          keeps,
+          tt,
+          unmoved s r 0 id me.1 w (omega arith, omega arith, le_refl v, (λ _. refl), λ le. absurd (omega arith)) t.1,
+          record {
+            words = r.value;
+            seen = refl;
+            grew = grew s r id me.0.stage (r.each_seat id me.0 at);
+            told_by = omega arith;
+            coded = r.coded;
+            long = omega arith;
+            told = t.2;
+          },
+        )
 
     -- what the other seats know stays true when the value becomes another one with a greater code
     others_know : (s : St) (r : Rule s) (words' : List ℕ) (writer' v a : ℕ) (now : List ℕ) (j : ℕ) → get_or words' 0 0 ≡ v → version s ≤ a → a + 1 ≤ v → a ≤ 2 * code r.value + 1 → version s % 2 ≡ 1 → code r.value < code now

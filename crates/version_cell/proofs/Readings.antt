@@ -1,69 +1,112 @@
--- Reading the words one by one.
-use Rattle.std.proofs.Common.{◌≡◌, ◌≢◌, ℕ, ◌+◌, ◌-◌, ◌*◌, ◌/◌, ◌<◌, ◌≤◌, List, length, get_or, set, sym, refl, ap, ◌∙◌, subst, ⊎_elim, inl, inr, arith, get_or-set_other, get_or-set_same}
+-- Looking at the words, and loading them one by one.
+use Rattle.std.proofs.Common.{◌≡◌, ℕ, ◌+◌, ◌-◌, ◌*◌, ◌/◌, ◌%◌, ◌<◌, ◌≤◌, List, length, get_or, set, sym, refl, ap, ◌∙◌, subst, ⊎_elim, arith, get_or-set_other, get_or-set_same, eqb, eq-eqb, ne_eqb, ◌≢◌, MatchBool}
 use mathlib.Core.Logic.{dite}
-use native.Mathlib.Decide.{ℕ_discrete}
-use Rattle.std.specs.Prelude.{slice_index}
 use Rattle.version_cell.specs.Heads.{IsCoded}
-use Rattle.version_cell.proofs.Heads.{below_or_not, same_items}
+use native.Mathlib.Decide.{ℕ_discrete}
+use Rattle.version_cell.specs.inside.Heads.{AgreeAt, AgreeTo, IsHead}
+use Rattle.version_cell.specs.inside.Versions.{HasSeen, words_of}
 use Rattle.version_cell.specs.declared.stage.Stage.{Stage}
 use Rattle.version_cell.specs.declared.stage.Stage.TheVariants.{Idle, Seen, Writing}
-use Rattle.version_cell.specs.inside.Steps.{Checked, Gathered, GrewTo, Grown, IsLater, Peeked}
+use Rattle.version_cell.specs.inside.Steps.{GrewTo, HasWaited, IsAt, IsLater, IsLook, Loaded, Peeked, resting}
 
-pub gathers_none : (h : ℕ) (words : List ℕ) (st : Stage) → Gathered h h words st st
-gathers_none h words Idle = refl
-gathers_none h words (Seen at last x) = (last, refl, λ le. (le, λ i high lt. absurd (omega arith)))
-gathers_none h words (Writing at old now) = refl
+pub loads_none : (places words : List ℕ) (st : Stage) → Loaded places 0 words st st
+loads_none places words Idle = refl
+loads_none places words (Seen at last x) = (last, refl, λ le. (le, λ i lt. absurd (omega arith)))
+loads_none places words (Writing at old now) = refl
 
-pub gathers_one : (h : ℕ) (words : List ℕ) (i found : ℕ) (a b c : Stage) → i < length words → Gathered h i words a b → Peeked ((i + 1) - 1) found b c
-    → Gathered h (i + 1) (set words i found) a c
-gathers_one h words i found Idle b c inside f g = subst (λ (z : Stage). Peeked ((i + 1) - 1) found z c) f g
-gathers_one h words i found (Writing at old now) b c inside f g = subst (λ (z : Stage). Peeked ((i + 1) - 1) found z c) f g
-gathers_one h words i found (Seen at last x) b c inside f g =
-    let h = subst (λ (z : Stage). Peeked ((i + 1) - 1) found z c) f.1 g in
-    let back : (i + 1) - 1 ≡ i = omega arith in (
+pub loads_one : (places : List ℕ) (k place found : ℕ) (words : List ℕ) (a b c : Stage) → place < length words → get_or places k 0 ≡ place → Loaded places k words a b
+    → Peeked ((place + 1) - 1) found b c → Loaded places (k + 1) (set words place found) a c
+loads_one places k place found words Idle b c inside is f g = subst (λ (z : Stage). Peeked ((place + 1) - 1) found z c) f g
+loads_one places k place found words (Writing at old now) b c inside is f g = subst (λ (z : Stage). Peeked ((place + 1) - 1) found z c) f g
+loads_one places k place found words (Seen at last x) b c inside is f g =
+    let h = subst (λ (z : Stage). Peeked ((place + 1) - 1) found z c) f.1 g in
+    let back : (place + 1) - 1 ≡ place = omega arith in (
       h.0,
       h.1,
       λ le.
           let m = h.2 le in
-          let o = f.2 m.0 in (
+          let o = f.2 m.0 in
+          let new : (p : ℕ) → p ≡ place → get_or (set words place found) p 0 ≡ get_or x p 0 =
+          λ p e. ap (λ (z : ℕ). get_or (set words place found) z 0) e ∙ (get_or-set_same words place found 0 inside ∙ (m.1 ∙ ap (λ (z : ℕ). get_or x z 0) (back ∙ sym e))) in (
             o.0,
-            λ j high lt. dite (ℕ_discrete j i)
-                (λ e. ap (λ (z : ℕ). get_or (set words i found) z 0) e ∙ (get_or-set_same words i found 0 inside ∙ (m.1 ∙ ap (λ (z : ℕ). get_or x z 0) (back ∙ sym e))))
-                (λ other. get_or-set_other words i j found 0 other ∙ o.1 j high (omega arith)),
+            λ j lt. dite (ℕ_discrete j k)
+                (λ last_one. new (get_or places j 0) (ap (λ (z : ℕ). get_or places z 0) last_one ∙ is))
+                (λ before. dite (ℕ_discrete (get_or places j 0) place)
+                (λ e. new (get_or places j 0) e)
+                (λ other. get_or-set_other words place (get_or places j 0) found 0 other ∙ o.1 j (omega arith))),
           ),
     )
 
-pub later_still : (code : List ℕ → ℕ) (a b c : ℕ) (x y z : List ℕ) → IsLater code a x b y → IsLater code b y c z → IsLater code a x c z
-later_still code a b c x y z (inl p) (inl q) = inl (q.0 ∙ p.0, q.1 ∙ p.1)
-later_still code a b c x y z (inl p) (inr q) = inr (subst (λ (l : List ℕ). code l < code z) p.1 q)
-later_still code a b c x y z (inr p) (inl q) = inr (subst (λ (l : List ℕ). code x < code l) (sym q.1) p)
-later_still code a b c x y z (inr p) (inr q) = inr (omega (arith, p, q))
+module _ {V : Type 0} (code : List ℕ → ℕ) (head : ℕ → ℕ → ℕ) (h n : ℕ) (tells : V → List ℕ → List ℕ → V → Type 0) (found : ℕ) (v w : V) (before after : Stage) where
+  abbrev Looked : Type 0
+  Looked = IsLook code head h n tells found v w before after
 
-pub grows : (code : List ℕ → ℕ) (st : Stage) (at last : ℕ) (x : List ℕ) → GrewTo code st at x → Grown code st (Seen at last x)
-grows code Idle at last x g b y h = tt
-grows code (Seen a l z) at last x g b y h = later_still code a at b z x y g h
-grows code (Writing a old now) at last x g b y h = tt
+  words_after : (look : Looked) → words_of after ≡ look.words
+  words_after look = ap words_of look.seen
 
-pub grown_gathered : (code : List ℕ → ℕ) (h count : ℕ) (words : List ℕ) (st after : Stage) → Gathered h count words st after → Grown code st after
-grown_gathered code h count words Idle after g = subst (λ (z : Stage). Grown code Idle z) (sym g) (λ at x h. h)
-grown_gathered code h count words (Writing at old now) after g = subst (λ (z : Stage). Grown code (Writing at old now) z) (sym g) (λ b x h. h)
-grown_gathered code h count words (Seen at last x) after g = subst (λ (z : Stage). Grown code (Seen at last x) z) (sym g.1) (λ b y h. h)
+  -- a look tells of the words that it saw
+  pub told_now : Looked → tells v (words_of after) (words_of after) w
+  told_now look = subst (λ (ws : List ℕ). tells v ws ws w) (sym (words_after look)) look.told
 
--- where the version is the same before and after, the words that were loaded, behind those that it tells, are those of the cell
-pub reads : {V : Type 0} (h n : ℕ) (code : List ℕ → ℕ) (head : ℕ → ℕ → ℕ) (tells : V → List ℕ → List ℕ → V → Type 0) (r found : ℕ) (x words : List ℕ) (v w : V) (seen loaded after : Stage)
-    → length words ≡ n → ((i : ℕ) → i < h → slice_index words i ≡ head (r / 2) i) → r ≡ 2 * code x → IsCoded code head h x → seen ≡ Seen r r x
-    → Gathered h n words seen loaded → Checked n tells found v w loaded after → found ≡ r → (words ≡ x) × (after ≡ Seen r r words) × tells v words words w
-reads {V} h n code head tells r found x words v w seen loaded after long first twice coded is gathered checked same =
-    let g = subst (λ (z : Stage). Gathered h n words z loaded) is gathered in
-    let c = (subst (λ (z : Stage). Checked n tells found v w z after) g.1 checked).0 same in
-    let half : r / 2 ≡ code x = omega arith in
-    let equal : words ≡ x = same_items words x (omega (arith, long, c.1))
-    (λ i lt. ⊎_elim (λ (low : i < h). first i low ∙ (ap (λ (z : ℕ). head z i) half ∙ sym (coded i low)))
-    (λ (high : h ≤ i). (g.2 c.0).1 i high (omega (arith, lt, c.1))) (below_or_not i h)) in
-    (equal, c.2 ∙ ap (λ (z : List ℕ). Seen r r z) (sym equal), subst (λ (z : List ℕ). tells v z z w) (sym equal) c.3)
+  -- and has seen them, with the first ones as the version tells
+  pub seen_now : Looked → (first : List ℕ) → IsHead head (found / 2) h first → HasSeen h n (resting found) first after
+  seen_now look first is = let same = words_after look in record {
+    last = found;
+    seen = look.seen ∙ ap (λ (ws : List ℕ). Seen (resting found) found ws) (sym same);
+    long = ap (λ (ws : List ℕ). length ws) same ∙ look.long;
+    begin_so = λ i lt. is i lt ∙ (ap (λ (c : ℕ). head c i) look.told_by ∙ (sym (look.coded i lt) ∙ ap (λ (ws : List ℕ). get_or ws i 0) (sym same)));
+  }
 
--- words of another version are later ones
-pub risen : (code : List ℕ → ℕ) (st : Stage) (at last r : ℕ) (x y : List ℕ) → st ≡ Seen at last x → GrewTo code st r y → r ≢ at → code x < code y
-risen code st at last r x y is grew other =
-    let g : IsLater code at x r y = subst (λ (z : Stage). GrewTo code z r y) is grew in
-    ⊎_elim (λ same. absurd (other same.0)) (λ more. more) g
+  -- at the version of before they are the words of before
+  pub still : (at : ℕ) → IsAt at before → at % 2 ≡ 0 → Looked → found ≡ at → words_of after ≡ words_of before
+  still at is even look same =
+      let grew : GrewTo code (Seen at is.0 (words_of before)) found look.words = subst (λ (z : Stage). GrewTo code z found look.words) is.1 look.grew in
+      ⊎_elim (λ (t : (resting found ≡ at) × (look.words ≡ words_of before)). words_after look ∙ t.1)
+      (λ (t : (at < resting found) × (code (words_of before) < code look.words)). let up = t.0 in absurd (omega arith)) grew.1
+
+  -- at a later one they are later ones
+  pub risen : (at : ℕ) (st : Stage) → HasWaited at st before → Looked → code (words_of st) < code (words_of after)
+  risen at st waited look =
+      let grew : GrewTo code (Seen at waited.0 (words_of st)) found look.words = subst (λ (z : Stage). GrewTo code z found look.words) waited.1 look.grew in
+      let up = waited.2 in let not_less = grew.0 in
+      ⊎_elim (λ (t : (resting found ≡ at) × (look.words ≡ words_of st)). let same = t.0 in absurd (omega arith))
+      (λ (t : (at < resting found) × (code (words_of st) < code look.words)). subst (λ (ws : List ℕ). code (words_of st) < code ws) (sym (words_after look)) t.1) grew.1
+
+-- what was loaded, and seen still
+pub loaded_still : {V : Type 0} (code : List ℕ → ℕ) (head : ℕ → ℕ → ℕ) (h n : ℕ) (tells : V → List ℕ → List ℕ → V → Type 0) (found at k : ℕ) (v w : V) (places words : List ℕ) (seen loaded after : Stage)
+    → IsAt at seen → at % 2 ≡ 0 → Loaded places k words seen loaded → IsLook code head h n tells found v w loaded after → found ≡ at
+    → (words_of after ≡ words_of seen) × AgreeAt places k words (words_of after)
+loaded_still code head h n tells found at k v w places words seen loaded after is even loads look same =
+    let l : Loaded places k words (Seen at is.0 (words_of seen)) loaded = subst (λ (z : Stage). Loaded places k words z loaded) is.1 loads in
+    let mine : words_of loaded ≡ words_of seen = ap words_of l.1 in
+    let at_it : IsAt at loaded = (l.0, l.1 ∙ ap (λ (ws : List ℕ). Seen at l.0 ws) (sym mine)) in
+    let stays : words_of after ≡ words_of loaded = still code head h n tells found v w loaded after at at_it even look same in
+    let grew : GrewTo code (Seen at l.0 (words_of seen)) found look.words = subst (λ (z : Stage). GrewTo code z found look.words) l.1 look.grew in
+    let low = grew.0 in
+    let one = stays ∙ mine in (
+      one,
+      λ i lt. (l.2 (omega arith)).1 i lt ∙ ap (λ (ws : List ℕ). get_or ws (get_or places i 0) 0) (sym one),
+    )
+
+-- as a number is another one or not
+pub as_found : (x y : ℕ) (A B : Type 0) → (x ≡ y → A) → (x ≢ y → B) → MatchBool (eqb x y) A B
+as_found x y A B equal other = dite (ℕ_discrete x y) (λ e. subst (λ b. MatchBool b A B) (sym (eq-eqb x y e)) (equal e)) (λ n. subst (λ b. MatchBool b A B) (sym (ne_eqb x y n)) (other n))
+
+-- a new seat has seen the words of the start
+pub new_seen : (code : List ℕ → ℕ) (head : ℕ → ℕ → ℕ) (h n c : ℕ) (words first : List ℕ) (stage : Stage) → stage ≡ Seen (2 * c) (2 * c) words → length words ≡ n → IsCoded code head h words → c ≡ code words
+    → IsHead head c h first → HasSeen h n (2 * c) first stage
+new_seen code head h n c words first stage is long coded c_is first_is = let same : words_of stage ≡ words = ap words_of is in record {
+  last = 2 * c;
+  seen = is ∙ ap (λ (ws : List ℕ). Seen (2 * c) (2 * c) ws) (sym same);
+  long = ap (λ (ws : List ℕ). length ws) same ∙ long;
+  begin_so = λ i lt. first_is i lt ∙ (ap (λ (z : ℕ). head z i) c_is ∙ (sym (coded i lt) ∙ ap (λ (ws : List ℕ). get_or ws i 0) (sym same)));
+}
+
+-- a seat that made an exchange has seen the words after it
+pub exchanged_seen : (h n at : ℕ) (words first : List ℕ) (stage : Stage) → stage ≡ Seen at at words → length words ≡ n → AgreeTo h first words → HasSeen h n at first stage
+exchanged_seen h n at words first stage is long alike = let same : words_of stage ≡ words = ap words_of is in record {
+  last = at;
+  seen = is ∙ ap (λ (ws : List ℕ). Seen at at ws) (sym same);
+  long = ap (λ (ws : List ℕ). length ws) same ∙ long;
+  begin_so = λ i lt. alike i lt ∙ ap (λ (ws : List ℕ). get_or ws i 0) (sym same);
+}

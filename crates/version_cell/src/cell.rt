@@ -1,13 +1,13 @@
 //! The cell.
-ghost use Rattle.std.specs.Prelude.{◌≡◌, ◌<◌, ◌≤◌, ◌^◌, ◌↔◌, ℕ, [], ◌∷◌, All, IfOk, IsTrue, MatchBool};
+ghost use Rattle.std.specs.Prelude.{◌≡◌, ◌<◌, ◌≤◌, ◌^◌, ℕ, [], ◌∷◌, All, IfOk, IsTrue, MatchBool, slice_index};
 ghost use Rattle.crossbeam_utils.specs.Register.{Forks, Merges, Turns, TurnsAt};
 ghost use Rattle.version_cell.specs.Changes.{changed};
 ghost use Rattle.version_cell.specs.Heads.{IsCoded};
 
 use crate::pass::Pass;
-use crate::plays::{Check, Cut, Glue, Versions};
+use crate::plays::{Cut, Glue, Look, Versions};
 use crate::rule::{CellOutcome, CellRule};
-use crate::seats::{find, publish, swap, take};
+use crate::seats::{change_head, exchange, load_each, put_head, wait_for_change};
 use crate::stage::Doing;
 use atomic_table::{Join, Split, Table};
 use std::alloc::{AllocError, Global};
@@ -43,7 +43,7 @@ impl<V, P: CellRule<V>, const H: usize, const N: usize> VersionCell<V, P, H, N> 
         alloc: Global,
         words: &[u64; N],
         code: u64,
-    ) -> Result<(VersionCell<V, P, H, N>, Pass<V, N>), AllocError>
+    ) -> Result<(VersionCell<V, P, H, N>, Pass<V, H, N>), AllocError>
         requires rule { P.holds words.now (P.first ∷ []) }
         requires head { H ≤ N }
         requires code { (code ≡ P.code words.now) × (code < 2 ^ 63) }
@@ -56,16 +56,18 @@ impl<V, P: CellRule<V>, const H: usize, const N: usize> VersionCell<V, P, H, N> 
         start.push(version)?;
         start.extend_from_slice(words)?;
         let (table, seat) = Table::of_words(alloc, start.as_slice(), &start)?;
+        let mut head = [0; H];
+        put_head::<V, P, H>(code, &mut head);
         let pass = Pass {
             seat,
             version,
-            words: *words,
+            head,
         };
         Ok((VersionCell { table }, pass))
     }
 
     /// Cuts the view of a pass in two. The new pass has the second, and has seen the same words.
-    pub fn split_pass<S: Split<V>>(&self, pass: &mut Pass<V, N>) -> Pass<V, N>
+    pub fn split_pass<S: Split<V>>(&self, pass: &mut Pass<V, H, N>) -> Pass<V, H, N>
         requires cell { pass.old.cell ≡ self.now }
         requires rule { Forks P.holds pass.old.number pass.old.view
             (S.left pass.old.view) (S.right pass.old.view) }
@@ -79,40 +81,72 @@ impl<V, P: CellRule<V>, const H: usize, const N: usize> VersionCell<V, P, H, N> 
         Pass {
             seat,
             version: pass.version,
-            words: pass.words,
+            head: pass.head,
         }
     }
 
-    /// Has the words of the pass be those of the cell. Where they are still, this is one load; else it waits for the cell.
-    pub fn look_as<M: CellOutcome<V>, R: Wait>(&self, rt: &R, pass: &mut Pass<V, N>)
+    /// Has the words of the pass be those of the cell. This is one load, of the version, which tells the first of them.
+    pub fn look_as<M: CellOutcome<V>>(&self, pass: &mut Pass<V, H, N>)
         requires cell { pass.old.cell ≡ self.now }
         requires rule { Turns P.holds pass.old.number pass.old.view (λ x. x) M.then }
         ensures same { (pass.new.cell ≡ pass.old.cell) × (pass.new.number ≡ pass.old.number) }
         ensures rule { M.then pass.old.view pass.new.words pass.new.words pass.new.view }
     {
-        let version = self.table.shared.load::<Check<M, N>>(&mut pass.seat, 0);
-        if version != pass.version {
-            self.look_anew::<M, R>(rt, pass);
+        let found = self
+            .table
+            .shared
+            .load::<Look<P, M, H, N>>(&mut pass.seat, 0);
+        if found != pass.version {
+            pass.version = 2 * (found / 2);
+            put_head::<V, P, H>(found / 2, &mut pass.head);
         }
     }
 
-    /// Loads all words, of a cell whose version is no longer that of the words of the pass.
+    /// Loads the words at these places, which the version doesn't tell, and then looks. Whether the look found the words that the
+    /// pass saw before: the words that were loaded are these then. Where it didn't, another pass has changed the words, or is about to.
+    pub fn load_as<M: CellOutcome<V>>(
+        &self,
+        pass: &mut Pass<V, H, N>,
+        places: &[usize],
+        words: &mut [u64; N],
+    ) -> bool
+        requires cell { pass.old.cell ≡ self.now }
+        requires places { All (λ place. (H ≤ place) × (place < N)) places.now }
+        requires rule { Turns P.holds pass.old.number pass.old.view (λ x. x) M.then }
+        ensures same { (pass.new.cell ≡ pass.old.cell) × (pass.new.number ≡ pass.old.number) }
+        ensures rule { M.then pass.old.view pass.new.words pass.new.words pass.new.view }
+        ensures loaded { IsTrue result → (pass.new.words ≡ pass.old.words)
+            × All (λ place. slice_index words.new place ≡ slice_index pass.new.words place)
+            places.now }
+    {
+        load_each::<V, P, H, N>(&self.table.shared, &mut pass.seat, places, words);
+        let found = self
+            .table
+            .shared
+            .load::<Look<P, M, H, N>>(&mut pass.seat, 0);
+        if found == pass.version {
+            return true;
+        }
+        pass.version = 2 * (found / 2);
+        put_head::<V, P, H>(found / 2, &mut pass.head);
+        false
+    }
+
+    /// Looks when the words are no longer those of the pass.
     #[cold]
     #[inline(never)]
-    fn look_anew<M: CellOutcome<V>, R: Wait>(&self, rt: &R, pass: &mut Pass<V, N>)
+    fn look_later<M: CellOutcome<V>, R: Wait>(&self, rt: &R, pass: &mut Pass<V, H, N>)
         requires cell { pass.old.cell ≡ self.now }
         requires rule { Turns P.holds pass.old.number pass.old.view (λ x. x) M.then }
         ensures same { (pass.new.cell ≡ pass.old.cell) × (pass.new.number ≡ pass.old.number) }
         ensures rises { P.code pass.old.words < P.code pass.new.words }
         ensures rule { M.then pass.old.view pass.new.words pass.new.words pass.new.view }
     {
-        pass.version = find::<M, R, V, P, H, N>(
-            rt,
-            &self.table.shared,
-            &mut pass.seat,
-            pass.version,
-            &mut pass.words,
-        );
+        let table = &self.table.shared;
+        wait_for_change::<R, V, P, H, N>(rt, table, &mut pass.seat, pass.version);
+        let found = table.load::<Look<P, M, H, N>>(&mut pass.seat, 0);
+        pass.version = 2 * (found / 2);
+        put_head::<V, P, H>(found / 2, &mut pass.head);
     }
 
     /// Changes the words, each change putting a word at a place, where those of the pass are still those of the cell. Else it
@@ -123,7 +157,7 @@ impl<V, P: CellRule<V>, const H: usize, const N: usize> VersionCell<V, P, H, N> 
     pub fn exchange_as<E: CellOutcome<V>, M: CellOutcome<V>, R: Wait>(
         &self,
         rt: &R,
-        pass: &mut Pass<V, N>,
+        pass: &mut Pass<V, H, N>,
         code: u64,
         changes: &[(usize, u64)],
     ) -> bool
@@ -142,33 +176,49 @@ impl<V, P: CellRule<V>, const H: usize, const N: usize> VersionCell<V, P, H, N> 
             ((P.code pass.old.words < P.code pass.new.words)
             × M.then pass.old.view pass.new.words pass.new.words pass.new.view) }
     {
-        let table = &self.table.shared;
-        let (version, next) = (pass.version, 2 * code);
-        let seat = &mut pass.seat;
-        let words = &mut pass.words;
-        let exchanged = if lie_below(H, changes) {
-            swap::<E, V, P, H, N>(table, seat, version, next, words, changes)
-        } else if take::<V, P, H, N>(table, seat, version, words) {
-            publish::<E, V, P, H, N>(table, seat, version + 1, next, words, changes);
-            true
-        } else {
-            false
-        };
-        if exchanged {
-            pass.version = next;
+        if self.try_exchange::<E>(pass, code, changes) {
             return true;
         }
-        self.look_anew::<M, R>(rt, pass);
+        self.look_later::<M, R>(rt, pass);
         false
+    }
+
+    /// Changes the words where those of the pass are still those of the cell. Else nothing is changed.
+    fn try_exchange<E: CellOutcome<V>>(
+        &self,
+        pass: &mut Pass<V, H, N>,
+        code: u64,
+        changes: &[(usize, u64)],
+    ) -> bool
+        requires cell { pass.old.cell ≡ self.now }
+        requires places { All (λ change. change.0 < N) changes.now }
+        requires code { (code ≡ P.code (changed pass.old.words changes.now)) × (code < 2 ^ 63) }
+        requires coded { IsCoded P.code P.head H (changed pass.old.words changes.now) }
+        requires rule { TurnsAt P.holds pass.old.number pass.old.view
+            pass.old.words (changed pass.old.words changes.now) E.then }
+        requires rises { P.code pass.old.words < code }
+        ensures same { (pass.new.cell ≡ pass.old.cell) × (pass.new.number ≡ pass.old.number) }
+        ensures rule { MatchBool result
+            ((pass.new.words ≡ changed pass.old.words changes.now)
+            × E.then pass.old.view pass.old.words pass.new.words pass.new.view)
+            (pass.new ≡ pass.old) }
+    {
+        let (version, next) = (pass.version, 2 * code);
+        let table = &self.table.shared;
+        if !exchange::<E, V, P, H, N>(table, &mut pass.seat, version, next, changes) {
+            return false;
+        }
+        pass.version = next;
+        change_head::<H>(&mut pass.head, changes);
+        true
     }
 
     /// Tells one pass what another has seen: it takes in a part that is cut off the other's view, and then it looks. Where it has
     /// seen fewer exchanges, it begins with the other's words.
-    pub fn meet_as<S: Split<V> + Join<V>, M: CellOutcome<V>, R: Wait>(
+    pub fn meet_as<S: Split<V> + Join<V>, M: CellOutcome<V>>(
         &self,
-        rt: &R,
-        pass: &mut Pass<V, N>,
-        told: &mut Pass<V, N>,
+        pass: &mut Pass<V, H, N>,
+        told: &mut Pass<V, H, N>,
     )
         requires cell { (pass.old.cell ≡ self.now) × (told.old.cell ≡ self.now) }
         requires cut { Forks P.holds pass.old.number pass.old.view
@@ -187,15 +237,8 @@ impl<V, P: CellRule<V>, const H: usize, const N: usize> VersionCell<V, P, H, N> 
         self.table.shared.join_seat::<Glue<S>>(&mut told.seat, part);
         if told.version < pass.version {
             told.version = pass.version;
-            told.words = pass.words;
+            told.head = pass.head;
         }
-        self.look_as::<M, R>(rt, told);
+        self.look_as::<M>(told);
     }
-}
-
-/// Whether all changes are of words below a place.
-fn lie_below(end: usize, changes: &[(usize, u64)]) -> bool
-    ensures { IsTrue result ↔ All (λ change. change.0 < end) changes.now }
-{
-    changes.iter().all(|change| change.0 < end)
 }

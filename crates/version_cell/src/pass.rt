@@ -1,22 +1,23 @@
 //! A thread's pass to a cell.
-ghost use Rattle.std.specs.Prelude.{◌≡◌};
+ghost use Rattle.std.specs.Prelude.{◌≡◌, ◌<◌, ℕ, slice_index};
 
 use crate::stage::Doing;
 use atomic_table::Seat;
 use std::marker::Model;
 
-/// What one thread knows of a cell, and the words that it saw last. Contracts see a `CellPass`.
+/// What one thread knows of a cell of `N` words: the version that it saw last, and the first `H` of the words, which that tells.
+/// Contracts see a `CellPass`, which has all the words.
 #[derive(Drop)]
-pub struct Pass<V, const N: usize> {
+pub struct Pass<V, const H: usize, const N: usize> {
     pub(crate) seat: Seat<(), Doing<V>>,
     pub(crate) version: u64,
-    pub(crate) words: [u64; N],
+    pub(crate) head: [u64; H],
 }
 
-impl<V, const N: usize> Model for Pass<V, N> {
+impl<V, const H: usize, const N: usize> Model for Pass<V, H, N> {
     ghost use Rattle.std.specs.Prelude.{◌≡◌, ◌%◌};
     ghost use Rattle.version_cell.specs.Passes.{CellPass};
-    ghost use Rattle.version_cell.specs.declared.stage.Stage.TheVariants.{Seen};
+    ghost use Rattle.version_cell.specs.inside.Versions.{HasSeen, words_of};
 
     ghost Value = { CellPass V };
 
@@ -24,18 +25,19 @@ impl<V, const N: usize> Model for Pass<V, N> {
       cell = p.seat.table_id;
       number = p.seat.id;
       view = p.seat.me.0.client;
-      words = p.words;
+      words = words_of p.seat.me.0.stage;
     } };
 
-    ghost invariant = { λ p. (p.seat.me.0.stage ≡ Seen p.version p.version p.words)
+    ghost invariant = { λ p. HasSeen H N p.version p.head p.seat.me.0.stage
         × (p.version % 2 ≡ 0) };
 }
 
-impl<V, const N: usize> Pass<V, N> {
-    /// The words that the pass saw last.
-    pub fn words(&self) -> &[u64; N]
-        ensures { result.now ≡ self.now.words }
+impl<V, const H: usize, const N: usize> Pass<V, H, N> {
+    /// The first of the words that the pass saw last.
+    pub fn head(&self) -> &[u64; H]
+        ensures { (place : ℕ) → place < H
+            → slice_index result.now place ≡ slice_index self.now.words place }
     {
-        &self.words
+        &self.head
     }
 }

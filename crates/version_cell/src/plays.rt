@@ -1,5 +1,5 @@
 //! The rule of the table that a cell lies in, and what each step on it tells.
-ghost use Rattle.version_cell.specs.inside.Steps.{checked, later, looked, peeked, published, put, swapped, taken};
+ghost use Rattle.version_cell.specs.inside.Steps.{later, looked, peeked, published, put, swapped, taken, watched};
 ghost use Rattle.version_cell.specs.inside.Versions.{doing};
 
 use crate::rule::{CellOutcome, CellRule};
@@ -23,13 +23,21 @@ impl<V, P: CellRule<V>, const H: usize> TableRule<(), Doing<V>, Vec<u64>> for Ve
         (Seen (slice_index start.items 0) (slice_index start.items 0) (drop 1 start.items)) P.first };
 }
 
-/// A load of the version, with which a reading begins.
-pub(crate) struct Look<P, const H: usize> {
-    of: PhantomData<P>,
+/// A load of the version, by which the seat has seen the words.
+pub(crate) struct Look<P, M, const H: usize, const N: usize> {
+    of: PhantomData<(P, M)>,
 }
 
-impl<V, P: CellRule<V>, const H: usize> Play<(), Doing<V>> for Look<P, H> {
-    ghost then = { looked P.code P.head H };
+impl<V, P: CellRule<V>, M: CellOutcome<V>, const H: usize, const N: usize> Play<(), Doing<V>>
+    for Look<P, M, H, N> {
+    ghost then = { looked P.code P.head H N M.then };
+}
+
+/// A load of the version alone, by one that waits for another.
+pub(crate) struct Watch;
+
+impl<V> Play<(), Doing<V>> for Watch {
+    ghost then = { watched };
 }
 
 /// A load of one of the words that the version doesn't tell.
@@ -37,15 +45,6 @@ pub(crate) struct Peek;
 
 impl<V> Play<(), Doing<V>> for Peek {
     ghost then = { peeked };
-}
-
-/// A load of the version, with which a reading ends.
-pub(crate) struct Check<M, const N: usize> {
-    of: PhantomData<M>,
-}
-
-impl<V, M: CellOutcome<V>, const N: usize> Play<(), Doing<V>> for Check<M, N> {
-    ghost then = { checked N M.then };
 }
 
 /// The version goes from the one that the seat has seen to the odd one after it.

@@ -1,135 +1,205 @@
 //! The steps of a seat at the table of a cell, which reads the words and writes them.
-ghost use Rattle.std.specs.Prelude.{◌≡◌, ◌≤◌, ◌+◌, ◌*◌, ◌/◌, ◌%◌, ◌^◌, ◌<◌, ℕ, List, All, MatchBool, length, slice_set};
-ghost use Rattle.crossbeam_utils.specs.Register.{Turns, TurnsAt};
+ghost use Rattle.std.specs.Prelude.{◌≡◌, ◌≤◌, ◌+◌, ◌*◌, ◌^◌, ◌<◌, ◌↔◌, ℕ, List, All, IsTrue, MatchBool, length, slice_set};
+ghost use Rattle.crossbeam_utils.specs.Register.{TurnsAt};
 ghost use Rattle.version_cell.specs.Changes.{changed};
 ghost use Rattle.version_cell.specs.Heads.{IsCoded};
-ghost use Rattle.version_cell.specs.inside.Heads.{AgreeBelow, HasHead};
-ghost use Rattle.version_cell.specs.inside.Steps.{Fits, Gathered, GrewTo, HasWritten, IsSameSeat, IsWriting, Stays};
+ghost use Rattle.version_cell.specs.inside.Heads.{AgreeTo, IsHead};
+ghost use Rattle.version_cell.specs.inside.Steps.{Fits, HasWaited, HasWritten, IsAt, IsSameSeat, IsWriting, Loaded, Stays};
+ghost use Rattle.version_cell.specs.inside.Versions.{words_of};
 ghost use Rattle.version_cell.specs.declared.stage.Stage.TheVariants.{Seen, Writing};
 
-use crate::plays::{Check, Look, Peek, Publish, Put, Swap, Take, Versions};
+use crate::plays::{Peek, Publish, Put, Swap, Take, Versions, Watch};
 use crate::rule::{CellOutcome, CellRule};
 use crate::stage::Doing;
 use atomic_table::{Seat, Shared};
 use crossbeam_utils::Backoff;
 use std::sync::Wait;
 
-/// Puts the words that a version tells.
-fn put_head<V, P: CellRule<V>, const H: usize, const N: usize>(version: u64, words: &mut [u64; N])
-    requires { H ≤ N }
-    ensures { HasHead P.head (version / 2) H words.old words.new }
+/// Puts the words that a code tells.
+pub(crate) fn put_head<V, P: CellRule<V>, const H: usize>(code: u64, head: &mut [u64; H])
+    ensures { IsHead P.head code H head.new }
 {
     for place in 0..H {
-        words[place] = P::word(version / 2, place);
+        head[place] = P::word(code, place);
     }
 }
 
-/// Loads each of the words that the version doesn't tell.
-fn gather<V, P: CellRule<V>, const H: usize, const N: usize>(
-    table: &Shared<(), Doing<V>, Vec<u64>, Versions<P, H>>,
-    seat: &mut Seat<(), Doing<V>>,
-    words: &mut [u64; N],
-)
-    requires { Fits N seat.old table.now.table_id table.now.key.items }
-    ensures { Stays seat.old seat.new × (length words.new ≡ N) × AgreeBelow H words.old words.new
-        × Gathered H N words.new seat.old.me.0.stage seat.new.me.0.stage }
+/// Puts a word at a place, if it is one of the first.
+fn change_word<const H: usize>(head: &mut [u64; H], place: usize, word: u64)
+    ensures { (words : List ℕ) → H ≤ length words → AgreeTo H head.old words
+        → AgreeTo H head.new (slice_set words place word) }
 {
-    for i in H..N {
-        words[i] = table.load::<Peek>(seat, i + 1);
+    if place < H {
+        head[place] = word;
     }
 }
 
-/// Loads all words as they were at one version, which it returns. Waits for a version other than the one that is known.
-pub(crate) fn find<M: CellOutcome<V>, R: Wait, V, P: CellRule<V>, const H: usize, const N: usize>(
+/// Makes the changes that are of the first words.
+pub(crate) fn change_head<const H: usize>(head: &mut [u64; H], changes: &[(usize, u64)])
+    ensures { (words : List ℕ) → H ≤ length words → AgreeTo H head.old words
+        → AgreeTo H head.new (changed words changes.now) }
+{
+    for change in changes {
+        change_word::<H>(head, change.0, change.1);
+    }
+}
+
+/// Waits for a version other than the one of the words that the seat has seen.
+pub(crate) fn wait_for_change<R: Wait, V, P: CellRule<V>, const H: usize, const N: usize>(
     rt: &R,
     table: &Shared<(), Doing<V>, Vec<u64>, Versions<P, H>>,
     seat: &mut Seat<(), Doing<V>>,
-    known: u64,
-    words: &mut [u64; N],
-) -> u64
+    version: u64,
+)
     requires table { Fits N seat.old table.now.table_id table.now.key.items }
-    requires head { H ≤ N }
-    requires known { seat.old.me.0.stage ≡ Seen known known words.old }
-    requires rule { Turns P.holds seat.old.id seat.old.me.0.client (λ x. x) M.then }
-    ensures seat { IsSameSeat seat.old seat.new }
-    ensures seen { (seat.new.me.0.stage ≡ Seen result result words.new) × (result % 2 ≡ 0) }
-    ensures rule { M.then seat.old.me.0.client words.new words.new seat.new.me.0.client }
-    ensures rises { P.code words.old < P.code words.new }
+    requires seen { IsAt version seat.old.me.0.stage }
+    ensures seat { Stays seat.old seat.new }
+    ensures waited { HasWaited version seat.old.me.0.stage seat.new.me.0.stage }
 {
     let backoff = Backoff::new();
     for _ in rt.forever() {
-        let version = table.load::<Look<P, H>>(seat, 0);
-        if version % 2 == 0 && version != known {
-            put_head::<V, P, H, N>(version, words);
-            gather::<V, P, H, N>(table, seat, words);
-            if table.load::<Check<M, N>>(seat, 0) == version {
-                return version;
-            }
+        let found = table.load::<Watch>(seat, 0);
+        if found / 2 > version / 2 {
+            return;
         }
         backoff.snooze();
     }
     unreachable!()
 }
 
-/// Takes the cell, whose version goes from the one of the words that the seat has seen to the odd one after it.
-pub(crate) fn take<V, P: CellRule<V>, const H: usize, const N: usize>(
+/// Loads the words at these places, which the version doesn't tell.
+pub(crate) fn load_each<V, P: CellRule<V>, const H: usize, const N: usize>(
     table: &Shared<(), Doing<V>, Vec<u64>, Versions<P, H>>,
     seat: &mut Seat<(), Doing<V>>,
-    version: u64,
-    words: &[u64; N],
-) -> bool
+    places: &[usize],
+    words: &mut [u64; N],
+)
     requires table { Fits N seat.old table.now.table_id table.now.key.items }
-    requires seen { seat.old.me.0.stage ≡ Seen version version words.now }
-    requires small { version + 1 < 2 ^ 64 }
+    requires places { All (λ place. (H ≤ place) × (place < N)) places.now }
     ensures seat { Stays seat.old seat.new }
-    ensures taken { MatchBool result
-        (seat.new.me.0.stage ≡ Writing (version + 1) words.now words.now)
-        (seat.new.me.0.stage ≡ Seen version version words.now) }
+    ensures loaded { Loaded places.now (length places.now) words.new
+        seat.old.me.0.stage seat.new.me.0.stage }
 {
-    table.compare_exchange::<Take>(seat, 0, version, version + 1) == version
-}
-
-/// Makes the changes in the words.
-fn change_words<const N: usize>(words: &mut [u64; N], changes: &[(usize, u64)])
-    requires { All (λ change. change.0 < N) changes.now }
-    ensures { words.new ≡ changed words.old changes.now }
-{
-    for change in changes {
-        words[change.0] = change.1;
+    for place in places {
+        words[*place] = table.load::<Peek>(seat, *place + 1);
     }
 }
 
-/// Has the version go from that of the words that the seat has seen to the next, which tells all words that the changes make new.
-pub(crate) fn swap<M: CellOutcome<V>, V, P: CellRule<V>, const H: usize, const N: usize>(
+/// Makes the changes, where the words that the seat has seen are still those of the cell: the version goes from that of these words to
+/// the next one. Else nothing is changed.
+pub(crate) fn exchange<M: CellOutcome<V>, V, P: CellRule<V>, const H: usize, const N: usize>(
     table: &Shared<(), Doing<V>, Vec<u64>, Versions<P, H>>,
     seat: &mut Seat<(), Doing<V>>,
     version: u64,
     next: u64,
-    words: &mut [u64; N],
     changes: &[(usize, u64)],
 ) -> bool
     requires table { Fits N seat.old table.now.table_id table.now.key.items }
     requires head { H ≤ N }
-    requires seen { seat.old.me.0.stage ≡ Seen version version words.old }
-    requires places { All (λ change. change.0 < H) changes.now }
-    requires next { next ≡ 2 * P.code (changed words.old changes.now) }
-    requires coded { IsCoded P.code P.head H (changed words.old changes.now) }
-    requires rule { TurnsAt P.holds seat.old.id seat.old.me.0.client
-        words.old (changed words.old changes.now) M.then }
-    requires rises { P.code words.old < P.code (changed words.old changes.now) }
+    requires seen { IsAt version seat.old.me.0.stage }
+    requires long { length (words_of seat.old.me.0.stage) ≡ N }
+    requires small { version + 1 < 2 ^ 64 }
+    requires places { All (λ change. change.0 < N) changes.now }
+    requires next { next ≡ 2 * P.code (changed (words_of seat.old.me.0.stage) changes.now) }
+    requires coded { IsCoded P.code P.head H (changed (words_of seat.old.me.0.stage) changes.now) }
+    requires rule { TurnsAt P.holds seat.old.id seat.old.me.0.client (words_of seat.old.me.0.stage)
+        (changed (words_of seat.old.me.0.stage) changes.now) M.then }
+    requires rises { P.code (words_of seat.old.me.0.stage)
+        < P.code (changed (words_of seat.old.me.0.stage) changes.now) }
     ensures seat { IsSameSeat seat.old seat.new }
-    ensures swapped { MatchBool result
-        ((words.new ≡ changed words.old changes.now)
-        × (seat.new.me.0.stage ≡ Seen next next words.new)
-        × M.then seat.old.me.0.client words.old words.new seat.new.me.0.client)
-        ((words.new ≡ words.old) × (seat.new.me.0.stage ≡ Seen version version words.old)
+    ensures exchanged { MatchBool result
+        ((seat.new.me.0.stage
+        ≡ Seen next next (changed (words_of seat.old.me.0.stage) changes.now))
+        × M.then seat.old.me.0.client (words_of seat.old.me.0.stage)
+        (changed (words_of seat.old.me.0.stage) changes.now) seat.new.me.0.client)
+        ((seat.new.me.0.stage ≡ seat.old.me.0.stage)
         × (seat.new.me.0.client ≡ seat.old.me.0.client)) }
 {
-    if table.compare_exchange::<Swap<P, M, H>>(seat, 0, version, next) == version {
-        change_words(words, changes);
-        return true;
+    if lie_below(H, changes) {
+        return swap::<M, V, P, H, N>(table, seat, version, next, changes);
     }
-    false
+    if !take::<V, P, H, N>(table, seat, version) {
+        return false;
+    }
+    publish::<M, V, P, H, N>(table, seat, version + 1, next, changes);
+    true
+}
+
+/// Whether all changes are of words below a place.
+fn lie_below(end: usize, changes: &[(usize, u64)]) -> bool
+    ensures { IsTrue result ↔ All (λ change. change.0 < end) changes.now }
+{
+    changes.iter().all(|change| change.0 < end)
+}
+
+/// Takes the cell, whose version goes from the one of the words that the seat has seen to the odd one after it.
+fn take<V, P: CellRule<V>, const H: usize, const N: usize>(
+    table: &Shared<(), Doing<V>, Vec<u64>, Versions<P, H>>,
+    seat: &mut Seat<(), Doing<V>>,
+    version: u64,
+) -> bool
+    requires table { Fits N seat.old table.now.table_id table.now.key.items }
+    requires seen { IsAt version seat.old.me.0.stage }
+    requires small { version + 1 < 2 ^ 64 }
+    ensures seat { Stays seat.old seat.new }
+    ensures taken { MatchBool result
+        (seat.new.me.0.stage ≡ Writing (version + 1)
+        (words_of seat.old.me.0.stage) (words_of seat.old.me.0.stage))
+        (seat.new.me.0.stage ≡ seat.old.me.0.stage) }
+{
+    table.compare_exchange::<Take>(seat, 0, version, version + 1) == version
+}
+
+/// Has the version go from that of the words that the seat has seen to the next, which tells all words that the changes make new.
+fn swap<M: CellOutcome<V>, V, P: CellRule<V>, const H: usize, const N: usize>(
+    table: &Shared<(), Doing<V>, Vec<u64>, Versions<P, H>>,
+    seat: &mut Seat<(), Doing<V>>,
+    version: u64,
+    next: u64,
+    changes: &[(usize, u64)],
+) -> bool
+    requires table { Fits N seat.old table.now.table_id table.now.key.items }
+    requires head { H ≤ N }
+    requires seen { IsAt version seat.old.me.0.stage }
+    requires places { All (λ change. change.0 < H) changes.now }
+    requires next { next ≡ 2 * P.code (changed (words_of seat.old.me.0.stage) changes.now) }
+    requires coded { IsCoded P.code P.head H (changed (words_of seat.old.me.0.stage) changes.now) }
+    requires rule { TurnsAt P.holds seat.old.id seat.old.me.0.client (words_of seat.old.me.0.stage)
+        (changed (words_of seat.old.me.0.stage) changes.now) M.then }
+    requires rises { P.code (words_of seat.old.me.0.stage)
+        < P.code (changed (words_of seat.old.me.0.stage) changes.now) }
+    ensures seat { IsSameSeat seat.old seat.new }
+    ensures swapped { MatchBool result
+        ((seat.new.me.0.stage
+        ≡ Seen next next (changed (words_of seat.old.me.0.stage) changes.now))
+        × M.then seat.old.me.0.client (words_of seat.old.me.0.stage)
+        (changed (words_of seat.old.me.0.stage) changes.now) seat.new.me.0.client)
+        ((seat.new.me.0.stage ≡ seat.old.me.0.stage)
+        × (seat.new.me.0.client ≡ seat.old.me.0.client)) }
+{
+    let _changes = changes;
+    table.compare_exchange::<Swap<P, M, H>>(seat, 0, version, next) == version
+}
+
+/// Stores, in turn, the words of the changes that the version doesn't tell.
+fn write<V, P: CellRule<V>, const H: usize, const N: usize>(
+    table: &Shared<(), Doing<V>, Vec<u64>, Versions<P, H>>,
+    seat: &mut Seat<(), Doing<V>>,
+    version: u64,
+    changes: &[(usize, u64)],
+)
+    requires table { Fits N seat.old table.now.table_id table.now.key.items }
+    requires long { length (words_of seat.old.me.0.stage) ≡ N }
+    requires taken { seat.old.me.0.stage
+        ≡ Writing version (words_of seat.old.me.0.stage) (words_of seat.old.me.0.stage) }
+    requires places { All (λ change. change.0 < N) changes.now }
+    ensures seat { Stays seat.old seat.new }
+    ensures written { HasWritten H version (words_of seat.old.me.0.stage)
+        (changed (words_of seat.old.me.0.stage) changes.now) seat.new.me.0.stage }
+{
+    for change in changes {
+        store_word::<V, P, H, N>(table, seat, change.0, change.1);
+    }
 }
 
 /// Stores a word in a cell that the seat has taken, where the version doesn't tell the word at that place.
@@ -153,51 +223,32 @@ fn store_word<V, P: CellRule<V>, const H: usize, const N: usize>(
     table.store::<Put>(seat, place + 1, word);
 }
 
-/// Makes the changes, in turn: in the table those of words that the version doesn't tell.
-fn write<V, P: CellRule<V>, const H: usize, const N: usize>(
-    table: &Shared<(), Doing<V>, Vec<u64>, Versions<P, H>>,
-    seat: &mut Seat<(), Doing<V>>,
-    version: u64,
-    words: &mut [u64; N],
-    changes: &[(usize, u64)],
-)
-    requires table { Fits N seat.old table.now.table_id table.now.key.items }
-    requires taken { seat.old.me.0.stage ≡ Writing version words.old words.old }
-    requires places { All (λ change. change.0 < N) changes.now }
-    ensures seat { Stays seat.old seat.new }
-    ensures changed { words.new ≡ changed words.old changes.now }
-    ensures written { HasWritten H version words.old words.new seat.new.me.0.stage }
-{
-    for change in changes {
-        let (place, word) = *change;
-        store_word::<V, P, H, N>(table, seat, place, word);
-        words[place] = word;
-    }
-}
-
 /// Makes the changes in a cell that the seat has taken, and gives it the version of the words after them.
-pub(crate) fn publish<M: CellOutcome<V>, V, P: CellRule<V>, const H: usize, const N: usize>(
+fn publish<M: CellOutcome<V>, V, P: CellRule<V>, const H: usize, const N: usize>(
     table: &Shared<(), Doing<V>, Vec<u64>, Versions<P, H>>,
     seat: &mut Seat<(), Doing<V>>,
     version: u64,
     next: u64,
-    words: &mut [u64; N],
     changes: &[(usize, u64)],
 )
     requires table { Fits N seat.old table.now.table_id table.now.key.items }
     requires head { H ≤ N }
-    requires taken { seat.old.me.0.stage ≡ Writing version words.old words.old }
+    requires long { length (words_of seat.old.me.0.stage) ≡ N }
+    requires taken { seat.old.me.0.stage
+        ≡ Writing version (words_of seat.old.me.0.stage) (words_of seat.old.me.0.stage) }
     requires places { All (λ change. change.0 < N) changes.now }
-    requires next { next ≡ 2 * P.code (changed words.old changes.now) }
-    requires coded { IsCoded P.code P.head H (changed words.old changes.now) }
-    requires rule { TurnsAt P.holds seat.old.id seat.old.me.0.client
-        words.old (changed words.old changes.now) M.then }
-    requires rises { P.code words.old < P.code (changed words.old changes.now) }
+    requires next { next ≡ 2 * P.code (changed (words_of seat.old.me.0.stage) changes.now) }
+    requires coded { IsCoded P.code P.head H (changed (words_of seat.old.me.0.stage) changes.now) }
+    requires rule { TurnsAt P.holds seat.old.id seat.old.me.0.client (words_of seat.old.me.0.stage)
+        (changed (words_of seat.old.me.0.stage) changes.now) M.then }
+    requires rises { P.code (words_of seat.old.me.0.stage)
+        < P.code (changed (words_of seat.old.me.0.stage) changes.now) }
     ensures seat { IsSameSeat seat.old seat.new }
-    ensures seen { (words.new ≡ changed words.old changes.now)
-        × (seat.new.me.0.stage ≡ Seen next next words.new) }
-    ensures rule { M.then seat.old.me.0.client words.old words.new seat.new.me.0.client }
+    ensures seen { seat.new.me.0.stage
+        ≡ Seen next next (changed (words_of seat.old.me.0.stage) changes.now) }
+    ensures rule { M.then seat.old.me.0.client (words_of seat.old.me.0.stage)
+        (changed (words_of seat.old.me.0.stage) changes.now) seat.new.me.0.client }
 {
-    write::<V, P, H, N>(table, seat, version, words, changes);
+    write::<V, P, H, N>(table, seat, version, changes);
     table.store::<Publish<P, M, H>>(seat, 0, next);
 }

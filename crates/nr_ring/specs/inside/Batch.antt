@@ -1,12 +1,12 @@
 -- A batch on its way into the words, and the bounds that bar it.
-use Rattle.std.specs.Prelude.{◌≡◌, ◌⊎◌, ℕ, ◌+◌, ◌<◌, ◌≤◌, All, List, Some, drop, length, take, slice_get, slice_index}
+use Rattle.std.specs.Prelude.{◌≡◌, ◌⊎◌, ℕ, ◌+◌, ◌*◌, ◌<◌, ◌≤◌, All, List, Some, drop, length, take, slice_get, slice_index}
 use Rattle.vs_types.specs.LogEntry.{IsLogEntry, log_words}
 use Rattle.vs_types.specs.declared.depth.Depth.{Depth}
 use Rattle.vs_types.specs.declared.limits.TheConstants.{LOG_PLACES, REPLICAS}
 use Rattle.vs_types.specs.declared.log_entry.LogEntry.{LogEntry}
 use Rattle.nr_ring.specs.LogHistory.{Log, AllKeepUp, HasRoom, IsEnded, IsFull, tail}
 use Rattle.nr_ring.specs.Pass.{tails_of}
-use Rattle.nr_ring.specs.Words.{word_of, IsWordsOf}
+use Rattle.nr_ring.specs.Words.{word_of}
 use Rattle.nr_ring.specs.declared.tails.AppendFault.{AppendFault}
 use Rattle.nr_ring.specs.declared.tails.AppendFault.TheVariants.{LogEnded, Full, Moved}
 use Rattle.nr_ring.specs.declared.words.TheConstants.{CELL_WORDS, COUNT_WORD, RING, RING_WORDS}
@@ -37,16 +37,26 @@ pub record AreSmall (words : List ℕ) : Type 0 where
   pub tails : (word : ℕ) → word < COUNT_WORD → slice_index words word ≤ LOG_PLACES
   pub replicas : slice_index words COUNT_WORD ≤ REPLICAS
 
--- the words are those of a log at this depth whose entries from a place on are in the ring
-pub record CanBeRead (depth : Depth) (words : List ℕ) (from : ℕ) : Type 0 where
+-- the places of the two words of so many entries, from a place of the log on
+pub record ArePlaces (from n : ℕ) (places : List ℕ) : Type 0 where
+  pub count : length places ≡ 2 * n
+  pub are : (i k : ℕ) → i < n → k < 2 → slice_index places (2 * i + k) ≡ word_of (from + i) + k
+
+-- among the words are those of each entry of the log from a place on
+abbrev pub HaveEntries : Log → ℕ → List ℕ → Type 0
+HaveEntries log from words = (place : ℕ) (entry : LogEntry) (k : ℕ) → from ≤ place → slice_get log.entries place ≡ Some entry → k < 2
+    → slice_index words (word_of place + k) ≡ slice_index (log_words entry) k
+
+-- among the words are those of the entries of a log at this depth, from a place to its tail
+pub record CanBeRead (depth : Depth) (words : List ℕ) (from to : ℕ) : Type 0 where
   pub log : Log
-  pub are : IsWordsOf log words
+  pub have : HaveEntries log from words
   pub fit : All (IsLogEntry depth) log.entries
-  pub low : from ≤ tail log
-  pub near : tail log ≤ from + RING
-  pub ends : tail log ≤ LOG_PLACES
+  pub ends_at : tail log ≡ to
+  pub low : from ≤ to
+  pub near : to ≤ from + RING
 
 -- so many entries from a place on were read
-pub record IsRead (depth : Depth) (words : List ℕ) (from n : ℕ) (entries : List LogEntry) : Type 0 where
+pub record IsRead (depth : Depth) (words : List ℕ) (from to n : ℕ) (entries : List LogEntry) : Type 0 where
   pub count : length entries ≡ n
-  pub are : (log : Log) → IsWordsOf log words → All (IsLogEntry depth) log.entries → entries ≡ take n (drop from log.entries)
+  pub are : (log : Log) → HaveEntries log from words → tail log ≡ to → All (IsLogEntry depth) log.entries → entries ≡ take n (drop from log.entries)

@@ -3,14 +3,14 @@ use Rattle.std.specs.List.{range_with_len}
 use Rattle.std.specs.Prelude.{◌≡◌, ℕ, ◌+◌, ◌-◌, ◌<◌, ◌≤◌, Bool, MatchBool, List, [], ◌∷◌, All, Option, None, Some, length, slice_index}
 use Rattle.vs_types.specs.declared.depth.Depth.{Depth}
 use Rattle.vs_types.specs.declared.limits.TheConstants.{REPLICAS}
-use Rattle.nr_ring.specs.LogHistory.{IsLogHistory, log_after}
+use Rattle.nr_ring.specs.LogHistory.{IsLogHistory, Log, completed, local_of, log_after, tail}
 use Rattle.nr_ring.specs.Words.{IsWordsOf}
 use Rattle.nr_ring.specs.View.{StartsWith}
 use Rattle.nr_ring.specs.Calls.{HasLooked, HasMoved, with_event}
 use Rattle.nr_ring.specs.declared.log_event.LogEvent.{LogEvent}
 use Rattle.nr_ring.specs.declared.view.View.{View}
 use Rattle.nr_ring.specs.declared.tails.Tails.{Tails}
-use Rattle.nr_ring.specs.declared.words.TheConstants.{TAIL_WORD, COMPLETED_WORD, LOCAL_WORDS}
+use Rattle.nr_ring.specs.declared.words.TheConstants.{TAIL_WORD, COMPLETED_WORD, COUNT_WORD, LOCAL_WORDS}
 
 -- the replica that a pass owns, as a list
 abbrev pub owned : Option ℕ → List ℕ
@@ -20,6 +20,13 @@ owned (Some replica) = replica ∷ []
 -- the replica, if there is one, is one of so many
 abbrev pub IsBelow : ℕ → Option ℕ → Type 0
 IsBelow replicas replica = (r : ℕ) → replica ≡ Some r → r < replicas
+
+-- the words before the ring, as a log has them
+pub record IsHeadOf (log : Log) (words : List ℕ) : Type 0 where
+  pub tail_is : slice_index words TAIL_WORD ≡ tail log
+  pub completed_is : slice_index words COMPLETED_WORD ≡ completed log
+  pub locals_are : (replica : ℕ) → replica < REPLICAS → slice_index words (LOCAL_WORDS + replica) ≡ local_of log replica
+  pub replicas_are : slice_index words COUNT_WORD ≡ length log.locals
 
 -- the words are those of the log after all that the pass has seen, among which are the events that it made; it begins with all that it
 -- was told; and the pass has one right to make events

@@ -5,10 +5,18 @@ use Rattle.std.specs.Prelude.{◌≡◌, ℕ, ◌<◌, ◌≤◌, List, length, 
 abbrev pub AgreeFrom : ℕ → List ℕ → List ℕ → Type 0
 AgreeFrom h words words' = (length words' ≡ length words) × ((i : ℕ) → h ≤ i → slice_index words' i ≡ slice_index words i)
 
+-- these are the first words, so many, as a code tells them
+abbrev pub IsHead : (ℕ → ℕ → ℕ) → ℕ → ℕ → List ℕ → Type 0
+IsHead head code h words = (i : ℕ) → i < h → slice_index words i ≡ head code i
+
 -- the words with the first ones, so many, put as a code tells
 abbrev pub HasHead : (ℕ → ℕ → ℕ) → ℕ → ℕ → List ℕ → List ℕ → Type 0
-HasHead head code h words words' = AgreeFrom h words words' × ((i : ℕ) → i < h → slice_index words' i ≡ head code i)
+HasHead head code h words words' = AgreeFrom h words words' × IsHead head code h words'
 
--- words of one number are alike before a place
-abbrev pub AgreeBelow : ℕ → List ℕ → List ℕ → Type 0
-AgreeBelow h words words' = (length words' ≡ length words) × ((i : ℕ) → i < h → slice_index words' i ≡ slice_index words i)
+-- words begin with the same, so many
+abbrev pub AgreeTo : ℕ → List ℕ → List ℕ → Type 0
+AgreeTo h words words' = (i : ℕ) → i < h → slice_index words i ≡ slice_index words' i
+
+-- words are alike at the first k of these places
+abbrev pub AgreeAt : List ℕ → ℕ → List ℕ → List ℕ → Type 0
+AgreeAt places k words words' = (i : ℕ) → i < k → slice_index words (slice_index places i) ≡ slice_index words' (slice_index places i)

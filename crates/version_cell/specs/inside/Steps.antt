@@ -4,36 +4,58 @@ use Rattle.atomic_table.specs.Seated.{TableId}
 use Rattle.atomic_table.specs.Table.{Me, Step}
 use Rattle.atomic_table.specs.declared.shared.Seat.{Seat}
 use Rattle.version_cell.specs.Heads.{IsCoded}
-use Rattle.version_cell.specs.inside.Heads.{AgreeFrom, HasHead}
+use Rattle.version_cell.specs.inside.Heads.{AgreeAt, AgreeFrom, HasHead}
+use Rattle.version_cell.specs.inside.Versions.{words_of}
 use Rattle.version_cell.specs.declared.stage.Doing.{Doing}
 use Rattle.version_cell.specs.declared.stage.Stage.{Stage}
 use Rattle.version_cell.specs.declared.stage.Stage.TheVariants.{Seen, Writing}
 
+-- the version of the words while this one stands: at an odd one, while a seat writes, they are still those of before
+abbrev pub resting : ℕ → ℕ
+resting found = 2 * (found / 2)
+
 -- words are those of before, or have come further
 abbrev pub IsLater : (List ℕ → ℕ) → ℕ → List ℕ → ℕ → List ℕ → Type 0
-IsLater code at x at' x' = ((at' ≡ at) × (x' ≡ x)) ⊎ (code x < code x')
+IsLater code at x at' x' = ((at' ≡ at) × (x' ≡ x)) ⊎ ((at < at') × (code x < code x'))
 
--- the words of the stage, if it has any, were before these
+-- a version was loaded after all that the stage has seen, and the words at it are the stage's or later ones
 abbrev pub GrewTo : (List ℕ → ℕ) → Stage → ℕ → List ℕ → Type 0
-GrewTo code (Seen at last x) at' x' = IsLater code at x at' x'
-GrewTo code _ at' x' = Unit {0}
+GrewTo code (Seen at last x) found x' = (last ≤ found) × IsLater code at x (resting found) x'
+GrewTo code _ found x' = Unit {0}
+
+-- the version was loaded: the seat has seen the words, of which the version tells the first
+pub record IsLook {V : Type 0} (code : List ℕ → ℕ) (head : ℕ → ℕ → ℕ) (h n : ℕ) (tells : V → List ℕ → List ℕ → V → Type 0)
+    (found : ℕ) (v w : V) (before after : Stage) : Type 0 where
+  pub words : List ℕ
+  pub seen : after ≡ Seen (resting found) found words
+  pub grew : GrewTo code before found words
+  pub told_by : found / 2 ≡ code words
+  pub coded : IsCoded code head h words
+  pub long : length words ≡ n
+  pub told : tells v words words w
+
+-- the version was loaded by one that waits
+abbrev pub Watched : ℕ → Stage → Stage → Type 0
+Watched found (Seen at last x) after = (last ≤ found) × (after ≡ Seen at found x)
+Watched found before after = after ≡ before
+
+-- the stage has seen words at this version
+abbrev pub IsAt : ℕ → Stage → Type 0
+IsAt at stage = (last : ℕ) × (stage ≡ Seen at last (words_of stage))
+
+-- it has seen the same words, and a version since that is of later ones
+abbrev pub HasWaited : ℕ → Stage → Stage → Type 0
+HasWaited at before after = (last : ℕ) × (after ≡ Seen at last (words_of before)) × (at / 2 < last / 2)
 
 -- one of the words was loaded: where the version is still that of what was seen, it is the word seen
 abbrev pub Peeked : ℕ → ℕ → Stage → Stage → Type 0
 Peeked i found (Seen at last x) after = (now : ℕ) × (after ≡ Seen at now x) × (now ≤ at → (last ≤ at) × (found ≡ slice_index x i))
 Peeked i found before after = after ≡ before
 
--- the words from one place to another were loaded: where the version is still that of what was seen, they are the words seen
-abbrev pub Gathered : ℕ → ℕ → List ℕ → Stage → Stage → Type 0
-Gathered h end words (Seen at last x) after =
-    (now : ℕ) × (after ≡ Seen at now x) × (now ≤ at → (last ≤ at) × ((i : ℕ) → h ≤ i → i < end → slice_index words i ≡ slice_index x i))
-Gathered h end words before after = after ≡ before
-
--- the version was loaded: where it is that of what was seen, the words seen are those of the cell
-abbrev pub Checked : {V : Type 0} → ℕ → (V → List ℕ → List ℕ → V → Type 0) → ℕ → V → V → Stage → Stage → Type 0
-Checked n tells found v w (Seen at last x) after =
-    (found ≡ at → (last ≤ at) × (length x ≡ n) × (after ≡ Seen at at x) × tells v x x w) × (found ≢ at → (after ≡ Seen at last x) × (w ≡ v))
-Checked n tells found v w before after = (after ≡ before) × (w ≡ v)
+-- the first k of the words at these places were loaded: where the version is still that of what was seen, they are the words seen
+abbrev pub Loaded : List ℕ → ℕ → List ℕ → Stage → Stage → Type 0
+Loaded places k words (Seen at last x) after = (now : ℕ) × (after ≡ Seen at now x) × (now ≤ at → (last ≤ at) × AgreeAt places k words x)
+Loaded places k words before after = after ≡ before
 
 -- the version was to go from the one seen to the next: where it was that, the seat writes
 abbrev pub Taken : ℕ → ℕ → Stage → Stage → Type 0
@@ -69,10 +91,6 @@ abbrev pub later : Stage → Stage → Stage
 later (Seen at last x) (Seen at' last' x') = if nat_le at' at then Seen at last x else Seen at' last' x'
 later a _ = a
 
--- whatever the words of a stage grew to, those of an earlier stage grew to it
-abbrev pub Grown : (List ℕ → ℕ) → Stage → Stage → Type 0
-Grown code before after = (at : ℕ) (x : List ℕ) → GrewTo code after at x → GrewTo code before at x
-
 abbrev Sat : Type 0 → Type 0
 Sat V = Me (Unit {0}) (Doing V)
 
@@ -91,17 +109,14 @@ module _ {V : Type 0} where
   abbrev pub Fits : ℕ → Seat (Unit {0}) (Doing V) → TableId → List ℕ → Type 0
   Fits n p z start = (p.table_id ≡ z) × (z.words ≡ n + 1) × (length start ≡ n + 1)
 
-  abbrev pub looked : (List ℕ → ℕ) → (ℕ → ℕ → ℕ) → ℕ → Step (Unit {0}) → Sat V → ℕ → Sat V → Type 0
-  looked code head h st m found m' =
-      IsSameView m m'
-      × (found % 2 ≡ 0 → (x : List ℕ) × (m'.0.stage ≡ Seen found found x) × GrewTo code m.0.stage found x × (found ≡ 2 * code x) × IsCoded code head h x)
-      × (found % 2 ≢ 0 → m'.0.stage ≡ m.0.stage)
+  abbrev pub looked : (List ℕ → ℕ) → (ℕ → ℕ → ℕ) → ℕ → ℕ → (V → List ℕ → List ℕ → V → Type 0) → Step (Unit {0}) → Sat V → ℕ → Sat V → Type 0
+  looked code head h n tells st m found m' = IsLook code head h n tells found m.0.client m'.0.client m.0.stage m'.0.stage
+
+  abbrev pub watched : Step (Unit {0}) → Sat V → ℕ → Sat V → Type 0
+  watched st m found m' = IsSameView m m' × Watched found m.0.stage m'.0.stage
 
   abbrev pub peeked : Step (Unit {0}) → Sat V → ℕ → Sat V → Type 0
   peeked st m found m' = IsSameView m m' × Peeked (st.word - 1) found m.0.stage m'.0.stage
-
-  abbrev pub checked : ℕ → (V → List ℕ → List ℕ → V → Type 0) → Step (Unit {0}) → Sat V → ℕ → Sat V → Type 0
-  checked n tells st m found m' = Checked n tells found m.0.client m'.0.client m.0.stage m'.0.stage
 
   abbrev pub taken : Step (Unit {0}) → Sat V → ℕ → Sat V → Type 0
   taken st m found m' = IsSameView m m' × Taken st.second found m.0.stage m'.0.stage

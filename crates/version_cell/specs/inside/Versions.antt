@@ -1,11 +1,12 @@
 -- The rule of the table: word 0 is the version, and the words of the cell follow.
 -- The version is twice the code of the value, which tells its first words: those of the table are not used. While the version is even
 -- the others are those of the value. While it is odd, one more, one seat writes, and the value is still that of before.
-use Rattle.std.specs.Prelude.{◌≡◌, ℕ, ◌+◌, ◌*◌, ◌%◌, ◌<◌, ◌≤◌, List, map, length, slice_index}
+use Rattle.std.specs.Prelude.{◌≡◌, ℕ, ◌+◌, ◌*◌, ◌%◌, ◌<◌, ◌≤◌, List, [], map, length, slice_index}
 use mathlib.Core.Option.{some}
 use lib.ListN.{get_elem?}
 use Rattle.atomic_table.specs.Table.{State}
 use Rattle.version_cell.specs.Heads.{IsCoded}
+use Rattle.version_cell.specs.inside.Heads.{AgreeTo}
 use Rattle.version_cell.specs.declared.stage.Doing.{Doing}
 use Rattle.version_cell.specs.declared.stage.Stage.{Stage}
 use Rattle.version_cell.specs.declared.stage.Stage.TheVariants.{Idle, Seen, Writing}
@@ -15,6 +16,19 @@ doing stage v = record { stage = stage; client = v }
 
 abbrev pub client : {V : Type 0} → Doing V → V
 client d = d.client
+
+-- the words that a seat saw last
+abbrev pub words_of : Stage → List ℕ
+words_of Idle = []
+words_of (Seen at last x) = x
+words_of (Writing at old now) = old
+
+-- it saw so many words at this version, of which these are the first
+pub record HasSeen (h n at : ℕ) (head : List ℕ) (stage : Stage) : Type 0 where
+  pub last : ℕ
+  pub seen : stage ≡ Seen at last (words_of stage)
+  pub long : length (words_of stage) ≡ n
+  pub begin_so : AgreeTo h head (words_of stage)
 
 -- the words of the table are the version and then these, from a place on
 abbrev pub Holds : ℕ → List ℕ → List ℕ → Type 0

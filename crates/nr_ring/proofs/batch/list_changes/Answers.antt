@@ -10,9 +10,8 @@ use Rattle.nr_ring.proofs.batch.list_changes.Goals as goal
 
 pub loop-entry-preserved : goal.loop-entry-preserved
 loop-entry-preserved c =
-    let words = c.args.words.now in
     let batch = c.args.batch.now in
-    let first = slice_index words 0 in
+    let first = c.args.tail in
     let n = c.loop-entry.entry-index in
     let is = c.loop-entry.invariant in
     let items = c.loop-entry.changes.items in
@@ -20,18 +19,19 @@ loop-entry-preserved c =
     let two = c.pack.result in
     let there = slice_get-get_or batch n c.entry-item.result c.loop-entry-test.true ∙ ap Rattle.std.proofs.Common.Some (sym c.entry-item.is) in
     let at_is : at ≡ word_of (first + n) = c.first_word-at.ensures ∙ ap word_of is.0 in
-    let At : ℕ → Type 0 = λ place. IsWritten first (n + 1) batch words (with_two place two (changed words items)) in
-    let Two : List ℕ → Type 0 = λ pair. IsWritten first (n + 1) batch words (with_two (word_of (first + n)) pair (changed words items)) in
-    let Up : List ℕ → Type 0 = λ ws. IsWritten first (n + 1) batch words ws in
     let listed : c.push-in-loop-entry.new.self.items ≡ (items ++ (at, slice_index two 0) ∷ []) ++ (at + 1, slice_index two 1) ∷ [] =
-    c.push-in-loop-entry.ensures.items ∙ ap (λ (l : List (ℕ × ℕ)). l ++ (at + 1, slice_index two 1) ∷ []) c.push.ensures.items in
-    let written : changed words c.push-in-loop-entry.new.self.items ≡ with_two at two (changed words items) =
-    ap (changed words) listed ∙ two_changes words items at two in
-    let more = subst At (sym at_is)
-    (subst Two (sym c.pack.ensures)
-    (one_more_written first n batch c.entry-item.result words (changed words items) is.1 (omega (arith, c.loop-entry-test.true, c.requires.small.1)) there)) in (
+    c.push-in-loop-entry.ensures.items ∙ ap (λ (l : List (ℕ × ℕ)). l ++ (at + 1, slice_index two 1) ∷ []) c.push.ensures.items in (
       omega (arith, is.0),
-      subst Up (sym written) more,
+      λ words long.
+          let At : ℕ → Type 0 = λ place. IsWritten first (n + 1) batch words (with_two place two (changed words items)) in
+          let Two : List ℕ → Type 0 = λ pair. IsWritten first (n + 1) batch words (with_two (word_of (first + n)) pair (changed words items)) in
+          let Up : List ℕ → Type 0 = λ ws. IsWritten first (n + 1) batch words ws in
+          let written : changed words c.push-in-loop-entry.new.self.items ≡ with_two at two (changed words items) =
+          ap (changed words) listed ∙ two_changes words items at two in
+          subst Up (sym written)
+          (subst At (sym at_is)
+          (subst Two (sym c.pack.ensures)
+          (one_more_written first n batch c.entry-item.result words (changed words items) (is.1 words long) (omega (arith, c.loop-entry-test.true, c.requires.small.1)) there))),
       omega (arith, ap (λ (l : List (ℕ × ℕ)). length l) listed, two_more items (at, slice_index two 0) (at + 1, slice_index two 1), is.2),
       subst Within (sym listed)
           (one_more_within (items ++ (at, slice_index two 0) ∷ []) (at + 1) (slice_index two 1)
@@ -40,16 +40,15 @@ loop-entry-preserved c =
 
 pub returns-clause-appended : goal.returns-clause-appended
 returns-clause-appended c =
-    let words = c.args.words.now in
     let batch = c.args.batch.now in
     let is = c.loop-entry.invariant in
     let items = c.loop-entry.changes.items in
     let end = c.loop-entry.place in
     let whole : c.loop-entry.entry-index ≡ length batch = omega (arith, c.loop-entry-test.false, c.loop-entry.auto.entry-index-end) in
-    let Up : ℕ → Type 0 = λ n. IsWritten (slice_index words 0) n batch words (changed words items) in
+    λ log words are tail_is.
+    let Up : ℕ → Type 0 = λ n. IsWritten c.args.tail n batch words (changed words items) in
     let written : changed words c.push-2.new.self.items ≡ set (changed words items) 0 end = ap (changed words) c.push-2.ensures.items ∙ changed_last words items (0, end) in
-    λ log are.
     let Is : List ℕ → Type 0 = λ ws. IsAppended log batch words ws in
     subst Is (sym written)
-    (all_written log batch words (changed words items) (slice_index words 0) end are.tail_is
-    (is.0 ∙ ap (λ n. slice_index words 0 + n) whole ∙ ap (λ t. t + length batch) are.tail_is) are (subst Up whole is.1))
+    (all_written log batch words (changed words items) c.args.tail end (sym tail_is)
+    (is.0 ∙ ap (λ n. c.args.tail + n) whole ∙ ap (λ t. t + length batch) (sym tail_is)) are (subst Up whole (is.1 words are.long)))

@@ -3,4 +3,4 @@ use Rattle.std.specs.Prelude.{slice_index}
 use Rattle.nr_ring.proofs.batch.test_room.Given as goal
 
 abbrev pub invariant-loop-replica : goal.invariant-loop-replica
-invariant-loop-replica l = (r : ℕ) → r < l.replica → slice_index l.fn.words 0 + l.fn.count ≤ slice_index l.fn.words (2 + r) + 16
+invariant-loop-replica l = (r : ℕ) → r < l.replica → slice_index l.fn.head 0 + l.fn.count ≤ slice_index l.fn.head (2 + r) + 16

@@ -7,7 +7,7 @@ pub tails_in-requires : goal.tails_in-requires
 tails_in-requires c = λ word lt. omega (arith, c.requires.0.tails word lt)
 
 pub returns-in-Ok : goal.returns-in-Ok
-returns-in-Ok c = λ log are. let room = c.in-Ok.ensures log are in (c.tails_in.ensures ∙ tails_are log c.args.words.now are, room.0, room.1)
+returns-in-Ok c = λ log are. let room = c.in-Ok.ensures log are in (c.tails_in.ensures ∙ tails_are log c.args.head.now are, room.0, room.1)
 
 pub returns-in-Err : goal.returns-in-Err
 returns-in-Err c = λ log are. bar_explains log c.args.count c.in-Err.fault (c.in-Err.ensures log are)

@@ -3,14 +3,15 @@ use Rattle.nr_ring.specs.LogHistory.{log_after}
 use Rattle.nr_ring.specs.Pass.{Known}
 use Rattle.nr_ring.specs.Words.{IsWordsOf}
 use Rattle.nr_ring.specs.declared.view.View.{View}
+use Rattle.nr_ring.proofs.FirstWords.{head_of, small_head}
 use Rattle.nr_ring.proofs.Appends.{are_small, looked_twice, moved_later, reason}
 use Rattle.nr_ring.proofs.ring_log.RingLog.append.Goals as goal
 
 pub test_room-requires : goal.test_room-requires
-test_room-requires g c = (rw c.words.ensures (are_small _ _ _ _ _ c.pass.invariant), c.requires.count.1)
+test_room-requires g c = (small_head _ _ c.head.ensures (are_small _ _ _ _ _ c.pass.invariant), c.requires.count.1)
 
 pub why_not-requires : goal.why_not-requires
-why_not-requires g c = (rw c.words-2.ensures (are_small _ _ _ _ _ c.pass-2.invariant), c.requires.count.1)
+why_not-requires g c = (small_head _ _ c.head-2.ensures (are_small _ _ _ _ _ c.pass-2.invariant), c.requires.count.1)
 
 pub returns-clause-refused : goal.returns-clause-refused
 returns-clause-refused g c =
@@ -20,9 +21,8 @@ returns-clause-refused g c =
     let middle = c.refresh.new.pass.view in
     let new = c.try_append.new.pass.view in
     let log = log_after replicas new.seen in
-    let words = c.words-2.result.now in
-    let Is : View → Type 0 = λ v. IsWordsOf (log_after replicas v.seen) words in
-    let are = subst Is (ap (λ (k : Known). k.view) c.pass-2.view_is) (rw c.words-2.ensures c.pass-2.invariant.words_are) in
+    let Is : View → Type 0 = λ v. IsWordsOf (log_after replicas v.seen) c.pass-2.inside.inner.words in
+    let are = head_of log c.head-2.result.now _ c.head-2.ensures (subst Is (ap (λ (k : Known). k.view) c.pass-2.view_is) c.pass-2.invariant.words_are) in
     let first = c.refresh.ensures.looked in
     let second = c.if-try_append.ensures.view in (
       looked_twice depth replicas old middle new first second.0,

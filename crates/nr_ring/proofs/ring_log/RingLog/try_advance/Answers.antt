@@ -9,6 +9,7 @@ use Rattle.nr_ring.specs.declared.log_event.LogEvent.TheVariants.{Advance}
 use Rattle.nr_ring.specs.declared.view.View.{View}
 use Rattle.nr_ring.specs.inside.Batch.{AreSmall}
 use Rattle.nr_ring.specs.inside.Codes.{code_of_log, locals_in}
+use Rattle.nr_ring.proofs.FirstWords.{head_of, small_head}
 use Rattle.nr_ring.proofs.Appends.{are_small}
 use Rattle.nr_ring.proofs.Codes.{advance_code, small_locals, small_still}
 use Rattle.nr_ring.proofs.CellWords.{advance_words}
@@ -25,16 +26,17 @@ exchange-requires-clause-event g c =
 pub exchange-requires-clause-next : goal.exchange-requires-clause-next
 exchange-requires-clause-next g c =
     let log = log_after g.J.LogName.replicas c.args.pass.now.view.seen in
-    let own = c.words-words.result.now in
+    let own = c.pass.inside.inner.words in
     let Is : View → Type 0 = λ v. IsWordsOf (log_after g.J.LogName.replicas v.seen) own in
-    let are = subst Is (ap (λ (k : Known). k.view) c.pass.view_is) (rw c.words-words.ensures c.pass.invariant.words_are) in
+    let are = subst Is (ap (λ (k : Known). k.view) c.pass.view_is) c.pass.invariant.words_are in
+    let completed = c.head-head.ensures 1 (omega arith) in
     let place = c.from-place.ensures in
     let local = c.from-local.ensures in
     λ words now.
     let advanced = advance_words log c.args.replica c.args.to words c.requires.may.0 now c.requires.may.1 in
     let same : own ≡ words = words_same log own words are now in
     let raised : c.max-completed.result ≡ max (slice_index words 1) c.args.to =
-    c.max-completed.ensures ∙ ap (λ n. max (slice_index own 1) n) place ∙ ap (λ (ws : List ℕ). max (slice_index ws 1) c.args.to) same in
+    c.max-completed.ensures ∙ ap (λ n. max (slice_index c.head-head.result.now 1) n) place ∙ ap (λ n. max n c.args.to) completed ∙ ap (λ (ws : List ℕ). max (slice_index ws 1) c.args.to) same in
     let after : List ℕ = set (set words 1 c.max-completed.result) (2 + c.from-local.result) c.from-place.result in
     let next : after ≡ set (set words 1 (max (slice_index words 1) c.args.to)) (2 + c.args.replica) c.args.to =
     λ i. set (set words 1 (raised i)) (2 + local i) (place i) in
@@ -44,28 +46,28 @@ exchange-requires-clause-next g c =
 
 pub code_of-code-requires-clause-tail : goal.code_of-code-requires-clause-tail
 code_of-code-requires-clause-tail g c =
-    let small : AreSmall c.words-words.result.now = rw c.words-words.ensures (are_small _ _ _ _ _ c.pass.invariant) in small.tails 0 (omega arith)
+    let small : AreSmall c.head-head.result.now = small_head _ _ c.head-head.ensures (are_small _ _ _ _ _ c.pass.invariant) in small.tails 0 (omega arith)
 
 pub code_of-code-requires-clause-locals : goal.code_of-code-requires-clause-locals
 code_of-code-requires-clause-locals g c =
-    let own = c.words-words.result.now in
-    let small : AreSmall c.words-words.result.now = rw c.words-words.ensures (are_small _ _ _ _ _ c.pass.invariant) in
-    let Is : View → Type 0 = λ v. IsWordsOf (log_after g.J.LogName.replicas v.seen) own in
-    let are = subst Is (ap (λ (k : Known). k.view) c.pass.view_is) (rw c.words-words.ensures c.pass.invariant.words_are) in
+    let own = c.head-head.result.now in
+    let small : AreSmall c.head-head.result.now = small_head _ _ c.head-head.ensures (are_small _ _ _ _ _ c.pass.invariant) in
+    let Is : View → Type 0 = λ v. IsWordsOf (log_after g.J.LogName.replicas v.seen) c.pass.inside.inner.words in
+    let are = head_of (log_after g.J.LogName.replicas c.args.pass.now.view.seen) own _ c.head-head.ensures (subst Is (ap (λ (k : Known). k.view) c.pass.view_is) c.pass.invariant.words_are) in
     small_still c.locals_in-locals.result _ _ (omega (arith, c.requires.may.0, ap (λ (l : List ℕ). length l) c.locals_in-locals.ensures)) (small_locals own c.locals_in-locals.result small c.locals_in-locals.ensures)
     (omega (arith, c.requires.may.1.written, are.tail_is, small.tails 0 (omega arith), c.from-place.ensures))
 
 pub code_of-code-requires-clause-count : goal.code_of-code-requires-clause-count
 code_of-code-requires-clause-count g c =
-    let small : AreSmall c.words-words.result.now = rw c.words-words.ensures (are_small _ _ _ _ _ c.pass.invariant) in small.replicas
+    let small : AreSmall c.head-head.result.now = small_head _ _ c.head-head.ensures (are_small _ _ _ _ _ c.pass.invariant) in small.replicas
 
 pub exchange-requires-clause-code : goal.exchange-requires-clause-code
 exchange-requires-clause-code g c =
     let log = log_after g.J.LogName.replicas c.args.pass.now.view.seen in
-    let own = c.words-words.result.now in
-    let small : AreSmall c.words-words.result.now = rw c.words-words.ensures (are_small _ _ _ _ _ c.pass.invariant) in
-    let Is : View → Type 0 = λ v. IsWordsOf (log_after g.J.LogName.replicas v.seen) own in
-    let are = subst Is (ap (λ (k : Known). k.view) c.pass.view_is) (rw c.words-words.ensures c.pass.invariant.words_are) in
+    let own = c.head-head.result.now in
+    let small : AreSmall c.head-head.result.now = small_head _ _ c.head-head.ensures (are_small _ _ _ _ _ c.pass.invariant) in
+    let Is : View → Type 0 = λ v. IsWordsOf (log_after g.J.LogName.replicas v.seen) c.pass.inside.inner.words in
+    let are = head_of (log_after g.J.LogName.replicas c.args.pass.now.view.seen) own _ c.head-head.ensures (subst Is (ap (λ (k : Known). k.view) c.pass.view_is) c.pass.invariant.words_are) in
     let After : LogEvent → Type 0 = λ event. c.code_of-code.result ≡ code_of_log (log_after_event log event) in
     let moved : set c.locals_in-locals.result c.from.result c.from-place.result ≡ set (locals_in own) c.args.replica c.args.to = λ i. set (c.locals_in-locals.ensures i) (c.from.ensures i) (c.from-place.ensures i) in
     subst After (sym c.requires.event)

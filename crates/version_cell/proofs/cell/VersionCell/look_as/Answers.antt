@@ -1,10 +1,10 @@
 use Rattle.std.proofs.Common.{rules, sym, subst}
 use Rattle.crossbeam_utils.specs.Register.{Turns}
 use Rattle.version_cell.specs.Passes.{CellPass}
-use Rattle.version_cell.proofs.Keeps.{checks}
+use Rattle.version_cell.proofs.Keeps.{looks}
 use Rattle.version_cell.proofs.cell.VersionCell.look_as.Goals as goal
 
-pub load-version-requires : goal.load-version-requires
-load-version-requires g c =
+pub load-found-requires : goal.load-found-requires
+load-found-requires g c =
     let Look : CellPass g.row.V.Denot → Type 0 = λ k. Turns g.P.CellRule.holds k.number k.view (λ x. x) g.M.CellOutcome.then in
-    (search rules, search rules, checks _ _ _ _ _ g.M.CellOutcome.then _ _ g.row.N _ c.self.invariant.1 (subst Look (sym c.pass.view_is) c.requires.rule))
+    (search rules, search rules, looks _ _ _ _ _ g.M.CellOutcome.then _ _ g.row.N _ c.self.invariant.1 (subst Look (sym c.pass.view_is) c.requires.rule))

@@ -9,7 +9,7 @@ use Rattle.version_cell.proofs.cell.VersionCell.meet_as.Goals as goal
 pub split_seat-part-requires : goal.split_seat-part-requires
 split_seat-part-requires g c =
     let Cut : CellPass g.row.V.Denot → Type 0 = λ k. Forks g.P.CellRule.holds k.number k.view (g.S.Split.left k.view) (g.S.Split.right k.view) in
-    (search rules, search rules, splits _ _ _ _ _ _ _ _ _ _ _ _ c.pass.invariant.0 (subst Cut (sym c.pass.view_is) c.requires.cut))
+    (search rules, search rules, splits _ _ _ _ _ _ _ _ _ _ _ _ c.pass.invariant.0.seen (subst Cut (sym c.pass.view_is) c.requires.cut))
 
 pub join_seat-requires : goal.join_seat-requires
 join_seat-requires g c =
