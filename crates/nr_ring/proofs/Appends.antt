@@ -19,7 +19,6 @@ use Rattle.nr_ring.specs.inside.Batch.{ArePlaces, AreSmall, Bars, Explains, Have
 use Rattle.nr_ring.specs.inside.Held.{IsHeadOf, Remembers}
 use Rattle.nr_ring.proofs.Advances.{local_word, low_replica}
 use Rattle.nr_ring.proofs.FirstWords.{Begins}
-use Rattle.nr_ring.proofs.Fetches.{history_entries}
 use Rattle.nr_ring.proofs.Histories.{as_many_locals, history_fits}
 use Rattle.nr_ring.proofs.Passes.{longer, small_words, told_before}
 

@@ -1,5 +1,5 @@
 -- The first words of the cell, which a pass keeps.
-use Rattle.std.proofs.Common.{◌≡◌, ℕ, ◌+◌, ◌<◌, ◌≤◌, List, ◌∙◌, arith}
+use Rattle.std.proofs.Common.{◌≡◌, ℕ, ◌+◌, ◌<◌, List, ◌∙◌, arith}
 use Rattle.std.specs.Prelude.{slice_index}
 use Rattle.nr_ring.specs.LogHistory.{Log}
 use Rattle.nr_ring.specs.Words.{IsWordsOf}

@@ -8,7 +8,8 @@ ghost use Rattle.nr_ring.specs.inside.Held.{Remembers};
 use crate::name::LogName;
 use crate::tails::{Tails, tails_in};
 use crate::view::View;
-use crate::words::{CELL_WORDS, RING_WORDS};
+use crate::words::{CELL_WORDS, CHANGES, LOADS, RING_WORDS};
+use arrayvec::ArrayVec;
 use std::marker::{Model, PhantomData};
 use version_cell::Pass;
 
@@ -18,6 +19,10 @@ use version_cell::Pass;
 pub struct LogPass<J: LogName> {
     pub(crate) inner: Pass<View, RING_WORDS, CELL_WORDS>,
     pub(crate) replica: Option<u8>,
+    // Room for what an append changes and what a fetch loads, so that no call has to fill an array of its own.
+    pub(crate) changes: ArrayVec<(usize, u64), CHANGES>,
+    pub(crate) places: ArrayVec<usize, LOADS>,
+    pub(crate) loaded: [u64; CELL_WORDS],
     pub(crate) of: PhantomData<J>,
 }
 
@@ -41,6 +46,9 @@ impl<J: LogName> LogPass<J> {
         LogPass {
             inner,
             replica,
+            changes: ArrayVec::new(),
+            places: ArrayVec::new(),
+            loaded: [0; CELL_WORDS],
             of: PhantomData,
         }
     }

@@ -1,5 +1,5 @@
 //! The log: one cell that its threads share.
-ghost use Rattle.std.specs.Prelude.{◌≡◌, ◌≤◌, ◌+◌, ◌-◌, ◌<◌, ℕ, List, All, Contains, IfErr, IfOk, IsFalse, IsTrue, OnErr, OnOk, [], ◌∷◌, length};
+ghost use Rattle.std.specs.Prelude.{◌≡◌, ◌≤◌, ◌+◌, ◌-◌, ◌<◌, ℕ, All, Contains, IfErr, IfOk, IsFalse, IsTrue, OnErr, OnOk, Option, [], ◌∷◌, length};
 ghost use Rattle.std.specs.List.{range_with_len};
 ghost use Rattle.version_cell.specs.Changes.{changed};
 ghost use Rattle.vs_types.specs.LogEntry.{IsLogEntry};
@@ -11,7 +11,7 @@ ghost use Rattle.nr_ring.specs.Pass.{new_pass, new_passes, tails_of};
 ghost use Rattle.nr_ring.specs.View.{HasSeenAdvances, StartsWith};
 ghost use Rattle.nr_ring.specs.Words.{IsWordsOf, new_words};
 ghost use Rattle.nr_ring.specs.inside.Codes.{code_of_log};
-ghost use Rattle.nr_ring.specs.inside.Held.{IsBelow, MadeOrMoved, left_from, new_view, owned, rest_of};
+ghost use Rattle.nr_ring.specs.inside.Held.{IsBelow, MadeOrMoved, Remembers, left_from, new_view, owned, rest_of};
 
 use crate::batch::{list_changes, list_places, read_entries, test_room, why_not};
 use crate::code::{code_of, locals_in};
@@ -21,8 +21,7 @@ use crate::rule::{Copies, FirstOwned, Happening, LogRule, Looking, Making};
 use crate::tails::{AppendFault, Moved, Tails};
 use crate::view::View;
 use crate::words::{
-    CELL_WORDS, CHANGES, COMPLETED_WORD, COUNT_WORD, LOADS, LOCAL_WORDS, OTHERS, RING, RING_WORDS,
-    TAIL_WORD,
+    CELL_WORDS, COMPLETED_WORD, COUNT_WORD, LOCAL_WORDS, OTHERS, RING, RING_WORDS, TAIL_WORD,
 };
 use arrayvec::ArrayVec;
 use crossbeam_utils::Backoff;
@@ -194,7 +193,7 @@ impl<J: LogName> RingLog<J> {
         let local = LOCAL_WORDS + usize::from(replica);
         self.exchange::<E, R>(
             rt,
-            pass,
+            &mut pass.inner,
             code,
             &[(COMPLETED_WORD, completed), (local, place)],
         )
@@ -254,9 +253,9 @@ impl<J: LogName> RingLog<J> {
         let head = pass.inner.head();
         let tail = head[TAIL_WORD];
         let code = code_of(tail + batch.len() as u64, locals_in(head), head[COUNT_WORD]);
-        let mut changes: ArrayVec<(usize, u64), CHANGES> = ArrayVec::new();
-        list_changes(tail, batch, &mut changes);
-        self.exchange::<E, R>(rt, pass, code, changes.as_slice())
+        pass.changes.clear();
+        list_changes(tail, batch, &mut pass.changes);
+        self.exchange::<E, R>(rt, &mut pass.inner, code, pass.changes.as_slice())
     }
 
     /// Looks, and gives all entries from the local tail of the replica that the pass owns to the tail, in order. The vector is
@@ -306,44 +305,46 @@ impl<J: LogName> RingLog<J> {
         let head = pass.inner.head();
         let from = head[LOCAL_WORDS + usize::from(replica)];
         let to = head[TAIL_WORD];
-        let mut places: ArrayVec<usize, LOADS> = ArrayVec::new();
-        list_places(from, to, &mut places);
-        let mut words = [0; CELL_WORDS];
-        let inner = &mut pass.inner;
+        pass.places.clear();
+        list_places(from, to, &mut pass.places);
+        let places = pass.places.as_slice();
         if !self
             .cell
-            .load_as::<Looking<J>>(inner, places.as_slice(), &mut words)
+            .load_as::<Looking<J>>(&mut pass.inner, places, &mut pass.loaded)
         {
             return false;
         }
-        read_entries(self.depth, &words, from, to, entries);
+        read_entries(self.depth, &pass.loaded, from, to, entries);
         true
     }
 
-    /// Changes the words that the pass saw last to those after an event, which have this code, where the cell still has them; else it
+    /// Changes the words that a pass saw last to those after an event, which have this code, where the cell still has them; else it
     /// looks.
     fn exchange<E: Happening, R: Wait>(
         &self,
         rt: &R,
-        pass: &mut LogPass<J>,
+        pass: &mut Pass<View, RING_WORDS, CELL_WORDS>,
         code: u64,
         changes: &[(usize, u64)],
     ) -> bool
-        requires log { pass.old.log ≡ self.now }
+        requires log { pass.old.cell ≡ self.now }
+        requires known { (replica : Option ℕ)
+            × Remembers J.depth J.replicas pass.old.words replica pass.old.view }
         requires event { MayFollow J.depth (log_after J.replicas pass.old.view.seen) E.event
             × MayMake pass.old.view E.event }
         requires places { All (λ change. change.0 < CELL_WORDS) changes.now }
         requires code { code
             ≡ code_of_log (log_after_event (log_after J.replicas pass.old.view.seen) E.event) }
-        requires next { (words : List ℕ) → IsWordsOf (log_after J.replicas pass.old.view.seen) words
-            → IsWordsOf (log_after_event (log_after J.replicas pass.old.view.seen) E.event)
-            (changed words changes.now) }
-        ensures log { pass.new.log ≡ pass.old.log }
+        requires next { IsWordsOf (log_after_event (log_after J.replicas pass.old.view.seen) E.event)
+            (changed pass.old.words changes.now) }
+        ensures log { pass.new.cell ≡ pass.old.cell }
         ensures view { MadeOrMoved J.depth J.replicas E.event pass.old.view pass.new.view result }
-        ensures history { IsLogHistory J.depth J.replicas pass.new.view.seen }
+        ensures known { (replica : Option ℕ)
+            → Remembers J.depth J.replicas pass.old.words replica pass.old.view
+            → Remembers J.depth J.replicas pass.new.words replica pass.new.view }
     {
         self.cell
-            .exchange_as::<Making<E>, Looking<J>, R>(rt, &mut pass.inner, code, changes)
+            .exchange_as::<Making<E>, Looking<J>, R>(rt, pass, code, changes)
     }
 
     /// Tells one pass what another has seen: what `told` has then seen begins with all that either had seen, and nobody has

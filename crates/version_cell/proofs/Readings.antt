@@ -1,5 +1,5 @@
 -- Looking at the words, and loading them one by one.
-use Rattle.std.proofs.Common.{◌≡◌, ℕ, ◌+◌, ◌-◌, ◌*◌, ◌/◌, ◌%◌, ◌<◌, ◌≤◌, List, length, get_or, set, sym, refl, ap, ◌∙◌, subst, ⊎_elim, arith, get_or-set_other, get_or-set_same, eqb, eq-eqb, ne_eqb, ◌≢◌, MatchBool}
+use Rattle.std.proofs.Common.{◌≡◌, ℕ, ◌+◌, ◌-◌, ◌*◌, ◌/◌, ◌%◌, ◌<◌, List, length, get_or, set, sym, refl, ap, ◌∙◌, subst, ⊎_elim, arith, get_or-set_other, get_or-set_same, eqb, eq-eqb, ne_eqb, ◌≢◌, MatchBool}
 use mathlib.Core.Logic.{dite}
 use Rattle.version_cell.specs.Heads.{IsCoded}
 use native.Mathlib.Decide.{ℕ_discrete}
@@ -7,7 +7,7 @@ use Rattle.version_cell.specs.inside.Heads.{AgreeAt, AgreeTo, IsHead}
 use Rattle.version_cell.specs.inside.Versions.{HasSeen, words_of}
 use Rattle.version_cell.specs.declared.stage.Stage.{Stage}
 use Rattle.version_cell.specs.declared.stage.Stage.TheVariants.{Idle, Seen, Writing}
-use Rattle.version_cell.specs.inside.Steps.{GrewTo, HasWaited, IsAt, IsLater, IsLook, Loaded, Peeked, resting}
+use Rattle.version_cell.specs.inside.Steps.{GrewTo, HasWaited, IsAt, IsLook, Loaded, Peeked, resting}
 
 pub loads_none : (places words : List ℕ) (st : Stage) → Loaded places 0 words st st
 loads_none places words Idle = refl

@@ -1,4 +1,4 @@
-use Rattle.std.proofs.Common.{◌≡◌, ℕ, ◌+◌, ◌-◌, ◌<◌, ◌≤◌, List, [], ◌∷◌, ◌++◌, length, length-append, arith, ap, sym, refl, subst, ◌∙◌, take, drop}
+use Rattle.std.proofs.Common.{◌≡◌, ℕ, ◌+◌, ◌-◌, ◌<◌, List, [], ◌∷◌, ◌++◌, length, length-append, arith, ap, sym, subst, ◌∙◌, take, drop}
 use Rattle.std.specs.Prelude.{slice_index}
 use Rattle.vs_types.specs.LogEntry.{SpellsEntry}
 use Rattle.vs_types.specs.declared.log_entry.LogEntry.{LogEntry}

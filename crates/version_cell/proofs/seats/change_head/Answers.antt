@@ -1,4 +1,4 @@
-use Rattle.std.proofs.Common.{rules, ℕ, List, refl, subst, sym, ◌∙◌, slice_index_or, take, length-set, arith}
+use Rattle.std.proofs.Common.{ℕ, List, refl, subst, sym, slice_index_or, take, arith}
 use Rattle.version_cell.specs.Changes.{changed}
 use Rattle.version_cell.specs.inside.Heads.{AgreeTo}
 use Rattle.version_cell.proofs.Changing.{changed_long, one_more}

@@ -1,4 +1,4 @@
-use Rattle.std.proofs.Common.{◌≡◌, ◌≤◌, ℕ, List, length, take}
+use Rattle.std.proofs.Common.{◌≤◌, ℕ, List, length, take}
 use Rattle.version_cell.specs.Changes.{changed}
 use Rattle.version_cell.specs.inside.Heads.{AgreeTo}
 use Rattle.version_cell.proofs.seats.change_head.Given as goal

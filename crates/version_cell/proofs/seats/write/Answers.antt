@@ -1,4 +1,4 @@
-use Rattle.std.proofs.Common.{rules, ℕ, refl, subst, sym, ◌∙◌, slice_index_or, take, arith}
+use Rattle.std.proofs.Common.{rules, ℕ, refl, subst, sym, ◌∙◌, slice_index_or, take}
 use Rattle.version_cell.specs.Changes.{changed}
 use Rattle.version_cell.specs.inside.Steps.{HasWritten}
 use Rattle.version_cell.specs.inside.Versions.{words_of}

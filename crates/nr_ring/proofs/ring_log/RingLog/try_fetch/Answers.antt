@@ -1,4 +1,4 @@
-use Rattle.std.proofs.Common.{rules, ◌≡◌, ◌+◌, ◌-◌, ◌<◌, ◌≤◌, ℕ, List, All, drop, refl, ap, sym, subst, ◌∙◌, arith}
+use Rattle.std.proofs.Common.{rules, ◌≡◌, ◌+◌, ◌<◌, ◌≤◌, ℕ, List, All, drop, refl, ap, sym, subst, ◌∙◌, arith}
 use Rattle.std.specs.Prelude.{slice_index}
 use Rattle.vs_types.specs.LogEntry.{IsLogEntry}
 use Rattle.vs_types.specs.declared.depth.Depth.{Depth}
@@ -26,7 +26,7 @@ list_places-requires-clause-few g c =
 pub load_as-requires : goal.load_as-requires
 load_as-requires g c =
     let Within : List ℕ → Type 0 = λ places. All (λ place. (7 ≤ place) × (place < 39)) places in
-    (omega arith, (omega arith, (omega arith, (search rules, (subst Within (sym c.as_slice.ensures.value) c.list_places.ensures.within, look_turns _ _ _ _ _)))))
+    (omega arith, (omega arith, (omega arith, (search rules, (subst Within (sym c.as_slice-places.ensures.value) c.list_places.ensures.within, look_turns _ _ _ _ _)))))
 
 pub invariant_of-pass : goal.invariant_of-pass
 invariant_of-pass g c = look_remembers _ _ _ _ _ _ _ c.pass.invariant c.load_as.ensures.rule
@@ -54,7 +54,7 @@ read_entries-requires-clause-words g c =
     record {
       log = log;
       have = have_loaded log from (slice_index head 0) c.list_places.new.places.items c.load_as.new.words words ring c.list_places.ensures.listed
-          (subst Alike c.as_slice.ensures.value loaded.1) is.words_are;
+          (subst Alike c.as_slice-places.ensures.value loaded.1) is.words_are;
       fit = history_entries depth replicas view.seen is.is_history;
       ends_at = ring.ends_at;
       low = ring.low;
@@ -80,7 +80,7 @@ returns-clause-fetched g c =
     let Alike : List ℕ → Type 0 = λ places. All (λ place. slice_index c.load_as.new.words place ≡ slice_index words place) places in
     let Fit : Depth → Type 0 = λ d. All (IsLogEntry d) log.entries in
     let have = have_loaded log from (slice_index head 0) c.list_places.new.places.items c.load_as.new.words words ring c.list_places.ensures.listed
-    (subst Alike c.as_slice.ensures.value loaded.1) is.words_are in
+    (subst Alike c.as_slice-places.ensures.value loaded.1) is.words_are in
     λ _ replica owns.
     let same : replica ≡ r = same_replica view.owns replica r (c.load_as.ensures.rule.looked.owns ∙ ap (λ (k : Known). k.view.owns) c.pass.view_is ∙ owns) is.owns in
     c.read_entries.ensures log have ring.ends_at (subst Fit (sym c.self.invariant) fit)

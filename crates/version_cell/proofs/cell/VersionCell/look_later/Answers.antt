@@ -1,4 +1,4 @@
-use Rattle.std.proofs.Common.{rules, ℕ, sym, subst, ◌∙◌}
+use Rattle.std.proofs.Common.{rules, ℕ, sym, subst}
 use Rattle.crossbeam_utils.specs.Register.{Turns}
 use Rattle.version_cell.specs.Passes.{CellPass}
 use Rattle.version_cell.proofs.Keeps.{looks}
