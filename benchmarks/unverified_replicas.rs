@@ -1,13 +1,14 @@
 //! A replicated page table in plain Rust, with no proof, to compare with `Replicas`, and one page table under a lock:
 //!     rustc -O -C target-cpu=x86-64-v2 benchmarks/unverified_replicas.rs
-//!     ./unverified_replicas replicas|mutex|rwlock THREADS REPLICAS CALLS READS
+//!     ./unverified_replicas replicas|cell|mutex|rwlock THREADS REPLICAS CALLS READS
+//! The log of `replicas` has a cache line for each tail; that of `cell` lies in one cell, as that of the proved program does.
 //! 16,384 pages of 4 KiB are mapped first. Then each thread makes so many calls, of which READS in a hundred are resolves of
 //! drawn addresses, and the rest protects of drawn pages. The log has 65,536 places, so that there may be 49,152 protects in all.
 #[allow(dead_code)]
 #[path = "unverified.rs"]
 pub mod table;
 
-use std::sync::atomic::{AtomicU64, Ordering};
+use std::sync::atomic::{AtomicU64, Ordering, fence};
 use std::sync::{Mutex, MutexGuard, RwLock};
 use std::time::{Duration, Instant};
 use self::table::{Answer, Op, Space};
@@ -18,7 +19,7 @@ const RING: usize = 16;
 
 /// An update as two words.
 #[derive(Clone, Copy)]
-struct Entry {
+pub struct Entry {
     operation: u64,
     frame: u64,
 }
@@ -54,21 +55,48 @@ struct Cell {
     frame: AtomicU64,
 }
 
-/// The log: places are taken by an exchange of the tail, and filled one after another.
-struct Log {
+/// A log that replicas append to and take entries from.
+pub trait Log: Sync {
+    fn new(replicas: usize) -> Self;
+
+    /// Appends the entries, if no replica would have more than 16 to take. Where they stand.
+    fn append(&self, entries: &[Entry]) -> Option<u64>;
+
+    /// Takes all entries from this place on, for a replica that has taken those before: how many they are.
+    fn take(&self, replica: usize, from: u64, entries: &mut [Entry; RING]) -> usize;
+
+    fn tail(&self) -> u64;
+
+    /// How many entries some replica has taken.
+    fn completed(&self) -> u64;
+}
+
+/// A log whose tails lie apart. Places are taken by an exchange of the tail, and filled one after another.
+pub struct Apart {
     tail: Word,
     completed: Word,
     local: Vec<Word>,
     cells: [Cell; RING],
 }
 
-impl Log {
-    fn new(replicas: usize) -> Log {
+impl Apart {
+    /// The entry at a place that is taken, once it is filled.
+    fn entry(&self, place: u64) -> Entry {
+        let cell = &self.cells[place as usize % RING];
+        let mut waits = Waits(0);
+        while cell.after.load(Ordering::Acquire) != place + 1 {
+            waits.wait();
+        }
+        Entry { operation: cell.operation.load(Ordering::Relaxed), frame: cell.frame.load(Ordering::Relaxed) }
+    }
+}
+
+impl Log for Apart {
+    fn new(replicas: usize) -> Apart {
         let local = (0..replicas).map(|_| Word::default()).collect();
-        Log { tail: Word::default(), completed: Word::default(), local, cells: Default::default() }
+        Apart { tail: Word::default(), completed: Word::default(), local, cells: Default::default() }
     }
 
-    /// Appends the entries, if no replica would have more than 16 to take. Where they stand.
     fn append(&self, entries: &[Entry]) -> Option<u64> {
         let mut first = self.tail.0.load(Ordering::Acquire);
         loop {
@@ -91,20 +119,126 @@ impl Log {
         Some(first)
     }
 
-    /// The entry at a place that is taken, once it is filled.
-    fn entry(&self, place: u64) -> Entry {
-        let cell = &self.cells[place as usize % RING];
-        let mut waits = Waits(0);
-        while cell.after.load(Ordering::Acquire) != place + 1 {
-            waits.wait();
+    fn take(&self, replica: usize, from: u64, entries: &mut [Entry; RING]) -> usize {
+        let to = self.tail();
+        for (place, entry) in (from..to).zip(entries.iter_mut()) {
+            *entry = self.entry(place);
         }
-        Entry { operation: cell.operation.load(Ordering::Relaxed), frame: cell.frame.load(Ordering::Relaxed) }
+        if from < to {
+            self.local[replica].0.store(to, Ordering::Release);
+            self.completed.0.fetch_max(to, Ordering::AcqRel);
+        }
+        (to - from) as usize
     }
 
-    /// A replica has taken all entries below this place.
-    fn advance(&self, replica: usize, to: u64) {
-        self.local[replica].0.store(to, Ordering::Release);
-        self.completed.0.fetch_max(to, Ordering::AcqRel);
+    fn tail(&self) -> u64 {
+        self.tail.0.load(Ordering::Acquire)
+    }
+
+    fn completed(&self) -> u64 {
+        self.completed.0.load(Ordering::Acquire)
+    }
+}
+
+/// A log in one cell, as that of the proved program is: the ring, and a version that tells the tails, which each event of any
+/// replica exchanges. It is odd while entries are written.
+pub struct OneCell {
+    replicas: usize,
+    version: Word,
+    ring: Ring,
+}
+
+#[repr(align(64))]
+#[derive(Default)]
+struct Ring([[AtomicU64; 2]; RING]);
+
+/// The tail and the local tails, of which the version has the tail and how much room each replica has.
+#[derive(Clone, Copy)]
+struct Tails {
+    tail: u64,
+    local: [u64; 4],
+}
+
+impl Tails {
+    fn of(version: u64) -> Tails {
+        let tail = version >> 21;
+        Tails { tail, local: std::array::from_fn(|n| tail + (version >> (1 + 5 * n)) % 32 - RING as u64) }
+    }
+
+    fn version(self) -> u64 {
+        let rooms = (0..4).map(|n| (self.local[n] + RING as u64 - self.tail) << (1 + 5 * n));
+        rooms.sum::<u64>() | self.tail << 21
+    }
+}
+
+impl OneCell {
+    fn exchange(&self, version: u64, next: u64) -> bool {
+        self.version.0.compare_exchange(version, next, Ordering::AcqRel, Ordering::Acquire).is_ok()
+    }
+}
+
+impl Log for OneCell {
+    fn new(replicas: usize) -> OneCell {
+        let start = Tails { tail: 0, local: [0; 4] }.version();
+        OneCell { replicas, version: Word(AtomicU64::new(start)), ring: Ring::default() }
+    }
+
+    fn append(&self, entries: &[Entry]) -> Option<u64> {
+        let mut waits = Waits(0);
+        loop {
+            let version = self.version.0.load(Ordering::Acquire);
+            let tails = Tails::of(version);
+            let end = tails.tail + entries.len() as u64;
+            assert!(end <= PLACES, "the log has ended");
+            if tails.local[..self.replicas].iter().any(|local| end > local + RING as u64) {
+                return None;
+            }
+            if version % 2 == 0 && self.exchange(version, version + 1) {
+                fence(Ordering::Release);
+                for (place, entry) in (tails.tail..).zip(entries) {
+                    let words = &self.ring.0[place as usize % RING];
+                    words[0].store(entry.operation, Ordering::Relaxed);
+                    words[1].store(entry.frame, Ordering::Relaxed);
+                }
+                // A replica that isn't there has always taken all.
+                let local = std::array::from_fn(|n| if n < self.replicas { tails.local[n] } else { end });
+                self.version.0.store(Tails { tail: end, local }.version(), Ordering::Release);
+                return Some(tails.tail);
+            }
+            waits.wait();
+        }
+    }
+
+    fn take(&self, replica: usize, from: u64, entries: &mut [Entry; RING]) -> usize {
+        let mut waits = Waits(0);
+        loop {
+            let version = self.version.0.load(Ordering::Acquire);
+            let mut tails = Tails::of(version);
+            if from == tails.tail {
+                return 0;
+            }
+            if version % 2 == 0 {
+                for (place, entry) in (from..tails.tail).zip(entries.iter_mut()) {
+                    let words = &self.ring.0[place as usize % RING];
+                    *entry = Entry { operation: words[0].load(Ordering::Relaxed), frame: words[1].load(Ordering::Relaxed) };
+                }
+                fence(Ordering::Acquire);
+                tails.local[replica] = tails.tail;
+                if self.exchange(version, tails.version()) {
+                    return (tails.tail - from) as usize;
+                }
+            }
+            waits.wait();
+        }
+    }
+
+    fn tail(&self) -> u64 {
+        Tails::of(self.version.0.load(Ordering::Acquire)).tail
+    }
+
+    fn completed(&self) -> u64 {
+        let tails = Tails::of(self.version.0.load(Ordering::Acquire));
+        tails.local[..self.replicas].iter().copied().max().unwrap_or(0)
     }
 }
 
@@ -125,32 +259,31 @@ struct Node {
     first: Option<u64>,
 }
 
+/// A replica shares no cache line, nor the one beside it, with another.
+#[repr(align(128))]
 pub struct Replica {
     number: usize,
     node: Mutex<Node>,
     slots: Vec<Mutex<Slot>>,
 }
 
-pub struct Replicas {
-    log: Log,
+pub struct Replicas<L: Log> {
+    log: L,
     pub replicas: Vec<Replica>,
 }
 
 impl Replica {
     /// Takes all entries and applies them, and leaves the answers of the batch in the slots.
-    fn catch_up(&self, node: &mut Node, log: &Log) {
-        let (from, to) = (node.applied, log.tail.0.load(Ordering::Acquire));
-        if from == to {
+    fn catch_up(&self, node: &mut Node, log: &impl Log) {
+        let from = node.applied;
+        let mut entries = [Entry { operation: 0, frame: 0 }; RING];
+        let taken = log.take(self.number, from, &mut entries);
+        if taken == 0 {
             return;
         }
-        let mut taken = [Entry { operation: 0, frame: 0 }; RING];
-        let taken = &mut taken[..(to - from) as usize];
-        for (place, entry) in (from..).zip(taken.iter_mut()) {
-            *entry = log.entry(place);
-        }
-        log.advance(self.number, to);
+        let to = from + taken as u64;
         let own = node.first.unwrap_or(to);
-        for (place, entry) in (from..).zip(taken.iter()) {
+        for (place, entry) in (from..).zip(&entries[..taken]) {
             let answer = node.space.apply(op_of(*entry));
             if let Some(thread) = place.checked_sub(own).and_then(|n| node.threads.get(n as usize)) {
                 *self.slots[*thread].lock().unwrap() = Slot::Ready(place, answer);
@@ -171,7 +304,7 @@ impl Replica {
     }
 
     /// Collects updates, puts them into the log and catches up. Answers whether the log was full.
-    fn combine(&self, node: &mut Node, log: &Log) -> bool {
+    fn combine(&self, node: &mut Node, log: &impl Log) -> bool {
         if node.threads.is_empty() {
             for (thread, slot) in self.slots.iter().enumerate() {
                 let mut slot = slot.lock().unwrap();
@@ -214,8 +347,8 @@ impl Waits {
     }
 }
 
-impl Replicas {
-    pub fn new(replicas: usize, threads: usize) -> Replicas {
+impl<L: Log> Replicas<L> {
+    pub fn new(replicas: usize, threads: usize) -> Replicas<L> {
         let node = || Node {
             space: Space::new(4),
             applied: 0,
@@ -228,7 +361,7 @@ impl Replicas {
             node: Mutex::new(node()),
             slots: (0..threads).map(|_| Mutex::new(Slot::Empty)).collect(),
         };
-        Replicas { log: Log::new(replicas), replicas: (0..replicas).map(replica).collect() }
+        Replicas { log: L::new(replicas), replicas: (0..replicas).map(replica).collect() }
     }
 
     pub fn update(&self, thread: usize, op: Op) -> (u64, Answer) {
@@ -258,7 +391,7 @@ impl Replicas {
 
     pub fn read(&self, thread: usize, address: u64) -> (u64, Answer) {
         let home = &self.replicas[thread % self.replicas.len()];
-        let completed = self.log.completed.0.load(Ordering::Acquire);
+        let completed = self.log.completed();
         let mut waits = Waits(0);
         loop {
             let Some(mut node) = waits.lock(&home.node) else {
@@ -277,7 +410,7 @@ impl Replicas {
         for replica in &self.replicas {
             replica.catch_up(&mut replica.node.lock().unwrap(), &self.log);
         }
-        self.log.tail.0.load(Ordering::Acquire)
+        self.log.tail()
     }
 }
 
@@ -324,23 +457,27 @@ fn in_threads(threads: usize, work: impl Fn(usize) -> Done + Sync) -> (Vec<Done>
     (done, start.elapsed())
 }
 
+/// The calls on replicas.
+fn on_replicas<L: Log>(threads: usize, replicas: usize, each: u64, reads: u64) -> (Vec<Done>, Duration) {
+    let service = Replicas::<L>::new(replicas, threads);
+    maps().for_each(|op| {
+        service.update(0, op);
+    });
+    in_threads(threads, |thread| {
+        calls(thread, each, reads, |op, address| match op {
+            Some(op) => service.update(thread, op).1,
+            None => service.read(thread, address).1,
+        })
+    })
+}
+
 fn main() {
     let words: Vec<String> = std::env::args().collect();
     let number = |n: usize| words[n].parse::<u64>().expect("a number");
     let (threads, replicas, each, reads) = (number(2) as usize, number(3) as usize, number(4), number(5));
     let (done, time) = match words[1].as_str() {
-        "replicas" => {
-            let service = Replicas::new(replicas, threads);
-            maps().for_each(|op| {
-                service.update(0, op);
-            });
-            in_threads(threads, |thread| {
-                calls(thread, each, reads, |op, address| match op {
-                    Some(op) => service.update(thread, op).1,
-                    None => service.read(thread, address).1,
-                })
-            })
-        }
+        "replicas" => on_replicas::<Apart>(threads, replicas, each, reads),
+        "cell" => on_replicas::<OneCell>(threads, replicas, each, reads),
         "mutex" => {
             let space = Mutex::new(Space::new(4));
             maps().for_each(|op| {
@@ -365,7 +502,7 @@ fn main() {
                 })
             })
         }
-        _ => panic!("replicas, mutex or rwlock"),
+        _ => panic!("replicas, cell, mutex or rwlock"),
     };
     for done in done {
         println!("reads {} updates {} sum {}", done.reads, done.updates, done.sum);

@@ -8,7 +8,7 @@
 mod replicas;
 
 use replicas::table::{Answer, Op};
-use replicas::Replicas;
+use replicas::{Apart, Replicas};
 use std::fmt::Write as _;
 use std::io::{Read, Write};
 use std::sync::atomic::{AtomicU64, Ordering};
@@ -56,7 +56,7 @@ fn script(text: &str) -> Vec<Vec<Request>> {
 }
 
 /// Makes a thread's calls, each with a stamp before it and one after it.
-fn work(service: &Replicas, clock: &AtomicU64, thread: usize, requests: &[Request]) -> Vec<Made> {
+fn work(service: &Replicas<Apart>, clock: &AtomicU64, thread: usize, requests: &[Request]) -> Vec<Made> {
     let mut made = Vec::with_capacity(requests.len());
     for request in requests {
         let called = clock.fetch_add(1, Ordering::AcqRel);
@@ -115,7 +115,7 @@ fn reply_bytes(made: &Made) -> [u8; 24] {
     bytes
 }
 
-fn trace(service: &mut Replicas, runs: &[Vec<Made>]) -> Vec<u8> {
+fn trace(service: &mut Replicas<Apart>, runs: &[Vec<Made>]) -> Vec<u8> {
     let count: usize = runs.iter().map(|made| 2 * made.len()).sum();
     let (mut log, mut events) = (vec![0u32; service.settle() as usize], vec![[0; 24]; count]);
     for (thread, made) in runs.iter().enumerate() {
@@ -168,7 +168,7 @@ fn main() {
     let mut lines = String::new();
     std::io::stdin().read_to_string(&mut lines).expect("a script");
     let scripts = script(&lines);
-    let mut service = Replicas::new(words[1].parse().expect("a number of replicas"), scripts.len());
+    let mut service = Replicas::<Apart>::new(words[1].parse().expect("a number of replicas"), scripts.len());
     let clock = AtomicU64::new(0);
     let runs: Vec<Vec<Made>> = std::thread::scope(|scope| {
         let (service, clock) = (&service, &clock);
