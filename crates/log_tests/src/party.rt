@@ -122,8 +122,19 @@ impl<'a, N: LogName, K: OfLog> Party<'a, N, K> {
 
     /// Appends 16 entries of this call.
     pub fn append_all<R: Wait + Abort>(&mut self, rt: &R, call: u32) -> Result<u32, AppendFault> {
+        self.append_some(rt, 16, call)
+    }
+
+    /// Appends so many entries of this call, 1 to 16.
+    pub fn append_some<R: Wait + Abort>(
+        &mut self,
+        rt: &R,
+        count: usize,
+        call: u32,
+    ) -> Result<u32, AppendFault> {
+        assert!(rt; 1 <= count && count <= 16);
         let batch = [entry(rt, self.depth, call); 16];
-        self.log.append(rt, &mut self.pass, &batch)
+        self.log.append(rt, &mut self.pass, &batch[..count])
     }
 
     /// What its replica has still to take; nothing where it owns none.
@@ -170,6 +181,17 @@ impl<'a, N: LogName, K: OfLog> Party<'a, N, K> {
     ) -> Result<(), Moved> {
         let tails = self.look();
         assert!(rt; other.append(rt, call) == Ok(tails.tail));
+        self.advance_from(rt, tails, tails.tail)
+    }
+
+    /// Looks, and advances its replica to the tail that it saw after the replica of another party has taken all entries, if it owns one.
+    pub fn advance_after_another<R: Wait + Abort>(
+        &mut self,
+        rt: &R,
+        other: &mut Party<'a, N, K>,
+    ) -> Result<(), Moved> {
+        let tails = self.look();
+        assert!(rt; other.advance(rt).is_ok());
         self.advance_from(rt, tails, tails.tail)
     }
 

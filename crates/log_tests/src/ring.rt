@@ -5,7 +5,7 @@ use crate::steps::{Does, Step};
 use std::test::Fail;
 use vs_types::Depth;
 
-static FILLS_AND_FREES: [Step; 12] = [
+static FILLS_AND_FREES: [Step; 13] = [
     Step(2, Does::AppendsAll(0, 0)),
     Step(2, Does::IsFull(16, 0, [0, 0, 0, 0])),
     Step(0, Does::Fetches(&[0; 16])),
@@ -18,6 +18,7 @@ static FILLS_AND_FREES: [Step; 12] = [
         1,
         Does::Fetches(&[0, 0, 0, 0, 0, 0, 0, 0, 0, 0, 0, 0, 0, 0, 0, 1]),
     ),
+    Step(0, Does::Looks(17, 16, [16, 1, 0, 0])),
     Step(0, Does::IsTold(0)),
     Step(0, Does::Looks(17, 16, [16, 1, 0, 0])),
     Step(1, Does::Looks(17, 16, [16, 1, 0, 0])),
@@ -31,12 +32,13 @@ static ADVANCE_MEETS_ANOTHER_EVENT: [Step; 5] = [
     Step(2, Does::Looks(2, 1, [1, 0, 0, 0])),
 ];
 
-static LOOKS_SEE_OTHER_PASSES: [Step; 16] = [
+static LOOKS_SEE_OTHER_PASSES: [Step; 17] = [
     Step(0, Does::Looks(0, 0, [0, 0, 0, 0])),
     Step(2, Does::Appends(1, 0)),
     Step(2, Does::Looks(1, 0, [0, 0, 0, 0])),
     Step(0, Does::Looks(1, 0, [0, 0, 0, 0])),
     Step(0, Does::Advances(1)),
+    Step(0, Does::Fetches(&[])),
     Step(0, Does::Looks(1, 1, [1, 0, 0, 0])),
     Step(2, Does::Looks(1, 1, [1, 0, 0, 0])),
     Step(1, Does::Looks(1, 1, [1, 0, 0, 0])),
@@ -105,6 +107,12 @@ fn looks_see_what_refused(rt: HostRuntime) -> Result<(), Fail> {
 #[test]
 fn log_ends(rt: HostRuntime) -> Result<(), Fail> {
     run(&rt, rt.alloc(), Layout::new(Depth::Four, 1, 0), Test::Fill)
+}
+
+#[test]
+fn batches_of_each_size(rt: HostRuntime) -> Result<(), Fail> {
+    let layout = Layout::new(Depth::Four, 1, 0);
+    run(&rt, rt.alloc(), layout, Test::Batches)
 }
 
 /// The last party of a log of three replicas, with five passes that own none, appends; the first sees it.

@@ -23,16 +23,18 @@ enum Call {
     Append,
     AppendFull,
     AdvanceLate,
+    AdvanceAfterAnother,
     Tell,
     BeTold,
 }
 
-static CALLS: [Call; 7] = [
+static CALLS: [Call; 8] = [
     Call::Look,
     Call::Fetch,
     Call::Append,
     Call::AppendFull,
     Call::AdvanceLate,
+    Call::AdvanceAfterAnother,
     Call::Tell,
     Call::BeTold,
 ];
@@ -60,6 +62,15 @@ fn advance<N: LogName, K: OfLog, R: Wait + Abort>(
     tails: &mut Tails,
 ) {
     assert!(rt; party.advance(rt).is_ok());
+    has_taken(rt, party, tails);
+}
+
+/// Its replica, if it owns one, has taken all entries.
+fn has_taken<N: LogName, K: OfLog, R: Wait + Abort>(
+    rt: &R,
+    party: &Party<N, K>,
+    tails: &mut Tails,
+) {
     let tail = tails.tail;
     let Some(replica) = party.replica() else {
         return;
@@ -107,6 +118,16 @@ fn make_call<'a, N: LogName, K: OfLog, R: Wait + Abort>(
             tails.tail = place.saturating_add(1);
             let owns = other.replica().is_some();
             assert!(rt; late == if owns { Err(Moved) } else { Ok(()) });
+        }
+        Call::AdvanceAfterAnother => {
+            append(rt, other, tails);
+            let late = other.advance_after_another(rt, first);
+            has_taken(rt, first, tails);
+            let moved = first.replica().is_some() && other.replica().is_some();
+            assert!(rt; late == if moved { Err(Moved) } else { Ok(()) });
+            if !moved {
+                has_taken(rt, other, tails);
+            }
         }
         Call::Tell => {
             other.tell(first);

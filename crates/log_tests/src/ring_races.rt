@@ -1,5 +1,5 @@
 //! Short rounds in which four threads make calls at the same time. After each round all of them look, while nobody makes an event:
-//! a pass that took its words for those of the cell though another's exchange was under way then tells old tails.
+//! a pass that took the words of before for those of the version that an exchange under way was to bring then tells old tails.
 ghost use Rattle.std.specs.Prelude.{◌≤◌};
 
 use crate::pair::{Pair, pairs};

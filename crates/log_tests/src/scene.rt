@@ -9,7 +9,7 @@ use crate::ring_calls::each_call;
 use crate::ring_fresh::run_rounds;
 use crate::ring_races::run_races;
 use crate::ring_threads::share;
-use crate::steps::{Step, fill, take_all};
+use crate::steps::{Step, append_each_size, fill, take_all};
 use nr_ring::{LogName, LogPass, OTHERS, RingLog};
 use std::alloc::Global;
 use std::marker::Brand;
@@ -26,6 +26,8 @@ pub enum Test<'s> {
     Steps(&'s [Step]),
     /// They fill it to its end.
     Fill,
+    /// They append batches of each size, and take them.
+    Batches,
     /// Each makes each call after each event of another.
     EachCall,
     /// They make calls at the same time, and no look is old.
@@ -121,6 +123,7 @@ fn make_calls<N: LogName + Send + Sync, K: OfLog + Send + Sync, R: Wait + Abort 
     match test {
         Test::Steps(steps) => take_all(rt, parties, steps),
         Test::Fill => fill(rt, parties),
+        Test::Batches => append_each_size(rt, parties),
         Test::EachCall => each_call(rt, parties),
         Test::Rounds => run_rounds(rt, alloc, parties),
         Test::Races => run_races(rt, alloc, parties),

@@ -106,3 +106,20 @@ pub fn fill<N: LogName, K: OfLog, R: Wait + Abort>(
     assert!(rt; party.append(rt, 1) == Err(AppendFault::LogEnded));
     Ok(())
 }
+
+/// The only party appends a batch of each size, and its replica takes each before the next.
+pub fn append_each_size<N: LogName, K: OfLog, R: Wait + Abort>(
+    rt: &R,
+    parties: Vec<Party<N, K>>,
+) -> Result<(), Fail> {
+    let mut parties = parties;
+    let party = parties.first_mut().expect(rt, "a party");
+    let mut place = 0u32;
+    for count in 1..17 {
+        assert!(rt; party.append_some(rt, count, place) == Ok(place));
+        assert!(rt; party.fetches(rt, &[place; 16][..count]));
+        place = place.saturating_add(count as u32);
+        assert!(rt; party.advance_to(rt, place).is_ok());
+    }
+    Ok(())
+}

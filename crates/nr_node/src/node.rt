@@ -256,7 +256,7 @@ impl<S: FrameStore, J: LogName> Node<S, J> {
         self.replica.dump()
     }
 
-    /// Tells another pass of its log what it has seen. One load of the log's cell.
+    /// Tells another pass of its log what it has seen. It waits for nobody.
     pub fn tell(&mut self, log: &RingLog<J>, told: &mut LogPass<J>)
         requires log { (self.old.known.log ≡ log.now) × (told.old.log ≡ log.now) }
         ensures same { self.new ≡ self.old }

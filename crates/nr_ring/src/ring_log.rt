@@ -138,7 +138,7 @@ impl<J: LogName> RingLog<J> {
     /// Raises the local tail of the replica that the pass owns to a place, and the completed tail to it where that is lower.
     /// Where the local tail is there already, nothing is exchanged.
     ///
-    /// Where another pass's event has come it may wait for the cell.
+    /// Waits for another pass's append that is under way.
     ///
     /// # Errors
     ///
@@ -201,7 +201,7 @@ impl<J: LogName> RingLog<J> {
 
     /// Looks, and then appends 1 to 16 entries at the log's depth: the place of the first.
     ///
-    /// Waits for the cell.
+    /// Waits for another pass's append that is under way.
     ///
     /// # Errors
     ///
@@ -261,7 +261,7 @@ impl<J: LogName> RingLog<J> {
     /// Looks, and gives all entries from the local tail of the replica that the pass owns to the tail, in order. The vector is
     /// empty.
     ///
-    /// Waits for the cell.
+    /// Waits for another pass's append that is under way, and while others' events come.
     pub fn fetch<R: Wait>(
         &self,
         rt: &R,
@@ -348,7 +348,7 @@ impl<J: LogName> RingLog<J> {
     }
 
     /// Tells one pass what another has seen: what `told` has then seen begins with all that either had seen, and nobody has
-    /// advanced the replica that it owns since it last saw the log itself. One load of the cell.
+    /// advanced the replica that it owns since it last saw the log itself. It ends with a look, and waits for nobody.
     pub fn meet(&self, pass: &mut LogPass<J>, told: &mut LogPass<J>)
         requires log { (pass.old.log ≡ self.now) × (told.old.log ≡ self.now) }
         ensures pass { pass.new ≡ pass.old }

@@ -102,8 +102,9 @@ impl<V, P: CellRule<V>, const H: usize, const N: usize> VersionCell<V, P, H, N> 
         }
     }
 
-    /// Loads the words at these places, which the version doesn't tell, and then looks. Whether the look found the words that the
-    /// pass saw before: the words that were loaded are these then. Where it didn't, another pass has changed the words, or is about to.
+    /// Loads the words at these places, which the version doesn't tell, and then looks. Whether the look found the very version of the
+    /// words that the pass saw before: the words that were loaded are these then. Else another pass has changed the words, or is
+    /// changing them, and what was loaded counts for nothing.
     pub fn load_as<M: CellOutcome<V>>(
         &self,
         pass: &mut Pass<V, H, N>,
@@ -132,7 +133,7 @@ impl<V, P: CellRule<V>, const H: usize, const N: usize> VersionCell<V, P, H, N> 
         false
     }
 
-    /// Looks when the words are no longer those of the pass.
+    /// Waits until the words are no longer those of the pass, and looks.
     #[cold]
     #[inline(never)]
     fn look_later<M: CellOutcome<V>, R: Wait>(&self, rt: &R, pass: &mut Pass<V, H, N>)
@@ -152,8 +153,8 @@ impl<V, P: CellRule<V>, const H: usize, const N: usize> VersionCell<V, P, H, N> 
     /// Changes the words, each change putting a word at a place, where those of the pass are still those of the cell. Else it
     /// looks, and the words that it finds have come further. The code is that of the words after the changes.
     ///
-    /// Where the code tells all that is new, this is one step that waits for nobody. Otherwise it may wait for the cell, which
-    /// another pass may be changing.
+    /// An exchange that is made waits for nobody, and is one step where the code tells all that is new. One that isn't may wait for a
+    /// pass that is changing the cell.
     pub fn exchange_as<E: CellOutcome<V>, M: CellOutcome<V>, R: Wait>(
         &self,
         rt: &R,

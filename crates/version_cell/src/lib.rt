@@ -1,7 +1,7 @@
 //! A cell of words with a version: threads read the words as one and exchange them as one, under a rule of the caller's.
 //!
-//! A pass keeps the words that it saw last. As long as the version is that of its words, they are those of the cell, and a look
-//! is one load.
+//! A pass keeps the version of the words that it saw last, and the first of them, which that tells. So a look is one load. The other
+//! words are loaded when they are needed.
 #![tactic(auto)]
 
 mod cell;

@@ -44,7 +44,7 @@ pub(crate) fn change_head<const H: usize>(head: &mut [u64; H], changes: &[(usize
     }
 }
 
-/// Waits for a version other than the one of the words that the seat has seen.
+/// Waits for a version of later words than those that the seat has seen.
 pub(crate) fn wait_for_change<R: Wait, V, P: CellRule<V>, const H: usize, const N: usize>(
     rt: &R,
     table: &Shared<(), Doing<V>, Vec<u64>, Versions<P, H>>,
