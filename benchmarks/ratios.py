@@ -4,8 +4,10 @@ after one another, and prints the medians side by side. The names are those of t
 
 Each line: a workload and an operation, millions of operations a second of the first command and of the second, and
 how many times as fast the first is. Which of two neighbouring runs comes first is drawn. The ratio is the median of the
-ratios of neighbouring runs, which a change of the machine's speed disturbs least.
+ratios of neighbouring runs, which a change of the machine's speed disturbs least. The size of a program's environment moves its stack,
+which alone makes some rows a fifth faster or slower: each run has one of a drawn size.
 """
+import os
 import random
 import statistics
 import subprocess
@@ -14,7 +16,8 @@ import sys
 
 def rates(command):
     """The operations a second of one run, by workload and operation: the first line of standard error names the operations."""
-    text = subprocess.run(command.split(), capture_output=True, text=True, check=True).stderr
+    environment = os.environ | {"PADDING": "x" * random.randrange(4096)}
+    text = subprocess.run(command.split(), capture_output=True, text=True, check=True, env=environment).stderr
     head, *lines = [line.split() for line in text.splitlines()]
     return {(line[0], name): int(rate) for line in lines for name, rate in zip(head[3:], line[1:])}
 
