@@ -7,7 +7,7 @@ ghost use Rattle.version_cell.specs.Heads.{IsCoded};
 use crate::pass::Pass;
 use crate::plays::{Cut, Glue, Look, Versions};
 use crate::rule::{CellOutcome, CellRule};
-use crate::seats::{change_head, exchange, load_each, put_head, wait_for_change};
+use crate::seats::{change_head, exchange, load_each, put_head, turn_to, wait_for_change};
 use crate::stage::Doing;
 use atomic_table::{Join, Split, Table};
 use std::alloc::{AllocError, Global};
@@ -97,8 +97,7 @@ impl<V, P: CellRule<V>, const H: usize, const N: usize> VersionCell<V, P, H, N> 
             .shared
             .load::<Look<P, M, H, N>>(&mut pass.seat, 0);
         if found != pass.version {
-            pass.version = 2 * (found / 2);
-            put_head::<V, P, H>(found / 2, &mut pass.head);
+            turn_to::<V, P, H>(found, &mut pass.version, &mut pass.head);
         }
     }
 
@@ -128,8 +127,7 @@ impl<V, P: CellRule<V>, const H: usize, const N: usize> VersionCell<V, P, H, N> 
         if found == pass.version {
             return true;
         }
-        pass.version = 2 * (found / 2);
-        put_head::<V, P, H>(found / 2, &mut pass.head);
+        turn_to::<V, P, H>(found, &mut pass.version, &mut pass.head);
         false
     }
 
@@ -146,8 +144,7 @@ impl<V, P: CellRule<V>, const H: usize, const N: usize> VersionCell<V, P, H, N> 
         let table = &self.table.shared;
         wait_for_change::<R, V, P, H, N>(rt, table, &mut pass.seat, pass.version);
         let found = table.load::<Look<P, M, H, N>>(&mut pass.seat, 0);
-        pass.version = 2 * (found / 2);
-        put_head::<V, P, H>(found / 2, &mut pass.head);
+        turn_to::<V, P, H>(found, &mut pass.version, &mut pass.head);
     }
 
     /// Changes the words, each change putting a word at a place, where those of the pass are still those of the cell. Else it
@@ -177,41 +174,15 @@ impl<V, P: CellRule<V>, const H: usize, const N: usize> VersionCell<V, P, H, N> 
             ((P.code pass.old.words < P.code pass.new.words)
             × M.then pass.old.view pass.new.words pass.new.words pass.new.view) }
     {
-        if self.try_exchange::<E>(pass, code, changes) {
+        let (version, next) = (pass.version, 2 * code);
+        let table = &self.table.shared;
+        if exchange::<E, V, P, H, N>(table, &mut pass.seat, version, next, changes) {
+            pass.version = next;
+            change_head::<H>(&mut pass.head, changes);
             return true;
         }
         self.look_later::<M, R>(rt, pass);
         false
-    }
-
-    /// Changes the words where those of the pass are still those of the cell. Else nothing is changed.
-    fn try_exchange<E: CellOutcome<V>>(
-        &self,
-        pass: &mut Pass<V, H, N>,
-        code: u64,
-        changes: &[(usize, u64)],
-    ) -> bool
-        requires cell { pass.old.cell ≡ self.now }
-        requires places { All (λ change. change.0 < N) changes.now }
-        requires code { (code ≡ P.code (changed pass.old.words changes.now)) × (code < 2 ^ 63) }
-        requires coded { IsCoded P.code P.head H (changed pass.old.words changes.now) }
-        requires rule { TurnsAt P.holds pass.old.number pass.old.view
-            pass.old.words (changed pass.old.words changes.now) E.then }
-        requires rises { P.code pass.old.words < code }
-        ensures same { (pass.new.cell ≡ pass.old.cell) × (pass.new.number ≡ pass.old.number) }
-        ensures rule { MatchBool result
-            ((pass.new.words ≡ changed pass.old.words changes.now)
-            × E.then pass.old.view pass.old.words pass.new.words pass.new.view)
-            (pass.new ≡ pass.old) }
-    {
-        let (version, next) = (pass.version, 2 * code);
-        let table = &self.table.shared;
-        if !exchange::<E, V, P, H, N>(table, &mut pass.seat, version, next, changes) {
-            return false;
-        }
-        pass.version = next;
-        change_head::<H>(&mut pass.head, changes);
-        true
     }
 
     /// Tells one pass what another has seen: it takes in a part that is cut off the other's view, and then it looks. Where it has

@@ -1,5 +1,5 @@
 //! The steps of a seat at the table of a cell, which reads the words and writes them.
-ghost use Rattle.std.specs.Prelude.{◌≡◌, ◌≤◌, ◌+◌, ◌*◌, ◌^◌, ◌<◌, ◌↔◌, ℕ, List, All, IsTrue, MatchBool, length, slice_set};
+ghost use Rattle.std.specs.Prelude.{◌/◌, ◌≡◌, ◌≤◌, ◌+◌, ◌*◌, ◌^◌, ◌<◌, ◌↔◌, ℕ, List, All, IsTrue, MatchBool, length, slice_set};
 ghost use Rattle.crossbeam_utils.specs.Register.{TurnsAt};
 ghost use Rattle.version_cell.specs.Changes.{changed};
 ghost use Rattle.version_cell.specs.Heads.{IsCoded};
@@ -22,6 +22,19 @@ pub(crate) fn put_head<V, P: CellRule<V>, const H: usize>(code: u64, head: &mut 
     for place in 0..H {
         head[place] = P::word(code, place);
     }
+}
+
+/// Puts the version of the words that stand where this one was found, and the first of those words.
+pub(crate) fn turn_to<V, P: CellRule<V>, const H: usize>(
+    found: u64,
+    version: &mut u64,
+    head: &mut [u64; H],
+)
+    ensures version { version.new ≡ 2 * (found / 2) }
+    ensures head { IsHead P.head (found / 2) H head.new }
+{
+    *version = 2 * (found / 2);
+    put_head::<V, P, H>(found / 2, head);
 }
 
 /// Puts a word at a place, if it is one of the first.
