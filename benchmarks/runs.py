@@ -1,10 +1,12 @@
 #!/usr/bin/env python3
-"""Times `nrvs run` beside the same in plain Rust with no proof and no verdict, on a script of 65,536 requests by 8 threads.
+"""Times `nrvs run` beside plain Rust with no proof, on a script of 65,536 requests by 8 threads.
 
     benchmarks/runs.py [RUNS]
 
-Build `nrvs` first. Half of the requests resolve a drawn address of 4,096 pages, the others map, protect or unmap a drawn page. Prints of
-1 and 4 replicas the seconds and the peak memory of each (medians of RUNS runs of each in turn), and the ratio of the seconds.
+Build `nrvs` first. Half of the requests resolve a drawn address of 4,096 pages, the others map, protect or unmap a drawn page. The plain
+programs: the same design, whose trace is judged too; the same design with no verdict; and a design whose tails lie apart, which keeps no
+answers, with no verdict. Prints of 1 and 4 replicas the seconds and the peak memory of each (medians of RUNS runs of all in drawn order),
+and how many times as fast as it `nrvs run` is, by the median of the ratios of neighbouring runs.
 """
 import os
 import random
@@ -16,6 +18,7 @@ import time
 
 REQUESTS, THREADS, PAGES = 65536, 8, 4096
 NRVS = "crates/nrvs/out/nrvs"
+PLAIN = {"same, judged": ("same", "judged"), "same": ("same", "answers"), "tails apart": ("replicas", "answers")}
 
 
 def script():
@@ -28,9 +31,10 @@ def script():
 
 def timed(words, path):
     """The seconds and the peak memory in KB of one run."""
+    environment = os.environ | {"PADDING": "x" * random.randrange(4096)}
     with open(path) as source, open(os.devnull, "w") as out:
         start = time.perf_counter()
-        running = subprocess.Popen(words, stdin=source, stdout=out)
+        running = subprocess.Popen(words, stdin=source, stdout=out, env=environment)
         _, status, used = os.wait4(running.pid, 0)
         seconds = time.perf_counter() - start
     running.returncode = status
@@ -39,21 +43,31 @@ def timed(words, path):
     return seconds, used.ru_maxrss
 
 
+def show(replicas, found):
+    """The lines of the programs, of which the first is `nrvs run`, from what each round found of each."""
+    for number, name in enumerate(["nrvs run", *PLAIN]):
+        seconds, peak = (statistics.median(each) for each in zip(*(line[number] for line in found)))
+        ratio = statistics.median(line[number][0] / line[0][0] for line in found)
+        print(f"{replicas:8}  {name:16} {seconds:8.3f} {ratio:7.2f} {peak:9.0f}")
+
+
 def main(runs):
     with tempfile.TemporaryDirectory() as work:
         path, plain = f"{work}/script", f"{work}/unverified_run"
         with open(path, "w") as out:
             out.writelines(f"{thread} {request}\n" for thread, request in script())
         subprocess.run(["rustc", "-O", "-C", "target-cpu=x86-64-v2", "benchmarks/unverified_run.rs", "-o", plain], check=True)
-        print("replicas   proved s   plain s   ratio   proved KB   plain KB")
+        print("replicas  program                 s   ratio   peak KB")
         for replicas in "1", "4":
-            both = [NRVS, "run", "--replicas", replicas], [plain, replicas]
-            traced = subprocess.run(both[1] + ["trace"], stdin=open(path), stdout=subprocess.PIPE, check=True).stdout
+            programs = [[NRVS, "run", "--replicas", replicas], *([plain, design, replicas, shown] for design, shown in PLAIN.values())]
+            traced = subprocess.run([plain, "same", replicas, "trace"], stdin=open(path), stdout=subprocess.PIPE, check=True).stdout
             if not subprocess.run([NRVS, "audit"], input=traced, stdout=subprocess.PIPE).stdout.startswith(b"yes"):
                 sys.exit("the plain program's trace is not right")
-            found = [timed(words, path) for _ in range(runs) for words in both]
-            (proved, peak), (other, peak_of_other) = (map(statistics.median, zip(*found[which::2])) for which in (0, 1))
-            print(f"{replicas:8} {proved:10.3f} {other:9.3f} {other / proved:7.2f} {peak:11.0f} {peak_of_other:10.0f}")
+            found = []
+            for _ in range(runs):
+                times = {number: timed(programs[number], path) for number in random.sample(range(len(programs)), len(programs))}
+                found.append([times[number] for number in range(len(programs))])
+            show(replicas, found)
 
 
 if __name__ == "__main__":

@@ -106,7 +106,7 @@ pub enum Op {
     Protect(u64, u64),
 }
 
-#[derive(Clone, Copy)]
+#[derive(Clone, Copy, PartialEq)]
 pub enum Answer {
     Done,
     Overlap,

@@ -1,7 +1,8 @@
 //! A replicated page table in plain Rust, with no proof, to compare with `Replicas`, and one page table under a lock:
 //!     rustc -O -C target-cpu=x86-64-v2 benchmarks/unverified_replicas.rs
-//!     ./unverified_replicas replicas|cell|mutex|rwlock THREADS REPLICAS CALLS READS
-//! The log of `replicas` has a cache line for each tail; that of `cell` lies in one cell, as that of the proved program does.
+//!     ./unverified_replicas same|cell|replicas|mutex|rwlock THREADS REPLICAS CALLS READS
+//! `same` is the design of the proved program: its log lies in one cell, each replica keeps the entries that it has applied with their
+//! answers, and an update is confirmed by them. `cell` does without the last two, and the log of `replicas` has a cache line for each tail.
 //! 16,384 pages of 4 KiB are mapped first. Then each thread makes so many calls, of which READS in a hundred are resolves of
 //! drawn addresses, and the rest protects of drawn pages. The log has 65,536 places, so that there may be 49,152 protects in all.
 #[allow(dead_code)]
@@ -18,7 +19,7 @@ const PLACES: u64 = 65_536;
 const RING: usize = 16;
 
 /// An update as two words.
-#[derive(Clone, Copy)]
+#[derive(Clone, Copy, PartialEq)]
 pub struct Entry {
     operation: u64,
     frame: u64,
@@ -257,6 +258,8 @@ struct Node {
     threads: Vec<usize>,
     entries: Vec<Entry>,
     first: Option<u64>,
+    /// The entries that it has applied, each with its answer, where they are kept.
+    told: Vec<(Entry, Answer)>,
 }
 
 /// A replica shares no cache line, nor the one beside it, with another.
@@ -267,14 +270,15 @@ pub struct Replica {
     slots: Vec<Mutex<Slot>>,
 }
 
-pub struct Replicas<L: Log> {
+/// With `KEEPS` each replica keeps what it has applied, and an update is confirmed by that.
+pub struct Replicas<L: Log, const KEEPS: bool> {
     log: L,
     pub replicas: Vec<Replica>,
 }
 
 impl Replica {
     /// Takes all entries and applies them, and leaves the answers of the batch in the slots.
-    fn catch_up(&self, node: &mut Node, log: &impl Log) {
+    fn catch_up<const KEEPS: bool>(&self, node: &mut Node, log: &impl Log) {
         let from = node.applied;
         let mut entries = [Entry { operation: 0, frame: 0 }; RING];
         let taken = log.take(self.number, from, &mut entries);
@@ -285,6 +289,9 @@ impl Replica {
         let own = node.first.unwrap_or(to);
         for (place, entry) in (from..).zip(&entries[..taken]) {
             let answer = node.space.apply(op_of(*entry));
+            if KEEPS {
+                node.told.push((*entry, answer));
+            }
             if let Some(thread) = place.checked_sub(own).and_then(|n| node.threads.get(n as usize)) {
                 *self.slots[*thread].lock().unwrap() = Slot::Ready(place, answer);
             }
@@ -296,6 +303,12 @@ impl Replica {
         }
     }
 
+    /// Tests that an update stands at its place, which is not below this one, and was answered so.
+    fn confirm(&self, from: u64, place: u64, entry: Entry, answer: Answer) {
+        let node = self.node.lock().unwrap();
+        assert!(place >= from && node.told[place as usize] == (entry, answer), "not confirmed");
+    }
+
     /// Adds its part of a trace: how many entries it has applied, and its page table.
     pub fn dump(&mut self, bytes: &mut Vec<u8>) {
         let node = self.node.get_mut().unwrap();
@@ -304,7 +317,7 @@ impl Replica {
     }
 
     /// Collects updates, puts them into the log and catches up. Answers whether the log was full.
-    fn combine(&self, node: &mut Node, log: &impl Log) -> bool {
+    fn combine<const KEEPS: bool>(&self, node: &mut Node, log: &impl Log) -> bool {
         if node.threads.is_empty() {
             for (thread, slot) in self.slots.iter().enumerate() {
                 let mut slot = slot.lock().unwrap();
@@ -323,7 +336,7 @@ impl Replica {
             node.first = log.append(&node.entries);
             full = node.first.is_none();
         }
-        self.catch_up(node, log);
+        self.catch_up::<KEEPS>(node, log);
         full
     }
 }
@@ -347,14 +360,15 @@ impl Waits {
     }
 }
 
-impl<L: Log> Replicas<L> {
-    pub fn new(replicas: usize, threads: usize) -> Replicas<L> {
+impl<L: Log, const KEEPS: bool> Replicas<L, KEEPS> {
+    pub fn new(replicas: usize, threads: usize) -> Replicas<L, KEEPS> {
         let node = || Node {
             space: Space::new(4),
             applied: 0,
             threads: Vec::with_capacity(RING),
             entries: Vec::with_capacity(RING),
             first: None,
+            told: Vec::with_capacity(if KEEPS { PLACES as usize } else { 0 }),
         };
         let replica = |number| Replica {
             number,
@@ -366,12 +380,17 @@ impl<L: Log> Replicas<L> {
 
     pub fn update(&self, thread: usize, op: Op) -> (u64, Answer) {
         let home = &self.replicas[thread % self.replicas.len()];
+        let from = if KEEPS { self.log.tail() } else { 0 };
         *home.slots[thread].lock().unwrap() = Slot::Posted(entry_of(op));
         let mut waits = Waits(0);
         loop {
             let mut slot = home.slots[thread].lock().unwrap();
             if let Slot::Ready(place, answer) = *slot {
                 *slot = Slot::Empty;
+                drop(slot);
+                if KEEPS {
+                    home.confirm(from, place, entry_of(op), answer);
+                }
                 return (place, answer);
             }
             drop(slot);
@@ -379,11 +398,11 @@ impl<L: Log> Replicas<L> {
                 waits.wait();
                 continue;
             };
-            let full = home.combine(&mut node, &self.log);
+            let full = home.combine::<KEEPS>(&mut node, &self.log);
             drop(node);
             if full {
                 for replica in &self.replicas {
-                    replica.catch_up(&mut replica.node.lock().unwrap(), &self.log);
+                    replica.catch_up::<KEEPS>(&mut replica.node.lock().unwrap(), &self.log);
                 }
             }
         }
@@ -399,7 +418,7 @@ impl<L: Log> Replicas<L> {
                 continue;
             };
             if node.applied < completed {
-                home.catch_up(&mut node, &self.log);
+                home.catch_up::<KEEPS>(&mut node, &self.log);
             }
             return (node.applied, node.space.resolve(address));
         }
@@ -408,7 +427,7 @@ impl<L: Log> Replicas<L> {
     /// Has each replica apply all entries, after all threads have ended: how many there are.
     pub fn settle(&mut self) -> u64 {
         for replica in &self.replicas {
-            replica.catch_up(&mut replica.node.lock().unwrap(), &self.log);
+            replica.catch_up::<KEEPS>(&mut replica.node.lock().unwrap(), &self.log);
         }
         self.log.tail()
     }
@@ -458,8 +477,8 @@ fn in_threads(threads: usize, work: impl Fn(usize) -> Done + Sync) -> (Vec<Done>
 }
 
 /// The calls on replicas.
-fn on_replicas<L: Log>(threads: usize, replicas: usize, each: u64, reads: u64) -> (Vec<Done>, Duration) {
-    let service = Replicas::<L>::new(replicas, threads);
+fn on_replicas<L: Log, const KEEPS: bool>(threads: usize, replicas: usize, each: u64, reads: u64) -> (Vec<Done>, Duration) {
+    let service = Replicas::<L, KEEPS>::new(replicas, threads);
     maps().for_each(|op| {
         service.update(0, op);
     });
@@ -476,8 +495,9 @@ fn main() {
     let number = |n: usize| words[n].parse::<u64>().expect("a number");
     let (threads, replicas, each, reads) = (number(2) as usize, number(3) as usize, number(4), number(5));
     let (done, time) = match words[1].as_str() {
-        "replicas" => on_replicas::<Apart>(threads, replicas, each, reads),
-        "cell" => on_replicas::<OneCell>(threads, replicas, each, reads),
+        "same" => on_replicas::<OneCell, true>(threads, replicas, each, reads),
+        "cell" => on_replicas::<OneCell, false>(threads, replicas, each, reads),
+        "replicas" => on_replicas::<Apart, false>(threads, replicas, each, reads),
         "mutex" => {
             let space = Mutex::new(Space::new(4));
             maps().for_each(|op| {
@@ -502,7 +522,7 @@ fn main() {
                 })
             })
         }
-        _ => panic!("replicas, cell, mutex or rwlock"),
+        _ => panic!("same, cell, replicas, mutex or rwlock"),
     };
     for done in done {
         println!("reads {} updates {} sum {}", done.reads, done.updates, done.sum);

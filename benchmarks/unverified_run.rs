@@ -1,14 +1,16 @@
 //! A script's threads on the replicated page table in plain Rust, with no proof, recorded, to compare with `nrvs run`:
 //!     rustc -O -C target-cpu=x86-64-v2 benchmarks/unverified_run.rs
-//!     ./unverified_run REPLICAS [trace] <SCRIPT
-//! It prints the answers by thread and then by call; with `trace` the bytes of the trace in place of them. In both cases the trace is
-//! made, and nothing judges it. The script has pages of 4 KiB and no access.
+//!     ./unverified_run same|cell|replicas REPLICAS answers|judged|trace <SCRIPT
+//! The first word is the design, as in `unverified_replicas`. It makes the trace, and prints the answers by thread and then by call, or
+//! the bytes of the trace; with `judged` it audits these bytes too, and says so. The script has pages of 4 KiB and no access.
 #[allow(dead_code)]
 #[path = "unverified_replicas.rs"]
 mod replicas;
+#[path = "unverified_audit.rs"]
+mod audit;
 
 use replicas::table::{Answer, Op};
-use replicas::{Apart, Replicas};
+use replicas::{Apart, Log, OneCell, Replicas};
 use std::fmt::Write as _;
 use std::io::{Read, Write};
 use std::sync::atomic::{AtomicU64, Ordering};
@@ -56,7 +58,7 @@ fn script(text: &str) -> Vec<Vec<Request>> {
 }
 
 /// Makes a thread's calls, each with a stamp before it and one after it.
-fn work(service: &Replicas<Apart>, clock: &AtomicU64, thread: usize, requests: &[Request]) -> Vec<Made> {
+fn work<L: Log, const KEEPS: bool>(service: &Replicas<L, KEEPS>, clock: &AtomicU64, thread: usize, requests: &[Request]) -> Vec<Made> {
     let mut made = Vec::with_capacity(requests.len());
     for request in requests {
         let called = clock.fetch_add(1, Ordering::AcqRel);
@@ -115,7 +117,7 @@ fn reply_bytes(made: &Made) -> [u8; 24] {
     bytes
 }
 
-fn trace(service: &mut Replicas<Apart>, runs: &[Vec<Made>]) -> Vec<u8> {
+fn trace<L: Log, const KEEPS: bool>(service: &mut Replicas<L, KEEPS>, runs: &[Vec<Made>]) -> Vec<u8> {
     let count: usize = runs.iter().map(|made| 2 * made.len()).sum();
     let (mut log, mut events) = (vec![0u32; service.settle() as usize], vec![[0; 24]; count]);
     for (thread, made) in runs.iter().enumerate() {
@@ -163,12 +165,9 @@ fn text(runs: &[Vec<Made>]) -> String {
     text
 }
 
-fn main() {
-    let words: Vec<String> = std::env::args().collect();
-    let mut lines = String::new();
-    std::io::stdin().read_to_string(&mut lines).expect("a script");
-    let scripts = script(&lines);
-    let mut service = Replicas::<Apart>::new(words[1].parse().expect("a number of replicas"), scripts.len());
+/// What is shown of a run of the scripts.
+fn run<L: Log, const KEEPS: bool>(replicas: usize, shown: &str, scripts: &[Vec<Request>]) -> Vec<u8> {
+    let mut service = Replicas::<L, KEEPS>::new(replicas, scripts.len());
     let clock = AtomicU64::new(0);
     let runs: Vec<Vec<Made>> = std::thread::scope(|scope| {
         let (service, clock) = (&service, &clock);
@@ -177,6 +176,28 @@ fn main() {
         threads.into_iter().map(|thread| thread.join().unwrap()).collect()
     });
     let bytes = trace(&mut service, &runs);
-    let shown = if words.len() > 2 { bytes } else { text(&runs).into_bytes() };
+    if shown == "trace" {
+        return bytes;
+    }
+    let mut text = text(&runs);
+    if shown == "judged" {
+        let order = audit::judge(&bytes).expect("a right run");
+        assert!(order.len() >= runs.iter().map(Vec::len).sum());
+        text += "verified\n";
+    }
+    text.into_bytes()
+}
+
+fn main() {
+    let words: Vec<String> = std::env::args().collect();
+    let [_, design, replicas, shown] = words.as_slice() else { panic!("same|cell|replicas REPLICAS answers|judged|trace") };
+    let mut lines = String::new();
+    std::io::stdin().read_to_string(&mut lines).expect("a script");
+    let (scripts, replicas) = (script(&lines), replicas.parse().expect("a number of replicas"));
+    let shown = match design.as_str() {
+        "same" => run::<OneCell, true>(replicas, shown, &scripts),
+        "cell" => run::<OneCell, false>(replicas, shown, &scripts),
+        _ => run::<Apart, false>(replicas, shown, &scripts),
+    };
     std::io::stdout().write_all(&shown).expect("an output");
 }

@@ -1,5 +1,5 @@
 -- A text is cut at the first separator.
-use Rattle.std.proofs.Common.{◌≡◌, ℕ, ◌+◌, ◌<◌, ◌==◌, Bool, false, List, [], ◌∷◌, length, take, drop, get_or, arith, subst, sym, ◌∙◌, eq-eqb}
+use Rattle.std.proofs.Common.{◌≡◌, ℕ, ◌+◌, ◌<◌, ◌==◌, Bool, true, false, List, [], ◌∷◌, length, take, drop, get_or, arith, subst, sym, ◌∙◌, eq-eqb}
 use Rattle.std.proofs.lemmas.List.{get_or_default}
 use Rattle.std.specs.List.{position_or_len}
 use Rattle.std.proofs.lemmas.List.Splits.{slice_split_first, slice_split_none}
@@ -9,6 +9,9 @@ use Rattle.nr_script.specs.Words.{parts}
 
 other : (byte separator : ℕ) → (byte ≡ separator → ⊥) → (byte == separator) ≡ false
 other byte separator h = grind (arith, nat_tests)
+
+pub same : (byte separator : ℕ) → (byte == separator) ≡ true → byte ≡ separator
+same byte separator h = grind (arith, nat_tests)
 
 pub cut_at : (separator : ℕ) (text : List ℕ) (i : ℕ) → i < length text → ((k : ℕ) → k < i → get_or text k 0 ≡ separator → ⊥) → get_or text i 0 ≡ separator
     → parts separator text ≡ take i text ∷ parts separator (drop (i + 1) text)

@@ -4,6 +4,7 @@ ghost use Rattle.nr_script.specs.Words.{parts, words};
 ghost use Rattle.nr_script.specs.inside.Left.{parts_left};
 
 use arrayvec::ArrayVec;
+use memchr::memchr;
 
 /// The most words that are kept of a line: one more than any line has that says something.
 pub(crate) const MOST_WORDS: usize = 7;
@@ -12,12 +13,10 @@ pub(crate) const MOST_WORDS: usize = 7;
 pub(crate) fn cut(text: &[u8], separator: u8) -> (&[u8], Option<&[u8]>)
     ensures { parts separator text.now ≡ result.0.now ∷ parts_left separator result.1 }
 {
-    for (index, byte) in text.iter().enumerate() {
-        if *byte == separator {
-            return (&text[..index], Some(&text[index + 1..]));
-        }
+    match memchr(separator, text) {
+        Some(index) => (&text[..index], Some(&text[index + 1..])),
+        None => (text, None),
     }
-    (text, None)
 }
 
 /// The words of a line, or the first seven of them.

@@ -1,4 +1,3 @@
-use Rattle.std.proofs.Common.{◌∙◌}
 use Rattle.std.proofs.Common.{arith}
 use Rattle.nr_script.specs.Words.{lines}
 use Rattle.nr_script.proofs.Gathered.{first_lists}
