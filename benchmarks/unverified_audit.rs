@@ -1,5 +1,5 @@
-//! An auditor in plain Rust, with no proof, for the traces of `unverified_run`: four levels, pages of 4 KiB and no access. It reads
-//! the bytes, replays the recorded order on one page table, and compares each dump with that.
+//! An auditor in plain Rust, with no proof, for the traces of `unverified_run`: four levels, 4,096 tables, pages of 4 KiB, no access. It
+//! reads the bytes, replays the recorded order on one page table, and compares each dump with that.
 use super::replicas::table::{Answer, Op, Space};
 
 const NO_CALL: u32 = u32::MAX;
@@ -42,7 +42,7 @@ fn take<'a>(bytes: &mut &'a [u8], count: usize) -> Option<&'a [u8]> {
 fn is_call(event: &[u8; 24], replicas: usize, threads: usize) -> bool {
     let (kind, address, phys) = (event[4], long(event, 8), long(event, 16));
     let aligned = kind == 3 || address % 4096 == 0;
-    let unused = (kind == 0 || phys == 0) && event[5] == 0 && event[7] == 0;
+    let unused = (kind == 0 || phys == 0) && (kind % 2 == 0 || event[6] == 0) && event[5] == 0 && event[7] == 0;
     (event[1] as usize) < replicas && (half(event, 2) as usize) < threads && kind < 4 && event[6] < 8
         && address < 1 << 47 && phys < 1 << 51 && phys % 4096 == 0 && aligned && unused
 }
@@ -60,7 +60,8 @@ fn read(mut bytes: &[u8]) -> Option<Trace<'_>> {
     let (replicas, threads) = (head[7] as usize, half(head, 8) as usize);
     let log: Vec<u32> = take(&mut bytes, 4 * word(head, 12) as usize)?.chunks(4).map(|place| word(place, 0)).collect();
     let events = take(&mut bytes, 24 * word(head, 16) as usize)?.as_chunks().0;
-    if !head.starts_with(b"NRVT\0\x01\x04") || !events.iter().all(|event| event[0] == 1 || is_call(event, replicas, threads)) {
+    let known = head.starts_with(b"NRVT\0\x01\x04") && half(head, 10) == 4096;
+    if !known || !events.iter().all(|event| event[0] == 1 || is_call(event, replicas, threads)) {
         return None;
     }
     let dumps = (0..replicas).map(|_| read_dump(&mut bytes, log.len())).collect::<Option<_>>()?;
@@ -119,7 +120,7 @@ fn says(reply: &[u8; 24], address: u64, answer: Answer) -> bool {
         Answer::Changed(rights) => (6, rights, 0),
         Answer::Mapped(phys, _, rights) => (7, rights, phys),
     };
-    (reply[1], reply[2], reply[3] as u64, long(reply, 16)) == (code, 0, rights, value)
+    (reply[1], reply[2], reply[3] as u64, word(reply, 12), long(reply, 16)) == (code, 0, rights, 0, value)
 }
 
 fn op_of(call: &[u8; 24]) -> Option<Op> {
