@@ -18,7 +18,6 @@ fn long(bytes: &[u8], at: usize) -> u64 {
 
 /// Its events are those that the bytes spell, and of its dumps only where they stand is known.
 struct Trace<'a> {
-    replicas: usize,
     threads: usize,
     log: Vec<u32>,
     events: &'a [[u8; 24]],
@@ -65,7 +64,7 @@ fn read(mut bytes: &[u8]) -> Option<Trace<'_>> {
         return None;
     }
     let dumps = (0..replicas).map(|_| read_dump(&mut bytes, log.len())).collect::<Option<_>>()?;
-    bytes.is_empty().then_some(Trace { replicas, threads, log, events, dumps })
+    bytes.is_empty().then_some(Trace { threads, log, events, dumps })
 }
 
 /// The reply of each call, and the answered reads of each place, of which each has the one before.
@@ -84,7 +83,7 @@ fn pair(trace: &Trace) -> Result<Replies, &'static str> {
     for (number, event) in trace.events.iter().enumerate() {
         if event[0] == 0 {
             let thread = half(event, 2) as usize;
-            if open[thread] != NO_CALL || event[1] as usize != thread % trace.replicas {
+            if open[thread] != NO_CALL {
                 return Err("call");
             }
             (open[thread], floor[number]) = (number as u32, known);
