@@ -1,18 +1,17 @@
 -- What stands after a run that was taken.
-use Rattle.std.proofs.Common.{◌≡◌, ◌≢◌, ℕ, zero, suc, ◌+◌, ◌*◌, ◌-◌, ◌/◌, ◌<◌, ◌≤◌, ◌^◌, List, [], ◌∷◌, ◌++◌, length, take, drop, All}
-use Rattle.std.proofs.Common.{refl, ap, sym, ◌∙◌, subst, arith, append_assoc}
+use Rattle.std.proofs.Common.{◌≡◌, ◌≢◌, ℕ, ◌+◌, ◌*◌, ◌/◌, ◌<◌, ◌≤◌, ◌^◌, List, [], ◌∷◌, ◌++◌, length, All}
+use Rattle.std.proofs.Common.{refl, ap, sym, ◌∙◌, subst, arith}
 use Rattle.std.specs.List.{concat}
-use Rattle.std.proofs.lemmas.List.{append-nil, length-append}
+use Rattle.std.proofs.lemmas.List.{length-append}
 use Rattle.std.proofs.lemmas.List.Elements.{All-head, All-tail}
 use Rattle.nr_trace.specs.Spelling.{magic, version_word, counts}
-use Rattle.nr_trace.specs.FirstFault.{AtEnd, AtDumps, AtEvents, AtLog, HasFormatFault}
+use Rattle.nr_trace.specs.FirstFault.{AtEnd, AtDumps}
 use Rattle.nr_trace.specs.Feed.{HasNoFaultYet}
 use Rattle.nr_trace.specs.declared.version.Version.{Version}
-use Rattle.nr_trace.specs.declared.fault.Format.{Format}
 use Rattle.nr_trace.specs.declared.fault.Format.TheVariants.{Truncated, Trailing}
 use Rattle.nr_trace.proofs.UnitsOfBytes.{AreBytes}
 use Rattle.nr_explain.specs.Units.{size, Numbers, HasHeader, IsHeadOf, IsDump, HasDumps}
-use Rattle.nr_explain.specs.inside.Positions.{IsAhead, AreNumbers, AreUnits, OnLog, OnEvents, OnDumps, HasBegun, OnFrames, OnWords, IsAt, IsRun}
+use Rattle.nr_explain.specs.inside.Positions.{IsAhead, AreNumbers, AreUnits, OnLog, OnEvents, OnDumps, HasBegun, OnFrames, IsAt, IsRun}
 use Rattle.nr_explain.specs.declared.units.TraceUnit.{TraceUnit}
 use Rattle.nr_explain.specs.declared.units.TraceUnit.TheVariants.{Magic, Version as VersionWord, Counts, Place, Event, DumpHead, FrameNumber, FrameWords, Behind}
 use Rattle.nr_explain.specs.declared.positions.Lengths.{Lengths}

@@ -1,8 +1,7 @@
 -- The dump of a replica, and where its tables lead.
-use Rattle.std.proofs.Common.{◌≡◌, ◌≢◌, ℕ, ◌+◌, ◌<◌, ◌≤◌, List, [], ◌∷◌, ◌++◌, Option, Some, None, Contains, length, get_or, slice_get, refl, sym, ap, subst, ◌∙◌, arith}
-use Rattle.std.specs.Prelude.{IfSome, MatchOption}
+use Rattle.std.proofs.Common.{◌≡◌, ◌≢◌, ℕ, ◌+◌, ◌≤◌, List, [], ◌∷◌, Option, Some, None, Contains, length, get_or, slice_get, refl, sym, ap, subst, ◌∙◌, arith}
+use Rattle.std.specs.Prelude.{MatchOption}
 use Rattle.std.specs.Global.{Vec}
-use Rattle.std.specs.FinMap as finite
 use Rattle.std.proofs.lemmas.List.Elements.{Contains-append_left}
 use Rattle.std.proofs.lemmas.Option.{same_Some, slice_get-get_or, slice_get_within}
 use Rattle.vs_types.specs.Depth.{levels}
@@ -10,13 +9,12 @@ use Rattle.vs_types.specs.declared.depth.Depth.{Depth}
 use Rattle.vs_types.proofs.Pages.{three_levels}
 use Rattle.vs_walk.specs.Dump.{Image}
 use Rattle.vs_walk.specs.Memory.{Memory}
-use Rattle.vs_walk.specs.Traversal.{OfFrame, OfReservedBit, reached, traversal, walk_fault}
+use Rattle.vs_walk.specs.Traversal.{OfFrame, OfReservedBit, traversal, walk_fault}
 use Rattle.vs_walk.specs.declared.walk.WalkFault.TheVariants as walks
 use Rattle.vs_walk.proofs.LawsOfVisits.{reached_is_met}
 use Rattle.vs_walk.proofs.LawsOfTraversals.{shared_reached}
 use Rattle.vs_walk.proofs.Walks.{few_levels}
 use Rattle.nr_trace.specs.Recording.{Recording}
-use Rattle.nr_explain.specs.Evidence.{LeadsTo}
 use Rattle.nr_explain.specs.Facts.{IsPath}
 use Rattle.nr_explain.specs.inside.Ways.{GoesNowhere, GoesOnTo, HasTwoWays, IsAnotherWay, IsMet, IsReservedAt}
 use Rattle.nr_explain.specs.declared.evidence.Step.{Step}

@@ -1,9 +1,8 @@
 -- A feed that takes runs of units, and what is known where it refuses one or ends.
-use Rattle.std.proofs.Common.{◌≡◌, ◌≢◌, ℕ, ◌+◌, ◌<◌, ◌≤◌, ◌^◌, inl, inr, List, [], ◌∷◌, ◌++◌, length, take, drop, Result, Ok, Err, refl, ap, sym, ◌∙◌, subst, arith, append_assoc}
+use Rattle.std.proofs.Common.{◌≡◌, ℕ, ◌+◌, ◌<◌, ◌≤◌, inl, inr, List, [], ◌++◌, length, take, drop, Ok, Err, refl, ap, sym, ◌∙◌, subst, arith, append_assoc}
 use Rattle.std.specs.Global.{Vec}
 use Rattle.std.proofs.Math.Seq.{take-add}
-use Rattle.std.proofs.lemmas.List.{append-nil, length-append, length-take-le, take-append-drop}
-use Rattle.vs_types.specs.declared.refusal.Fail.{Fail}
+use Rattle.std.proofs.lemmas.List.{append-nil, length-append, length-take-le}
 use Rattle.vs_types.specs.declared.refusal.Fail.TheVariants.{Refused}
 use Rattle.nr_trace.specs.Recording.{Recording}
 use Rattle.nr_trace.specs.Spelling.{Spells}
@@ -16,8 +15,6 @@ use Rattle.nr_trace.proofs.LawsOfFormat.{no_fault}
 use Rattle.nr_explain.specs.Units.{size, IsBadUnit, IsBadFor, IfBad}
 use Rattle.nr_explain.specs.inside.Positions.{taken, IsAt, IsBadIn, IsSoundAt}
 use Rattle.nr_explain.specs.declared.units.TraceUnit.{TraceUnit}
-use Rattle.nr_explain.specs.declared.units.TraceUnit.TheVariants.{Behind}
-use Rattle.nr_explain.specs.declared.units.BadUnit.{BadUnit}
 use Rattle.nr_explain.specs.declared.units.Unread.{Unread}
 use Rattle.nr_explain.specs.declared.units.Unread.TheVariants.{Memory, Bad}
 use Rattle.nr_explain.specs.declared.positions.Lengths.{Lengths}

@@ -2,17 +2,15 @@
 use Rattle.std.proofs.Common.{◌≡◌, ℕ, ◌+◌, ◌<◌, ◌≤◌, ◌⊎◌, inl, inr, Option, Some, None, is_some, length, slice_get, refl, sym, ap, subst, ◌∙◌, arith}
 use Rattle.std.specs.Prelude.{IsSome}
 use Rattle.std.proofs.lemmas.Bool.{both_ways, cases_order, cases_lt}
-use Rattle.std.proofs.lemmas.Option.{same_Some}
 use Rattle.vs_walk.specs.Dump.{Image}
 use Rattle.nr_trace.specs.Recording.{Recording}
-use Rattle.nr_trace.specs.Calls.{Answers, Invocation, IsCall, IsUpdate, Response, call_of, reply_of}
-use Rattle.nr_trace.specs.Faults.{Earlier, HasFault, IsFirst, OpensTwice}
+use Rattle.nr_trace.specs.Calls.{Invocation, IsCall, IsUpdate, Response, call_of, reply_of}
+use Rattle.nr_trace.specs.Faults.{HasFault, IsFirst, OpensTwice}
 use Rattle.nr_trace.specs.Laws.{HasCleanLog}
 use Rattle.nr_trace.specs.declared.fault.Fault.TheVariants.{AnsweredTwice, Differs, Early, NoSuchCall, NotAnUpdate, NotPlaced, PastLog, PlacedTwice, PrefixPastLog, ThreadOpen}
 use Rattle.nr_trace.proofs.LawsOfCalls.{placed_is_update, update_from_not_not, update_is_call}
 use Rattle.nr_trace.proofs.LawsOfFaults.{less_from_below}
-use Rattle.nr_explain.specs.Facts.{IsCallOf}
-use Rattle.nr_explain.specs.inside.Searches.{HasOnlyCalls, IsIdle, IsLastCall, IsMadeBy, IsOpenBelow}
+use Rattle.nr_explain.specs.inside.Searches.{HasOnlyCalls, IsIdle, IsLastCall, IsOpenBelow}
 use Rattle.nr_explain.specs.declared.evidence.RecordedCall.{RecordedCall}
 
 -- ---- open calls

@@ -1,5 +1,5 @@
 -- Which unit comes next, and what is ahead of it.
-use Rattle.std.proofs.Common.{◌≡◌, ◌≢◌, ℕ, zero, suc, ◌+◌, ◌*◌, ◌-◌, ◌<◌, ◌≤◌, ◌^◌, inl, inr, Bool, true, false, List, [], ◌∷◌, ◌++◌, length, take, drop, All}
+use Rattle.std.proofs.Common.{◌≡◌, ℕ, zero, suc, ◌+◌, ◌*◌, ◌<◌, ◌≤◌, Bool, true, false, List, [], ◌∷◌, ◌++◌, length}
 use Rattle.std.proofs.Common.{Option, Some, None, refl, ap, sym, ◌∙◌, subst, arith, append_assoc}
 use Rattle.std.specs.Prelude.{nat_lt, if◌then◌else◌, ⊤}
 use Rattle.std.specs.List.{concat}
@@ -10,7 +10,7 @@ use Rattle.std.proofs.lemmas.List.Elements.{All-nil, All-push}
 use Rattle.vs_types.specs.Config.{Layout}
 use Rattle.vs_types.specs.Frame.{IsFrame}
 use Rattle.nr_trace.specs.Spelling.{magic, version_word, counts, dump_head, frame_number, frame_words}
-use Rattle.nr_trace.specs.FirstFault.{AtUnit, AtVersion, AtCounts, AtFrames, AtDumps, AtEvents, AtLog, HasFormatFault, IsCounts, IsDumpHead, IsNext}
+use Rattle.nr_trace.specs.FirstFault.{AtUnit, AtFrames, AtDumps, AtEvents, AtLog, HasFormatFault, IsCounts, IsDumpHead, IsNext}
 use Rattle.nr_trace.specs.Feed.{HasNoFaultYet}
 use Rattle.nr_trace.specs.declared.version.Version.{Version}
 use Rattle.nr_trace.specs.declared.fault.Format.{Format}
@@ -19,7 +19,6 @@ use Rattle.nr_trace.proofs.LawsOfFormat.{BehindCounts, BehindVersion, BehindMagi
 use Rattle.nr_trace.proofs.UnitsOfBytes.{AreBytes, magic_told, version_told, counts_told, head_told, number_told, words_told}
 use Rattle.nr_explain.specs.Units.{Numbers, HasHeader, IsHeadOf, IsDump, HasDumps}
 use Rattle.nr_explain.specs.inside.Positions.{dump_unit, event_unit, place_unit, frame_unit, IsAhead, IsCounted, OnLog, OnEvents, OnDumps, HasBegun, OnFrames, OnWords, IsAt}
-use Rattle.nr_explain.specs.declared.units.TraceUnit.{TraceUnit}
 use Rattle.nr_explain.specs.declared.units.TraceUnit.TheVariants.{DumpHead, Behind, Event, Place, FrameNumber}
 use Rattle.nr_explain.specs.declared.positions.Lengths.{Lengths}
 use Rattle.nr_explain.proofs.Passing.{IsPassed, ahead_after, unit_passed}

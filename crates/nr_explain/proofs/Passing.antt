@@ -1,5 +1,5 @@
 -- A whole unit that is not refused spells a value, and what is wrong behind it is wrong with all bytes.
-use Rattle.std.proofs.Common.{◌≡◌, ◌≢◌, ℕ, ◌<◌, ◌≤◌, inl, inr, List, [], ◌++◌, length, take, drop, Option, Some, None, refl, ap, sym, ◌∙◌, subst, arith, append_assoc}
+use Rattle.std.proofs.Common.{◌≡◌, ◌≢◌, ℕ, ◌<◌, inl, inr, List, ◌++◌, length, Option, Some, refl, sym, subst, append_assoc}
 use Rattle.nr_trace.specs.FirstFault.{AtUnit, HasFormatFault}
 use Rattle.nr_trace.specs.Feed.{HasNoFaultYet, IsSettled}
 use Rattle.nr_trace.specs.declared.fault.Format.{Format}

@@ -1,8 +1,8 @@
 -- First replies.
-use Rattle.std.proofs.Common.{◌≡◌, ℕ, ◌<◌, Option, Some, length, refl, sym, ap, subst, ◌∙◌}
+use Rattle.std.proofs.Common.{◌≡◌, ℕ, Some, length, subst}
 use Rattle.std.proofs.lemmas.Option.{slice_get_within}
 use Rattle.nr_trace.specs.Recording.{Recording}
-use Rattle.nr_trace.specs.Calls.{Response, reply_of, reply_to, IsCall}
+use Rattle.nr_trace.specs.Calls.{Response, reply_to, IsCall}
 use Rattle.nr_trace.specs.Faults.{StandsAfter}
 use Rattle.nr_trace.specs.Laws.{HasCleanLog}
 use Rattle.nr_trace.proofs.LawsOfCalls.{answered_stands, answers_from, reply_event, reply_in_event, reply_is_first, reply_behind_call}

@@ -1,21 +1,21 @@
 -- Runs of places and of events, and the unit of a refused run that is bad.
-use Rattle.std.proofs.Common.{◌≡◌, ◌≢◌, ℕ, zero, suc, ◌+◌, ◌*◌, ◌-◌, ◌<◌, ◌≤◌, ◌⊎◌, ◌^◌, inl, inr, Bool, true, false, List, [], ◌∷◌, ◌++◌, length, take, drop}
-use Rattle.std.proofs.Common.{Option, Some, None, refl, ap, sym, ◌∙◌, subst, arith, append_assoc}
+use Rattle.std.proofs.Common.{◌≡◌, ℕ, zero, suc, ◌+◌, ◌*◌, ◌<◌, ◌≤◌, ◌⊎◌, ◌^◌, inl, inr, List, [], ◌∷◌, ◌++◌, length, take, drop}
+use Rattle.std.proofs.Common.{Some, None, refl, ap, sym, ◌∙◌, subst, arith, append_assoc}
 use Rattle.std.proofs.Math.Seq.{take-add}
 use Rattle.std.proofs.lemmas.List.{append-nil, nil_from_length, take-append-drop, length-take-le, length-drop}
 use Rattle.std.proofs.lemmas.List.Elements.{All-take, All-drop}
 use Rattle.vs_types.specs.Config.{Layout, IsLayout}
 use Rattle.nr_trace.specs.Recording.{IsEvent}
-use Rattle.nr_trace.specs.Spelling.{log_word, event, dump_head}
-use Rattle.nr_trace.specs.FirstFault.{AtUnit, AtFrames, AtDumps, AtEvents, AtLog, HasFormatFault, IsDumpHead}
+use Rattle.nr_trace.specs.Spelling.{log_word, event}
+use Rattle.nr_trace.specs.FirstFault.{AtUnit, AtDumps, AtEvents, AtLog, HasFormatFault}
 use Rattle.nr_trace.specs.Feed.{HasNoFaultYet, IsSettled}
 use Rattle.nr_trace.specs.declared.version.Version.{Version}
 use Rattle.nr_trace.specs.declared.fault.Format.{Format}
-use Rattle.nr_trace.specs.declared.fault.Format.TheVariants.{BadCount, BadEvent, Truncated}
+use Rattle.nr_trace.specs.declared.fault.Format.TheVariants.{BadEvent, Truncated}
 use Rattle.nr_trace.proofs.LawsOfFormat.{one_fault}
 use Rattle.nr_trace.proofs.UnitsOfBytes.{IsTold, AreBytes, event_told, place_told}
 use Rattle.nr_explain.specs.inside.Positions.{IsAhead}
-use Rattle.nr_explain.proofs.Passing.{IsPassed, ahead_after, unit_refused, unit_passed, not_yet_from}
+use Rattle.nr_explain.proofs.Passing.{ahead_after, unit_refused, unit_passed}
 
 -- ---- places
 

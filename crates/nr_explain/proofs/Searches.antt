@@ -1,5 +1,5 @@
 -- The search for a way, table by table.
-use Rattle.std.proofs.Common.{◌≡◌, ◌≢◌, ℕ, ◌+◌, ◌-◌, ◌<◌, ◌≤◌, List, [], ◌∷◌, ◌++◌, Option, Some, None, length, get_or, take, inl, inr, arith, refl, sym, ap, subst, ◌∙◌, append_assoc}
+use Rattle.std.proofs.Common.{◌≡◌, ℕ, ◌+◌, ◌-◌, ◌<◌, ◌≤◌, List, [], ◌∷◌, ◌++◌, Some, None, length, get_or, take, inl, inr, arith, refl, sym, ap, subst, ◌∙◌, append_assoc}
 use Rattle.std.proofs.lemmas.Bool.{cases_lt}
 use Rattle.std.proofs.lemmas.List.{append-nil}
 use Rattle.std.proofs.lemmas.Option.{same_Some, none-some}
@@ -9,7 +9,7 @@ use Rattle.vs_types.specs.declared.entry.Meaning.TheVariants as entry
 use Rattle.vs_types.specs.declared.page.Rights.{Rights}
 use Rattle.vs_walk.specs.Memory.{Memory}
 use Rattle.nr_explain.specs.Facts.{IsPath, LeadsOn}
-use Rattle.nr_explain.specs.inside.Ways.{GoesNowhere, GoesOnTo, IsMet}
+use Rattle.nr_explain.specs.inside.Ways.{GoesNowhere, IsMet}
 use Rattle.nr_explain.specs.declared.evidence.Step.{Step}
 use Rattle.nr_explain.specs.declared.paths.Target.{Target}
 

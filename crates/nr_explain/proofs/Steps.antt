@@ -1,5 +1,5 @@
 -- When two ways are the same, as `==` tells.
-use Rattle.std.proofs.Common.{◌≡◌, ℕ, Bool, true, ◌&&◌, List, ◌↔◌, eqb, refl, sym, subst, ◌∙◌}
+use Rattle.std.proofs.Common.{◌≡◌, Bool, true, List, ◌↔◌, eqb, refl, sym, subst, ◌∙◌}
 use Rattle.std.proofs.lemmas.Bool.{eq-eqb, eqb-true, and_parts, and_from}
 use lib.Pointwise.{pointwise, pointwise_decides}
 use Rattle.nr_explain.specs.declared.evidence.Step.{Step}

@@ -1,5 +1,5 @@
 -- Ways through tables: all that the traversal visits stands at the end of one.
-use Rattle.std.proofs.Common.{◌≡◌, ℕ, zero, suc, ◌+◌, ◌-◌, ◌*◌, ◌<◌, ◌≤◌, List, [], ◌∷◌, Some, None, length, get_or, flat_map, refl, sym, ap, subst, ◌∙◌, ⊎_elim}
+use Rattle.std.proofs.Common.{◌≡◌, ℕ, zero, suc, ◌+◌, ◌-◌, ◌*◌, ◌<◌, ◌≤◌, List, [], ◌∷◌, Some, None, length, get_or, flat_map, refl, sym, subst, ⊎_elim}
 use Rattle.std.proofs.Common.{arith, Contains}
 use Rattle.std.specs.Prelude.{⊤}
 use Rattle.std.specs.FinMap as finite

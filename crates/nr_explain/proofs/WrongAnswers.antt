@@ -1,5 +1,5 @@
 -- An answer that is not the space's.
-use Rattle.std.proofs.Common.{◌≡◌, ℕ, ◌≤◌, Option, Some, length, take, refl, sym, ap, subst, ◌∙◌}
+use Rattle.std.proofs.Common.{◌≡◌, ℕ, ◌≤◌, Option, length, take, sym, ap, ◌∙◌}
 use Rattle.std.proofs.lemmas.Option.{same_Some}
 use Rattle.vs_types.specs.Space.{Space}
 use Rattle.vs_types.specs.declared.answer.Answer.{Answer}

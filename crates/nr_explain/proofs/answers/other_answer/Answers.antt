@@ -1,4 +1,4 @@
-use Rattle.std.proofs.Common.{◌≡◌, ℕ, length, ap, subst, sym, ◌∙◌}
+use Rattle.std.proofs.Common.{ℕ, length, ap, subst, sym, ◌∙◌}
 use Rattle.nr_trace.specs.Faults.{IsFirst}
 use Rattle.nr_trace.specs.declared.fault.Fault.TheVariants.{WrongAnswer}
 use Rattle.nr_trace.proofs.LawsOfFaults.{clean_before_answers}

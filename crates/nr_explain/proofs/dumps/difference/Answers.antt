@@ -1,11 +1,8 @@
-use Rattle.std.proofs.Common.{◌≡◌, ◌≢◌, ℕ, ◌<◌, ◌≤◌, inl, inr, Some, length, refl, ap, subst, sym, ◌∙◌, arith}
-use Rattle.std.proofs.lemmas.Bool.{cases_lt}
+use Rattle.std.proofs.Common.{◌≡◌, ℕ, ◌≤◌, length, ap, sym, ◌∙◌, arith}
 use Rattle.vs_types.specs.Config.{Layout}
 use Rattle.vs_types.specs.declared.depth.Depth.{Depth}
-use Rattle.vs_walk.specs.Differences.{HasDifference}
 use Rattle.vs_walk.specs.Dump.{Image}
 use Rattle.vs_walk.specs.Walk.{as_walk, walk}
-use Rattle.nr_trace.specs.Orders.{space_after}
 use Rattle.nr_explain.specs.Facts.{looks_after}
 use Rattle.nr_explain.proofs.Dumped.{dump_read, one_dump}
 use Rattle.nr_explain.proofs.FirstFaults.{calls_before_differs, few_before_differs}

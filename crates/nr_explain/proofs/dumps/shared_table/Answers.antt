@@ -1,5 +1,4 @@
 use Rattle.std.proofs.Common.{◌≡◌, ◌≢◌, Some, None, Option, Vec, Global, refl, ap, subst, sym, ◌∙◌}
-use Rattle.std.specs.Prelude.{IfSome}
 use Rattle.vs_types.specs.Config.{Layout}
 use Rattle.vs_types.specs.Depth.{levels}
 use Rattle.vs_types.specs.declared.depth.Depth.{Depth}

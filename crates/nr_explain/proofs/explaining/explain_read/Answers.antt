@@ -1,4 +1,4 @@
-use Rattle.std.proofs.Common.{◌≡◌, subst}
+use Rattle.std.proofs.Common.{subst}
 use Rattle.std.proofs.lemmas.Result.{IfOk-weaker}
 use Rattle.nr_trace.specs.Spelling.{Spells}
 use Rattle.nr_explain.specs.Explanation.{IsExplanationOf}

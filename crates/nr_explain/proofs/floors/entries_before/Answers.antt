@@ -1,6 +1,5 @@
 use Rattle.std.proofs.Common.{ℕ, length, ap, subst, sym, ◌∙◌, inl, inr}
 use Rattle.std.proofs.lemmas.Bool.{true≢false}
-use Rattle.nr_trace.specs.Recording.{Recording}
 use Rattle.nr_explain.specs.inside.Searches.{IsOpenBelow}
 use Rattle.nr_explain.proofs.Replies.{some_reply, stands_by_reply}
 use Rattle.nr_explain.proofs.floors.entries_before.Goals as goal

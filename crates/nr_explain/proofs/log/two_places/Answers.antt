@@ -1,5 +1,4 @@
-use Rattle.std.proofs.Common.{◌≡◌, ℕ, List, Some, get_or, length, slice_get, sym, ap, subst, ◌∙◌}
-use Rattle.std.proofs.lemmas.Option.{same_Some}
+use Rattle.std.proofs.Common.{ℕ, Some, sym, ap, ◌∙◌}
 use Rattle.nr_trace.proofs.LawsOfCalls.{update_is_call}
 use Rattle.nr_explain.proofs.FirstFaults.{twice_is_update}
 use Rattle.nr_explain.proofs.Places.{placed_so}

@@ -1,12 +1,11 @@
-use Rattle.std.proofs.Common.{◌≡◌, ℕ, ◌+◌, ◌-◌, ◌<◌, Bool, List, [], ◌∷◌, ◌++◌, Some, None, length, get_or, take, vec_len, Vec, Global, refl, sym, ap, subst, ◌∙◌, arith}
+use Rattle.std.proofs.Common.{◌≡◌, ℕ, ◌-◌, Bool, List, [], ◌∷◌, ◌++◌, Some, None, length, get_or, take, vec_len, Vec, Global, refl, sym, ap, subst, ◌∙◌, arith}
 use Rattle.std.proofs.lemmas.Bool.{iff_false}
 use Rattle.std.proofs.lemmas.List.{length-append}
 use Rattle.std.specs.FinMap as finite
 use Rattle.vs_types.specs.Entry.{meaning}
-use Rattle.vs_types.specs.declared.entry.Meaning.TheVariants as entry
 use Rattle.nr_explain.specs.inside.Ways.{GoesNowhere, IsMet, IsSearched}
 use Rattle.nr_explain.specs.declared.evidence.Step.{Step}
-use Rattle.nr_explain.proofs.Searches.{IsNotHere, IsPassed, entry_of, front_left, nowhere_from_missing, nowhere_from_table, passed_more}
+use Rattle.nr_explain.proofs.Searches.{IsNotHere, entry_of, front_left, nowhere_from_missing, nowhere_from_table, passed_more}
 use Rattle.nr_explain.proofs.paths.+go_on.Goals as goal
 use Rattle.nr_explain.proofs.paths.+go_on.Goals.{else-number-target-via-then-number-target+else-is_met, else-number-target-via-else-number-target}
 use Rattle.nr_explain.proofs.paths.+go_on.Goals.{in-Table+in_ok-push+in_ok-go_on+else-branch, in_default-read}

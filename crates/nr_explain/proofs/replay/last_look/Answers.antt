@@ -1,9 +1,8 @@
-use Rattle.std.proofs.Common.{◌≡◌, ℕ, ◌+◌, Option, Some, slice_get, sym, ap, subst, ◌∙◌}
+use Rattle.std.proofs.Common.{◌≡◌, ◌+◌, sym, ap, subst, ◌∙◌}
 use Rattle.std.proofs.lemmas.Bool.{iff_false}
 use Rattle.vs_types.specs.Step.{look}
 use Rattle.vs_plain.specs.Plain.{BoundedSpace}
 use Rattle.nr_explain.specs.Facts.{IsLastChange, looks_after}
-use Rattle.nr_explain.specs.declared.evidence.PlacedUpdate.{PlacedUpdate}
 use Rattle.nr_explain.proofs.Changes.{change_here, change_stays}
 use Rattle.nr_explain.proofs.replay.last_look.Goals as goal
 use Rattle.nr_explain.proofs.replay.last_look.Goals.{then-not-is_same, else-not-is_same}

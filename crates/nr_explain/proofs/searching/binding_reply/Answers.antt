@@ -1,4 +1,4 @@
-use Rattle.std.proofs.Common.{◌≡◌, ℕ, ◌+◌, Option, sym, subst, ◌∙◌}
+use Rattle.std.proofs.Common.{◌+◌, Option, sym, subst, ◌∙◌}
 use Rattle.nr_trace.specs.Orders.{floor, known_by}
 use Rattle.nr_trace.proofs.LawsOfSteps.{floor_after_other, floor_after_reply}
 use Rattle.nr_explain.specs.Facts.{response}

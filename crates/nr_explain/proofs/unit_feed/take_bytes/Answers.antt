@@ -1,4 +1,4 @@
-use Rattle.std.proofs.Common.{◌≡◌, ◌++◌, ℕ, List, length, ap, sym, ◌∙◌, subst}
+use Rattle.std.proofs.Common.{◌++◌, ℕ, List, ap, ◌∙◌, subst}
 use Rattle.nr_trace.specs.Feed.{HasNoFaultYet}
 use Rattle.nr_explain.specs.inside.Positions.{taken}
 use Rattle.nr_explain.proofs.BadUnits.{may_go_on}

@@ -1,9 +1,9 @@
-use Rattle.std.proofs.Common.{◌≡◌, ℕ, ◌+◌, ◌*◌, ◌-◌, ◌<◌, ◌≤◌, ◌^◌, ◌++◌, List, [], length, take, drop, sym, ap, ◌∙◌, subst, arith, Err}
+use Rattle.std.proofs.Common.{◌≡◌, ℕ, ◌+◌, ◌-◌, ◌<◌, ◌^◌, ◌++◌, List, length, take, drop, ap, ◌∙◌, arith, Err}
 use Rattle.vs_types.specs.declared.refusal.Fail.TheVariants.{Refused}
 use Rattle.nr_trace.specs.Feed.{Feeds}
 use Rattle.std.specs.Prelude.{slice_range}
 use Rattle.nr_explain.specs.Units.{size}
-use Rattle.nr_explain.specs.inside.Positions.{taken, IsSound}
+use Rattle.nr_explain.specs.inside.Positions.{taken}
 use Rattle.nr_explain.proofs.After.{few_bytes, few_in_run}
 use Rattle.nr_explain.proofs.Fed.{run_passed, run_settled, run_refused}
 use Rattle.nr_explain.proofs.unit_feed.take_run.Goals as goal

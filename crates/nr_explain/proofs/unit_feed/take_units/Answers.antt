@@ -1,4 +1,4 @@
-use Rattle.std.proofs.Common.{◌≡◌, ◌++◌, ℕ, ◌<◌, ◌≤◌, List, length, ap, sym, ◌∙◌, append_assoc, arith, rules}
+use Rattle.std.proofs.Common.{◌≡◌, ◌++◌, ℕ, List, ap, sym, ◌∙◌, append_assoc, arith, rules}
 use Rattle.nr_explain.specs.Units.{IfBad, IsBadFor}
 use Rattle.nr_explain.specs.inside.Positions.{taken}
 use Rattle.nr_explain.proofs.After.{run_some}

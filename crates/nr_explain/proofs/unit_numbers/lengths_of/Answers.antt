@@ -1,10 +1,9 @@
-use Rattle.std.proofs.Common.{◌≡◌, ℕ, ◌<◌, ◌^◌, ◌++◌, List, [], sym, ap, ◌∙◌, arith}
+use Rattle.std.proofs.Common.{◌<◌, ◌^◌, ◌++◌, [], sym, ◌∙◌, arith}
 use Rattle.std.specs.Int.{w8, w16, w32, to_be_bytes}
 use Rattle.vs_types.specs.Depth.{levels}
 use Rattle.vs_types.specs.declared.depth.Depth.{Depth}
 use Rattle.vs_types.specs.declared.depth.Depth.TheVariants.{Four, Five}
 use Rattle.nr_trace.proofs.LawsOfUnits.{number_8, number_16, number_32}
-use Rattle.nr_explain.specs.declared.positions.Lengths.{Lengths}
 use Rattle.nr_explain.proofs.unit_numbers.lengths_of.Goals as goal
 
 few_levels : (depth : Depth) → levels depth < 2 ^ 8

@@ -1,6 +1,4 @@
-use Rattle.std.proofs.Common.{◌≡◌, ℕ, List, Err, subst}
-use Rattle.vs_types.specs.declared.refusal.Fail.TheVariants.{Refused}
-use Rattle.nr_trace.specs.Feed.{Ends}
+use Rattle.std.proofs.Common.{ℕ, List, subst}
 use Rattle.nr_trace.specs.Spelling.{Spells}
 use Rattle.nr_explain.specs.Units.{IsBadUnit}
 use Rattle.nr_explain.proofs.Fed.{ends_spelled, ends_cut}
