@@ -204,9 +204,9 @@ answers_after depth replica next batch first entries later same are is =
 
 -- the entries fit that it took, and there is room for them
 pub took_fit : (depth : Depth) (replicas : ℕ) (a c : View) (entries : List LogEntry) (d : Depth) → TookAll depth replicas a entries c → d ≡ depth
-    → All (λ entry. IsAction d entry.op) entries
+    → All (IsLogEntry d) entries
 took_fit depth replicas a c entries d took is k e lt =
-    subst (λ z. IsAction z (get_or entries k e).op) (sym is) (took.fit k e lt).well_formed
+    subst (λ z. IsLogEntry z (get_or entries k e)) (sym is) (took.fit k e lt)
 
 pub took_room : (depth : Depth) (replicas : ℕ) (known after : Known) (replica : ReplicaState) (batch : List Waiting) (first : Option ℕ) (entries : List LogEntry)
     → TookAll depth replicas known.view entries after.view → IsNode depth replicas (node_state known replica batch first)

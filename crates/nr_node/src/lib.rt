@@ -8,6 +8,7 @@ mod held;
 pub mod laws;
 mod node;
 mod replica;
+mod told;
 
 pub use held::Held;
 pub use node::Node;

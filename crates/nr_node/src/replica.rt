@@ -1,7 +1,7 @@
 ghost use Rattle.std.specs.Prelude.{◌≡◌, ℕ, ◌+◌, ◌<◌, ◌≤◌, All, [], ◌∷◌, ◌++◌, IfErr, IfOk, IfSome, MatchOption, Some, length, slice_get};
 ghost use Rattle.std.specs.FinMap as finite;
 ghost use Rattle.vs_types.specs.Depth.{IsCanonical};
-ghost use Rattle.vs_types.specs.Operation.{IsAction};
+ghost use Rattle.vs_types.specs.LogEntry.{IsLogEntry};
 ghost use Rattle.vs_types.specs.Refusal.{IfRefused};
 ghost use Rattle.vs_types.specs.Space.{table_count};
 ghost use Rattle.vs_types.specs.Step.{allow, look};
@@ -11,6 +11,7 @@ ghost use Rattle.nr_node.specs.Calls.{answered_from, answers_of};
 ghost use Rattle.nr_node.specs.Node.{StandFrom};
 ghost use Rattle.nr_node.specs.Spaces.{answer_at, space_of};
 
+use crate::told::Told;
 use arrayvec::ArrayVec;
 use nr_ring::RING;
 use nr_slots::{Answered, Waiting};
@@ -20,13 +21,6 @@ use vs_arena::FrameStore;
 use vs_space::{NoRoot, Space};
 use vs_types::{Access, Answer, Depth, Fail, LOG_PLACES, LogEntry, Memory, Mode};
 use vs_walk::Dump;
-
-/// An entry of the log with what it was answered.
-#[derive(Clone, Copy, Debug)]
-struct Told {
-    entry: LogEntry,
-    answer: Answer,
-}
 
 /// A page table that follows a log, and the entries that it has applied, each with its answer. Contracts see the entries.
 #[derive(Drop)]
@@ -80,20 +74,17 @@ impl<S: FrameStore> Replica<S> {
 
     /// Applies the next entry of the log.
     pub(crate) fn apply(&mut self, entry: &LogEntry)
-        requires fits { IsAction self.old.depth entry.now.op }
+        requires fits { IsLogEntry self.old.depth entry.now }
         requires room { length self.old.entries < LOG_PLACES }
         ensures { self.new ≡ record self.old { entries = self.old.entries ++ entry.now ∷ [] } }
     {
         let answer = self.space.apply(entry.op);
-        self.told.push_reserved(Told {
-            entry: *entry,
-            answer,
-        });
+        self.told.push_reserved(Told::new(*entry, answer));
     }
 
     /// Applies entries of the log, in order.
     pub(crate) fn apply_all(&mut self, entries: &ArrayVec<LogEntry, RING>)
-        requires fit { All (λ entry. IsAction self.old.depth entry.op) entries.now.items }
+        requires fit { All (IsLogEntry self.old.depth) entries.now.items }
         requires room { length self.old.entries + length entries.now.items ≤ LOG_PLACES }
         ensures { self.new ≡ record self.old { entries = self.old.entries ++ entries.now.items } }
     {
@@ -174,7 +165,7 @@ impl<S: FrameStore> Replica<S> {
         ensures within { IfSome result (λ _. place < LOG_PLACES) }
     {
         let told = self.told.get(place as usize)?;
-        Some((told.entry, told.answer))
+        Some((told.entry(), told.answer()))
     }
 
     /// Its page table as it is. It takes memory.

@@ -1,9 +1,12 @@
 -- What is well formed with four levels is so with five: its addresses are canonical there too.
 use Rattle.std.proofs.Common.{ℕ, ⊎_elim, inl, inr, arith}
 use Rattle.vs_types.specs.Depth.{IsCanonical}
+use Rattle.vs_types.specs.LogEntry.{IsLogEntry}
 use Rattle.vs_types.specs.Operation.{IsAction}
 use Rattle.vs_types.specs.Query.{IsQuery}
+use Rattle.vs_types.specs.declared.depth.Depth.{Depth}
 use Rattle.vs_types.specs.declared.depth.Depth.TheVariants.{Four, Five}
+use Rattle.vs_types.specs.declared.log_entry.LogEntry.{LogEntry}
 use Rattle.vs_types.specs.declared.op.Action.{Action}
 use Rattle.vs_types.specs.declared.op.Action.TheVariants.{Map, Unmap, Protect}
 use Rattle.vs_types.specs.declared.request.Query.{Query}
@@ -19,6 +22,10 @@ action_in_five (Map page) is =
     record { canonical = canonical_in_five page.base is.canonical; aligned = is.aligned; phys_aligned = is.phys_aligned; phys_range = is.phys_range }
 action_in_five (Unmap base) is = record { canonical = canonical_in_five base is.canonical; aligned = is.aligned }
 action_in_five (Protect base rights) is = record { canonical = canonical_in_five base is.canonical; aligned = is.aligned }
+
+pub entry_in_five : (depth : Depth) (entry : LogEntry) → IsLogEntry depth entry → IsLogEntry Five entry
+entry_in_five Four entry is = record { well_formed = action_in_five entry.op is.well_formed; in_range = is.in_range }
+entry_in_five Five entry is = is
 
 pub query_in_five : (query : Query) → IsQuery Four query → IsQuery Five query
 query_in_five (Update action) is = action_in_five action is

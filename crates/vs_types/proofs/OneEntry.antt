@@ -1,39 +1,28 @@
--- Words spell one entry at most.
-use Rattle.std.proofs.Common.{◌≡◌, ℕ, zero, suc, ◌/◌, ◌%◌, Bool, true, false, List, refl, ap, sym, ◌∙◌}
+-- Words tell the entry that they spell; so they spell one entry at most.
+use Rattle.std.proofs.Common.{◌≡◌, ℕ, ◌/◌, ◌^◌, Bool, true, false, List, get_or, refl, ap, subst, sym, ◌∙◌}
 use Rattle.vs_types.specs.Codes.{size_code, rights_code}
 use Rattle.vs_types.specs.Fields.{request_fields}
-use Rattle.vs_types.specs.LogEntry.{SpellsEntry}
-use Rattle.vs_types.specs.declared.fields.RequestFields.{RequestFields}
-use Rattle.vs_types.specs.declared.request.Query.TheVariants.{Update}
+use Rattle.vs_types.specs.LogEntry.{IsLogEntry, SpellsEntry, log_words}
+use Rattle.vs_types.specs.inside.Telling.{action_in, entry_in, is_one, rights_in, size_in}
 use Rattle.vs_types.specs.declared.depth.Depth.{Depth}
+use Rattle.vs_types.specs.declared.fields.RequestFields.{RequestFields}
+use Rattle.vs_types.specs.declared.log_entry.LogEntry.{LogEntry}
+use Rattle.vs_types.specs.declared.op.Action.{Action}
+use Rattle.vs_types.specs.declared.op.Action.TheVariants.{Map, Unmap, Protect}
 use Rattle.vs_types.specs.declared.page.Rights.{Rights}
 use Rattle.vs_types.specs.declared.page.Size.{Size}
 use Rattle.vs_types.specs.declared.page.Size.TheVariants.{K4, M2, G1}
-use Rattle.vs_types.specs.declared.op.Action.{Action}
-use Rattle.vs_types.specs.declared.op.Action.TheVariants.{Map, Unmap, Protect}
-use Rattle.vs_types.specs.declared.log_entry.LogEntry.{LogEntry}
-use Rattle.vs_types.proofs.LogWords.{finds_again}
+use Rattle.vs_types.specs.declared.request.Query.TheVariants.{Update}
+use Rattle.vs_types.proofs.LogWords.{fields_at, finds_again}
 
-size_of_code : ℕ → Size
-size_of_code zero = K4
-size_of_code (suc zero) = M2
-size_of_code (suc (suc n)) = G1
-
-size_back : (size : Size) → size_of_code (size_code size) ≡ size
-unfolding size_of_code
+size_back : (size : Size) → size_in (size_code size) ≡ size
+unfolding size_in
 size_back K4 = refl
 size_back M2 = refl
 size_back G1 = refl
 
-is_one : ℕ → Bool
-is_one zero = false
-is_one (suc n) = true
-
-rights_of_code : ℕ → Rights
-rights_of_code code = record { write = is_one (code % 2); user = is_one (code / 2 % 2); exec = is_one (code / 4) }
-
-bits_back : (w u x : Bool) → rights_of_code (rights_code (record { write = w; user = u; exec = x })) ≡ record { write = w; user = u; exec = x }
-unfolding rights_of_code is_one
+bits_back : (w u x : Bool) → rights_in (rights_code (record { write = w; user = u; exec = x })) ≡ record { write = w; user = u; exec = x }
+unfolding rights_in is_one
 bits_back true true true = refl
 bits_back true true false = refl
 bits_back true false true = refl
@@ -43,28 +32,35 @@ bits_back false true false = refl
 bits_back false false true = refl
 bits_back false false false = refl
 
-rights_back : (rights : Rights) → rights_of_code (rights_code rights) ≡ rights
+rights_back : (rights : Rights) → rights_in (rights_code rights) ≡ rights
 rights_back rights = bits_back rights.write rights.user rights.exec
 
--- the operation that has the fields
-action_of : ℕ → RequestFields → Action
-action_of zero fields = Map (record { base = fields.address; size = size_of_code fields.size; phys = fields.physical; rights = rights_of_code fields.rights })
-action_of (suc zero) fields = Unmap fields.address
-action_of (suc (suc kind)) fields = Protect fields.address (rights_of_code fields.rights)
+abbrev action_of : RequestFields → Action
+action_of f = action_in f.kind f.size f.rights f.address f.physical
 
-action_back : (action : Action) → action_of (request_fields (Update action)).kind (request_fields (Update action)) ≡ action
-unfolding action_of
+action_back : (action : Action) → action_of (request_fields (Update action)) ≡ action
+unfolding action_in
 action_back (Map page) = λ i. Map (record { base = page.base; size = size_back page.size i; phys = page.phys; rights = rights_back page.rights i })
 action_back (Unmap base) = refl
 action_back (Protect base rights) = λ i. Protect base (rights_back rights i)
 
-same_action : (a b : Action) → request_fields (Update a) ≡ request_fields (Update b) → a ≡ b
-same_action a b e = sym (action_back a) ∙ ap (λ (f : RequestFields). action_of f.kind f) e ∙ action_back b
+entry_at : (words : List ℕ) → entry_in words ≡ record { call = get_or words 1 0 / 2 ^ 39; op = action_of (fields_at (get_or words 0 0) (get_or words 1 0)) }
+unfolding entry_in
+entry_at words = refl
+
+-- words tell the entry that they spell
+pub tells_it : (depth : Depth) (words : List ℕ) (entry : LogEntry) → SpellsEntry depth words entry → entry_in words ≡ entry
+tells_it depth words entry is =
+    let found = finds_again depth words entry is in
+    let op : action_of (fields_at (get_or words 0 0) (get_or words 1 0)) ≡ entry.op = ap action_of found.fields.fields_are ∙ action_back entry.op in
+    entry_at words ∙ (λ i. record { call = found.call i; op = op i })
+
+-- the words of an entry spell what they tell
+pub spells_told : (depth : Depth) (words : List ℕ) (entry : LogEntry) → IsLogEntry depth entry → words ≡ log_words entry
+    → SpellsEntry depth words (entry_in words)
+spells_told depth words entry is are =
+    let it : SpellsEntry depth words entry = record { is_entry = is; spelled = are } in
+    subst (SpellsEntry depth words) (sym (tells_it depth words entry it)) it
 
 pub one_entry : (depth other : Depth) (words : List ℕ) (p q : LogEntry) → SpellsEntry depth words p → SpellsEntry other words q → p ≡ q
-one_entry depth other words p q ip iq =
-    let fp = finds_again depth words p ip in
-    let fq = finds_again other words q iq in
-    let call : p.call ≡ q.call = sym fp.call ∙ fq.call in
-    let op : p.op ≡ q.op = same_action p.op q.op (sym fp.fields.fields_are ∙ fq.fields.fields_are) in
-    λ i. record { call = call i; op = op i }
+one_entry depth other words p q ip iq = sym (tells_it depth words p ip) ∙ tells_it other words q iq

@@ -1,2 +1,3 @@
 -- The insides of models: no public clause cites them.
 pub mod Asked
+pub mod Telling

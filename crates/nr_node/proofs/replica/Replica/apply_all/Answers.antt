@@ -1,6 +1,6 @@
 use Rattle.std.proofs.Common.{◌≡◌, ◌<◌, ◌++◌, List, length, take, get_or, ap, sym, subst, arith, length-append}
 use Rattle.std.proofs.lemmas.List.{length-take-le}
-use Rattle.vs_types.specs.Operation.{IsAction}
+use Rattle.vs_types.specs.LogEntry.{IsLogEntry}
 use Rattle.vs_types.specs.declared.depth.Depth.{Depth}
 use Rattle.vs_types.specs.declared.log_entry.LogEntry.{LogEntry}
 use Rattle.nr_node.specs.inside.Replica.{ReplicaState}
@@ -14,8 +14,8 @@ apply-requires-clause-fits g c =
     let same = c.as_slice-entry-items.ensures.value in
     let within : i < length entries = omega (arith, c.loop-entry-test.true, ap (λ (l : List LogEntry). length l) same) in
     let Here : List LogEntry → Type 0 = λ l. x ≡ get_or l i x in
-    let Fits : Depth → Type 0 = λ d. IsAction d x.op in
-    let P : LogEntry → Type 0 = λ e. IsAction c.args.self.now.depth e.op in
+    let Fits : Depth → Type 0 = λ d. IsLogEntry d x in
+    let P : LogEntry → Type 0 = λ e. IsLogEntry c.args.self.now.depth e in
     subst Fits (ap (λ (r : ReplicaState). r.depth) (sym c.loop-entry.invariant)) (subst P (sym (subst Here same c.entry-item.is)) (c.requires.fit i x within))
 
 pub apply-requires-clause-room : goal.apply-requires-clause-room

@@ -1,0 +1,55 @@
+//! What a replica keeps of an entry that it has applied.
+ghost use Rattle.std.specs.Prelude.{◌≡◌};
+ghost use Rattle.vs_types.specs.LogEntry.{IsLogEntry};
+ghost use Rattle.vs_types.specs.declared.depth.Depth.TheVariants.{Five};
+
+use std::marker::Model;
+use vs_types::{Answer, Depth, LogEntry, pack, unpack};
+
+/// An entry of the log with what it was answered. The entry is kept as its two words: 40 bytes in all, in place of 64.
+#[derive(Debug, Drop)]
+pub(crate) struct Told {
+    words: [u64; 2],
+    answer: Answer,
+}
+
+impl Model for Told {
+    ghost use Rattle.vs_types.specs.LogEntry.{SpellsEntry};
+    ghost use Rattle.vs_types.specs.declared.depth.Depth.TheVariants.{Five};
+    ghost use Rattle.vs_types.specs.inside.Telling.{entry_in};
+    ghost use Rattle.nr_node.specs.inside.Told.{ToldState};
+
+    ghost Value = { ToldState };
+
+    ghost view = { λ t. record { entry = entry_in t.words; answer = t.answer } };
+
+    ghost invariant = { λ t. SpellsEntry Five t.words (entry_in t.words) };
+}
+
+impl Told {
+    /// An entry that is well formed at five levels, as one at four is, and its answer.
+    pub(crate) fn new(entry: LogEntry, answer: Answer) -> Told
+        requires { IsLogEntry Five entry }
+        ensures { result ≡ record { entry = entry; answer = answer } }
+    {
+        Told {
+            words: pack(entry),
+            answer,
+        }
+    }
+
+    pub(crate) fn entry(&self) -> LogEntry
+        ensures { result ≡ self.now.entry }
+    {
+        match unpack(Depth::Five, self.words) {
+            Some(entry) => entry,
+            None => unreachable!(),
+        }
+    }
+
+    pub(crate) fn answer(&self) -> Answer
+        ensures { result ≡ self.now.answer }
+    {
+        self.answer
+    }
+}
