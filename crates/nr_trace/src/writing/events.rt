@@ -5,50 +5,52 @@ ghost use Rattle.nr_trace.specs.Spelling.{event};
 
 use crate::event::Event;
 use crate::fields::AnswerFields;
-use crate::writing::numbers::{put_u8, put_u16, put_u32, put_u64};
 use vs_types::{Answer, Memory, Request};
 
-fn put_call(out: &mut Vec<u8>, replica: u8, thread: u16, request: Request) -> Result<(), Memory>
-    ensures { OnOk result
-        (out.new.items ≡ out.old.items ++ event (Event.Call replica thread request)) }
+fn call_bytes(replica: u8, thread: u16, request: Request) -> [u8; 24]
+    ensures { result ≡ event (Event.Call replica thread request) }
 {
     let fields = request.fields();
-    put_u8(out, 0)?;
-    put_u8(out, replica)?;
-    put_u16(out, thread)?;
-    put_u8(out, fields.kind)?;
-    put_u8(out, fields.size)?;
-    put_u8(out, fields.rights)?;
-    put_u8(out, 0)?;
-    put_u64(out, fields.address)?;
-    put_u64(out, fields.physical)?;
-    Ok(())
+    let [t0, t1] = thread.to_be_bytes();
+    let [a0, a1, a2, a3, a4, a5, a6, a7] = fields.address.to_be_bytes();
+    let [p0, p1, p2, p3, p4, p5, p6, p7] = fields.physical.to_be_bytes();
+    let (kind, size, rights) = (fields.kind, fields.size, fields.rights);
+    [
+        0, replica, t0, t1, kind, size, rights, 0, a0, a1, a2, a3, a4, a5, a6, a7, p0, p1, p2, p3,
+        p4, p5, p6, p7,
+    ]
 }
 
-fn put_reply(out: &mut Vec<u8>, call: u32, at: u32, answer: Answer) -> Result<(), Memory>
-    ensures { OnOk result (out.new.items ≡ out.old.items ++ event (Event.Reply call at answer)) }
+fn reply_bytes(call: u32, at: u32, answer: Answer) -> [u8; 24]
+    ensures { result ≡ event (Event.Reply call at answer) }
 {
     let fields = AnswerFields::of(answer);
-    put_u8(out, 1)?;
-    put_u8(out, fields.code)?;
-    put_u8(out, fields.size)?;
-    put_u8(out, fields.rights)?;
-    put_u32(out, call)?;
-    put_u32(out, at)?;
-    put_u32(out, 0)?;
-    put_u64(out, fields.value)?;
-    Ok(())
+    let [c0, c1, c2, c3] = call.to_be_bytes();
+    let [a0, a1, a2, a3] = at.to_be_bytes();
+    let [v0, v1, v2, v3, v4, v5, v6, v7] = fields.value.to_be_bytes();
+    let (code, size, rights) = (fields.code, fields.size, fields.rights);
+    [
+        1, code, size, rights, c0, c1, c2, c3, a0, a1, a2, a3, 0, 0, 0, 0, v0, v1, v2, v3, v4, v5,
+        v6, v7,
+    ]
 }
 
-pub(crate) fn put_event(out: &mut Vec<u8>, recorded: Event) -> Result<(), Memory>
-    ensures { OnOk result (out.new.items ≡ out.old.items ++ event recorded) }
+fn event_bytes(recorded: Event) -> [u8; 24]
+    ensures { result ≡ event recorded }
 {
     match recorded {
         Event::Call {
             replica,
             thread,
             request,
-        } => put_call(out, replica, thread, request),
-        Event::Reply { call, at, answer } => put_reply(out, call, at, answer),
+        } => call_bytes(replica, thread, request),
+        Event::Reply { call, at, answer } => reply_bytes(call, at, answer),
     }
+}
+
+pub(crate) fn put_event(out: &mut Vec<u8>, recorded: Event) -> Result<(), Memory>
+    ensures { OnOk result (out.new.items ≡ out.old.items ++ event recorded) }
+{
+    out.extend_from_slice(&event_bytes(recorded))?;
+    Ok(())
 }

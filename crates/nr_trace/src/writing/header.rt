@@ -5,20 +5,21 @@ ghost use Rattle.nr_trace.specs.Spelling.{magic, version_word, counts};
 
 use crate::fields::Counts;
 use crate::version::Version;
-use crate::writing::numbers::{put_u8, put_u16, put_u32};
+use crate::writing::numbers::put_u16;
 use vs_types::Memory;
 
-fn put_counts(out: &mut Vec<u8>, numbers: Counts) -> Result<(), Memory>
-    ensures { OnOk result (out.new.items ≡ out.old.items ++ counts numbers) }
+fn counts_bytes(numbers: Counts) -> [u8; 14]
+    ensures { result ≡ counts numbers }
 {
     let layout = numbers.layout;
-    put_u8(out, layout.depth().levels())?;
-    put_u8(out, layout.replicas())?;
-    put_u16(out, layout.threads())?;
-    put_u16(out, layout.tables())?;
-    put_u32(out, numbers.places)?;
-    put_u32(out, numbers.events)?;
-    Ok(())
+    let [h0, h1] = layout.threads().to_be_bytes();
+    let [t0, t1] = layout.tables().to_be_bytes();
+    let [p0, p1, p2, p3] = numbers.places.to_be_bytes();
+    let [e0, e1, e2, e3] = numbers.events.to_be_bytes();
+    let (levels, replicas) = (layout.depth().levels(), layout.replicas());
+    [
+        levels, replicas, h0, h1, t0, t1, p0, p1, p2, p3, e0, e1, e2, e3,
+    ]
 }
 
 /// The magic, the version and the counts.
@@ -28,6 +29,6 @@ pub(crate) fn put_header(out: &mut Vec<u8>, version: Version, numbers: Counts) -
 {
     out.extend_from_slice(b"NRVT")?;
     put_u16(out, version.code())?;
-    put_counts(out, numbers)?;
+    out.extend_from_slice(&counts_bytes(numbers))?;
     Ok(())
 }

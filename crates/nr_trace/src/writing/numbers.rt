@@ -1,16 +1,9 @@
 //! Numbers at the end of bytes.
 
 ghost use Rattle.std.specs.Prelude.{◌≡◌, ◌++◌, OnOk};
-ghost use Rattle.std.specs.Int.{w8, w16, w32, w64, to_be_bytes};
+ghost use Rattle.std.specs.Int.{w16, w32, w64, to_be_bytes};
 
 use vs_types::Memory;
-
-pub(crate) fn put_u8(out: &mut Vec<u8>, number: u8) -> Result<(), Memory>
-    ensures { OnOk result (out.new.items ≡ out.old.items ++ to_be_bytes w8 number) }
-{
-    out.push(number)?;
-    Ok(())
-}
 
 pub(crate) fn put_u16(out: &mut Vec<u8>, number: u16) -> Result<(), Memory>
     ensures { OnOk result (out.new.items ≡ out.old.items ++ to_be_bytes w16 number) }
