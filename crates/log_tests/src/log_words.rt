@@ -1,4 +1,4 @@
-use vs_types::{CALLS, Depth, LogEntry, Op, Rights, Size, pack, unpack};
+use vs_types::{CALLS, Depth, LogEntry, Op, Rights, Size, entry_of, pack, unpack};
 
 #[test]
 fn words_of_entries(rt: HostRuntime) {
@@ -36,7 +36,9 @@ fn words_of_entries(rt: HostRuntime) {
         let op = op.expect(&rt, "a well-formed operation");
         assert!(rt; call < CALLS);
         assert_eq!(rt; pack(LogEntry { call, op }), words);
-        assert_eq!(rt; unpack(depth, words), Some(LogEntry { call, op }));
+        let entry = unpack(depth, words).expect(&rt, "an entry");
+        assert_eq!(rt; entry, LogEntry { call, op });
+        assert_eq!(rt; entry_of(words), entry);
     }
 }
 

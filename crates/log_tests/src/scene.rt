@@ -91,6 +91,7 @@ fn run_on_log<N: LogName + Send + Sync, R: Wait + Abort + Threads + Sync>(
     requires passes { (layout.others ≤ OTHERS) × (N.passes ≡ layout.replicas + layout.others) }
 {
     let (log, passes) = RingLog::<N>::new(alloc, layout.depth, layout.replicas, layout.others)?;
+    assert_eq!(rt; log.depth(), layout.depth);
     run_named::<N, Brand, R>(rt, alloc, layout, &log, passes, test)
 }
 

@@ -4,7 +4,7 @@ ghost use Rattle.vs_types.specs.LogEntry.{IsLogEntry};
 ghost use Rattle.vs_types.specs.declared.depth.Depth.TheVariants.{Five};
 
 use std::marker::Model;
-use vs_types::{Answer, Depth, LogEntry, pack, unpack};
+use vs_types::{Answer, LogEntry, entry_of, pack};
 
 /// An entry of the log with what it was answered. The entry is kept as its two words: 40 bytes in all, in place of 64.
 #[derive(Debug, Drop)]
@@ -41,10 +41,7 @@ impl Told {
     pub(crate) fn entry(&self) -> LogEntry
         ensures { result ≡ self.now.entry }
     {
-        match unpack(Depth::Five, self.words) {
-            Some(entry) => entry,
-            None => unreachable!(),
-        }
+        entry_of(self.words)
     }
 
     pub(crate) fn answer(&self) -> Answer

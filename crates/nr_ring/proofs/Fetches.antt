@@ -8,13 +8,11 @@ use Rattle.std.proofs.lemmas.Option.{slice_get_within, get_or_from_slice_get}
 use Rattle.vs_types.specs.LogEntry.{IsLogEntry, SpellsEntry}
 use Rattle.vs_types.specs.declared.depth.Depth.{Depth}
 use Rattle.vs_types.specs.declared.log_entry.LogEntry.{LogEntry}
-use Rattle.vs_types.proofs.OneEntry.{one_entry}
-use Rattle.nr_ring.specs.LogHistory.{Log, tail, MayGoOn, IsLogHistory, log_after_event, log_after_events, log_after, new_log}
+use Rattle.nr_ring.specs.LogHistory.{Log, MayGoOn, IsLogHistory, log_after_event, log_after_events, log_after, new_log}
 use Rattle.nr_ring.specs.Words.{word_of}
 use Rattle.nr_ring.specs.inside.Batch.{HaveEntries}
 use Rattle.nr_ring.specs.declared.log_event.LogEvent.{LogEvent}
 use Rattle.nr_ring.specs.declared.log_event.LogEvent.TheVariants.{Append, Advance}
-use Rattle.nr_ring.proofs.SameWords.{item_of}
 
 -- all entries of a log are at its depth
 entries_fit : (depth : Depth) (log : Log) (events : List LogEvent) → MayGoOn depth log events → All (IsLogEntry depth) log.entries
@@ -41,14 +39,6 @@ spelled_at depth log from words place entry have fit there high =
     let first = ap (slice_index words) (sym (add-zero (word_of place))) ∙ have place entry 0 high there (omega arith) in
     let second = have place entry 1 high there (omega arith) in
     record { is_entry = item_holds (IsLogEntry depth) log.entries place entry there fit; spelled = λ i. first i ∷ second i ∷ [] }
-
--- what is found there is the entry
-pub found_at : (depth : Depth) (log : Log) (from : ℕ) (words : List ℕ) (place : ℕ) (entry : LogEntry) → HaveEntries log from words → All (IsLogEntry depth) log.entries
-    → from ≤ place → place < tail log
-    → SpellsEntry depth (slice_index words (word_of place) ∷ slice_index words (word_of place + 1) ∷ []) entry → slice_get log.entries place ≡ Some entry
-found_at depth log from words place entry have fit high lt spells =
-    let there = item_of log.entries place lt in
-    there.1 ∙ ap Some (one_entry depth depth _ there.0 entry (spelled_at depth log from words place there.0 have fit there.1 high) spells)
 
 -- one entry more of those that a replica has still to take
 pub take_one_more : (xs : List LogEntry) (from n at : ℕ) (x : LogEntry) → at ≡ from + n → slice_get xs at ≡ Some x

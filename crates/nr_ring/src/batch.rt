@@ -2,6 +2,7 @@
 ghost use Rattle.std.specs.Prelude.{◌≡◌, ◌<◌, ◌≤◌, ◌+◌, ◌-◌, ℕ, List, All, MatchResult, [], drop, length};
 ghost use Rattle.version_cell.specs.Changes.{changed};
 ghost use Rattle.vs_types.specs.LogEntry.{IsLogEntry};
+ghost use Rattle.vs_types.specs.declared.depth.Depth.{Depth};
 ghost use Rattle.vs_types.specs.declared.limits.TheConstants.{CALLS, LOG_PLACES};
 ghost use Rattle.nr_ring.specs.LogHistory.{AllKeepUp, HasRoom, Log, tail as tail_of};
 ghost use Rattle.nr_ring.specs.Words.{IsAppended, IsWordsOf, word_of};
@@ -13,7 +14,7 @@ use crate::words::{
     CELL_WORDS, CHANGES, COUNT_WORD, LOADS, LOCAL_WORDS, RING, RING_WORDS, TAIL_WORD,
 };
 use arrayvec::ArrayVec;
-use vs_types::{Depth, LOG_PLACES, LogEntry, pack, unpack};
+use vs_types::{LOG_PLACES, LogEntry, entry_of, pack};
 
 /// Tests that so many entries may be appended: the log does not end before, and each replica has the room.
 pub(crate) fn test_room(head: &[u64; RING_WORDS], count: u64) -> Result<(), AppendFault>
@@ -92,22 +93,18 @@ pub(crate) fn list_places(from: u64, to: u64, places: &mut ArrayVec<usize, LOADS
 
 /// Adds the entries from one place of the log to another, in order, whose words are among these.
 pub(crate) fn read_entries(
-    depth: Depth,
     words: &[u64; CELL_WORDS],
     from: u64,
     to: u64,
     entries: &mut ArrayVec<LogEntry, RING>,
 )
-    requires words { CanBeRead depth words.now from to }
+    requires words { (depth : Depth) × CanBeRead depth words.now from to }
     requires empty { entries.old.items ≡ [] }
-    ensures { (log : Log) → HaveEntries log from words.now → tail_of log ≡ to
+    ensures { (depth : Depth) (log : Log) → HaveEntries log from words.now → tail_of log ≡ to
         → All (IsLogEntry depth) log.entries → entries.new.items ≡ drop from log.entries }
 {
     for place in from..to {
         let at = first_word(place);
-        match unpack(depth, [words[at], words[at + 1]]) {
-            Some(entry) => entries.push(entry),
-            None => unreachable!(),
-        }
+        entries.push(entry_of([words[at], words[at + 1]]));
     }
 }

@@ -95,6 +95,13 @@ impl<J: LogName> RingLog<J> {
         Ok((log, passes))
     }
 
+    /// The depth of its entries.
+    pub fn depth(&self) -> Depth
+        ensures { result ≡ J.depth }
+    {
+        self.depth
+    }
+
     /// Splits a pass off the first one, which gives it the first replica that it owns and one of its rights.
     fn split_off(
         &self,
@@ -314,7 +321,7 @@ impl<J: LogName> RingLog<J> {
         {
             return false;
         }
-        read_entries(self.depth, &pass.loaded, from, to, entries);
+        read_entries(&pass.loaded, from, to, entries);
         true
     }
 

@@ -3,6 +3,7 @@ pub mod Computing
 pub mod LeafWords
 pub mod LogWords
 pub mod OneEntry
+pub mod Telling
 pub mod Lists
 pub mod Counts
 pub mod Accesses

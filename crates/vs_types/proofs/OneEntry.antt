@@ -35,7 +35,7 @@ bits_back false false false = refl
 rights_back : (rights : Rights) → rights_in (rights_code rights) ≡ rights
 rights_back rights = bits_back rights.write rights.user rights.exec
 
-abbrev action_of : RequestFields → Action
+abbrev pub action_of : RequestFields → Action
 action_of f = action_in f.kind f.size f.rights f.address f.physical
 
 action_back : (action : Action) → action_of (request_fields (Update action)) ≡ action
@@ -48,12 +48,17 @@ entry_at : (words : List ℕ) → entry_in words ≡ record { call = get_or word
 unfolding entry_in
 entry_at words = refl
 
+-- the operation that words tell is that of the entry that they spell
+pub told_op : (depth : Depth) (words : List ℕ) (entry : LogEntry) → SpellsEntry depth words entry
+    → action_of (fields_at (get_or words 0 0) (get_or words 1 0)) ≡ entry.op
+told_op depth words entry is = ap action_of (finds_again depth words entry is).fields.fields_are ∙ action_back entry.op
+
 -- words tell the entry that they spell
 pub tells_it : (depth : Depth) (words : List ℕ) (entry : LogEntry) → SpellsEntry depth words entry → entry_in words ≡ entry
 tells_it depth words entry is =
-    let found = finds_again depth words entry is in
-    let op : action_of (fields_at (get_or words 0 0) (get_or words 1 0)) ≡ entry.op = ap action_of found.fields.fields_are ∙ action_back entry.op in
-    entry_at words ∙ (λ i. record { call = found.call i; op = op i })
+    let call = (finds_again depth words entry is).call in
+    let op = told_op depth words entry is in
+    entry_at words ∙ (λ i. record { call = call i; op = op i })
 
 -- the words of an entry spell what they tell
 pub spells_told : (depth : Depth) (words : List ℕ) (entry : LogEntry) → IsLogEntry depth entry → words ≡ log_words entry

@@ -1,5 +1,5 @@
 -- Operations: which are well formed, and the first thing that is wrong with one.
-use Rattle.std.specs.Prelude.{◌≡◌, ℕ, ◌+◌, ◌%◌, ◌^◌, not, ◌==◌, nat_lt, Option, Some, None, if◌then◌else◌}
+use Rattle.std.specs.Prelude.{◌≡◌, ℕ, ◌+◌, ◌%◌, not, ◌==◌, nat_lt, Option, Some, None, if◌then◌else◌}
 use Rattle.vs_types.specs.Depth.{is_canonical, IsCanonical}
 use Rattle.vs_types.specs.Page.{bytes_of, IsPage}
 use Rattle.vs_types.specs.declared.depth.Depth.{Depth}

@@ -1,5 +1,5 @@
 -- Pages: which are well formed, and what they cover (Intel SDM volume 3A, chapter "Paging": page sizes and their levels).
-use Rattle.std.specs.Prelude.{◌≡◌, ℕ, ◌+◌, ◌%◌, ◌^◌, ◌≤◌, Bool, ◌&&◌, nat_lt, nat_le}
+use Rattle.std.specs.Prelude.{◌≡◌, ℕ, ◌+◌, ◌%◌, ◌≤◌, Bool, ◌&&◌, nat_lt, nat_le}
 use Rattle.vs_types.specs.Depth.{entry_bytes, IsCanonical}
 use Rattle.vs_types.specs.declared.depth.Depth.{Depth}
 use Rattle.vs_types.specs.declared.page.Page.{Page}

@@ -29,7 +29,7 @@ pub use entry::{Entry, Meaning};
 pub use fields::RequestFields;
 pub use frame::FRAME_WORDS;
 pub use limits::{CALLS, LOG_PLACES, MOST_LEVELS, REPLICAS, TABLES, THREADS};
-pub use log_entry::{LogEntry, pack, unpack};
+pub use log_entry::{LogEntry, entry_of, pack, unpack};
 pub use op::{Action, BadOp, Op};
 pub use page::{Page, Rights, Size};
 pub use refusal::{Fail, Memory};

@@ -1,12 +1,15 @@
 //! Entries of the log, and the two words that spell one.
-ghost use Rattle.std.specs.Prelude.{◌≡◌, ◌<◌};
+ghost use Rattle.std.specs.Prelude.{◌≡◌, ◌<◌, ◌%◌, ◌/◌};
 ghost use Rattle.vs_types.specs.Finds.{Finds};
 ghost use Rattle.vs_types.specs.LogEntry.{SpellsEntry, log_words};
+ghost use Rattle.vs_types.specs.declared.depth.Depth.{Depth};
+ghost use Rattle.vs_types.specs.inside.Telling.{action_in, rights_in, size_in};
 
 use crate::depth::Depth;
 use crate::fields::RequestFields;
 use crate::limits::CALLS;
-use crate::op::Op;
+use crate::op::{Action, Op};
+use crate::page::{Page, Rights, Size};
 use crate::request::{Query, Request};
 
 /// An operation in the log, with the number of the call that asked for it.
@@ -67,5 +70,55 @@ pub fn unpack(depth: Depth, words: [u64; 2]) -> Option<LogEntry>
             op,
         }),
         _ => None,
+    }
+}
+
+fn size_in(code: u64) -> Size
+    ensures { result ≡ size_in code }
+{
+    match code {
+        0 => Size::K4,
+        1 => Size::M2,
+        _ => Size::G1,
+    }
+}
+
+fn rights_in(code: u64) -> Rights
+    ensures { result ≡ rights_in code }
+{
+    Rights {
+        write: code % 2 != 0,
+        user: code / 2 % 2 != 0,
+        exec: code / 4 != 0,
+    }
+}
+
+fn action_in(codes: u64, address: u64, physical: u64) -> Action
+    ensures { result ≡ action_in (codes % 4) (codes / 4 % 4) (codes / 16) address physical }
+{
+    match codes % 4 {
+        0 => Action::Map(Page {
+            base: address,
+            size: size_in(codes / 4 % 4),
+            rights: rights_in(codes / 16),
+            phys: physical,
+        }),
+        1 => Action::Unmap(address),
+        _ => Action::Protect(address, rights_in(codes / 16)),
+    }
+}
+
+/// The entry that two words spell, at whatever depth; nothing is tested.
+pub fn entry_of(words: [u64; 2]) -> LogEntry
+    requires { (depth : Depth) × (entry : LogEntry) × SpellsEntry depth words entry }
+    ensures { (depth : Depth) (entry : LogEntry) → SpellsEntry depth words entry
+        → result ≡ entry }
+{
+    let [operation, rest] = words;
+    let codes = operation % 4096;
+    let action = action_in(codes, operation - codes, rest % (1 << 39) * 4096);
+    LogEntry {
+        call: (rest / (1 << 39)) as u32,
+        op: Op::of(action),
     }
 }

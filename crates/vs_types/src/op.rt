@@ -65,10 +65,10 @@ impl Op {
         if !depth.is_canonical(base) {
             return Err(BadOp::NotCanonical);
         }
-        if base % size.bytes() != 0 {
+        if !size.divides(base) {
             return Err(BadOp::Unaligned);
         }
-        if phys % size.bytes() != 0 {
+        if !size.divides(phys) {
             return Err(BadOp::PhysUnaligned);
         }
         if phys > Page::PHYS_END - size.bytes() {

@@ -1,4 +1,4 @@
-ghost use Rattle.std.specs.Prelude.{◌≡◌};
+ghost use Rattle.std.specs.Prelude.{◌≡◌, ◌==◌, ◌%◌};
 
 /// How many bytes a page has.
 #[derive(Clone, Copy, Debug, PartialEq, Eq)]
@@ -46,6 +46,17 @@ impl Size {
             Size::K4 => 1 << 12,
             Size::M2 => 1 << 21,
             Size::G1 => 1 << 30,
+        }
+    }
+
+    /// Whether it divides the number.
+    pub(crate) fn divides(self, number: u64) -> bool
+        ensures { result ≡ (number % bytes_of self == 0) }
+    {
+        match self {
+            Size::K4 => number % (1 << 12) == 0,
+            Size::M2 => number % (1 << 21) == 0,
+            Size::G1 => number % (1 << 30) == 0,
         }
     }
 

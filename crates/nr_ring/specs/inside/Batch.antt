@@ -57,6 +57,7 @@ pub record CanBeRead (depth : Depth) (words : List ℕ) (from to : ℕ) : Type 0
   pub near : to ≤ from + RING
 
 -- so many entries from a place on were read
-pub record IsRead (depth : Depth) (words : List ℕ) (from to n : ℕ) (entries : List LogEntry) : Type 0 where
+pub record IsRead (words : List ℕ) (from to n : ℕ) (entries : List LogEntry) : Type 0 where
   pub count : length entries ≡ n
-  pub are : (log : Log) → HaveEntries log from words → tail log ≡ to → All (IsLogEntry depth) log.entries → entries ≡ take n (drop from log.entries)
+  pub are : (depth : Depth) (log : Log) → HaveEntries log from words → tail log ≡ to → All (IsLogEntry depth) log.entries
+      → entries ≡ take n (drop from log.entries)

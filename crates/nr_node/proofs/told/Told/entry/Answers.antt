@@ -1,8 +1,10 @@
-use Rattle.std.proofs.Common.{ap, sym, ◌∙◌}
+use Rattle.std.proofs.Common.{ap, ◌∙◌}
 use Rattle.vs_types.specs.declared.depth.Depth.TheVariants.{Five}
-use Rattle.vs_types.proofs.OneEntry.{tells_it}
 use Rattle.nr_node.specs.inside.Told.{ToldState}
 use Rattle.nr_node.proofs.told.Told.entry.Goals as goal
 
+pub entry_of-requires : goal.entry_of-requires
+entry_of-requires c = (Five, _, c.self.invariant)
+
 pub returns : goal.returns
-returns c = sym (tells_it Five c.self.inside.words c.in-Some.entry c.in-Some.ensures) ∙ ap (λ (t : ToldState). t.entry) c.self.view_is
+returns c = c.entry_of.ensures Five _ c.self.invariant ∙ ap (λ (t : ToldState). t.entry) c.self.view_is

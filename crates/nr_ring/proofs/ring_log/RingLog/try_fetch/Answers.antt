@@ -1,10 +1,7 @@
 use Rattle.std.proofs.Common.{rules, ◌≡◌, ◌+◌, ◌<◌, ◌≤◌, ℕ, List, All, drop, refl, ap, sym, subst, ◌∙◌, arith}
 use Rattle.std.specs.Prelude.{slice_index}
-use Rattle.vs_types.specs.LogEntry.{IsLogEntry}
-use Rattle.vs_types.specs.declared.depth.Depth.{Depth}
 use Rattle.nr_ring.specs.LogHistory.{local_of, log_after}
 use Rattle.nr_ring.specs.Pass.{Known}
-use Rattle.nr_ring.specs.inside.Batch.{CanBeRead}
 use Rattle.nr_ring.proofs.Advances.{owner_remembers, same_replica}
 use Rattle.nr_ring.proofs.Appends.{from_local, have_loaded, in_ring}
 use Rattle.nr_ring.proofs.Fetches.{history_entries}
@@ -48,18 +45,18 @@ read_entries-requires-clause-words g c =
     let is = owner_remembers depth replicas words _ r view view (look_remembers _ _ _ _ _ _ _ c.pass.invariant c.load_as.ensures.rule) refl c.in-Some.is in
     let begins : Begins head words = λ word lt. c.head-head.ensures word lt ∙ ap (λ (ws : List ℕ). slice_index ws word) (sym loaded.0) in
     let ring = in_ring depth replicas head words r from view is begins (ap (λ n. slice_index head (2 + n)) c.from.ensures) in
-    let Alike : List ℕ → Type 0 = λ places. All (λ place. slice_index c.load_as.new.words place ≡ slice_index words place) places in
-    let Deep : Depth → Type 0 = λ d. CanBeRead d c.load_as.new.words from (slice_index head 0) in
-    subst Deep (sym c.self.invariant)
-    record {
-      log = log;
-      have = have_loaded log from (slice_index head 0) c.list_places.new.places.items c.load_as.new.words words ring c.list_places.ensures.listed
-          (subst Alike c.as_slice-places.ensures.value loaded.1) is.words_are;
-      fit = history_entries depth replicas view.seen is.is_history;
-      ends_at = ring.ends_at;
-      low = ring.low;
-      near = ring.near;
-    }
+    let Alike : List ℕ → Type 0 = λ places. All (λ place. slice_index c.load_as.new.words place ≡ slice_index words place) places in (
+      depth,
+      record {
+        log = log;
+        have = have_loaded log from (slice_index head 0) c.list_places.new.places.items c.load_as.new.words words ring c.list_places.ensures.listed
+            (subst Alike c.as_slice-places.ensures.value loaded.1) is.words_are;
+        fit = history_entries depth replicas view.seen is.is_history;
+        ends_at = ring.ends_at;
+        low = ring.low;
+        near = ring.near;
+      },
+    )
 
 pub returns-clause-fetched : goal.returns-clause-fetched
 returns-clause-fetched g c =
@@ -78,10 +75,9 @@ returns-clause-fetched g c =
     let ring = in_ring depth replicas head words r from view is begins at in
     let fit = history_entries depth replicas view.seen is.is_history in
     let Alike : List ℕ → Type 0 = λ places. All (λ place. slice_index c.load_as.new.words place ≡ slice_index words place) places in
-    let Fit : Depth → Type 0 = λ d. All (IsLogEntry d) log.entries in
     let have = have_loaded log from (slice_index head 0) c.list_places.new.places.items c.load_as.new.words words ring c.list_places.ensures.listed
     (subst Alike c.as_slice-places.ensures.value loaded.1) is.words_are in
     λ _ replica owns.
     let same : replica ≡ r = same_replica view.owns replica r (c.load_as.ensures.rule.looked.owns ∙ ap (λ (k : Known). k.view.owns) c.pass.view_is ∙ owns) is.owns in
-    c.read_entries.ensures log have ring.ends_at (subst Fit (sym c.self.invariant) fit)
+    c.read_entries.ensures depth log have ring.ends_at fit
     ∙ ap (λ n. drop n log.entries) (from_local depth replicas head words r from view is begins at ∙ ap (λ p. local_of log p) (sym same))
