@@ -3,10 +3,9 @@ use Rattle.std.specs.Prelude.{◌≡◌, ℕ, ◌<◌, ◌≤◌, [], All, Some,
 use Rattle.vs_types.specs.declared.answer.Answer.{Answer}
 use Rattle.vs_types.specs.declared.depth.Depth.{Depth}
 use Rattle.vs_types.specs.declared.log_entry.LogEntry.{LogEntry}
-use Rattle.vs_types.specs.declared.op.Action.{Action}
 use Rattle.vs_types.specs.Config.{Layout}
 use Rattle.vs_types.specs.Space.{Space}
-use Rattle.nr_ring.specs.LogHistory.{Log, IsLogHistory, log_after, tail}
+use Rattle.nr_ring.specs.LogHistory.{Log, IsLogHistory, tail}
 use Rattle.nr_ring.specs.Pass.{TableId}
 use Rattle.nr_ring.specs.View.{HasSeenAdvances, StartsWith}
 use Rattle.nr_ring.specs.declared.view.View.{View}

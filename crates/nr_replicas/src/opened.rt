@@ -7,6 +7,7 @@ use crate::local::Local;
 use crate::name::ReplicasName;
 use crate::replicas::Replicas;
 use crate::shared::Shared;
+use crossbeam_utils::CachePadded;
 use nr_node::Node;
 use nr_ring::{LogName, LogPass, RingLog};
 use nr_slots::Slots;
@@ -155,7 +156,7 @@ fn share<J: LogName, K: ReplicasName>(
     for node in nodes {
         let slots = Slots::new(alloc, config.threads())?;
         shared.push(Shared {
-            local: Mutex::new(Local::new(node)),
+            local: CachePadded::new(Mutex::new(Local::new(node))),
             slots,
         })?;
     }

@@ -87,7 +87,7 @@ fn node_of<J: LogName, K: ReplicasName, R: Wait>(
     ensures owner { result.known.view.owns ≡ number ∷ [] }
 {
     let Shared { local, slots: _ } = replica;
-    let node = local.into_inner().into_node();
+    let node = local.into_inner().into_inner().into_node();
     if usize::from(node.number()) == number {
         return node;
     }

@@ -1,13 +1,14 @@
 use crate::fitting::Fitting;
 use crate::local::Local;
 use crate::name::ReplicasName;
+use crossbeam_utils::CachePadded;
 use nr_ring::LogName;
 use nr_slots::Slots;
 use std::sync::Mutex;
 
-/// A replica as its threads share it: its node under a lock, and a slot for each thread.
+/// A replica as its threads share it: its node under a lock, on cache lines of their own, and a slot for each thread.
 #[derive(Drop)]
 pub(crate) struct Shared<J: LogName, K: ReplicasName> {
-    pub(crate) local: Mutex<Local<J, K>>,
+    pub(crate) local: CachePadded<Mutex<Local<J, K>>>,
     pub(crate) slots: Slots<Fitting<J>>,
 }

@@ -1,10 +1,8 @@
 use Rattle.std.proofs.Common.{◌≡◌, ◌≤◌, ap, subst, sym, ◌∙◌, ℕ, arith}
-use Rattle.vs_types.specs.Space.{Space}
 use Rattle.nr_ring.specs.Laws.{HasGoneOn}
 use Rattle.nr_ring.specs.LogHistory.{log_after}
-use Rattle.nr_node.specs.Node.{NodeState, applied_of, log_of, node_space}
+use Rattle.nr_node.specs.Node.{NodeState, applied_of, log_of}
 use Rattle.nr_node.specs.Spaces.{space_at}
-use Rattle.nr_replicas.specs.Replicas.{IsReadAt}
 use Rattle.nr_replicas.specs.inside.Replicas.{answer_in}
 use Rattle.nr_replicas.proofs.Logs.{read_stays, told_goes_on}
 use Rattle.nr_replicas.proofs.local.Local.read.Goals as goal

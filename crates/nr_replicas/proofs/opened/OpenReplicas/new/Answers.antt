@@ -1,5 +1,5 @@
-use Rattle.std.proofs.Common.{◌≡◌, ℕ, ◌≤◌, List, [], All, length, take, drop, replicate, ap, sym, subst, ◌∙◌, arith}
-use Rattle.nr_ring.specs.Pass.{Known, new_pass, new_passes}
+use Rattle.std.proofs.Common.{ℕ, List, [], All, length, take, drop, replicate, ap, sym, subst, ◌∙◌, arith}
+use Rattle.nr_ring.specs.Pass.{Known, new_pass}
 use Rattle.nr_replicas.specs.inside.Replicas.{IsNewPass}
 use Rattle.nr_replicas.proofs.NewPasses.{enough, first_are_new, rest_are}
 use Rattle.nr_replicas.proofs.opened.OpenReplicas.new.Goals as goal

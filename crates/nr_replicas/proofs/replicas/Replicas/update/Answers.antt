@@ -1,8 +1,8 @@
-use Rattle.std.proofs.Common.{◌≡◌, ◌≤◌, ap, sym, subst, ◌∙◌, arith}
+use Rattle.std.proofs.Common.{◌≤◌, ap, sym, subst, arith}
 use Rattle.nr_ring.specs.LogHistory.{log_after, tail}
 use Rattle.nr_ring.specs.Pass.{Known}
 use Rattle.nr_ring.specs.declared.tails.Tails.{Tails}
-use Rattle.nr_replicas.specs.Replicas.{HasHeard, IsAnsweredAt}
+use Rattle.nr_replicas.specs.Replicas.{HasHeard}
 use Rattle.nr_replicas.proofs.Hearing.{heard_on, heard_twice, later_than, looked_heard}
 use Rattle.nr_replicas.proofs.Logs.{tail_rises}
 use Rattle.nr_replicas.proofs.replicas.Replicas.update.Goals as goal
