@@ -1,18 +1,17 @@
 -- What looks, and taking entries, leave as it was.
-use Rattle.std.proofs.Common.{◌≡◌, ℕ, ◌+◌, ◌≤◌, List, [], ◌∷◌, ◌++◌, All, length, drop, get_or, ⊎_elim, refl, ap, sym, subst, ◌∙◌, arith}
-use Rattle.std.proofs.Math.ListN.{length-append}
-use Rattle.std.proofs.lemmas.List.{append_assoc, length-drop, get_or-set_same}
-use Rattle.std.proofs.lemmas.List.Elements.{All-append, All-drop}
+use Rattle.std.proofs.Common.{◌≡◌, ℕ, ◌+◌, ◌≤◌, List, [], ◌∷◌, ◌++◌, All, length, drop, ⊎_elim, refl, ap, sym, subst, ◌∙◌, arith}
+use Rattle.std.proofs.lemmas.List.{length-drop, get_or-set_same}
+use Rattle.std.proofs.lemmas.List.Elements.{All-drop}
 use Rattle.std.proofs.lemmas.Bool.{cases_eq}
 use Rattle.vs_types.specs.LogEntry.{IsLogEntry}
 use Rattle.vs_types.specs.declared.depth.Depth.{Depth}
 use Rattle.vs_types.specs.declared.limits.TheConstants.{LOG_PLACES}
 use Rattle.vs_types.specs.declared.log_entry.LogEntry.{LogEntry}
-use Rattle.nr_ring.specs.Calls.{HasLooked, HasMoved, HasTaken, LiesAhead, MayTake, with_event}
-use Rattle.nr_ring.specs.Entries.{to_take}
+use Rattle.nr_ring.specs.Calls.{HasLooked, HasTaken, with_event}
+use Rattle.nr_ring.specs.Entries.{HasTakenAll, to_take}
 use Rattle.nr_ring.specs.LogHistory.{Log, IsLogHistory, local_of, log_after, log_after_events, new_log, tail}
 use Rattle.nr_ring.specs.Laws.{HasGoneOn, FitsTheRing}
-use Rattle.nr_ring.specs.View.{HasSeenAdvances, IsElse, StartsWith}
+use Rattle.nr_ring.specs.View.{HasSeenAdvances, StartsWith}
 use Rattle.nr_ring.specs.declared.log_event.LogEvent.{LogEvent}
 use Rattle.nr_ring.specs.declared.log_event.LogEvent.TheVariants.{Advance}
 use Rattle.nr_ring.specs.declared.view.View.{View}
@@ -20,18 +19,6 @@ use Rattle.nr_ring.proofs.Fetches.{history_entries}
 use Rattle.nr_ring.proofs.Histories.{after_both, events_go_on, goes_on_after, history_fits, local_since}
 use Rattle.nr_ring.proofs.Views.{after_one_more}
 use Rattle.nr_node.specs.Node.{replica_of, taken_by}
-use Rattle.nr_node.specs.inside.Node.{HasTakenAll}
-
--- ---- beginnings
-
-pub begins_begins : (first second third : List LogEvent) → StartsWith second first → StartsWith third second → StartsWith third first
-begins_begins first second third p q =
-    (p.0 ++ q.0, q.1 ∙ ap (λ (l : List LogEvent). l ++ q.0) p.1 ∙ append_assoc first p.0 q.0)
-
-advances_advances : (replica : ℕ) (first second third : List LogEvent) → HasSeenAdvances replica second first → HasSeenAdvances replica third second
-    → HasSeenAdvances replica third first
-advances_advances replica first second third p q =
-    (p.0 ++ q.0, q.1 ∙ ap (λ (l : List LogEvent). l ++ q.0) p.1 ∙ append_assoc first p.0 q.0, All-append (IsElse replica) p.0 q.0 p.2 q.2)
 
 -- a later log has gone on from the earlier one
 pub later_goes_on : (depth : Depth) (replicas : ℕ) (earlier later : List LogEvent) → IsLogHistory depth replicas later → StartsWith later earlier
@@ -44,20 +31,6 @@ later_goes_on depth replicas earlier later is begins =
     subst (HasGoneOn (log_after replicas earlier)) same on
 
 -- ---- looks
-
-pub looks_twice : (depth : Depth) (replicas : ℕ) (a b c : View) → HasLooked depth replicas a b → HasLooked depth replicas b c → HasLooked depth replicas a c
-looks_twice depth replicas a b c p q = record {
-  is_history = q.is_history;
-  seen = begins_begins a.seen b.seen c.seen p.seen q.seen;
-  told = subst (All (StartsWith c.seen)) p.told_stays q.told;
-  advances = λ k d lt.
-      let Q : List ℕ → Type 0 = λ l. All (λ replica. HasSeenAdvances replica c.seen b.seen) l in
-      advances_advances (get_or a.owns k d) a.seen b.seen c.seen (p.advances k d lt) (subst Q p.owns q.advances k d lt);
-  told_stays = q.told_stays ∙ p.told_stays;
-  mine = q.mine ∙ p.mine;
-  owns = q.owns ∙ p.owns;
-  rights = q.rights ∙ p.rights;
-}
 
 pub looked_owner : (depth : Depth) (replicas : ℕ) (a b : View) → HasLooked depth replicas a b → a.owns ≡ replica_of a ∷ [] → b.owns ≡ replica_of b ∷ []
 looked_owner depth replicas a b p owner =
@@ -92,15 +65,6 @@ fetched_all depth replicas a b entries applied p owner taken fetched =
     ap (λ r. local_of log r) (sym (looked_replica depth replicas a b p)) ∙ looked_taken depth replicas a b p owner ∙ taken in
     let low = (looked_fits depth replicas a b p).written (replica_of a) in
     omega (arith, ap (λ (l : List LogEntry). length l) fetched, length-drop (local_of log (replica_of a)) log.entries, here, low)
-
-pub may_take : (depth : Depth) (replicas : ℕ) (a b : View) (to : ℕ) → HasLooked depth replicas a b → a.owns ≡ replica_of a ∷ []
-    → to ≡ tail (log_after replicas b.seen) → MayTake replicas b to
-may_take depth replicas a b to p owner is = record {
-  replica = replica_of b;
-  owns = looked_owner depth replicas a b p owner;
-  above = let low = (looked_fits depth replicas a b p).written (replica_of b) in omega arith;
-  written = omega arith;
-}
 
 -- what holds where nothing was taken, since nothing was there, and where an event took it, holds after entries were taken
 after_taking : (replicas : ℕ) (b c : View) (to : ℕ) (P : View → Type 0) → HasTaken replicas b to c
@@ -155,29 +119,14 @@ took_all depth replicas a c entries took owner =
     let here : local_of log (replica_of a) ≡ taken_by replicas a =
     ap (λ r. local_of log r) (sym (looked_replica depth replicas a b took.looked)) ∙ looked_taken depth replicas a b took.looked owner in
     let are : entries ≡ drop (taken_by replicas a) (log_after replicas c.seen).entries =
-    took.entries_are ∙ ap (λ n. drop n log.entries) here ∙ ap (drop (taken_by replicas a)) (sym same) in
+    took.entries_are (replica_of a) owner ∙ ap (λ n. drop n log.entries) here ∙ ap (drop (taken_by replicas a)) (sym same) in
     let fit = history_entries depth replicas c.seen took.history in
     record {
       owns = taken_owns replicas b c to took.taken ∙ took.looked.owns;
       more = (on.entries.0, same ∙ on.entries.1);
       all = taken_local depth replicas b c to took.taken took.history ∙ sym tails;
-      count = fetched_all depth replicas a b entries (taken_by replicas a) took.looked owner refl took.entries_are ∙ sym tails;
+      count = fetched_all depth replicas a b entries (taken_by replicas a) took.looked owner refl (took.entries_are (replica_of a) owner) ∙ sym tails;
       entries_are = are;
       fit = subst (All (IsLogEntry depth)) (sym are) (All-drop (IsLogEntry depth) (taken_by replicas a) (log_after replicas c.seen).entries fit);
       ends = (history_fits depth replicas c.seen took.history).ends;
     }
-
--- an event that came after a look came after what was seen before it
-pub moved_since : (depth : Depth) (replicas : ℕ) (a b c : View) → HasLooked depth replicas a b → HasMoved b c → HasMoved a c
-moved_since depth replicas a b c p moved =
-    (moved.0, omega (arith, moved.1, ap (λ (l : List LogEvent). length l) p.seen.1, length-append a.seen p.seen.0), moved.2, moved.3)
-
--- where there were entries to take there still are, whatever came since
-pub ahead_since : (depth : Depth) (replicas : ℕ) (b c : View) (to : ℕ) → HasLooked depth replicas b c → b.owns ≡ replica_of b ∷ []
-    → LiesAhead replicas b to → to ≤ tail (log_after replicas b.seen) → taken_by replicas c + 1 ≤ tail (log_after replicas c.seen)
-ahead_since depth replicas b c to p owner ahead le =
-    let on = looked_on depth replicas b c p in
-    let first = log_after replicas b.seen in
-    let longer : tail first ≤ tail (log_after replicas c.seen) =
-    omega (arith, ap (λ (l : List LogEntry). length l) on.entries.1, length-append first.entries on.entries.0) in
-    omega (arith, looked_taken depth replicas b c p owner, ahead (replica_of b) owner, longer)

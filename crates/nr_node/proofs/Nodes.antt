@@ -12,7 +12,7 @@ use Rattle.vs_types.specs.declared.depth.Depth.{Depth}
 use Rattle.vs_types.specs.declared.limits.TheConstants.{CALLS, LOG_PLACES}
 use Rattle.vs_types.specs.declared.log_entry.LogEntry.{LogEntry}
 use Rattle.nr_ring.specs.Calls.{HasLooked, with_event}
-use Rattle.nr_ring.specs.Entries.{HasAppended}
+use Rattle.nr_ring.specs.Entries.{HasAppended, HasTakenAll}
 use Rattle.nr_ring.specs.LogHistory.{Log, local_of, log_after, log_after_event, new_log, tail}
 use Rattle.nr_ring.specs.Pass.{Known}
 use Rattle.nr_ring.specs.declared.log_event.LogEvent.TheVariants.{Append}
@@ -22,7 +22,7 @@ use Rattle.nr_ring.proofs.Views.{after_one_more}
 use Rattle.nr_slots.specs.declared.waiting.Waiting.{Waiting}
 use Rattle.nr_node.specs.Calls.{HasCaughtUp, answers_of, entries_of, entry_of, left_of}
 use Rattle.nr_node.specs.Node.{IsNode, NodeState, StandFrom, applied_of, log_of, replica_of, taken_by}
-use Rattle.nr_node.specs.inside.Node.{Follows, HasTakenAll, node_state}
+use Rattle.nr_node.specs.inside.Node.{Follows, node_state}
 use Rattle.nr_node.specs.inside.Replica.{ReplicaState}
 use Rattle.nr_node.proofs.Lists.{same_some}
 use Rattle.nr_node.proofs.Looks.{TookAll, looked_fits, looked_on, looked_owner, looked_taken}

@@ -13,7 +13,6 @@ ghost use Rattle.nr_ring.specs.View.{HasSeenAdvances, StartsWith};
 ghost use Rattle.nr_node.specs.Calls.{HasCaughtUp, HasStayed, answers_of, entries_of};
 ghost use Rattle.nr_node.specs.Node.{IsNode, applied_of, held_of, log_of, new_node, node_space, replica_of, taken_by};
 ghost use Rattle.nr_node.specs.Spaces.{answer_at};
-ghost use Rattle.nr_node.specs.inside.Node.{HasTakenAll};
 
 use crate::batch::{ask_for, keep_unplaced};
 use crate::held::Held;
@@ -199,9 +198,8 @@ impl<S: FrameStore, J: LogName> Node<S, J> {
             (applied_of J.replicas self.new + 1 ≤ tail (log_of J.replicas self.new)) }
         ensures no_answer { OnErr result (answers.new.items ≡ []) }
     {
-        let applied = self.replica.applied();
         self.entries.clear();
-        take_entries(rt, log, &mut self.pass, applied, &mut self.entries)?;
+        log.take(rt, &mut self.pass, &mut self.entries)?;
         self.replica.apply_all(&self.entries);
         self.replica.answer(self.first, &self.batch, answers);
         keep_unplaced(&mut self.batch, self.first);
@@ -271,29 +269,4 @@ impl<S: FrameStore, J: LogName> Node<S, J> {
     {
         log.meet(&mut self.pass, told);
     }
-}
-
-/// Takes all entries that the log then has: fetches them, and advances the replica past them.
-fn take_entries<J: LogName, R: Wait>(
-    rt: &R,
-    log: &RingLog<J>,
-    pass: &mut LogPass<J>,
-    applied: u32,
-    entries: &mut ArrayVec<LogEntry, RING>,
-) -> Result<(), Moved>
-    requires log { pass.old.log ≡ log.now }
-    requires owner { pass.old.view.owns ≡ replica_of pass.old.view ∷ [] }
-    requires applied { taken_by J.replicas pass.old.view ≡ applied }
-    requires empty { entries.old.items ≡ [] }
-    ensures log { pass.new.log ≡ pass.old.log }
-    ensures took { OnOk result
-        (HasTakenAll J.depth J.replicas pass.old.view entries.new.items pass.new.view) }
-    ensures looked { OnErr result (HasLooked J.depth J.replicas pass.old.view pass.new.view) }
-    ensures moved { OnErr result (HasMoved pass.old.view pass.new.view) }
-    ensures ahead { OnErr result
-        (taken_by J.replicas pass.new.view + 1 ≤ tail (log_after J.replicas pass.new.view.seen)) }
-{
-    log.fetch(rt, pass, entries);
-    let to = applied + entries.len() as u32;
-    log.advance(rt, pass, to)
 }

@@ -4,14 +4,17 @@ ghost use Rattle.vs_types.specs.LogEntry.{IsLogEntry};
 ghost use Rattle.vs_types.specs.declared.depth.Depth.TheVariants.{Five};
 
 use std::marker::Model;
+use std::mem::size_of;
 use vs_types::{Answer, LogEntry, entry_of, pack};
 
-/// An entry of the log with what it was answered. The entry is kept as its two words: 40 bytes in all, in place of 64.
+/// An entry of the log, as its two words, with what it was answered.
 #[derive(Debug, Drop)]
 pub(crate) struct Told {
     words: [u64; 2],
     answer: Answer,
 }
+
+const _: () = prove!(size_of::<Told>() == 40);
 
 impl Model for Told {
     ghost use Rattle.vs_types.specs.LogEntry.{SpellsEntry};

@@ -1,13 +1,13 @@
 -- What a history begins with; and the local tail of a replica as its owner sees it.
-use Rattle.std.proofs.Common.{◌≡◌, ℕ, zero, suc, ◌<◌, List, [], ◌∷◌, ◌++◌, All, Contains, Option, None, Some, ⊎_elim, refl, ap, sym, subst, ◌∙◌, arith}
+use Rattle.std.proofs.Common.{◌≡◌, ℕ, zero, suc, ◌<◌, ◌≤◌, List, [], ◌∷◌, ◌++◌, All, Contains, Option, None, Some, length, length-append, ⊎_elim, refl, ap, sym, subst, ◌∙◌, arith}
 use Rattle.std.proofs.lemmas.List.{get_or-set_same}
 use Rattle.std.proofs.lemmas.Bool.Decides.{eqb_tells}
 use Rattle.vs_types.specs.declared.depth.Depth.{Depth}
 use Rattle.vs_types.specs.declared.log_entry.LogEntry.{LogEntry}
-use Rattle.nr_ring.specs.LogHistory.{Log, IsLogHistory, MayGoOn, MayFollow, local_of, log_after, log_after_event, log_after_events, new_log}
+use Rattle.nr_ring.specs.LogHistory.{Log, IsLogHistory, MayGoOn, MayFollow, local_of, log_after, log_after_event, log_after_events, new_log, tail}
 use Rattle.nr_ring.specs.Laws.{HasGoneOn}
 use Rattle.nr_ring.specs.View.{HasSeenAdvances, StartsWith}
-use Rattle.nr_ring.specs.Calls.{HasLooked, HasTaken, with_event}
+use Rattle.nr_ring.specs.Calls.{HasLooked, HasTaken, LiesAhead, with_event}
 use Rattle.nr_ring.specs.Entries.{HasAppended}
 use Rattle.nr_ring.specs.declared.log_event.LogEvent.{LogEvent}
 use Rattle.nr_ring.specs.declared.log_event.LogEvent.TheVariants.{Append, Advance}
@@ -38,6 +38,19 @@ pub look_keeps : (depth : Depth) (replicas replica : ℕ) (before after : View) 
 look_keeps depth replicas replica before after looked has =
     local_since replicas replica after.seen before.seen
     (holds_of (λ r. HasSeenAdvances r after.seen before.seen) before.owns replica looked.advances has)
+
+-- where a replica had entries to take, it has them still after a look
+pub ahead_still : (depth : Depth) (replicas replica : ℕ) (before after : View) → HasLooked depth replicas before after → before.owns ≡ replica ∷ []
+    → local_of (log_after replicas before.seen) replica < tail (log_after replicas before.seen) → LiesAhead replicas after (tail (log_after replicas after.seen))
+ahead_still depth replicas replica before after looked owns ahead = λ r now.
+    let same : r ≡ replica = same_replica after.owns r replica now (looked.owns ∙ owns) in
+    let Has : List ℕ → Type 0 = λ l. Contains l replica in
+    let stays = look_keeps depth replicas replica before after looked (subst Has (sym owns) (0, omega arith, refl)) in
+    let on = beginning_goes_on depth replicas after.seen before.seen looked.is_history looked.seen in
+    let first = log_after replicas before.seen in
+    let longer : tail first ≤ tail (log_after replicas after.seen) =
+    omega (arith, ap (λ (l : List LogEntry). length l) on.entries.1, length-append first.entries on.entries.0) in
+    omega (arith, ap (λ p. local_of (log_after replicas after.seen) p) same, stays, ahead, longer)
 
 one_more : (replicas : ℕ) (v w : View) (event : LogEvent) → w ≡ with_event v event
     → log_after replicas w.seen ≡ log_after_event (log_after replicas v.seen) event

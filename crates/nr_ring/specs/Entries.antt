@@ -1,9 +1,9 @@
 -- Appending entries to a log, and taking them.
-use Rattle.std.specs.Prelude.{◌≡◌, ℕ, List, drop}
+use Rattle.std.specs.Prelude.{◌≡◌, ℕ, List, [], ◌∷◌, drop}
 use Rattle.vs_types.specs.declared.depth.Depth.{Depth}
 use Rattle.vs_types.specs.declared.log_entry.LogEntry.{LogEntry}
-use Rattle.nr_ring.specs.LogHistory.{Log, AllKeepUp, HasRoom, IsEnded, IsFull, local_of, log_after, tail}
-use Rattle.nr_ring.specs.Calls.{HasLooked, HasMoved, with_event}
+use Rattle.nr_ring.specs.LogHistory.{Log, AllKeepUp, HasRoom, IsEnded, IsFull, IsLogHistory, local_of, log_after, tail}
+use Rattle.nr_ring.specs.Calls.{HasLooked, HasMoved, HasTaken, with_event}
 use Rattle.nr_ring.specs.Pass.{tails_of}
 use Rattle.nr_ring.specs.declared.log_event.LogEvent.TheVariants.{Append}
 use Rattle.nr_ring.specs.declared.tails.AppendFault.{AppendFault}
@@ -13,6 +13,14 @@ use Rattle.nr_ring.specs.declared.view.View.{View}
 -- the entries that a replica has still to take
 abbrev pub to_take : Log → ℕ → List LogEntry
 to_take log replica = drop (local_of log replica) log.entries
+
+-- the pass looked, and then took for its replica all entries that there were, which are these
+pub record HasTakenAll (depth : Depth) (replicas : ℕ) (before : View) (entries : List LogEntry) (after : View) : Type 0 where
+  pub between : View
+  pub looked : HasLooked depth replicas before between
+  pub taken : HasTaken replicas between (tail (log_after replicas between.seen)) after
+  pub entries_are : (replica : ℕ) → before.owns ≡ replica ∷ [] → entries ≡ to_take (log_after replicas between.seen) replica
+  pub history : IsLogHistory depth replicas after.seen
 
 -- the pass looked, and then appended the batch and nothing else: the batch stands at the end of the log, from this place on
 pub record HasAppended (depth : Depth) (replicas : ℕ) (before : View) (batch : List LogEntry) (place : ℕ) (after : View) : Type 0 where

@@ -141,7 +141,7 @@ module _ {V : Type 0} (wide h : ℕ) (holds : List ℕ → List V → Type 0) (c
         tt,
         subst (λ b. Rule (stepped s 0 (either b next n) id me.1 w keeps)) (sym (eq-eqb n at hit))
             (took s r id at last next x me.1 w hit up known refl (same_clients r.value s.views id me.0 w there refl r.kept)),
-        (refl, subst (λ (z : Stage). Taken next n z (Writing next x x)) (sym is) ((λ _. refl), λ miss. absurd (miss hit))),
+        (refl, subst (λ (z : Stage). Taken next n z (Writing next x x)) (sym is) ((λ _. (refl, omega (arith, hit, known.2))), λ miss. absurd (miss hit))),
       ))
       (λ miss. let w : D = doing (Seen at last x) v in (
         w,
@@ -336,7 +336,7 @@ module _ {V : Type 0} (wide h : ℕ) (holds : List ℕ → List V → Type 0) (c
           subst (λ b. Rule (stepped s 0 (either b v n) id me.1 w keeps)) (sym (eq-eqb n at hit))
               (swapped_at s r id at last v x y me.1 w hit known head_is twice more refl t.1),
           subst (λ (z : Stage). Swapped head h tells v n me.0.client t.0 z (Seen v v y)) (sym is)
-              ((λ _. (y, head_is, refl, subst (λ (z : List ℕ). tells me.0.client z y t.0) (sym same) t.2)), λ miss. absurd (miss hit)),
+              ((λ _. (y, head_is, refl, subst (λ (z : List ℕ). tells me.0.client z y t.0) (sym same) t.2, omega (arith, hit, known.2))), λ miss. absurd (miss hit)),
         ))
         (λ miss. let w : D = doing (Seen at last x) me.0.client in (
           w,

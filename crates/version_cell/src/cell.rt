@@ -7,7 +7,7 @@ ghost use Rattle.version_cell.specs.Heads.{IsCoded};
 use crate::pass::Pass;
 use crate::plays::{Cut, Glue, Look, Versions};
 use crate::rule::{CellOutcome, CellRule};
-use crate::seats::{change_head, exchange, load_each, put_head, turn_to, wait_for_change};
+use crate::seats::{change_head, load_and_exchange, load_each, put_head, turn_to, wait_for_change};
 use crate::stage::Doing;
 use atomic_table::{Join, Split, Table};
 use std::alloc::{AllocError, Global};
@@ -150,16 +150,22 @@ impl<V, P: CellRule<V>, const H: usize, const N: usize> VersionCell<V, P, H, N> 
     /// Changes the words, each change putting a word at a place, where those of the pass are still those of the cell. Else it
     /// looks, and the words that it finds have come further. The code is that of the words after the changes.
     ///
+    /// Before that it loads the words at these places, which the version doesn't tell. Where the exchange is made, they are those
+    /// that stood there before it; else they count for nothing.
+    ///
     /// An exchange that is made waits for nobody, and is one step where the code tells all that is new. One that isn't may wait for a
     /// pass that is changing the cell.
     pub fn exchange_as<E: CellOutcome<V>, M: CellOutcome<V>, R: Wait>(
         &self,
         rt: &R,
         pass: &mut Pass<V, H, N>,
+        places: &[usize],
+        words: &mut [u64; N],
         code: u64,
         changes: &[(usize, u64)],
     ) -> bool
         requires cell { pass.old.cell ≡ self.now }
+        requires loads { All (λ place. (H ≤ place) × (place < N)) places.now }
         requires places { All (λ change. change.0 < N) changes.now }
         requires code { (code ≡ P.code (changed pass.old.words changes.now)) × (code < 2 ^ 63) }
         requires coded { IsCoded P.code P.head H (changed pass.old.words changes.now) }
@@ -173,10 +179,19 @@ impl<V, P: CellRule<V>, const H: usize, const N: usize> VersionCell<V, P, H, N> 
             × E.then pass.old.view pass.old.words pass.new.words pass.new.view)
             ((P.code pass.old.words < P.code pass.new.words)
             × M.then pass.old.view pass.new.words pass.new.words pass.new.view) }
+        ensures loaded { IsTrue result → All
+            (λ place. slice_index words.new place ≡ slice_index pass.old.words place) places.now }
     {
         let (version, next) = (pass.version, 2 * code);
-        let table = &self.table.shared;
-        if exchange::<E, V, P, H, N>(table, &mut pass.seat, version, next, changes) {
+        if load_and_exchange::<E, V, P, H, N>(
+            &self.table.shared,
+            &mut pass.seat,
+            places,
+            words,
+            version,
+            next,
+            changes,
+        ) {
             pass.version = next;
             change_head::<H>(&mut pass.head, changes);
             return true;

@@ -3,8 +3,8 @@ ghost use Rattle.std.specs.Prelude.{◌/◌, ◌≡◌, ◌≤◌, ◌+◌, ◌*
 ghost use Rattle.crossbeam_utils.specs.Register.{TurnsAt};
 ghost use Rattle.version_cell.specs.Changes.{changed};
 ghost use Rattle.version_cell.specs.Heads.{IsCoded};
-ghost use Rattle.version_cell.specs.inside.Heads.{AgreeTo, IsHead};
-ghost use Rattle.version_cell.specs.inside.Steps.{Fits, HasWaited, HasWritten, IsAt, IsSameSeat, IsWriting, Loaded, Stays};
+ghost use Rattle.version_cell.specs.inside.Heads.{AgreeAt, AgreeTo, IsHead};
+ghost use Rattle.version_cell.specs.inside.Steps.{Fits, HasStayed, HasWaited, HasWritten, IsAt, IsFresh, IsSameSeat, IsWriting, Loaded, Stays};
 ghost use Rattle.version_cell.specs.inside.Versions.{words_of};
 ghost use Rattle.version_cell.specs.declared.stage.Stage.TheVariants.{Seen, Writing};
 
@@ -98,9 +98,54 @@ pub(crate) fn load_each<V, P: CellRule<V>, const H: usize, const N: usize>(
     }
 }
 
+/// Loads the words at these places, which the version doesn't tell, and then makes the changes. Where they are made, nothing was changed
+/// since the seat saw the words, and those that were loaded are among them.
+pub(crate) fn load_and_exchange<
+    M: CellOutcome<V>,
+    V,
+    P: CellRule<V>,
+    const H: usize,
+    const N: usize,
+>(
+    table: &Shared<(), Doing<V>, Vec<u64>, Versions<P, H>>,
+    seat: &mut Seat<(), Doing<V>>,
+    places: &[usize],
+    words: &mut [u64; N],
+    version: u64,
+    next: u64,
+    changes: &[(usize, u64)],
+) -> bool
+    requires table { Fits N seat.old table.now.table_id table.now.key.items }
+    requires head { H ≤ N }
+    requires seen { IsAt version seat.old.me.0.stage }
+    requires long { length (words_of seat.old.me.0.stage) ≡ N }
+    requires small { version + 1 < 2 ^ 64 }
+    requires loads { All (λ place. (H ≤ place) × (place < N)) places.now }
+    requires places { All (λ change. change.0 < N) changes.now }
+    requires next { next ≡ 2 * P.code (changed (words_of seat.old.me.0.stage) changes.now) }
+    requires coded { IsCoded P.code P.head H (changed (words_of seat.old.me.0.stage) changes.now) }
+    requires rule { TurnsAt P.holds seat.old.id seat.old.me.0.client (words_of seat.old.me.0.stage)
+        (changed (words_of seat.old.me.0.stage) changes.now) M.then }
+    requires rises { P.code (words_of seat.old.me.0.stage)
+        < P.code (changed (words_of seat.old.me.0.stage) changes.now) }
+    ensures seat { IsSameSeat seat.old seat.new }
+    ensures exchanged { MatchBool result
+        ((seat.new.me.0.stage
+        ≡ Seen next next (changed (words_of seat.old.me.0.stage) changes.now))
+        × M.then seat.old.me.0.client (words_of seat.old.me.0.stage)
+        (changed (words_of seat.old.me.0.stage) changes.now) seat.new.me.0.client)
+        (HasStayed version seat.old.me.0.stage seat.new.me.0.stage
+        × (seat.new.me.0.client ≡ seat.old.me.0.client)) }
+    ensures loaded { IsTrue result
+        → AgreeAt places.now (length places.now) words.new (words_of seat.old.me.0.stage) }
+{
+    load_each::<V, P, H, N>(table, seat, places, words);
+    exchange::<M, V, P, H, N>(table, seat, version, next, changes)
+}
+
 /// Makes the changes, where the words that the seat has seen are still those of the cell: the version goes from that of these words to
 /// the next one. Else nothing is changed.
-pub(crate) fn exchange<M: CellOutcome<V>, V, P: CellRule<V>, const H: usize, const N: usize>(
+fn exchange<M: CellOutcome<V>, V, P: CellRule<V>, const H: usize, const N: usize>(
     table: &Shared<(), Doing<V>, Vec<u64>, Versions<P, H>>,
     seat: &mut Seat<(), Doing<V>>,
     version: u64,
@@ -127,6 +172,7 @@ pub(crate) fn exchange<M: CellOutcome<V>, V, P: CellRule<V>, const H: usize, con
         (changed (words_of seat.old.me.0.stage) changes.now) seat.new.me.0.client)
         ((seat.new.me.0.stage ≡ seat.old.me.0.stage)
         × (seat.new.me.0.client ≡ seat.old.me.0.client)) }
+    ensures fresh { IsTrue result → IsFresh version seat.old.me.0.stage }
 {
     if lie_below(H, changes) {
         return swap::<M, V, P, H, N>(table, seat, version, next, changes);
@@ -159,6 +205,7 @@ fn take<V, P: CellRule<V>, const H: usize, const N: usize>(
         (seat.new.me.0.stage ≡ Writing (version + 1)
         (words_of seat.old.me.0.stage) (words_of seat.old.me.0.stage))
         (seat.new.me.0.stage ≡ seat.old.me.0.stage) }
+    ensures fresh { IsTrue result → IsFresh version seat.old.me.0.stage }
 {
     table.compare_exchange::<Take>(seat, 0, version, version + 1) == version
 }
@@ -189,6 +236,7 @@ fn swap<M: CellOutcome<V>, V, P: CellRule<V>, const H: usize, const N: usize>(
         (changed (words_of seat.old.me.0.stage) changes.now) seat.new.me.0.client)
         ((seat.new.me.0.stage ≡ seat.old.me.0.stage)
         × (seat.new.me.0.client ≡ seat.old.me.0.client)) }
+    ensures fresh { IsTrue result → IsFresh version seat.old.me.0.stage }
 {
     let _changes = changes;
     table.compare_exchange::<Swap<P, M, H>>(seat, 0, version, next) == version

@@ -1,14 +1,9 @@
 -- What holds inside a node.
 use Rattle.std.specs.Prelude.{◌≡◌, ℕ, List, Option, take}
 use Rattle.vs_types.specs.declared.depth.Depth.{Depth}
-use Rattle.vs_types.specs.declared.log_entry.LogEntry.{LogEntry}
-use Rattle.nr_ring.specs.Calls.{HasLooked, HasTaken}
-use Rattle.nr_ring.specs.Entries.{to_take}
-use Rattle.nr_ring.specs.LogHistory.{IsLogHistory, tail, log_after}
 use Rattle.nr_ring.specs.Pass.{Known}
-use Rattle.nr_ring.specs.declared.view.View.{View}
 use Rattle.nr_slots.specs.declared.waiting.Waiting.{Waiting}
-use Rattle.nr_node.specs.Node.{NodeState, applied_of, log_of, replica_of}
+use Rattle.nr_node.specs.Node.{NodeState, applied_of, log_of}
 use Rattle.nr_node.specs.inside.Replica.{ReplicaState}
 
 abbrev pub node_state : Known → ReplicaState → List Waiting → Option ℕ → NodeState
@@ -18,11 +13,3 @@ node_state known replica batch first = record { known = known; tables = replica.
 pub record Follows (depth : Depth) (replicas : ℕ) (node : NodeState) (replica : ReplicaState) : Type 0 where
   pub depth_is : replica.depth ≡ depth
   pub entries : replica.entries ≡ take (applied_of replicas node) (log_of replicas node).entries
-
--- a pass looked, and then took these entries for its replica: all that there were
-pub record HasTakenAll (depth : Depth) (replicas : ℕ) (before : View) (entries : List LogEntry) (after : View) : Type 0 where
-  pub between : View
-  pub looked : HasLooked depth replicas before between
-  pub taken : HasTaken replicas between (tail (log_after replicas between.seen)) after
-  pub entries_are : entries ≡ to_take (log_after replicas between.seen) (replica_of before)
-  pub history : IsLogHistory depth replicas after.seen

@@ -43,6 +43,15 @@ Watched found before after = after ≡ before
 abbrev pub IsAt : ℕ → Stage → Type 0
 IsAt at stage = (last : ℕ) × (stage ≡ Seen at last (words_of stage))
 
+-- it has loaded no version after this one
+abbrev pub IsFresh : ℕ → Stage → Type 0
+IsFresh at (Seen before last x) = last ≤ at
+IsFresh at stage = Unit {0}
+
+-- it has seen the same words at this version still
+abbrev pub HasStayed : ℕ → Stage → Stage → Type 0
+HasStayed at before after = (last : ℕ) × (after ≡ Seen at last (words_of before))
+
 -- it has seen the same words, and a version since that is of later ones
 abbrev pub HasWaited : ℕ → Stage → Stage → Type 0
 HasWaited at before after = (last : ℕ) × (after ≡ Seen at last (words_of before)) × (at / 2 < last / 2)
@@ -59,13 +68,13 @@ Loaded places k words before after = after ≡ before
 
 -- the version was to go from the one seen to the next: where it was that, the seat writes
 abbrev pub Taken : ℕ → ℕ → Stage → Stage → Type 0
-Taken next found (Seen at last x) after = (found ≡ at → after ≡ Writing next x x) × (found ≢ at → after ≡ Seen at last x)
+Taken next found (Seen at last x) after = (found ≡ at → (after ≡ Writing next x x) × (last ≤ at)) × (found ≢ at → after ≡ Seen at last x)
 Taken next found before after = Unit {0}
 
 -- the version was to go from the one seen to that of words of which it tells all that are new
 abbrev pub Swapped : {V : Type 0} → (ℕ → ℕ → ℕ) → ℕ → (V → List ℕ → List ℕ → V → Type 0) → ℕ → ℕ → V → V → Stage → Stage → Type 0
 Swapped head h tells next found v w (Seen at last x) after =
-    (found ≡ at → (y : List ℕ) × HasHead head (next / 2) h x y × (after ≡ Seen next next y) × tells v x y w)
+    (found ≡ at → (y : List ℕ) × HasHead head (next / 2) h x y × (after ≡ Seen next next y) × tells v x y w × (last ≤ at))
     × (found ≢ at → (after ≡ Seen at last x) × (w ≡ v))
 Swapped head h tells next found v w before after = Unit {0}
 

@@ -1,12 +1,12 @@
-use Rattle.std.proofs.Common.{◌≡◌, ℕ, List, None, length, sym, subst, ◌∙◌}
+use Rattle.std.proofs.Common.{◌≡◌, ◌+◌, ◌≤◌, ℕ, List, None, length, sym, subst, ◌∙◌, arith}
 use Rattle.std.proofs.lemmas.Result.{err_from_is_err_and}
 use Rattle.nr_ring.specs.Calls.{HasMoved}
 use Rattle.nr_ring.specs.LogHistory.{log_after}
 use Rattle.nr_slots.specs.declared.waiting.Waiting.{Waiting}
 use Rattle.nr_node.specs.Calls.{HasCaughtUp, HasStayed, answers_of}
-use Rattle.nr_node.specs.Node.{NodeState, IsNode}
+use Rattle.nr_node.specs.Node.{NodeState, IsNode, replica_of}
 use Rattle.nr_node.specs.inside.Node.{node_state}
-use Rattle.nr_node.proofs.Looks.{looked_taken, took_all}
+use Rattle.nr_node.proofs.Looks.{looked_owner, looked_taken, took_all}
 use Rattle.nr_node.proofs.Nodes.{answers_after, caught_up, looked_node, looked_follows, next_entries, stands_after, took_fit, took_follows, took_node, took_room}
 use Rattle.nr_node.proofs.node.Node.catch_up.Goals as goal
 
@@ -14,95 +14,99 @@ pub invariant_of-self : goal.invariant_of-self
 invariant_of-self g c =
     let self = c.self.inside in
     let is = c.self.invariant in
-    let looked = c.in_err-take_entries.ensures.looked in (
-      looked_node _ _ self.pass c.take_entries.new.pass self.replica self.batch.items self.first looked is.0,
-      looked_follows _ _ self.pass c.take_entries.new.pass self.replica self.batch.items self.first looked is.0 is.1,
+    let looked = c.in_err-take.ensures.moved.0 in (
+      looked_node _ _ self.pass c.take.new.pass self.replica self.batch.items self.first looked is.0,
+      looked_follows _ _ self.pass c.take.new.pass self.replica self.batch.items self.first looked is.0 is.1,
     )
 
-pub returns-in_err-take_entries-clause-stayed : goal.returns-in_err-take_entries-clause-stayed
-returns-in_err-take_entries-clause-stayed g c =
+pub returns-in_err-take-clause-stayed : goal.returns-in_err-take-clause-stayed
+returns-in_err-take-clause-stayed g c =
     let p = err_from_is_err_and c.from_residual.result c.from_residual.ensures.1 in
     let self = c.self.inside in
-    let looked = c.in_err-take_entries.ensures.looked in
-    let Stays : NodeState → Type 0 = λ n. HasStayed g.J.LogName.depth g.J.LogName.replicas n (node_state c.take_entries.new.pass self.replica self.batch.items self.first) in
+    let looked = c.in_err-take.ensures.moved.0 in
+    let Stays : NodeState → Type 0 = λ n. HasStayed g.J.LogName.depth g.J.LogName.replicas n (node_state c.take.new.pass self.replica self.batch.items self.first) in
     rw p.1 (subst Stays c.self.view_is (record {
       looked = looked;
-      applied = looked_taken _ _ self.pass.view c.take_entries.new.pass.view looked c.self.invariant.0.owner;
+      applied = looked_taken _ _ self.pass.view c.take.new.pass.view looked c.self.invariant.0.owner;
       same = Rattle.std.proofs.Common.refl;
     }))
 
-pub returns-in_err-take_entries-clause-moved : goal.returns-in_err-take_entries-clause-moved
-returns-in_err-take_entries-clause-moved g c =
+pub returns-in_err-take-clause-moved : goal.returns-in_err-take-clause-moved
+returns-in_err-take-clause-moved g c =
     let p = err_from_is_err_and c.from_residual.result c.from_residual.ensures.1 in
-    let Moves : NodeState → Type 0 = λ n. HasMoved n.known.view c.take_entries.new.pass.view in
-    rw p.1 (subst Moves c.self.view_is c.in_err-take_entries.ensures.moved)
+    let Moves : NodeState → Type 0 = λ n. HasMoved n.known.view c.take.new.pass.view in
+    rw p.1 (subst Moves c.self.view_is c.in_err-take.ensures.moved.1)
 
-pub returns-in_err-take_entries-clause-ahead : goal.returns-in_err-take_entries-clause-ahead
-returns-in_err-take_entries-clause-ahead g c =
-    let p = err_from_is_err_and c.from_residual.result c.from_residual.ensures.1 in rw p.1 c.in_err-take_entries.ensures.ahead
+pub returns-in_err-take-clause-ahead : goal.returns-in_err-take-clause-ahead
+returns-in_err-take-clause-ahead g c =
+    let p = err_from_is_err_and c.from_residual.result c.from_residual.ensures.1 in
+    let after = c.take.new.pass.view in
+    let moved = c.in_err-take.ensures.moved in
+    let owner = looked_owner _ _ c.self.inside.pass.view after moved.0 c.self.invariant.0.owner in
+    rw p.1 (omega (arith, moved.2 (replica_of after) owner))
 
 pub apply_all-requires-clause-fit : goal.apply_all-requires-clause-fit
 apply_all-requires-clause-fit g c =
     let self = c.self.inside in
     let is = c.self.invariant in
-    took_fit _ _ self.pass.view c.take_entries.new.pass.view c.take_entries.new.entries.items self.replica.depth
-    (took_all _ _ self.pass.view c.take_entries.new.pass.view c.take_entries.new.entries.items c.in_ok-take_entries.ensures.took is.0.owner) is.1.depth_is
+    took_fit _ _ self.pass.view c.take.new.pass.view c.take.new.entries.items self.replica.depth
+    (took_all _ _ self.pass.view c.take.new.pass.view c.take.new.entries.items c.in_ok-take.ensures.taken is.0.owner) is.1.depth_is
 
 pub apply_all-requires-clause-room : goal.apply_all-requires-clause-room
 apply_all-requires-clause-room g c =
     let self = c.self.inside in
     let is = c.self.invariant in
-    took_room _ _ self.pass c.take_entries.new.pass self.replica self.batch.items self.first c.take_entries.new.entries.items
-    (took_all _ _ self.pass.view c.take_entries.new.pass.view c.take_entries.new.entries.items c.in_ok-take_entries.ensures.took is.0.owner) is.0 is.1
+    took_room _ _ self.pass c.take.new.pass self.replica self.batch.items self.first c.take.new.entries.items
+    (took_all _ _ self.pass.view c.take.new.pass.view c.take.new.entries.items c.in_ok-take.ensures.taken is.0.owner) is.0 is.1
 
 pub answer-requires-clause-stand : goal.answer-requires-clause-stand
 answer-requires-clause-stand g c =
     let self = c.self.inside in
     let is = c.self.invariant in
-    let entries = c.take_entries.new.entries.items in
+    let entries = c.take.new.entries.items in
     let next = c.apply_all.new.self in
-    let all = took_all _ _ self.pass.view c.take_entries.new.pass.view entries c.in_ok-take_entries.ensures.took is.0.owner in
-    stands_after _ _ self.pass c.take_entries.new.pass self.replica next self.batch.items self.first entries all is.0
-    (next_entries _ _ self.pass c.take_entries.new.pass self.replica next self.batch.items self.first entries all is.0 is.1 c.apply_all.ensures)
+    let all = took_all _ _ self.pass.view c.take.new.pass.view entries c.in_ok-take.ensures.taken is.0.owner in
+    stands_after _ _ self.pass c.take.new.pass self.replica next self.batch.items self.first entries all is.0
+    (next_entries _ _ self.pass c.take.new.pass self.replica next self.batch.items self.first entries all is.0 is.1 c.apply_all.ensures)
 
 pub invariant_of-self-2 : goal.invariant_of-self-2
 invariant_of-self-2 g c =
     let self = c.self.inside in
     let is = c.self.invariant in
-    let entries = c.take_entries.new.entries.items in
+    let entries = c.take.new.entries.items in
     let next = c.apply_all.new.self in
-    let all = took_all _ _ self.pass.view c.take_entries.new.pass.view entries c.in_ok-take_entries.ensures.took is.0.owner in
-    let Is : List Waiting → Type 0 = λ l. IsNode g.J.LogName.depth g.J.LogName.replicas (node_state c.take_entries.new.pass next l None) in (
-      subst Is (sym c.keep_unplaced.ensures) (took_node _ _ self.pass c.take_entries.new.pass self.replica next self.batch.items self.first entries all is.0),
-      took_follows _ _ self.pass c.take_entries.new.pass self.replica next self.batch.items c.keep_unplaced.new.batch.items self.first None entries all is.0 is.1 c.apply_all.ensures,
+    let all = took_all _ _ self.pass.view c.take.new.pass.view entries c.in_ok-take.ensures.taken is.0.owner in
+    let Is : List Waiting → Type 0 = λ l. IsNode g.J.LogName.depth g.J.LogName.replicas (node_state c.take.new.pass next l None) in (
+      subst Is (sym c.keep_unplaced.ensures) (took_node _ _ self.pass c.take.new.pass self.replica next self.batch.items self.first entries all is.0),
+      took_follows _ _ self.pass c.take.new.pass self.replica next self.batch.items c.keep_unplaced.new.batch.items self.first None entries all is.0 is.1 c.apply_all.ensures,
     )
 
 pub returns-clause-caught_up : goal.returns-clause-caught_up
 returns-clause-caught_up g c =
     let self = c.self.inside in
     let is = c.self.invariant in
-    let entries = c.take_entries.new.entries.items in
+    let entries = c.take.new.entries.items in
     let next = c.apply_all.new.self in
-    let took = c.in_ok-take_entries.ensures.took in
-    let all = took_all _ _ self.pass.view c.take_entries.new.pass.view entries took is.0.owner in
+    let took = c.in_ok-take.ensures.taken in
+    let all = took_all _ _ self.pass.view c.take.new.pass.view entries took is.0.owner in
     let ByLeft : List Waiting → Type 0 = λ l. HasCaughtUp g.J.LogName.depth g.J.LogName.replicas (node_state self.pass self.replica self.batch.items self.first)
-    (length entries) (node_state c.take_entries.new.pass next l None) in
+    (length entries) (node_state c.take.new.pass next l None) in
     let ByCount : ℕ → Type 0 = λ n. HasCaughtUp g.J.LogName.depth g.J.LogName.replicas (node_state self.pass self.replica self.batch.items self.first)
-    n (node_state c.take_entries.new.pass next c.keep_unplaced.new.batch.items None) in
+    n (node_state c.take.new.pass next c.keep_unplaced.new.batch.items None) in
     let ByOld : NodeState → Type 0 = λ n. HasCaughtUp g.J.LogName.depth g.J.LogName.replicas n
-    c.len.result (node_state c.take_entries.new.pass next c.keep_unplaced.new.batch.items None) in
+    c.len.result (node_state c.take.new.pass next c.keep_unplaced.new.batch.items None) in
     subst ByOld c.self.view_is (subst ByCount (sym c.len.ensures.value) (subst ByLeft (sym c.keep_unplaced.ensures)
-    (caught_up _ _ self.pass c.take_entries.new.pass self.replica next self.batch.items self.first entries took all is.0 c.apply_all.ensures)))
+    (caught_up _ _ self.pass c.take.new.pass self.replica next self.batch.items self.first entries took all is.0 c.apply_all.ensures)))
 
 pub returns-clause-answered : goal.returns-clause-answered
 returns-clause-answered g c =
     let self = c.self.inside in
     let is = c.self.invariant in
-    let entries = c.take_entries.new.entries.items in
+    let entries = c.take.new.entries.items in
     let next = c.apply_all.new.self in
-    let later = log_after g.J.LogName.replicas c.take_entries.new.pass.view.seen in
-    let all = took_all _ _ self.pass.view c.take_entries.new.pass.view entries c.in_ok-take_entries.ensures.took is.0.owner in
-    let are = next_entries _ _ self.pass c.take_entries.new.pass self.replica next self.batch.items self.first entries all is.0 is.1 c.apply_all.ensures in
+    let later = log_after g.J.LogName.replicas c.take.new.pass.view.seen in
+    let all = took_all _ _ self.pass.view c.take.new.pass.view entries c.in_ok-take.ensures.taken is.0.owner in
+    let are = next_entries _ _ self.pass c.take.new.pass self.replica next self.batch.items self.first entries all is.0 is.1 c.apply_all.ensures in
     let ByOld : NodeState → Type 0 = λ n. c.answer.new.answers.items ≡ answers_of g.J.LogName.depth n.tables later.entries n.first n.batch in
     subst ByOld c.self.view_is (c.answer.ensures
     ∙ answers_after g.J.LogName.depth self.replica next self.batch.items self.first entries later.entries c.apply_all.ensures are is.1.depth_is)

@@ -20,14 +20,20 @@ exchange_as-requires g c =
         (
           search rules,
           (
-            c.requires.places,
+            search rules,
             (
-              coded.0,
+              c.requires.loads,
               (
-                coded.1,
+                c.requires.places,
                 (
-                  event_turns depth replicas _ _ view event words (changed words c.args.changes.now) is.few is.words_are may.0 may.1 c.requires.next,
-                  (coded.2, look_turns _ _ _ _ _),
+                  coded.0,
+                  (
+                    coded.1,
+                    (
+                      event_turns depth replicas _ _ view event words (changed words c.args.changes.now) is.few is.words_are may.0 may.1 c.requires.next,
+                      (coded.2, look_turns _ _ _ _ _),
+                    ),
+                  ),
                 ),
               ),
             ),
