@@ -149,6 +149,33 @@ impl<'a, N: LogName, K: OfLog> Party<'a, N, K> {
     /// Whether it fetches entries of these calls.
     pub fn fetches<R: Wait + Abort>(&mut self, rt: &R, calls: &[u32]) -> bool {
         let entries = self.fetch(rt);
+        self.are_of(rt, &entries, calls)
+    }
+
+    /// Takes all that its replica has still to take, in one exchange; nothing where it owns none.
+    pub fn take<R: Wait>(&mut self, rt: &R) -> Result<ArrayVec<LogEntry, 16>, Moved> {
+        let mut entries = ArrayVec::new();
+        if let Some(_) = self.pass.replica() {
+            self.log.take(rt, &mut self.pass, &mut entries)?;
+        }
+        Ok(entries)
+    }
+
+    /// Whether it takes entries of these calls.
+    pub fn takes<R: Wait + Abort>(&mut self, rt: &R, calls: &[u32]) -> bool {
+        match self.take(rt) {
+            Ok(entries) => self.are_of(rt, &entries, calls),
+            Err(Moved) => false,
+        }
+    }
+
+    /// Whether the entries are those of these calls.
+    fn are_of<R: Wait + Abort>(
+        &self,
+        rt: &R,
+        entries: &ArrayVec<LogEntry, 16>,
+        calls: &[u32],
+    ) -> bool {
         if entries.len() != calls.len() {
             return false;
         }

@@ -24,6 +24,18 @@ static FILLS_AND_FREES: [Step; 13] = [
     Step(1, Does::Looks(17, 16, [16, 1, 0, 0])),
 ];
 
+static TAKES_ALL: [Step; 9] = [
+    Step(2, Does::AppendsAll(0, 0)),
+    Step(0, Does::Takes(&[0; 16])),
+    Step(0, Does::Takes(&[])),
+    Step(2, Does::IsFull(16, 16, [16, 0, 0, 0])),
+    Step(1, Does::Takes(&[0; 16])),
+    Step(2, Does::Appends(1, 16)),
+    Step(2, Does::Appends(2, 17)),
+    Step(1, Does::Takes(&[1, 2])),
+    Step(0, Does::Looks(18, 18, [16, 18, 0, 0])),
+];
+
 static ADVANCE_MEETS_ANOTHER_EVENT: [Step; 5] = [
     Step(2, Does::Appends(1, 0)),
     Step(0, Does::Looks(1, 0, [0, 0, 0, 0])),
@@ -68,6 +80,12 @@ static LOOKS_SEE_WHAT_REFUSED: [Step; 9] = [
 fn ring_fills_and_frees(rt: HostRuntime) -> Result<(), Fail> {
     let layout = Layout::new(Depth::Four, 2, 1);
     run(&rt, rt.alloc(), layout, Test::Steps(&FILLS_AND_FREES))
+}
+
+#[test]
+fn replicas_take_all(rt: HostRuntime) -> Result<(), Fail> {
+    let layout = Layout::new(Depth::Four, 2, 1);
+    run(&rt, rt.alloc(), layout, Test::Steps(&TAKES_ALL))
 }
 
 #[test]

@@ -2,8 +2,9 @@
 
 use crate::party::{OfLog, Party, is_later};
 use crate::scene::{Layout, Test, run};
+use arrayvec::ArrayVec;
 use crossbeam_utils::Backoff;
-use nr_ring::{AppendFault, LogName, Tails};
+use nr_ring::{AppendFault, LogName, Moved, Tails};
 use std::alloc::Global;
 use std::process::Abort;
 use std::sync::Wait;
@@ -11,7 +12,7 @@ use std::sync::atomic::{AtomicU64, Ordering};
 use std::test::Fail;
 use std::thread;
 use std::thread::Threads;
-use vs_types::Depth;
+use vs_types::{Depth, LogEntry};
 
 /// How many entries each of two threads appends.
 const ROUNDS: u32 = 10_000;
@@ -30,8 +31,27 @@ fn look_now<N: LogName, K: OfLog, R: Wait + Abort>(
     tails
 }
 
-/// Fetches the entries that the replica has still to take, and advances past them where no other thread's event comes between. It
-/// adds the calls of those that it took.
+/// Fetches the entries that the replica has still to take, of which it has taken so many, and advances past them: none where another
+/// thread's event comes between.
+fn fetch_and_advance<N: LogName, K: OfLog, R: Wait + Abort>(
+    rt: &R,
+    party: &mut Party<N, K>,
+    replica: u8,
+    known: &AtomicU64,
+    count: usize,
+) -> Result<ArrayVec<LogEntry, 16>, Moved> {
+    let entries = party.fetch(rt);
+    let tails = look_now(rt, party, known);
+    assert!(rt; replica < 4);
+    let local = tails.local[usize::from(replica)];
+    assert!(rt; local as usize == count);
+    let to = local.saturating_add(entries.len() as u32);
+    party.advance_to(rt, to)?;
+    Ok(entries)
+}
+
+/// Takes the entries that the replica has still to take, where no other thread's event comes between: replica 0 by a fetch and an
+/// advance, the others in one exchange. It adds the calls of those that it took.
 fn take<N: LogName, K: OfLog, R: Wait + Abort>(
     rt: &R,
     party: &mut Party<N, K>,
@@ -39,13 +59,11 @@ fn take<N: LogName, K: OfLog, R: Wait + Abort>(
     known: &AtomicU64,
     taken: &mut Vec<u32>,
 ) {
-    let entries = party.fetch(rt);
-    let tails = look_now(rt, party, known);
-    assert!(rt; replica < 4);
-    let local = tails.local[usize::from(replica)];
-    assert!(rt; local as usize == taken.len());
-    let to = local.saturating_add(entries.len() as u32);
-    if party.advance_to(rt, to).is_ok() {
+    let entries = match replica {
+        0 => fetch_and_advance(rt, party, replica, known, taken.len()),
+        _ => party.take(rt),
+    };
+    if let Ok(entries) = entries {
         for entry in entries.as_slice() {
             taken.push(entry.call).expect(rt, "memory");
         }

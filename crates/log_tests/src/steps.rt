@@ -21,6 +21,8 @@ pub enum Does {
     Looks(u32, u32, [u32; 4]),
     /// It fetches entries of these calls.
     Fetches(&'static [u32]),
+    /// It takes entries of these calls.
+    Takes(&'static [u32]),
     /// It advances its replica to this place.
     Advances(u32),
     /// It looks, and then one of the parties after it, counted from 0, appends an entry of this call. An advance to the tail that it
@@ -79,6 +81,7 @@ fn take<'a, N: LogName, K: OfLog, R: Wait + Abort>(
         }
         Does::Looks(tail, completed, local) => party.look() == tails(tail, completed, local),
         Does::Fetches(calls) => party.fetches(rt, calls),
+        Does::Takes(calls) => party.takes(rt, calls),
         Does::Advances(to) => party.advance_to(rt, to).is_ok(),
         Does::AdvancesLate(other, call) => {
             let other = later.get_mut(other).expect(rt, "a later party");
