@@ -20,3 +20,4 @@ pub mod OwnTails
 pub mod Makers
 mod Codes
 pub mod FirstWords
+pub mod Further

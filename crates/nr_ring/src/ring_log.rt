@@ -442,7 +442,7 @@ impl<J: LogName> RingLog<J> {
     }
 
     /// Tells one pass what another has seen: what `told` has then seen begins with all that either had seen, and nobody has
-    /// advanced the replica that it owns since it last saw the log itself. It ends with a look, and waits for nobody.
+    /// advanced the replica that it owns since it last saw the log itself. It looks at nothing, and waits for nobody.
     pub fn meet(&self, pass: &mut LogPass<J>, told: &mut LogPass<J>)
         requires log { (pass.old.log ≡ self.now) × (told.old.log ≡ self.now) }
         ensures pass { pass.new ≡ pass.old }

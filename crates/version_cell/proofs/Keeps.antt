@@ -1,6 +1,7 @@
 -- Each step on the table of a cell keeps its rule.
-use Rattle.std.proofs.Common.{◌≡◌, ◌≢◌, ℕ, zero, suc, ◌+◌, ◌-◌, ◌*◌, ◌/◌, ◌%◌, ◌<◌, ◌≤◌, eqb, Bool, true, false, if◌then◌else◌, nat_le, List, [], ◌∷◌, ◌++◌, map, length, get_or, set, sym, refl, ap, ◌∙◌, subst, ⊎_elim, inl, inr, arith, le_refl, length-set}
+use Rattle.std.proofs.Common.{◌≡◌, ◌≢◌, ℕ, zero, suc, ◌+◌, ◌-◌, ◌*◌, ◌/◌, ◌%◌, ◌<◌, ◌≤◌, eqb, Bool, true, false, if◌then◌else◌, nat_le, List, [], ◌∷◌, ◌++◌, map, length, get_or, set, sym, refl, ap, ◌∙◌, subst, ⊎_elim, inl, inr, arith, le_refl, length-set, length-drop, drop}
 use Rattle.std.proofs.Common.{get_or-set_other, get_or-set_same, eq-eqb, ne_eqb}
+use Rattle.std.proofs.lemmas.List.{get_or-drop}
 use mathlib.Core.Logic.{dite}
 use mathlib.Core.Option.{none, some, some-injective, some-ne-none}
 use mathlib.Core.List.{map-append}
@@ -15,8 +16,9 @@ use Rattle.version_cell.specs.declared.stage.Stage.TheVariants.{Idle, Seen, Writ
 use Rattle.crossbeam_utils.specs.Register.{TurnsAt, Turns, Forks, Merges}
 use Rattle.version_cell.specs.Heads.{IsCoded}
 use Rattle.version_cell.specs.inside.Heads.{HasHead}
-use Rattle.version_cell.specs.inside.Versions.{Knows, Versioned, client, doing}
-use Rattle.version_cell.specs.inside.Steps.{GrewTo, Peeked, Published, Swapped, Taken, Watched, Written, later, looked, peeked, published, put, resting, swapped, taken, watched}
+use Rattle.version_cell.specs.inside.Versions.{Knows, Versioned, client, doing, words_of}
+use Rattle.version_cell.specs.Meetings.{Recalls}
+use Rattle.version_cell.specs.inside.Steps.{GrewTo, IsTwice, Peeked, Published, Swapped, Taken, Watched, Written, later, looked, peeked, published, put, recalled, resting, swapped, taken, tallied, watched}
 use Rattle.atomic_table.proofs.Lists.{at_set, set_again, at_snoc, at_map}
 
 module _ {V : Type 0} (wide h : ℕ) (holds : List ℕ → List V → Type 0) (code : List ℕ → ℕ) (head : ℕ → ℕ → ℕ) where
@@ -33,7 +35,7 @@ module _ {V : Type 0} (wide h : ℕ) (holds : List ℕ → List V → Type 0) (c
   Rule = Versioned wide h holds code head
 
   abbrev version : St → ℕ
-  version s = get_or s.words 0 0
+  version s = get_or s.words 16 0
 
   seats_stay : (K : ℕ → Stage → Type 0) (vs : List D) (me : ℕ) (w : D) → K me w.stage → ((j : ℕ) (d : D) → j ≢ me → get_elem? vs j ≡ some d → K j d.stage)
       → (j : ℕ) (d : D) → get_elem? (set vs me w) j ≡ some d → K j d.stage
@@ -65,17 +67,27 @@ module _ {V : Type 0} (wide h : ℕ) (holds : List ℕ → List V → Type 0) (c
   watch_at s r id (Seen at last x) k = let v : ℕ = version s in let a : at ≤ last = k.1 in let b : last ≤ v = k.2 in
       (Seen at v x, (k.0, omega arith, le_refl v, k.3, k.4), (k.2, refl))
 
-  pub watches : (slots id : ℕ) (me : M) → Allows Rule slots id me 0 (λ x. x) (watched (step slots 0 0 0 none) me)
+  pub watches : (slots id : ℕ) (me : M) → Allows Rule slots id me 16 (λ x. x) (watched (step slots 16 0 0 none) me)
   watches slots id me s r _ at _ = let p = watch_at s r id me.0.stage (r.each_seat id me.0 at) in let w : D = doing p.0 me.0.client in
-      (w, keeps, tt, unmoved s r 0 id me.1 w p.1 (same_clients r.value s.views id me.0 w at refl r.kept), (refl, p.2))
+      (w, keeps, tt, unmoved s r 16 id me.1 w p.1 (same_clients r.value s.views id me.0 w at refl r.kept), (refl, p.2))
 
-  peek_at : (s : St) (r : Rule s) (id i : ℕ) → h ≤ i → i + 1 < wide → (st : Stage) → Knows h code s.words r.value r.writer id st
-      → (st' : Stage) × Knows h code s.words r.value r.writer id st' × Peeked i (get_or s.words (i + 1) 0) st st'
+  twice_at : (s : St) (r : Rule s) (id : ℕ) (st : Stage) → Knows h code s.words r.value r.writer id st → IsTwice code st
+  twice_at s r id Idle k = tt
+  twice_at s r id (Writing at old now) k = tt
+  twice_at s r id (Seen at last x) k = k.0
+
+  pub tallies : (slots id : ℕ) (me : M) → Allows Rule slots id me 0 (λ x. x) (tallied code (step slots 0 0 0 none) me)
+  tallies slots id me s r _ at _ =
+      let w : D = me.0 in
+      (w, keeps, tt, unmoved s r 0 id me.1 w (r.each_seat id me.0 at) (same_clients r.value s.views id me.0 w at refl r.kept), (refl, refl, twice_at s r id me.0.stage (r.each_seat id me.0 at)))
+
+  peek_at : (s : St) (r : Rule s) (id i : ℕ) → h ≤ i → i + 32 < wide → (st : Stage) → Knows h code s.words r.value r.writer id st
+      → (st' : Stage) × Knows h code s.words r.value r.writer id st' × Peeked i (get_or s.words (i + 32) 0) st st'
   peek_at s r id i high inside Idle k = (Idle, tt, refl)
   peek_at s r id i high inside (Writing at old now) k = (Writing at old now, k, refl)
-  peek_at s r id i high inside (Seen at last x) k = let v : ℕ = version s in let even : at % 2 ≡ 0 = k.0 in let a : at ≤ last = k.1 in let b : last ≤ v = k.2 in let long = r.long in (
+  peek_at s r id i high inside (Seen at last x) k = let v : ℕ = version s in let even : at % 2 ≡ 0 = omega (arith, k.0) in let a : at ≤ last = k.1 in let b : last ≤ v = k.2 in let long = r.long in (
     Seen at v x,
-    (even, omega arith, le_refl v, k.3, k.4),
+    (k.0, omega arith, le_refl v, k.3, k.4),
     (
       v,
       refl,
@@ -83,36 +95,36 @@ module _ {V : Type 0} (wide h : ℕ) (holds : List ℕ → List V → Type 0) (c
     ),
   )
 
-  pub peeks : (slots id : ℕ) (me : M) (i : ℕ) → h ≤ i → i + 1 < wide → Allows Rule slots id me (i + 1) (λ x. x) (peeked (step slots (i + 1) 0 0 none) me)
-  peeks slots id me i high inside s r _ at _ = let p = peek_at s r id i high inside me.0.stage (r.each_seat id me.0 at) in let w : D = doing p.0 me.0.client in let back : i ≡ (i + 1) - 1 = omega arith in (
+  pub peeks : (slots id : ℕ) (me : M) (i : ℕ) → h ≤ i → i + 32 < wide → Allows Rule slots id me (i + 32) (λ x. x) (peeked (step slots (i + 32) 0 0 none) me)
+  peeks slots id me i high inside s r _ at _ = let p = peek_at s r id i high inside me.0.stage (r.each_seat id me.0 at) in let w : D = doing p.0 me.0.client in let back : i ≡ (i + 32) - 32 = omega arith in (
     w,
     keeps,
     tt,
-    unmoved s r (i + 1) id me.1 w p.1 (same_clients r.value s.views id me.0 w at refl r.kept),
-    (refl, subst (λ (z : ℕ). Peeked z (get_or s.words (i + 1) 0) me.0.stage p.0) back p.2),
+    unmoved s r (i + 32) id me.1 w p.1 (same_clients r.value s.views id me.0 w at refl r.kept),
+    (refl, subst (λ (z : ℕ). Peeked z (get_or s.words (i + 32) 0) me.0.stage p.0) back p.2),
   )
 
   -- the cell is taken by the seat, which has seen its words
   took : (s : St) (r : Rule s) (id at last next : ℕ) (x : List ℕ) (cs : List (ℕ × Unit {0})) (w : D) → version s ≡ at → next ≡ at + 1 → Knows h code s.words r.value r.writer id (Seen at last x) → w.stage ≡ Writing next x x
-      → holds r.value (map client (set s.views id w)) → Rule (stepped s 0 next id cs w keeps)
+      → holds r.value (map client (set s.views id w)) → Rule (stepped s 16 next id cs w keeps)
   took s r id at last next x cs w here up k is kept =
-      let v : ℕ = version s in let even : at % 2 ≡ 0 = k.0 in let long = r.long in let width = r.width in
+      let v : ℕ = version s in let even : at % 2 ≡ 0 = omega (arith, k.0) in let long = r.long in let width = r.width in
       let same : x ≡ r.value = k.3 (omega arith) in
-      let words' : List ℕ = set s.words 0 next in
-      let now : get_or words' 0 0 ≡ next = get_or-set_same s.words 0 next 0 (omega arith) in
+      let words' : List ℕ = set s.words 16 next in
+      let now : get_or words' 16 0 ≡ next = get_or-set_same s.words 16 next 0 (omega arith) in
       let mine : Knows h code words' r.value id id (Writing next x x) = (
         omega arith,
         sym now,
         refl,
         same,
         ap (λ (l : List ℕ). length l) same,
-        λ i high lt. get_or-set_other s.words 0 (i + 1) next 0 (λ e. omega arith)
+        λ i high lt. get_or-set_other s.words 16 (i + 32) next 0 (λ e. omega arith)
             ∙ (r.at_rest (omega arith) i high (omega (arith, ap (λ (l : List ℕ). length l) same, lt)) ∙ ap (λ (l : List ℕ). get_or l i 0) (sym same)),
       ) in
       record {
         value = r.value;
         writer = id;
-        width = length-set s.words 0 next ∙ width;
+        width = length-set s.words 16 next ∙ width;
         long = r.long;
         version_is = omega (arith, now, r.version_is);
         coded = r.coded;
@@ -121,16 +133,16 @@ module _ {V : Type 0} (wide h : ℕ) (holds : List ℕ → List V → Type 0) (c
             (λ j d other there. others j d.stage (r.each_seat j d there));
         kept = kept;
       } where
-        others : (j : ℕ) (st : Stage) → Knows h code s.words r.value r.writer j st → Knows h code (set s.words 0 next) r.value id j st
+        others : (j : ℕ) (st : Stage) → Knows h code s.words r.value r.writer j st → Knows h code (set s.words 16 next) r.value id j st
         others j Idle g = tt
         others j (Seen a l y) g =
-            let now : get_or (set s.words 0 next) 0 0 ≡ next = get_or-set_same s.words 0 next 0 (omega (arith, r.long, r.width)) in
-            let even : at % 2 ≡ 0 = k.0 in let p = g.0 in let q = g.1 in let u = g.2 in
+            let now : get_or (set s.words 16 next) 16 0 ≡ next = get_or-set_same s.words 16 next 0 (omega (arith, r.long, r.width)) in
+            let even : at % 2 ≡ 0 = omega (arith, k.0) in let p = g.0 in let q = g.1 in let u = g.2 in
             (p, q, omega arith, (λ lt. g.3 (omega arith)), λ le. g.4 (omega arith))
-        others j (Writing a old y) g = let even : at % 2 ≡ 0 = k.0 in let p = g.0 in let q = g.1 in absurd (omega arith)
+        others j (Writing a old y) g = let even : at % 2 ≡ 0 = omega (arith, k.0) in let p = g.0 in let q = g.1 in absurd (omega arith)
 
   pub takes : (slots id : ℕ) (me : M) (at last next : ℕ) (x : List ℕ) → me.0.stage ≡ Seen at last x → next ≡ at + 1
-      → Allows Rule slots id me 0 (λ n. either (eqb n at) next n) (taken (step slots 0 at next none) me)
+      → Allows Rule slots id me 16 (λ n. either (eqb n at) next n) (taken (step slots 16 at next none) me)
   takes slots id me at last next x is up s r _ there _ =
       let n : ℕ = version s in let v : V = me.0.client in
       let known : Knows h code s.words r.value r.writer id (Seen at last x) = subst (Knows h code s.words r.value r.writer id) is (r.each_seat id me.0 there) in
@@ -139,7 +151,7 @@ module _ {V : Type 0} (wide h : ℕ) (holds : List ℕ → List V → Type 0) (c
         w,
         keeps,
         tt,
-        subst (λ b. Rule (stepped s 0 (either b next n) id me.1 w keeps)) (sym (eq-eqb n at hit))
+        subst (λ b. Rule (stepped s 16 (either b next n) id me.1 w keeps)) (sym (eq-eqb n at hit))
             (took s r id at last next x me.1 w hit up known refl (same_clients r.value s.views id me.0 w there refl r.kept)),
         (refl, subst (λ (z : Stage). Taken next n z (Writing next x x)) (sym is) ((λ _. (refl, omega (arith, hit, known.2))), λ miss. absurd (miss hit))),
       ))
@@ -147,19 +159,19 @@ module _ {V : Type 0} (wide h : ℕ) (holds : List ℕ → List V → Type 0) (c
         w,
         keeps,
         tt,
-        subst (λ b. Rule (stepped s 0 (either b next n) id me.1 w keeps)) (sym (ne_eqb n at miss))
-            (unmoved s r 0 id me.1 w known (same_clients r.value s.views id me.0 w there refl r.kept)),
+        subst (λ b. Rule (stepped s 16 (either b next n) id me.1 w keeps)) (sym (ne_eqb n at miss))
+            (unmoved s r 16 id me.1 w known (same_clients r.value s.views id me.0 w there refl r.kept)),
         (refl, subst (λ (z : Stage). Taken next n z (Seen at last x)) (sym is) ((λ hit. absurd (miss hit)), λ _. refl)),
       ))
 
-  pub puts : (slots id : ℕ) (me : M) (a i word : ℕ) (old now : List ℕ) → me.0.stage ≡ Writing a old now → i + 1 < wide
-      → Allows Rule slots id me (i + 1) (λ _. word) (λ _. put (step slots (i + 1) word 0 none) me word)
+  pub puts : (slots id : ℕ) (me : M) (a i word : ℕ) (old now : List ℕ) → me.0.stage ≡ Writing a old now → i + 32 < wide
+      → Allows Rule slots id me (i + 32) (λ _. word) (λ _. put (step slots (i + 32) word 0 none) me word)
   puts slots id me a i word old now is inside s r _ there _ =
       let known : Knows h code s.words r.value r.writer id (Writing a old now) = subst (Knows h code s.words r.value r.writer id) is (r.each_seat id me.0 there) in
       let w : D = doing (Writing a old (set now i word)) me.0.client in
       let odd : a % 2 ≡ 1 = known.0 in let here : a ≡ version s = known.1 in let long = r.long in let width = r.width in
-      let words' : List ℕ = set s.words (i + 1) word in
-      let still : get_or words' 0 0 ≡ version s = get_or-set_other s.words (i + 1) 0 word 0 (λ e. omega arith) in
+      let words' : List ℕ = set s.words (i + 32) word in
+      let still : get_or words' 16 0 ≡ version s = get_or-set_other s.words (i + 32) 16 word 0 (λ e. omega arith) in
       let same_length : length (set now i word) ≡ length now = length-set now i word in
       let mine : Knows h code words' r.value r.writer id (Writing a old (set now i word)) = (
         odd,
@@ -168,20 +180,20 @@ module _ {V : Type 0} (wide h : ℕ) (holds : List ℕ → List V → Type 0) (c
         known.3,
         same_length ∙ known.4,
         λ j high lt. dite (ℕ_discrete j i)
-            (λ e. ap (λ (z : ℕ). get_or words' (z + 1) 0) e
-            ∙ (get_or-set_same s.words (i + 1) word 0 (omega arith)
+            (λ e. ap (λ (z : ℕ). get_or words' (z + 32) 0) e
+            ∙ (get_or-set_same s.words (i + 32) word 0 (omega arith)
             ∙ (sym (get_or-set_same now i word 0 (omega (arith, known.4))) ∙ ap (λ (z : ℕ). get_or (set now i word) z 0) (sym e))))
-            (λ other. get_or-set_other s.words (i + 1) (j + 1) word 0 (λ e. other (omega arith))
+            (λ other. get_or-set_other s.words (i + 32) (j + 32) word 0 (λ e. other (omega arith))
             ∙ (known.5 j high (omega (arith, lt, same_length)) ∙ sym (get_or-set_other now i j word 0 other))),
       ) in
-      let back : i ≡ (i + 1) - 1 = omega arith in (
+      let back : i ≡ (i + 32) - 32 = omega arith in (
         w,
         keeps,
         tt,
         record {
           value = r.value;
           writer = r.writer;
-          width = length-set s.words (i + 1) word ∙ width;
+          width = length-set s.words (i + 32) word ∙ width;
           long = r.long;
           version_is = omega (arith, still, r.version_is);
           coded = r.coded;
@@ -191,7 +203,7 @@ module _ {V : Type 0} (wide h : ℕ) (holds : List ℕ → List V → Type 0) (c
         },
         (refl, subst (λ (z : ℕ). Written z word me.0.stage (Writing a old (set now i word))) back (subst (λ (z : Stage). Written i word z (Writing a old (set now i word))) (sym is) refl)),
       ) where
-        others : (words' : List ℕ) {j : ℕ} → get_or words' 0 0 ≡ version s → j ≢ r.writer → (st : Stage) → Knows h code s.words r.value r.writer j st → Knows h code words' r.value r.writer j st
+        others : (words' : List ℕ) {j : ℕ} → get_or words' 16 0 ≡ version s → j ≢ r.writer → (st : Stage) → Knows h code s.words r.value r.writer j st → Knows h code words' r.value r.writer j st
         others words' e not Idle g = tt
         others words' e not (Seen b l y) g = (g.0, g.1, omega (arith, g.2, e), (λ lt. g.3 (omega (arith, lt, e))), λ le. g.4 (omega (arith, le, e)))
         others words' e not (Writing b o y) g = absurd (not g.2)
@@ -204,13 +216,13 @@ module _ {V : Type 0} (wide h : ℕ) (holds : List ℕ → List V → Type 0) (c
     grew : (s : St) (r : Rule s) (id : ℕ) (st : Stage) → Knows h code s.words r.value r.writer id st → GrewTo code st (version s) r.value
     grew s r id Idle k = tt
     grew s r id (Writing at old now) k = tt
-    grew s r id (Seen at last x) k = let v : ℕ = version s in let even : at % 2 ≡ 0 = k.0 in let a : at ≤ last = k.1 in let b : last ≤ v = k.2 in (
+    grew s r id (Seen at last x) k = let v : ℕ = version s in let even : at % 2 ≡ 0 = omega (arith, k.0) in let a : at ≤ last = k.1 in let b : last ≤ v = k.2 in (
       b,
       dite (ℕ_discrete (2 * (v / 2)) at) (λ same. inl (same, sym (k.3 (omega arith)))) (λ other. inr (omega arith, k.4 (omega arith))),
     )
 
-    pub looks : (slots id n : ℕ) (me : M) → wide ≡ n + 1 → Turns holds id me.0.client (λ x. x) tells
-        → Allows Rule slots id me 0 (λ x. x) (looked code head h n tells (step slots 0 0 0 none) me)
+    pub looks : (slots id n : ℕ) (me : M) → wide ≡ n + 32 → Turns holds id me.0.client (λ x. x) tells
+        → Allows Rule slots id me 16 (λ x. x) (looked code head h n tells (step slots 16 0 0 none) me)
     looks slots id n me is_wide asked s r _ at _ =
         let v : ℕ = version s in
         let st : Stage = Seen (resting v) v r.value in
@@ -220,7 +232,7 @@ module _ {V : Type 0} (wide h : ℕ) (holds : List ℕ → List V → Type 0) (c
           w,
           keeps,
           tt,
-          unmoved s r 0 id me.1 w (omega arith, omega arith, le_refl v, (λ _. refl), λ le. absurd (omega arith)) t.1,
+          unmoved s r 16 id me.1 w (omega arith, omega arith, le_refl v, (λ _. refl), λ le. absurd (omega arith)) t.1,
           record {
             words = r.value;
             seen = refl;
@@ -232,8 +244,16 @@ module _ {V : Type 0} (wide h : ℕ) (holds : List ℕ → List V → Type 0) (c
           },
         )
 
+    -- a step that looks at nothing, and tells of words that were seen
+    pub recalls : (slots id : ℕ) (me : M) → Recalls holds id me.0.client (words_of me.0.stage) tells
+        → Allows Rule slots id me 0 (λ x. x) (recalled tells (step slots 0 0 0 none) me)
+    recalls slots id me asked s r _ at _ =
+        let t = asked r.value (map client s.views) r.kept (at_map client s.views id me.0 at) in
+        let w : D = doing me.0.stage t.0 in
+        (w, keeps, tt, unmoved s r 0 id me.1 w (r.each_seat id me.0 at) (subst (holds r.value) (sym (map-set client s.views id w)) t.1), (refl, t.2))
+
     -- what the other seats know stays true when the value becomes another one with a greater code
-    others_know : (s : St) (r : Rule s) (words' : List ℕ) (writer' v a : ℕ) (now : List ℕ) (j : ℕ) → get_or words' 0 0 ≡ v → version s ≤ a → a + 1 ≤ v → a ≤ 2 * code r.value + 1 → version s % 2 ≡ 1 → code r.value < code now
+    others_know : (s : St) (r : Rule s) (words' : List ℕ) (writer' v a : ℕ) (now : List ℕ) (j : ℕ) → get_or words' 16 0 ≡ v → version s ≤ a → a + 1 ≤ v → a ≤ 2 * code r.value + 1 → version s % 2 ≡ 1 → code r.value < code now
         → j ≢ r.writer → (st : Stage) → Knows h code s.words r.value r.writer j st → Knows h code words' now writer' j st
     others_know s r words' writer' v a now j e at up near odd rises not Idle g = tt
     others_know s r words' writer' v a now j e at up near odd rises not (Writing b o y) g = absurd (not g.2)
@@ -248,14 +268,14 @@ module _ {V : Type 0} (wide h : ℕ) (holds : List ℕ → List V → Type 0) (c
     )
 
     pub publishes : (slots id : ℕ) (me : M) (a v : ℕ) (old now y : List ℕ) → me.0.stage ≡ Writing a old now → HasHead head (v / 2) h now y → v ≡ 2 * code y → TurnsAt holds id me.0.client old y tells → code old < code y
-        → Allows Rule slots id me 0 (λ _. v) (λ _. published head h tells (step slots 0 v 0 none) me v)
+        → Allows Rule slots id me 16 (λ _. v) (λ _. published head h tells (step slots 16 v 0 none) me v)
     publishes slots id me a v old now y is head_is twice asked more s r _ there _ =
         let known : Knows h code s.words r.value r.writer id (Writing a old now) = subst (Knows h code s.words r.value r.writer id) is (r.each_seat id me.0 there) in
         let t = turned s r id me.0 y (Seen v v y) there (subst (λ (z : List ℕ). TurnsAt holds id me.0.client z y tells) known.3 asked) in
         let w : D = doing (Seen v v y) t.0 in
         let odd : a % 2 ≡ 1 = known.0 in let here : a ≡ version s = known.1 in let long = r.long in let width = r.width in
-        let words' : List ℕ = set s.words 0 v in
-        let at_v : get_or words' 0 0 ≡ v = get_or-set_same s.words 0 v 0 (omega arith) in
+        let words' : List ℕ = set s.words 16 v in
+        let at_v : get_or words' 16 0 ≡ v = get_or-set_same s.words 16 v 0 (omega arith) in
         let rises : code r.value < code y = subst (λ (z : List ℕ). code z < code y) known.3 more in
         let half : v / 2 ≡ code y = omega arith in
         let was : a ≡ 2 * code r.value + 1 = omega (arith, r.version_is) in (
@@ -265,11 +285,11 @@ module _ {V : Type 0} (wide h : ℕ) (holds : List ℕ → List V → Type 0) (c
           record {
             value = y;
             writer = r.writer;
-            width = length-set s.words 0 v ∙ width;
+            width = length-set s.words 16 v ∙ width;
             long = omega (arith, known.4, head_is.0.0);
             version_is = omega (arith, at_v);
             coded = λ i lt. head_is.1 i lt ∙ ap (λ (c : ℕ). head c i) half;
-            at_rest = λ _ i high lt. get_or-set_other s.words 0 (i + 1) v 0 (λ e. omega arith) ∙ (known.5 i high (omega (arith, lt, head_is.0.0)) ∙ sym (head_is.0.1 i high));
+            at_rest = λ _ i high lt. get_or-set_other s.words 16 (i + 32) v 0 (λ e. omega arith) ∙ (known.5 i high (omega (arith, lt, head_is.0.0)) ∙ sym (head_is.0.1 i high));
             each_seat = seats_stay (Knows h code words' y r.writer) s.views id w (omega arith, le_refl v, omega arith, (λ _. refl), λ le. absurd (omega arith))
                 (λ j d other at. others_know s r words' r.writer v a y j at_v (omega arith) (omega arith) (omega arith) (omega arith) rises (λ e. other (e ∙ sym known.2)) d.stage (r.each_seat j d at));
             kept = t.1;
@@ -279,7 +299,7 @@ module _ {V : Type 0} (wide h : ℕ) (holds : List ℕ → List V → Type 0) (c
         )
 
     -- no seat writes while the version is even
-    others_see : (s : St) (r : Rule s) (words' : List ℕ) (writer' v : ℕ) (now : List ℕ) (j : ℕ) → get_or words' 0 0 ≡ v → version s % 2 ≡ 0 → version s + 2 ≤ v → code r.value < code now
+    others_see : (s : St) (r : Rule s) (words' : List ℕ) (writer' v : ℕ) (now : List ℕ) (j : ℕ) → get_or words' 16 0 ≡ v → version s % 2 ≡ 0 → version s + 2 ≤ v → code r.value < code now
         → (st : Stage) → Knows h code s.words r.value r.writer j st → Knows h code words' now writer' j st
     others_see s r words' writer' v now j e even up rises Idle g = tt
     others_see s r words' writer' v now j e even up rises (Writing b o y) g = let p = g.0 in let q = g.1 in absurd (omega arith)
@@ -295,12 +315,12 @@ module _ {V : Type 0} (wide h : ℕ) (holds : List ℕ → List V → Type 0) (c
 
     -- the value becomes one of which the version tells all that is new
     swapped_at : (s : St) (r : Rule s) (id at last v : ℕ) (x y : List ℕ) (cs : List (ℕ × Unit {0})) (w : D) → version s ≡ at → Knows h code s.words r.value r.writer id (Seen at last x)
-        → HasHead head (v / 2) h x y → v ≡ 2 * code y → code x < code y → w.stage ≡ Seen v v y → holds y (map client (set s.views id w)) → Rule (stepped s 0 v id cs w keeps)
+        → HasHead head (v / 2) h x y → v ≡ 2 * code y → code x < code y → w.stage ≡ Seen v v y → holds y (map client (set s.views id w)) → Rule (stepped s 16 v id cs w keeps)
     swapped_at s r id at last v x y cs w here k head_is twice more is kept =
-        let even : at % 2 ≡ 0 = k.0 in let long = r.long in let width = r.width in
+        let even : at % 2 ≡ 0 = omega (arith, k.0) in let long = r.long in let width = r.width in
         let same : x ≡ r.value = k.3 (omega arith) in
-        let words' : List ℕ = set s.words 0 v in
-        let at_v : get_or words' 0 0 ≡ v = get_or-set_same s.words 0 v 0 (omega arith) in
+        let words' : List ℕ = set s.words 16 v in
+        let at_v : get_or words' 16 0 ≡ v = get_or-set_same s.words 16 v 0 (omega arith) in
         let rises : code r.value < code y = subst (λ (z : List ℕ). code z < code y) same more in
         let half : v / 2 ≡ code y = omega arith in
         let was : version s ≡ 2 * code r.value = omega (arith, r.version_is) in
@@ -309,11 +329,11 @@ module _ {V : Type 0} (wide h : ℕ) (holds : List ℕ → List V → Type 0) (c
         record {
           value = y;
           writer = r.writer;
-          width = length-set s.words 0 v ∙ width;
+          width = length-set s.words 16 v ∙ width;
           long = omega (arith, long_x, head_is.0.0);
           version_is = omega (arith, at_v);
           coded = λ i lt. head_is.1 i lt ∙ ap (λ (c : ℕ). head c i) half;
-          at_rest = λ _ i high lt. get_or-set_other s.words 0 (i + 1) v 0 (λ e. omega arith)
+          at_rest = λ _ i high lt. get_or-set_other s.words 16 (i + 32) v 0 (λ e. omega arith)
               ∙ (r.at_rest (omega arith) i high (omega (arith, lt, long_x, head_is.0.0)) ∙ (ap (λ (l : List ℕ). get_or l i 0) (sym same) ∙ sym (head_is.0.1 i high)));
           each_seat = seats_stay (Knows h code words' y r.writer) s.views id w (subst (Knows h code words' y r.writer id) (sym is) mine)
               (λ j d other there. others_see s r words' r.writer v y j at_v (omega arith) (omega arith) rises d.stage (r.each_seat j d there));
@@ -321,7 +341,7 @@ module _ {V : Type 0} (wide h : ℕ) (holds : List ℕ → List V → Type 0) (c
         }
 
     pub swaps : (slots id : ℕ) (me : M) (at last v : ℕ) (x y : List ℕ) → me.0.stage ≡ Seen at last x → HasHead head (v / 2) h x y → v ≡ 2 * code y → TurnsAt holds id me.0.client x y tells → code x < code y
-        → Allows Rule slots id me 0 (λ n. either (eqb n at) v n) (swapped head h tells (step slots 0 at v none) me)
+        → Allows Rule slots id me 16 (λ n. either (eqb n at) v n) (swapped head h tells (step slots 16 at v none) me)
     swaps slots id me at last v x y is head_is twice asked more s r _ there _ =
         let n : ℕ = version s in
         let known : Knows h code s.words r.value r.writer id (Seen at last x) = subst (Knows h code s.words r.value r.writer id) is (r.each_seat id me.0 there) in
@@ -333,7 +353,7 @@ module _ {V : Type 0} (wide h : ℕ) (holds : List ℕ → List V → Type 0) (c
           w,
           keeps,
           tt,
-          subst (λ b. Rule (stepped s 0 (either b v n) id me.1 w keeps)) (sym (eq-eqb n at hit))
+          subst (λ b. Rule (stepped s 16 (either b v n) id me.1 w keeps)) (sym (eq-eqb n at hit))
               (swapped_at s r id at last v x y me.1 w hit known head_is twice more refl t.1),
           subst (λ (z : Stage). Swapped head h tells v n me.0.client t.0 z (Seen v v y)) (sym is)
               ((λ _. (y, head_is, refl, subst (λ (z : List ℕ). tells me.0.client z y t.0) (sym same) t.2, omega (arith, hit, known.2))), λ miss. absurd (miss hit)),
@@ -342,8 +362,8 @@ module _ {V : Type 0} (wide h : ℕ) (holds : List ℕ → List V → Type 0) (c
           w,
           keeps,
           tt,
-          subst (λ b. Rule (stepped s 0 (either b v n) id me.1 w keeps)) (sym (ne_eqb n at miss))
-              (unmoved s r 0 id me.1 w known (same_clients r.value s.views id me.0 w there refl r.kept)),
+          subst (λ b. Rule (stepped s 16 (either b v n) id me.1 w keeps)) (sym (ne_eqb n at miss))
+              (unmoved s r 16 id me.1 w known (same_clients r.value s.views id me.0 w there refl r.kept)),
           subst (λ (z : Stage). Swapped head h tells v n me.0.client me.0.client z (Seen at last x)) (sym is) ((λ hit. absurd (miss hit)), λ _. (refl, refl)),
         ))
 
@@ -396,20 +416,27 @@ module _ {V : Type 0} (wide h : ℕ) (holds : List ℕ → List V → Type 0) (c
             (asked r.value (map client s.views) r.kept (at_map client s.views id d at) apart (subst (λ l. get_elem? l other ≡ some e.client) same (at_map client vs other e there)));
       }
 
-pub opens : {V : Type 0} (h : ℕ) (holds : List ℕ → List V → Type 0) (code : List ℕ → ℕ) (head : ℕ → ℕ → ℕ) (version : ℕ) (words : List ℕ) (first : V) → version ≡ 2 * code words → IsCoded code head h words
-    → holds words (first ∷ []) → Versioned (suc (length words)) h holds code head (opening (version ∷ words) [] (doing (Seen version version words) first))
-opens {V} h holds code head version words first twice coded kept = record {
+pub opens : {V : Type 0} (h : ℕ) (holds : List ℕ → List V → Type 0) (code : List ℕ → ℕ) (head : ℕ → ℕ → ℕ) (start : List ℕ) (first : V) → 32 ≤ length start → get_or start 16 0 ≡ 2 * code (drop 32 start)
+    → IsCoded code head h (drop 32 start) → holds (drop 32 start) (first ∷ [])
+    → Versioned (length start) h holds code head (opening start [] (doing (Seen (get_or start 16 0) (get_or start 16 0) (drop 32 start)) first))
+opens {V} h holds code head start first long twice coded kept = record {
   value = words;
   writer = 0;
   width = refl;
-  long = omega arith;
-  version_is = omega arith;
+  long = omega (arith, length-drop 32 start, long);
+  version_is = omega (arith, twice);
   coded = coded;
-  at_rest = λ _ i _ lt. let e : i + 1 ≡ suc i = omega arith in ap (λ (z : ℕ). get_or (version ∷ words) z 0) e;
+  at_rest = λ _ i _ lt. let e : i + 32 ≡ 32 + i = omega arith in ap (λ (z : ℕ). get_or start z 0) e ∙ sym (get_or-drop 32 start i 0);
   each_seat = λ j d there. only j d there;
   kept = kept;
 } where
-  only : (j : ℕ) (d : Doing V) → get_elem? (doing (Seen version version words) first ∷ []) j ≡ some d → Knows h code (version ∷ words) words 0 j d.stage
-  only zero d there = subst (λ (z : Doing V). Knows h code (version ∷ words) words 0 zero z.stage) (some-injective (doing (Seen version version words) first) d there)
-      (omega arith, le_refl version, le_refl version, (λ _. refl), λ le. absurd (omega arith))
+  words : List ℕ
+  words = drop 32 start
+
+  version : ℕ
+  version = get_or start 16 0
+
+  only : (j : ℕ) (d : Doing V) → get_elem? (doing (Seen version version words) first ∷ []) j ≡ some d → Knows h code start words 0 j d.stage
+  only zero d there = subst (λ (z : Doing V). Knows h code start words 0 zero z.stage) (some-injective (doing (Seen version version words) first) d there)
+      (twice, le_refl version, le_refl version, (λ _. refl), λ le. absurd (omega arith))
   only (suc j) d there = absurd (some-ne-none d (sym there))

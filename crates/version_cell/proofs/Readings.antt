@@ -1,5 +1,5 @@
 -- Looking at the words, and loading them one by one.
-use Rattle.std.proofs.Common.{◌≡◌, ℕ, ◌+◌, ◌-◌, ◌*◌, ◌/◌, ◌%◌, ◌<◌, List, length, get_or, set, sym, refl, ap, ◌∙◌, subst, ⊎_elim, arith, get_or-set_other, get_or-set_same, eqb, eq-eqb, ne_eqb, ◌≢◌, MatchBool}
+use Rattle.std.proofs.Common.{◌≡◌, ℕ, ◌+◌, ◌-◌, ◌*◌, ◌/◌, ◌%◌, ◌<◌, List, length, get_or, set, sym, refl, ap, ◌∙◌, subst, ⊎_elim, inl, inr, Bool, true, false, nat_le, if◌then◌else◌, ◌≤◌, arith, get_or-set_other, get_or-set_same, eqb, eq-eqb, ne_eqb, ◌≢◌, MatchBool}
 use mathlib.Core.Logic.{dite}
 use Rattle.version_cell.specs.Heads.{IsCoded}
 use native.Mathlib.Decide.{ℕ_discrete}
@@ -7,7 +7,9 @@ use Rattle.version_cell.specs.inside.Heads.{AgreeAt, AgreeTo, IsHead}
 use Rattle.version_cell.specs.inside.Versions.{HasSeen, words_of}
 use Rattle.version_cell.specs.declared.stage.Stage.{Stage}
 use Rattle.version_cell.specs.declared.stage.Stage.TheVariants.{Idle, Seen, Writing}
-use Rattle.version_cell.specs.inside.Steps.{GrewTo, HasWaited, IsAt, IsLook, Loaded, Peeked, resting}
+use Rattle.version_cell.specs.Meetings.{HaveComeFurther}
+use Rattle.version_cell.specs.inside.Steps.{GrewTo, HasWaited, IsAt, IsLook, Loaded, Peeked, later, resting}
+use Rattle.std.proofs.lemmas.Bool.Decides.{leb_tells}
 
 pub loads_none : (places words : List ℕ) (st : Stage) → Loaded places 0 words st st
 loads_none places words Idle = refl
@@ -15,12 +17,12 @@ loads_none places words (Seen at last x) = (last, refl, λ le. (le, λ i lt. abs
 loads_none places words (Writing at old now) = refl
 
 pub loads_one : (places : List ℕ) (k place found : ℕ) (words : List ℕ) (a b c : Stage) → place < length words → get_or places k 0 ≡ place → Loaded places k words a b
-    → Peeked ((place + 1) - 1) found b c → Loaded places (k + 1) (set words place found) a c
-loads_one places k place found words Idle b c inside is f g = subst (λ (z : Stage). Peeked ((place + 1) - 1) found z c) f g
-loads_one places k place found words (Writing at old now) b c inside is f g = subst (λ (z : Stage). Peeked ((place + 1) - 1) found z c) f g
+    → Peeked ((place + 32) - 32) found b c → Loaded places (k + 1) (set words place found) a c
+loads_one places k place found words Idle b c inside is f g = subst (λ (z : Stage). Peeked ((place + 32) - 32) found z c) f g
+loads_one places k place found words (Writing at old now) b c inside is f g = subst (λ (z : Stage). Peeked ((place + 32) - 32) found z c) f g
 loads_one places k place found words (Seen at last x) b c inside is f g =
-    let h = subst (λ (z : Stage). Peeked ((place + 1) - 1) found z c) f.1 g in
-    let back : (place + 1) - 1 ≡ place = omega arith in (
+    let h = subst (λ (z : Stage). Peeked ((place + 32) - 32) found z c) f.1 g in
+    let back : (place + 32) - 32 ≡ place = omega arith in (
       h.0,
       h.1,
       λ le.
@@ -87,6 +89,17 @@ loaded_still code head h n tells found at k v w places words seen loaded after i
       one,
       λ i lt. (l.2 (omega arith)).1 i lt ∙ ap (λ (ws : List ℕ). get_or ws (get_or places i 0) 0) (sym one),
     )
+
+-- of the words of two seats, those that are the later stage's have come further
+pub come_further : (code : List ℕ → ℕ) (a b : Stage) (at at' : ℕ) → IsAt at a → IsAt at' b → at ≡ 2 * code (words_of a) → at' ≡ 2 * code (words_of b)
+    → HaveComeFurther code (words_of a) (words_of b) (words_of (later a b))
+come_further code a b at at' p q twice twice' =
+    let pick : Bool → Stage = λ c. if c then Seen at p.0 (words_of a) else Seen at' q.0 (words_of b) in
+    let both : words_of (later a b) ≡ words_of (pick (nat_le at' at)) = λ i. words_of (later (p.1 i) (q.1 i)) in
+    ⊎_elim
+    (λ (t : (nat_le at' at ≡ true) × (at' ≤ at)). let le = t.1 in inr (omega arith, both ∙ ap (λ c. words_of (pick c)) t.0))
+    (λ (t : (nat_le at' at ≡ false) × (at < at')). let lt = t.1 in inl (omega arith, both ∙ ap (λ c. words_of (pick c)) t.0))
+    (leb_tells at' at)
 
 -- as a number is another one or not
 pub as_found : (x y : ℕ) (A B : Type 0) → (x ≡ y → A) → (x ≢ y → B) → MatchBool (eqb x y) A B

@@ -1,5 +1,6 @@
 pub mod Passes
 pub mod Changes
 pub mod Heads
+pub mod Meetings
 -- the table below the cell
 pub mod inside

@@ -1,13 +1,17 @@
 //! The cell.
-ghost use Rattle.std.specs.Prelude.{◌≡◌, ◌<◌, ◌≤◌, ◌^◌, ℕ, [], ◌∷◌, All, IfOk, IsTrue, MatchBool, slice_index};
+ghost use Rattle.std.specs.Prelude.{◌≡◌, ◌<◌, ◌≤◌, ◌^◌, ℕ, List, [], ◌∷◌, All, IfOk, IsTrue, MatchBool, slice_index};
 ghost use Rattle.crossbeam_utils.specs.Register.{Forks, Merges, Turns, TurnsAt};
 ghost use Rattle.version_cell.specs.Changes.{changed};
 ghost use Rattle.version_cell.specs.Heads.{IsCoded};
+ghost use Rattle.version_cell.specs.Meetings.{HaveComeFurther, Recalls};
 
+use crate::layout::{STILL, VERSION, WORDS};
 use crate::pass::Pass;
-use crate::plays::{Cut, Glue, Look, Versions};
+use crate::plays::{Cut, Glue, Look, Recall, Versions};
 use crate::rule::{CellOutcome, CellRule};
-use crate::seats::{change_head, load_and_exchange, load_each, put_head, turn_to, wait_for_change};
+use crate::seats::{
+    change_head, load_and_exchange, load_each, put_head, tally, turn_to, wait_for_change,
+};
 use crate::stage::Doing;
 use atomic_table::{Join, Split, Table};
 use std::alloc::{AllocError, Global};
@@ -24,13 +28,14 @@ pub struct VersionCell<V, P: CellRule<V>, const H: usize, const N: usize> {
 impl<V, P: CellRule<V>, const H: usize, const N: usize> Model for VersionCell<V, P, H, N> {
     ghost use Rattle.std.specs.Prelude.{◌≡◌, ◌≤◌, ◌+◌, length};
     ghost use Rattle.atomic_table.specs.Seated.{TableId};
+    ghost use Rattle.version_cell.specs.declared.layout.TheConstants.{WORDS};
 
     ghost Value = { TableId };
 
     ghost view = { λ c. c.table.shared.table_id };
 
-    ghost invariant = { λ c. (c.table.shared.table_id.words ≡ N + 1)
-        × (length c.table.shared.key.items ≡ N + 1) × (H ≤ N) };
+    ghost invariant = { λ c. (c.table.shared.table_id.words ≡ N + WORDS)
+        × (length c.table.shared.key.items ≡ N + WORDS) × (H ≤ N) };
 }
 
 impl<V, P: CellRule<V>, const H: usize, const N: usize> VersionCell<V, P, H, N> {
@@ -52,8 +57,10 @@ impl<V, P: CellRule<V>, const H: usize, const N: usize> VersionCell<V, P, H, N> 
             × (made.1.words ≡ words.now)) }
     {
         let version = 2 * code;
+        let mut before = [0; WORDS];
+        before[VERSION] = version;
         let mut start = Vec::new(alloc);
-        start.push(version)?;
+        start.extend_from_slice(&before)?;
         start.extend_from_slice(words)?;
         let (table, seat) = Table::of_words(alloc, start.as_slice(), &start)?;
         let mut head = [0; H];
@@ -95,7 +102,7 @@ impl<V, P: CellRule<V>, const H: usize, const N: usize> VersionCell<V, P, H, N> 
         let found = self
             .table
             .shared
-            .load::<Look<P, M, H, N>>(&mut pass.seat, 0);
+            .load::<Look<P, M, H, N>>(&mut pass.seat, VERSION);
         if found != pass.version {
             turn_to::<V, P, H>(found, &mut pass.version, &mut pass.head);
         }
@@ -123,7 +130,7 @@ impl<V, P: CellRule<V>, const H: usize, const N: usize> VersionCell<V, P, H, N> 
         let found = self
             .table
             .shared
-            .load::<Look<P, M, H, N>>(&mut pass.seat, 0);
+            .load::<Look<P, M, H, N>>(&mut pass.seat, VERSION);
         if found == pass.version {
             return true;
         }
@@ -143,7 +150,7 @@ impl<V, P: CellRule<V>, const H: usize, const N: usize> VersionCell<V, P, H, N> 
     {
         let table = &self.table.shared;
         wait_for_change::<R, V, P, H, N>(rt, table, &mut pass.seat, pass.version);
-        let found = table.load::<Look<P, M, H, N>>(&mut pass.seat, 0);
+        let found = table.load::<Look<P, M, H, N>>(&mut pass.seat, VERSION);
         turn_to::<V, P, H>(found, &mut pass.version, &mut pass.head);
     }
 
@@ -200,8 +207,8 @@ impl<V, P: CellRule<V>, const H: usize, const N: usize> VersionCell<V, P, H, N> 
         false
     }
 
-    /// Tells one pass what another has seen: it takes in a part that is cut off the other's view, and then it looks. Where it has
-    /// seen fewer exchanges, it begins with the other's words.
+    /// Tells one pass what another has seen: it takes in a part that is cut off the other's view. Where the other's words have come further,
+    /// they are then its own. It looks at nothing, and waits for nobody.
     pub fn meet_as<S: Split<V> + Join<V>, M: CellOutcome<V>>(
         &self,
         pass: &mut Pass<V, H, N>,
@@ -212,20 +219,25 @@ impl<V, P: CellRule<V>, const H: usize, const N: usize> VersionCell<V, P, H, N> 
             (S.left pass.old.view) (S.right pass.old.view) }
         requires joined { (part : ℕ) → Merges P.holds told.old.number told.old.view
             part (S.right pass.old.view) (S.both told.old.view (S.right pass.old.view)) S.spent }
-        requires look { Turns P.holds told.old.number
-            (S.both told.old.view (S.right pass.old.view)) (λ x. x) M.then }
+        requires recall { (words : List ℕ)
+            → HaveComeFurther P.code told.old.words pass.old.words words
+            → Recalls P.holds told.old.number
+            (S.both told.old.view (S.right pass.old.view)) words M.then }
         ensures pass { (pass.new.cell ≡ pass.old.cell) × (pass.new.number ≡ pass.old.number)
             × (pass.new.words ≡ pass.old.words) × (pass.new.view ≡ S.left pass.old.view) }
         ensures same { (told.new.cell ≡ told.old.cell) × (told.new.number ≡ told.old.number) }
         ensures rule { M.then (S.both told.old.view (S.right pass.old.view))
             told.new.words told.new.words told.new.view }
     {
-        let part = self.table.shared.split_seat::<Cut<S>>(&mut pass.seat);
-        self.table.shared.join_seat::<Glue<S>>(&mut told.seat, part);
+        let table = &self.table.shared;
+        tally::<V, P, H, N>(table, &mut pass.seat, pass.version);
+        tally::<V, P, H, N>(table, &mut told.seat, told.version);
+        let part = table.split_seat::<Cut<S>>(&mut pass.seat);
+        table.join_seat::<Glue<S>>(&mut told.seat, part);
+        table.load::<Recall<M>>(&mut told.seat, STILL);
         if told.version < pass.version {
             told.version = pass.version;
             told.head = pass.head;
         }
-        self.look_as::<M>(told);
     }
 }

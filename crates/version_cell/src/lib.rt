@@ -5,6 +5,7 @@
 #![tactic(auto)]
 
 mod cell;
+mod layout;
 mod pass;
 mod plays;
 mod rule;

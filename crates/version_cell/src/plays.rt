@@ -1,5 +1,5 @@
 //! The rule of the table that a cell lies in, and what each step on it tells.
-ghost use Rattle.version_cell.specs.inside.Steps.{later, looked, peeked, published, put, swapped, taken, watched};
+ghost use Rattle.version_cell.specs.inside.Steps.{later, looked, peeked, published, put, recalled, swapped, taken, tallied, watched};
 ghost use Rattle.version_cell.specs.inside.Versions.{doing};
 
 use crate::rule::{CellOutcome, CellRule};
@@ -7,7 +7,7 @@ use crate::stage::Doing;
 use atomic_table::{Join, Play, Split, TableRule};
 use std::marker::PhantomData;
 
-/// Word 0 is the version, which is odd while a seat writes. Its key has the words at the start.
+/// The version is odd while a seat writes. The key has the words of the table at the start.
 pub struct Versions<P, const H: usize> {
     of: PhantomData<P>,
 }
@@ -15,12 +15,13 @@ pub struct Versions<P, const H: usize> {
 impl<V, P: CellRule<V>, const H: usize> TableRule<(), Doing<V>, Vec<u64>> for Versions<P, H> {
     ghost use Rattle.std.specs.Prelude.{drop, length, slice_index};
     ghost use Rattle.version_cell.specs.inside.Versions.{Versioned, doing};
+    ghost use Rattle.version_cell.specs.declared.layout.TheConstants.{VERSION, WORDS};
     ghost use Rattle.version_cell.specs.declared.stage.Stage.TheVariants.{Seen};
 
     ghost holds = { λ start. Versioned (length start.items) H P.holds P.code P.head };
 
     ghost first = { λ start. doing
-        (Seen (slice_index start.items 0) (slice_index start.items 0) (drop 1 start.items)) P.first };
+        (Seen (slice_index start.items VERSION) (slice_index start.items VERSION) (drop WORDS start.items)) P.first };
 }
 
 /// A load of the version, by which the seat has seen the words.
@@ -45,6 +46,24 @@ pub(crate) struct Peek;
 
 impl<V> Play<(), Doing<V>> for Peek {
     ghost then = { peeked };
+}
+
+/// A load of nothing that counts: the caller's view is told something of the words that the seat saw last.
+pub(crate) struct Recall<M> {
+    of: PhantomData<M>,
+}
+
+impl<V, M: CellOutcome<V>> Play<(), Doing<V>> for Recall<M> {
+    ghost then = { recalled M.then };
+}
+
+/// A load of nothing that counts: the version of the words that the seat saw last is twice their code.
+pub(crate) struct Tally<P> {
+    of: PhantomData<P>,
+}
+
+impl<V, P: CellRule<V>> Play<(), Doing<V>> for Tally<P> {
+    ghost then = { tallied P.code };
 }
 
 /// The version goes from the one that the seat has seen to the odd one after it.

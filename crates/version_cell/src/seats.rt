@@ -8,7 +8,8 @@ ghost use Rattle.version_cell.specs.inside.Steps.{Fits, HasStayed, HasWaited, Ha
 ghost use Rattle.version_cell.specs.inside.Versions.{words_of};
 ghost use Rattle.version_cell.specs.declared.stage.Stage.TheVariants.{Seen, Writing};
 
-use crate::plays::{Peek, Publish, Put, Swap, Take, Versions, Watch};
+use crate::layout::{STILL, VERSION, WORDS};
+use crate::plays::{Peek, Publish, Put, Swap, Take, Tally, Versions, Watch};
 use crate::rule::{CellOutcome, CellRule};
 use crate::stage::Doing;
 use atomic_table::{Seat, Shared};
@@ -71,13 +72,29 @@ pub(crate) fn wait_for_change<R: Wait, V, P: CellRule<V>, const H: usize, const 
 {
     let backoff = Backoff::new();
     for _ in rt.forever() {
-        let found = table.load::<Watch>(seat, 0);
+        let found = table.load::<Watch>(seat, VERSION);
         if found / 2 > version / 2 {
             return;
         }
         backoff.snooze();
     }
     unreachable!()
+}
+
+/// Does nothing, but for a load that looks at nothing: its clauses say what holds of every seat.
+pub(crate) fn tally<V, P: CellRule<V>, const H: usize, const N: usize>(
+    table: &Shared<(), Doing<V>, Vec<u64>, Versions<P, H>>,
+    seat: &mut Seat<(), Doing<V>>,
+    version: u64,
+)
+    requires table { Fits N seat.old table.now.table_id table.now.key.items }
+    requires seen { IsAt version seat.old.me.0.stage }
+    ensures seat { Stays seat.old seat.new }
+    ensures stage { seat.new.me.0.stage ≡ seat.old.me.0.stage }
+    ensures twice { version ≡ 2 * P.code (words_of seat.old.me.0.stage) }
+{
+    let _version = version;
+    table.load::<Tally<P>>(seat, STILL);
 }
 
 /// Loads the words at these places, which the version doesn't tell.
@@ -94,7 +111,7 @@ pub(crate) fn load_each<V, P: CellRule<V>, const H: usize, const N: usize>(
         seat.old.me.0.stage seat.new.me.0.stage }
 {
     for place in places {
-        words[*place] = table.load::<Peek>(seat, *place + 1);
+        words[*place] = table.load::<Peek>(seat, *place + WORDS);
     }
 }
 
@@ -207,7 +224,7 @@ fn take<V, P: CellRule<V>, const H: usize, const N: usize>(
         (seat.new.me.0.stage ≡ seat.old.me.0.stage) }
     ensures fresh { IsTrue result → IsFresh version seat.old.me.0.stage }
 {
-    table.compare_exchange::<Take>(seat, 0, version, version + 1) == version
+    table.compare_exchange::<Take>(seat, VERSION, version, version + 1) == version
 }
 
 /// Has the version go from that of the words that the seat has seen to the next, which tells all words that the changes make new.
@@ -239,7 +256,7 @@ fn swap<M: CellOutcome<V>, V, P: CellRule<V>, const H: usize, const N: usize>(
     ensures fresh { IsTrue result → IsFresh version seat.old.me.0.stage }
 {
     let _changes = changes;
-    table.compare_exchange::<Swap<P, M, H>>(seat, 0, version, next) == version
+    table.compare_exchange::<Swap<P, M, H>>(seat, VERSION, version, next) == version
 }
 
 /// Stores, in turn, the words of the changes that the version doesn't tell.
@@ -281,7 +298,7 @@ fn store_word<V, P: CellRule<V>, const H: usize, const N: usize>(
     if place < H {
         return;
     }
-    table.store::<Put>(seat, place + 1, word);
+    table.store::<Put>(seat, place + WORDS, word);
 }
 
 /// Makes the changes in a cell that the seat has taken, and gives it the version of the words after them.
@@ -311,5 +328,5 @@ fn publish<M: CellOutcome<V>, V, P: CellRule<V>, const H: usize, const N: usize>
         (changed (words_of seat.old.me.0.stage) changes.now) seat.new.me.0.client }
 {
     write::<V, P, H, N>(table, seat, version, changes);
-    table.store::<Publish<P, M, H>>(seat, 0, next);
+    table.store::<Publish<P, M, H>>(seat, VERSION, next);
 }

@@ -6,6 +6,7 @@ use Rattle.atomic_table.specs.declared.shared.Seat.{Seat}
 use Rattle.version_cell.specs.Heads.{IsCoded}
 use Rattle.version_cell.specs.inside.Heads.{AgreeAt, AgreeFrom, HasHead}
 use Rattle.version_cell.specs.inside.Versions.{words_of}
+use Rattle.version_cell.specs.declared.layout.TheConstants.{WORDS}
 use Rattle.version_cell.specs.declared.stage.Doing.{Doing}
 use Rattle.version_cell.specs.declared.stage.Stage.{Stage}
 use Rattle.version_cell.specs.declared.stage.Stage.TheVariants.{Seen, Writing}
@@ -42,6 +43,11 @@ Watched found before after = after ≡ before
 -- the stage has seen words at this version
 abbrev pub IsAt : ℕ → Stage → Type 0
 IsAt at stage = (last : ℕ) × (stage ≡ Seen at last (words_of stage))
+
+-- the version of the words that it saw is twice their code
+abbrev pub IsTwice : (List ℕ → ℕ) → Stage → Type 0
+IsTwice code (Seen at last x) = at ≡ 2 * code x
+IsTwice code stage = Unit {0}
 
 -- it has loaded no version after this one
 abbrev pub IsFresh : ℕ → Stage → Type 0
@@ -114,9 +120,9 @@ module _ {V : Type 0} where
   abbrev pub Stays : Seat (Unit {0}) (Doing V) → Seat (Unit {0}) (Doing V) → Type 0
   Stays p q = IsSameSeat p q × IsSameView p.me q.me
 
-  -- the seat is one of a table of so many words beside the version
+  -- the seat is one of the table of a cell of so many words
   abbrev pub Fits : ℕ → Seat (Unit {0}) (Doing V) → TableId → List ℕ → Type 0
-  Fits n p z start = (p.table_id ≡ z) × (z.words ≡ n + 1) × (length start ≡ n + 1)
+  Fits n p z start = (p.table_id ≡ z) × (z.words ≡ n + WORDS) × (length start ≡ n + WORDS)
 
   abbrev pub looked : (List ℕ → ℕ) → (ℕ → ℕ → ℕ) → ℕ → ℕ → (V → List ℕ → List ℕ → V → Type 0) → Step (Unit {0}) → Sat V → ℕ → Sat V → Type 0
   looked code head h n tells st m found m' = IsLook code head h n tells found m.0.client m'.0.client m.0.stage m'.0.stage
@@ -125,13 +131,21 @@ module _ {V : Type 0} where
   watched st m found m' = IsSameView m m' × Watched found m.0.stage m'.0.stage
 
   abbrev pub peeked : Step (Unit {0}) → Sat V → ℕ → Sat V → Type 0
-  peeked st m found m' = IsSameView m m' × Peeked (st.word - 1) found m.0.stage m'.0.stage
+  peeked st m found m' = IsSameView m m' × Peeked (st.word - WORDS) found m.0.stage m'.0.stage
+
+  -- nothing was looked at: the caller's view is told something of the words that the seat saw last
+  abbrev pub recalled : (V → List ℕ → List ℕ → V → Type 0) → Step (Unit {0}) → Sat V → ℕ → Sat V → Type 0
+  recalled tells st m found m' = (m'.0.stage ≡ m.0.stage) × tells m.0.client (words_of m.0.stage) (words_of m.0.stage) m'.0.client
+
+  -- nor here
+  abbrev pub tallied : (List ℕ → ℕ) → Step (Unit {0}) → Sat V → ℕ → Sat V → Type 0
+  tallied code st m found m' = IsSameView m m' × (m'.0.stage ≡ m.0.stage) × IsTwice code m.0.stage
 
   abbrev pub taken : Step (Unit {0}) → Sat V → ℕ → Sat V → Type 0
   taken st m found m' = IsSameView m m' × Taken st.second found m.0.stage m'.0.stage
 
   abbrev pub put : Step (Unit {0}) → Sat V → ℕ → Sat V → Type 0
-  put st m found m' = IsSameView m m' × Written (st.word - 1) st.first m.0.stage m'.0.stage
+  put st m found m' = IsSameView m m' × Written (st.word - WORDS) st.first m.0.stage m'.0.stage
 
   abbrev pub swapped : (ℕ → ℕ → ℕ) → ℕ → (V → List ℕ → List ℕ → V → Type 0) → Step (Unit {0}) → Sat V → ℕ → Sat V → Type 0
   swapped head h tells st m found m' = Swapped head h tells st.second found m.0.client m'.0.client m.0.stage m'.0.stage

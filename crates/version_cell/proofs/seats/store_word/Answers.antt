@@ -16,8 +16,8 @@ returns-then-place-clause-stored g c = λ version old words long is.
 
 pub returns-clause-stored : goal.returns-clause-stored
 returns-clause-stored g c = λ version old words long is.
-    let wrote = subst (λ (z : Stage). Written ((c.args.place + 1) - 1) c.args.word z c.store.new.seat.me.0.stage) is.1 c.store.ensures.2.1 in
-    let back : (c.args.place + 1) - 1 ≡ c.args.place = omega arith in (
+    let wrote = subst (λ (z : Stage). Written ((c.args.place + 32) - 32) c.args.word z c.store.new.seat.me.0.stage) is.1 c.store.ensures.2.1 in
+    let back : (c.args.place + 32) - 32 ≡ c.args.place = omega arith in (
       set is.0 c.args.place c.args.word,
       wrote ∙ ap (λ (i : ℕ). Writing version old (set is.0 i c.args.word)) back,
       put_in_both g.row.H c.args.place c.args.word words is.0 (omega (arith, c.requires.place, long)) is.2,

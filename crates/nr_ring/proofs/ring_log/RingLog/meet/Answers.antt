@@ -1,6 +1,6 @@
 use Rattle.std.proofs.Common.{rules, refl}
 use Rattle.nr_ring.specs.Calls.{copy_of}
-use Rattle.nr_ring.proofs.Turns.{look_turns}
+use Rattle.nr_ring.proofs.Further.{meeting_recalls}
 use Rattle.nr_ring.proofs.Joins.{join_merges}
 use Rattle.nr_ring.proofs.Splits.{copy_forks}
 use Rattle.nr_ring.proofs.Meets.{met_remembers}
@@ -12,7 +12,7 @@ meet_as-requires g c =
       search rules,
       (
         search rules,
-        (search rules, (copy_forks _ _ _ _ _, ((λ part. join_merges _ _ _ _ _ _ copy refl), look_turns _ _ _ _ _))),
+        (search rules, (copy_forks _ _ _ _ _, ((λ part. join_merges _ _ _ _ _ _ copy refl), λ words further. meeting_recalls _ _ _ _ _ c.pass.inside.inner.view copy _ _ words _ _ c.told.invariant c.pass.invariant refl further))),
       ),
     )
 
