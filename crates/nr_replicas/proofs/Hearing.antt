@@ -9,7 +9,8 @@ use Rattle.nr_ring.specs.LogHistory.{IsLogHistory, log_after}
 use Rattle.nr_ring.specs.View.{HasSeenAdvances, IsElse}
 use Rattle.nr_ring.specs.declared.log_event.LogEvent.{LogEvent}
 use Rattle.nr_ring.specs.declared.view.View.{View}
-use Rattle.nr_node.proofs.Looks.{begins_begins, later_goes_on}
+use Rattle.nr_node.proofs.Looks.{later_goes_on}
+use Rattle.nr_ring.proofs.Appends.{begins}
 use Rattle.nr_replicas.specs.Replicas.{HasHeard}
 
 pub looked_heard : (depth : Depth) (replicas : ℕ) (a b : View) → HasLooked depth replicas a b → HasHeard depth replicas a b
@@ -40,7 +41,7 @@ advances_on replica first second third p q =
 pub heard_twice : (depth : Depth) (replicas : ℕ) (a b c : View) → HasHeard depth replicas a b → HasHeard depth replicas b c → HasHeard depth replicas a c
 heard_twice depth replicas a b c p q = record {
   is_history = q.is_history;
-  seen = begins_begins a.seen b.seen c.seen p.seen q.seen;
+  seen = begins a.seen b.seen c.seen p.seen q.seen;
   advances = λ k d lt.
       let Q : List ℕ → Type 0 = λ l. All (λ replica. HasSeenAdvances replica c.seen b.seen) l in
       advances_on (get_or a.owns k d) a.seen b.seen c.seen (p.advances k d lt) (subst Q p.owns q.advances k d lt);

@@ -21,7 +21,8 @@ use Rattle.nr_ring.proofs.Histories.{local_since}
 use Rattle.nr_node.specs.Node.{IsNode, NodeState, applied_of, log_of, replica_of, taken_by}
 use Rattle.nr_node.proofs.LaterLogs.{same_space}
 use Rattle.nr_node.proofs.Lists.{all_one, same_some}
-use Rattle.nr_node.proofs.Looks.{begins_begins, later_goes_on}
+use Rattle.nr_node.proofs.Looks.{later_goes_on}
+use Rattle.nr_ring.proofs.Appends.{begins}
 use Rattle.nr_node.proofs.Nodes.{take_still}
 use Rattle.nr_replicas.specs.Replicas.{HasHeard}
 use Rattle.nr_replicas.specs.Settled.{IsDumpOf, IsSettled}
@@ -35,7 +36,7 @@ use Rattle.nr_replicas.proofs.Logs.{tail_rises}
 -- what begins with all that they have seen goes on to a longer list that does
 pub all_begin_later : (seen later : List LogEvent) (passes : List Known) → StartsWith later seen → All (λ pass. StartsWith seen pass.view.seen) passes
     → All (λ pass. StartsWith later pass.view.seen) passes
-all_begin_later seen later passes on all k d lt = begins_begins (get_or passes k d).view.seen seen later (all k d lt) on
+all_begin_later seen later passes on all k d lt = begins (get_or passes k d).view.seen seen later (all k d lt) on
 
 -- a pass that has heard of more has taken as many entries for its replica
 pub heard_taken : (depth : Depth) (replicas : ℕ) (a b : View) → HasHeard depth replicas a b → a.owns ≡ replica_of a ∷ []
