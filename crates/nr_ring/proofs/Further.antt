@@ -21,8 +21,8 @@ use Rattle.nr_ring.specs.inside.Held.{Remembers}
 use Rattle.nr_ring.proofs.Appends.{begins}
 use Rattle.nr_ring.proofs.Codes.{code_is, event_raises}
 use Rattle.nr_ring.proofs.Histories.{as_many_locals, goes_on_after, goes_on_before, history_fits}
-use Rattle.nr_ring.proofs.Rights.{idle_still, rights_changed}
-use Rattle.nr_ring.proofs.Views.{after_one_more, owned_before, views_changed, whole}
+use Rattle.nr_ring.proofs.Turns.{seeing, seeing_kept}
+use Rattle.nr_ring.proofs.Views.{after_one_more, whole}
 
 -- each event raises the code by one at least
 code_up : (depth : Depth) (replicas : ℕ) (seen rest : List LogEvent) → replicas ≤ 4 → IsLogHistory depth replicas (seen ++ rest)
@@ -79,10 +79,6 @@ between replica whole middle seen all last first =
       (first.0, first.1, all_of_first (IsElse replica) first.0 last.0 each),
     )
 
--- the view of a pass that has seen so much
-abbrev seeing : List LogEvent → View → View
-seeing seen v = record { seen = seen; mine = v.mine; owns = v.owns; rights = v.rights; told = v.told }
-
 -- a pass that was told of another's sees as much as one of the two, of which both were a beginning, and the words are those of then
 sees : (depth : Depth) (replicas passes pass : ℕ) (told other : View) (seen : List LogEvent) (words x : List ℕ) (views : List View) → replicas ≤ 4
     → (kept : IsKept depth replicas passes x views) → get_elem? views pass ≡ some (joint_view told other)
@@ -96,23 +92,7 @@ sees depth replicas passes pass told other seen words x views few kept at here m
     let own : (k d : ℕ) → k < length v.owns → HasSeenAdvances (slice_index_or v.owns k d) kept.history seen × HasSeenAdvances (slice_index_or v.owns k d) seen told.seen =
     λ k d lt. between (slice_index_or v.owns k d) kept.history seen told.seen (old.owns k d lt) here mine in (
       w,
-      record {
-        history = kept.history;
-        makers = kept.makers;
-        is_history = kept.is_history;
-        words_are = kept.words_are;
-        each_made = kept.each_made;
-        by_passes = λ k d lt. omega (arith, kept.by_passes k d lt, Rattle.std.proofs.Math.ListN.length-set views pass w);
-        each_view = views_changed (λ j u. IsTrueOf kept.history (made_by_pass j kept.makers) u) views pass w
-            (record { seen = here; told = old.told; owns = λ k d lt. (own k d lt).0; mine = old.mine })
-            (λ j u other there. kept.each_view j u there);
-        one_owner = λ p q a b replica pa qb ha hb.
-            let c = owned_before views pass v w at refl p a replica pa ha in
-            let e = owned_before views pass v w at refl q b replica qb hb in
-            kept.one_owner p q c.0 e.0 replica c.1 e.1 c.2 e.2;
-        all_rights = omega (arith, rights_changed views pass v w at, kept.all_rights);
-        makers_right = idle_still views pass w (kept.makers_right pass v at) kept.makers_right;
-      },
+      seeing_kept depth replicas passes pass v seen x views kept at (record { seen = here; told = old.told; owns = λ k d lt. (own k d lt).0; mine = old.mine }),
       record {
         looked = record {
           is_history = is;

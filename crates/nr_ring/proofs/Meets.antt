@@ -1,4 +1,4 @@
--- A pass to which another was joined looks.
+-- What a pass has to which another was joined.
 use Rattle.std.proofs.Common.{◌≡◌, ℕ, ◌<◌, List, [], All, Option, length, sym, subst, ◌∙◌, arith}
 use Rattle.vs_types.specs.declared.depth.Depth.{Depth}
 use Rattle.nr_ring.specs.Calls.{HasLooked, Looks, joint_view}

@@ -20,34 +20,38 @@ use Rattle.nr_ring.proofs.Views.{below_end, contains_item, views_changed}
 use Rattle.nr_ring.proofs.Rights.{has_right, idle_still, rights_changed}
 use Rattle.nr_ring.proofs.Histories.{seen_all}
 
--- the view of a pass that has seen the whole history
-abbrev looked : List LogEvent → View → View
-looked history v = record { seen = history; mine = v.mine; owns = v.owns; rights = v.rights; told = v.told }
+-- the view of a pass that has seen so much
+abbrev pub seeing : List LogEvent → View → View
+seeing seen v = record { seen = seen; mine = v.mine; owns = v.owns; rights = v.rights; told = v.told }
+
+-- a pass may have seen what is true of the history
+pub seeing_kept : (depth : Depth) (replicas passes pass : ℕ) (v : View) (seen : List LogEvent) (x : List ℕ) (views : List View) → (kept : IsKept depth replicas passes x views)
+    → get_elem? views pass ≡ some v → IsTrueOf kept.history (made_by_pass pass kept.makers) (seeing seen v)
+    → IsKept depth replicas passes x (set views pass (seeing seen v))
+seeing_kept depth replicas passes pass v seen x views kept at true_of = let w : View = seeing seen v in record {
+  history = kept.history;
+  makers = kept.makers;
+  is_history = kept.is_history;
+  words_are = kept.words_are;
+  each_made = kept.each_made;
+  by_passes = λ k d lt. omega (arith, kept.by_passes k d lt, length-set views pass w);
+  each_view = views_changed (λ j u. IsTrueOf kept.history (made_by_pass j kept.makers) u) views pass w true_of (λ j u other there. kept.each_view j u there);
+  one_owner = λ p q a b replica pa qb ha hb.
+      let c = owned_before views pass v w at refl p a replica pa ha in
+      let e = owned_before views pass v w at refl q b replica qb hb in
+      kept.one_owner p q c.0 e.0 replica c.1 e.1 c.2 e.2;
+  all_rights = omega (arith, rights_changed views pass v w at, kept.all_rights);
+  makers_right = idle_still views pass w (kept.makers_right pass v at) kept.makers_right;
+}
 
 pub look_turns : (depth : Depth) (replicas passes pass : ℕ) (v : View)
     → Turns (IsKept depth replicas passes) pass v (λ x. x) (λ before words words' after. Looks depth replicas words' before after)
 look_turns depth replicas passes pass v x views kept at =
     let history = kept.history in
-    let w : View = looked history v in
     let old : IsTrueOf history (made_by_pass pass kept.makers) v = kept.each_view pass v at in (
-      w,
-      record {
-        history = history;
-        makers = kept.makers;
-        is_history = kept.is_history;
-        words_are = kept.words_are;
-        each_made = kept.each_made;
-        by_passes = λ k d lt. omega (arith, kept.by_passes k d lt, length-set views pass w);
-        each_view = views_changed (λ j u. IsTrueOf history (made_by_pass j kept.makers) u) views pass w
-            (record { seen = whole history; told = old.told; owns = λ k d lt. nothing_since (slice_index_or v.owns k d) history; mine = old.mine })
-            (λ j u other there. kept.each_view j u there);
-        one_owner = λ p q a b replica pa qb ha hb.
-            let c = owned_before views pass v w at refl p a replica pa ha in
-            let e = owned_before views pass v w at refl q b replica qb hb in
-            kept.one_owner p q c.0 e.0 replica c.1 e.1 c.2 e.2;
-        all_rights = omega (arith, rights_changed views pass v w at, kept.all_rights);
-        makers_right = idle_still views pass w (kept.makers_right pass v at) kept.makers_right;
-      },
+      seeing history v,
+      seeing_kept depth replicas passes pass v history x views kept at
+          (record { seen = whole history; told = old.told; owns = λ k d lt. nothing_since (slice_index_or v.owns k d) history; mine = old.mine }),
       record {
         looked = record { is_history = kept.is_history; seen = old.seen; told = old.told; advances = old.owns; told_stays = refl; mine = refl; owns = refl; rights = refl };
         words_are = kept.words_are;

@@ -19,7 +19,7 @@ use version_cell::Pass;
 pub struct LogPass<J: LogName> {
     pub(crate) inner: Pass<View, RING_WORDS, CELL_WORDS>,
     pub(crate) replica: Option<u8>,
-    // Room for what an append changes and what a fetch loads, so that no call has to fill an array of its own.
+    // Room for what an append changes and what a fetch or a take loads, so that no call has to fill an array of its own.
     pub(crate) changes: ArrayVec<(usize, u64), CHANGES>,
     pub(crate) places: ArrayVec<usize, LOADS>,
     pub(crate) loaded: [u64; CELL_WORDS],

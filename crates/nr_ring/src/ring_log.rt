@@ -200,8 +200,8 @@ impl<J: LogName> RingLog<J> {
     /// # Errors
     ///
     /// `LogEnded` where the log would go past 65,536 entries; `Full` where some replica would have more than 16 entries to take;
-    /// `Moved` where neither holds, but another pass's event came after the look. The tails are those of the log that the pass
-    /// has then seen, and it has made no event.
+    /// `Moved` where neither holds, but another pass's event has come since this pass last saw the log. The tails are those of
+    /// the log that the pass has then seen, and it has made no event.
     pub fn append<R: Wait>(
         &self,
         rt: &R,
@@ -326,8 +326,8 @@ impl<J: LogName> RingLog<J> {
     ///
     /// # Errors
     ///
-    /// `Moved` where there were entries to take, but another pass's event came after the look. It gives no entry then, and the pass
-    /// has made no event.
+    /// `Moved` where there were entries to take, but another pass's event has come since this pass last saw the log. It gives no
+    /// entry then, and the pass has made no event.
     pub fn take<R: Wait>(
         &self,
         rt: &R,

@@ -207,8 +207,8 @@ impl<V, P: CellRule<V>, const H: usize, const N: usize> VersionCell<V, P, H, N> 
         false
     }
 
-    /// Tells one pass what another has seen: it takes in a part that is cut off the other's view. Where the other's words have come further,
-    /// they are then its own. It looks at nothing, and waits for nobody.
+    /// Tells one pass what another has seen: it takes in a part that is cut off the other's view. Where the other's words have come
+    /// further, they are then its own. It looks at nothing, and waits for nobody.
     pub fn meet_as<S: Split<V> + Join<V>, M: CellOutcome<V>>(
         &self,
         pass: &mut Pass<V, H, N>,
@@ -226,6 +226,7 @@ impl<V, P: CellRule<V>, const H: usize, const N: usize> VersionCell<V, P, H, N> 
         ensures pass { (pass.new.cell ≡ pass.old.cell) × (pass.new.number ≡ pass.old.number)
             × (pass.new.words ≡ pass.old.words) × (pass.new.view ≡ S.left pass.old.view) }
         ensures same { (told.new.cell ≡ told.old.cell) × (told.new.number ≡ told.old.number) }
+        ensures words { HaveComeFurther P.code told.old.words pass.old.words told.new.words }
         ensures rule { M.then (S.both told.old.view (S.right pass.old.view))
             told.new.words told.new.words told.new.view }
     {

@@ -21,7 +21,8 @@ impl<V, P: CellRule<V>, const H: usize> TableRule<(), Doing<V>, Vec<u64>> for Ve
     ghost holds = { λ start. Versioned (length start.items) H P.holds P.code P.head };
 
     ghost first = { λ start. doing
-        (Seen (slice_index start.items VERSION) (slice_index start.items VERSION) (drop WORDS start.items)) P.first };
+        (Seen (slice_index start.items VERSION) (slice_index start.items VERSION)
+        (drop WORDS start.items)) P.first };
 }
 
 /// A load of the version, by which the seat has seen the words.

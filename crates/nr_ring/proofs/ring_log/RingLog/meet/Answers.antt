@@ -1,5 +1,7 @@
-use Rattle.std.proofs.Common.{rules, refl}
+use Rattle.std.proofs.Common.{rules, refl, All, subst}
 use Rattle.nr_ring.specs.Calls.{copy_of}
+use Rattle.nr_ring.specs.Pass.{Known}
+use Rattle.nr_ring.specs.View.{HasSeenAdvances}
 use Rattle.nr_ring.proofs.Further.{meeting_recalls}
 use Rattle.nr_ring.proofs.Joins.{join_merges}
 use Rattle.nr_ring.proofs.Splits.{copy_forks}
@@ -19,3 +21,8 @@ meet_as-requires g c =
 pub invariant_of-told : goal.invariant_of-told
 invariant_of-told g c =
     met_remembers _ _ _ _ _ c.told.inside.inner.view (copy_of c.pass.inside.inner.view) _ c.told.invariant refl c.meet_as.ensures.rule
+
+pub returns-clause-advances : goal.returns-clause-advances
+returns-clause-advances g c =
+    let seen = c.meet_as.new.told.view.seen in
+    subst (λ (p : Known). All (λ replica. HasSeenAdvances replica seen p.view.seen) p.view.owns) c.told.view_is c.meet_as.ensures.rule.looked.advances

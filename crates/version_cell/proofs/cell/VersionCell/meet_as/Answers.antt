@@ -9,6 +9,7 @@ use Rattle.version_cell.specs.Passes.{CellPass}
 use Rattle.version_cell.proofs.Keeps.{joins, recalls, splits}
 use Rattle.version_cell.proofs.Readings.{come_further}
 use Rattle.version_cell.proofs.cell.VersionCell.meet_as.Goals as goal
+use Rattle.version_cell.proofs.cell.VersionCell.meet_as.Goals.{then-told-pass, else-told-pass}
 
 pub split_seat-part-requires : goal.split_seat-part-requires
 split_seat-part-requires g c =
@@ -63,3 +64,24 @@ load-requires g c =
     let asked = c.requires.recall words (subst (λ (z : List ℕ × List ℕ). HaveComeFurther code z.0 z.1 words) (λ i. (told i, pass i)) further) in
     let Asks : ℕ × V × List ℕ → Type 0 = λ z. Recalls holds z.0 z.1 z.2 g.M.CellOutcome.then in
     (search rules, search rules, recalls _ _ _ _ _ g.M.CellOutcome.then _ _ seat.me (subst Asks (λ i. (sym number i, sym client i, words_of (sym stage i))) asked))
+
+pub returns-clause-words : goal.returns-clause-words
+returns-clause-words g c =
+    let V = g.row.V.Denot in
+    let code = g.P.CellRule.code in
+    let first = c.told.inside.seat.me.0.stage in
+    let second = c.pass.inside.seat.me.0.stage in
+    let part = c.split_seat-part.result in
+    let at : part.me.0.stage ≡ second = ap (λ (m : Me (Unit {0}) (Doing V)). m.0.stage) c.split_seat-part.ensures.4 ∙ c.tally.ensures.stage in
+    let stage : c.join_seat.new.seat.me.0.stage ≡ later first second = ap (λ (m : Me (Unit {0}) (Doing V)). m.0.stage) c.join_seat.ensures.2 ∙ (λ i. later (c.tally-2.ensures.stage i) (at i)) in
+    let further = come_further code first second c.told.inside.version c.pass.inside.version (c.told.invariant.0.last, c.told.invariant.0.seen) (c.pass.invariant.0.last, c.pass.invariant.0.seen)
+    c.tally-2.ensures.twice c.tally.ensures.twice in
+    let told = ap (λ (k : CellPass V). k.words) c.told.view_is in
+    let pass = ap (λ (k : CellPass V). k.words) c.pass.view_is in
+    let now : c.load.new.seat.me.0.stage ≡ c.join_seat.new.seat.me.0.stage = search rules in
+    let is : c.if-told-pass.told.words ≡ words_of c.load.new.seat.me.0.stage = elim c.if-told-pass.branch [
+      | then-told-pass w ↦ ap (λ (k : CellPass V). k.words) w.told-is
+      | else-told-pass w ↦ ap (λ (k : CellPass V). k.words) w.told-is
+    ] in
+    let end : words_of (later first second) ≡ c.if-told-pass.told.words = sym (is ∙ ap words_of (now ∙ stage)) in
+    subst (λ (z : List ℕ × List ℕ × List ℕ). HaveComeFurther code z.0 z.1 z.2) (λ i. (told i, pass i, end i)) further
