@@ -157,40 +157,6 @@ pub(crate) fn load_and_exchange<
         → AgreeAt places.now (length places.now) words.new (words_of seat.old.me.0.stage) }
 {
     load_each::<V, P, H, N>(table, seat, places, words);
-    exchange::<M, V, P, H, N>(table, seat, version, next, changes)
-}
-
-/// Makes the changes, where the words that the seat has seen are still those of the cell: the version goes from that of these words to
-/// the next one. Else nothing is changed.
-fn exchange<M: CellOutcome<V>, V, P: CellRule<V>, const H: usize, const N: usize>(
-    table: &Shared<(), Doing<V>, Vec<u64>, Versions<P, H>>,
-    seat: &mut Seat<(), Doing<V>>,
-    version: u64,
-    next: u64,
-    changes: &[(usize, u64)],
-) -> bool
-    requires table { Fits N seat.old table.now.table_id table.now.key.items }
-    requires head { H ≤ N }
-    requires seen { IsAt version seat.old.me.0.stage }
-    requires long { length (words_of seat.old.me.0.stage) ≡ N }
-    requires small { version + 1 < 2 ^ 64 }
-    requires places { All (λ change. change.0 < N) changes.now }
-    requires next { next ≡ 2 * P.code (changed (words_of seat.old.me.0.stage) changes.now) }
-    requires coded { IsCoded P.code P.head H (changed (words_of seat.old.me.0.stage) changes.now) }
-    requires rule { TurnsAt P.holds seat.old.id seat.old.me.0.client (words_of seat.old.me.0.stage)
-        (changed (words_of seat.old.me.0.stage) changes.now) M.then }
-    requires rises { P.code (words_of seat.old.me.0.stage)
-        < P.code (changed (words_of seat.old.me.0.stage) changes.now) }
-    ensures seat { IsSameSeat seat.old seat.new }
-    ensures exchanged { MatchBool result
-        ((seat.new.me.0.stage
-        ≡ Seen next next (changed (words_of seat.old.me.0.stage) changes.now))
-        × M.then seat.old.me.0.client (words_of seat.old.me.0.stage)
-        (changed (words_of seat.old.me.0.stage) changes.now) seat.new.me.0.client)
-        ((seat.new.me.0.stage ≡ seat.old.me.0.stage)
-        × (seat.new.me.0.client ≡ seat.old.me.0.client)) }
-    ensures fresh { IsTrue result → IsFresh version seat.old.me.0.stage }
-{
     if lie_below(H, changes) {
         return swap::<M, V, P, H, N>(table, seat, version, next, changes);
     }
