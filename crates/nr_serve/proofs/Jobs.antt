@@ -9,7 +9,7 @@ use Rattle.vs_types.specs.declared.request.Query.{Query}
 use Rattle.nr_ring.specs.Pass.{Known, TableId}
 use Rattle.nr_node.proofs.Lists.{same_some}
 use Rattle.nr_record.specs.Pen.{ClockId, PenState, new_pens}
-use Rattle.nr_serve.specs.Calls.{AreServed, IsServed, WorkerState}
+use Rattle.nr_serve.specs.inside.Calls.{AreServed, IsServed, WorkerState}
 use Rattle.nr_serve.specs.inside.Working.{IsDone, IsReadyJob, JobState, jobs_from}
 
 -- ---- two lists, place by place

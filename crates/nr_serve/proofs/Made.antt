@@ -21,8 +21,8 @@ use Rattle.nr_record.specs.Pen.{ClockId, PenState, call_by, stamps_of}
 use Rattle.nr_record.specs.Stamps.{Rise, once_below}
 use Rattle.nr_record.specs.declared.stamped.Stamped.{Stamped}
 use Rattle.nr_record.proofs.Finished.{pen_of_stamp}
-use Rattle.nr_serve.specs.Calls.{AreServed, HasAllOrStopped, IsServed, IsTrueOf, MadeCall, StopsLast, WorkerState}
-use Rattle.nr_serve.specs.Run.{AreCallsOf, HasSeenAnswers, asked_by, calls_of, said_of}
+use Rattle.nr_serve.specs.inside.Calls.{AreServed, IsServed, IsTrueOf, MadeCall, WorkerState}
+use Rattle.nr_serve.specs.Run.{AreCallsOf, HasAllOrStopped, HasSeenAnswers, StopsLast, asked_by, calls_of, said_of}
 use Rattle.nr_serve.specs.inside.Ending.{AreRecorded, pens_of}
 use Rattle.nr_serve.specs.declared.said.Said.{Said}
 use Rattle.nr_serve.specs.declared.said.Said.TheVariants.{Answer, Stopped}

@@ -19,7 +19,7 @@ use Rattle.nr_record.specs.Events.{caller, events_of, is_of}
 use Rattle.nr_record.specs.Pen.{call_by, stamped}
 use Rattle.nr_record.specs.Stamps.{Rise}
 use Rattle.nr_record.specs.declared.stamped.Stamped.{Stamped}
-use Rattle.nr_serve.specs.Calls.{MadeCall, notes_of, reply_notes}
+use Rattle.nr_serve.specs.inside.Calls.{MadeCall, notes_of, reply_notes}
 use Rattle.nr_serve.specs.declared.said.Said.{Said}
 use Rattle.nr_serve.specs.declared.said.Said.TheVariants.{Answer, Stopped}
 

@@ -10,7 +10,7 @@ use Rattle.std.proofs.lemmas.Option.{get_or_from_slice_get, slice_get-get_or}
 use Rattle.vs_types.specs.declared.request.Query.{Query}
 use Rattle.nr_ring.specs.Pass.{Known, TableId}
 use Rattle.nr_record.specs.Pen.{AreAllPens, ClockId, PenState}
-use Rattle.nr_serve.specs.Calls.{AreServed, IsServed, WorkerState}
+use Rattle.nr_serve.specs.inside.Calls.{AreServed, IsServed, WorkerState}
 use Rattle.nr_serve.specs.inside.Ending.{passes_of, pens_of}
 use Rattle.nr_serve.proofs.Made.{present}
 

@@ -23,7 +23,8 @@ use Rattle.nr_record.specs.declared.stamped.Stamped.{Stamped}
 use Rattle.nr_replicas.specs.Replicas.{HasHeard}
 use Rattle.nr_replicas.proofs.Hearing.{heard_on}
 use Rattle.nr_replicas.proofs.Logs.{answer_stays, read_stays}
-use Rattle.nr_serve.specs.Calls.{IsServed, IsTrueOf, MadeCall, StopsLast, notes_of}
+use Rattle.nr_serve.specs.Run.{StopsLast}
+use Rattle.nr_serve.specs.inside.Calls.{IsServed, IsTrueOf, MadeCall, notes_of}
 use Rattle.nr_serve.specs.declared.said.Said.{Said}
 use Rattle.nr_serve.specs.declared.said.Said.TheVariants.{Answer, Stopped}
 use Rattle.nr_serve.specs.inside.Working.{HasCalled, IsAnswer, IsNamed, IsReady, IsUnderWay}

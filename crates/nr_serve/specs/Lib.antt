@@ -1,4 +1,3 @@
-pub mod Calls
 pub mod Run
 -- models and loops
 pub mod inside

@@ -1,5 +1,5 @@
 -- What a run is given, and what it has to show for it.
-use Rattle.std.specs.Prelude.{◌≡◌, ℕ, ◌≤◌, ◌==◌, List, All, Some, false, length, map, take, filter, slice_get, sum_by, ⊤}
+use Rattle.std.specs.Prelude.{◌≡◌, ℕ, ◌+◌, ◌≤◌, ◌==◌, ◌⊎◌, List, [], ◌∷◌, ◌++◌, All, Some, false, length, map, take, filter, slice_get, sum_by, ⊤}
 use Rattle.std.specs.Option.{option_map_or}
 use Rattle.vs_types.specs.Config.{Layout}
 use Rattle.vs_types.specs.Query.{IsQuery}
@@ -12,11 +12,10 @@ use Rattle.nr_trace.specs.Orders.{below}
 use Rattle.nr_trace.specs.Recording.{Recording}
 use Rattle.nr_trace.specs.declared.fault.Fault.{Fault}
 use Rattle.nr_ring.specs.LogHistory.{IsLogHistory, log_after}
-use Rattle.nr_ring.specs.Pass.{Known}
+use Rattle.nr_ring.specs.Pass.{Known, TableId}
 use Rattle.nr_ring.specs.View.{StartsWith}
 use Rattle.nr_ring.specs.declared.log_event.LogEvent.{LogEvent}
 use Rattle.nr_record.specs.Pen.{replica_of}
-use Rattle.nr_serve.specs.Calls.{HasAllOrStopped, StopsLast}
 use Rattle.nr_serve.specs.declared.outcome.Outcome.{Outcome}
 use Rattle.nr_serve.specs.declared.outcome.Outcome.TheVariants.{Refused, Verified}
 use Rattle.nr_serve.specs.declared.said.Said.{Said}
@@ -40,6 +39,14 @@ asked_by layout thread request = record { replica = replica_of layout thread; th
 abbrev pub said_of : Recording → ℕ → Said
 said_of trace call = option_map_or (λ reply. Answer reply.at reply.answer) (reply_to trace call) Stopped
 
+-- only the last call was stopped
+abbrev pub StopsLast : List Said → Type 0
+StopsLast said = (index : ℕ) → slice_get said index ≡ Some Stopped → index + 1 ≡ length said
+
+-- there is an item for every request, or the items end with a call that was stopped
+abbrev pub HasAllOrStopped : List Query → List Said → Type 0
+HasAllOrStopped script said = (length said ≡ length script) ⊎ ((front : List Said) × (said ≡ front ++ Stopped ∷ []))
+
 -- the thread's calls ask a beginning of its script, in order, at its replica. There is an item for each of them: where it was answered
 -- and how, or that it was stopped, which only the last was; and an item for every request, or the last was stopped
 pub record AreCallsOf (trace : Recording) (thread : ℕ) (script : List Query) (items : List Said) : Type 0 where
@@ -58,8 +65,10 @@ pub record HasSeenAnswers (trace : Recording) (thread : ℕ) (pass : Known) : Ty
   pub reads : (call : ℕ) (made : Invocation) (reply : Response) → call_of trace call ≡ Some made → made.thread ≡ thread
       → IsRead trace call → reply_to trace call ≡ Some reply → reply.at ≤ length (log_after trace.layout.replicas pass.view.seen).entries
 
--- the calls are those of one log, which begins with all that each of these passes has seen
+-- these passes are to one log; the calls are those of a history of it, which begins with all that each of them has seen
 pub record IsLogOf (layout : Layout) (calls : List ℕ) (passes : List Known) : Type 0 where
+  pub log : TableId
+  pub of_log : All (λ pass. pass.log ≡ log) passes
   pub history : List LogEvent
   pub is_history : IsLogHistory layout.depth layout.replicas history
   pub begins : All (λ pass. StartsWith history pass.view.seen) passes

@@ -8,7 +8,7 @@ ghost use Rattle.nr_record.specs.Pen.{AreAllPens};
 ghost use Rattle.nr_trace.specs.Faults.{IsFirstOf};
 ghost use Rattle.nr_trace.specs.Laws.{IsFaultless};
 ghost use Rattle.nr_trace.specs.Orders.{recorded_order};
-ghost use Rattle.nr_serve.specs.Calls.{AreServed};
+ghost use Rattle.nr_serve.specs.inside.Calls.{AreServed};
 ghost use Rattle.nr_serve.specs.Run.{AreAllCallsOf, HaveSeenAnswers, IfRefused, IfVerified, IsLogOf, IsTraceOf};
 ghost use Rattle.nr_serve.specs.inside.Ending.{IsWrittenOf, answers_of, passes_of, pens_of};
 

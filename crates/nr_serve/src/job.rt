@@ -1,6 +1,6 @@
 //! What a thread is given, and how it works through its script.
 ghost use Rattle.std.specs.Prelude.{◌≡◌, ◌<◌, ◌≤◌, [], ◌∷◌, ◌++◌, length, vec_capacity, vec_len};
-ghost use Rattle.nr_serve.specs.Calls.{IsServed};
+ghost use Rattle.nr_serve.specs.inside.Calls.{IsServed};
 ghost use Rattle.nr_serve.specs.inside.Working.{IsDone, IsNamed, IsReady, IsReadyJob};
 
 use crate::said::Said;

@@ -156,7 +156,8 @@ fn go_on<
 /// auditor judges the trace of what they asked and were answered.
 ///
 /// A thread stamps its call, asks the gate, has its replica answer it, asks the gate, and stamps its reply. It ends after the last
-/// request of its script, or with the first call that is stopped: by the gate, by the limit of turns, or because the log has ended.
+/// request of its script, or with the first call that is stopped: by the gate, by the limit of turns, or as its replica doesn't confirm
+/// the answer.
 /// There is a script for each thread of the configuration, with at most 65,536 requests in all; the log's name has the depth, the
 /// replicas, and as many passes as there are replicas and threads.
 ///

@@ -5,7 +5,7 @@ ghost use Rattle.vs_types.specs.declared.limits.TheConstants.{CALLS};
 ghost use Rattle.nr_ring.specs.LogHistory.{log_after};
 ghost use Rattle.nr_record.specs.Pen.{calls_in};
 ghost use Rattle.nr_replicas.specs.Replicas.{HasHeard};
-ghost use Rattle.nr_serve.specs.Calls.{IsTrueOf};
+ghost use Rattle.nr_serve.specs.inside.Calls.{IsTrueOf};
 ghost use Rattle.nr_serve.specs.inside.Working.{HasCalled, IsNamed};
 
 use crate::said::Said;

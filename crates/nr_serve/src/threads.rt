@@ -3,7 +3,7 @@ ghost use Rattle.std.specs.Prelude.{◌≡◌, ◌≤◌, [], All, IfOk, IfSome,
 ghost use Rattle.std.specs.List.{AllZip};
 ghost use Rattle.vs_types.specs.declared.limits.TheConstants.{THREADS};
 ghost use Rattle.nr_record.specs.Pen.{new_pens};
-ghost use Rattle.nr_serve.specs.Calls.{AreServed};
+ghost use Rattle.nr_serve.specs.inside.Calls.{AreServed};
 ghost use Rattle.nr_serve.specs.Run.{AreScripts};
 ghost use Rattle.nr_serve.specs.inside.Working.{IsDone, IsNamed, IsReadyJob, jobs_from};
 

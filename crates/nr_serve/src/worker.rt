@@ -12,7 +12,7 @@ pub(crate) struct Worker<J: LogName> {
 }
 
 impl<J: LogName> Model for Worker<J> {
-    ghost use Rattle.nr_serve.specs.Calls.{WorkerState};
+    ghost use Rattle.nr_serve.specs.inside.Calls.{WorkerState};
 
     ghost Value = { WorkerState };
 

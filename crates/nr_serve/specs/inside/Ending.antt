@@ -8,7 +8,7 @@ use Rattle.nr_ring.specs.Pass.{Known}
 use Rattle.nr_record.specs.Events.{HasNotes, events_of}
 use Rattle.nr_record.specs.Pen.{PenState, stamps_of}
 use Rattle.nr_record.specs.Stamps.{AreBelow, Rise}
-use Rattle.nr_serve.specs.Calls.{WorkerState}
+use Rattle.nr_serve.specs.inside.Calls.{WorkerState}
 use Rattle.nr_serve.specs.Run.{IsLogOf}
 use Rattle.nr_serve.specs.declared.said.Said.{Said}
 

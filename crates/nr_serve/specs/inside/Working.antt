@@ -7,7 +7,7 @@ use Rattle.vs_types.specs.declared.request.Query.{Query}
 use Rattle.nr_ring.specs.LogHistory.{IsLogHistory, log_after}
 use Rattle.nr_ring.specs.Pass.{Known, TableId}
 use Rattle.nr_record.specs.Pen.{ClockId, PenState, calls_in, new_pen}
-use Rattle.nr_serve.specs.Calls.{IsServed, IsTrueOf, MadeCall, WorkerState, notes_of}
+use Rattle.nr_serve.specs.inside.Calls.{IsServed, IsTrueOf, MadeCall, WorkerState, notes_of}
 use Rattle.nr_serve.specs.declared.said.Said.{Said}
 use Rattle.nr_serve.specs.declared.said.Said.TheVariants.{Answer, Stopped}
 

@@ -3,7 +3,7 @@ use Rattle.std.proofs.lemmas.List.{length-map}
 use Rattle.nr_ring.specs.Pass.{Known}
 use Rattle.nr_record.specs.Pen.{PenState}
 use Rattle.nr_audit.specs.Headline.{IsSpelledWith}
-use Rattle.nr_serve.specs.Calls.{WorkerState}
+use Rattle.nr_serve.specs.inside.Calls.{WorkerState}
 use Rattle.nr_serve.specs.Run.{AreAllCallsOf, HaveSeenAnswers, IsLogOf, IsTraceOf}
 use Rattle.nr_serve.specs.declared.said.Said.{Said}
 use Rattle.nr_serve.specs.inside.Ending.{AreRecorded, answers_of, passes_of}

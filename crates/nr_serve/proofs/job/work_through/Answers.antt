@@ -1,5 +1,5 @@
 use Rattle.std.proofs.Common.{◌+◌, List, sym, subst, arith}
-use Rattle.nr_serve.specs.Calls.{IsServed}
+use Rattle.nr_serve.specs.inside.Calls.{IsServed}
 use Rattle.nr_serve.specs.declared.said.Said.{Said}
 use Rattle.nr_serve.specs.inside.Working.{IsAnswer, IsUnderWay}
 use Rattle.nr_serve.proofs.Working.{IsNext, begins, ends, goes_on, named_heard, named_history, stops}

@@ -1,7 +1,7 @@
 use Rattle.std.proofs.Common.{List, [], ◌∷◌, ◌++◌, length, map, ap, sym, subst, arith}
 use Rattle.std.proofs.Math.ListN.{length-append}
 use Rattle.std.specs.List.{AllZip}
-use Rattle.nr_serve.specs.Calls.{WorkerState}
+use Rattle.nr_serve.specs.inside.Calls.{WorkerState}
 use Rattle.nr_serve.specs.inside.Working.{IsDone, JobState}
 use Rattle.nr_serve.proofs.Jobs.{one_joined, zipped_push}
 use Rattle.nr_serve.proofs.threads.join_all.Goals as goal

@@ -1,6 +1,6 @@
 use Rattle.std.proofs.Common.{List, subst}
 use Rattle.std.specs.List.{AllZip}
-use Rattle.nr_serve.specs.Calls.{WorkerState}
+use Rattle.nr_serve.specs.inside.Calls.{WorkerState}
 use Rattle.nr_serve.specs.inside.Working.{IsDone, JobState}
 use Rattle.nr_serve.proofs.Jobs.{done_by_clock}
 use Rattle.nr_serve.proofs.threads.fn.run_all.scope.Goals as goal

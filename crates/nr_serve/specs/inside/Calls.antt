@@ -1,5 +1,5 @@
 -- What the calls of one thread were, what came of them, and what the thread knows of the log.
-use Rattle.std.specs.Prelude.{◌≡◌, ℕ, ◌+◌, ◌⊎◌, List, [], ◌∷◌, ◌++◌, All, Some, flat_map, length, map, slice_get, take, ⊤}
+use Rattle.std.specs.Prelude.{◌≡◌, ℕ, List, [], ◌∷◌, All, Some, flat_map, length, map, slice_get, take, ⊤}
 use Rattle.vs_types.specs.Config.{Layout}
 use Rattle.vs_types.specs.Step.{allow, look}
 use Rattle.vs_types.specs.declared.request.Query.{Query}
@@ -10,6 +10,7 @@ use Rattle.nr_ring.specs.Pass.{Known, TableId}
 use Rattle.nr_replicas.specs.Replicas.{IsAnsweredAt, IsReadAt}
 use Rattle.nr_record.specs.Pen.{ClockId, PenState, call_by, stamped}
 use Rattle.nr_record.specs.declared.stamped.Stamped.{Stamped}
+use Rattle.nr_serve.specs.Run.{HasAllOrStopped, StopsLast}
 use Rattle.nr_serve.specs.declared.said.Said.{Said}
 use Rattle.nr_serve.specs.declared.said.Said.TheVariants.{Answer, Stopped}
 
@@ -46,14 +47,6 @@ IsTrueOf layout log number (Resolve address) (Answer at answer) =
     IsReadAt layout.depth layout.tables 0 log (λ space. look space address) at answer
 IsTrueOf layout log number (Access address mode access) (Answer at answer) =
     IsReadAt layout.depth layout.tables 0 log (λ space. allow space address mode access) at answer
-
--- only the last call was stopped
-abbrev pub StopsLast : List Said → Type 0
-StopsLast said = (index : ℕ) → slice_get said index ≡ Some Stopped → index + 1 ≡ length said
-
--- there is an item for every request, or the items end with a call that was stopped
-abbrev pub HasAllOrStopped : List Query → List Said → Type 0
-HasAllOrStopped script said = (length said ≡ length script) ⊎ ((front : List Said) × (said ≡ front ++ Stopped ∷ []))
 
 -- a thread has done what its script asks. Its calls are a beginning of the script, in order; its pen has noted them, each with its
 -- reply; what came of each is true of the log that its pass has seen
