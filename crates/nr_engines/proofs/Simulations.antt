@@ -45,7 +45,7 @@ writes_what_is_told setup as_trace known old new script trace text status has re
   input = has.input;
   is_read = has.is_read;
   text = text;
-  is_report = record { script = script; is_script = has.is_script; trace = trace; recording = recording; told = told };
+  is_report = record { script = script; short = has.short; is_script = has.is_script; trace = trace; recording = recording; told = told };
   written = written;
 }
 

@@ -1,5 +1,5 @@
 -- What `run` answers to a script: what came of each call of its threads, where the run is verified; else the first fault of its trace.
-use Rattle.std.specs.Prelude.{◌≡◌, ◌⊎◌, ℕ, Bool, true, false, List, length, map, Option, Some, None, ⊤}
+use Rattle.std.specs.Prelude.{◌≡◌, ◌≤◌, ◌⊎◌, ℕ, Bool, true, false, List, length, map, Option, Some, None, ⊤}
 use Rattle.vs_types.specs.Config.{Layout}
 use Rattle.vs_types.specs.declared.depth.Depth.{Depth}
 use Rattle.vs_types.specs.declared.request.Query.{Query}
@@ -82,8 +82,9 @@ outcome_status (Refused trace fault) = 1
 abbrev pub scripts_of : Script → List (List Query)
 scripts_of script = map (λ list. list.items) script.requests.items
 
--- the bytes are a script that lists no steps
+-- the bytes, not too many, are a script that lists no steps
 pub record IsRunnable (depth : Depth) (bytes : List ℕ) (script : Script) : Type 0 where
+  pub short : length bytes ≤ 16777216
   pub is_script : IsScript depth bytes script
   pub no_step : script.first_step ≡ None
 
@@ -100,10 +101,11 @@ pub record HasRunnable (depth : Depth) (known : Option (List ℕ)) : Type 0 wher
   pub script : Script
   pub runnable : IsRunnable depth input script
 
--- the input of the reader is a script whose first step stands in this line
+-- the input of the reader, which is not too long, is a script whose first step stands in this line
 pub record HasStepLine (depth : Depth) (known : Option (List ℕ)) (number : ℕ) : Type 0 where
   pub input : List ℕ
   pub is_read : IsReadOf known input
+  pub short : length input ≤ 16777216
   pub script : Script
   pub is_script : IsScript depth input script
   pub first : script.first_step ≡ Some number

@@ -32,18 +32,20 @@ abbrev pub IsTold : Bool → Recording → List ℕ → ℕ → Type 0
 IsTold true trace text status = (text ≡ spelling trace) × (status ≡ 0)
 IsTold false trace text status = IsAudit (spelling trace) text status
 
--- of `simulate`: the bytes are a script, and a recording of the core after its steps is told
+-- of `simulate`: the bytes, not too many, are a script, and a recording of the core after its steps is told
 pub record IsSimulation (setup : Setup) (as_trace : Bool) (bytes text : List ℕ) (status : ℕ) : Type 0 where
   pub script : Script
+  pub short : length bytes ≤ 16777216
   pub is_script : IsScript setup.depth bytes script
   pub trace : Recording
   pub recording : IsRecordingOfScript setup script trace
   pub told : IsTold as_trace trace text status
 
--- the input of the reader is this script
+-- the input of the reader, which is not too long, is this script
 pub record HasReadScript (depth : Depth) (known : Option (List ℕ)) (script : Script) : Type 0 where
   pub input : List ℕ
   pub is_read : IsReadOf known input
+  pub short : length input ≤ 16777216
   pub is_script : IsScript depth input script
 
 -- at most so many bytes were read

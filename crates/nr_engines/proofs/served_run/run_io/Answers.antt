@@ -9,7 +9,7 @@ use Rattle.nr_engines.proofs.served_run.run_io.Goals as goal
 pub returns-in-Some-clause-err : goal.returns-in-Some-clause-err
 returns-in-Some-clause-err g c =
     let has = c.in_ok-script.ensures.ok in
-    inr (record { input = has.input; is_read = has.is_read; script = c.in_ok-script.script; is_script = has.is_script; first = c.in-Some.is })
+    inr (record { input = has.input; is_read = has.is_read; short = has.short; script = c.in_ok-script.script; is_script = has.is_script; first = c.in-Some.is })
 
 pub run_named-requires-clause-scripts : goal.run_named-requires-clause-scripts
 run_named-requires-clause-scripts g c κs lives =
@@ -31,7 +31,7 @@ returns-clause-ok g c =
       text = h.0;
       is_report = record {
         script = script;
-        runnable = record { is_script = has.is_script; no_step = c.in_default.is };
+        runnable = record { short = has.short; is_script = has.is_script; no_step = c.in_default.is };
         told = subst (λ (l : Layout). TellsRun l (scripts_of script) as_trace h.0 status) c.in-Ok.ensures.1 h.1;
       };
       written = h.2;
@@ -47,6 +47,6 @@ returns-clause-err g c =
       input = has.input;
       is_read = has.is_read;
       script = c.in_ok-script.script;
-      runnable = record { is_script = has.is_script; no_step = c.in_default.is };
+      runnable = record { short = has.short; is_script = has.is_script; no_step = c.in_default.is };
     } in
     IfErr-weaker c.run_named.result IsRunEnd (IsRunFault depth known) (λ fault end. fault_of_end depth known fault runnable end) c.run_named.ensures.err
