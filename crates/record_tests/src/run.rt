@@ -183,3 +183,21 @@ fn least_version_of_a_run(rt: HostRuntime) -> Result<(), Fail> {
     );
     Ok(())
 }
+
+/// A call and its reply take no memory: `tests/programs` counts as many growths here as in `pen_without_calls`.
+#[test]
+fn pen_of_one_call(rt: HostRuntime) -> Result<(), Fail> {
+    let config = Config::new(Depth::Four, 1, 1, 1).expect(&rt, "a configuration");
+    let resolve = resolve(&rt);
+    let (clock, mut pen) = one_pen(rt.alloc(), config)?;
+    assert_eq!(rt; pen.call(&clock, resolve), 0);
+    assert_eq!(rt; pen.reply(&clock, 0, Answer::NotMapped), 1);
+    Ok(())
+}
+
+#[test]
+fn pen_without_calls(rt: HostRuntime) -> Result<(), Fail> {
+    let config = Config::new(Depth::Four, 1, 1, 1).expect(&rt, "a configuration");
+    one_pen(rt.alloc(), config)?;
+    Ok(())
+}

@@ -20,9 +20,9 @@ impl Gate for StopAt {
     }
 }
 
-/// Holds a thread until the number has come so far; after 1,000,000 turns of its own it says stop.
+/// Holds a thread until the number has come so far; after 10,000,000 turns of its own it says stop.
 fn hold(come: &AtomicU32, least: u32) -> Signal {
-    for _ in 0..1_000_000u32 {
+    for _ in 0..10_000_000u32 {
         if come.load(Ordering::SeqCst) >= least {
             return Signal::Go;
         }

@@ -1,5 +1,5 @@
-//! Refused growths of memory: the run of four lines, with each of its growths refused in turn. Where the growth that is refused is that
-//! of starting a thread, there is no thread.
+//! Refused growths of memory: the run of four lines, each of whose growths `tests/programs` refuses in turn. Where the growth that is
+//! refused is that of starting a thread, there is no thread.
 use crate::scene::{TURNS, verified};
 use crate::scripts::{map_a, resolve_a, unmap_a};
 use nr_serve::{AlwaysGo, Said};

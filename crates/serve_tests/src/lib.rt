@@ -1,5 +1,6 @@
-//! Worked examples of runs, with values from elsewhere: a run of four lines, an empty one, two threads that really run at once, the
-//! points at which a gate is asked, holds a thread or stops it, and each growth of memory refused in turn. No crate stands on this one.
+//! Worked examples of runs, with values from elsewhere: a run of four lines, an empty one, two threads that really run at once, reads at
+//! their own replica, the points at which a gate is asked, holds a thread or stops it, and a run each of whose growths of memory
+//! `tests/programs` refuses in turn. No crate stands on this one.
 #![tactic(auto)]
 
 #[cfg(test)]

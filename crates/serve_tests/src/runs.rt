@@ -58,6 +58,23 @@ fn two_workers_really_run(rt: HostRuntime) -> Result<(), Fail> {
     Ok(())
 }
 
+/// A read is answered by the replica of its thread, which takes for it what another's thread has put in the log.
+#[test]
+fn read_at_its_own_replica(rt: HostRuntime) -> Result<(), Fail> {
+    let alloc = rt.alloc();
+    let first = vec![in alloc; map_a(&rt)]?;
+    let second = vec![in alloc; resolve_a(&rt)]?;
+    let gate = HoldUntil::new(1, Point::Answered, false);
+    let shown = verified(&rt, alloc, 2, vec![in alloc; first, second]?, TURNS, &gate)?;
+    let mapped = Answer::Mapped(0x1123, Size::K4, Rights::ALL);
+    shown.assert_said(&rt, 1, &[Said::Answer(1, mapped)]);
+    let trace = shown.read(&rt, alloc);
+    let dumps = trace.dumps();
+    assert!(rt; dumps.len() == 2);
+    assert_eq!(rt; dumps[1].applied(), 1);
+    Ok(())
+}
+
 /// The call of thread 0 is stamped before the gate lets thread 1 have its first answer, and its reply only when thread 1 has made its
 /// third call.
 #[test]
