@@ -1,7 +1,7 @@
 /* Preloaded into the program: reads of standard input that fail, fall short or are interrupted, and writes that do. The read whose
-   number, from 1, is in FAIL_READ gives an error; so does the one at the byte FAIL_AT, before which reads stop. No read gives more
-   than SHORT_READ bytes, and no write takes more than SHORT_WRITE. Each read or write that moves bytes comes after as many
-   interrupted ones as INTERRUPTS says. */
+   number, from 1, is in FAIL_READ gives an error; so does the one at the byte FAIL_AT, before which reads stop, and the write to
+   standard output whose number is in FAIL_WRITE, after which writes pass again. No read gives more than SHORT_READ bytes, and no
+   write takes more than SHORT_WRITE. Each read or write that moves bytes comes after as many interrupted ones as INTERRUPTS says. */
 #define _GNU_SOURCE
 #include <errno.h>
 #include <stdatomic.h>
@@ -10,7 +10,7 @@
 #include <sys/types.h>
 #include <unistd.h>
 
-static atomic_long made, given, interrupted;
+static atomic_long made, given, written, interrupted;
 
 static ssize_t fail(int error) {
     errno = error;
@@ -42,5 +42,7 @@ ssize_t read(int file, void *buffer, size_t size) {
 ssize_t write(int file, const void *bytes, size_t size) {
     if (file != 1 && file != 2) return syscall(SYS_write, file, bytes, size);
     if (is_interrupted()) return fail(EINTR);
+    const char *failing = getenv("FAIL_WRITE");
+    if (file == 1 && failing && atomic_fetch_add(&written, 1) + 1 == atol(failing)) return fail(EIO);
     return syscall(SYS_write, file, bytes, at_most(size, getenv("SHORT_WRITE")));
 }
