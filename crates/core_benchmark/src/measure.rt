@@ -1,6 +1,6 @@
 //! The steps, and the time that they take.
 ghost use Rattle.std.specs.Prelude.{map};
-ghost use Rattle.nr_core.specs.Run.{AreScripts};
+ghost use Rattle.vs_types.specs.Query.{AreScripts};
 
 use crate::fault::ProgFault;
 use nr_core::{Core, Step};

@@ -1,7 +1,7 @@
 //! What the threads ask for.
 ghost use Rattle.std.specs.Prelude.{◌≡◌, All, IsTrue, map};
 ghost use Rattle.vs_types.specs.Query.{IsQuery};
-ghost use Rattle.nr_core.specs.Run.{AreScripts};
+ghost use Rattle.vs_types.specs.Query.{AreScripts};
 
 use crate::fault::ProgFault;
 use std::alloc::Global;

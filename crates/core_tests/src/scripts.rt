@@ -1,7 +1,7 @@
 //! Scripts, and what is said of their recordings.
 ghost use Rattle.std.specs.Prelude.{◌≡◌, All, map};
 ghost use Rattle.vs_types.specs.Query.{IsQuery};
-ghost use Rattle.nr_core.specs.Run.{AreScripts};
+ghost use Rattle.vs_types.specs.Query.{AreScripts};
 
 use nr_audit::{Order, Verdict, audit};
 use nr_core::{Core, Step, run_steps};

@@ -8,7 +8,7 @@ use Rattle.std.proofs.lemmas.List.Sums.{sum_by-cons}
 use Rattle.vs_types.specs.Config.{Layout}
 use Rattle.vs_types.specs.Query.{IsQuery}
 use Rattle.vs_types.specs.declared.request.Query.{Query}
-use Rattle.nr_core.specs.Run.{AreScripts}
+use Rattle.vs_types.specs.Query.{AreScripts}
 use Rattle.nr_core.specs.State.{new_thread, new_replica}
 use Rattle.nr_core.specs.declared.parts.ReplicaState.{ReplicaState}
 use Rattle.nr_core.specs.inside.Parts.{thread_in, thread_of, replica_in, events_left, IsThread, IsReplica, AreParts}

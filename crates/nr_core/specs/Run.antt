@@ -1,8 +1,7 @@
 -- Runs of the protocol: any steps in turn, and what a recording of the state after them is.
-use Rattle.std.specs.Prelude.{◌≡◌, ℕ, ◌≤◌, List, length, map, All, sum_by, Bool, true, false, ◌&&◌, unwrap_or, Option, Some, None, if◌then◌else◌}
+use Rattle.std.specs.Prelude.{◌≡◌, ℕ, List, map, Bool, true, false, ◌&&◌, unwrap_or, Option, Some, None, if◌then◌else◌}
 use Rattle.std.specs.List.{fold, list_all, AllZip}
 use Rattle.vs_types.specs.Config.{Layout}
-use Rattle.vs_types.specs.Query.{IsQuery}
 use Rattle.vs_types.specs.declared.depth.Depth.{Depth}
 use Rattle.vs_types.specs.declared.depth.Depth.TheVariants.{Four, Five}
 use Rattle.vs_types.specs.declared.answer.Answer.{Answer}
@@ -30,12 +29,6 @@ IsStepped old (Some next) done new = (done ≡ true) × (new ≡ next)
 -- the state after steps in turn: those that are not enabled are passed over
 abbrev pub after_steps : State → List Step → State
 after_steps state steps = fold (λ before step. unwrap_or (after_step before step) before) state steps
-
--- one script for each thread, at most 65,536 requests in all, each well formed at the depth
-pub record AreScripts (layout : Layout) (scripts : List (List Query)) : Type 0 where
-  pub one_each : length scripts ≡ layout.threads
-  pub few : sum_by (λ script. length script) scripts ≤ 65536
-  pub well_formed : All (All (IsQuery layout.depth)) scripts
 
 -- whether version 1 of the format has the query, the answer, the event, the depth
 abbrev pub query_in_first : Query → Bool

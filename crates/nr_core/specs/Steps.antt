@@ -3,7 +3,7 @@ use Rattle.std.specs.Prelude.{ℕ, ◌+◌, nat_lt, nat_le, ◌==◌, ◌&&◌, 
 use Rattle.std.specs.Prelude.{Option, Some, None, is_none, option_and_then, if◌then◌else◌}
 use Rattle.std.specs.List.{list_all}
 use Rattle.vs_types.specs.Step as spaces
-use Rattle.vs_types.specs.declared.limits.TheConstants.{LOG_PLACES}
+use Rattle.vs_types.specs.declared.limits.TheConstants.{LOG_PLACES, RING}
 use Rattle.vs_types.specs.declared.log_entry.LogEntry.{LogEntry}
 use Rattle.vs_types.specs.declared.request.Query.{Query}
 use Rattle.vs_types.specs.declared.request.Query.TheVariants.{Update}
@@ -62,7 +62,7 @@ take_lock state t r =
 -- Collect s: where s belongs to the replica and its update is posted, and the batch has fewer than 16 and is not placed, the
 -- update is taken, and is the batch's last
 abbrev pub has_place : Replica → Bool
-has_place replica = nat_lt (length replica.batch) 16 && not replica.placed
+has_place replica = nat_lt (length replica.batch) RING && not replica.placed
 
 abbrev pub with_update : Replica → Collected → Replica
 with_update replica update = record replica { batch = replica.batch ++ update ∷ [] }
@@ -79,7 +79,7 @@ collect state t s = by_holder state t (λ thread r replica. by_thread state s (�
 
 -- the log has room for so many entries more, and no replica would have more than 16 to fetch
 abbrev pub has_room : State → ℕ → Bool
-has_room state n = nat_le (tail state + n) LOG_PLACES && list_all (λ other. nat_le (tail state + n) (other.local + 16)) state.replicas
+has_room state n = nat_le (tail state + n) LOG_PLACES && list_all (λ other. nat_le (tail state + n) (other.local + RING)) state.replicas
 
 abbrev pub may_append : State → Replica → Bool
 may_append state replica = nat_lt 0 (length replica.batch) && not replica.placed && has_room state (length replica.batch)

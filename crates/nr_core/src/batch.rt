@@ -1,14 +1,12 @@
 //! Batches: the updates that a combiner has collected.
 ghost use Rattle.std.specs.Prelude.{◌≡◌, ◌+◌, ◌++◌, ◌==◌, ◌≤◌, nat_le, filter, find, map, not, option_and_then, length, OnOk, OnErr};
 ghost use Rattle.std.specs.List.{list_all};
+ghost use Rattle.vs_types.specs.declared.limits.TheConstants.{CALLS};
 ghost use Rattle.nr_core.specs.Steps as steps;
 
 use crate::parts::ReplicaState;
 use crate::stage::{Answered, Collected};
-use vs_types::{LogEntry, Memory};
-
-/// How many updates a batch may have, and how many entries a replica may have to fetch.
-pub(crate) const BATCH: usize = 16;
+use vs_types::{LogEntry, Memory, RING};
 
 /// The update, with the answer where it is that of its call.
 fn noted(update: Collected, answered: Answered) -> Collected
@@ -66,13 +64,13 @@ pub(crate) fn push_entries(log: &mut Vec<LogEntry>, batch: &[Collected]) -> Resu
     Ok(())
 }
 
-/// Whether each replica would have at most 16 entries to fetch of a log of so many.
+/// Whether each replica would have at most `RING` entries to fetch of a log of so many.
 pub(crate) fn keep_up(replicas: &[ReplicaState], end: usize) -> bool
-    requires { end ≤ 131072 }
-    ensures { result ≡ list_all (λ replica. nat_le end (replica.marks.local + 16)) replicas.now }
+    requires { end ≤ CALLS }
+    ensures { result ≡ list_all (λ replica. nat_le end (replica.marks.local + RING)) replicas.now }
 {
     for replica in replicas {
-        if end > replica.marks.local as usize + BATCH {
+        if end > replica.marks.local as usize + RING {
             return false;
         }
     }

@@ -7,7 +7,8 @@ ghost use Rattle.nr_trace.specs.Spelling.{spelling};
 ghost use Rattle.nr_trace.specs.declared.fault.Format.{Format};
 ghost use Rattle.nr_trace.specs.declared.fault.Fault.TheVariants.{Early, WrongAnswer};
 ghost use Rattle.nr_core.specs.Faultless.{HasRightDumps};
-ghost use Rattle.nr_core.specs.Run.{after_steps, AreScripts, IsRecordingOf};
+ghost use Rattle.nr_core.specs.Run.{after_steps, IsRecordingOf};
+ghost use Rattle.vs_types.specs.Query.{AreScripts};
 ghost use Rattle.nr_core.specs.State.{start};
 
 use crate::state::Core;

@@ -1,7 +1,7 @@
 //! Scripts, as they are read.
 ghost use Rattle.std.specs.Prelude.{◌≡◌, ◌≤◌, IfErr, IfOk, length, map};
 ghost use Rattle.vs_types.specs.Config.{Layout};
-ghost use Rattle.nr_core.specs.Run.{AreScripts};
+ghost use Rattle.vs_types.specs.Query.{AreScripts};
 ghost use Rattle.nr_engines.specs.Answers.{IsReadOf};
 ghost use Rattle.nr_engines.specs.Simulation.{HasReadAtMost, HasReadScript, IsInputFault, IsScriptFault, script_fault};
 

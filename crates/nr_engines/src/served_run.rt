@@ -1,7 +1,7 @@
 //! Runs of the replicated address space: a thread for each script.
 ghost use Rattle.std.specs.Prelude.{◌≡◌, ◌+◌, ℕ, List, IfErr, IfOk, false, map, string_bytes, true};
 ghost use Rattle.std.specs.Io.KnownBytes.{Appends};
-ghost use Rattle.nr_serve.specs.Run.{AreScripts};
+ghost use Rattle.vs_types.specs.Query.{AreScripts};
 ghost use Rattle.nr_engines.specs.Answers.{WritesReport};
 ghost use Rattle.nr_engines.specs.Refusals.{WritesAnswersAlone};
 ghost use Rattle.nr_engines.specs.ServedRun.{IsRunEnd, IsRunFault, IsServedRun, TellsRun, outcome_status, told_of};

@@ -1,7 +1,7 @@
 //! The protocol's core, taken through the steps of a script.
 ghost use Rattle.std.specs.Prelude.{◌≡◌, ◌≤◌, IfErr, IfOk, map};
 ghost use Rattle.vs_types.specs.Config.{Layout};
-ghost use Rattle.nr_core.specs.Run.{AreScripts};
+ghost use Rattle.vs_types.specs.Query.{AreScripts};
 ghost use Rattle.nr_trace.specs.Laws.{IsFaultless};
 ghost use Rattle.nr_engines.specs.Answers.{WritesReport};
 ghost use Rattle.nr_engines.specs.Refusals.{WritesAnswersAlone};

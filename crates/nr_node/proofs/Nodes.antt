@@ -17,7 +17,7 @@ use Rattle.nr_ring.specs.LogHistory.{Log, local_of, log_after, log_after_event, 
 use Rattle.nr_ring.specs.Pass.{Known}
 use Rattle.nr_ring.specs.declared.log_event.LogEvent.TheVariants.{Append}
 use Rattle.nr_ring.specs.declared.view.View.{View}
-use Rattle.nr_ring.specs.declared.words.TheConstants.{RING}
+use Rattle.vs_types.specs.declared.limits.TheConstants.{RING}
 use Rattle.nr_ring.proofs.Views.{after_one_more}
 use Rattle.nr_slots.specs.declared.waiting.Waiting.{Waiting}
 use Rattle.nr_node.specs.Calls.{HasCaughtUp, answers_of, entries_of, entry_of, left_of}

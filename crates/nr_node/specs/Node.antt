@@ -7,7 +7,7 @@ use Rattle.vs_types.specs.declared.log_entry.LogEntry.{LogEntry}
 use Rattle.nr_ring.specs.LogHistory.{Log, tail, local_of, log_after}
 use Rattle.nr_ring.specs.Pass.{Known}
 use Rattle.nr_ring.specs.declared.view.View.{View}
-use Rattle.nr_ring.specs.declared.words.TheConstants.{RING}
+use Rattle.vs_types.specs.declared.limits.TheConstants.{RING}
 use Rattle.nr_slots.specs.declared.waiting.Waiting.{Waiting}
 use Rattle.nr_node.specs.Spaces.{space_at}
 use Rattle.nr_node.specs.declared.held.Held.{Held}

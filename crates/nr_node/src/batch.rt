@@ -4,9 +4,8 @@ ghost use Rattle.vs_types.specs.declared.limits.TheConstants.{CALLS};
 ghost use Rattle.nr_node.specs.Calls.{entries_of, left_of};
 
 use arrayvec::ArrayVec;
-use nr_ring::RING;
 use nr_slots::Waiting;
-use vs_types::LogEntry;
+use vs_types::{LogEntry, RING};
 
 /// Has a vector be the entries of a log that a batch asks for.
 pub(crate) fn ask_for(batch: &ArrayVec<Waiting, RING>, entries: &mut ArrayVec<LogEntry, RING>)

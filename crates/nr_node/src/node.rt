@@ -18,14 +18,14 @@ use crate::batch::{ask_for, keep_unplaced};
 use crate::held::Held;
 use crate::replica::Replica;
 use arrayvec::ArrayVec;
-use nr_ring::{AppendFault, LogName, LogPass, Moved, RING, RingLog};
+use nr_ring::{AppendFault, LogName, LogPass, Moved, RingLog};
 use nr_slots::{Answered, Waiting};
 use std::alloc::Global;
 use std::marker::Model;
 use std::sync::Wait;
 use vs_arena::FrameStore;
 use vs_space::NoRoot;
-use vs_types::{Access, Answer, Depth, Fail, LogEntry, Memory, Mode};
+use vs_types::{Access, Answer, Depth, Fail, LogEntry, Memory, Mode, RING};
 use vs_walk::Dump;
 
 /// A replica of the address space with its pass to the log, and at most one batch of updates that are on their way.

@@ -13,13 +13,12 @@ ghost use Rattle.nr_node.specs.Spaces.{answer_at, space_of};
 
 use crate::told::Told;
 use arrayvec::ArrayVec;
-use nr_ring::RING;
 use nr_slots::{Answered, Waiting};
 use std::alloc::Global;
 use std::marker::Model;
 use vs_arena::FrameStore;
 use vs_space::{NoRoot, Space};
-use vs_types::{Access, Answer, Depth, Fail, LOG_PLACES, LogEntry, Memory, Mode};
+use vs_types::{Access, Answer, Depth, Fail, LOG_PLACES, LogEntry, Memory, Mode, RING};
 use vs_walk::Dump;
 
 /// A page table that follows a log, and the entries that it has applied, each with its answer. Contracts see the entries.

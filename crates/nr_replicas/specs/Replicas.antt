@@ -1,9 +1,10 @@
 -- What the calls of the replicas tell.
-use Rattle.std.specs.Prelude.{◌≡◌, ℕ, ◌<◌, ◌≤◌, [], All, Some, slice_get, ⊤}
+use Rattle.std.specs.Prelude.{◌≡◌, ℕ, ◌-◌, ◌<◌, ◌≤◌, [], All, Some, slice_get, ⊤}
 use Rattle.vs_types.specs.declared.answer.Answer.{Answer}
 use Rattle.vs_types.specs.declared.depth.Depth.{Depth}
 use Rattle.vs_types.specs.declared.log_entry.LogEntry.{LogEntry}
 use Rattle.vs_types.specs.Config.{Layout}
+use Rattle.vs_types.specs.declared.limits.TheConstants.{LOG_PLACES, RING}
 use Rattle.vs_types.specs.Space.{Space}
 use Rattle.nr_ring.specs.LogHistory.{Log, IsLogHistory, tail}
 use Rattle.nr_ring.specs.Pass.{TableId}
@@ -36,7 +37,7 @@ pub record IsAnsweredAt (depth : Depth) (tables from : ℕ) (log : Log) (entry :
 -- why an update was not answered: its slot was not empty; the log has no room for a batch of 16; or it was stopped
 abbrev pub IsFaultOf : ℕ → Log → UpdateFault → Type 0
 IsFaultOf call log Occupied = ⊤
-IsFaultOf call log (Ended ended) = (ended ≡ call) × (65520 < tail log)
+IsFaultOf call log (Ended ended) = (ended ≡ call) × (LOG_PLACES - RING < tail log)
 IsFaultOf call log (Stopped stopped) = stopped ≡ call
 
 -- a read was answered in the space after so many entries of the log, of which there are not fewer than these

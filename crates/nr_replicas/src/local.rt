@@ -1,5 +1,6 @@
 //! What lies under the lock of a replica.
-ghost use Rattle.std.specs.Prelude.{◌≡◌, ◌≤◌, ◌<◌, IfErr, IfNone, IfSome, []};
+ghost use Rattle.std.specs.Prelude.{◌≡◌, ◌-◌, ◌≤◌, ◌<◌, IfErr, IfNone, IfSome, []};
+ghost use Rattle.vs_types.specs.declared.limits.TheConstants.{LOG_PLACES};
 ghost use Rattle.vs_types.specs.Depth.{IsCanonical};
 ghost use Rattle.nr_ring.specs.LogHistory.{log_after, tail};
 ghost use Rattle.nr_ring.specs.declared.tails.AppendFault.TheVariants.{LogEnded};
@@ -12,12 +13,12 @@ use crate::name::ReplicasName;
 use crate::question::Question;
 use arrayvec::ArrayVec;
 use nr_node::{Held, Node};
-use nr_ring::{AppendFault, LogName, LogPass, RING, RingLog};
+use nr_ring::{AppendFault, LogName, LogPass, RingLog};
 use nr_slots::{Answered, Slots, Waiting};
 use std::marker::{Model, PhantomData};
 use std::sync::Wait;
 use vs_arena::RawArena;
-use vs_types::{Answer, LogEntry};
+use vs_types::{Answer, LogEntry, RING};
 
 /// The node of a replica, which is of the log that the name says and may have as many tables. Beside it there is room for what
 /// a call collects and answers, so that no call has to fill an array of its own.
@@ -72,7 +73,7 @@ impl<J: LogName, K: ReplicasName> Local<J, K> {
     ) -> Result<bool, AppendFault>
         requires { log.now ≡ K.log }
         ensures { IfErr result (λ fault. fault ≡ LogEnded
-            → 65520 < tail (log_of J.replicas self.new)) }
+            → LOG_PLACES - RING < tail (log_of J.replicas self.new)) }
     {
         if self.node.held() == Held::Nothing {
             self.collect(rt, slots);
@@ -90,7 +91,7 @@ impl<J: LogName, K: ReplicasName> Local<J, K> {
     fn put_batch<R: Wait>(&mut self, rt: &R, log: &RingLog<J>) -> Result<bool, AppendFault>
         requires log { log.now ≡ K.log }
         ensures ended { IfErr result (λ fault. fault ≡ LogEnded
-            → 65520 < tail (log_of J.replicas self.new)) }
+            → LOG_PLACES - RING < tail (log_of J.replicas self.new)) }
     {
         let _applied = self.node.applied();
         match self.node.held() {

@@ -1,5 +1,6 @@
 //! The replicas of an address space, which threads share.
-ghost use Rattle.std.specs.Prelude.{◌≡◌, ◌≢◌, ◌<◌, IfErr, IfOk};
+ghost use Rattle.std.specs.Prelude.{◌≡◌, ◌≢◌, ◌-◌, ◌<◌, IfErr, IfOk};
+ghost use Rattle.vs_types.specs.declared.limits.TheConstants.{LOG_PLACES, RING};
 ghost use Rattle.vs_types.specs.Depth.{IsCanonical};
 ghost use Rattle.vs_types.specs.Operation.{IsAction};
 ghost use Rattle.vs_types.specs.Step.{allow, look};
@@ -197,7 +198,7 @@ impl<J: LogName, K: ReplicasName> Replicas<J, K> {
         requires log { pass.old.log ≡ K.log }
         ensures log { pass.new.log ≡ pass.old.log }
         ensures heard { result ≡ Ended → HasHeard J.depth J.replicas pass.old.view pass.new.view
-            × (65520 < tail (log_after J.replicas pass.new.view.seen)) }
+            × (LOG_PLACES - RING < tail (log_after J.replicas pass.new.view.seen)) }
         ensures unheard { result ≢ Ended → pass.new ≡ pass.old }
     {
         let Some(mut local) = attempt(rt, &home.local, backoff) else {

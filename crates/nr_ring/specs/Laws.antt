@@ -5,7 +5,7 @@ use lib.ListN.{get_elem?}
 use Rattle.vs_types.specs.declared.limits.TheConstants.{LOG_PLACES}
 use Rattle.vs_types.specs.declared.log_entry.LogEntry.{LogEntry}
 use Rattle.nr_ring.specs.declared.view.View.{View}
-use Rattle.nr_ring.specs.declared.words.TheConstants.{RING}
+use Rattle.vs_types.specs.declared.limits.TheConstants.{RING}
 use Rattle.nr_ring.specs.LogHistory.{Log, tail, local_of, completed}
 
 -- the later log begins with the entries of the earlier one, and no tail has fallen

@@ -6,7 +6,7 @@ use Rattle.vs_types.specs.declared.limits.TheConstants.{LOG_PLACES}
 use Rattle.vs_types.specs.declared.log_entry.LogEntry.{LogEntry}
 use Rattle.nr_ring.specs.declared.log_event.LogEvent.{LogEvent}
 use Rattle.nr_ring.specs.declared.log_event.LogEvent.TheVariants.{Append, Advance}
-use Rattle.nr_ring.specs.declared.words.TheConstants.{RING}
+use Rattle.vs_types.specs.declared.limits.TheConstants.{RING}
 
 -- all entries since the start, and how many of them each replica has taken: its local tail
 pub record Log : Type 0 where

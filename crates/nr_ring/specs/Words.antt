@@ -3,7 +3,8 @@ use Rattle.std.specs.Prelude.{◌≡◌, ◌⊎◌, replicate, ℕ, ◌+◌, ◌
 use Rattle.vs_types.specs.LogEntry.{log_words}
 use Rattle.vs_types.specs.declared.limits.TheConstants.{REPLICAS}
 use Rattle.vs_types.specs.declared.log_entry.LogEntry.{LogEntry}
-use Rattle.nr_ring.specs.declared.words.TheConstants.{RING, CELL_WORDS, TAIL_WORD, COMPLETED_WORD, LOCAL_WORDS, COUNT_WORD, RING_WORDS}
+use Rattle.vs_types.specs.declared.limits.TheConstants.{RING}
+use Rattle.nr_ring.specs.declared.words.TheConstants.{CELL_WORDS, TAIL_WORD, COMPLETED_WORD, LOCAL_WORDS, COUNT_WORD, RING_WORDS}
 use Rattle.nr_ring.specs.LogHistory.{Log, tail, local_of, completed}
 
 -- where the first of the two words of a place stands

@@ -14,11 +14,11 @@ ghost use Rattle.nr_ring.specs.inside.Held.{IsHeadOf};
 use crate::code::{code_of, locals_in};
 use crate::tails::{AppendFault, tails_in};
 use crate::words::{
-    CELL_WORDS, CHANGES, COMPLETED_WORD, COUNT_WORD, LOADS, LOCAL_WORDS, RING, RING_WORDS,
+    CELL_WORDS, CHANGES, COMPLETED_WORD, COUNT_WORD, LOADS, LOCAL_WORDS, RING_WORDS,
     TAIL_WORD,
 };
 use arrayvec::ArrayVec;
-use vs_types::{LOG_PLACES, LogEntry, entry_of, pack};
+use vs_types::{LOG_PLACES, LogEntry, RING, entry_of, pack};
 
 /// Tests that so many entries may be appended: the log does not end before, and each replica has the room.
 pub(crate) fn test_room(head: &[u64; RING_WORDS], count: u64) -> Result<(), AppendFault>

@@ -3,7 +3,8 @@ ghost use Rattle.std.specs.Prelude.{◌≡◌, ◌≤◌, All};
 ghost use Rattle.vs_types.specs.declared.limits.TheConstants.{LOG_PLACES, REPLICAS};
 ghost use Rattle.nr_ring.specs.inside.Codes.{code_of, local_in, locals_in, room_of, word_in};
 
-use crate::words::{COMPLETED_WORD, COUNT_WORD, LOCAL_WORDS, RING, RING_WORDS, TAIL_WORD};
+use crate::words::{COMPLETED_WORD, COUNT_WORD, LOCAL_WORDS, RING_WORDS, TAIL_WORD};
+use vs_types::RING;
 
 /// How many entries fewer than the ring holds a replica has still to take; 0 for one that is absent.
 fn room_of(tail: u64, local: u64, present: bool) -> u64

@@ -10,7 +10,7 @@ ghost use Rattle.nr_ring.specs.Entries.{HasAppended};
 ghost use Rattle.nr_ring.specs.View.{HasSeenAdvances, StartsWith};
 ghost use Rattle.nr_ring.specs.declared.log_event.LogEvent.{LogEvent};
 ghost use Rattle.nr_ring.specs.declared.view.View.{View};
-ghost use Rattle.nr_ring.specs.declared.words.TheConstants.{RING};
+ghost use Rattle.vs_types.specs.declared.limits.TheConstants.{RING};
 
 pub use crate::cell_words::{
     advances_change_two_words, appends_keep_needed_entries, words_are_a_function_of_the_log,

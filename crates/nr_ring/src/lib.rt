@@ -25,4 +25,4 @@ pub use pass::LogPass;
 pub use ring_log::RingLog;
 pub use tails::{AppendFault, Moved, Tails};
 pub use view::View;
-pub use words::{OTHERS, RING};
+pub use words::OTHERS;

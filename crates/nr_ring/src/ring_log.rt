@@ -20,14 +20,14 @@ use crate::pass::LogPass;
 use crate::rule::{Copies, FirstOwned, Happening, LogRule, Looking, Making};
 use crate::tails::{AppendFault, Moved, Tails};
 use crate::view::View;
-use crate::words::{CELL_WORDS, COUNT_WORD, LOCAL_WORDS, OTHERS, RING, RING_WORDS, TAIL_WORD};
+use crate::words::{CELL_WORDS, COUNT_WORD, LOCAL_WORDS, OTHERS, RING_WORDS, TAIL_WORD};
 use arrayvec::ArrayVec;
 use crossbeam_utils::Backoff;
 use std::alloc::Global;
 use std::marker::{Brand, Model, PhantomData};
 use std::sync::Wait;
 use version_cell::{Pass, VersionCell};
-use vs_types::{Depth, LogEntry, Memory, REPLICAS};
+use vs_types::{Depth, LogEntry, Memory, REPLICAS, RING};
 
 /// The shared log: a ring of 16 entries and the tails, in one cell. Contracts see which log it is.
 #[derive(Drop)]

@@ -1,19 +1,17 @@
 //! How much the ring holds, and where each thing stands in the words of the cell. Clauses cite these.
-
-/// The entries of the ring: a batch has no more, and no replica has more to take.
-pub const RING: usize = 16;
+use vs_types::{REPLICAS, RING};
 
 /// The most passes of a log that own no replica.
 pub const OTHERS: u8 = 64;
 
 /// The words of the cell.
-pub const CELL_WORDS: usize = 39;
+pub const CELL_WORDS: usize = RING_WORDS + 2 * RING;
 
 /// The most words that an event changes: two for each entry of a batch, and the tail.
-pub const CHANGES: usize = 33;
+pub const CHANGES: usize = 2 * RING + 1;
 
 /// The most words that a fetch loads: two for each entry of the ring.
-pub const LOADS: usize = 32;
+pub const LOADS: usize = 2 * RING;
 
 /// The word of the tail.
 pub const TAIL_WORD: usize = 0;
@@ -25,7 +23,7 @@ pub const COMPLETED_WORD: usize = 1;
 pub const LOCAL_WORDS: usize = 2;
 
 /// The word of the number of replicas.
-pub const COUNT_WORD: usize = 6;
+pub const COUNT_WORD: usize = LOCAL_WORDS + REPLICAS as usize;
 
 /// The first of the words of the ring: two for each entry. The words before them are told by their code.
-pub const RING_WORDS: usize = 7;
+pub const RING_WORDS: usize = COUNT_WORD + 1;

@@ -9,7 +9,7 @@ use Rattle.vs_types.specs.Config.{Layout}
 use Rattle.vs_types.specs.Query.{IsQuery}
 use Rattle.vs_types.specs.declared.depth.Depth.{Depth}
 use Rattle.vs_types.specs.declared.request.Query.{Query}
-use Rattle.nr_core.specs.Run.{AreScripts}
+use Rattle.vs_types.specs.Query.{AreScripts}
 use Rattle.nr_script.specs.Lines.{Says}
 use Rattle.nr_script.specs.Script.{asked, requests_by, thread_count, IsScript}
 use Rattle.nr_script.specs.Words.{lines}

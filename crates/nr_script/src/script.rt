@@ -1,7 +1,7 @@
 ghost use Rattle.std.specs.Prelude.{◌≡◌, ◌≤◌, IfOk, IfErr, length, map};
 ghost use Rattle.vs_types.specs.Config.{Layout};
 ghost use Rattle.vs_types.specs.Refusal.{IfRefused};
-ghost use Rattle.nr_core.specs.Run.{AreScripts};
+ghost use Rattle.vs_types.specs.Query.{AreScripts};
 ghost use Rattle.nr_script.specs.Script.{IsBadLine, IsScript};
 ghost use Rattle.nr_script.specs.inside.Reading.{IsAllRead};
 ghost use Rattle.nr_script.specs.declared.script.TheConstants.{SCRIPT_BYTES};

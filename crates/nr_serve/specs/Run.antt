@@ -1,9 +1,7 @@
 -- What a run is given, and what it has to show for it.
-use Rattle.std.specs.Prelude.{◌≡◌, ℕ, ◌+◌, ◌≤◌, ◌==◌, ◌⊎◌, List, [], ◌∷◌, ◌++◌, All, Some, false, length, map, take, filter, slice_get, sum_by, ⊤}
+use Rattle.std.specs.Prelude.{◌≡◌, ℕ, ◌+◌, ◌≤◌, ◌==◌, ◌⊎◌, List, [], ◌∷◌, ◌++◌, All, Some, false, length, map, take, filter, slice_get, ⊤}
 use Rattle.std.specs.Option.{option_map_or}
 use Rattle.vs_types.specs.Config.{Layout}
-use Rattle.vs_types.specs.Query.{IsQuery}
-use Rattle.vs_types.specs.declared.limits.TheConstants.{LOG_PLACES}
 use Rattle.vs_types.specs.declared.op.Action.{Action}
 use Rattle.vs_types.specs.declared.request.Query.{Query}
 use Rattle.nr_audit.specs.Headline.{IsSpelledWith}
@@ -20,12 +18,6 @@ use Rattle.nr_serve.specs.declared.outcome.Outcome.{Outcome}
 use Rattle.nr_serve.specs.declared.outcome.Outcome.TheVariants.{Refused, Verified}
 use Rattle.nr_serve.specs.declared.said.Said.{Said}
 use Rattle.nr_serve.specs.declared.said.Said.TheVariants.{Answer, Stopped}
-
--- a script for each thread, at most 65,536 requests in all, each well formed at the depth
-pub record AreScripts (layout : Layout) (scripts : List (List Query)) : Type 0 where
-  pub one_each : length scripts ≡ layout.threads
-  pub few : sum_by (λ script. length script) scripts ≤ LOG_PLACES
-  pub well_formed : All (All (IsQuery layout.depth)) scripts
 
 -- the calls of a thread, in order
 abbrev pub calls_of : Recording → ℕ → List ℕ

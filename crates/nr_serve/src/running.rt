@@ -6,7 +6,8 @@ ghost use Rattle.nr_record.specs.Pen.{new_pens};
 ghost use Rattle.nr_trace.specs.Faults.{IsFirstOf};
 ghost use Rattle.nr_trace.specs.Laws.{IsFaultless};
 ghost use Rattle.nr_trace.specs.Orders.{recorded_order};
-ghost use Rattle.nr_serve.specs.Run.{AreAllCallsOf, AreScripts, HaveSeenAnswers, IfRefused, IfVerified, IsLogOf, IsTraceOf};
+ghost use Rattle.nr_serve.specs.Run.{AreAllCallsOf, HaveSeenAnswers, IfRefused, IfVerified, IsLogOf, IsTraceOf};
+ghost use Rattle.vs_types.specs.Query.{AreScripts};
 
 use crate::ending::ending;
 use crate::no_thread::NoThread;

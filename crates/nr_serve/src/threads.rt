@@ -2,9 +2,10 @@
 ghost use Rattle.std.specs.Prelude.{◌≡◌, ◌≤◌, [], All, IfOk, IfSome, length, map, true, vec_capacity};
 ghost use Rattle.std.specs.List.{AllZip};
 ghost use Rattle.vs_types.specs.declared.limits.TheConstants.{THREADS};
+ghost use Rattle.vs_types.specs.declared.limits.TheConstants.{THREADS};
 ghost use Rattle.nr_record.specs.Pen.{new_pens};
 ghost use Rattle.nr_serve.specs.inside.Calls.{AreServed};
-ghost use Rattle.nr_serve.specs.Run.{AreScripts};
+ghost use Rattle.vs_types.specs.Query.{AreScripts};
 ghost use Rattle.nr_serve.specs.inside.Working.{IsDone, IsNamed, IsReadyJob, jobs_from};
 
 use crate::job::Job;
@@ -75,7 +76,7 @@ fn jobs_of<J: LogName>(
     pens: Vec<Pen>,
     passes: Vec<LogPass<J>>,
 ) -> Result<Vec<Job<J>>, Memory>
-    requires few { length scripts.items ≤ 65536 }
+    requires few { length scripts.items ≤ THREADS }
     requires pens { length pens.items ≡ length scripts.items }
     requires passes { length passes.items ≡ length scripts.items }
     ensures { IfOk result

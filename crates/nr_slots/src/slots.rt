@@ -10,7 +10,7 @@ use arrayvec::ArrayVec;
 use std::alloc::Global;
 use std::marker::Model;
 use std::sync::{Mutex, MutexGuard, Wait};
-use vs_types::{Memory, Op};
+use vs_types::{Memory, Op, RING};
 
 /// A slot for each thread of a replica, each under a lock. Contracts see how many there are.
 #[derive(Drop)]
@@ -64,7 +64,7 @@ impl<P: SlotRule> Slots<P> {
     /// Takes updates that wait into the batch, by rising thread, until the batch is full: of each thread its own.
     ///
     /// Waits for each slot's lock in turn.
-    pub fn collect<R: Wait>(&self, rt: &R, batch: &mut ArrayVec<Waiting, 16>)
+    pub fn collect<R: Wait>(&self, rt: &R, batch: &mut ArrayVec<Waiting, RING>)
         requires { batch.old.items ≡ [] }
         ensures rising { Rises batch.new.items }
         ensures below { All (λ waiting. waiting.thread < self.now) batch.new.items }

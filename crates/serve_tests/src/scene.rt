@@ -1,6 +1,6 @@
 //! A run, and what it shows.
 ghost use Rattle.std.specs.Prelude.{◌≡◌, ◌+◌, map};
-ghost use Rattle.nr_serve.specs.Run.{AreScripts};
+ghost use Rattle.vs_types.specs.Query.{AreScripts};
 
 use crate::scripts::assert_scripts;
 use nr_audit::Order;

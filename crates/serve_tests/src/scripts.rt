@@ -1,7 +1,7 @@
 //! Scripts.
 ghost use Rattle.std.specs.Prelude.{◌≡◌, All, map};
 ghost use Rattle.vs_types.specs.Query.{IsQuery};
-ghost use Rattle.nr_serve.specs.Run.{AreScripts};
+ghost use Rattle.vs_types.specs.Query.{AreScripts};
 
 use std::alloc::Global;
 use std::process::Abort;

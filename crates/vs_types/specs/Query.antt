@@ -1,7 +1,9 @@
 -- Requests: which are well formed, and the first thing that is wrong with one.
-use Rattle.std.specs.Prelude.{ℕ, not, Option, Some, None, if◌then◌else◌}
+use Rattle.std.specs.Prelude.{◌≡◌, ℕ, ◌≤◌, not, List, length, All, sum_by, Option, Some, None, if◌then◌else◌}
+use Rattle.vs_types.specs.Config.{Layout}
 use Rattle.vs_types.specs.Depth.{is_canonical, IsCanonical}
 use Rattle.vs_types.specs.Operation.{IsAction, action_fault}
+use Rattle.vs_types.specs.declared.limits.TheConstants.{LOG_PLACES}
 use Rattle.vs_types.specs.declared.depth.Depth.{Depth}
 use Rattle.vs_types.specs.declared.request.Query.{Query}
 use Rattle.vs_types.specs.declared.request.Query.TheVariants.{Update, Resolve, Access}
@@ -26,3 +28,9 @@ abbrev pub query_fault : Depth → Query → Option BadOp
 query_fault depth (Update action) = action_fault depth action
 query_fault depth (Resolve address) = address_fault depth address
 query_fault depth (Access address mode access) = address_fault depth address
+
+-- a script for each thread, with as many requests in all as a log has places, at most, each well formed at the depth
+pub record AreScripts (layout : Layout) (scripts : List (List Query)) : Type 0 where
+  pub one_each : length scripts ≡ layout.threads
+  pub few : sum_by (λ script. length script) scripts ≤ LOG_PLACES
+  pub well_formed : All (All (IsQuery layout.depth)) scripts

@@ -8,11 +8,11 @@ ghost use Rattle.nr_core.specs.Steps as steps;
 ghost use Rattle.nr_core.specs.inside.Views.{IsEntry};
 ghost use Rattle.vs_types.specs.declared.limits.TheConstants.{LOG_PLACES};
 
-use crate::batch::{BATCH, keep_up, push_entries};
+use crate::batch::{keep_up, push_entries};
 use crate::parts::Marks;
 use crate::stage::{Collected, Stage};
 use crate::state::Core;
-use vs_types::{LOG_PLACES, LogEntry, Memory};
+use vs_types::{LOG_PLACES, LogEntry, Memory, RING};
 
 impl Core {
     /// The update in the slot of `from` is taken, and is the last of the batch.
@@ -50,7 +50,7 @@ impl Core {
             → result ≡ steps.has_place there }
     {
         let stored = self.stored(replica);
-        stored.batch.len() < BATCH && !stored.marks.placed
+        stored.batch.len() < RING && !stored.marks.placed
     }
 
     /// An update is the last of the batch.

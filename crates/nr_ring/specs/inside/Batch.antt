@@ -9,7 +9,8 @@ use Rattle.nr_ring.specs.Pass.{tails_of}
 use Rattle.nr_ring.specs.Words.{word_of}
 use Rattle.nr_ring.specs.declared.tails.AppendFault.{AppendFault}
 use Rattle.nr_ring.specs.declared.tails.AppendFault.TheVariants.{LogEnded, Full, Moved}
-use Rattle.nr_ring.specs.declared.words.TheConstants.{CELL_WORDS, COUNT_WORD, RING, RING_WORDS}
+use Rattle.vs_types.specs.declared.limits.TheConstants.{RING}
+use Rattle.nr_ring.specs.declared.words.TheConstants.{CELL_WORDS, COUNT_WORD, RING_WORDS}
 
 -- the bound that bars so many entries from the log
 abbrev pub Bars : Log → ℕ → AppendFault → Type 0

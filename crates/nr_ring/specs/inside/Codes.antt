@@ -1,7 +1,8 @@
 -- The code of the words of the cell: one number that tells the tails, and that each event raises.
 use Rattle.std.specs.Prelude.{ℕ, zero, suc, ◌+◌, ◌-◌, ◌*◌, ◌/◌, ◌%◌, ◌^◌, max, Bool, nat_le, if◌then◌else◌, List, [], ◌∷◌, length, slice_index}
 use Rattle.nr_ring.specs.LogHistory.{Log, tail, local_of}
-use Rattle.nr_ring.specs.declared.words.TheConstants.{RING, TAIL_WORD, LOCAL_WORDS, COUNT_WORD}
+use Rattle.vs_types.specs.declared.limits.TheConstants.{RING}
+use Rattle.nr_ring.specs.declared.words.TheConstants.{TAIL_WORD, LOCAL_WORDS, COUNT_WORD}
 
 -- how many entries fewer than the ring holds a replica has still to take; 0 for one that is absent
 abbrev pub room_of : ℕ → ℕ → Bool → ℕ

@@ -1,7 +1,7 @@
 use Rattle.std.proofs.Common.{ap, inr, subst}
 use Rattle.std.proofs.lemmas.Result.{IfErr-weaker, IfOk-weaker}
 use Rattle.vs_types.specs.Config.{Layout}
-use Rattle.nr_serve.specs.Run.{AreScripts}
+use Rattle.vs_types.specs.Query.{AreScripts}
 use Rattle.nr_engines.specs.ServedRun.{HasRunnable, IsRunEnd, IsRunFault, TellsRun, scripts_of}
 use Rattle.nr_engines.proofs.ServedRuns.{fault_of_end}
 use Rattle.nr_engines.proofs.served_run.run_io.Goals as goal
