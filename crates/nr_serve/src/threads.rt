@@ -2,7 +2,6 @@
 ghost use Rattle.std.specs.Prelude.{◌≡◌, ◌≤◌, [], All, IfOk, IfSome, length, map, true, vec_capacity};
 ghost use Rattle.std.specs.List.{AllZip};
 ghost use Rattle.vs_types.specs.declared.limits.TheConstants.{THREADS};
-ghost use Rattle.vs_types.specs.declared.limits.TheConstants.{THREADS};
 ghost use Rattle.nr_record.specs.Pen.{new_pens};
 ghost use Rattle.nr_serve.specs.inside.Calls.{AreServed};
 ghost use Rattle.vs_types.specs.Query.{AreScripts};
