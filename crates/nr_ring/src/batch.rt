@@ -14,8 +14,7 @@ ghost use Rattle.nr_ring.specs.inside.Held.{IsHeadOf};
 use crate::code::{code_of, locals_in};
 use crate::tails::{AppendFault, tails_in};
 use crate::words::{
-    CELL_WORDS, CHANGES, COMPLETED_WORD, COUNT_WORD, LOADS, LOCAL_WORDS, RING_WORDS,
-    TAIL_WORD,
+    CELL_WORDS, CHANGES, COMPLETED_WORD, COUNT_WORD, LOADS, LOCAL_WORDS, RING_WORDS, TAIL_WORD,
 };
 use arrayvec::ArrayVec;
 use vs_types::{LOG_PLACES, LogEntry, RING, entry_of, pack};
