@@ -1,6 +1,7 @@
 #!/usr/bin/env python3
 """Compares the words that a reader has to believe with docs/DEFINITIONS.md, which reads each of them aloud; and the public calls
-of the libraries and their premises with docs/PROMISES.md. Part 1 of DEFINITIONS.md has to have just the words of the headline.
+of the libraries and their premises with docs/PROMISES.md. Part 1 of DEFINITIONS.md has to have just the words of the headline, and
+the crates of the audit depend on none of the replication.
 
 A word of the trust base is a definition of some specs/ folder that a clause of a public call cites, or that such a word
 cites; worked examples aside. In DEFINITIONS.md a word is read aloud where it stands in bold code, **`word`**, under a heading that
@@ -137,6 +138,19 @@ def first_part():
         yield f"part 1 ends after {lines} lines, of {MOST_LINES} at most"
 
 
+AUDIT = {"vs_types", "vs_walk", "vs_plain", "vs_text", "nr_trace", "nr_dump", "nr_audit", "nr_explain", "nrvs_audit_c"}
+
+
+def audit_alone():
+    """The dependencies of the audit's crates on other crates of this repository than the audit's own."""
+    lines = [re.sub(r"#.*", "", line) for line in (ROOT / "crates.txt").read_text().splitlines()]
+    uses = {head.split()[0]: tail.split() for head, _, tail in (line.partition(":") for line in lines if line.strip())}
+    for crate in sorted(AUDIT & uses.keys()):
+        for other in uses[crate]:
+            if other in uses and other not in AUDIT:
+                yield f"{crate} of the audit depends on {other}"
+
+
 def public_calls():
     """Each public function and method of the libraries, worked examples aside: its crate, its type or trait (or None), its name, and whether it has a premise."""
     for library in sorted(ROOT.glob("crates/*/src/lib.rt")):
@@ -222,7 +236,7 @@ def main(words):
     others = [(places, name) for places, name in told if not any((place, name) in base for place in places)]
     for places, name in others:
         print(f"read aloud, and no clause rests on it: {name} (of {', '.join(places)})")
-    lacking = [*first_part(), *untold()]
+    lacking = [*first_part(), *audit_alone(), *untold()]
     for line in lacking:
         print(line)
     wrong = len(missing) + len(others) + len(lacking)
