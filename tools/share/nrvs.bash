@@ -1,0 +1,21 @@
+# bash completion for nrvs
+_nrvs() {
+  local word=${COMP_WORDS[COMP_CWORD]} previous=${COMP_WORDS[COMP_CWORD - 1]} options=
+  case $previous in
+    --levels) COMPREPLY=($(compgen -W '4 5' -- "$word")); return ;;
+    --replica | --replicas | --tables | --turns | --address) return ;;
+  esac
+  if [ "$COMP_CWORD" -eq 1 ]; then
+    COMPREPLY=($(compgen -W 'audit explain resolve simulate run --help --version' -- "$word"))
+    return
+  fi
+  case ${COMP_WORDS[1]} in
+    audit) options='' ;;
+    explain) options='--json' ;;
+    resolve) options='--address --replica' ;;
+    simulate) options='--levels --replicas --tables --trace' ;;
+    run) options='--levels --replicas --tables --turns --trace' ;;
+  esac
+  COMPREPLY=($(compgen -W "$options --help" -- "$word"))
+}
+complete -o default -F _nrvs nrvs
