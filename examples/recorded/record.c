@@ -13,6 +13,7 @@
 #include <inttypes.h>
 #include <pthread.h>
 #include <sched.h>
+#include <stdatomic.h>
 #include <stdio.h>
 #include <stdlib.h>
 #include <string.h>
@@ -199,12 +200,16 @@ static nrvs_request random_request(struct worker *worker)
 	return nrvs_resolve(address + draw(worker, 4096));
 }
 
+/* The threads that have not come yet: the others wait for them without sleeping, so that all begin at once and their calls overlap. */
+static atomic_uint missing;
+
 static void *work(void *argument)
 {
 	struct worker *worker = argument;
 
-	pthread_mutex_lock(&turn_lock); /* until all threads are there */
-	pthread_mutex_unlock(&turn_lock);
+	atomic_fetch_sub(&missing, 1);
+	while (atomic_load(&missing) > 0)
+		sched_yield();
 	for (unsigned k = 0; k < worker->requests; k++)
 		request(worker, random_request(worker));
 	return NULL;
@@ -292,11 +297,10 @@ static void run(void *(*body)(void *), unsigned threads)
 {
 	pthread_t started[NRVS_MAX_THREADS];
 
-	pthread_mutex_lock(&turn_lock);
+	atomic_store(&missing, threads);
 	for (unsigned t = 0; t < threads; t++)
 		if (pthread_create(&started[t], NULL, body, &workers[t]) != 0)
 			stop("no thread");
-	pthread_mutex_unlock(&turn_lock);
 	for (unsigned t = 0; t < threads; t++)
 		pthread_join(started[t], NULL);
 }
