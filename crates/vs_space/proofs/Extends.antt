@@ -9,7 +9,8 @@ use Rattle.vs_arena.specs.Store.{zeros}
 use Rattle.vs_arena.proofs.Stores.{IsInUse-insert}
 use Rattle.vs_walk.specs.Memory.{Memory, AreWhole}
 use Rattle.vs_walk.specs.Walk.{all_rights, walk}
-use Rattle.vs_space.specs.Held.{with_word}
+use Rattle.vs_space.specs.Footprint.{HasMoreOnPath}
+use Rattle.vs_space.specs.Held.{word_at, with_word}
 use Rattle.vs_space.specs.Path.{table_at, SamePath}
 use Rattle.vs_space.specs.inside.Grow.{IsOpen, IsExtended}
 use Rattle.vs_space.proofs.Numbered.{get-insert_same, len-insert_free}
@@ -18,8 +19,10 @@ use Rattle.vs_space.proofs.Trees.{but_alike}
 use Rattle.vs_space.proofs.Links.{IsLink, found_in_zeros, still_clear, linked, old_or_new, tree_link, walk_link, table_take, walk_take, tree_take}
 use Rattle.vs_space.proofs.Links.{new_unreached, found_take}
 use Rattle.vs_space.proofs.Reached.{reached_link}
-use Rattle.vs_space.proofs.Written.{written_table, no_flags_table}
+use Rattle.vs_space.proofs.Written.{written_table, written_at, no_flags_table}
 use Rattle.vs_space.proofs.Plain.{adds_then, adds_taken, adds_written}
+use Rattle.vs_space.proofs.Footprints.{more_then, more_linked}
+use Rattle.vs_space.proofs.Presents.{absent_word, word_as_taken}
 
 module _ {depth : Depth} {m : Memory} {root base level number : ℕ} (opened : IsOpen depth m root base level number) (deep : 1 < level) {f : ℕ}
     (free : finite.get m f ≡ None) (whole : AreWhole (finite.insert m f zeros)) {w : ℕ} (leads : meaning level w ≡ entry.Table f all_rights)
@@ -38,6 +41,14 @@ module _ {depth : Depth} {m : Memory} {root base level number : ℕ} (opened : I
     one = omega arith;
     some = omega arith;
   }
+
+  -- its entry for the address is 0
+  zero_here : word_at (finite.insert m f zeros) number (index_at level base) ≡ Some 0
+  zero_here = word_as_taken m number f (index_at level base) (opened.tree.in_use level base number opened.reached) free
+      ∙ absent_word level m number base (written_at opened.tree opened.all_reached level base number opened.reached) opened.absent refl
+
+  more_new : HasMoreOnPath depth root base m new
+  more_new = more_linked depth m free link zero_here
 
   walks_new : (b : ℕ) → walk depth new root b ≡ walk depth m root b
   walks_new b = walk_link link b ∙ walk_take opened.tree f free b
@@ -69,6 +80,9 @@ extended_on {old} {m} {base} {last} {from} {level} {number} extended deep le f f
   plain = adds_then (adds_then extended.plain (adds_taken m f))
       (adds_written (finite.insert m f zeros) number index w whole (IsInUse-insert m f zeros number extended.in_use) (omega (arith, is_index))
       (no_flags_table w f is_word));
+  adds = λ depth root opened. more_then (extended.adds depth root opened)
+      (subst (λ i. HasMoreOnPath depth root base m (with_word (finite.insert m f zeros) number i w)) (sym is_index)
+      (more_new (extended.open_at depth root opened) deep free whole leads is_word));
   more = omega (
     arith,
     len_written (finite.insert m f zeros) number index w (IsInUse-insert m f zeros number extended.in_use),

@@ -11,6 +11,7 @@ pub mod Reached
 pub mod Regions
 pub mod Relent
 pub mod Descents
+pub mod Footprints
 pub mod Protects
 pub mod Meets
 pub mod Prunes

@@ -26,7 +26,7 @@ use Rattle.vs_walk.specs.Memory.{Memory, AreWhole}
 use Rattle.vs_walk.specs.Walk.{as_walk}
 use Rattle.vs_walk.specs.declared.walk.Walk.TheVariants.{Mapped}
 use Rattle.vs_space.specs.Flags.{flags_in}
-use Rattle.vs_space.specs.Held.{with_word}
+use Rattle.vs_space.specs.Held.{word_at, with_word}
 use Rattle.vs_space.specs.Path.{found_at, table_in, SamePath}
 use Rattle.vs_space.specs.Tree.{NothingUnder}
 use Rattle.vs_space.specs.inside.Grow.{IsOpen, IsExtended, IsBelowRoot, IsLeastBase}
@@ -42,7 +42,9 @@ use Rattle.vs_space.proofs.Protects.{IsMet, faultless, own_space, space_of, neve
 use Rattle.vs_space.proofs.Meets.{met_of, never_table}
 use Rattle.vs_space.proofs.Prunes.{absent_under}
 use Rattle.vs_space.proofs.Plain.{adds_then, adds_written, plain_leaf}
-use Rattle.vs_space.proofs.Written.{size_same, written_leaf, leaf_at_level}
+use Rattle.vs_space.proofs.Written.{size_same, written_leaf, leaf_at_level, written_at}
+use Rattle.vs_space.proofs.Footprints.{more_then, more_filled}
+use Rattle.vs_space.proofs.Presents.{absent_word}
 use Rattle.vs_space.proofs.Overlaps.{overlapped_none, overlapped_least}
 use Rattle.vs_space.proofs.TableCounts.{count_added}
 
@@ -261,6 +263,10 @@ module _ {t : PageTable} (table : IsPageTable t) {page : Page} (good : IsPage t.
       plain_word = plain_leaf (level_of page.size) w page.phys page.rights (level_some page.size) leads
           (leaf_at_level page.size w page.phys page.rights is_word)
 
+      zero_here : word_at m' number (index_at (level_of page.size) page.base) ≡ Some 0
+      zero_here = absent_word (level_of page.size) m' number page.base
+          (written_at opened.tree opened.all_reached (level_of page.size) page.base number opened.reached) opened.absent refl
+
       -- as the code has it: the entry at this index
       pub mapped : {index : ℕ} → index ≡ index_at (level_of page.size) page.base → finite.len t.memory + (level - level_of page.size) ≤ t.limit
           → IsPageTable (record t { memory = with_word m' number index w })
@@ -272,6 +278,7 @@ module _ {t : PageTable} (table : IsPageTable t) {page : Page} (good : IsPage t.
               some_space = own_space table;
               same = refl;
               unchanged = λ refused. absurd (cc);
+              kept = more_then (extended.adds t.depth t.root is_open) (more_filled t.depth here zero_here w);
               plain = adds_then extended.plain
                   (adds_written m' number (index_at (level_of page.size) page.base) w whole (used_at here) (omega arith) plain_word);
               steps = λ space is. let of = space_of table is in (sym (answer_is room of), (space_is room of).is_of);

@@ -31,8 +31,9 @@ use Rattle.vs_space.specs.Invariant.{IsPageTable, table_in_store}
 use Rattle.vs_space.proofs.Paths.{words_found}
 use Rattle.vs_space.proofs.Regions.{IsLeafPage}
 use Rattle.vs_space.proofs.Plain.{adds_written, plain_leaf}
+use Rattle.vs_space.proofs.Footprints.{page_changed}
 use Rattle.vs_space.proofs.Protects.{IsMet, own_space, space_of, absent_none, never_reserved, page_here, unmap_none, protect_none, unmap_inside, protect_inside}
-use Rattle.vs_space.proofs.Protects.{stays, answer_is, space_is, table_new}
+use Rattle.vs_space.proofs.Protects.{stays, tree_at, answer_is, space_is, table_new}
 
 -- the end of a path, by the level that was asked for and the entry that was matched
 pub descended : {depth : Depth} {memory : Memory} {root address asked lowest level : ℕ} {path : List ℕ} {met found : Meaning} → asked ≡ lowest → met ≡ found
@@ -199,6 +200,7 @@ module _ {t : PageTable} (table : IsPageTable t) {base level phys : ℕ} {path :
               some_space = own_space table;
               same = refl;
               unchanged = λ refused. absurd (cc);
+              kept = page_changed t.depth (tree_at table met) descent.is w;
               plain = adds_written t.memory (slice_index path level) (index_at level base) w table.whole (used_met table descent refl) (omega arith)
                   (plain_leaf level w phys rights descent.above leads_here word_here);
               steps = λ space is. let of = space_of table is in (

@@ -32,6 +32,7 @@ use Rattle.vs_space.proofs.Trees.{tree_write, walk_to_leaf, but_none, but_write,
 use Rattle.vs_space.proofs.Reached.{reached_write, whole_write}
 use Rattle.vs_space.proofs.Written.{written_leaf}
 use Rattle.vs_space.proofs.Plain.{adds_none}
+use Rattle.vs_space.proofs.Footprints.{keeps_none}
 use Rattle.vs_space.proofs.Regions.{walk_in, IsLeafPage, page_path, leaf_page, nothing_at, translates_changed, path_covers}
 
 -- the space that a page table is of
@@ -110,10 +111,11 @@ protect_changes depth limit space base rights q here same =
 -- a table that doesn't change makes a step whose space stays
 pub stays : {t : PageTable} {action : Action} {answer : Answer} → IsPageTable t
     → ((space : Space) → IsTableOf t space → step t.depth t.limit space action ≡ record { space = space; answer = answer }) → IsTableStep t action answer t
-stays {t} table says = record {
+stays {t} {action} table says = record {
   some_space = own_space table;
   same = refl;
   unchanged = λ refused. refl;
+  kept = keeps_none t.depth t.root action t.memory;
   plain = adds_none t.memory;
   steps = λ space is.
       let e = says space is in

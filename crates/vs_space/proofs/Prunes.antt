@@ -11,10 +11,12 @@ use Rattle.vs_types.specs.declared.page.Rights.{Rights}
 use Rattle.vs_types.specs.declared.page.Size.{Size}
 use Rattle.vs_types.specs.declared.entry.Meaning.{Meaning}
 use Rattle.vs_types.specs.declared.entry.Meaning.TheVariants as entry
+use Rattle.vs_arena.specs.Store.{zeros}
 use Rattle.vs_walk.specs.Memory.{Memory}
 use Rattle.vs_walk.specs.Walk.{walk}
 use Rattle.vs_walk.specs.declared.walk.Walk.TheVariants.{NotMapped, Mapped, Reserved}
 use Rattle.vs_space.specs.Flags.{AddsNoFlags}
+use Rattle.vs_space.specs.Footprint.{HasMoreOnPath}
 use Rattle.vs_space.specs.Held.{word_at, with_word}
 use Rattle.vs_space.specs.Path.{found_at, entry_in, IsFirstPresent, HasPresent, table_in, table_at, SamePath}
 use Rattle.vs_space.specs.Tree.{IsTree, NothingUnder, AreWritten}
@@ -24,10 +26,11 @@ use Rattle.vs_space.proofs.Numbered.{len-remove_used, whole-remove}
 use Rattle.vs_space.proofs.Paths.{reached_within, table_below, none_past, same_table, found_same, walk_absent, walk_reserved, walk_leaf}
 use Rattle.vs_space.proofs.Writes.{IsTreeAt, used_at, len_write, written_in_use, same_or_not, words_in}
 use Rattle.vs_space.proofs.Trees.{but_alike, filled_up}
-use Rattle.vs_space.proofs.Links.{tree_unlink, table_unlink, table_kept, walk_unlink_off, walk_unlink_on, found_unlinked}
+use Rattle.vs_space.proofs.Links.{found_in_zeros, tree_unlink, table_unlink, table_kept, walk_unlink_off, walk_unlink_on, found_unlinked}
 use Rattle.vs_space.proofs.Reached.{reached_unlink, whole_write}
 use Rattle.vs_space.proofs.Written.{written_at}
 use Rattle.vs_space.proofs.Plain.{adds_then, adds_written, adds_given}
+use Rattle.vs_space.proofs.Footprints.{more_then, more_unlinked}
 use Rattle.vs_space.proofs.Descents.{entry_read}
 use Rattle.vs_space.proofs.Regions.{stretch_same}
 
@@ -109,6 +112,7 @@ pub record IsPruning (depth : Depth) (old m : Memory) (root base from level : �
   pub above : from ≤ level
   pub fewer : finite.len m + (level - from) ≡ finite.len old
   pub plain : AddsNoFlags old m
+  pub less : HasMoreOnPath depth root base m old
 
 module _ {depth : Depth} {m : Memory} {root base level : ℕ} {path : List ℕ} (cut : IsCut depth m root base level path) where
   here : IsTreeAt (levels depth) m root level base (slice_index path level)
@@ -169,6 +173,7 @@ module _ {depth : Depth} {m : Memory} {root base level : ℕ} {path : List ℕ} 
     below = cut.below;
     fewer = pruning.fewer;
     plain = pruning.plain;
+    less = pruning.less;
     nothing = nothing_past;
     something = λ j over le nothing. something (omega arith) (under_longer depth m root base j (suc level) (omega arith) nothing);
   }
@@ -202,7 +207,7 @@ module _ {depth : Depth} {m : Memory} {root base level : ℕ} {path : List ℕ} 
 
   -- ---- a table whose entries are all absent is given back
 
-  module _ (below : level < levels depth) (empty : (i : ℕ) → i < 512 → entry_in level m (slice_index path level) i ≡ Some entry.Absent) where
+  module _ (below : level < levels depth) (clear : finite.get m (slice_index path level) ≡ Some zeros) where
     one : level + 1 ≡ suc level
     one = omega arith
 
@@ -210,9 +215,7 @@ module _ {depth : Depth} {m : Memory} {root base level : ℕ} {path : List ℕ} 
     parent = record { tree = cut.tree; whole = cut.whole; at = cut.reached (level + 1) (omega arith) (omega arith) }
 
     absent_here : (b : ℕ) → found_at level m (slice_index path level) b ≡ Some entry.Absent
-    absent_here b = found_entry level m (slice_index path level) b ∙ empty (index_at level b) (index_low b) where
-      index_low : (b : ℕ) → index_at level b < 512
-      index_low b = omega arith
+    absent_here b = found_in_zeros level m (slice_index path level) b clear
 
     reaches_here : (b : ℕ) → SamePath (levels depth) (level + 1) base b → table_at (levels depth) m root level b ≡ Some (slice_index path level)
     reaches_here b same = sym (same_table (levels depth) root m level base b (λ i from to. same i (omega arith) to)) ∙ here.at
@@ -264,4 +267,5 @@ module _ {depth : Depth} {m : Memory} {root base level : ℕ} {path : List ℕ} 
           above = omega (arith, pruning.above);
           fewer = omega (arith, one_fewer, pruning.fewer, pruning.above);
           plain = adds_then pruning.plain plain_after;
+          less = more_then (more_unlinked depth parent level here.at clear) pruning.less;
         })

@@ -37,6 +37,7 @@ module _ (lenders : Lenders) where
     some_space = (step.some_space.0, relent_of step.some_space.1);
     same = ap lent_by step.same;
     unchanged = λ refused. ap lent_by (step.unchanged refused);
+    kept = step.kept;
     plain = step.plain;
     steps = λ space of. let done = step.steps space (relent_back of) in (done.0, relent_of done.1);
   }

@@ -34,6 +34,7 @@ use Rattle.vs_space.proofs.Trees.{tree_write, walk_to_absent, but_none, but_writ
 use Rattle.vs_space.proofs.Reached.{reached_write, whole_write}
 use Rattle.vs_space.proofs.Written.{written_zero}
 use Rattle.vs_space.proofs.Plain.{adds_then, adds_written}
+use Rattle.vs_space.proofs.Footprints.{more_then, more_cleared}
 use Rattle.vs_space.proofs.Regions.{walk_in, IsLeafPage, page_path, nothing_at, translates_changed}
 use Rattle.vs_space.proofs.Protects.{faultless, own_space, space_of, tree_at}
 use Rattle.vs_space.proofs.TableCounts.{count_added}
@@ -170,6 +171,7 @@ module _ {t : PageTable} (table : IsPageTable t) {base level phys : ℕ} {path :
         some_space = own_space table;
         same = refl;
         unchanged = λ refused. absurd (cc);
+        kept = more_then pruned.less (more_cleared t.depth here);
         plain = adds_then plain_cut pruned.plain;
         steps = λ space is. let of = space_of table is in (sym (answer_is of t.limit), after of t.limit);
       },

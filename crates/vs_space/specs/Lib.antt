@@ -2,6 +2,7 @@ pub mod Held
 pub mod Path
 pub mod Flags
 pub mod Written
+pub mod Footprint
 pub mod Table
 pub mod Tree
 pub mod Counted

@@ -9,6 +9,7 @@ use Rattle.vs_walk.specs.Memory.{Memory}
 use Rattle.vs_walk.specs.Walk.{walk}
 use Rattle.vs_walk.specs.declared.walk.Walk.TheVariants.{NotMapped, Reserved}
 use Rattle.vs_space.specs.Flags.{AddsNoFlags}
+use Rattle.vs_space.specs.Footprint.{HasMoreOnPath}
 use Rattle.vs_space.specs.Path.{found_at, table_at, SamePath}
 use Rattle.vs_space.specs.Tree.{IsTree, IsFilled, IsReached}
 use Rattle.vs_space.specs.inside.Prune.{IsFilledBut}
@@ -27,6 +28,7 @@ pub record IsExtended (old new : Memory) (base last from level number : ℕ) : T
   pub in_use : IsSome (finite.get new number)
   pub more : finite.len new ≡ finite.len old + (from - level)
   pub plain : AddsNoFlags old new
+  pub adds : (depth : Depth) (root : ℕ) → IsOpen depth old root base from last → HasMoreOnPath depth root base old new
   pub open_at : (depth : Depth) (root : ℕ) → IsOpen depth old root base from last → IsOpen depth new root base level number
   pub walks : (depth : Depth) (root : ℕ) → IsOpen depth old root base from last → (b : ℕ) → walk depth new root b ≡ walk depth old root b
 

@@ -7,6 +7,7 @@ use Rattle.vs_types.specs.declared.entry.Meaning.TheVariants as entry
 use Rattle.vs_walk.specs.Memory.{Memory, AreWhole}
 use Rattle.vs_walk.specs.Walk.{walk}
 use Rattle.vs_space.specs.Flags.{AddsNoFlags}
+use Rattle.vs_space.specs.Footprint.{HasMoreOnPath}
 use Rattle.vs_space.specs.Path.{found_at, table_at, SamePath}
 use Rattle.vs_space.specs.Tree.{IsTree, IsFilled, IsReached, NothingUnder}
 
@@ -37,5 +38,6 @@ pub record IsPruned (depth : Depth) (old new : Memory) (root base from level : �
   pub below : level ≤ levels depth
   pub fewer : finite.len new + (level - from) ≡ finite.len old
   pub plain : AddsNoFlags old new
+  pub less : HasMoreOnPath depth root base new old
   pub nothing : NothingUnder depth new root level base
   pub something : (j : ℕ) → level < j → j ≤ levels depth → NothingUnder depth new root j base → ⊥

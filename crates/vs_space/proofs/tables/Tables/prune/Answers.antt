@@ -6,8 +6,6 @@ use Rattle.vs_space.specs.Held.{Held}
 use Rattle.vs_space.proofs.Numbered.{same_but_memory}
 use Rattle.vs_space.proofs.Prunes.{IsPruning, pruned_by, something_here, pruning_on, in_use_here, emptied_written, leads_here, apart_above}
 use Rattle.vs_space.proofs.Writes.{get_written_other}
-use Rattle.vs_space.proofs.Links.{zeros_are}
-use Rattle.vs_space.proofs.Written.{entry_zero}
 use Rattle.vs_arena.specs.Store.{zeros}
 use Rattle.vs_space.proofs.tables.Tables.prune.Goals as goal
 
@@ -43,8 +41,7 @@ loop-level-preserved g c =
     record {
       pruning = subst (λ (h : Held). IsPruning c.args.depth c.args.self.now.memory h.memory root c.args.address c.args.from
           (c.loop-level.level + 1) c.args.path.now) (sym after)
-          (pruning_on going.cut (omega (arith, c.loop-level-test.true, c.levels.ensures)) (λ i low.
-          entry_zero c.loop-level.level c.loop-level.self.memory _ i zeros (c.is_empty.ensures.empty c.if-not-is_empty.false) (zeros_are i))
+          (pruning_on going.cut (omega (arith, c.loop-level-test.true, c.levels.ensures)) (c.is_empty.ensures.empty c.if-not-is_empty.false)
           c.index_at.ensures.is going);
       same = same_but_memory c.args.self.now c.loop-level.self c.give.new.self _ after c.loop-level.invariant.same;
       numbers = c.give.ensures.numbers;
