@@ -8,14 +8,14 @@
  * Any bytes may be judged, and no argument is refused but for what a call can't test, which the caller has to keep:
  *   - pointers are not null, aligned as their types are, and to as many elements as is said, where that is 0 too; none overlaps
  *     another; nobody else writes what they point to, or reads `order` and `finding`, before the call returns;
- *   - `malloc`, `realloc` and `free` are those of one allocator, which aligns a block to each power of two up to 16 that divides its
- *     size;
+ *   - the heap that is linked with the archive does what `rattle_alloc`, `rattle_realloc` and `rattle_dealloc` are said to do below;
  *   - the call is not made from a signal handler, nor in the forked child of a process that has threads.
- * It takes memory of that allocator, gives all of it back before it returns, keeps no pointer, and takes no lock.
+ * It allocates of that heap, frees all of it before it returns, keeps no pointer, and takes no lock.
  */
 #ifndef NRVS_AUDIT_H
 #define NRVS_AUDIT_H
 
+#include <stdbool.h>
 #include <stddef.h>
 #include <stdint.h>
 
@@ -76,6 +76,26 @@ struct nrvs_finding {
  * written to the begin of `order`, each as the index of its event, and else nothing is. No order has more than 131,072 calls.
  */
 uint32_t nrvs_audit(const uint8_t *bytes, size_t length, uint32_t *order, size_t room, struct nrvs_finding *finding);
+
+/* The heap. The archive defines none: beside memcpy, memmove, memset and memcmp it asks whoever links it for these three functions. The
+ * toolchain's liblibc_c.a has them over `malloc`, `realloc` and `free`, which are to be those of one allocator that aligns a block to
+ * each power of two up to 16 that divides its size; a program may define its own in place of it.
+ */
+
+/* A block: whether there is memory for it, and where. `at` isn't null, also where there is none. */
+struct rattle_block {
+	bool ok;
+	void *at;
+};
+
+/* A block of so many bytes, 0 too, aligned to `align`: a power of two up to 16. */
+struct rattle_block rattle_alloc(size_t size, size_t align);
+
+/* Makes a block one of so many bytes, and may move it: its first `kept` bytes are as they were. Where it can't, the block stays. */
+struct rattle_block rattle_realloc(void *at, size_t kept, size_t size, size_t align);
+
+/* Frees a block. */
+void rattle_dealloc(void *at);
 
 #ifdef __cplusplus
 }
