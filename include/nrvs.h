@@ -14,7 +14,9 @@
  *     flags in them, bits 5 and 6 of words whose bit 0 is 1, and the caller may clear these: what the calls answer stays the same, as is
  *     proved of flags that change between calls. A protect clears those of its page. Of flags that are set while a call runs nothing is
  *     proved;
- *   - a handle that was not made does not have the magic word by chance: let it be 0;
+ *   - a handle that was not made does not have the magic word by chance: let it be 0. Beside that word a call tests that `levels` is 4 or 5,
+ *     `taken` at most `frames`, `given` at most `taken`, and the root and the frame that was given back last among those taken; what else
+ *     is written over a handle that was made it can't see;
  *   - a call that changes a table (new, map, unmap, protect) runs alone among those with its handle, or with memory that is lent to it.
  *     Those that only ask (resolve, access, tables) may run at once: they take both const, and write nothing of them. A processor may walk
  *     the frames while any call but nrvs_table_new runs: one that asks writes nothing, and one that changes the table writes each entry at
@@ -92,7 +94,7 @@ enum {
 /* What a call returns. But for NRVS_OK it has changed nothing, and written no reply. */
 enum {
 	NRVS_OK = 0,
-	NRVS_NO_TABLE = 1,       /* nrvs_table_new never made the handle */
+	NRVS_NO_TABLE = 1,       /* nrvs_table_new never made the handle: it has no magic word, or a number that none has */
 	NRVS_BAD_LEVELS = 2,     /* neither 4 nor 5 */
 	NRVS_BAD_FRAMES = 3,     /* no frame, or more than 4,096; of a handle that was made, another number than it was made with */
 	NRVS_BAD_MARKS = 4,      /* fewer marks than frames */

@@ -131,6 +131,79 @@ static void refuses(void)
 	take_back(&l);
 }
 
+/* Each call with a handle that is said to be damaged: none was made so, and nothing is written. */
+static void refuses_handle(struct lent *l, const struct nrvs_table *damaged, uint32_t status, int line)
+{
+	const struct nrvs_table made = l->table;
+	struct lent before = lend(l->frames);
+	struct nrvs_reply r, unwritten;
+	size_t count = 77;
+	memset(&r, 0x55, sizeof r);
+	unwritten = r;
+	memcpy(before.first, l->first, l->frames * 4096);
+	memcpy(before.second, l->second, l->frames * sizeof *l->marks);
+	l->table = *damaged;
+	is(nrvs_table_map(LENT(l), 0, NRVS_4K, 0, 0, &r), status, "map", line);
+	is(nrvs_table_unmap(LENT(l), 0, &r), status, "unmap", line);
+	is(nrvs_table_protect(LENT(l), 0, 0, &r), status, "protect", line);
+	is(nrvs_table_resolve(LENT(l), 0, &r), status, "resolve", line);
+	is(nrvs_table_access(LENT(l), 0, 0, 0, &r), status, "access", line);
+	is(nrvs_table_tables(LENT(l), &count), status, "tables", line);
+	is(count, 77, "count", line);
+	is((uint64_t)memcmp(&l->table, damaged, sizeof *damaged), 0, "handle", line);
+	is((uint64_t)memcmp(&r, &unwritten, sizeof r), 0, "reply", line);
+	is((uint64_t)memcmp(before.first, l->first, l->frames * 4096), 0, "frames", line);
+	is((uint64_t)memcmp(before.second, l->second, l->frames * sizeof *l->marks), 0, "marks", line);
+	l->table = made;
+	take_back(&before);
+}
+
+/* The handle with another number in one of its fields. */
+#define DAMAGED(field, number, status) \
+	do { \
+		struct nrvs_table damaged = l.table; \
+		damaged.field = number; \
+		refuses_handle(&l, &damaged, status, __LINE__); \
+	} while (0)
+
+/* Each number of a handle just out of its range, and far out of it. Frames were given back, so that there is a last one. */
+static void damaged_handles(uint64_t levels)
+{
+	struct lent l = lend(8);
+	struct nrvs_reply r;
+	size_t count;
+	IS(nrvs_table_new(LENT(&l), levels, 1000), NRVS_OK);
+	IS(nrvs_table_map(LENT(&l), 0, NRVS_4K, 0x7000, 0, &r), NRVS_OK);
+	IS(nrvs_table_unmap(LENT(&l), 0, &r), NRVS_OK);
+	IS(l.table.taken, levels);
+	IS(l.table.given, levels - 1);
+	DAMAGED(magic, l.table.magic ^ 1, NRVS_NO_TABLE);
+	DAMAGED(levels, 3, NRVS_NO_TABLE);
+	DAMAGED(levels, 6, NRVS_NO_TABLE);
+	DAMAGED(levels, UINT64_MAX, NRVS_NO_TABLE);
+	DAMAGED(root, 999, NRVS_NO_TABLE);
+	DAMAGED(root, 1000 + levels, NRVS_NO_TABLE);
+	DAMAGED(root, UINT64_MAX, NRVS_NO_TABLE);
+	DAMAGED(base, 1001, NRVS_NO_TABLE);
+	DAMAGED(base, 1000 - levels, NRVS_NO_TABLE);
+	DAMAGED(base, UINT64_MAX, NRVS_NO_TABLE);
+	DAMAGED(frames, levels - 1, NRVS_NO_TABLE);
+	DAMAGED(frames, 0, NRVS_NO_TABLE);
+	DAMAGED(frames, 9, NRVS_BAD_FRAMES);
+	DAMAGED(taken, 9, NRVS_NO_TABLE);
+	DAMAGED(taken, 0, NRVS_NO_TABLE);
+	DAMAGED(taken, SIZE_MAX, NRVS_NO_TABLE);
+	DAMAGED(given, levels + 1, NRVS_NO_TABLE);
+	DAMAGED(given, SIZE_MAX, NRVS_NO_TABLE);
+	DAMAGED(last, levels, NRVS_NO_TABLE);
+	DAMAGED(last, UINT64_MAX, NRVS_NO_TABLE);
+	IS(nrvs_table_tables(LENT(&l), &count), NRVS_OK);
+	IS(count, 1);
+	IS(nrvs_table_map(LENT(&l), 0, NRVS_4K, 0x7000, 0, &r), NRVS_OK);
+	REPLIES(r, NRVS_DONE, 0, 0, 0);
+	take_back(&l);
+}
+
 /* The word at the end of the path to an address, as a processor walks it. */
 static uint64_t walk(const struct lent *l, uint64_t address)
 {
@@ -344,6 +417,8 @@ int main(void)
 {
 	refuses();
 	other_memory();
+	damaged_handles(4);
+	damaged_handles(5);
 	answers(4);
 	answers(5);
 	fills(4);

@@ -1,5 +1,5 @@
 -- What a handle and the memory lent are: a page table.
-use Rattle.std.specs.Prelude.{◌≡◌, ℕ, nat_eq, nat_lt, List, length, if◌then◌else◌}
+use Rattle.std.specs.Prelude.{◌≡◌, ℕ, ◌+◌, nat_eq, nat_lt, nat_le, Bool, ◌&&◌, ◌||◌, List, length, if◌then◌else◌}
 use Rattle.vs_types.specs.declared.depth.Depth.{Depth}
 use Rattle.vs_types.specs.declared.depth.Depth.TheVariants.{Four, Five}
 use Rattle.vs_arena.specs.Store.{Lenders}
@@ -20,11 +20,21 @@ abbrev pub table_in : Lenders → Table → List (List ℕ) → List FrameMark �
 table_in lenders handle words marks =
     table_of lenders (depth_in handle) handle.root handle.base (length words) (frames_in handle.taken marks words)
 
--- what is wrong with a handle and as much memory: 1 where it was never made, 3 where it was made over another number of frames, 4 where
--- there are fewer marks than frames, and else 0
+-- the numbers of a handle are in range: it has 4 or 5 levels; at most all of its frames were ever taken, and at most these given back; the
+-- root is one that was taken, and so is the one that was given back last, where one was
+abbrev pub is_in_range : Table → Bool
+is_in_range handle =
+    (nat_eq handle.levels 4 || nat_eq handle.levels 5) && nat_le handle.taken handle.frames && nat_le handle.given handle.taken
+    && nat_le handle.base handle.root && nat_lt handle.root (handle.base + handle.taken)
+    && (nat_eq handle.given 0 || nat_lt handle.last handle.taken)
+
+-- what is wrong with a handle and as much memory: 1 where it has no magic word or isn't in range, so was never made, 3 where it was made
+-- over another number of frames, 4 where there are fewer marks than frames, and else 0
 abbrev pub lent_status : Table → List (List ℕ) → List FrameMark → ℕ
 lent_status handle words marks =
-    if nat_eq handle.magic MADE then (if nat_eq (length words) handle.frames then (if nat_lt (length marks) (length words) then 4 else 0) else 3) else 1
+    if nat_eq handle.magic MADE && is_in_range handle then
+    (if nat_eq (length words) handle.frames then (if nat_lt (length marks) (length words) then 4 else 0) else 3)
+    else 1
 
 -- nothing is
 abbrev pub IsUsable : Table → List (List ℕ) → List FrameMark → Type 0

@@ -1,7 +1,8 @@
 //! The page table of a handle: it is opened over the memory lent at the begin of a call, and taken apart at its end.
 ghost use Rattle.std.specs.Prelude.{◌≡◌, [], ◌∷◌, length};
 ghost use Rattle.vs_types.specs.Depth.{levels};
-ghost use Rattle.nrvs_c.specs.Table.{IsOpen, IsUsable, depth_in, lent_status, table_in};
+ghost use Rattle.nrvs_c.specs.declared.table.TheConstants.{MADE};
+ghost use Rattle.nrvs_c.specs.Table.{IsOpen, depth_in, is_in_range, lent_status, table_in};
 
 use crate::status::{BAD_FRAMES, BAD_MARKS, NO_TABLE, OK};
 use vs_arena::{FRAME_WORDS, FrameMark, LentArena, LentParts};
@@ -34,11 +35,12 @@ pub struct Table {
 }
 
 impl Table {
-    /// `OK` where the handle was made over as many frames and there is a mark for each, and else the status that says what is wrong.
+    /// `OK` where the handle was made over as many frames, its numbers are in range and there is a mark for each frame, and else the
+    /// status that says what is wrong.
     pub(crate) fn status(self, words: &[[u64; FRAME_WORDS]], marks: &[FrameMark]) -> u32
         ensures { result ≡ lent_status self words.now marks.now }
     {
-        if self.magic != MADE {
+        if self.magic != MADE || !self.is_in_range() {
             return NO_TABLE;
         }
         if words.len() != self.frames {
@@ -48,6 +50,18 @@ impl Table {
             return BAD_MARKS;
         }
         OK
+    }
+
+    /// Whether the numbers are ones that a handle can have, whatever is lent.
+    fn is_in_range(self) -> bool
+        ensures { result ≡ is_in_range self }
+    {
+        (self.levels == 4 || self.levels == 5)
+            && self.taken <= self.frames
+            && self.given <= self.taken
+            && self.base <= self.root
+            && self.root - self.base < self.taken as u64
+            && (self.given == 0 || self.last < self.taken as u64)
     }
 
     /// The depth of the table.
@@ -99,8 +113,9 @@ pub(crate) fn open<'a, 'b>(
 /// The handle of a page table, and the memory in which it is.
 pub(crate) fn close<'a, 'b>(space: Space<LentArena<'a, 'b>>) -> Closed<'a, 'b>
     ensures open { IsOpen result.table result.words.now result.marks.now }
-    ensures usable { IsUsable result.table result.words.now result.marks.now }
+    ensures made { result.table.magic ≡ MADE }
     ensures levels { result.table.levels ≡ levels space.entry.depth }
+    ensures frames { result.table.frames ≡ length result.words.now }
     ensures same { table_in (result.words.ghost_name ∷ result.marks.ghost_name ∷ []) result.table
         result.words.now result.marks.now
         ≡ space.entry }
