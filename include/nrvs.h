@@ -14,14 +14,14 @@
  *     flags in them, bits 5 and 6 of words whose bit 0 is 1, and the caller may clear these: what the calls answer stays the same, as is
  *     proved of flags that change between calls. A protect clears those of its page. Of flags that are set while a call runs nothing is
  *     proved;
- *   - a handle that was not made does not have the magic word by chance: let it be 0. Beside that word a call tests that `levels` is 4 or 5,
- *     `taken` at most `frames`, `given` at most `taken`, and the root and the frame that was given back last among those taken; what else
- *     is written over a handle that was made it can't see;
+ *   - a handle that was not made does not have the magic word by chance: let it be 0. Beside that word a call tests that `levels` is 4 or
+ *     5, `taken` at most `frames`, `given` at most `taken`, and the root and the frame that was given back last among those taken; what
+ *     else is written over a handle that was made it can't see;
  *   - a call that changes a table (new, map, unmap, protect) runs alone among those with its handle, or with memory that is lent to it.
  *     Those that only ask (resolve, access, tables) may run at once: they take both const, and write nothing of them. A processor may walk
- *     the frames while those run. It may too while a map, an unmap or a protect runs, as the one on which a kernel runs does: the code writes
- *     each entry of a table that is linked at most once, and a link after it has cleared the frame to which it leads. That a walk meets
- *     nothing else meanwhile rests on the code and on how it is compiled, and is proved nowhere. While nrvs_table_new runs none may;
+ *     the frames while those run. It may too while a map, an unmap or a protect runs, as the one on which a kernel runs does: the code
+ *     writes each entry of a table that is linked at most once, and a link after it has cleared the frame to which it leads. That a walk
+ *     meets nothing else meanwhile rests on the code and on how it is compiled, and is proved nowhere. While nrvs_table_new runs none may;
  *   - what a processor keeps in its TLB and paging-structure caches is invalidated after an unmap and a protect, and before a further
  *     map, which may take a frame that the unmap gave back. That this is enough rests on what each call is proved to leave as it was
  *     (`kept` of `IsTableStep`): a map changes no word that isn't 0, and moves no table; an unmap clears words on the path of its address
