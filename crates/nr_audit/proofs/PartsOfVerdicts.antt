@@ -5,6 +5,7 @@ use Rattle.vs_types.specs.declared.refusal.Fail.{Fail}
 use Rattle.nr_trace.specs.Feed.{Reads}
 use Rattle.nr_trace.specs.Recording.{Recording}
 use Rattle.nr_trace.specs.Spelling.{Spells}
+use Rattle.nr_trace.specs.Calls.{IsWellFormedHistory}
 use Rattle.nr_trace.specs.FirstFault.{HasFormatFault}
 use Rattle.nr_trace.specs.Orders.{recorded_order, HasItsCalls, KeepsPrecedence, HasTheAnswers}
 use Rattle.nr_trace.specs.Faults.{HasFault, IsFirst, IsFirstOf}
@@ -17,6 +18,7 @@ use Rattle.nr_trace.specs.declared.fault.Format.{Format as FormatFault}
 use Rattle.nr_trace.proofs.LawsOfSpelling.{one_trace}
 use Rattle.nr_trace.proofs.LawsOfFormat.{no_fault}
 use Rattle.nr_trace.proofs.LawsOfFaults.{one_first, one_first_of}
+use Rattle.nr_trace.proofs.LawsOfHistories.{history_if_faultless}
 use Rattle.nr_trace.proofs.LawsOfDumps.{legal_if_faultless, fits_if_faultless}
 use Rattle.nr_audit.specs.Verdict.{IsVerdictOn, IsVerdictOf, IfYes}
 use Rattle.nr_audit.specs.Headline.{SpellsAlone, HasFittingDumps, IsSpelledWith, AreRightWith}
@@ -36,6 +38,10 @@ yes_on trace verdict is faultless = same_on trace verdict (Yes (recorded_order t
 
 pub no_on : (trace : Recording) (verdict : Verdict) (fault : Fault) → IsVerdictOn trace verdict → IsFirst trace fault → verdict ≡ No fault
 no_on trace verdict fault is first = same_on trace verdict (No fault) is first
+
+pub events_on : (trace : Recording) (verdict : Verdict) → IsVerdictOn trace verdict → IfYes (λ order. IsWellFormedHistory trace) verdict
+events_on trace (Yes order) is = history_if_faultless trace is.0
+events_on trace (No fault) is = tt
 
 pub members_on : (trace : Recording) (verdict : Verdict) → IsVerdictOn trace verdict → IfYes (HasItsCalls trace) verdict
 members_on trace (Yes order) is = subst (HasItsCalls trace) (sym is.1) (legal_if_faultless trace is.0).members
@@ -114,6 +120,7 @@ right_of bytes (Yes order) (trace, spelled, faultless, is) =
     record {
       trace = trace;
       spelled = alone bytes trace spelled;
+      events = events_on trace (Yes order) verdict;
       members = members_on trace (Yes order) verdict;
       precedence = precedence_on trace (Yes order) verdict;
       answers = answers_on trace (Yes order) verdict;
@@ -128,6 +135,10 @@ part_of bytes P (No fault) is part = tt
 
 pub one_trace_of : (bytes : List ℕ) (verdict : Verdict) → IsVerdictOf bytes verdict → IfYes (λ order. (trace : Recording) × SpellsAlone bytes trace) verdict
 one_trace_of bytes verdict is = part_of bytes (λ order. (trace : Recording) × SpellsAlone bytes trace) verdict is (λ order right. (right.trace, right.spelled))
+
+pub events_of : (bytes : List ℕ) (verdict : Verdict) → IsVerdictOf bytes verdict → IfYes (λ order. IsSpelledWith bytes IsWellFormedHistory) verdict
+events_of bytes verdict is =
+    part_of bytes (λ order. IsSpelledWith bytes IsWellFormedHistory) verdict is (λ order right. (right.trace, right.spelled, right.events))
 
 pub members_of : (bytes : List ℕ) (verdict : Verdict) → IsVerdictOf bytes verdict
     → IfYes (λ order. IsSpelledWith bytes (λ trace. HasItsCalls trace order)) verdict

@@ -3,6 +3,7 @@ use Rattle.std.specs.Prelude.{◌≡◌, ℕ, List, slice_get, Some}
 use Rattle.vs_walk.specs.Dump.{Image}
 use Rattle.nr_trace.specs.Recording.{Recording}
 use Rattle.nr_trace.specs.Spelling.{Spells}
+use Rattle.nr_trace.specs.Calls.{IsWellFormedHistory}
 use Rattle.nr_trace.specs.Orders.{HasItsCalls, KeepsPrecedence, HasTheAnswers, FitsOrder}
 
 -- the bytes spell the trace and no other
@@ -18,12 +19,13 @@ HasFittingDumps trace order = (replica : ℕ) (dump : Image) → slice_get trace
 abbrev pub IsSpelledWith : List ℕ → (Recording → Type 0) → Type 0
 IsSpelledWith bytes P = (trace : Recording) × SpellsAlone bytes trace × P trace
 
--- the bytes are right with the order: they spell one trace; all its answered calls and some unanswered updates stand in the
--- order, each once; a call answered before another was made comes first; each answer is that of one sequential address
--- space; and each dump translates every address as that space does after some of the updates
+-- the bytes are right with the order: they spell one trace; its events are a well-formed history; all its answered calls and some
+-- unanswered updates stand in the order, each once; a call answered before another was made comes first; each answer is that of one
+-- sequential address space; and each dump translates every address as that space does after some of the updates
 pub record AreRightWith (bytes : List ℕ) (order : List ℕ) : Type 0 where
   pub trace : Recording
   pub spelled : SpellsAlone bytes trace
+  pub events : IsWellFormedHistory trace
   pub members : HasItsCalls trace order
   pub precedence : KeepsPrecedence trace order
   pub answers : HasTheAnswers trace order

@@ -1,4 +1,5 @@
 ghost use Rattle.std.specs.Prelude.{◌≡◌, ℕ, IfOk, List};
+ghost use Rattle.nr_trace.specs.Calls.{IsWellFormedHistory};
 ghost use Rattle.nr_trace.specs.Feed.{Reads};
 ghost use Rattle.nr_trace.specs.Faults.{IsFirst, IsFirstOf};
 ghost use Rattle.nr_trace.specs.Laws.{IsFaultless};
@@ -18,9 +19,10 @@ use vs_types::{Fail, Memory};
 /// Whether a trace is right: `Yes` with the recorded order of its calls where none of the faults holds, else `No` with the
 /// first. The recorded order has the updates by place, and each answered read after the entries that it saw.
 ///
-/// `Yes` says that the trace is linearizable, by this order: it has all answered calls and some unanswered updates, each
-/// once, a call answered before another was made comes first, and each answer is that of one sequential address space;
-/// and that each dump translates every canonical address as that space does after so many updates as the replica had
+/// `Yes` says that the events are a well-formed history: each reply answers an earlier call, a call has one reply at most, and a
+/// thread has one call open at a time. And that it is linearizable, by this order, which has all answered calls and some unanswered
+/// updates, each once: a call answered before another was made comes first, and each answer is that of one sequential address
+/// space. And that each dump translates every canonical address as that space does after so many updates as the replica had
 /// applied. `No` does not say that no other order explains the trace.
 ///
 /// Takes memory beside the trace: at most 16 bytes for each event and 4 for each thread; and, when these are given back but
@@ -35,6 +37,7 @@ pub fn judge(alloc: Global, trace: &Trace) -> Result<Verdict, Memory>
         → IfOk result (λ verdict. verdict ≡ Verdict.Yes (recorded_order trace.now)) }
     ensures no { (fault : Fault) → IsFirst trace.now fault
         → IfOk result (λ verdict. verdict ≡ Verdict.No fault) }
+    ensures events { IfOk result (IfYes (λ order. IsWellFormedHistory trace.now)) }
     ensures members { IfOk result (IfYes (HasItsCalls trace.now)) }
     ensures precedence { IfOk result (IfYes (KeepsPrecedence trace.now)) }
     ensures answers { IfOk result (IfYes (HasTheAnswers trace.now)) }
@@ -82,6 +85,8 @@ pub fn audit(alloc: Global, bytes: &[u8]) -> Result<Verdict, Memory>
     ensures right { IfOk result (IfYes (AreRightWith bytes.now)) }
     ensures one_trace { IfOk result
         (IfYes (λ order. (trace : Recording) × SpellsAlone bytes.now trace)) }
+    ensures events { IfOk result
+        (IfYes (λ order. IsSpelledWith bytes.now IsWellFormedHistory)) }
     ensures members { IfOk result
         (IfYes (λ order. IsSpelledWith bytes.now (λ trace. HasItsCalls trace order))) }
     ensures precedence { IfOk result

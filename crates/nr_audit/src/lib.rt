@@ -8,6 +8,7 @@
 mod answers;
 mod calls;
 mod dumps;
+pub mod examples;
 mod floors;
 mod history;
 mod judging;

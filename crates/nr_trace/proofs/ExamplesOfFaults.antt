@@ -3,16 +3,17 @@ use Rattle.std.proofs.Common.{◌≢◌, ℕ, zero, suc, ◌<◌, [], ◌∷◌,
 use Rattle.std.proofs.lemmas.Bool.{false≢true}
 use Rattle.std.proofs.lemmas.Option.{none-some}
 use Rattle.vs_types.specs.declared.answer.Answer.{Answer}
-use Rattle.vs_types.specs.declared.answer.Answer.TheVariants.{Done, Mapped, Allowed, Fault}
+use Rattle.vs_types.specs.declared.answer.Answer.TheVariants.{Done, NotMapped, Mapped, Allowed, Fault}
 use Rattle.vs_types.specs.declared.page.Size.TheVariants.{K4}
-use Rattle.nr_trace.specs.Calls.{Answers, IsCall}
+use Rattle.nr_trace.specs.Calls.{Answers, IsCall, IsWellFormedHistory}
 use Rattle.nr_trace.specs.Faults.{HasFault}
 use Rattle.vs_walk.specs.Walk.{all_rights}
 use Rattle.nr_trace.specs.Examples.{map_it, resolve_it, access_it, access_refused, looks_mapped, dump_of_page, with_log, with_replies, without_first_reply}
-use Rattle.nr_trace.specs.Examples.{with_applied}
+use Rattle.nr_trace.specs.Examples.{with_applied, answered_again}
 use Rattle.nr_trace.specs.declared.fault.Fault.TheVariants.{ThreadOpen, NoSuchCall, AnsweredTwice, NotAnUpdate, PlacedTwice, NotPlaced, PastLog, WrongAnswer}
 use Rattle.nr_trace.specs.declared.fault.Fault.TheVariants.{PrefixPastLog, PrefixShort}
 use Rattle.nr_trace.proofs.ExamplesOfAnswers.{resolve_answer, access_answer}
+use Rattle.nr_trace.proofs.LawsOfHistories.{no_call_fault}
 
 pub not_an_update : HasFault (with_log (2 ∷ [])) (NotAnUpdate 0)
 not_an_update = (2, refl, λ h. cc)
@@ -33,6 +34,12 @@ no_such_call = (record { call = 1; at = 1; answer = looks_mapped }, refl, λ h. 
 
 pub answered_twice : HasFault (with_replies 0 0 1 0x1123) (AnsweredTwice 3)
 answered_twice = (record { call = 0; at = 1; answer = looks_mapped }, refl, (1, lit< tt, refl))
+
+pub again : HasFault answered_again (AnsweredTwice 4)
+again = (record { call = 2; at = 1; answer = NotMapped }, refl, (3, lit< tt, refl))
+
+pub no_history : IsWellFormedHistory answered_again → ⊥
+no_history history = (no_call_fault answered_again history 4).2 again
 
 not_answered : (reply : ℕ) → reply < 1 → Answers without_first_reply reply 0 → ⊥
 not_answered zero l h = cc

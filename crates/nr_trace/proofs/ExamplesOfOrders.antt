@@ -1,11 +1,14 @@
--- The order of `map_then_resolve` is legal.
+-- The order of `map_then_resolve` is legal, also where more replies follow.
 use Rattle.std.proofs.Common.{◌≡◌, ℕ, zero, suc, ◌<◌, List, [], ◌∷◌, Contains, Some, refl, ap, sym, ◌∙◌, subst, arith, inl, inr, ◌⊎◌, ⊎_elim}
 use Rattle.std.specs.List.{IsDistinct}
 use Rattle.std.specs.Prelude.{nat_eq}
 use Rattle.std.proofs.lemmas.Option.{same_Some}
 use Rattle.nr_trace.specs.Calls.{Invocation, Response, IsCall, IsAnswered, Answers, Precedes, call_of, reply_to}
 use Rattle.nr_trace.specs.Orders.{before, space_after, answer_in, IsLegalOrder}
-use Rattle.nr_trace.specs.Examples.{map_then_resolve}
+use Rattle.nr_trace.specs.Examples.{map_then_resolve, with_more, answered_again}
+use Rattle.nr_trace.specs.declared.event.Event.{Event}
+use Rattle.nr_trace.specs.declared.event.Event.TheVariants.{Reply}
+use Rattle.vs_types.specs.declared.answer.Answer.TheVariants.{NotMapped}
 use Rattle.nr_trace.proofs.ExamplesOfAnswers.{map_answer, resolve_answer}
 
 abbrev order : List ℕ
@@ -29,57 +32,67 @@ members call (zero, l, e) = inl (sym e)
 members call (suc zero, l, e) = inr (sym e)
 members call (suc (suc k), l, e) = absurd (omega arith)
 
-calls : (call : ℕ) → IsCall map_then_resolve call → Either call
-calls zero h = inl refl
-calls (suc zero) h = absurd cc
-calls (suc (suc zero)) h = inr refl
-calls (suc (suc (suc zero))) h = absurd cc
-calls (suc (suc (suc (suc n)))) h = absurd cc
-
 -- what holds of both calls
 both : (P : ℕ → Type 0) → P 0 → P 2 → (call : ℕ) → Either call → P call
 both P p q call e = ⊎_elim (λ (h : call ≡ 0). subst P (sym h) p) (λ (h : call ≡ 2). subst P (sym h) q) e
 
-not_answered_before : (index : ℕ) → index < 2 → Answers map_then_resolve index 2 → ⊥
-not_answered_before zero l h = cc
-not_answered_before (suc zero) l h = cc
-not_answered_before (suc (suc n)) l h = omega arith
+module _ (more : List Event) (none_more : (n : ℕ) → IsCall (with_more more) (suc (suc (suc (suc n)))) → ⊥) where
+  calls : (call : ℕ) → IsCall (with_more more) call → Either call
+  calls zero h = inl refl
+  calls (suc zero) h = absurd cc
+  calls (suc (suc zero)) h = inr refl
+  calls (suc (suc (suc zero))) h = absurd cc
+  calls (suc (suc (suc (suc n)))) h = absurd (none_more n h)
 
-precedes : (first second : ℕ) → Either first → Either second → Precedes map_then_resolve first second → Contains (before second order) first
-precedes first second a b = both (λ first. Precedes map_then_resolve first second → Contains (before second order) first)
-    (both (λ second. Precedes map_then_resolve 0 second
-    → Contains (before second order) 0) (λ p. absurd (none_before p.1 p.2)) (λ p. (0, grind arith, refl)) second b)
-    (both (λ second. Precedes map_then_resolve 2 second
-    → Contains (before second order) 2) (λ p. absurd (none_before p.1 p.2)) (λ p. absurd (not_answered_before p.1 p.2 p.3)) second b)
-    first a where
-      none_before : (index : ℕ) → index < 0 → ⊥
-      none_before index h = omega arith
+  not_answered_before : (index : ℕ) → index < 2 → Answers (with_more more) index 2 → ⊥
+  not_answered_before zero l h = cc
+  not_answered_before (suc zero) l h = cc
+  not_answered_before (suc (suc n)) l h = omega arith
 
-abbrev Right : ℕ → Type 0
-Right call = (made : Invocation) (reply : Response) → call_of map_then_resolve call ≡ Some made → reply_to map_then_resolve call ≡ Some reply
-    → reply.answer ≡ answer_in map_then_resolve.layout (space_after map_then_resolve (before call order)) made.request
+  precedes : (first second : ℕ) → Either first → Either second → Precedes (with_more more) first second → Contains (before second order) first
+  precedes first second a b = both (λ first. Precedes (with_more more) first second → Contains (before second order) first)
+      (both (λ second. Precedes (with_more more) 0 second
+      → Contains (before second order) 0) (λ p. absurd (none_before p.1 p.2)) (λ p. (0, grind arith, refl)) second b)
+      (both (λ second. Precedes (with_more more) 2 second
+      → Contains (before second order) 2) (λ p. absurd (none_before p.1 p.2)) (λ p. absurd (not_answered_before p.1 p.2 p.3)) second b)
+      first a where
+        none_before : (index : ℕ) → index < 0 → ⊥
+        none_before index h = omega arith
 
-first_right : Right 0
-first_right made reply e f =
-    ap (λ (r : Response). r.answer) (sym (same_Some _ reply f)) ∙ sym map_answer
-    ∙ ap (λ (m : Invocation). answer_in map_then_resolve.layout (space_after map_then_resolve []) m.request) (same_Some _ made e)
+  abbrev Right : ℕ → Type 0
+  Right call = (made : Invocation) (reply : Response) → call_of (with_more more) call ≡ Some made → reply_to (with_more more) call ≡ Some reply
+      → reply.answer ≡ answer_in map_then_resolve.layout (space_after (with_more more) (before call order)) made.request
 
-second_right : Right 2
-second_right made reply e f =
-    ap (λ (r : Response). r.answer) (sym (same_Some _ reply f)) ∙ sym resolve_answer
-    ∙ ap (λ (m : Invocation). answer_in map_then_resolve.layout (space_after map_then_resolve (0 ∷ [])) m.request) (same_Some _ made e)
+  first_right : Right 0
+  first_right made reply e f =
+      ap (λ (r : Response). r.answer) (sym (same_Some _ reply f)) ∙ sym map_answer
+      ∙ ap (λ (m : Invocation). answer_in map_then_resolve.layout (space_after (with_more more) []) m.request) (same_Some _ made e)
 
-is_a_call : (call : ℕ) (made : Invocation) → call_of map_then_resolve call ≡ Some made → IsCall map_then_resolve call
-is_a_call call made e = rw e refl
+  second_right : Right 2
+  second_right made reply e f =
+      ap (λ (r : Response). r.answer) (sym (same_Some _ reply f)) ∙ sym resolve_answer
+      ∙ ap (λ (m : Invocation). answer_in map_then_resolve.layout (space_after (with_more more) (0 ∷ [])) m.request) (same_Some _ made e)
+
+  is_a_call : (call : ℕ) (made : Invocation) → call_of (with_more more) call ≡ Some made → IsCall (with_more more) call
+  is_a_call call made e = rw e refl
+
+  pub legal_with : IsLegalOrder (with_more more) order
+  legal_with = record {
+    members = record {
+      once = distinct;
+      calls = λ call m. both (IsCall (with_more more)) refl refl call (members call m);
+      answered = λ call c a. both (Contains order) holds_first holds_second call (calls call c);
+      others = λ call m. inl (both (IsAnswered (with_more more)) refl refl call (members call m));
+    };
+    precedence = λ first second a b. precedes first second (members first a) (members second b);
+    answers = λ call made reply e f. both Right first_right second_right call (calls call (is_a_call call made e)) made reply e f;
+  }
 
 pub legal : IsLegalOrder map_then_resolve order
-legal = record {
-  members = record {
-    once = distinct;
-    calls = λ call m. both (IsCall map_then_resolve) refl refl call (members call m);
-    answered = λ call c a. both (Contains order) holds_first holds_second call (calls call c);
-    others = λ call m. inl (both (IsAnswered map_then_resolve) refl refl call (members call m));
-  };
-  precedence = λ first second a b. precedes first second (members first a) (members second b);
-  answers = λ call made reply e f. both Right first_right second_right call (calls call (is_a_call call made e)) made reply e f;
-}
+legal = legal_with [] (λ n h. absurd cc)
+
+pub legal_again : IsLegalOrder answered_again order
+legal_again = legal_with (Reply 2 1 NotMapped ∷ []) none_more where
+  none_more : (n : ℕ) → IsCall answered_again (suc (suc (suc (suc n)))) → ⊥
+  none_more zero h = cc
+  none_more (suc n) h = cc

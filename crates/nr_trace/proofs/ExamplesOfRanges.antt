@@ -1,12 +1,17 @@
--- The recording of `map_then_resolve` keeps all ranges.
-use Rattle.std.proofs.Common.{◌≡◌, ℕ, ◌-◌, ◌<◌, ◌≤◌, ◌^◌, List, [], ◌∷◌, length, map, replicate, All, refl, sym, subst, lit<, lit≤}
+-- The recording of `map_then_resolve` keeps all ranges, also with a second reply.
+use Rattle.std.proofs.Common.{◌≡◌, ℕ, ◌-◌, ◌<◌, ◌≤◌, ◌^◌, List, [], ◌∷◌, ◌++◌, length, map, replicate, All, refl, sym, subst, lit<, lit≤}
 use Rattle.std.specs.FinMap as finite
+use Rattle.std.specs.List.{AllByRecursion}
 use Rattle.std.proofs.lemmas.List.Elements.{All-from_recursion, All-cons, All-append, All-replicate}
 use Rattle.vs_types.specs.Config.{Layout, IsLayout}
 use Rattle.vs_types.specs.Frame.{IsFrame}
 use Rattle.nr_trace.specs.Recording.{IsRecording, IsEvent, IsImage}
 use Rattle.nr_trace.specs.declared.version.Version.TheVariants.{V1}
-use Rattle.nr_trace.specs.Examples.{map_then_resolve, frames_of_page, dump_of_page, frame_with}
+use Rattle.nr_trace.specs.Examples.{map_then_resolve, with_more, answered_again, frames_of_page, dump_of_page, frame_with}
+use Rattle.nr_trace.specs.declared.event.Event.{Event}
+use Rattle.nr_trace.specs.declared.event.Event.TheVariants.{Reply}
+use Rattle.vs_types.specs.declared.answer.Answer.TheVariants.{NotMapped}
+use Rattle.vs_types.specs.declared.limits.TheConstants.{CALLS}
 use Rattle.nr_trace.specs.Spelling.{spelling, Spells}
 use Rattle.nr_trace.proofs.ExamplesOfSpelling.{entries_of_page, len_of_page}
 
@@ -57,26 +62,35 @@ layout_fits = record {
   few_tables = lit≤ tt;
 }
 
-pub in_range : IsRecording map_then_resolve
-in_range = record {
+abbrev EventsFit : List Event → Type 0
+EventsFit events = AllByRecursion (IsEvent V1 layout) events
+
+first_events_fit : (more : List Event) → EventsFit more → EventsFit (map_then_resolve.events ++ more)
+first_events_fit more fit = (
+  (lit< tt, lit< tt, record { canonical = refl; aligned = refl; phys_aligned = refl; phys_range = lit≤ tt }, tt),
+  (
+    (lit< tt, lit< tt, tt, tt),
+    (
+      (lit< tt, lit< tt, refl, tt),
+      ((lit< tt, lit< tt, lit< tt, tt), fit),
+    ),
+  ),
+)
+
+in_range : (more : List Event) → length (map_then_resolve.events ++ more) ≤ CALLS → EventsFit more → IsRecording (with_more more)
+in_range more few fit = record {
   layout = layout_fits;
   depth = tt;
   few_places = lit≤ tt;
   log = All-from_recursion (λ call. call < 2 ^ 32) map_then_resolve.log (lit< tt, tt);
-  few_events = lit≤ tt;
-  events = All-from_recursion (IsEvent V1 layout) map_then_resolve.events (
-    (lit< tt, lit< tt, record { canonical = refl; aligned = refl; phys_aligned = refl; phys_range = lit≤ tt }, tt),
-    (
-      (lit< tt, lit< tt, tt, tt),
-      (
-        (lit< tt, lit< tt, refl, tt),
-        ((lit< tt, lit< tt, lit< tt, tt), tt),
-      ),
-    ),
-  );
+  few_events = few;
+  events = All-from_recursion (IsEvent V1 layout) (map_then_resolve.events ++ more) (first_events_fit more fit);
   one_dump_each = refl;
   dumps = All-from_recursion IsImage map_then_resolve.dumps (dump_fits, tt);
 }
 
 pub spelled : Spells (spelling map_then_resolve) map_then_resolve
-spelled = record { in_range = in_range; spelled = refl }
+spelled = record { in_range = in_range [] (lit≤ tt) tt; spelled = refl }
+
+pub spelled_again : Spells (spelling answered_again) answered_again
+spelled_again = record { in_range = in_range (Reply 2 1 NotMapped ∷ []) (lit≤ tt) ((lit< tt, lit< tt, tt, tt), tt); spelled = refl }

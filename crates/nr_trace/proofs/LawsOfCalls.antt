@@ -9,9 +9,10 @@ use Rattle.vs_types.specs.declared.request.Query.TheVariants.{Update, Resolve, A
 use Rattle.nr_trace.specs.Recording.{Recording}
 use Rattle.nr_trace.specs.Calls.{Invocation, made_by, call_of, operation_in, address_in, operation_of, IsCall, IsUpdate, IsRead, Response, reply_in, reply_of}
 use Rattle.nr_trace.specs.Calls.{reply_to, Answers}
-use Rattle.nr_trace.specs.Faults.{StandsAfter}
+use Rattle.nr_trace.specs.Faults.{HasFault, StandsAfter}
 use Rattle.nr_trace.specs.Laws.{HasCleanLog}
 use Rattle.nr_trace.specs.declared.event.Event.{Event}
+use Rattle.nr_trace.specs.declared.fault.Fault.TheVariants.{NoSuchCall}
 use Rattle.nr_trace.proofs.LawsOfLists.{first_given, given_first}
 
 -- ---- options
@@ -23,7 +24,7 @@ the_some (Some x) h = (x, refl)
 pub is_some_from : {A : Type 0} (o : Option A) (x : A) → o ≡ Some x → IsSome o
 is_some_from o x e = rw e refl
 
-some_or_none : {A : Type 0} (o : Option A) → IsSome o ⊎ (o ≡ None)
+pub some_or_none : {A : Type 0} (o : Option A) → IsSome o ⊎ (o ≡ None)
 some_or_none None = inr refl
 some_or_none (Some x) = inl refl
 
@@ -137,18 +138,22 @@ reply_is_first trace index reply clean e =
     given_first (naming reply.call) trace.events reply index event at (naming_it reply.call (reply_in event) reply is refl)
     (λ j l. naming_none reply.call (slice_get trace.events j) (λ h. clean.none_twice index (reply, e, (j, l, h))))
 
--- a reply comes after its call
-pub reply_behind_call : (trace : Recording) (index : ℕ) (reply : Response) → HasCleanLog trace → reply_of trace index ≡ Some reply
+-- a reply to a call that there is comes after it
+pub behind_its_call : (trace : Recording) (index : ℕ) (reply : Response) → (HasFault trace (NoSuchCall index) → ⊥) → reply_of trace index ≡ Some reply
     → (reply.call < index) × IsCall trace reply.call
-reply_behind_call trace index reply clean e = by_order (cases_lt reply.call index) (some_or_none (call_of trace reply.call)) where
+behind_its_call trace index reply such e = by_order (cases_lt reply.call index) (some_or_none (call_of trace reply.call)) where
   too_late : reply.call < index → index ≤ reply.call → ⊥
   too_late h l = omega arith
 
   by_order : (reply.call < index) ⊎ (index ≤ reply.call) → IsCall trace reply.call ⊎ (call_of trace reply.call ≡ None)
       → (reply.call < index) × IsCall trace reply.call
   by_order (inl l) (inl c) = (l, c)
-  by_order (inl l) (inr n) = absurd (clean.no_such_call index (reply, e, λ h. both_ways (is_some (call_of trace reply.call)) (ap is_some n) h.1))
-  by_order (inr l) c = absurd (clean.no_such_call index (reply, e, λ h. too_late h.0 l))
+  by_order (inl l) (inr n) = absurd (such (reply, e, λ h. both_ways (is_some (call_of trace reply.call)) (ap is_some n) h.1))
+  by_order (inr l) c = absurd (such (reply, e, λ h. too_late h.0 l))
+
+pub reply_behind_call : (trace : Recording) (index : ℕ) (reply : Response) → HasCleanLog trace → reply_of trace index ≡ Some reply
+    → (reply.call < index) × IsCall trace reply.call
+reply_behind_call trace index reply clean e = behind_its_call trace index reply (clean.no_such_call index) e
 
 -- ---- places
 

@@ -9,10 +9,10 @@ pub mod Whole
 mod ExamplesOfSpelling
 mod ExamplesOfAnswers
 mod ExamplesOfOrders
-mod ExamplesOfFaults
+pub mod ExamplesOfFaults
 mod ExamplesOfDumps
 mod ExamplesOfFormats
-mod ExamplesOfRanges
+pub mod ExamplesOfRanges
 pub mod LawsOfUnits
 pub mod LawsOfSpelling
 pub mod LawsOfLength
@@ -24,6 +24,7 @@ pub mod UnitsOfBytes
 pub mod LawsOfBytes
 pub mod LawsOfLists
 pub mod LawsOfCalls
+pub mod LawsOfHistories
 pub mod LawsOfOrder
 pub mod LawsOfPrecedence
 pub mod LawsOfFaults

@@ -1,5 +1,5 @@
 -- The calls of a trace: what they ask, how they are answered, and which was answered before another was made.
-use Rattle.std.specs.Prelude.{ℕ, ◌<◌, ◌==◌, slice_get, filter_map, Option, Some, None, option_and_then, IsSome, if◌then◌else◌}
+use Rattle.std.specs.Prelude.{◌≡◌, ℕ, ◌<◌, ◌==◌, slice_get, filter_map, Option, Some, None, option_and_then, IsSome, if◌then◌else◌}
 use Rattle.vs_types.specs.declared.answer.Answer.{Answer}
 use Rattle.vs_types.specs.declared.op.Action.{Action}
 use Rattle.vs_types.specs.declared.request.Query.{Query}
@@ -79,3 +79,11 @@ Answers trace index call = IsSome (option_and_then (names call) (reply_of trace 
 -- a reply to the first call stands before the second call is made
 abbrev pub Precedes : Recording → ℕ → ℕ → Type 0
 Precedes trace first second = IsCall trace second × (index : ℕ) × (index < second) × Answers trace index first
+
+-- the events are those of threads that wait for each reply: every reply answers an earlier call, a call has one reply at most, and of
+-- two calls of one thread a reply to the first stands before the second
+pub record IsWellFormedHistory (trace : Recording) : Type 0 where
+  pub of_calls : (index : ℕ) (reply : Response) → reply_of trace index ≡ Some reply → (reply.call < index) × IsCall trace reply.call
+  pub once : (first second call : ℕ) → Answers trace first call → Answers trace second call → first ≡ second
+  pub one_open : (first second : ℕ) (made next : Invocation) → first < second → call_of trace first ≡ Some made → call_of trace second ≡ Some next
+      → made.thread ≡ next.thread → Precedes trace first second

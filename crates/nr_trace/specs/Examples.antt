@@ -17,6 +17,7 @@ use Rattle.vs_walk.specs.Walk.{all_rights}
 use Rattle.vs_walk.specs.Dump.{Image}
 use Rattle.nr_trace.specs.Recording.{Recording}
 use Rattle.nr_trace.specs.declared.version.Version.TheVariants.{V1, V2}
+use Rattle.nr_trace.specs.declared.event.Event.{Event}
 use Rattle.nr_trace.specs.declared.event.Event.TheVariants.{Call, Reply}
 
 -- a frame with this word at this index, and else zeros
@@ -110,7 +111,8 @@ unanswered_left_out = record {
   dumps = dump_of_page ∷ [];
 }
 
--- `map_then_resolve` with another log, with other replies, without the first reply, and with a dump that says another prefix
+-- `map_then_resolve` with another log, with other replies, without the first reply, with more events, and with a dump that says
+-- another prefix
 abbrev pub with_log : List ℕ → Recording
 with_log log = record map_then_resolve { log = log }
 
@@ -120,6 +122,9 @@ with_replies place call entries phys =
 
 abbrev pub without_first_reply : Recording
 without_first_reply = record map_then_resolve { events = Call 0 0 map_it ∷ Call 0 0 resolve_it ∷ Reply 1 1 looks_mapped ∷ [] }
+
+abbrev pub with_more : List Event → Recording
+with_more events = record map_then_resolve { events = map_then_resolve.events ++ events }
 
 abbrev pub with_applied : ℕ → Recording
 with_applied applied = record map_then_resolve { dumps = record dump_of_page { applied = applied } ∷ [] }
@@ -140,6 +145,10 @@ map_then_access = with_access (Allowed 0x1123)
 
 abbrev pub access_refused : Recording
 access_refused = with_access (Fault 7)
+
+-- the read is answered again, otherwise
+abbrev pub answered_again : Recording
+answered_again = with_more (Reply 2 1 NotMapped ∷ [])
 
 -- nothing is recorded, and the one dump has these frames, from root 1 on
 abbrev pub dump_of : Memory → Image

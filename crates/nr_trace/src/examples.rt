@@ -5,7 +5,8 @@ ghost use Rattle.nr_trace.specs.Examples.{empty_dump, missing_frame, nothing_rec
 ghost use Rattle.nr_trace.specs.FirstFault.{HasFormatFault};
 ghost use Rattle.nr_trace.specs.Laws.{IsFaultless};
 ghost use Rattle.nr_trace.specs.declared.fault.Format.TheVariants.{BadMagic, BadVersion, Trailing, Truncated};
-ghost use Rattle.nr_trace.specs.Examples.{access_it, access_refused, as_version_2, looks_mapped, map_it, map_then_access, map_then_resolve};
+ghost use Rattle.nr_trace.specs.Calls.{IsWellFormedHistory};
+ghost use Rattle.nr_trace.specs.Examples.{access_it, access_refused, answered_again, as_version_2, looks_mapped, map_it, map_then_access, map_then_resolve};
 ghost use Rattle.nr_trace.specs.Examples.{map_then_resolve_bytes, read_before_and_after, resolve_it, stale_read, unanswered_left_out, unanswered_too_early};
 ghost use Rattle.nr_trace.specs.Examples.{with_applied, with_log, with_replies, without_first_reply};
 ghost use Rattle.nr_trace.specs.Faults.{HasFault};
@@ -85,6 +86,15 @@ pub fn one_fault_each()
     ensures wrong_answer { HasFault (with_replies 0 2 1 0x1124) (WrongAnswer 2) }
     ensures prefix_past_log { HasFault (with_applied 2) (PrefixPastLog 0) }
     ensures prefix_short { HasFault (with_applied 0) (PrefixShort 0) }
+{}
+
+/// A second reply to the read, with another answer: the order has the first one's, and is as legal as before. But no call has two
+/// replies in a well-formed history.
+pub fn answered_again_is_no_history()
+    ensures legal { IsLegalOrder answered_again (0 ∷ 2 ∷ []) }
+    ensures history { IsWellFormedHistory answered_again → ⊥ }
+    ensures fault { HasFault answered_again (AnsweredTwice 4) }
+    ensures spelled { Spells (spelling answered_again) answered_again }
 {}
 
 /// A read that asks for rights stands in the order like one that resolves, and is allowed what the page allows.

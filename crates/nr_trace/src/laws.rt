@@ -10,7 +10,7 @@ ghost use Rattle.vs_types.specs.declared.refusal.Fail.TheVariants.{Memory};
 ghost use Rattle.vs_types.specs.Space.{no_pages};
 ghost use Rattle.vs_types.specs.Step.{step};
 ghost use Rattle.vs_types.specs.declared.op.Action.{Action};
-ghost use Rattle.nr_trace.specs.Calls.{operation_of, reply_of, reply_to, Response};
+ghost use Rattle.nr_trace.specs.Calls.{operation_of, reply_of, reply_to, IsWellFormedHistory, Response};
 ghost use Rattle.nr_trace.specs.FirstFault.{HasFormatFault};
 ghost use Rattle.nr_trace.specs.Feed.{Ends, Fed, FeedsAll, Reads};
 ghost use Rattle.nr_trace.specs.Feed.Fed.{Taken};
@@ -20,7 +20,7 @@ ghost use Rattle.nr_trace.specs.Orders.{before, floor, known_by, recorded_order,
 ghost use Rattle.nr_trace.specs.Recording.{Recording};
 ghost use Rattle.nr_trace.specs.Spelling.{Spells};
 ghost use Rattle.nr_trace.specs.declared.fault.Fault.{Fault};
-ghost use Rattle.nr_trace.specs.declared.fault.Fault.TheVariants.{Early, WrongAnswer};
+ghost use Rattle.nr_trace.specs.declared.fault.Fault.TheVariants.{AnsweredTwice, Early, NoSuchCall, ThreadOpen, WrongAnswer};
 ghost use Rattle.nr_trace.specs.declared.fault.Format.{Format};
 ghost use Rattle.nr_trace.specs.declared.fault.Format.TheVariants.{Trailing, Truncated};
 
@@ -59,6 +59,13 @@ pub fn pieces_are_read_as_one()
         → first ≢ Err Memory → second ≢ Err Memory → first ≡ second }
 {}
 
+/// A history is well formed exactly where none of faults 2 to 4 holds at any event.
+pub fn well_formed_histories_have_no_call_fault()
+    ensures { (trace : Recording) → IsWellFormedHistory trace
+        ↔ ((index : ℕ) → (HasFault trace (ThreadOpen index) → ⊥)
+        × (HasFault trace (NoSuchCall index) → ⊥) × (HasFault trace (AnsweredTwice index) → ⊥)) }
+{}
+
 /// Where no fault holds of the events, the log and the replies' places, and no answer is wrong, the recorded order is
 /// legal but for precedence.
 pub fn recorded_order_is_serial()
@@ -94,8 +101,9 @@ pub fn one_first_fault_of_bytes()
         → IsFirstOf bytes second → first ≡ second }
 {}
 
-/// Where no fault holds of a recording, the recorded order is legal, and each dump fits it.
+/// Where no fault holds of a recording, its history is well formed, the recorded order is legal, and each dump fits it.
 pub fn faultless_recordings_have_an_order()
+    ensures history { (trace : Recording) → IsFaultless trace → IsWellFormedHistory trace }
     ensures legal { (trace : Recording) → IsFaultless trace
         → IsLegalOrder trace (recorded_order trace) }
     ensures fits { (trace : Recording) (replica : ℕ) (dump : Image) → IsFaultless trace

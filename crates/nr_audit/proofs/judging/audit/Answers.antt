@@ -1,10 +1,11 @@
 use Rattle.std.proofs.Common.{◌≡◌}
 use Rattle.std.proofs.lemmas.Result.{IfOk-weaker}
+use Rattle.nr_trace.specs.Calls.{IsWellFormedHistory}
 use Rattle.nr_trace.specs.Orders.{recorded_order, HasTheAnswers, KeepsPrecedence}
 use Rattle.nr_audit.specs.Headline.{IsSpelledWith}
 use Rattle.nr_audit.specs.Verdict.{IfYes, IsVerdictOf}
 use Rattle.nr_audit.specs.declared.verdict.Verdict.TheVariants.{Yes, No}
-use Rattle.nr_audit.proofs.PartsOfVerdicts.{read_so, yes_of, no_of, precedence_of, answers_of}
+use Rattle.nr_audit.proofs.PartsOfVerdicts.{read_so, yes_of, no_of, events_of, precedence_of, answers_of}
 use Rattle.nr_audit.proofs.judging.audit.Goals as goal
 
 pub returns-clause-yes : goal.returns-clause-yes
@@ -19,6 +20,13 @@ returns-clause-no c = λ fault first.
     let bytes = c.args.bytes.now in
     IfOk-weaker c.judge_read.result (IsVerdictOf bytes) (λ verdict. verdict ≡ No fault)
     (λ verdict is. no_of bytes verdict fault is first)
+    (c.judge_read.ensures.verdict bytes (read_so bytes c.read.result c.read.ensures.spelled c.read.ensures.refused))
+
+pub returns-clause-events : goal.returns-clause-events
+returns-clause-events c =
+    let bytes = c.args.bytes.now in
+    IfOk-weaker c.judge_read.result (IsVerdictOf bytes) (IfYes (λ order. IsSpelledWith bytes IsWellFormedHistory))
+    (λ verdict is. events_of bytes verdict is)
     (c.judge_read.ensures.verdict bytes (read_so bytes c.read.result c.read.ensures.spelled c.read.ensures.refused))
 
 pub returns-clause-precedence : goal.returns-clause-precedence

@@ -1,5 +1,9 @@
 use Rattle.nr_trace.proofs.LawsOfDumps.{legal_if_faultless, fits_if_faultless}
+use Rattle.nr_trace.proofs.LawsOfHistories.{history_if_faultless}
 use Rattle.nr_trace.proofs.laws.faultless_recordings_have_an_order.Goals as goal
+
+pub returns-clause-history : goal.returns-clause-history
+returns-clause-history c = λ trace faultless. history_if_faultless trace faultless
 
 pub returns-clause-legal : goal.returns-clause-legal
 returns-clause-legal c = λ trace faultless. legal_if_faultless trace faultless
