@@ -13,7 +13,7 @@ use nr_dump::{DumpFault, check};
 use nr_trace::{Fault, Trace};
 use std::alloc::Global;
 use vs_plain::PlainSpace;
-use vs_types::{Fail, Memory};
+use vs_types::{Fail, Memory, REPLICAS};
 use vs_walk::Dump;
 
 /// The fault of a dump as that of its replica.
@@ -47,7 +47,7 @@ fn compare_dumps(
     trace: &Trace,
     applied: usize,
     space: &PlainSpace,
-    faults: &mut [Option<DumpFault>; 4],
+    faults: &mut [Option<DumpFault>; REPLICAS as usize],
 ) -> Result<(), Memory>
     requires { space.now
         ≡ space_of trace.now.layout (space_after trace.now (take applied trace.now.log)) }
@@ -69,11 +69,11 @@ fn compare_whole(
     alloc: Global,
     trace: &Trace,
     space: PlainSpace,
-) -> Result<[Option<DumpFault>; 4], Memory>
+) -> Result<[Option<DumpFault>; REPLICAS as usize], Memory>
     requires { space ≡ space_of trace.now.layout (space_after trace.now trace.now.log) }
     ensures { IfOk result (AreFound trace.now 0) }
 {
-    let mut faults = [None; 4];
+    let mut faults = [None; REPLICAS as usize];
     compare_dumps(alloc, trace, trace.log().len(), &space, &mut faults)?;
     Ok(faults)
 }
@@ -115,7 +115,7 @@ fn apply_place(trace: &Trace, space: &mut PlainSpace, place: usize) -> Result<()
 fn compare_shorter(
     alloc: Global,
     trace: &Trace,
-    faults: &mut [Option<DumpFault>; 4],
+    faults: &mut [Option<DumpFault>; REPLICAS as usize],
 ) -> Result<(), Memory>
     requires { AreFound trace.now 0 faults.old }
     ensures { OnOk result (AreFound trace.now (length trace.now.log) faults.new) }
@@ -133,8 +133,8 @@ fn compare_shorter(
 fn check_dump(
     trace: &Trace,
     replica: usize,
-    needed: &[u64; 4],
-    faults: &[Option<DumpFault>; 4],
+    needed: &[u64; REPLICAS as usize],
+    faults: &[Option<DumpFault>; REPLICAS as usize],
 ) -> Result<(), Fail<Fault>>
     requires replica { replica < length trace.now.dumps }
     requires needed { AreNeeds trace.now (length trace.now.events) needed.now }
@@ -162,7 +162,7 @@ fn check_dump(
 pub(crate) fn check_dumps(
     alloc: Global,
     trace: &Trace,
-    needed: &[u64; 4],
+    needed: &[u64; REPLICAS as usize],
     space: PlainSpace,
 ) -> Result<(), Fail<Fault>>
     requires needed { AreNeeds trace.now (length trace.now.events) needed.now }

@@ -17,7 +17,7 @@ use crate::reads::pass_call;
 use crate::tables::{MaybeIndex, empty_table};
 use nr_trace::{Event, Fault};
 use std::alloc::Global;
-use vs_types::Fail;
+use vs_types::{Fail, REPLICAS};
 
 /// Where the calls of a trace stand in the recorded order, and what is known by its replies.
 #[derive(Drop)]
@@ -29,7 +29,7 @@ pub(crate) struct Standing {
     /// How many calls stand in the order.
     pub(crate) count: usize,
     /// For each replica the most entries of the log that are known by a reply to a call made there.
-    pub(crate) needed: [u64; 4],
+    pub(crate) needed: [u64; REPLICAS as usize],
 }
 
 /// How many entries of the log are known by a reply: those up to the update's own, or those that the read saw.
@@ -46,7 +46,7 @@ fn entries_known(history: &History, call: u32, at: u32) -> u64
 }
 
 /// Raises what the replica of a call needs to what is known by a reply to it.
-fn raise_need(history: &History, needed: &mut [u64; 4], call: u32, known: u64)
+fn raise_need(history: &History, needed: &mut [u64; REPLICAS as usize], call: u32, known: u64)
     ensures in_range { IfSome (call_of history.now call) (λ made. made.replica < 4) }
     ensures raised { needed.new ≡ with_known needed.old (call_of history.now call) known }
 {
@@ -100,7 +100,7 @@ pub(crate) fn check_replies(
 {
     let mut lasts = empty_table(alloc, history.log().len() + 1)?;
     let mut rows = places;
-    let (mut count, mut early, mut floor, mut needed) = (0, None, 0, [0; 4]);
+    let (mut count, mut early, mut floor, mut needed) = (0, None, 0, [0; REPLICAS as usize]);
     for (index, event) in history.events().iter().enumerate() {
         match event.event() {
             Event::Call { .. } => {
