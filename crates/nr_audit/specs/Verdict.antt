@@ -22,3 +22,8 @@ IsVerdictOf bytes (No fault) = IsFirstOf bytes fault
 abbrev pub IfYes : (List ℕ → Type 0) → Verdict → Type 0
 IfYes P (Yes order) = P order
 IfYes P (No fault) = ⊤
+
+-- 0 where the trace is right, else 1
+abbrev pub verdict_status : Verdict → ℕ
+verdict_status (Yes order) = 0
+verdict_status (No fault) = 1

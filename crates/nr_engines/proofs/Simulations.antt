@@ -5,12 +5,12 @@ use Rattle.nr_trace.specs.Laws.{IsFaultless}
 use Rattle.nr_trace.specs.Orders.{recorded_order}
 use Rattle.nr_trace.specs.Recording.{Recording, IsRecording}
 use Rattle.nr_trace.specs.Spelling.{spelling, Spells}
+use Rattle.nr_audit.specs.Verdict.{verdict_status}
 use Rattle.nr_audit.specs.declared.verdict.Verdict.TheVariants.{Yes}
 use Rattle.nr_audit.proofs.PartsOfVerdicts.{same_of}
 use Rattle.nr_script.specs.declared.script.Script.{Script}
 use Rattle.nr_engines.specs.Answers.{IsAudit, WritesReport}
 use Rattle.nr_engines.specs.Simulation.{HasReadScript, IsRecordingOfScript, IsSimulation, IsSimulationFault, IsTold}
-use Rattle.nr_engines.specs.Text.{verdict_status}
 use Rattle.vs_types.specs.declared.depth.Depth.{Depth}
 use Rattle.nr_engines.specs.declared.fault.ProgFault.{ProgFault}
 use Rattle.nr_engines.specs.declared.fault.ProgFault.TheVariants.{CannotWrite}

@@ -12,11 +12,11 @@ use Rattle.nr_trace.specs.FirstFault.{HasFormatFault}
 use Rattle.nr_trace.specs.declared.fault.Format.{Format}
 use Rattle.nr_trace.specs.declared.fault.Fault.TheVariants as faults
 use Rattle.nr_audit.specs.Headline.{AreRightWith}
-use Rattle.nr_audit.specs.Verdict.{IfYes, IsVerdictOf}
+use Rattle.nr_audit.specs.Verdict.{IfYes, IsVerdictOf, verdict_status}
 use Rattle.nr_audit.specs.declared.verdict.Verdict.{Verdict}
 use Rattle.nr_explain.specs.Units.{ReadsUnits}
 use Rattle.nr_explain.specs.declared.units.Unread.{Unread}
-use Rattle.nr_engines.specs.Text.{no_text, verdict_text, verdict_status, walk_text}
+use Rattle.nr_engines.specs.Text.{no_text, verdict_text, walk_text}
 use Rattle.nr_engines.specs.Addresses.{SpellsAddress}
 
 -- of `audit`: the text and the status are those of the verdict of these bytes; where it is yes they are right with its order

@@ -70,11 +70,6 @@ abbrev pub verdict_text : Verdict → List ℕ
 verdict_text (Yes order) = yes_text order
 verdict_text (No fault) = no_text fault
 
--- 0 where the trace is right, else 1
-abbrev pub verdict_status : Verdict → ℕ
-verdict_status (Yes order) = 0
-verdict_status (No fault) = 1
-
 abbrev pub size_text : Size → List ℕ
 size_text K4 = codes "4K"
 size_text M2 = codes "2M"

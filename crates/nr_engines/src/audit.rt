@@ -1,6 +1,6 @@
 ghost use Rattle.std.specs.Prelude.{◌≡◌, ℕ, IfOk, IfErr, List, string_bytes};
 ghost use Rattle.nr_trace.specs.Feed.{Reads};
-ghost use Rattle.nr_engines.specs.Text.{verdict_status};
+ghost use Rattle.nr_audit.specs.Verdict.{verdict_status};
 ghost use Rattle.nr_engines.specs.Refusals.{IsEndFault, WritesAnswersAlone};
 ghost use Rattle.nr_engines.specs.Answers.{HasReadFew, IsAudit, WritesReport};
 

@@ -1,16 +1,11 @@
 -- What a call tells of bytes.
 use Rattle.std.specs.Prelude.{◌≡◌, ◌++◌, ℕ, nat_le, List, length, drop, if◌then◌else◌}
 use Rattle.nr_audit.specs.Headline.{AreRightWith}
-use Rattle.nr_audit.specs.Verdict.{IfYes, IsVerdictOf}
+use Rattle.nr_audit.specs.Verdict.{IfYes, IsVerdictOf, verdict_status}
 use Rattle.nr_audit.specs.declared.verdict.Verdict.{Verdict}
 use Rattle.nr_audit.specs.declared.verdict.Verdict.TheVariants.{Yes, No}
 use Rattle.nrvs_audit_c.specs.Numbers.{finding_of}
 use Rattle.nrvs_audit_c.specs.declared.finding.Finding.{Finding}
-
--- 0 where the trace is right, else 1
-abbrev pub verdict_status : Verdict → ℕ
-verdict_status (Yes order) = 0
-verdict_status (No fault) = 1
 
 -- the array with the calls at its begin, where it has room for all of them; else as it was
 abbrev pub with_calls : List ℕ → List ℕ → List ℕ

@@ -1,6 +1,9 @@
+//! The call for C.
+
 ghost use Rattle.std.specs.Prelude.{◌≡◌, ◌≢◌, ℕ, List, length};
 ghost use Rattle.nr_audit.specs.Headline.{AreRightWith};
-ghost use Rattle.nrvs_audit_c.specs.Told.{IsAudited, verdict_status, with_calls};
+ghost use Rattle.nr_audit.specs.Verdict.{verdict_status};
+ghost use Rattle.nrvs_audit_c.specs.Told.{IsAudited, with_calls};
 
 use crate::finding::Finding;
 use nr_audit::{Verdict, audit};

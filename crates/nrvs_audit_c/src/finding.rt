@@ -1,3 +1,5 @@
+//! Verdicts in numbers.
+
 ghost use Rattle.std.specs.Prelude.{◌≡◌};
 ghost use Rattle.nrvs_audit_c.specs.Numbers.{fault_numbers, finding_of, format_numbers, with_dump, with_format, with_index};
 
