@@ -10,7 +10,7 @@ use Rattle.nr_trace.specs.declared.event.Event.{Event}
 use Rattle.std.proofs.lemmas.Bool.{cases_lt, eq-eqb, cond-true, false≢true}
 use Rattle.std.proofs.lemmas.List.{get_or_past}
 use Rattle.std.specs.Prelude.{option_map}
-use Rattle.nr_trace.specs.Calls.{Invocation, address_in, address_of, call_of, IsRead, IsUpdate}
+use Rattle.nr_trace.specs.Calls.{Invocation, read_address, address_of, call_of, IsRead, IsUpdate}
 use Rattle.nr_trace.proofs.LawsOfCalls.{not_both}
 use Rattle.nr_audit.specs.inside.Tables.{IsReplyBelow, AreReplies}
 use Rattle.nr_audit.specs.inside.Replies.{position_of, entries_seen}
@@ -105,4 +105,4 @@ update_saw_nothing trace call update = seen_of_none (address_of trace call) (rep
 
 pub no_call_saw_nothing : (trace : Recording) (call : ℕ) → call_of trace call ≡ None → entries_seen trace call ≡ None
 no_call_saw_nothing trace call none = seen_of_none (address_of trace call) (reply_to trace call)
-    (λ read. false≢true (sym (ap (λ o. is_some (option_and_then (λ (made : Invocation). address_in made.request) o)) none) ∙ read))
+    (λ read. false≢true (sym (ap (λ o. is_some (option_and_then (λ (made : Invocation). read_address made.request) o)) none) ∙ read))

@@ -9,7 +9,7 @@ use Rattle.vs_types.specs.declared.refusal.Fail.TheVariants.{Memory, Refused}
 use Rattle.nr_trace.specs.Recording.{Recording}
 use Rattle.nr_trace.specs.Spelling.{Spells}
 use Rattle.nr_trace.specs.FirstFault.{HasFormatFault}
-use Rattle.nr_trace.specs.Feed.{Fed, Feeds, Ends, HasNoFaultYet, IsSettled, Reads}
+use Rattle.nr_trace.specs.Feed.{Fed, Feeds, Ends, HasNoFaultYet, HasLastingFault, Reads}
 use Rattle.nr_trace.specs.Feed.Fed.{Taken}
 use Rattle.nr_trace.specs.declared.fault.Format.{Format}
 use Rattle.nr_trace.specs.declared.fault.Format.TheVariants.{Truncated}
@@ -79,7 +79,7 @@ reads_to_here known left feed room fed = reads_no_more known left left feed room
 -- ---- what it says
 
 -- the fault is that of all that the reader had, or, where that is not known, of what was read
-settled : (known new : Option (List ℕ)) (bytes : List ℕ) (fail : Fail Format) → Consumes known new bytes → IfRefused (IsSettled bytes) fail
+settled : (known new : Option (List ℕ)) (bytes : List ℕ) (fail : Fail Format) → Consumes known new bytes → IfRefused (HasLastingFault bytes) fail
     → HasRead known (Err fail)
 settled None new bytes Memory lost h = record { input = bytes; is_read = tt; read_is = tt }
 settled None new bytes (Refused fault) lost h =

@@ -10,7 +10,7 @@ use Rattle.nr_trace.specs.Feed.{HasNoFaultYet}
 use Rattle.nr_trace.specs.declared.version.Version.{Version}
 use Rattle.nr_trace.specs.declared.fault.Format.TheVariants.{Truncated, Trailing}
 use Rattle.nr_trace.proofs.UnitsOfBytes.{AreBytes}
-use Rattle.nr_explain.specs.Units.{size, Numbers, HasHeader, IsHeadOf, IsDump, HasDumps}
+use Rattle.nr_explain.specs.Units.{size, Numbers, HasHeader, IsHeadOf, SpellsDump, HasDumps}
 use Rattle.nr_explain.specs.inside.Positions.{IsAhead, AreNumbers, AreUnits, OnLog, OnEvents, OnDumps, HasBegun, OnFrames, IsAt, IsRun}
 use Rattle.nr_explain.specs.declared.units.TraceUnit.{TraceUnit}
 use Rattle.nr_explain.specs.declared.units.TraceUnit.TheVariants.{Magic, Version as VersionWord, Counts, Place, Event, DumpHead, FrameNumber, FrameWords, Behind}
@@ -126,13 +126,13 @@ unit_is_run unit lengths front at = refl
 
 -- ---- how many bytes there may be
 
-length_dumps : (dumps : List (List ℕ)) → All IsDump dumps → length (concat dumps) ≤ 16810000 * length dumps
+length_dumps : (dumps : List (List ℕ)) → All SpellsDump dumps → length (concat dumps) ≤ 16810000 * length dumps
 length_dumps [] all = omega arith
 length_dumps (dump ∷ dumps) all =
-    let first = All-head IsDump dump dumps all in
+    let first = All-head SpellsDump dump dumps all in
     let whole : length dump ≡ 16 + length first.frames = ap length first.parts ∙ length-append first.head first.frames
     ∙ ap (λ (n : ℕ). n + length first.frames) (ap length first.is_head.spelled) in
-    let rest = length_dumps dumps (All-tail IsDump dump dumps all) in
+    let rest = length_dumps dumps (All-tail SpellsDump dump dumps all) in
     omega (arith, length-append dump (concat dumps), whole, first.all_frames, first.is_head.in_range.few_frames, rest)
 
 pub length_header : (version : Version) (numbers : Numbers) (front behind : List ℕ) → HasHeader version numbers front behind → length front ≡ 20 + length behind

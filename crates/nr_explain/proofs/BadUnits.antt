@@ -9,7 +9,7 @@ use Rattle.vs_types.specs.Frame.{IsFrame}
 use Rattle.nr_trace.specs.Recording.{IsEvent}
 use Rattle.nr_trace.specs.Spelling.{magic, version_word, counts, log_word, event, dump_head, frame_number, frame_words}
 use Rattle.nr_trace.specs.FirstFault.{AtFrames, AtDumps, AtEvents, AtLog, HasFormatFault, IsCounts, IsDumpHead, IsNext}
-use Rattle.nr_trace.specs.Feed.{HasNoFaultYet, IsSettled}
+use Rattle.nr_trace.specs.Feed.{HasNoFaultYet, HasLastingFault}
 use Rattle.nr_trace.specs.declared.fault.Format.{Format}
 use Rattle.nr_trace.specs.declared.fault.Format.TheVariants.{BadMagic, BadVersion, BadCount, BadEvent, BadFrame, Truncated}
 use Rattle.nr_trace.proofs.LawsOfFormat.{BehindCounts, BehindVersion, BehindMagic}
@@ -130,21 +130,21 @@ may_go_on unit lengths front begun at not_yet short = elim (cut unit lengths fro
 
 -- the run is one unit
 pub one_bad : (unit : TraceUnit) (lengths : Lengths) (front run : List ℕ) (fault : Format) → IsAt unit lengths front → HasNoFaultYet front
-    → length run ≡ size unit → IsSettled (front ++ run) fault → IsBadIn front run fault unit 0
+    → length run ≡ size unit → HasLastingFault (front ++ run) fault → IsBadIn front run fault unit 0
 one_bad unit lengths front run fault at not_yet whole settled =
     let all : 0 + size unit ≡ length run = omega (arith, whole) in
     record {
       goes_on = subst (λ (l : List ℕ). GoesOn l unit) (sym (append-nil front)) (goes_on unit lengths front at);
       no_fault_yet = subst HasNoFaultYet (sym (append-nil front)) not_yet;
       within = omega (arith, whole);
-      settled = subst (λ (l : List ℕ). IsSettled (front ++ l) fault) (sym (ap (λ (n : ℕ). take n run) all ∙ take-length run)) settled;
+      settled = subst (λ (l : List ℕ). HasLastingFault (front ++ l) fault) (sym (ap (λ (n : ℕ). take n run) all ∙ take-length run)) settled;
     }
 
 all_but_last : (run : List ℕ) (n : ℕ) → length run ≡ n → run ≡ take n run
 all_but_last run n long = sym (ap (λ (k : ℕ). take k run) (sym long) ∙ take-length run)
 
 pub bad_place : (place : ℕ) (lengths : Lengths) (front run : List ℕ) (fault : Format) (before : ℕ) → IsAt (Place place) lengths front → AreBytes run
-    → length run ≡ 4 * (before + 1) → place + (before + 1) ≤ lengths.places → IsSettled (front ++ run) fault
+    → length run ≡ 4 * (before + 1) → place + (before + 1) ≤ lengths.places → HasLastingFault (front ++ run) fault
     → IsBadIn front run fault (Place (place + before)) (4 * before)
 bad_place place lengths front run fault before at bytes long few settled =
     let on = at.1 in
@@ -173,11 +173,11 @@ bad_place place lengths front run fault before at bytes long few settled =
         | inr is ↦ absurd cc
       ];
       within = omega (arith, long);
-      settled = subst (λ (l : List ℕ). IsSettled (front ++ l) fault) end settled;
+      settled = subst (λ (l : List ℕ). HasLastingFault (front ++ l) fault) end settled;
     }
 
 pub bad_event : (index : ℕ) (lengths : Lengths) (front run : List ℕ) (fault : Format) (count before : ℕ) → IsAt (Event index) lengths front
-    → length run ≡ 24 * count → 1 ≤ count → index + count ≤ lengths.events → IsWhich fault index count before → IsSettled (front ++ run) fault
+    → length run ≡ 24 * count → 1 ≤ count → index + count ≤ lengths.events → IsWhich fault index count before → HasLastingFault (front ++ run) fault
     → IsBadIn front run fault (Event (index + before)) (24 * before)
 bad_event index lengths front run fault count before at long some few which settled =
     let on = at.1 in

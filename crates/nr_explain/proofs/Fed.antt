@@ -7,7 +7,7 @@ use Rattle.vs_types.specs.declared.refusal.Fail.TheVariants.{Refused}
 use Rattle.nr_trace.specs.Recording.{Recording}
 use Rattle.nr_trace.specs.Spelling.{Spells}
 use Rattle.nr_trace.specs.FirstFault.{HasFormatFault}
-use Rattle.nr_trace.specs.Feed.{Fed, Feeds, Ends, HasNoFaultYet, IsSettled}
+use Rattle.nr_trace.specs.Feed.{Fed, Feeds, Ends, HasNoFaultYet, HasLastingFault}
 use Rattle.nr_trace.specs.Feed.Fed.{Taken}
 use Rattle.nr_trace.specs.declared.fault.Format.{Format}
 use Rattle.nr_trace.specs.declared.fault.Format.TheVariants.{Truncated}
@@ -45,7 +45,7 @@ run_passed feed new offset unit next lengths later run sound feeds on =
 -- ---- a run that is refused
 
 pub run_settled : (feed new : Fed) (offset : ℕ) (unit : TraceUnit) (lengths : Lengths) (run : List ℕ) (fault : Format) → IsSoundAt feed offset unit lengths
-    → Feeds feed run new (Err (Refused fault)) → IsSettled (taken feed ++ run) fault
+    → Feeds feed run new (Err (Refused fault)) → HasLastingFault (taken feed ++ run) fault
 run_settled feed new offset unit lengths run fault sound feeds =
     let here : Feeds (Taken (taken feed)) run new (Err (Refused fault)) = subst (λ (f : Fed). Feeds f run new (Err (Refused fault))) sound.fed feeds in
     here.1
@@ -53,7 +53,7 @@ run_settled feed new offset unit lengths run fault sound feeds =
 pub run_refused : (feed new : Fed) (offset : ℕ) (unit : TraceUnit) (lengths : Lengths) (run : List ℕ) (fault : Format) (bad : TraceUnit) (before : ℕ)
     (read : Vec ℕ)
     → IsSoundAt feed offset unit lengths → Feeds feed run new (Err (Refused fault))
-    → ((front : List ℕ) → IsAt unit lengths front → HasNoFaultYet front → IsSettled (front ++ run) fault → IsBadIn front run fault bad before)
+    → ((front : List ℕ) → IsAt unit lengths front → HasNoFaultYet front → HasLastingFault (front ++ run) fault → IsBadIn front run fault bad before)
     → read.items ≡ take (size bad) (drop before run)
     → IsBadFor (taken feed ++ run) (record { fault = fault; unit = bad; offset = offset + before; read = read })
 run_refused feed new offset unit lengths run fault bad before read sound feeds find is = λ rest.
@@ -87,7 +87,7 @@ run_refused feed new offset unit lengths run fault bad before read sound feeds f
           length-take-le before run (omega (arith, within)),
           length-take-le (before + size bad) run within,
         ),
-        subst (λ (l : List ℕ). IsSettled l fault) (sym unit_read) found.settled,
+        subst (λ (l : List ℕ). HasLastingFault l fault) (sym unit_read) found.settled,
       );
     }
 

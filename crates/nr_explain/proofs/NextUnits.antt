@@ -17,7 +17,7 @@ use Rattle.nr_trace.specs.declared.fault.Format.{Format}
 use Rattle.nr_trace.specs.declared.fault.Format.TheVariants.{BadMagic, BadVersion, BadCount, BadFrame}
 use Rattle.nr_trace.proofs.LawsOfFormat.{BehindCounts, BehindVersion, BehindMagic}
 use Rattle.nr_trace.proofs.UnitsOfBytes.{AreBytes, magic_told, version_told, counts_told, head_told, number_told, words_told}
-use Rattle.nr_explain.specs.Units.{Numbers, HasHeader, IsHeadOf, IsDump, HasDumps}
+use Rattle.nr_explain.specs.Units.{Numbers, HasHeader, IsHeadOf, SpellsDump, HasDumps}
 use Rattle.nr_explain.specs.inside.Positions.{dump_unit, event_unit, place_unit, frame_unit, IsAhead, IsCounted, OnLog, OnEvents, OnDumps, HasBegun, OnFrames, OnWords, IsAt}
 use Rattle.nr_explain.specs.declared.units.TraceUnit.TheVariants.{DumpHead, Behind, Event, Place, FrameNumber}
 use Rattle.nr_explain.specs.declared.positions.Lengths.{Lengths}
@@ -87,7 +87,7 @@ dumps_begin lengths index front on past =
         dumps = [];
         parts = sym (append-nil on.behind);
         all_events = on.come ∙ ap (λ (n : ℕ). 4 * on.numbers.places + 24 * n) all;
-        are_dumps = All-nil IsDump;
+        are_dumps = All-nil SpellsDump;
         one_each = refl;
       };
       left = on.numbers.layout.replicas;
@@ -156,7 +156,7 @@ dump_ends lengths replica index front on past =
         dumps = held.dumps ++ dump ∷ [];
         parts = held.parts ∙ ap (λ (l : List ℕ). held.log_and_events ++ l) (sym (concat_push held.dumps dump));
         all_events = held.all_events;
-        are_dumps = All-push IsDump held.dumps dump held.are_dumps (record {
+        are_dumps = All-push SpellsDump held.dumps dump held.are_dumps (record {
           many = lengths.frames;
           head = begun.head;
           is_head = begun.is_head;

@@ -10,7 +10,7 @@ use Rattle.vs_types.specs.Frame.{IsFrame}
 use Rattle.nr_trace.specs.Recording.{IsEvent}
 use Rattle.nr_trace.specs.Spelling.{magic, version_word, counts, log_word, event, dump_head, frame_number, frame_words}
 use Rattle.nr_trace.specs.FirstFault.{AtUnit, AtFrames, AtDumps, AtEvents, AtLog, HasFormatFault, IsCounts, IsDumpHead, IsNext}
-use Rattle.nr_trace.specs.Feed.{IsSettled}
+use Rattle.nr_trace.specs.Feed.{HasLastingFault}
 use Rattle.nr_trace.specs.declared.version.Version.{Version}
 use Rattle.nr_trace.specs.declared.fault.Format.{Format}
 use Rattle.nr_trace.specs.declared.fault.Format.TheVariants.{BadMagic, BadVersion, BadCount, BadEvent, BadFrame, Truncated}
@@ -94,7 +94,7 @@ bytes_cut bytes h =
     (λ _ _. unit_cut 2 (14 + 70647873) (Some BadVersion) (λ version. ⊤) version_word BehindVersion (λ e. absurd cc) (λ _ _. refl) (λ version _. version_cut version))
     bytes h
 
-never_cut : (bytes : List ℕ) (many : ℕ) → many ≡ 70647893 → IsSettled bytes Truncated → ⊥
+never_cut : (bytes : List ℕ) (many : ℕ) → many ≡ 70647893 → HasLastingFault bytes Truncated → ⊥
 never_cut bytes many is settled =
     let zeros : List ℕ = replicate many 0 in
     omega (arith, bytes_cut (bytes ++ zeros) (settled zeros), length-append bytes zeros, length-replicate {A = ℕ} many 0, is)
@@ -136,7 +136,7 @@ not_behind bytes a b g h m is long = by_shows g.shows where
       let on : h.front ≡ end ++ drop (length end) h.front =
       begins_with end h.front g.behind (b.read.items ++ h.behind) few (append_assoc g.front a.read.items g.behind ∙ sym g.parts ∙ h.parts) in
       let fault : HasFormatFault h.front a.fault = subst (λ (l : List ℕ). HasFormatFault l a.fault) (sym on) (settled (drop (length end) h.front)) in
-      never_cut end 70647893 refl (subst (IsSettled end) (h.no_fault_yet a.fault fault) settled)
+      never_cut end 70647893 refl (subst (HasLastingFault end) (h.no_fault_yet a.fault fault) settled)
 
 abbrev IsThere : (bytes : List ℕ) (a b : BadUnit) → IsBadUnit bytes a → IsBadUnit bytes b → Type 0
 IsThere bytes a b g h = (a.unit ≡ b.unit) × (g.front ≡ h.front)

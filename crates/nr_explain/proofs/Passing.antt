@@ -1,7 +1,7 @@
 -- A whole unit that is not refused spells a value, and what is wrong behind it is wrong with all bytes.
 use Rattle.std.proofs.Common.{◌≡◌, ◌≢◌, ℕ, ◌<◌, inl, inr, List, ◌++◌, length, Option, Some, refl, sym, subst, append_assoc}
 use Rattle.nr_trace.specs.FirstFault.{AtUnit, HasFormatFault}
-use Rattle.nr_trace.specs.Feed.{HasNoFaultYet, IsSettled}
+use Rattle.nr_trace.specs.Feed.{HasNoFaultYet, HasLastingFault}
 use Rattle.nr_trace.specs.declared.fault.Format.{Format}
 use Rattle.nr_trace.specs.declared.fault.Format.TheVariants.{Truncated}
 use Rattle.nr_trace.proofs.LawsOfFormat.{one_fault}
@@ -27,7 +27,7 @@ ahead_after bytes own Fits spelled Behind front unit value fits is ahead =
 pub unit_refused : {A : Type 0} (bytes : ℕ) (fault : Format) (Fits : A → Type 0) (spelled : A → List ℕ) (Behind : A → List ℕ → Format → Type 0)
     (front unit : List ℕ)
     → length unit ≡ bytes → ((value : A) → Fits value → unit ≢ spelled value) → IsAhead (AtUnit bytes (Some fault) Fits spelled Behind) front
-    → IsSettled (front ++ unit) fault
+    → HasLastingFault (front ++ unit) fault
 unit_refused bytes fault Fits spelled Behind front unit whole none ahead =
     λ rest. subst (λ (l : List ℕ). HasFormatFault l fault) (sym (append_assoc front unit rest))
     (ahead (unit ++ rest) fault (refused bytes (Some fault) Fits spelled Behind fault unit rest whole refl none))

@@ -8,7 +8,7 @@ use Rattle.vs_types.specs.Config.{Layout, IsLayout}
 use Rattle.nr_trace.specs.Recording.{IsEvent}
 use Rattle.nr_trace.specs.Spelling.{log_word, event}
 use Rattle.nr_trace.specs.FirstFault.{AtUnit, AtDumps, AtEvents, AtLog, HasFormatFault}
-use Rattle.nr_trace.specs.Feed.{HasNoFaultYet, IsSettled}
+use Rattle.nr_trace.specs.Feed.{HasNoFaultYet, HasLastingFault}
 use Rattle.nr_trace.specs.declared.version.Version.{Version}
 use Rattle.nr_trace.specs.declared.fault.Format.{Format}
 use Rattle.nr_trace.specs.declared.fault.Format.TheVariants.{BadEvent, Truncated}
@@ -111,9 +111,9 @@ pub record IsRefusedAt (version : Version) (layout : Layout) (index left count :
   pub within : before < count
   pub which : (fault ≡ BadEvent (index + before)) ⊎ ((fault ≡ Truncated) × (before + 1 ≡ count))
   pub passed : AreEventsPassed version layout index before left (front ++ take (24 * before) run)
-  pub settled : IsSettled (front ++ take (24 * before + 24) run) fault
+  pub settled : HasLastingFault (front ++ take (24 * before + 24) run) fault
 
-settled_now : (bytes : List ℕ) (fault : Format) → IsSettled bytes fault → HasFormatFault bytes fault
+settled_now : (bytes : List ℕ) (fault : Format) → HasLastingFault bytes fault → HasFormatFault bytes fault
 settled_now bytes fault h = subst (λ (l : List ℕ). HasFormatFault l fault) (append-nil bytes) (h [])
 
 add_run : (front run : List ℕ) (n m : ℕ) → 24 + n ≡ m → (front ++ take 24 run) ++ take n (drop 24 run) ≡ front ++ take m run
@@ -139,13 +139,13 @@ whole_unit front run long =
 
 pub refused_events : (version : Version) (layout : Layout) → IsLayout layout → (index left count : ℕ) (front run : List ℕ) (fault : Format)
     → IsAhead (AtEvents version layout index left) front
-    → 1 ≤ count → count ≤ left → length run ≡ 24 * count → IsSettled (front ++ run) fault → IsRefusedAt version layout index left count front run fault
+    → 1 ≤ count → count ≤ left → length run ≡ 24 * count → HasLastingFault (front ++ run) fault → IsRefusedAt version layout index left count front run fault
 refused_events version layout l index left zero front run fault ahead some few long settled = absurd (omega arith)
 refused_events version layout l index zero (suc count) front run fault ahead some few long settled = absurd (omega arith)
 refused_events version layout l index (suc left) (suc count) front run fault ahead some few long settled =
     by_unit (event_told version layout l (take 24 run))
     (λ next more. refused_events version layout l (index + 1) left count (front ++ take 24 run) (drop 24 run) fault next more (omega (arith, few))
-    (omega (arith, long, length-drop 24 run)) (subst (λ (k : List ℕ). IsSettled k fault) (sym (cut_run front run 24)) settled)) where
+    (omega (arith, long, length-drop 24 run)) (subst (λ (k : List ℕ). HasLastingFault k fault) (sym (cut_run front run 24)) settled)) where
       Later : Type 0
       Later = IsAhead (AtEvents version layout (index + 1) left) (front ++ take 24 run) → 1 ≤ count
           → IsRefusedAt version layout (index + 1) left count (front ++ take 24 run) (drop 24 run) fault
@@ -167,7 +167,7 @@ refused_events version layout l index (suc left) (suc count) front run fault ahe
               omega (arith, is),
             );
             passed = none_passed version layout index (suc left) front ahead;
-            settled = subst (λ (k : List ℕ). IsSettled k fault) (sym same) settled;
+            settled = subst (λ (k : List ℕ). HasLastingFault k fault) (sym same) settled;
           }
       by_count (suc n) is next later =
           let rec = later next (omega (arith, is)) in
@@ -186,7 +186,7 @@ refused_events version layout l index (suc left) (suc count) front run fault ahe
                   (subst (IsAhead (AtEvents version layout (index + 1 + rec.before) rec.passed.rest))
                   (add_run front run (24 * rec.before) (24 * (rec.before + 1)) (omega arith)) rec.passed.ahead);
             };
-            settled = subst (λ (k : List ℕ). IsSettled k fault)
+            settled = subst (λ (k : List ℕ). HasLastingFault k fault)
                 (add_run front run (24 * rec.before + 24) (24 * (rec.before + 1) + 24) (omega arith)) rec.settled;
           }
 
@@ -205,5 +205,5 @@ refused_events version layout l index (suc left) (suc count) front run fault ahe
             within = omega arith;
             which = inl (same ∙ ap BadEvent here);
             passed = none_passed version layout index (suc left) front ahead;
-            settled = subst (IsSettled (front ++ take 24 run)) (sym same) bad;
+            settled = subst (HasLastingFault (front ++ take 24 run)) (sym same) bad;
           }

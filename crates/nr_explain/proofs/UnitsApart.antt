@@ -8,7 +8,7 @@ use Rattle.nr_trace.specs.Spelling.{magic, version_word, counts}
 use Rattle.nr_trace.specs.FirstFault.{IsCounts}
 use Rattle.nr_trace.specs.declared.version.Version.{Version}
 use Rattle.nr_trace.proofs.LawsOfUnits.{versions_apart, counts_apart, heads_apart}
-use Rattle.nr_explain.specs.Units.{size, Numbers, HasHeader, IsHeadOf, IsDump, HasDumps, GoesOnBehind, GoesOn}
+use Rattle.nr_explain.specs.Units.{size, Numbers, HasHeader, IsHeadOf, SpellsDump, HasDumps, GoesOnBehind, GoesOn}
 use Rattle.nr_explain.specs.declared.units.TraceUnit.{TraceUnit}
 use Rattle.nr_explain.specs.declared.units.TraceUnit.TheVariants.{Magic, Version as VersionWord, Counts, Place, Event, DumpHead, FrameNumber, FrameWords, Behind}
 use Rattle.nr_explain.proofs.NextUnits.{more_header, more_dumps}
@@ -63,11 +63,11 @@ record HasPart (room : ℕ) (more : List ℕ) : Type 0 where
 abbrev IsPart : ℕ → List ℕ → Type 0
 IsPart room more = ((more ≡ []) × (room ≤ 16)) ⊎ HasPart room more
 
-long_dump : (dump : List ℕ) (h : IsDump dump) → length dump ≡ 16 + 4104 * h.many
+long_dump : (dump : List ℕ) (h : SpellsDump dump) → length dump ≡ 16 + 4104 * h.many
 long_dump dump h = omega (arith, ap length h.parts, length-append h.head h.frames, ap length h.is_head.spelled, h.all_frames)
 
 -- after a whole dump the same stands
-whole_dump : (dump other us vs : List ℕ) → IsDump dump → IsDump other → dump ++ us ≡ other ++ vs → us ≡ vs
+whole_dump : (dump other us vs : List ℕ) → SpellsDump dump → SpellsDump other → dump ++ us ≡ other ++ vs → us ≡ vs
 whole_dump dump other us vs h k e =
     let same = heads_same h.many k.many h.head k.head (h.frames ++ us) (k.frames ++ vs) h.is_head k.is_head
     (sym (append_assoc h.head h.frames us) ∙ ap (λ (l : List ℕ). l ++ us) (sym h.parts) ∙ e ∙ ap (λ (l : List ℕ). l ++ vs) k.parts
@@ -75,7 +75,7 @@ whole_dump dump other us vs h k e =
     same_behind h.frames k.frames us vs (omega (arith, h.all_frames, k.all_frames, same.0)) same.1
 
 -- to where the dump ends the next unit has room
-in_part : (room : ℕ) (dump rest more m : List ℕ) → IsDump dump → IsPart room more → more ++ m ≡ dump ++ rest → room ≤ length m
+in_part : (room : ℕ) (dump rest more m : List ℕ) → SpellsDump dump → IsPart room more → more ++ m ≡ dump ++ rest → room ≤ length m
 in_part room dump rest more m h (inl none) e =
     omega (arith, none.1, ap length none.0, ap length e, length-append more m, length-append dump rest, long_dump dump h)
 in_part room dump rest more m h (inr part) e =
@@ -84,7 +84,7 @@ in_part room dump rest more m h (inr part) e =
     ∙ append_assoc h.head h.frames rest) in
     omega (arith, same.0, ap length same.1, length-append part.frames m, length-append h.frames rest, h.all_frames, part.fits)
 
-no_whole : (room : ℕ) (dump rest more : List ℕ) → 1 ≤ room → IsDump dump → IsPart room more → dump ++ rest ≡ more → ⊥
+no_whole : (room : ℕ) (dump rest more : List ℕ) → 1 ≤ room → SpellsDump dump → IsPart room more → dump ++ rest ≡ more → ⊥
 no_whole room dump rest more some h part e =
     let few : room ≤ 0 = in_part room dump rest more [] h part (append-nil more ∙ sym e) in
     omega (arith, few, some)
@@ -92,19 +92,19 @@ no_whole room dump rest more some h part e =
 -- as many dumps stand before both; or fewer before the first, and a dump more behind it
 abbrev LiesBefore : List (List ℕ) → List (List ℕ) → List ℕ → List ℕ → Type 0
 LiesBefore dumps others us later = ((length dumps ≡ length others) × (us ≡ later))
-    ⊎ ((dump : List ℕ) × (rest : List ℕ) × IsDump dump × (us ≡ dump ++ rest))
+    ⊎ ((dump : List ℕ) × (rest : List ℕ) × SpellsDump dump × (us ≡ dump ++ rest))
 
-lies : (room : ℕ) (dumps others : List (List ℕ)) (us later : List ℕ) → 1 ≤ room → All IsDump dumps → All IsDump others → IsPart room later
+lies : (room : ℕ) (dumps others : List (List ℕ)) (us later : List ℕ) → 1 ≤ room → All SpellsDump dumps → All SpellsDump others → IsPart room later
     → concat dumps ++ us ≡ concat others ++ later → LiesBefore dumps others us later
 lies room [] [] us later some all its part e = inl (refl, e)
 lies room [] (other ∷ others) us later some all its part e =
-    inr (other, concat others ++ later, All-head IsDump other others its, e ∙ append_assoc other (concat others) later)
+    inr (other, concat others ++ later, All-head SpellsDump other others its, e ∙ append_assoc other (concat others) later)
 lies room (dump ∷ dumps) [] us later some all its part e =
-    absurd (no_whole room dump (concat dumps ++ us) later some (All-head IsDump dump dumps all) part (sym (append_assoc dump (concat dumps) us) ∙ e))
+    absurd (no_whole room dump (concat dumps ++ us) later some (All-head SpellsDump dump dumps all) part (sym (append_assoc dump (concat dumps) us) ∙ e))
 lies room (dump ∷ dumps) (other ∷ others) us later some all its part e =
-    let left = whole_dump dump other (concat dumps ++ us) (concat others ++ later) (All-head IsDump dump dumps all) (All-head IsDump other others its)
+    let left = whole_dump dump other (concat dumps ++ us) (concat others ++ later) (All-head SpellsDump dump dumps all) (All-head SpellsDump other others its)
     (sym (append_assoc dump (concat dumps) us) ∙ e ∙ append_assoc other (concat others) later) in
-    elim (lies room dumps others us later some (All-tail IsDump dump dumps all) (All-tail IsDump other others its) part left) [
+    elim (lies room dumps others us later some (All-tail SpellsDump dump dumps all) (All-tail SpellsDump other others its) part left) [
       | inl same ↦ inl (omega (arith, same.0), same.1)
       | inr more ↦ inr more
     ]

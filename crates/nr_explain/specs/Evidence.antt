@@ -141,19 +141,19 @@ abbrev pub IsRootPath : Recording → Image → ℕ → ℕ → List Step → Ty
 IsRootPath trace dump level frame steps = IsPath dump.frames (levels trace.layout.depth) dump.root level frame steps
 
 -- the same as a table of some level
-abbrev pub LeadsTo : Recording → Image → ℕ → List Step → Type 0
-LeadsTo trace dump frame steps = (level : ℕ) × IsRootPath trace dump level frame steps
+abbrev pub StepsLeadTo : Recording → Image → ℕ → List Step → Type 0
+StepsLeadTo trace dump frame steps = (level : ℕ) × IsRootPath trace dump level frame steps
 
 -- the entries lead to a frame that the dump lacks
 abbrev pub IsMissingTable : Recording → MissingTable → Type 0
 IsMissingTable trace wrong = HasDump trace wrong.replica (λ dump.
-    (finite.get dump.frames wrong.frame ≡ None) × LeadsTo trace dump wrong.frame wrong.path.items)
+    (finite.get dump.frames wrong.frame ≡ None) × StepsLeadTo trace dump wrong.frame wrong.path.items)
 
 -- the entries lead to the frame, and so do others
 abbrev pub IsSharedTable : Recording → SharedTable → Type 0
 IsSharedTable trace wrong = HasDump trace wrong.replica (λ dump.
-    LeadsTo trace dump wrong.frame wrong.first.items
-    × LeadsTo trace dump wrong.frame wrong.second.items × (wrong.second.items ≢ wrong.first.items))
+    StepsLeadTo trace dump wrong.frame wrong.first.items
+    × StepsLeadTo trace dump wrong.frame wrong.second.items × (wrong.second.items ≢ wrong.first.items))
 
 -- the entries lead to a table, and the word that it has at an index has a reserved bit set, at its level
 abbrev pub IsReservedEntry : Recording → ReservedEntry → Type 0

@@ -48,17 +48,17 @@ IsLastChange trace address end (Some update) =
     × LooksSame trace address (update.place + 1) end
 
 -- the address that an answer is about: the base that it names, where it names one, else what the call asks for
-abbrev pub asked_for : Query → ℕ
-asked_for (Update (Map page)) = page.base
-asked_for (Update (Unmap base)) = base
-asked_for (Update (Protect base rights)) = base
-asked_for (Resolve address) = address
-asked_for (Access address mode access) = address
+abbrev pub asked_address : Query → ℕ
+asked_address (Update (Map page)) = page.base
+asked_address (Update (Unmap base)) = base
+asked_address (Update (Protect base rights)) = base
+asked_address (Resolve address) = address
+asked_address (Access address mode access) = address
 
 abbrev pub address_about : Query → Answer → ℕ
 address_about request (answers.Overlap base) = base
 address_about request (answers.Inside base) = base
-address_about request _ = asked_for request
+address_about request _ = asked_address request
 
 -- the word of the step stands in its frame, and leads as an entry of its level to the other frame
 pub record LeadsOn (memory : Memory) (step : Step) (next : ℕ) : Type 0 where

@@ -5,7 +5,7 @@ use Rattle.vs_types.specs.Config.{Layout}
 use Rattle.nr_trace.specs.Recording.{Recording}
 use Rattle.nr_trace.specs.Spelling.{magic, version_word, counts, dump_head, Spells}
 use Rattle.nr_trace.specs.FirstFault.{HasFormatFault, IsCounts, IsDumpHead}
-use Rattle.nr_trace.specs.Feed.{HasNoFaultYet, IsSettled}
+use Rattle.nr_trace.specs.Feed.{HasNoFaultYet, HasLastingFault}
 use Rattle.nr_trace.specs.declared.version.Version.{Version}
 use Rattle.nr_trace.specs.declared.fault.Format.TheVariants.{Truncated}
 use Rattle.nr_explain.specs.declared.units.TraceUnit.{TraceUnit}
@@ -46,7 +46,7 @@ pub record IsHeadOf (many : ℕ) (bytes : List ℕ) : Type 0 where
   pub spelled : bytes ≡ dump_head (record { applied = applied; frames = many; root = root })
 
 -- the bytes are a dump: a head, and as many frames as it says
-pub record IsDump (bytes : List ℕ) : Type 0 where
+pub record SpellsDump (bytes : List ℕ) : Type 0 where
   pub many : ℕ
   pub head : List ℕ
   pub is_head : IsHeadOf many head
@@ -60,7 +60,7 @@ pub record HasDumps (numbers : Numbers) (behind : List ℕ) (replicas : ℕ) (mo
   pub dumps : List (List ℕ)
   pub parts : behind ≡ log_and_events ++ (concat dumps ++ more)
   pub all_events : length log_and_events ≡ 4 * numbers.places + 24 * numbers.events
-  pub are_dumps : All IsDump dumps
+  pub are_dumps : All SpellsDump dumps
   pub one_each : length dumps ≡ replicas
 
 -- the dump of the replica has begun, and has this frame: the frames before it are there, and this many bytes of it
@@ -96,7 +96,7 @@ GoesOn front unit = (version : Version) × (numbers : Numbers) × (behind : List
 abbrev pub Shows : BadUnit → List ℕ → List ℕ → Type 0
 Shows bad front behind =
     ((length bad.read.items < size bad.unit) × (behind ≡ []) × (bad.fault ≡ Truncated))
-    ⊎ ((length bad.read.items ≡ size bad.unit) × IsSettled (front ++ bad.read.items) bad.fault)
+    ⊎ ((length bad.read.items ≡ size bad.unit) × HasLastingFault (front ++ bad.read.items) bad.fault)
 
 -- the bytes have the fault, nothing is wrong with what stands before the unit, and the unit shows the fault
 pub record IsBadUnit (bytes : List ℕ) (bad : BadUnit) : Type 0 where

@@ -4,7 +4,7 @@ ghost use Rattle.std.specs.Prelude.{◌≡◌, IfOk};
 ghost use Rattle.nr_trace.specs.Faults.{IsFirst};
 ghost use Rattle.nr_trace.specs.declared.fault.Fault.TheVariants.{WrongAnswer};
 ghost use Rattle.nr_explain.specs.Evidence.{IsOtherAnswer};
-ghost use Rattle.nr_explain.specs.Facts.{address_about, asked_for};
+ghost use Rattle.nr_explain.specs.Facts.{address_about, asked_address};
 
 use crate::evidence::OtherAnswer;
 use crate::lookup::call_at;
@@ -15,8 +15,8 @@ use std::alloc::Global;
 use vs_types::{Action, Answer, Memory, Query, Request};
 
 /// The address that a request names.
-fn asked_for(request: Request) -> u64
-    ensures { result ≡ asked_for request }
+fn asked_address(request: Request) -> u64
+    ensures { result ≡ asked_address request }
 {
     match request.query() {
         Query::Update(op) => match op.action() {
@@ -33,7 +33,7 @@ fn address_about(request: Request, answer: Answer) -> u64
 {
     match answer {
         Answer::Overlap(base) | Answer::Inside(base) => base,
-        _ => asked_for(request),
+        _ => asked_address(request),
     }
 }
 

@@ -1,7 +1,7 @@
 //! Which unit of a trace comes next.
 
 ghost use Rattle.std.specs.Prelude.{◌≡◌, ◌+◌, ◌≤◌, ◌<◌, ◌++◌, ℕ, List, MatchOption, length};
-ghost use Rattle.nr_trace.specs.Feed.{HasNoFaultYet, IsSettled};
+ghost use Rattle.nr_trace.specs.Feed.{HasNoFaultYet, HasLastingFault};
 ghost use Rattle.nr_explain.specs.Units.{size};
 ghost use Rattle.nr_explain.specs.inside.Positions.{dump_unit, event_unit, frame_unit, place_unit, IsAt, IsBadIn, IsRun, IsWhich};
 
@@ -142,7 +142,7 @@ pub(crate) fn bad_unit(
     requires at { (front : List ℕ) × IsAt unit lengths front }
     requires run { IsRun unit lengths (length run.now) }
     ensures { (front : List ℕ) → IsAt unit lengths front → HasNoFaultYet front
-        → IsSettled (front ++ run.now) fault → IsBadIn front run.now fault result.0 result.1 }
+        → HasLastingFault (front ++ run.now) fault → IsBadIn front run.now fault result.0 result.1 }
 {
     match unit {
         TraceUnit::Place(place) => {

@@ -12,7 +12,7 @@ use Rattle.vs_types.specs.declared.request.Query.{Query}
 use Rattle.vs_types.specs.declared.request.Query.TheVariants.{Update, Resolve, Access}
 use Rattle.nr_ring.specs.LogHistory.{Log, log_after}
 use Rattle.nr_ring.specs.Pass.{Known, TableId}
-use Rattle.nr_trace.specs.Calls.{Invocation, Response, address_in, call_of, made_by, operation_in, reply_to}
+use Rattle.nr_trace.specs.Calls.{Invocation, Response, read_address, call_of, made_by, operation_in, reply_to}
 use Rattle.nr_trace.specs.Recording.{Recording}
 use Rattle.nr_trace.specs.declared.event.Event.{Event}
 use Rattle.nr_trace.specs.declared.event.Event.TheVariants.{Call, Reply}
@@ -224,7 +224,7 @@ stands layout log number (Access address mode access) said is action reply op re
 
 -- and an answered read saw no more entries than there are
 known : (layout : Layout) (log : Log) (number : ℕ) (request : Query) (said : Said) → IsTrueOf layout log number request said
-    → (reply : Response) → IsSome (address_in request) → response number said ≡ Some reply → reply.at ≤ length log.entries
+    → (reply : Response) → IsSome (read_address request) → response number said ≡ Some reply → reply.at ≤ length log.entries
 known layout log number (Update act) said is reply read rep = absurd (false_true read)
 known layout log number (Resolve address) (Answer at answer) is reply read rep =
     let r : Response = record { call = number; at = at; answer = answer } in
@@ -292,8 +292,8 @@ have_seen clock log scripts workers trace all are layout thread pass at_pass =
           (sym its.replied ∙ rep));
       reads = λ call made reply is_made who read rep.
           let its = known_call clock log scripts workers trace all are thread worker there.1 call made is_made who in
-          let read' : IsSome (address_in its.request) =
-          subst (λ o. IsSome (option_and_then (λ (m : Invocation). address_in m.request) (option_and_then made_by o))) its.asked read in
+          let read' : IsSome (read_address its.request) =
+          subst (λ o. IsSome (option_and_then (λ (m : Invocation). read_address m.request) (option_and_then made_by o))) its.asked read in
           subst (λ (l : Log). reply.at ≤ length l.entries) here
           (known clock.layout (log_after clock.layout.replicas worker.pass.view.seen) call its.request its.said its.is_true reply read'
           (sym its.replied ∙ rep));

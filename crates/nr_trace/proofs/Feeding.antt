@@ -6,7 +6,7 @@ use Rattle.vs_types.specs.Refusal.{IfRefused}
 use Rattle.vs_types.specs.declared.refusal.Fail.{Fail}
 use Rattle.vs_types.specs.declared.refusal.Fail.TheVariants as fails
 use Rattle.nr_trace.specs.FirstFault.{HasFormatFault}
-use Rattle.nr_trace.specs.Feed.{Fed, IsSettled, HasNoFaultYet, Feeds, Ends}
+use Rattle.nr_trace.specs.Feed.{Fed, HasLastingFault, HasNoFaultYet, Feeds, Ends}
 use Rattle.nr_trace.specs.Feed.Fed.{Taken}
 use Rattle.nr_trace.specs.inside.Progress.{unit_bytes, said, Ahead, HasRead, IsFault}
 use Rattle.nr_trace.specs.inside.Feeding.{IsSound, AreFewer, IsCut, HasCome, IsFeeding, fed}
@@ -47,13 +47,13 @@ goes bytes reader next rest unit behind way cut has = record {
 
 -- a fault ahead of the reader, whatever comes, is settled
 settled : (bytes : List ℕ) (reader : Reader) (rest : List ℕ) (fault : Format) → IsBetween bytes reader rest
-    → ((more : List ℕ) → Ahead reader (rest ++ more) fault) → IsSettled bytes fault
+    → ((more : List ℕ) → Ahead reader (rest ++ more) fault) → HasLastingFault bytes fault
 settled bytes reader rest fault way h = λ more.
     subst (λ (l : List ℕ). HasFormatFault l fault) (sym (ap (λ (l : List ℕ). l ++ more) way.parts ∙ append_assoc (said reader) rest more))
     (way.sound.faults (rest ++ more) fault (h more))
 
 pub refuses : (bytes : List ℕ) (reader : Reader) (rest unit behind : List ℕ) (fail : Fail Format) → IsBetween bytes reader rest → rest ≡ unit ++ behind
-    → IsFault (λ more fault. Ahead reader (unit ++ more) fault) fail → IfRefused (IsSettled bytes) fail
+    → IsFault (λ more fault. Ahead reader (unit ++ more) fault) fail → IfRefused (HasLastingFault bytes) fail
 refuses bytes reader rest unit behind fails.Memory way cut h = tt
 refuses bytes reader rest unit behind (fails.Refused fault) way cut h =
     settled bytes reader rest fault way
@@ -64,7 +64,7 @@ more_than_none [] more some = absurd (some refl)
 more_than_none (x ∷ xs) more some = λ e. cc
 
 pub trailing : (bytes : List ℕ) (reader : Reader) (rest : List ℕ) → IsBetween bytes reader rest → unit_bytes reader ≡ None → rest ≢ []
-    → IsSettled bytes Trailing
+    → HasLastingFault bytes Trailing
 trailing bytes reader rest way is some = settled bytes reader rest Trailing way (λ more. too_long reader (rest ++ more) is (more_than_none rest more some))
 
 pub cut_short : (bytes : List ℕ) (reader : Reader) (rest : List ℕ) (len : ℕ) → IsBetween bytes reader rest → unit_bytes reader ≡ Some len → length rest < len
@@ -123,7 +123,7 @@ piece_taken self old next reader begun piece view is has =
     (has.bytes_are, goes_on (said reader ++ begun.items ++ piece) next has.feeding has.bytes_are)
 
 pub piece_refused : (self : Fed) (old : State) (reader : Reader) (begun : Vec ℕ Global) (piece : List ℕ) (fail : Fail Format) → fed old ≡ self
-    → old ≡ Open reader begun → IfRefused (IsSettled (said reader ++ begun.items ++ piece)) fail → Feeds self piece (fed (Stopped fail)) (Err fail)
+    → old ≡ Open reader begun → IfRefused (HasLastingFault (said reader ++ begun.items ++ piece)) fail → Feeds self piece (fed (Stopped fail)) (Err fail)
 piece_refused self old reader begun piece fail view is why =
     subst (λ f. Feeds f piece (fed (Stopped fail)) (Err fail)) (ap fed (sym is) ∙ view) (refl, why)
 

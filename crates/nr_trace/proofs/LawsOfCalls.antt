@@ -7,7 +7,7 @@ use Rattle.std.proofs.lemmas.Option.{same_Some, none-some, slice_get_within}
 use Rattle.vs_types.specs.declared.request.Query.{Query}
 use Rattle.vs_types.specs.declared.request.Query.TheVariants.{Update, Resolve, Access}
 use Rattle.nr_trace.specs.Recording.{Recording}
-use Rattle.nr_trace.specs.Calls.{Invocation, made_by, call_of, operation_in, address_in, operation_of, IsCall, IsUpdate, IsRead, Response, reply_in, reply_of}
+use Rattle.nr_trace.specs.Calls.{Invocation, made_by, call_of, operation_in, read_address, operation_of, IsCall, IsUpdate, IsRead, Response, reply_in, reply_of}
 use Rattle.nr_trace.specs.Calls.{reply_to, Answers}
 use Rattle.nr_trace.specs.Faults.{HasFault, StandsAfter}
 use Rattle.nr_trace.specs.Laws.{HasCleanLog}
@@ -31,10 +31,10 @@ some_or_none (Some x) = inl refl
 -- ---- kinds of calls
 
 made_kinds : (o : Option Invocation) → IsSome o
-    → IsSome (option_and_then (λ made. operation_in made.request) o) ⊎ IsSome (option_and_then (λ made. address_in made.request) o)
+    → IsSome (option_and_then (λ made. operation_in made.request) o) ⊎ IsSome (option_and_then (λ made. read_address made.request) o)
 made_kinds None h = absurd cc
 made_kinds (Some made) h = by_kind made.request where
-  by_kind : (request : Query) → IsSome (operation_in request) ⊎ IsSome (address_in request)
+  by_kind : (request : Query) → IsSome (operation_in request) ⊎ IsSome (read_address request)
   by_kind (Update action) = inl refl
   by_kind (Resolve address) = inr refl
   by_kind (Access address mode access) = inr refl
@@ -43,10 +43,10 @@ pub update_or_read : (trace : Recording) (call : ℕ) → IsCall trace call → 
 update_or_read trace call h = made_kinds (call_of trace call) h
 
 made_both : (o : Option Invocation) → IsSome (option_and_then (λ made. operation_in made.request) o)
-    → IsSome (option_and_then (λ made. address_in made.request) o) → ⊥
+    → IsSome (option_and_then (λ made. read_address made.request) o) → ⊥
 made_both None h k = cc
 made_both (Some made) h k = by_kind made.request h k where
-  by_kind : (request : Query) → IsSome (operation_in request) → IsSome (address_in request) → ⊥
+  by_kind : (request : Query) → IsSome (operation_in request) → IsSome (read_address request) → ⊥
   by_kind (Update action) h k = cc
   by_kind (Resolve address) h k = cc
   by_kind (Access address mode access) h k = cc
@@ -62,7 +62,7 @@ pub update_is_call : (trace : Recording) (call : ℕ) → IsUpdate trace call �
 update_is_call trace call h = then_some (λ (made : Invocation). operation_in made.request) (call_of trace call) h
 
 pub read_is_call : (trace : Recording) (call : ℕ) → IsRead trace call → IsCall trace call
-read_is_call trace call h = then_some (λ (made : Invocation). address_in made.request) (call_of trace call) h
+read_is_call trace call h = then_some (λ (made : Invocation). read_address made.request) (call_of trace call) h
 
 pub call_within : (trace : Recording) (call : ℕ) → IsCall trace call → call < length trace.events
 call_within trace call h =

@@ -8,7 +8,7 @@ use Rattle.vs_types.specs.declared.refusal.Fail.TheVariants.{Memory, Refused}
 use Rattle.nr_trace.specs.Recording.{Recording}
 use Rattle.nr_trace.specs.Spelling.{Spells}
 use Rattle.nr_trace.specs.FirstFault.{HasFormatFault}
-use Rattle.nr_trace.specs.Feed.{Fed, IsSettled, Feeds, FeedsAll, Ends, Reads}
+use Rattle.nr_trace.specs.Feed.{Fed, HasLastingFault, Feeds, FeedsAll, Ends, Reads}
 use Rattle.nr_trace.specs.Feed.Fed.{Taken, Stopped}
 use Rattle.nr_trace.specs.declared.fault.Format.{Format}
 use Rattle.nr_trace.specs.declared.fault.Format.TheVariants.{Truncated}
@@ -19,9 +19,9 @@ use Rattle.nr_trace.proofs.OnlySpelled.{settled_now}
 -- what a feed has come to is that of these bytes
 abbrev IsOf : List ℕ → Fed → Type 0
 IsOf bytes (Taken taken) = taken ≡ bytes
-IsOf bytes (Stopped fail) = IfRefused (IsSettled bytes) fail
+IsOf bytes (Stopped fail) = IfRefused (HasLastingFault bytes) fail
 
-settled_on : (bytes more : List ℕ) (fail : Fail Format) → IfRefused (IsSettled bytes) fail → IfRefused (IsSettled (bytes ++ more)) fail
+settled_on : (bytes more : List ℕ) (fail : Fail Format) → IfRefused (HasLastingFault bytes) fail → IfRefused (HasLastingFault (bytes ++ more)) fail
 settled_on bytes more Memory h = tt
 settled_on bytes more (Refused fault) h =
     λ (rest : List ℕ). subst (λ (l : List ℕ). HasFormatFault l fault) (sym (append_assoc bytes more rest)) (h (more ++ rest))
@@ -30,7 +30,7 @@ piece_fed : (bytes piece : List ℕ) (old new : Fed) (result : Result (Unit {0})
     → IsOf (bytes ++ piece) new
 piece_fed bytes piece (Taken taken) new (Ok done) is h = subst (IsOf (bytes ++ piece)) (sym h.0) (ap (λ (l : List ℕ). l ++ piece) is)
 piece_fed bytes piece (Taken taken) new (Err fail) is h =
-    subst (IsOf (bytes ++ piece)) (sym h.0) (subst (λ (l : List ℕ). IfRefused (IsSettled (l ++ piece)) fail) is h.1)
+    subst (IsOf (bytes ++ piece)) (sym h.0) (subst (λ (l : List ℕ). IfRefused (HasLastingFault (l ++ piece)) fail) is h.1)
 piece_fed bytes piece (Stopped fail) new result is h = subst (IsOf (bytes ++ piece)) (sym h.0) (settled_on bytes piece fail is)
 
 pieces_fed : (bytes : List ℕ) (pieces : List (List ℕ)) (old new : Fed) → IsOf bytes old → FeedsAll old pieces new → IsOf (bytes ++ concat pieces) new

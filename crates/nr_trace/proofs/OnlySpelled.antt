@@ -6,7 +6,7 @@ use Rattle.vs_types.specs.declared.refusal.Fail.TheVariants.{Memory, Refused}
 use Rattle.nr_trace.specs.Recording.{Recording}
 use Rattle.nr_trace.specs.Spelling.{Spells}
 use Rattle.nr_trace.specs.FirstFault.{HasFormatFault}
-use Rattle.nr_trace.specs.Feed.{Fed, IsSettled, Feeds, Ends}
+use Rattle.nr_trace.specs.Feed.{Fed, HasLastingFault, Feeds, Ends}
 use Rattle.nr_trace.specs.Feed.Fed.{Taken}
 use Rattle.vs_types.specs.Refusal.{IfRefused}
 use Rattle.nr_trace.specs.declared.fault.Format.{Format}
@@ -15,7 +15,7 @@ use Rattle.nr_trace.proofs.LawsOfFormat.{no_fault}
 use Rattle.nr_trace.proofs.LawsOfSpelling.{one_trace}
 
 -- what is settled is so where nothing comes after
-pub settled_now : (bytes : List ℕ) (fail : Fail Format) → IfRefused (IsSettled bytes) fail → IfRefused (HasFormatFault bytes) fail
+pub settled_now : (bytes : List ℕ) (fail : Fail Format) → IfRefused (HasLastingFault bytes) fail → IfRefused (HasFormatFault bytes) fail
 settled_now bytes Memory h = tt
 settled_now bytes (Refused fault) h = subst (λ (l : List ℕ). HasFormatFault l fault) (append-nil bytes) (h [])
 

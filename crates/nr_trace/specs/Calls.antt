@@ -27,17 +27,17 @@ operation_in (Update action) = Some action
 operation_in (Resolve address) = None
 operation_in (Access address mode access) = None
 
-abbrev pub address_in : Query → Option ℕ
-address_in (Update action) = None
-address_in (Resolve address) = Some address
-address_in (Access address mode access) = Some address
+abbrev pub read_address : Query → Option ℕ
+read_address (Update action) = None
+read_address (Resolve address) = Some address
+read_address (Access address mode access) = Some address
 
 -- the operation of an update, and the address of a read: a call that asks for a resolve or an access
 abbrev pub operation_of : Recording → ℕ → Option Action
 operation_of trace call = option_and_then (λ made. operation_in made.request) (call_of trace call)
 
 abbrev pub address_of : Recording → ℕ → Option ℕ
-address_of trace call = option_and_then (λ made. address_in made.request) (call_of trace call)
+address_of trace call = option_and_then (λ made. read_address made.request) (call_of trace call)
 
 abbrev pub IsCall : Recording → ℕ → Type 0
 IsCall trace call = IsSome (call_of trace call)

@@ -15,8 +15,8 @@ pub data Fed : Type 0 where
   Stopped : Fail Format → Fed
 
 -- the bytes have the fault, whatever comes after them
-abbrev pub IsSettled : List ℕ → Format → Type 0
-IsSettled bytes fault = (rest : List ℕ) → HasFormatFault (bytes ++ rest) fault
+abbrev pub HasLastingFault : List ℕ → Format → Type 0
+HasLastingFault bytes fault = (rest : List ℕ) → HasFormatFault (bytes ++ rest) fault
 
 -- nothing is wrong with the bytes yet, but that there may be too few
 abbrev pub HasNoFaultYet : List ℕ → Type 0
@@ -25,7 +25,7 @@ HasNoFaultYet bytes = (fault : Format) → HasFormatFault bytes fault → fault 
 -- the piece is taken; or the bytes with it are refused, and then all that comes after; or that has come before
 abbrev pub Feeds : Fed → List ℕ → Fed → Result (Unit {0}) (Fail Format) → Type 0
 Feeds (Taken bytes) piece new (Ok _) = (new ≡ Taken (bytes ++ piece)) × HasNoFaultYet (bytes ++ piece)
-Feeds (Taken bytes) piece new (Err fail) = (new ≡ Stopped fail) × IfRefused (IsSettled (bytes ++ piece)) fail
+Feeds (Taken bytes) piece new (Err fail) = (new ≡ Stopped fail) × IfRefused (HasLastingFault (bytes ++ piece)) fail
 Feeds (Stopped fail) piece new result = (new ≡ Stopped fail) × (result ≡ Err fail)
 
 -- the bytes spell the trace, or there are too few; or what was answered before is answered again

@@ -39,23 +39,23 @@ abbrev pub log_word : ℕ → List ℕ
 log_word call = to_be_bytes w32 call
 
 -- the fields of an answer: its code, and what it uses; the other fields are 0
-abbrev pub with_value : Answer → ℕ → AnswerFields
-with_value answer value = record { code = answer_code answer; size = 0; rights = 0; value = value }
+abbrev pub value_fields : Answer → ℕ → AnswerFields
+value_fields answer value = record { code = answer_code answer; size = 0; rights = 0; value = value }
 
-abbrev pub with_page : Answer → ℕ → Size → Rights → AnswerFields
-with_page answer phys size rights = record { code = answer_code answer; size = size_code size; rights = rights_code rights; value = phys }
+abbrev pub page_fields : Answer → ℕ → Size → Rights → AnswerFields
+page_fields answer phys size rights = record { code = answer_code answer; size = size_code size; rights = rights_code rights; value = phys }
 
 abbrev pub answer_fields : Answer → AnswerFields
-answer_fields Done = with_value Done 0
-answer_fields (Overlap base) = with_value (Overlap base) base
-answer_fields (Full need) = with_value (Full need) need
-answer_fields (Removed phys size rights) = with_page (Removed phys size rights) phys size rights
-answer_fields NotMapped = with_value NotMapped 0
-answer_fields (Inside base) = with_value (Inside base) base
+answer_fields Done = value_fields Done 0
+answer_fields (Overlap base) = value_fields (Overlap base) base
+answer_fields (Full need) = value_fields (Full need) need
+answer_fields (Removed phys size rights) = page_fields (Removed phys size rights) phys size rights
+answer_fields NotMapped = value_fields NotMapped 0
+answer_fields (Inside base) = value_fields (Inside base) base
 answer_fields (Changed rights) = record { code = answer_code (Changed rights); size = 0; rights = rights_code rights; value = 0 }
-answer_fields (Mapped phys size rights) = with_page (Mapped phys size rights) phys size rights
-answer_fields (Allowed phys) = with_value (Allowed phys) phys
-answer_fields (Fault code) = with_value (Fault code) code
+answer_fields (Mapped phys size rights) = page_fields (Mapped phys size rights) phys size rights
+answer_fields (Allowed phys) = value_fields (Allowed phys) phys
+answer_fields (Fault code) = value_fields (Fault code) code
 
 -- 24 bytes: tag 0, replica, thread, kind, size, rights, a 0, address, physical address; or
 -- tag 1, answer, size, rights, call, at, four 0, value

@@ -2,7 +2,7 @@
 
 ghost use Rattle.std.specs.Prelude.{◌≡◌};
 ghost use Rattle.vs_types.specs.Finds.{Finds};
-ghost use Rattle.nr_trace.specs.Spelling.{answer_fields, with_page, with_value};
+ghost use Rattle.nr_trace.specs.Spelling.{answer_fields, page_fields, value_fields};
 ghost use Rattle.nr_trace.specs.inside.Reading.{HasAnswerFields};
 
 use vs_types::{Answer, Config, Rights, Size};
@@ -59,7 +59,7 @@ impl AnswerFields {
     }
 
     fn with_value(answer: Answer, value: u64) -> AnswerFields
-        ensures { result ≡ with_value answer value }
+        ensures { result ≡ value_fields answer value }
     {
         AnswerFields {
             code: answer.code(),
@@ -70,7 +70,7 @@ impl AnswerFields {
     }
 
     fn with_page(answer: Answer, phys: u64, size: Size, rights: Rights) -> AnswerFields
-        ensures { result ≡ with_page answer phys size rights }
+        ensures { result ≡ page_fields answer phys size rights }
     {
         AnswerFields {
             code: answer.code(),

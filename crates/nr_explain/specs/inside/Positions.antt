@@ -2,7 +2,7 @@
 use Rattle.std.specs.Prelude.{◌≡◌, ◌⊎◌, ℕ, suc, ◌+◌, ◌*◌, ◌<◌, ◌≤◌, ◌++◌, nat_lt, List, [], length, take, Option, Some, None, if◌then◌else◌}
 use Rattle.nr_trace.specs.Spelling.{magic, version_word, counts, frame_words}
 use Rattle.nr_trace.specs.FirstFault.{AtUnit, AtFrames, AtDumps, AtEvents, AtLog, HasFormatFault, IsCounts}
-use Rattle.nr_trace.specs.Feed.{Fed, HasNoFaultYet, IsSettled}
+use Rattle.nr_trace.specs.Feed.{Fed, HasNoFaultYet, HasLastingFault}
 use Rattle.nr_trace.specs.Feed.Fed.{Taken, Stopped}
 use Rattle.vs_types.specs.Frame.{IsFrame}
 use Rattle.nr_trace.specs.declared.version.Version.{Version}
@@ -155,7 +155,7 @@ pub record IsBadIn (front run : List ℕ) (fault : Format) (unit : TraceUnit) (b
   pub goes_on : GoesOn (front ++ take before run) unit
   pub no_fault_yet : HasNoFaultYet (front ++ take before run)
   pub within : before + size unit ≤ length run
-  pub settled : IsSettled (front ++ take (before + size unit) run) fault
+  pub settled : HasLastingFault (front ++ take (before + size unit) run) fault
 
 -- ---- the reading
 

@@ -2,7 +2,7 @@
 
 ghost use Rattle.std.specs.Prelude.{◌≡◌, ◌++◌, [], IfErr, MatchResult};
 ghost use Rattle.vs_types.specs.Refusal.{IfRefused};
-ghost use Rattle.nr_trace.specs.Feed.{Ends, Feeds, IsSettled};
+ghost use Rattle.nr_trace.specs.Feed.{Ends, Feeds, HasLastingFault};
 ghost use Rattle.nr_trace.specs.Feed.Fed.{Taken};
 ghost use Rattle.nr_trace.specs.inside.Progress.{said, unit_bytes};
 ghost use Rattle.nr_trace.specs.inside.Feeding.{AreFewer, HasCome, IsCut, IsSound};
@@ -27,7 +27,7 @@ pub(crate) enum State {
 fn take_units(reader: Reader, bytes: &[u8]) -> Result<(Reader, &[u8]), Fail<Format>>
     requires { IsSound reader }
     ensures { MatchResult result (λ left. IsCut (said reader ++ bytes.now) left.0 left.1.now)
-        (IfRefused (IsSettled (said reader ++ bytes.now))) }
+        (IfRefused (HasLastingFault (said reader ++ bytes.now))) }
 {
     let mut reader = reader;
     let mut rest = bytes;
@@ -50,7 +50,7 @@ fn take_bytes(reader: Reader, mut begun: Vec<u8>, bytes: &[u8]) -> Result<State,
     requires sound { IsSound reader }
     requires between { begun.items ≡ [] }
     ensures { MatchResult result (HasCome (said reader ++ bytes.now))
-        (IfRefused (IsSettled (said reader ++ bytes.now))) }
+        (IfRefused (HasLastingFault (said reader ++ bytes.now))) }
 {
     let (reader, rest) = take_units(reader, bytes)?;
     begun.extend_from_slice(rest)?;
@@ -62,7 +62,7 @@ fn take_piece(reader: Reader, mut begun: Vec<u8>, piece: &[u8]) -> Result<State,
     requires sound { IsSound reader }
     requires fewer { AreFewer (unit_bytes reader) begun.items }
     ensures { MatchResult result (HasCome (said reader ++ begun.items ++ piece.now))
-        (IfRefused (IsSettled (said reader ++ begun.items ++ piece.now))) }
+        (IfRefused (HasLastingFault (said reader ++ begun.items ++ piece.now))) }
 {
     match reader.unit_len() {
         Some(len) if !begun.is_empty() => {

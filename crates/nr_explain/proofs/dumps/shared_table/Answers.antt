@@ -5,7 +5,7 @@ use Rattle.vs_types.specs.declared.depth.Depth.{Depth}
 use Rattle.vs_walk.specs.Dump.{Image}
 use Rattle.vs_walk.specs.Traversal.{walk_fault}
 use Rattle.vs_walk.specs.declared.walk.WalkFault.TheVariants as walks
-use Rattle.nr_explain.specs.Evidence.{LeadsTo}
+use Rattle.nr_explain.specs.Evidence.{StepsLeadTo}
 use Rattle.nr_explain.specs.Facts.{IsPath}
 use Rattle.nr_explain.specs.inside.Ways.{HasTwoWays}
 use Rattle.nr_explain.specs.declared.evidence.Step.{Step}
@@ -46,7 +46,7 @@ returns-clause-is c =
       dump,
       there,
       (
-        subst (λ (v : Vec Step Global). LeadsTo trace dump c.args.frame v.items) same (found.end, found.leads),
+        subst (λ (v : Vec Step Global). StepsLeadTo trace dump c.args.frame v.items) same (found.end, found.leads),
         (other.0, subst (λ (d : Depth). IsPath dump.frames (levels d) dump.root other.0 c.args.frame c.in_ok-first-2.second.items) given other.1),
         subst (λ (v : Vec Step Global). c.in_ok-first-2.second.items ≢ v.items) same other.2,
       ),

@@ -1,7 +1,7 @@
 use Rattle.std.proofs.Common.{ap, sym, subst, ◌∙◌, ◌≡◌, ◌++◌, ℕ, length, rules, append_assoc, arith}
 use Rattle.std.proofs.lemmas.List.{length-append}
 use Rattle.vs_types.specs.Refusal.{IfRefused}
-use Rattle.nr_trace.specs.Feed.{IsSettled}
+use Rattle.nr_trace.specs.Feed.{HasLastingFault}
 use Rattle.nr_trace.specs.inside.Progress.{said, unit_bytes, IsRun}
 use Rattle.nr_trace.proofs.Feeding.{fewer_than, refuses, sound_after, unit_completed}
 use Rattle.nr_trace.proofs.Whole.{one_unit}
@@ -11,7 +11,7 @@ pub returns-in_err-reader-in-Some : goal.returns-in_err-reader-in-Some
 returns-in_err-reader-in-Some c =
     let begun = c.args.begun.items in
     let bytes = said c.args.reader ++ begun ++ c.args.piece.now in
-    let refused : IfRefused (IsSettled bytes) c.in_err-reader-in-Some.field-0.0 =
+    let refused : IfRefused (HasLastingFault bytes) c.in_err-reader-in-Some.field-0.0 =
     refuses bytes c.args.reader (begun ++ c.args.piece.now) c.deref.result.now c.split_at.result.1.now c.in_err-reader-in-Some.field-0.0
     record { sound = c.requires.sound; parts = append_assoc (said c.args.reader) begun c.args.piece.now }
     (unit_completed begun c.args.piece.now c.split_at.result.0.now c.split_at.result.1.now c.deref.result.now (search rules) (c.deref.ensures.value

@@ -1,7 +1,7 @@
 use Rattle.std.proofs.Common.{◌≡◌, ◌++◌, ℕ, true, false, List, length, ap, ◌∙◌, rules}
 use Rattle.std.specs.Prelude.{◌==◌}
 use Rattle.vs_types.specs.Refusal.{IfRefused}
-use Rattle.nr_trace.specs.Feed.{IsSettled}
+use Rattle.nr_trace.specs.Feed.{HasLastingFault}
 use Rattle.nr_trace.specs.inside.Progress.{said}
 use Rattle.nr_trace.proofs.Feeding.{goes, refuses, trailing}
 use Rattle.nr_trace.proofs.reading.feed.take_units.Goals as goal
@@ -9,7 +9,7 @@ use Rattle.nr_trace.proofs.reading.feed.take_units.Goals as goal
 pub returns-in_err-reader : goal.returns-in_err-reader
 returns-in_err-reader c =
     let bytes = said c.args.reader ++ c.args.bytes.now in
-    let refused : IfRefused (IsSettled bytes) c.in_err-reader.field-0.0 =
+    let refused : IfRefused (HasLastingFault bytes) c.in_err-reader.field-0.0 =
     refuses bytes c.loop-len.reader c.loop-len.rest.now c.split_at.result.0.now c.split_at.result.1.now c.in_err-reader.field-0.0 c.loop-len.invariant
     (search rules) c.in_err-reader.ensures in
     search rules
