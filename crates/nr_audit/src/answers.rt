@@ -1,3 +1,5 @@
+//! The pass of the answers: each call of the recorded order is served on one space.
+
 ghost use Rattle.std.specs.Prelude.{◌≡◌, ◌↔◌, IfOk, OnOk, IfErr, IfSome, IsTrue};
 ghost use Rattle.nr_trace.specs.Laws.{HasCleanLog};
 ghost use Rattle.nr_trace.specs.Orders.{recorded_order, space_after};

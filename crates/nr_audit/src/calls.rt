@@ -1,3 +1,5 @@
+//! The first pass: calls and replies, each by itself.
+
 ghost use Rattle.std.specs.Prelude.{◌≡◌, ◌<◌, ◌↔◌, OnOk, IfOk, IfErr, IfSome, IsSomeAnd, IsTrue, is_some, length, slice_index_or};
 ghost use Rattle.vs_types.specs.Refusal.{IfRefused};
 ghost use Rattle.nr_trace.specs.Calls.{made_by};

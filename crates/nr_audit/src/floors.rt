@@ -1,3 +1,5 @@
+//! The pass of the replies: their places, and the calls that stand too early.
+
 ghost use Rattle.std.specs.Prelude.{◌≡◌, ◌+◌, ◌<◌, OnOk, IfOk, IfErr, IfSome, length};
 ghost use Rattle.vs_types.specs.Refusal.{IfRefused};
 ghost use Rattle.vs_types.specs.declared.answer.Answer.{Answer};

@@ -1,3 +1,5 @@
+//! A trace with the reply to each of its calls.
+
 ghost use Rattle.std.specs.Prelude.{◌≡◌, ◌<◌, IfSome, option_map, is_some};
 ghost use Rattle.nr_trace.specs.Calls.{address_of, call_of, operation_of, IsCall};
 ghost use Rattle.nr_trace.specs.Recording.{IsRecording};

@@ -1,3 +1,5 @@
+//! The last event of each call of an order.
+
 ghost use Rattle.std.specs.Prelude.{◌≡◌, ◌<◌, All, length, option_map};
 ghost use Rattle.nr_trace.specs.Calls.{IsCall, reply_of};
 ghost use Rattle.nr_audit.specs.inside.LastEvents.{call_at, AreLastEvents};

@@ -1,3 +1,5 @@
+//! The pass of the log: each place has an update, and no call stands at two.
+
 ghost use Rattle.std.specs.Prelude.{OnOk, IfOk, IfErr};
 ghost use Rattle.vs_types.specs.Refusal.{IfRefused};
 ghost use Rattle.nr_audit.specs.inside.Search.{HasNone, IsFirstAmong};

@@ -1,3 +1,5 @@
+//! Where replies say that their calls stand.
+
 ghost use Rattle.std.specs.Prelude.{◌≡◌, ◌≢◌, ◌<◌, ◌↔◌, IsTrue, MatchOption, Some, length, slice_get};
 ghost use Rattle.vs_types.specs.declared.answer.Answer.{Answer};
 ghost use Rattle.nr_trace.specs.Calls.{IsRead, IsUpdate};

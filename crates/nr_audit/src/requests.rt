@@ -1,3 +1,5 @@
+//! What a call asks.
+
 ghost use Rattle.std.specs.Prelude.{◌≡◌, IfSome, option_map};
 ghost use Rattle.vs_types.specs.Query.{IsQuery};
 ghost use Rattle.nr_trace.specs.Calls.{call_of};

@@ -1,3 +1,5 @@
+//! Tables of indexes, of four bytes each.
+
 ghost use Rattle.std.specs.Prelude.{◌≡◌, ◌+◌, ◌<◌, ◌^◌, IfOk, None, Some, replicate};
 
 use std::alloc::Global;

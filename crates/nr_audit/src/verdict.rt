@@ -1,3 +1,5 @@
+//! What an audit finds.
+
 use nr_trace::Fault;
 use std::marker::Model;
 
