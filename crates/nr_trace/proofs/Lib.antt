@@ -36,3 +36,4 @@ pub mod Images
 pub mod Written
 pub mod Framed
 pub mod Feeding
+pub mod WholeParts

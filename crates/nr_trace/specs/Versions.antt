@@ -1,11 +1,13 @@
 -- The two versions of the format: the number of each, and what it knows.
-use Rattle.std.specs.Prelude.{ℕ, ⊤}
+use Rattle.std.specs.Prelude.{ℕ, List, All, ⊤}
 use Rattle.vs_types.specs.declared.depth.Depth.{Depth}
 use Rattle.vs_types.specs.declared.depth.Depth.TheVariants.{Five}
 use Rattle.vs_types.specs.declared.request.Query.{Query}
 use Rattle.vs_types.specs.declared.request.Query.TheVariants.{Access}
 use Rattle.vs_types.specs.declared.answer.Answer.{Answer}
 use Rattle.vs_types.specs.declared.answer.Answer.TheVariants.{Allowed, Fault}
+use Rattle.nr_trace.specs.declared.event.Event.{Event}
+use Rattle.nr_trace.specs.declared.event.Event.TheVariants.{Call, Reply}
 use Rattle.nr_trace.specs.declared.version.Version.{Version}
 use Rattle.nr_trace.specs.declared.version.Version.TheVariants.{V1, V2}
 
@@ -28,3 +30,12 @@ abbrev pub KnowsAnswer : Version → Answer → Type 0
 KnowsAnswer V1 (Allowed phys) = ⊥
 KnowsAnswer V1 (Fault code) = ⊥
 KnowsAnswer version answer = ⊤
+
+-- the version knows what is asked, or answered
+abbrev pub KnowsEvent : Version → Event → Type 0
+KnowsEvent version (Call replica thread request) = KnowsQuery version request
+KnowsEvent version (Reply call at answer) = KnowsAnswer version answer
+
+-- version 1 knows the depth and each event
+abbrev pub FitsFirst : Depth → List Event → Type 0
+FitsFirst depth events = KnowsDepth V1 depth × All (KnowsEvent V1) events

@@ -1,8 +1,11 @@
 //! The versions of the format, and what each knows.
 
-ghost use Rattle.std.specs.Prelude.{◌≡◌, ◌↔◌, IsTrue};
-ghost use Rattle.nr_trace.specs.Versions.{version_code, KnowsAnswer, KnowsDepth, KnowsQuery};
+ghost use Rattle.std.specs.Prelude.{◌≡◌, ◌↔◌, All, IsTrue};
+ghost use Rattle.nr_trace.specs.Versions.{version_code, FitsFirst, KnowsAnswer, KnowsDepth, KnowsEvent, KnowsQuery};
+ghost use Rattle.nr_trace.specs.declared.version.Version.TheVariants.{V1};
 
+use crate::event::Event;
+use crate::recorded::Recorded;
 use vs_types::{Answer, Depth, Query};
 
 /// The version of the format in which a trace is spelled.
@@ -52,6 +55,39 @@ impl Version {
         match (self, answer) {
             (Version::V1, Answer::Allowed(_) | Answer::Fault(_)) => false,
             _ => true,
+        }
+    }
+
+    /// Whether a trace of the version may have the event.
+    fn knows_event(self, event: Event) -> bool
+        ensures { IsTrue result ↔ KnowsEvent self event }
+    {
+        match event {
+            Event::Call { request, .. } => self.knows_query(request.query()),
+            Event::Reply { answer, .. } => self.knows_answer(answer),
+        }
+    }
+
+    /// Whether a trace of the version may have all of the events.
+    fn knows_events(self, events: &[Recorded]) -> bool
+        ensures { IsTrue result ↔ All (KnowsEvent self) events.now }
+    {
+        for event in events {
+            if !self.knows_event(event.event()) {
+                return false;
+            }
+        }
+        true
+    }
+
+    /// The least version in which a trace may have the depth and the events.
+    pub fn least(depth: Depth, events: &[Recorded]) -> Version
+        ensures { (result ≡ V1) ↔ FitsFirst depth events.now }
+    {
+        if Version::V1.knows_depth(depth) && Version::V1.knows_events(events) {
+            Version::V1
+        } else {
+            Version::V2
         }
     }
 }
