@@ -4,4 +4,3 @@ pub mod Notes
 pub mod Placing
 pub mod Gathering
 pub mod Finished
-pub mod Parts

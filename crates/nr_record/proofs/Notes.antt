@@ -14,7 +14,7 @@ use Rattle.nr_trace.specs.Recording.{IsEvent}
 use Rattle.nr_trace.specs.declared.event.Event.{Event}
 use Rattle.nr_trace.specs.declared.event.Event.TheVariants.{Call, Reply}
 use Rattle.nr_trace.specs.declared.version.Version.TheVariants.{V2}
-use Rattle.nr_record.specs.Pen.{ClockId, PenState, call_by, calls_in, is_call, new_pen, new_pens, replica_of, stamped}
+use Rattle.nr_record.specs.Pen.{ClockId, PenState, call_by, calls_in, is_call, new_pen, new_pens, home_of, stamped}
 use Rattle.nr_record.specs.Rule.{HasDrawn, with_stamp}
 use Rattle.nr_record.specs.Stamps.{Rise}
 use Rattle.nr_record.specs.inside.Held.{HasMade, IsHeld, IsOwn}

@@ -1,12 +1,8 @@
 -- What the events of a finished run are.
 use Rattle.std.specs.Prelude.{◌≡◌, ℕ, ◌==◌, List, All, Bool, false, Option, None, Some, filter, option_and_then, slice_get}
 use Rattle.std.specs.Option.{option_map_or}
-use Rattle.nr_trace.specs.Recording.{Recording}
-use Rattle.nr_trace.specs.Versions.{KnowsAnswer, KnowsDepth, KnowsQuery}
 use Rattle.nr_trace.specs.declared.event.Event.{Event}
 use Rattle.nr_trace.specs.declared.event.Event.TheVariants.{Call, Reply}
-use Rattle.nr_trace.specs.declared.version.Version.{Version}
-use Rattle.nr_trace.specs.declared.version.Version.TheVariants.{V1}
 use Rattle.nr_record.specs.Pen.{PenState}
 
 -- the event of each stamp is what the pen was given with it
@@ -29,12 +25,3 @@ is_of thread events event = option_map_or (λ other. other == thread) (thread_of
 -- the events of a thread, in order
 abbrev pub events_of : ℕ → List Event → List Event
 events_of thread events = filter (is_of thread events) events
-
--- an event that a version of the format can say
-abbrev pub IsKnown : Version → Event → Type 0
-IsKnown version (Call replica thread request) = KnowsQuery version request
-IsKnown version (Reply call at answer) = KnowsAnswer version answer
-
--- the depth and the events are ones that version 1 can say
-abbrev pub FitsFirst : Recording → Type 0
-FitsFirst trace = KnowsDepth V1 trace.layout.depth × All (IsKnown V1) trace.events

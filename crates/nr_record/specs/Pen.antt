@@ -29,15 +29,15 @@ pub record PenState : Type 0 where
   pub made : List Stamped
 
 -- the replica at which a thread works
-abbrev pub replica_of : Layout → ℕ → ℕ
-replica_of layout thread = thread % layout.replicas
+abbrev pub home_of : Layout → ℕ → ℕ
+home_of layout thread = thread % layout.replicas
 
 abbrev pub stamped : ℕ → Event → Stamped
 stamped stamp event = record { stamp = stamp; event = event }
 
 -- a thread makes a call
 abbrev pub call_by : Layout → ℕ → Query → Event
-call_by layout thread request = Call (replica_of layout thread) thread request
+call_by layout thread request = Call (home_of layout thread) thread request
 
 abbrev pub is_call : Event → Bool
 is_call (Call replica thread request) = true

@@ -3,8 +3,9 @@ ghost use Rattle.std.specs.Prelude.{◌≡◌, ◌↔◌, ◌≤◌, All, IfOk, 
 ghost use Rattle.std.specs.FinMap as finite;
 ghost use Rattle.std.specs.List.{flat_map};
 ghost use Rattle.vs_types.specs.declared.limits.TheConstants.{CALLS, LOG_PLACES};
+ghost use Rattle.nr_trace.specs.Versions.{FitsFirst};
 ghost use Rattle.nr_trace.specs.declared.version.Version.TheVariants.{V1};
-ghost use Rattle.nr_record.specs.Events.{FitsFirst, HasNotes, events_of};
+ghost use Rattle.nr_record.specs.Events.{HasNotes, events_of};
 ghost use Rattle.nr_record.specs.Pen.{AreAllPens, stamps_of};
 ghost use Rattle.nr_record.specs.Stamps.{AreBelow, Rise};
 ghost use Rattle.nr_record.specs.inside.Held.{IsTrueOf};
@@ -13,8 +14,7 @@ use crate::clock::Clock;
 use crate::order::in_order;
 use crate::pen::Pen;
 use crate::stamped::Stamped;
-use crate::version::least_version;
-use nr_trace::Trace;
+use nr_trace::{Trace, Version};
 use std::alloc::Global;
 use vs_types::{Config, Memory};
 use vs_walk::Dump;
@@ -81,11 +81,12 @@ pub fn finish(
         pens.items) }
     ensures handed_in { IfOk result
         (λ trace. (trace.layout ≡ config) × (trace.log ≡ log.items) × (trace.dumps ≡ dumps.items)) }
-    ensures version { IfOk result (λ trace. (trace.version ≡ V1) ↔ FitsFirst trace) }
+    ensures version { IfOk result
+        (λ trace. (trace.version ≡ V1) ↔ FitsFirst trace.layout.depth trace.events) }
 {
     let (count, notes) = gather(alloc, clock, pens)?;
     let events = in_order(alloc, count as usize, &notes)?;
-    let version = least_version(config, &events);
+    let version = Version::least(config.depth(), &events);
     match Trace::new(version, config, log, events, dumps) {
         Ok(trace) => Ok(trace),
         Err(_) => unreachable!(),

@@ -11,7 +11,6 @@ mod order;
 mod pen;
 mod rule;
 mod stamped;
-mod version;
 mod view;
 
 pub use clock::{Clock, pens};

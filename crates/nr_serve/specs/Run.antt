@@ -13,7 +13,7 @@ use Rattle.nr_ring.specs.LogHistory.{IsLogHistory, log_after}
 use Rattle.nr_ring.specs.Pass.{Known, TableId}
 use Rattle.nr_ring.specs.View.{StartsWith}
 use Rattle.nr_ring.specs.declared.log_event.LogEvent.{LogEvent}
-use Rattle.nr_record.specs.Pen.{replica_of}
+use Rattle.nr_record.specs.Pen.{home_of}
 use Rattle.nr_serve.specs.declared.outcome.Outcome.{Outcome}
 use Rattle.nr_serve.specs.declared.outcome.Outcome.TheVariants.{Refused, Verified}
 use Rattle.nr_serve.specs.declared.said.Said.{Said}
@@ -25,7 +25,7 @@ calls_of trace thread = filter (λ call. option_map_or (λ made. made.thread == 
 
 -- a thread asks something, at its replica
 abbrev pub asked_by : Layout → ℕ → Query → Invocation
-asked_by layout thread request = record { replica = replica_of layout thread; thread = thread; request = request }
+asked_by layout thread request = record { replica = home_of layout thread; thread = thread; request = request }
 
 -- what came of a call: its reply's answer, and where it was reached; or it has none
 abbrev pub said_of : Recording → ℕ → Said

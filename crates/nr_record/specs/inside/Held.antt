@@ -7,7 +7,7 @@ use Rattle.nr_trace.specs.declared.event.Event.{Event}
 use Rattle.nr_trace.specs.declared.event.Event.TheVariants.{Call, Reply}
 use Rattle.nr_trace.specs.declared.version.Version.TheVariants.{V2}
 use Rattle.nr_record.specs.Stamps.{Rise}
-use Rattle.nr_record.specs.Pen.{PenState, call_by, calls_in, replica_of, stamped, stamps_of}
+use Rattle.nr_record.specs.Pen.{PenState, call_by, calls_in, home_of, stamped, stamps_of}
 use Rattle.nr_record.specs.declared.stamped.Stamped.{Stamped}
 use Rattle.nr_record.specs.declared.view.View.{View}
 
@@ -17,7 +17,7 @@ HasMade layout thread made call = (request : Query) × Contains made (stamped ca
 
 -- a call of the thread, or the reply to one
 abbrev pub IsOwn : Layout → ℕ → List Stamped → Event → Type 0
-IsOwn layout thread made (Call replica caller request) = (replica ≡ replica_of layout thread) × (caller ≡ thread)
+IsOwn layout thread made (Call replica caller request) = (replica ≡ home_of layout thread) × (caller ≡ thread)
 IsOwn layout thread made (Reply call at answer) = HasMade layout thread made call
 
 abbrev pub waits : Option ℕ → ℕ
@@ -31,7 +31,7 @@ IsWaiting layout thread made (Some call) = HasMade layout thread made call
 -- a pen's notes are of the stamps that its seat has drawn, and are those of its thread; there is room for all that its quota allows
 pub record IsHeld (view : View) (replica thread : ℕ) (waiting : Option ℕ) (room : ℕ) (made : List Stamped) : Type 0 where
   pub same : map (λ item. item.stamp) made ≡ view.stamps
-  pub replica_is : replica ≡ replica_of view.plan.config thread
+  pub replica_is : replica ≡ home_of view.plan.config thread
   pub is_replica : replica < view.plan.config.replicas
   pub is_thread : thread < view.plan.config.threads
   pub room_is : 2 * view.quota ≤ room

@@ -2,15 +2,17 @@ use Rattle.std.proofs.Common.{◌≡◌, ℕ, List, All, length, map, ap, sym, s
 use Rattle.std.specs.List.{flat_map}
 use Rattle.vs_types.specs.Config.{Layout}
 use Rattle.vs_types.specs.declared.answer.Answer.TheVariants.{Done}
+use Rattle.vs_types.specs.declared.depth.Depth.{Depth}
 use Rattle.nr_trace.specs.Recording.{Recording, IsEvent}
+use Rattle.nr_trace.specs.Versions.{FitsFirst}
 use Rattle.nr_trace.specs.declared.event.Event.{Event}
 use Rattle.nr_trace.specs.declared.event.Event.TheVariants.{Reply}
-use Rattle.nr_trace.specs.declared.version.Version.TheVariants.{V1, V2}
-use Rattle.nr_record.specs.Events.{HasNotes, IsKnown, events_of}
+use Rattle.nr_trace.specs.declared.version.Version.TheVariants.{V2}
+use Rattle.nr_trace.proofs.WholeParts.{known_in_least, whole_parts}
+use Rattle.nr_record.specs.Events.{HasNotes, events_of}
 use Rattle.nr_record.specs.Pen.{PenState, stamps_of}
 use Rattle.nr_record.specs.Stamps.{AreBelow}
 use Rattle.nr_record.proofs.Finished.{length_run, notes_below, run_by_thread, run_fits, run_has_notes, run_is}
-use Rattle.nr_record.proofs.Parts.{known_depth, known_events, whole_parts}
 use Rattle.nr_record.proofs.ending.finish.Goals as goal
 
 pub in_order-requires : goal.in_order-requires
@@ -26,8 +28,8 @@ unreachable-requires c =
     let n = c.in_ok-count.count in
     let events = c.in_ok-events.events.items in
     let config = c.args.config in
-    let least = c.least_version-version.ensures in
-    let version = c.least_version-version.result in
+    let least = c.least-version.ensures in
+    let version = c.least-version.result in
     let same = ap (λ lists. flat_map (λ made. made.items) lists) c.deref.ensures.value ∙ gathered.notes in
     let run = run_is n (Reply 0 0 Done) pens events _ c.in_ok-events.ensures same in
     let fit = run_fits n (Reply 0 0 Done) c.args.clock pens gathered.stamps.0 c.requires.pens gathered.each in
@@ -36,12 +38,12 @@ unreachable-requires c =
     let parts : Recording = record { version = version; layout = config; log = c.args.log.items; events = events; dumps = c.args.dumps.items } in
     whole_parts parts c.in-Err.field-0
     (record {
-      depth = known_depth version config (λ first. (least.0 first).0);
+      known = known_in_least version config events fit''
+          (λ first. subst (λ (depth : Depth). FitsFirst depth events) c.depth.ensures
+          (subst (λ (es : List Event). FitsFirst c.depth.result es) c.deref-2.ensures.value (least.0 first)));
       places = c.requires.log;
       few = omega (arith, ap (λ (es : List Event). length es) run, length_run n (Reply 0 0 Done) pens, gathered.stamps.2);
       dumps = c.requires.dumps.0;
-      events = known_events version config events fit''
-          (λ first. subst (λ (es : List Event). All (IsKnown V1) es) c.deref-2.ensures.value (least.0 first).1);
       frames = c.requires.dumps.1;
     }) c.in-Err.ensures
 
