@@ -1,6 +1,7 @@
 #!/usr/bin/env python3
 """Compares the words that a reader has to believe with docs/DEFINITIONS.md, which reads each of them aloud; and the public calls
 of the libraries and their premises with docs/PROMISES.md. Part 1 of DEFINITIONS.md has to have just the words of the headline, and
+just the types and constants of the code of which these speak, with their variants, fields and values as the code declares them; and
 the crates of the audit depend on none of the replication.
 
 A word of the trust base is a definition of some specs/ folder that a clause of a public call cites, or that such a word
@@ -120,6 +121,55 @@ def trust_base(words=None):
 
 HEADLINE = ("nr_audit.Headline", "AreRightWith")
 MOST_LINES = 400
+DECLARED = "### What the code declares"
+
+
+def declared_by(base, found):
+    """The types of the code of which these words speak, each with the file that declares it, and the constants likewise."""
+    types, constants = set(), set()
+    for word in base:
+        text, scope = found[word]
+        for token in NAME.findall(text):
+            for place, name in scope.find(token):
+                crate, is_declared, path = place.partition(".declared.")
+                module, _, item = path.partition(".")
+                if not is_declared:
+                    continue
+                file = ROOT / "crates" / crate / "src" / f"{module}.rt"
+                (constants if item.startswith("TheConstants") else types).add((name if item.startswith("TheConstants") else item.partition(".")[0], file))
+    return types, constants
+
+
+def parts_of_type(name, file):
+    """The names of the variants and fields of a type, in the order in which they are declared."""
+    text = re.sub(r"//.*", "", file.read_text())
+    head = re.search(rf"^pub(?:\(crate\))? (?:enum|struct) {name} \{{", text, re.M)
+    return re.findall(r"^\s*(?:pub(?:\(crate\))? )?(\w+)(?=[:,(]| \{)", braced(text, head.end() - 1), re.M)
+
+
+def number(text):
+    """The number that a text says, as `131_072`, `1 << 51`, 131,072 or 2^51."""
+    first, power, last = re.fullmatch(r"([\d,_]+)(?: *(<<|\^) *(\d+))?", text.strip()).groups()
+    first = int(re.sub("[,_]", "", first))
+    return first if not power else first << int(last) if power == "<<" else first ** int(last)
+
+
+def undeclared(part, base, found):
+    """What is wrong with the tables of types and constants: each has a line, in which code are just its variants and fields, or the value is its own."""
+    section = part.partition(DECLARED)[2].partition("\n### ")[0]
+    rows = {name: cells for name, cells in re.findall(r"^\| \*\*`(\w+)`\*\* \|(.*)\|$", section, re.M)}
+    types, constants = declared_by(base, found)
+    for name, file in sorted(types | constants):
+        if name not in rows:
+            yield f"part 1 lacks {name} of {file.relative_to(ROOT)}"
+        elif (name, file) in types and re.findall(r"`(\w+)`", rows[name]) != parts_of_type(name, file):
+            yield f"part 1 has {name} otherwise than the code: {' '.join(parts_of_type(name, file))}"
+        elif (name, file) in constants:
+            value = re.search(rf"\bconst {name}: \w+ = ([^;]*);", file.read_text())[1]
+            if number(rows[name].partition("|")[0]) != number(value):
+                yield f"part 1 has another value of {name} than the code: {value}"
+    for name in sorted(rows.keys() - {name for name, _ in types | constants}):
+        yield f"part 1 declares what the headline does not rest on: {name}"
 
 
 def first_part():
@@ -127,8 +177,9 @@ def first_part():
     text = (ROOT / "docs/DEFINITIONS.md").read_text()
     part = "## 1." + text.partition("\n## 1.")[2].partition("\n## ")[0]
     lines = text.partition("\n## 2.")[0].count("\n")
-    base, _ = trust_base([HEADLINE])
+    base, found = trust_base([HEADLINE])
     told = read_aloud(part)
+    yield from undeclared(part, base, found)
     for place, name in sorted(base - {(place, name) for places, name in told for place in places}):
         yield f"the headline rests on a word that part 1 lacks: {name} ({place})"
     for places, name in told:
@@ -211,13 +262,17 @@ def untold():
 
 
 def read_aloud(text):
-    """The words in bold code, each with the places that the heading above it names: (`crate`: Module, Module; `crate`: Module)."""
-    told, places = [], []
+    """The words in bold code, each with the places that the heading above it names: (`crate`: Module, Module; `crate`: Module). What
+    the code declares is none of them."""
+    told, places, declared = [], [], False
     for line in text.splitlines():
         if line.startswith("#"):
             named = re.search(r"\((`\w+`: [^)]*)\)", line)
             parts = [part.strip().split(": ") for part in named[1].split(";")] if named else []
             places = [f"{crate.strip('`')}.{module.strip()}" for crate, modules in parts for module in modules.split(",")]
+            declared = line == DECLARED
+        if declared:
+            continue
         told += [(places, name) for name in re.findall(r"\*\*`([^`]+)`\*\*", line)]
     return told
 
