@@ -1,7 +1,6 @@
 -- Runs of the protocol: any steps in turn, and what a recording of the state after them is.
 use Rattle.std.specs.Prelude.{◌≡◌, ℕ, List, map, Bool, true, false, ◌&&◌, unwrap_or, Option, Some, None, if◌then◌else◌}
 use Rattle.std.specs.List.{fold, list_all, AllZip}
-use Rattle.vs_types.specs.Config.{Layout}
 use Rattle.vs_types.specs.declared.depth.Depth.{Depth}
 use Rattle.vs_types.specs.declared.depth.Depth.TheVariants.{Four, Five}
 use Rattle.vs_types.specs.declared.answer.Answer.{Answer}
