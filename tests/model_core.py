@@ -1,6 +1,6 @@
 #!/usr/bin/env python3
-"""A second reader of scripts, and a second core that takes their steps, in plain Python: written from docs/FORMATS.md alone, to
-compare with. Nothing here is proved, and nothing rests on it.
+"""A second reader of scripts, and a second core that takes their steps, in plain Python: written from docs/FORMATS.md alone, over the
+spaces of model_auditor.py, to compare with. Nothing here is proved, and nothing rests on it.
 
     model_core.py [--levels N] [--replicas N] [--tables N] <SCRIPT     the events, the log and each replica's applied entries
 """
