@@ -12,7 +12,7 @@ use Rattle.vs_walk.specs.Traversal.{traversal, reached, walk_fault}
 use Rattle.vs_walk.specs.Walk.{TranslatesAs}
 use Rattle.vs_space.specs.Table.{PageTable, IsTableOf}
 use Rattle.nr_core.specs.State.{Replica}
-use Rattle.nr_core.specs.Run.{IsDumpOf}
+use Rattle.nr_core.specs.Run.{IsDumpOfReplica}
 
 -- the frames that are reached, where each frame is
 all_gathered : (memory dump : Memory) (reached : List ℕ) → ((number : ℕ) → Contains reached number → IsTrue (finite.contains_key memory number))
@@ -50,7 +50,7 @@ some_get memory number some = some
 
 pub is_dump : (table : PageTable) (space : Space) (replica : Replica) (depth : Depth) (root : ℕ) (dump : Image) → IsTableOf table space
     → replica.space ≡ space → dump.applied ≡ replica.applied → walk_fault table.depth table.memory table.root ≡ None
-    → IsGathered table depth root dump → IsDumpOf table.depth replica dump
+    → IsGathered table depth root dump → IsDumpOfReplica table.depth replica dump
 is_dump table space replica depth root dump of space_is applied faultless is =
     let frames = same_frames table depth root dump is in
     let root_is = is.dump_root ∙ is.root_is in

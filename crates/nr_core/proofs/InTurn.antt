@@ -42,5 +42,8 @@ is_after_all layout scripts steps core trace i past before is =
 
 pub is_of_steps : (layout : Layout) (scripts : List (List Query)) (steps : List Step) (core : State) (trace : Recording) (i : ℕ) → length steps ≤ i
     → core ≡ after_steps (start layout scripts) (take i steps) → IsRecordingOf core trace → IsRecordingOfSteps trace
-is_of_steps layout scripts steps core trace i past before is =
-    (layout, scripts, steps, is_after_all layout scripts steps core trace i past before is)
+is_of_steps layout scripts steps core trace i past before is = (
+  after_steps (start layout scripts) steps,
+  (layout, scripts, steps, refl),
+  is_after_all layout scripts steps core trace i past before is,
+)

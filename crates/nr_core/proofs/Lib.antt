@@ -3,5 +3,5 @@ mod Dumped
 mod InTurn
 mod Keeping
 mod Lists
-mod Recorded
+mod PartsOfTraces
 mod Starting

@@ -23,4 +23,6 @@ pub mod CleanLog
 pub mod RightAnswers
 pub mod InTime
 pub mod Dumps
-pub mod Laws
+pub mod NoFault
+pub mod Locks
+pub mod Noted

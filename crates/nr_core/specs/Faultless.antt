@@ -1,18 +1,14 @@
 -- What the laws of `src/faultless.rt` and the contract of `run_steps` speak of.
-use Rattle.std.specs.Prelude.{ℕ, List}
-use Rattle.vs_types.specs.Config.{Layout}
-use Rattle.vs_types.specs.declared.request.Query.{Query}
+use Rattle.std.specs.Prelude.{ℕ}
 use Rattle.nr_trace.specs.Faults.{HasFault}
 use Rattle.nr_trace.specs.Recording.{Recording}
 use Rattle.nr_trace.specs.declared.fault.Fault.TheVariants.{PrefixPastLog, PrefixShort, MissingFrame, SharedFrame, ReservedBit, StrayFrame, Differs}
-use Rattle.nr_core.specs.State.{start}
-use Rattle.nr_core.specs.Run.{after_steps, IsRecordingOf}
-use Rattle.nr_core.specs.declared.step.Step.{Step}
+use Rattle.nr_core.specs.State.{State}
+use Rattle.nr_core.specs.Run.{IsReachable, IsRecordingOf}
 
--- a recording of the state that some steps reach, from the start of some layout and scripts
+-- a recording of a state that some steps reach
 abbrev pub IsRecordingOfSteps : Recording → Type 0
-IsRecordingOfSteps trace =
-    (layout : Layout) × (scripts : List (List Query)) × (steps : List Step) × IsRecordingOf (after_steps (start layout scripts) steps) trace
+IsRecordingOfSteps trace = (state : State) × IsReachable state × IsRecordingOf state trace
 
 -- no fault holds of a dump: of how many entries it says, of its table, of what it translates
 pub record HasRightDumps (trace : Recording) : Type 0 where

@@ -1,6 +1,7 @@
 -- Runs of the protocol: any steps in turn, and what a recording of the state after them is.
 use Rattle.std.specs.Prelude.{◌≡◌, ℕ, List, map, Bool, true, false, ◌&&◌, unwrap_or, Option, Some, None, if◌then◌else◌}
 use Rattle.std.specs.List.{fold, list_all, AllZip}
+use Rattle.vs_types.specs.Config.{Layout}
 use Rattle.vs_types.specs.declared.depth.Depth.{Depth}
 use Rattle.vs_types.specs.declared.depth.Depth.TheVariants.{Four, Five}
 use Rattle.vs_types.specs.declared.answer.Answer.{Answer}
@@ -16,7 +17,7 @@ use Rattle.nr_trace.specs.declared.version.Version.{Version}
 use Rattle.nr_trace.specs.declared.version.Version.TheVariants.{V1, V2}
 use Rattle.nr_trace.specs.declared.event.Event.{Event}
 use Rattle.nr_trace.specs.declared.event.Event.TheVariants.{Call, Reply}
-use Rattle.nr_core.specs.State.{State, Replica}
+use Rattle.nr_core.specs.State.{State, Replica, start}
 use Rattle.nr_core.specs.Steps.{after_step}
 use Rattle.nr_core.specs.declared.step.Step.{Step}
 
@@ -28,6 +29,10 @@ IsStepped old (Some next) done new = (done ≡ true) × (new ≡ next)
 -- the state after steps in turn: those that are not enabled are passed over
 abbrev pub after_steps : State → List Step → State
 after_steps state steps = fold (λ before step. unwrap_or (after_step before step) before) state steps
+
+-- some steps reach the state, from the start of some layout and scripts
+abbrev pub IsReachable : State → Type 0
+IsReachable state = (layout : Layout) × (scripts : List (List Query)) × (steps : List Step) × (state ≡ after_steps (start layout scripts) steps)
 
 -- whether version 1 of the format has the query, the answer, the event, the depth
 abbrev pub query_in_first : Query → Bool
@@ -52,7 +57,7 @@ abbrev pub version_of : State → Version
 version_of state = if depth_in_first state.layout.depth && list_all event_in_first state.events then V1 else V2
 
 -- a dump of a replica: it translates as its space, and its walk meets no fault and reaches each of its frames
-pub record IsDumpOf (depth : Depth) (replica : Replica) (dump : Image) : Type 0 where
+pub record IsDumpOfReplica (depth : Depth) (replica : Replica) (dump : Image) : Type 0 where
   pub applied : dump.applied ≡ replica.applied
   pub translates : TranslatesAs depth dump.frames dump.root replica.space
   pub faultless : walk_fault depth dump.frames dump.root ≡ None
@@ -64,4 +69,4 @@ pub record IsRecordingOf (state : State) (trace : Recording) : Type 0 where
   pub layout : trace.layout ≡ state.layout
   pub log : trace.log ≡ map (λ entry. entry.call) state.log
   pub events : trace.events ≡ state.events
-  pub dumps : AllZip (IsDumpOf state.layout.depth) state.replicas trace.dumps
+  pub dumps : AllZip (IsDumpOfReplica state.layout.depth) state.replicas trace.dumps

@@ -134,10 +134,14 @@ without s replica =
 abbrev pub noted_for : ℕ → Replica → Option Answered
 noted_for s replica = option_and_then (λ update. update.noted) (find (λ update. update.thread == s) replica.batch)
 
--- Answer s: where an answer is noted for s, whose update is taken, it stands in the slot of s, and the update leaves the batch
+-- Answer s: where an answer is noted for s, whose update is taken, it stands in the slot of s, and the update leaves the batch. In
+-- every state that steps reach, an answer is noted only for updates that are taken: so the step is the same as one that asks for the
+-- note alone (the law `noted_answers_are_of_taken_updates`)
+abbrev pub with_ready : State → ℕ → Replica → ℕ → Thread → Answered → State
+with_ready state r replica s other answered = with_replica (with_thread state s (record other { stage = Ready answered })) r (without s replica)
+
 abbrev pub with_answer : State → ℕ → Replica → ℕ → Thread → Answered → Stage → Option State
-with_answer state r replica s other answered (Taken call) =
-    Some (with_replica (with_thread state s (record other { stage = Ready answered })) r (without s replica))
+with_answer state r replica s other answered (Taken call) = Some (with_ready state r replica s other answered)
 with_answer state r replica s other answered stage = None
 
 abbrev pub answer : State → ℕ → ℕ → Option State

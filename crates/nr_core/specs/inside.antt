@@ -1,5 +1,5 @@
 -- Loop invariants and the insides of models: no public clause cites them.
-pub mod Faultless
+pub mod Reached
 pub mod OneSpace
 pub mod Parts
 pub mod Views

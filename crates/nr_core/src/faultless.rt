@@ -1,12 +1,14 @@
 //! Whatever the steps, the recording of the state after them has no fault. Each function does nothing: its clauses say what holds of
 //! every recording of a state that steps reach, whatever the layout, the scripts and the list of steps.
 
-ghost use Rattle.std.specs.Prelude.{◌≡◌, ℕ, Some, slice_get};
+ghost use Rattle.std.specs.Prelude.{◌≡◌, ℕ, List, Some, slice_get};
 ghost use Rattle.vs_walk.specs.Dump.{Image};
-ghost use Rattle.nr_trace.specs.Faults.{HasFault};
+ghost use Rattle.nr_trace.specs.Faults.{HasFault, IsFirstOf};
 ghost use Rattle.nr_trace.specs.Laws.{HasCleanLog, IsFaultless};
 ghost use Rattle.nr_trace.specs.Orders.{IsLegalOrder, FitsOrder, recorded_order};
 ghost use Rattle.nr_trace.specs.Recording.{Recording};
+ghost use Rattle.nr_trace.specs.Spelling.{Spells};
+ghost use Rattle.nr_trace.specs.declared.fault.Fault.{Fault};
 ghost use Rattle.nr_trace.specs.declared.fault.Fault.TheVariants.{Early, WrongAnswer};
 ghost use Rattle.nr_trace.specs.declared.fault.Fault.TheVariants.{PrefixPastLog, PrefixShort};
 ghost use Rattle.nr_trace.specs.declared.fault.Fault.TheVariants.{MissingFrame, SharedFrame};
@@ -59,4 +61,11 @@ pub fn no_list_of_steps_makes_a_fault()
     ensures fits { (trace : Recording) (replica : ℕ) (dump : Image) → IsRecordingOfSteps trace
         → slice_get trace.dumps replica ≡ Some dump
         → FitsOrder trace (recorded_order trace) replica dump }
+{}
+
+/// Nor of its bytes: no fault is the first of bytes that spell such a recording, so that no verdict on them is no. The auditor's verdict
+/// is yes: the law `steps_are_judged_yes` of `core_tests`.
+pub fn no_bytes_of_steps_have_a_fault()
+    ensures { (trace : Recording) (bytes : List ℕ) (fault : Fault) → IsRecordingOfSteps trace
+        → Spells bytes trace → IsFirstOf bytes fault → ⊥ }
 {}

@@ -7,6 +7,7 @@
 mod batch;
 pub mod examples;
 pub mod faultless;
+pub mod laws;
 mod parts;
 mod recording;
 mod replicas;

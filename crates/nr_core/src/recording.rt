@@ -4,7 +4,7 @@ ghost use Rattle.std.specs.FinMap as finite;
 ghost use Rattle.std.specs.List.{list_all, AllZip};
 ghost use Rattle.nr_trace.specs.Recording.{IsRecording};
 ghost use Rattle.nr_trace.specs.declared.version.Version.TheVariants.{V1, V2};
-ghost use Rattle.nr_core.specs.Run.{depth_in_first, event_in_first, IsDumpOf, IsRecordingOf};
+ghost use Rattle.nr_core.specs.Run.{depth_in_first, event_in_first, IsDumpOfReplica, IsRecordingOf};
 ghost use Rattle.nr_core.specs.inside.Parts.{replica_in, IsReplica};
 
 use crate::parts::ReplicaState;
@@ -85,7 +85,7 @@ fn calls_in(alloc: Global, log: &[LogEntry]) -> Result<Vec<u32>, Memory>
 fn dumps_of(alloc: Global, config: Config, replicas: &[ReplicaState]) -> Result<Vec<Dump>, Memory>
     requires { All (IsReplica config) replicas.now }
     ensures each { IfOk result (λ dumps.
-        AllZip (IsDumpOf config.depth) (map replica_in replicas.now) dumps.items) }
+        AllZip (IsDumpOfReplica config.depth) (map replica_in replicas.now) dumps.items) }
     ensures frames { IfOk result (λ dumps. All (λ dump. 1 ≤ finite.len dump.frames) dumps.items) }
 {
     let mut dumps = Vec::with_capacity(alloc, replicas.len())?;
@@ -98,7 +98,7 @@ fn dumps_of(alloc: Global, config: Config, replicas: &[ReplicaState]) -> Result<
 /// A dump of a replica.
 fn dump_of(alloc: Global, config: Config, replica: &ReplicaState) -> Result<Dump, Memory>
     requires { IsReplica config replica.now }
-    ensures is { IfOk result (IsDumpOf config.depth (replica_in replica.now)) }
+    ensures is { IfOk result (IsDumpOfReplica config.depth (replica_in replica.now)) }
     ensures frames { IfOk result (λ dump. 1 ≤ finite.len dump.frames) }
 {
     let _tables = config.tables();

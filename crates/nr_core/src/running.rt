@@ -3,6 +3,7 @@ ghost use Rattle.std.specs.Prelude.{◌≡◌, ℕ, IfOk, map};
 ghost use Rattle.nr_trace.specs.Faults.{HasFault};
 ghost use Rattle.nr_trace.specs.FirstFault.{HasFormatFault};
 ghost use Rattle.nr_trace.specs.Laws.{HasCleanLog, IsFaultless};
+ghost use Rattle.nr_trace.specs.Recording.{IsRecording};
 ghost use Rattle.nr_trace.specs.Spelling.{spelling};
 ghost use Rattle.nr_trace.specs.declared.fault.Format.{Format};
 ghost use Rattle.nr_trace.specs.declared.fault.Fault.TheVariants.{Early, WrongAnswer};
@@ -18,8 +19,8 @@ use std::alloc::Global;
 use vs_types::{Config, Memory, Request};
 
 /// A recording of the state after the steps in turn, from the start, with a script for each thread; steps that are not enabled are
-/// passed over. Whatever the steps, it has no fault. It takes the memory of `Core::new`, of each step and of `Core::trace`.
-/// There is one script for each thread, with at most 65,536 requests in all, each well formed at the depth.
+/// passed over. Whatever the steps, it is within the format's ranges and has no fault. It takes the memory of `Core::new`, of each step
+/// and of `Core::trace`. There is one script for each thread, with at most 65,536 requests in all, each well formed at the depth.
 ///
 /// # Errors
 ///
@@ -33,6 +34,7 @@ pub fn run_steps(
     requires { AreScripts config (map (λ script. script.items) scripts.items) }
     ensures recording { IfOk result (IsRecordingOf
         (after_steps (start config (map (λ script. script.items) scripts.items)) steps.now)) }
+    ensures in_range { IfOk result IsRecording }
     ensures spelled { IfOk result (λ trace.
         (fault : Format) → HasFormatFault (spelling trace) fault → ⊥) }
     ensures well_formed { IfOk result HasCleanLog }

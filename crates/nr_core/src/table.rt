@@ -8,7 +8,7 @@ ghost use Rattle.vs_types.specs.Space as spaces;
 ghost use Rattle.vs_types.specs.Step.{step, look, allow};
 ghost use Rattle.vs_types.specs.declared.limits.TheConstants.{TABLES};
 ghost use Rattle.vs_space.specs.Table.{IsTableOf};
-ghost use Rattle.nr_core.specs.Run.{IsDumpOf};
+ghost use Rattle.nr_core.specs.Run.{IsDumpOfReplica};
 ghost use Rattle.nr_core.specs.State.{Replica};
 ghost use Rattle.nr_core.specs.inside.OneSpace.{one_space};
 
@@ -78,7 +78,7 @@ impl Table {
     pub(crate) fn dump(&self, alloc: Global, applied: u32) -> Result<Dump, Memory>
         requires { self.now.pages.limit ≤ TABLES }
         ensures is { (replica : Replica) → replica.applied ≡ applied → replica.space ≡ self.now.of.0
-            → IfOk result (IsDumpOf self.now.pages.depth replica) }
+            → IfOk result (IsDumpOfReplica self.now.pages.depth replica) }
         ensures frames { IfOk result (λ dump. 1 ≤ finite.len dump.frames) }
     {
         let _tables = self.pages.tables();

@@ -2,7 +2,7 @@
 use Rattle.std.proofs.Common.{ℕ, ◌≤◌, nat_lt, ◌&&◌, length, arith}
 use Rattle.nr_core.specs.State.{State, Replica, tail, has_applied_all, with_replica}
 use Rattle.nr_core.specs.Steps.{advance, when}
-use Rattle.nr_core.specs.inside.Faultless.{At, IsReached}
+use Rattle.nr_core.specs.inside.Reached.{At, IsReached}
 use Rattle.nr_core.proofs.reached.Changes.{completed_rises, replica_changes, still_collected}
 use Rattle.nr_core.proofs.reached.Kept.{Keeps, keeps_by_holder, keeps_when}
 

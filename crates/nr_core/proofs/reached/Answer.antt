@@ -12,13 +12,14 @@ use Rattle.nr_core.specs.declared.stage.Answered.{Answered}
 use Rattle.nr_core.specs.declared.stage.Collected.{Collected}
 use Rattle.nr_core.specs.declared.stage.Stage.{Stage}
 use Rattle.nr_core.specs.declared.stage.Stage.TheVariants.{Taken, Ready}
-use Rattle.nr_core.specs.inside.Faultless.{At, call_at, made_of, FitsStage, open_in, IsRight, IsTaken, IsCollected, AreCollected, IsReached}
+use Rattle.nr_core.specs.Laws.{IsTaken}
+use Rattle.nr_core.specs.inside.Reached.{At, call_at, made_of, FitsStage, open_in, IsRight, IsCollected, AreCollected, IsReached}
 use Rattle.nr_core.proofs.reached.Places.{each_set, in_map, in_mapped}
 use Rattle.nr_core.proofs.reached.Growth.{call_within, replies_have_calls, right_stays, then_parts}
 use Rattle.nr_core.proofs.reached.Changes.{thread_changes, replica_changes, replica_grows, nothing_grows, still_collected, collected_stays, taken_keeps}
 use Rattle.nr_core.proofs.reached.Kept.{Keeps, keeps_by_holder, keeps_then}
 
-found_in : (p : Collected → Bool) (batch : List Collected) (u : Collected) → find p batch ≡ Some u → In u batch × (p u ≡ true)
+pub found_in : (p : Collected → Bool) (batch : List Collected) (u : Collected) → find p batch ≡ Some u → In u batch × (p u ≡ true)
 found_in p [] u e = absurd (none-some u e)
 found_in p (v ∷ batch) u e = by_test (λ f. found_in p batch u f) (p v) refl e where
   by_test : (find p batch ≡ Some u → In u batch × (p u ≡ true)) → (b : Bool) → p v ≡ b → cond b (Some v) (find p batch) ≡ Some u

@@ -10,7 +10,7 @@ use Rattle.nr_trace.proofs.LawsOfLists.{In}
 use Rattle.nr_core.specs.State.{State, Thread, Replica, with_replica}
 use Rattle.nr_core.specs.Steps.{append, has_room, when}
 use Rattle.nr_core.specs.declared.stage.Collected.{Collected}
-use Rattle.nr_core.specs.inside.Faultless.{At, call_at, made_of, calls_of, waiting_in, IsFresh, IsReached}
+use Rattle.nr_core.specs.inside.Reached.{At, call_at, made_of, calls_of, waiting_in, IsFresh, IsReached}
 use Rattle.nr_core.proofs.reached.Places.{each_set, in_map}
 use Rattle.nr_core.proofs.reached.Changes.{replica_changes, still_collected, log_grows}
 use Rattle.nr_core.proofs.reached.Kept.{Keeps, keeps_by_holder, keeps_when, waiting_not_collected, same_thread}

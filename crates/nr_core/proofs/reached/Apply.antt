@@ -18,7 +18,7 @@ use Rattle.nr_core.specs.State.{State, Replica, with_replica}
 use Rattle.nr_core.specs.Steps.{apply, when, note, with_entry}
 use Rattle.nr_core.specs.declared.stage.Answered.{Answered}
 use Rattle.nr_core.specs.declared.stage.Collected.{Collected}
-use Rattle.nr_core.specs.inside.Faultless.{At, call_at, made_of, space_at, IsRight, IsCollected, IsReplicaOf, IsReached}
+use Rattle.nr_core.specs.inside.Reached.{At, call_at, made_of, space_at, IsRight, IsCollected, IsReplicaOf, IsReached}
 use Rattle.nr_core.proofs.reached.Places.{at_set, in_map}
 use Rattle.nr_core.proofs.reached.Changes.{replica_changes, still_collected}
 use Rattle.nr_core.proofs.reached.Kept.{Keeps, keeps_by_holder, keeps_then, keeps_when}

@@ -13,7 +13,7 @@ use Rattle.nr_core.specs.State.{State, Thread, home, with_thread}
 use Rattle.nr_core.specs.Steps.{call, with_call}
 use Rattle.nr_core.specs.declared.stage.Stage.{Stage}
 use Rattle.nr_core.specs.declared.stage.Stage.TheVariants.{Idle, Called}
-use Rattle.nr_core.specs.inside.Faultless.{At, call_at, RepliesTo, made_of, open_in, IsOpen, HasOpen, IsFresh, AreCalls, IsReached}
+use Rattle.nr_core.specs.inside.Reached.{At, call_at, RepliesTo, made_of, open_in, IsUnanswered, HasOpen, IsFresh, AreCalls, IsReached}
 use Rattle.nr_core.proofs.reached.Places.{each_set, at_set, at_other, at_in, in_map}
 use Rattle.nr_core.proofs.reached.Growth.{Longer, call_within, reply_within, call_stays, call_stood, answer_stays}
 use Rattle.nr_core.proofs.reached.Events.{one_longer, call_last, answer_last, last_call, event_recorded}
@@ -68,7 +68,7 @@ called state t thread request left reached at is =
           let one : other ≡ thread = same_Some other thread (sym there ∙ at) in
           none-some c (sym (ap open_in (ap (λ (x : Thread). x.stage) one ∙ is)) ∙ opened)
 
-      still_open : (u c : ℕ) → IsOpen state.events u c → IsOpen later u c
+      still_open : (u c : ℕ) → IsUnanswered state.events u c → IsUnanswered later u c
       still_open u c (first, is_made, of_u, no_reply) = (
         first,
         call_stays state.events later c first longer is_made,
@@ -115,8 +115,8 @@ called state t thread request left reached at is =
 
       calls : AreCalls later (slice_set state.threads t next)
       calls = record {
-        opened = λ u other c there opened. each_set (λ v (x : Thread). open_in x.stage ≡ Some c → IsOpen later v c) state.threads t next
-            (λ e. subst (IsOpen later t) (same_Some (length state.events) c e)
+        opened = λ u other c there opened. each_set (λ v (x : Thread). open_in x.stage ≡ Some c → IsUnanswered later v c) state.threads t next
+            (λ e. subst (IsUnanswered later t) (same_Some (length state.events) c e)
             (made, last_call state.events event made refl, refl, λ index h. not_yet index (old_answer index (length state.events) h)))
             (λ v x out e f. still_open v c (reached.calls.opened v x c e f)) u other there opened;
         ended = λ c first e. ended c first (call_last state.events event c first e);

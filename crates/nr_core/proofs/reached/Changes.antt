@@ -15,8 +15,9 @@ use Rattle.nr_core.specs.State.{State, Thread, Replica, with_thread, with_replic
 use Rattle.nr_core.specs.declared.stage.Collected.{Collected}
 use Rattle.nr_core.specs.declared.stage.Answered.{Answered}
 use Rattle.nr_core.specs.declared.stage.Stage.TheVariants.{Taken}
-use Rattle.nr_core.specs.inside.Faultless.{At, call_at, RepliesTo, made_of, Behind, calls_of, IsRight, FitsStage, open_in, waiting_in}
-use Rattle.nr_core.specs.inside.Faultless.{IsOpen, HasOpen, IsTaken, IsFresh, IsCollected, IsReplicaOf, AreCalls, AreCollected, IsReached}
+use Rattle.nr_core.specs.Laws.{IsTaken}
+use Rattle.nr_core.specs.inside.Reached.{At, call_at, RepliesTo, made_of, Behind, calls_of, IsRight, FitsStage, open_in, waiting_in}
+use Rattle.nr_core.specs.inside.Reached.{IsUnanswered, HasOpen, IsFresh, IsCollected, IsReplicaOf, AreCalls, AreCollected, IsReached}
 use Rattle.nr_core.proofs.reached.Places.{each_set, at_set, at_other, at_front, at_either}
 use Rattle.nr_core.proofs.reached.Growth.{Longer, Grows, HaveCalls, call_within, replies_have_calls, behind_completed, behind_more, space_stays, right_stays}
 use Rattle.nr_core.proofs.reached.Growth.{stage_fits, replies_stay}
@@ -42,7 +43,7 @@ pub calls_keep : (events : List Event) (threads : List Thread) (t : ℕ) (thread
     → open_in next.stage ≡ open_in thread.stage
     → AreCalls events threads → AreCalls events (slice_set threads t next)
 calls_keep events threads t thread next at same calls = record {
-  opened = λ u other call there is. each_set (λ v (x : Thread). open_in x.stage ≡ Some call → IsOpen events v call) threads t next
+  opened = λ u other call there is. each_set (λ v (x : Thread). open_in x.stage ≡ Some call → IsUnanswered events v call) threads t next
       (λ e. calls.opened t thread call at (sym same ∙ e)) (λ v x out e is. calls.opened v x call e is) u other there is;
   ended = λ call made e. still call made (calls.ended call made e);
   once = calls.once;

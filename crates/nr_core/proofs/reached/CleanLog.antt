@@ -12,7 +12,7 @@ use Rattle.nr_trace.specs.declared.version.Version.{Version}
 use Rattle.nr_trace.specs.declared.fault.Fault.TheVariants.{ThreadOpen, NotPlaced, PastLog}
 use Rattle.nr_trace.proofs.LawsOfCalls.{is_some_from, the_some}
 use Rattle.nr_core.specs.State.{State}
-use Rattle.nr_core.specs.inside.Faultless.{At, call_at, calls_of, IsReached}
+use Rattle.nr_core.specs.inside.Reached.{At, call_at, calls_of, IsReached}
 use Rattle.nr_core.proofs.reached.Growth.{then_parts, then_from, at_within_reach}
 use Rattle.nr_core.proofs.reached.Recorded.{recording, answered_to, answers_to, at_map, at_mapped, distinct_apart}
 

@@ -12,7 +12,7 @@ use Rattle.nr_core.specs.Steps.{by_thread, collect, has_place, with_collected}
 use Rattle.nr_core.specs.declared.stage.Collected.{Collected}
 use Rattle.nr_core.specs.declared.stage.Stage.{Stage}
 use Rattle.nr_core.specs.declared.stage.Stage.TheVariants.{Posted, Taken}
-use Rattle.nr_core.specs.inside.Faultless.{At, FitsStage, IsCollected, open_in, waiting_in, IsReached}
+use Rattle.nr_core.specs.inside.Reached.{At, FitsStage, IsCollected, open_in, waiting_in, IsReached}
 use Rattle.nr_core.proofs.reached.Places.{at_set, in_map}
 use Rattle.nr_core.proofs.reached.Changes.{thread_changes, replica_changes, still_collected, collected_keep}
 use Rattle.nr_core.proofs.reached.Kept.{Keeps, keeps_by_holder, keeps_then, keeps_when, waiting_not_collected}

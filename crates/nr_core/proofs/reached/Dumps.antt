@@ -18,23 +18,23 @@ use Rattle.nr_trace.specs.Faults.{HasFault}
 use Rattle.nr_trace.specs.declared.version.Version.{Version}
 use Rattle.nr_trace.specs.declared.fault.Fault.TheVariants.{PrefixPastLog, PrefixShort, MissingFrame, SharedFrame, ReservedBit, StrayFrame, Differs}
 use Rattle.nr_core.specs.State.{State, Replica}
-use Rattle.nr_core.specs.Run.{IsDumpOf}
-use Rattle.nr_core.specs.inside.Faultless.{At, calls_of, IsReached}
+use Rattle.nr_core.specs.Run.{IsDumpOfReplica}
+use Rattle.nr_core.specs.inside.Reached.{At, calls_of, IsReached}
 use Rattle.nr_core.proofs.reached.Recorded.{recording, known_is_reach}
 use Rattle.nr_core.proofs.reached.RightAnswers.{space_of_log}
 
 abbrev AreDumps : State → List Image → Type 0
-AreDumps state dumps = AllZip (IsDumpOf state.layout.depth) state.replicas dumps
+AreDumps state dumps = AllZip (IsDumpOfReplica state.layout.depth) state.replicas dumps
 
 the_replica : (state : State) (dumps : List Image) (r : ℕ) (dump : Image) → AreDumps state dumps → At dumps r dump
-    → (replica : Replica) × At state.replicas r replica × IsDumpOf state.layout.depth replica dump
+    → (replica : Replica) × At state.replicas r replica × IsDumpOfReplica state.layout.depth replica dump
 the_replica state dumps r dump are at =
     in_some (slice_get state.replicas r) refl
     (subst (λ (o : Option Image). MatchOption o (Unit {0}) (λ (d : Image).
-    IsSomeAnd (slice_get state.replicas r) (λ (replica : Replica). IsDumpOf state.layout.depth replica d))) at
-    (AllZip-right (IsDumpOf state.layout.depth) state.replicas dumps are r)) where
-      in_some : (o : Option Replica) → slice_get state.replicas r ≡ o → IsSomeAnd o (λ (replica : Replica). IsDumpOf state.layout.depth replica dump)
-          → (replica : Replica) × At state.replicas r replica × IsDumpOf state.layout.depth replica dump
+    IsSomeAnd (slice_get state.replicas r) (λ (replica : Replica). IsDumpOfReplica state.layout.depth replica d))) at
+    (AllZip-right (IsDumpOfReplica state.layout.depth) state.replicas dumps are r)) where
+      in_some : (o : Option Replica) → slice_get state.replicas r ≡ o → IsSomeAnd o (λ (replica : Replica). IsDumpOfReplica state.layout.depth replica dump)
+          → (replica : Replica) × At state.replicas r replica × IsDumpOfReplica state.layout.depth replica dump
       in_some None e h = absurd h
       in_some (Some replica) e h = (replica, e, h)
 
@@ -61,7 +61,7 @@ none_short state version dumps r reached are (dump, at, rests) =
     let more = rests.more in
     absurd (omega arith)
 
-no_fault : (dump : Image) (replica : Replica) (state : State) (fault : WalkFault) → IsDumpOf state.layout.depth replica dump
+no_fault : (dump : Image) (replica : Replica) (state : State) (fault : WalkFault) → IsDumpOfReplica state.layout.depth replica dump
     → walk_fault state.layout.depth dump.frames dump.root ≡ Some fault → ⊥
 no_fault dump replica state fault is e = none-some fault (sym is.faultless ∙ e)
 

@@ -7,7 +7,7 @@ use Rattle.nr_trace.specs.Calls.{Invocation, made_by, Response, reply_in}
 use Rattle.nr_trace.specs.declared.event.Event.{Event}
 use Rattle.nr_core.specs.State.{State, Thread, with_thread}
 use Rattle.nr_core.specs.declared.stage.Stage.TheVariants.{Taken}
-use Rattle.nr_core.specs.inside.Faultless.{At, call_at, reply_at, RepliesTo, Behind, FitsStage, IsRight, IsFresh, waiting_in, AreCalls, IsReached}
+use Rattle.nr_core.specs.inside.Reached.{At, call_at, reply_at, RepliesTo, Behind, FitsStage, IsRight, IsFresh, waiting_in, AreCalls, IsReached}
 use Rattle.nr_core.proofs.reached.Places.{each_set, at_front, at_last, at_end}
 use Rattle.nr_core.proofs.reached.Growth.{Longer, Grows, HaveCalls, then_parts, then_from, call_within, call_stays, replies_have_calls, behind_stays, right_stays}
 use Rattle.nr_core.proofs.reached.Growth.{stage_fits}

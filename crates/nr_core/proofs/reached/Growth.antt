@@ -15,7 +15,7 @@ use Rattle.nr_trace.specs.declared.event.Event.{Event}
 use Rattle.nr_core.specs.State.{Replica}
 use Rattle.nr_core.specs.declared.stage.Stage.{Stage}
 use Rattle.nr_core.specs.declared.stage.Stage.TheVariants.{Idle, Called, Posted, Taken, Ready, Looked, HasRead}
-use Rattle.nr_core.specs.inside.Faultless.{At, call_at, reply_at, RepliesTo, made_of, reach, Behind, space_at, IsRight, FitsStage, AreReplies}
+use Rattle.nr_core.specs.inside.Reached.{At, call_at, reply_at, RepliesTo, made_of, reach, Behind, space_at, IsRight, FitsStage, AreReplies}
 use Rattle.nr_core.proofs.reached.Places.{same_front}
 
 -- ---- calls and replies by their events

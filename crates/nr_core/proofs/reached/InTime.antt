@@ -11,7 +11,7 @@ use Rattle.nr_trace.specs.declared.fault.Fault.TheVariants.{Early}
 use Rattle.nr_trace.proofs.LawsOfCalls.{reply_event}
 use Rattle.nr_trace.proofs.LawsOfSteps.{floor_at_start, floor_after_reply, floor_after_other}
 use Rattle.nr_core.specs.State.{State}
-use Rattle.nr_core.specs.inside.Faultless.{At, reply_at, Behind, IsReached}
+use Rattle.nr_core.specs.inside.Reached.{At, reply_at, Behind, IsReached}
 use Rattle.nr_core.proofs.reached.Growth.{HaveCalls, replies_have_calls}
 use Rattle.nr_core.proofs.reached.Recorded.{recording, at_map, known_is_reach}
 

@@ -8,7 +8,7 @@ use Rattle.nr_core.specs.State.{State, Thread, with_thread}
 use Rattle.nr_core.specs.Steps.{look, with_look}
 use Rattle.nr_core.specs.declared.stage.Stage.{Stage}
 use Rattle.nr_core.specs.declared.stage.Stage.TheVariants.{Called, Looked}
-use Rattle.nr_core.specs.inside.Faultless.{At, FitsStage, open_in, IsReached}
+use Rattle.nr_core.specs.inside.Reached.{At, FitsStage, open_in, IsReached}
 use Rattle.nr_core.proofs.reached.Changes.{thread_changes, collected_keep}
 use Rattle.nr_core.proofs.reached.Growth.{behind_completed}
 use Rattle.nr_core.proofs.reached.Kept.{Keeps, keeps_then}

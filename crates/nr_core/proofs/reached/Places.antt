@@ -1,9 +1,9 @@
 -- Elements of a list by their index, where an element is written or more are appended.
-use Rattle.std.proofs.Common.{◌≡◌, ℕ, zero, suc, ◌≤◌, ◌⊎◌, inl, inr, List, [], ◌∷◌, ◌++◌, length, take, map, Some, refl, ap, ap₂, subst, arith}
-use Rattle.std.specs.Prelude.{slice_set}
+use Rattle.std.proofs.Common.{◌≡◌, ℕ, zero, suc, ◌≤◌, ◌⊎◌, inl, inr, List, [], ◌∷◌, ◌++◌, length, take, map, Some, refl, ap, ap₂, ◌∙◌, subst, arith}
+use Rattle.std.specs.Prelude.{slice_get, slice_set}
 use Rattle.std.proofs.lemmas.Option.{same_Some, none-some}
 use Rattle.nr_trace.proofs.LawsOfLists.{In}
-use Rattle.nr_core.specs.inside.Faultless.{At}
+use Rattle.nr_core.specs.inside.Reached.{At}
 
 pub each_set : {X : Type 0} (P : ℕ → X → Type 0) (xs : List X) (i : ℕ) (y : X) → P i y → ((j : ℕ) (x : X) → (j ≡ i → ⊥) → At xs j x → P j x)
     → (j : ℕ) (x : X) → At (slice_set xs i y) j x → P j x
@@ -19,12 +19,15 @@ at_set [] i x y e = absurd (none-some x e)
 at_set (z ∷ xs) zero x y e = refl
 at_set (z ∷ xs) (suc i) x y e = at_set xs i x y e
 
+pub get_other : {X : Type 0} (xs : List X) (i j : ℕ) (y : X) → (j ≡ i → ⊥) → slice_get (slice_set xs i y) j ≡ slice_get xs j
+get_other [] i j y out = refl
+get_other (z ∷ xs) zero zero y out = absurd (out refl)
+get_other (z ∷ xs) zero (suc j) y out = refl
+get_other (z ∷ xs) (suc i) zero y out = refl
+get_other (z ∷ xs) (suc i) (suc j) y out = get_other xs i j y (λ q. out (ap suc q))
+
 pub at_other : {X : Type 0} (xs : List X) (i j : ℕ) (x y : X) → (j ≡ i → ⊥) → At xs j x → At (slice_set xs i y) j x
-at_other [] i j x y out e = e
-at_other (z ∷ xs) zero zero x y out e = absurd (out refl)
-at_other (z ∷ xs) zero (suc j) x y out e = e
-at_other (z ∷ xs) (suc i) zero x y out e = e
-at_other (z ∷ xs) (suc i) (suc j) x y out e = at_other xs i j x y (λ q. out (ap suc q)) e
+at_other xs i j x y out e = get_other xs i j y out ∙ e
 
 pub at_front : {X : Type 0} (xs ys : List X) (i : ℕ) (x : X) → At xs i x → At (xs ++ ys) i x
 at_front [] ys i x e = absurd (none-some x e)

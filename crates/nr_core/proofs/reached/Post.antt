@@ -5,7 +5,7 @@ use Rattle.nr_core.specs.State.{State, Thread}
 use Rattle.nr_core.specs.Steps.{post, with_post}
 use Rattle.nr_core.specs.declared.stage.Stage.{Stage}
 use Rattle.nr_core.specs.declared.stage.Stage.TheVariants.{Called, Posted}
-use Rattle.nr_core.specs.inside.Faultless.{At, FitsStage, open_in, waiting_in, IsReached}
+use Rattle.nr_core.specs.inside.Reached.{At, FitsStage, open_in, waiting_in, IsReached}
 use Rattle.nr_core.proofs.reached.Changes.{thread_changes, collected_keep}
 use Rattle.nr_core.proofs.reached.Kept.{Keeps, keeps_then}
 

@@ -12,7 +12,7 @@ use Rattle.nr_core.specs.Steps.{read, with_read}
 use Rattle.nr_core.specs.declared.stage.Answered.{Answered}
 use Rattle.nr_core.specs.declared.stage.Stage.{Stage}
 use Rattle.nr_core.specs.declared.stage.Stage.TheVariants.{Looked, HasRead}
-use Rattle.nr_core.specs.inside.Faultless.{At, made_of, reach, Behind, FitsStage, IsRight, IsReplicaOf, open_in, IsReached}
+use Rattle.nr_core.specs.inside.Reached.{At, made_of, reach, Behind, FitsStage, IsRight, IsReplicaOf, open_in, IsReached}
 use Rattle.nr_core.proofs.reached.Changes.{thread_changes, collected_keep}
 use Rattle.nr_core.proofs.reached.Growth.{behind_more}
 use Rattle.nr_core.proofs.reached.Kept.{Keeps, keeps_then, keeps_when}

@@ -12,8 +12,8 @@ use Rattle.nr_trace.specs.declared.version.Version.{Version}
 use Rattle.nr_trace.proofs.LawsOfCalls.{reply_that_answers, answers_from}
 use Rattle.nr_trace.proofs.LawsOfLists.{absent_not_in}
 use Rattle.nr_core.specs.State.{State}
-use Rattle.nr_core.specs.Run.{IsRecordingOf, IsDumpOf}
-use Rattle.nr_core.specs.inside.Faultless.{At, call_at, RepliesTo, reach, calls_of}
+use Rattle.nr_core.specs.Run.{IsRecordingOf, IsDumpOfReplica}
+use Rattle.nr_core.specs.inside.Reached.{At, call_at, RepliesTo, reach, calls_of}
 use Rattle.nr_core.proofs.reached.Places.{in_at}
 
 abbrev pub recording : State → Version → List Image → Recording
@@ -27,7 +27,7 @@ recording state version dumps = record {
 
 -- what holds of such a recording, with dumps of the replicas, holds of each recording of the state
 pub of_recording : (P : Recording → Type 0) (state : State) (trace : Recording) → IsRecordingOf state trace
-    → ((version : Version) (dumps : List Image) → AllZip (IsDumpOf state.layout.depth) state.replicas dumps → P (recording state version dumps)) → P trace
+    → ((version : Version) (dumps : List Image) → AllZip (IsDumpOfReplica state.layout.depth) state.replicas dumps → P (recording state version dumps)) → P trace
 of_recording P state trace is h = subst P same (h trace.version trace.dumps is.dumps) where
   same : recording state trace.version trace.dumps ≡ trace
   same = λ i. record {

@@ -2,7 +2,7 @@
 use Rattle.std.proofs.Common.{ℕ, None}
 use Rattle.nr_core.specs.State.{State, has_applied_all, with_thread, with_replica}
 use Rattle.nr_core.specs.Steps.{release, when}
-use Rattle.nr_core.specs.inside.Faultless.{IsReached}
+use Rattle.nr_core.specs.inside.Reached.{IsReached}
 use Rattle.nr_core.proofs.reached.Kept.{Keeps, keeps_by_holder, keeps_when}
 use Rattle.nr_core.proofs.reached.Take.{locks_keep}
 

@@ -12,7 +12,7 @@ use Rattle.nr_core.specs.Steps.{reply, reply_at as replied_at}
 use Rattle.nr_core.specs.declared.stage.Answered.{Answered}
 use Rattle.nr_core.specs.declared.stage.Stage.{Stage}
 use Rattle.nr_core.specs.declared.stage.Stage.TheVariants.{Idle, Ready, HasRead, Taken}
-use Rattle.nr_core.specs.inside.Faultless.{At, call_at, RepliesTo, made_of, FitsStage, IsRight, open_in, IsOpen, HasOpen, AreCalls, IsReached}
+use Rattle.nr_core.specs.inside.Reached.{At, call_at, RepliesTo, made_of, FitsStage, IsRight, open_in, IsUnanswered, HasOpen, AreCalls, IsReached}
 use Rattle.nr_core.proofs.reached.Places.{each_set, at_other}
 use Rattle.nr_core.proofs.reached.Growth.{Longer, call_within, reply_within, call_stays, call_stood, answer_stays, answer_stood}
 use Rattle.nr_core.proofs.reached.Events.{one_longer, call_last, answer_last, last_reply, event_recorded}
@@ -46,14 +46,14 @@ replied state t thread a request reached at is not_taken asks right =
           × IsRight state.layout state.events state.log state.completed state.replicas made x.call x.at x.answer) one
           (made_of state.layout t request, call_within state.events a.call _ asks, asks, right)
 
-      opened : IsOpen state.events t a.call
+      opened : IsUnanswered state.events t a.call
       opened = reached.calls.opened t thread a.call at is
 
       last_call_of : (c : ℕ) → (r : Response) × (reply_in event ≡ Some r) × (r.call ≡ c) → a.call ≡ c
       last_call_of c (r, e, f) = ap (λ (x : Response). x.call) (same_Some response r e) ∙ f
 
       -- another thread's open call has no reply still
-      still_open : (u c : ℕ) → (u ≡ t → ⊥) → IsOpen state.events u c → IsOpen later u c
+      still_open : (u c : ℕ) → (u ≡ t → ⊥) → IsUnanswered state.events u c → IsUnanswered later u c
       still_open u c out (first, is_made, of_u, no_reply) = (
         first,
         call_stays state.events later c first longer is_made,
@@ -113,7 +113,7 @@ replied state t thread a request reached at is not_taken asks right =
 
       calls : AreCalls later (slice_set state.threads t next)
       calls = record {
-        opened = λ u other c there open_there. each_set (λ v (x : Thread). open_in x.stage ≡ Some c → IsOpen later v c) state.threads t next
+        opened = λ u other c there open_there. each_set (λ v (x : Thread). open_in x.stage ≡ Some c → IsUnanswered later v c) state.threads t next
             (λ e. absurd (none-some c e)) (λ v x out e f. still_open v c out (reached.calls.opened v x c e f)) u other there open_there;
         ended = λ c first e. ended c first (call_last state.events event c first e);
         once = λ first second c l h k. once first second c l h (answer_last state.events event second c k);

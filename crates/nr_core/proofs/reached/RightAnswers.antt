@@ -15,7 +15,7 @@ use Rattle.nr_trace.proofs.LawsOfCalls.{reply_event, answered_stands}
 use Rattle.nr_trace.proofs.LawsOfLists.{In}
 use Rattle.nr_trace.proofs.LawsOfOrder.{space_before}
 use Rattle.nr_core.specs.State.{State}
-use Rattle.nr_core.specs.inside.Faultless.{At, call_at, calls_of, space_at, IsReached}
+use Rattle.nr_core.specs.inside.Reached.{At, call_at, calls_of, space_at, IsReached}
 use Rattle.nr_core.proofs.reached.Places.{at_in}
 use Rattle.nr_core.proofs.reached.Recorded.{recording}
 use Rattle.nr_core.proofs.reached.CleanLog.{operation_at, clean_log}

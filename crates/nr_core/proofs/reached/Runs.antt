@@ -1,16 +1,15 @@
 -- Each list of steps reaches a state of which the facts hold.
-use Rattle.std.proofs.Common.{ℕ, List, [], ◌∷◌, Option, Some, None}
-use Rattle.std.specs.Prelude.{unwrap_or}
+use Rattle.std.proofs.Common.{ℕ, List, sym, subst}
 use Rattle.vs_types.specs.Config.{Layout}
 use Rattle.vs_types.specs.declared.request.Query.{Query}
 use Rattle.nr_core.specs.State.{State, start}
-use Rattle.nr_core.specs.Steps.{act, after_step}
-use Rattle.nr_core.specs.Run.{after_steps}
+use Rattle.nr_core.specs.Steps.{act}
+use Rattle.nr_core.specs.Run.{after_steps, IsReachable}
 use Rattle.nr_core.specs.declared.step.Act.{Act}
 use Rattle.nr_core.specs.declared.step.Act.TheVariants.{Call, Post, Take, Collect, Append, Advance, Apply, Answer, Release, Look, Read, Reply}
 use Rattle.nr_core.specs.declared.step.Step.{Step}
-use Rattle.nr_core.specs.inside.Faultless.{IsReached}
-use Rattle.nr_core.proofs.reached.Kept.{Keeps}
+use Rattle.nr_core.specs.inside.Reached.{IsReached}
+use Rattle.nr_core.proofs.reached.Kept.{Keeps, after_all}
 use Rattle.nr_core.proofs.reached.Start.{start_is_reached}
 use Rattle.nr_core.proofs.reached.Call.{call_keeps}
 use Rattle.nr_core.proofs.reached.Post.{post_keeps}
@@ -39,15 +38,9 @@ act_keeps state t Look reached = look_keeps state t reached
 act_keeps state t Read reached = read_keeps state t reached
 act_keeps state t Reply reached = reply_keeps state t reached
 
-or_stays : (state : State) (o : Option State) → IsReached state → Keeps o → IsReached (unwrap_or o state)
-or_stays state None reached kept = reached
-or_stays state (Some next) reached kept = kept
-
-steps_keep : (state : State) (steps : List Step) → IsReached state → IsReached (after_steps state steps)
-steps_keep state [] reached = reached
-steps_keep state (step ∷ steps) reached =
-    steps_keep (unwrap_or (after_step state step) state) steps
-    (or_stays state (after_step state step) reached (act_keeps state step.thread step.act reached))
-
 pub each_is_reached : (layout : Layout) (scripts : List (List Query)) (steps : List Step) → IsReached (after_steps (start layout scripts) steps)
-each_is_reached layout scripts steps = steps_keep (start layout scripts) steps (start_is_reached layout scripts)
+each_is_reached layout scripts steps =
+    after_all IsReached (λ state step reached. act_keeps state step.thread step.act reached) (start layout scripts) steps (start_is_reached layout scripts)
+
+pub reached_by_steps : (state : State) → IsReachable state → IsReached state
+reached_by_steps state (layout, scripts, steps, is) = subst IsReached (sym is) (each_is_reached layout scripts steps)

@@ -7,7 +7,7 @@ use Rattle.vs_types.specs.declared.request.Query.{Query}
 use Rattle.nr_trace.proofs.LawsOfLists.{option_distinct}
 use Rattle.nr_core.specs.State.{Thread, Replica, new_thread, new_replica, start}
 use Rattle.nr_core.specs.declared.stage.Stage.TheVariants.{Idle}
-use Rattle.nr_core.specs.inside.Faultless.{At, FitsStage, open_in, waiting_in, IsReplicaOf, IsReached}
+use Rattle.nr_core.specs.inside.Reached.{At, FitsStage, open_in, waiting_in, IsReplicaOf, IsReached}
 
 at_map_idle : (scripts : List (List Query)) (t : ℕ) (thread : Thread) → At (map new_thread scripts) t thread → Idle ≡ thread.stage
 at_map_idle [] t thread e = absurd (none-some thread e)

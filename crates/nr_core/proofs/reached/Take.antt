@@ -2,7 +2,7 @@
 use Rattle.std.proofs.Common.{ℕ, slice_get, ◌&&◌, Option, Some, is_none, option_and_then, refl, arith}
 use Rattle.nr_core.specs.State.{State, Thread, Replica, with_thread, with_replica}
 use Rattle.nr_core.specs.Steps.{take_lock, when}
-use Rattle.nr_core.specs.inside.Faultless.{At, IsReached}
+use Rattle.nr_core.specs.inside.Reached.{At, IsReached}
 use Rattle.nr_core.proofs.reached.Changes.{thread_changes, replica_changes, still_collected, collected_keep}
 use Rattle.nr_core.proofs.reached.Kept.{Keeps, keeps_then, keeps_when}
 

@@ -60,14 +60,14 @@ abbrev pub thread_of : Vec Query → ThreadState
 thread_of script = record { script = script; made = 0; stage = Idle; holds = None }
 
 -- what a stage has of a call is well formed at the depth
-abbrev pub FitsStage : Depth → Stage → Type 0
-FitsStage depth Idle = Unit {0}
-FitsStage depth (Called call request) = IsQuery depth request
-FitsStage depth (Posted call action) = IsAction depth action
-FitsStage depth (Taken call) = Unit {0}
-FitsStage depth (Ready answered) = Unit {0}
-FitsStage depth (Looked call request completed) = FitsRead depth request
-FitsStage depth (HasRead answered) = Unit {0}
+abbrev pub IsStage : Depth → Stage → Type 0
+IsStage depth Idle = Unit {0}
+IsStage depth (Called call request) = IsQuery depth request
+IsStage depth (Posted call action) = IsAction depth action
+IsStage depth (Taken call) = Unit {0}
+IsStage depth (Ready answered) = Unit {0}
+IsStage depth (Looked call request completed) = FitsRead depth request
+IsStage depth (HasRead answered) = Unit {0}
 
 -- how many events the open call has still to record
 abbrev pub stage_left : Stage → ℕ
@@ -79,7 +79,7 @@ events_left t = 2 * length (drop t.made t.script.items) + stage_left t.stage
 
 pub record IsThread (depth : Depth) (t : ThreadState) : Type 0 where
   pub script : All (IsQuery depth) t.script.items
-  pub stage : FitsStage depth t.stage
+  pub stage : IsStage depth t.stage
 
 pub record IsReplica (layout : Layout) (r : ReplicaState) : Type 0 where
   pub depth : r.table.pages.depth ≡ layout.depth

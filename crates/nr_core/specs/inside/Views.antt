@@ -9,21 +9,21 @@ use Rattle.nr_core.specs.State.{State, Thread, Replica}
 use Rattle.nr_core.specs.declared.stage.Stage.{Stage}
 use Rattle.nr_core.specs.declared.stage.Stage.TheVariants.{Idle}
 use Rattle.nr_core.specs.declared.parts.ReplicaState.{ReplicaState}
-use Rattle.nr_core.specs.inside.Parts.{replica_in, FitsStage, stage_left, IsReplica}
+use Rattle.nr_core.specs.inside.Parts.{replica_in, IsStage, stage_left, IsReplica}
 
 -- the thread is at this stage, which is well formed
 pub record IsAt (state : State) (t : ℕ) (stage : Stage) : Type 0 where
   pub thread : Thread
   pub there : slice_get state.threads t ≡ Some thread
   pub is : thread.stage ≡ stage
-  pub fits : FitsStage state.layout.depth stage
+  pub fits : IsStage state.layout.depth stage
 
 -- the thread may go on to this stage: it has no more events left to record
 pub record MayGoTo (state : State) (t : ℕ) (stage : Stage) : Type 0 where
   pub thread : Thread
   pub there : slice_get state.threads t ≡ Some thread
   pub left : stage_left stage ≤ stage_left thread.stage
-  pub fits : FitsStage state.layout.depth stage
+  pub fits : IsStage state.layout.depth stage
 
 -- the thread has a call open
 abbrev pub IsOpen : State → ℕ → Type 0

@@ -1,5 +1,5 @@
 use Rattle.nr_trace.proofs.LawsOfDumps.{legal_if_faultless, fits_if_faultless}
-use Rattle.nr_core.proofs.reached.Laws.{none_of_steps}
+use Rattle.nr_core.proofs.reached.NoFault.{none_of_steps}
 use Rattle.nr_core.proofs.faultless.no_list_of_steps_makes_a_fault.Goals as goal
 
 pub returns-clause-faultless : goal.returns-clause-faultless

@@ -2,7 +2,7 @@ use Rattle.std.proofs.Common.{◌≡◌, ◌≤◌, ◌++◌, [], ◌∷◌, rul
 use Rattle.std.specs.FinMap as finite
 use Rattle.std.proofs.lemmas.List.Elements.{All-push}
 use Rattle.vs_walk.specs.Dump.{Image}
-use Rattle.nr_core.specs.Run.{IsDumpOf}
+use Rattle.nr_core.specs.Run.{IsDumpOfReplica}
 use Rattle.nr_core.specs.inside.Parts.{replica_in}
 use Rattle.nr_core.proofs.Lists.{zipped_more}
 use Rattle.nr_core.proofs.recording.dumps_of.Goals as goal
@@ -13,7 +13,7 @@ loop-replica-preserved c =
     let y = c.in_ok-dump_of.field-0 in
     let pushed : c.push.new.self.items ≡ xs ++ y ∷ [] = search rules in
     rw pushed (
-      zipped_more (IsDumpOf c.args.config.depth) replica_in c.args.replicas.now xs c.loop-replica.replica-index c.replica-item.result y c.loop-replica-test.true (search rules)
+      zipped_more (IsDumpOfReplica c.args.config.depth) replica_in c.args.replicas.now xs c.loop-replica.replica-index c.replica-item.result y c.loop-replica-test.true (search rules)
           c.loop-replica.invariant.0 c.in_ok-dump_of.ensures.is,
       All-push (λ (dump : Image). 1 ≤ finite.len dump.frames) xs y c.loop-replica.invariant.1 c.in_ok-dump_of.ensures.frames,
     )

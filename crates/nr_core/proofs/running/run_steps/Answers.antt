@@ -4,7 +4,7 @@ use Rattle.nr_trace.specs.Spelling.{spelling}
 use Rattle.nr_trace.specs.declared.fault.Fault.TheVariants.{Early, WrongAnswer, PrefixPastLog, PrefixShort, MissingFrame, SharedFrame, ReservedBit, StrayFrame, Differs}
 use Rattle.nr_core.specs.State.{start}
 use Rattle.nr_core.proofs.InTurn.{is_after_all, is_of_steps, stepped_more}
-use Rattle.nr_core.proofs.reached.Laws.{none_of_steps, well_formed_of_steps}
+use Rattle.nr_core.proofs.reached.NoFault.{none_of_steps, well_formed_of_steps}
 use Rattle.nr_core.proofs.running.run_steps.Goals as goal
 
 pub loop-step-preserved : goal.loop-step-preserved
@@ -16,6 +16,9 @@ pub returns-clause-recording : goal.returns-clause-recording
 returns-clause-recording c =
     is_after_all c.args.config (map (λ script. script.items) c.args.scripts.items) c.args.steps.now c.loop-step.core c.in_ok-trace.trace c.loop-step.step-index
     c.loop-step-test.false c.loop-step.invariant c.in_ok-trace.ensures.recording
+
+pub returns-clause-in_range : goal.returns-clause-in_range
+returns-clause-in_range c = c.in_ok-trace.ensures.in_range
 
 pub returns-clause-spelled : goal.returns-clause-spelled
 returns-clause-spelled c = λ fault.

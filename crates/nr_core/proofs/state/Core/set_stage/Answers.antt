@@ -1,6 +1,6 @@
 use Rattle.std.proofs.Common.{◌≡◌, ◌≤◌, Some, map, slice_index_or, arith, refl, sym, ap, ◌∙◌, rules, subst}
 use Rattle.std.specs.Prelude.{slice_get}
-use Rattle.nr_core.specs.inside.Parts.{thread_in, stage_left, FitsStage, IsThread}
+use Rattle.nr_core.specs.inside.Parts.{thread_in, stage_left, IsStage, IsThread}
 use Rattle.nr_core.proofs.Keeping.{seen_within, seen_is, one_of, with_other_thread, set_thread}
 use Rattle.nr_core.proofs.state.Core.set_stage.Goals as goal
 
@@ -16,7 +16,7 @@ invariant_of-self c =
     let left : stage_left c.args.stage ≤ stage_left x.stage = subst (λ z. stage_left c.args.stage ≤ stage_left z.stage) before c.requires.left in
     rw c.from.ensures (with_other_thread c.args.thread x _ c.self.invariant within at (record {
       script = (one_of (IsThread c.self.inside.config.depth) threads c.args.thread x within at c.self.invariant.each_thread).script;
-      stage = subst (λ d. FitsStage d c.args.stage) (sym depth) c.requires.fits;
+      stage = subst (λ d. IsStage d c.args.stage) (sym depth) c.requires.fits;
     }) (omega (arith, left)))
 
 pub returns-clause-set : goal.returns-clause-set

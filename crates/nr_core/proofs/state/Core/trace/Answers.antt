@@ -8,10 +8,10 @@ use Rattle.nr_trace.specs.Versions.{KnowsDepth}
 use Rattle.nr_trace.specs.declared.event.Event.{Event}
 use Rattle.nr_trace.specs.declared.version.Version.{Version}
 use Rattle.nr_trace.specs.declared.version.Version.TheVariants.{V1, V2}
-use Rattle.nr_core.specs.Run.{depth_in_first, event_in_first, IsDumpOf}
+use Rattle.nr_core.specs.Run.{depth_in_first, event_in_first, IsDumpOfReplica}
 use Rattle.nr_core.specs.inside.Parts.{replica_in}
 use Rattle.nr_core.proofs.Lists.{zipped_length}
-use Rattle.nr_core.proofs.Recorded.{known_parts, whole_parts}
+use Rattle.nr_core.proofs.PartsOfTraces.{known_parts, whole_parts}
 use Rattle.nr_core.proofs.state.Core.trace.Goals as goal
 
 pub unreachable-requires : goal.unreachable-requires
@@ -34,8 +34,8 @@ unreachable-requires c =
       places = omega (arith, ap length log_is, length-map core.log.items (λ (entry : LogEntry). entry.call), c.self.invariant.few_entries);
       few = omega (arith, ap length events_is, c.self.invariant.few_events);
       dumps =
-          zipped_length (IsDumpOf config.depth) (map replica_in core.replicas.items) dumps
-          (subst (λ rs. Rattle.std.specs.List.AllZip (IsDumpOf config.depth) (map replica_in rs) dumps) c.deref-4.ensures.value c.in_ok-dumps.ensures.each)
+          zipped_length (IsDumpOfReplica config.depth) (map replica_in core.replicas.items) dumps
+          (subst (λ rs. Rattle.std.specs.List.AllZip (IsDumpOfReplica config.depth) (map replica_in rs) dumps) c.deref-4.ensures.value c.in_ok-dumps.ensures.each)
           ∙ length-map core.replicas.items replica_in ∙ c.self.invariant.one_replica_each;
       events = known.1;
       frames = c.in_ok-dumps.ensures.frames;

@@ -15,6 +15,7 @@ use Rattle.nr_trace.specs.Orders.{answer_in}
 use Rattle.nr_trace.specs.declared.event.Event.{Event}
 use Rattle.nr_trace.proofs.LawsOfLists.{In}
 use Rattle.nr_core.specs.State.{State, Thread, Replica}
+use Rattle.nr_core.specs.Laws.{IsTaken}
 use Rattle.nr_core.specs.declared.stage.Answered.{Answered}
 use Rattle.nr_core.specs.declared.stage.Collected.{Collected}
 use Rattle.nr_core.specs.declared.stage.Stage.{Stage}
@@ -98,16 +99,12 @@ waiting_in (Looked call request noted) = None
 waiting_in (HasRead a) = None
 
 -- a call of the thread, with no reply
-abbrev pub IsOpen : List Event → ℕ → ℕ → Type 0
-IsOpen events t call = (made : Invocation) × (call_at events call ≡ Some made) × (made.thread ≡ t) × ((index : ℕ) → RepliesTo events index call → ⊥)
+abbrev pub IsUnanswered : List Event → ℕ → ℕ → Type 0
+IsUnanswered events t call = (made : Invocation) × (call_at events call ≡ Some made) × (made.thread ≡ t) × ((index : ℕ) → RepliesTo events index call → ⊥)
 
 -- the thread has the call open
 abbrev pub HasOpen : List Thread → ℕ → ℕ → Type 0
 HasOpen threads t call = (thread : Thread) × At threads t thread × (open_in thread.stage ≡ Some call)
-
--- the thread's call is taken
-abbrev pub IsTaken : List Thread → ℕ → ℕ → Type 0
-IsTaken threads t call = (thread : Thread) × At threads t thread × (thread.stage ≡ Taken call)
 
 -- the call does not stand in the log
 abbrev pub IsFresh : List LogEntry → ℕ → Type 0
@@ -132,7 +129,7 @@ pub record IsReplicaOf (layout : Layout) (log : List LogEntry) (completed : ℕ)
 
 -- a call is open or answered; a reply answers rightly a call before it; none is answered twice; and a thread's calls do not overlap
 pub record AreCalls (events : List Event) (threads : List Thread) : Type 0 where
-  pub opened : (t : ℕ) (thread : Thread) (call : ℕ) → At threads t thread → open_in thread.stage ≡ Some call → IsOpen events t call
+  pub opened : (t : ℕ) (thread : Thread) (call : ℕ) → At threads t thread → open_in thread.stage ≡ Some call → IsUnanswered events t call
   pub ended : (call : ℕ) (made : Invocation) → call_at events call ≡ Some made
       → HasOpen threads made.thread call ⊎ ((index : ℕ) × RepliesTo events index call)
   pub once : (first second call : ℕ) → first < second → RepliesTo events first call → RepliesTo events second call → ⊥

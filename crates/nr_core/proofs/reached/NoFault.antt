@@ -1,21 +1,25 @@
 -- No list of steps makes a fault.
-use Rattle.std.proofs.Common.{ℕ}
+use Rattle.std.proofs.Common.{ℕ, List, subst}
 use Rattle.nr_trace.specs.Recording.{Recording}
-use Rattle.nr_trace.specs.Faults.{HasFault}
+use Rattle.nr_trace.specs.Faults.{HasFault, IsFirstOf}
 use Rattle.nr_trace.specs.Laws.{HasCleanLog, IsFaultless}
+use Rattle.nr_trace.specs.Spelling.{Spells}
+use Rattle.nr_trace.specs.declared.fault.Fault.{Fault}
 use Rattle.nr_trace.specs.declared.fault.Fault.TheVariants.{Format, ThreadOpen, NoSuchCall, AnsweredTwice, NotAnUpdate, PlacedTwice, NotPlaced, PastLog, Early}
 use Rattle.nr_trace.specs.declared.fault.Fault.TheVariants.{WrongAnswer, PrefixPastLog, PrefixShort, MissingFrame, SharedFrame, ReservedBit, StrayFrame}
 use Rattle.nr_trace.specs.declared.fault.Fault.TheVariants.{Differs}
-use Rattle.nr_core.specs.State.{State, start}
-use Rattle.nr_core.specs.Run.{after_steps, IsRecordingOf}
+use Rattle.nr_trace.proofs.LawsOfFormat.{no_fault}
+use Rattle.nr_trace.proofs.LawsOfSpelling.{one_trace}
+use Rattle.nr_core.specs.State.{State}
+use Rattle.nr_core.specs.Run.{IsRecordingOf}
 use Rattle.nr_core.specs.Faultless.{IsRecordingOfSteps}
-use Rattle.nr_core.specs.inside.Faultless.{IsReached}
+use Rattle.nr_core.specs.inside.Reached.{IsReached}
 use Rattle.nr_core.proofs.reached.CleanLog.{clean_log}
 use Rattle.nr_core.proofs.reached.Dumps.{none_past_log, none_short, none_missing, none_shared, none_reserved, none_stray, none_differs}
 use Rattle.nr_core.proofs.reached.InTime.{none_early}
 use Rattle.nr_core.proofs.reached.RightAnswers.{none_wrong}
 use Rattle.nr_core.proofs.reached.Recorded.{of_recording}
-use Rattle.nr_core.proofs.reached.Runs.{each_is_reached}
+use Rattle.nr_core.proofs.reached.Runs.{reached_by_steps}
 
 pub well_formed : (state : State) (trace : Recording) → IsReached state → IsRecordingOf state trace → HasCleanLog trace
 well_formed state trace reached is = of_recording HasCleanLog state trace is (λ version dumps are. clean_log state version dumps reached)
@@ -75,12 +79,19 @@ faultless state trace reached is (ReservedBit r number index) h = reserved state
 faultless state trace reached is (StrayFrame r number) h = stray state trace r number is h
 faultless state trace reached is (Differs r address) h = differs state trace r address reached is h
 
--- ---- of the state that steps reach
+-- ---- of a state that steps reach
 
 pub well_formed_of_steps : (trace : Recording) → IsRecordingOfSteps trace → HasCleanLog trace
-well_formed_of_steps trace (layout, scripts, steps, is) =
-    well_formed (after_steps (start layout scripts) steps) trace (each_is_reached layout scripts steps) is
+well_formed_of_steps trace (state, reachable, is) = well_formed state trace (reached_by_steps state reachable) is
 
 pub none_of_steps : (trace : Recording) → IsRecordingOfSteps trace → IsFaultless trace
-none_of_steps trace (layout, scripts, steps, is) =
-    faultless (after_steps (start layout scripts) steps) trace (each_is_reached layout scripts steps) is
+none_of_steps trace (state, reachable, is) = faultless state trace (reached_by_steps state reachable) is
+
+-- no fault is the first of the bytes of such a recording
+none_of_spelled : (bytes : List ℕ) (trace : Recording) (fault : Fault) → Spells bytes trace → IsFaultless trace → IsFirstOf bytes fault → ⊥
+none_of_spelled bytes trace (Format fault) spells none first = no_fault bytes trace fault spells first
+none_of_spelled bytes trace fault spells none (other, also, first) =
+    none fault (subst (λ t. HasFault t fault) (one_trace bytes other trace also spells) first.holds)
+
+pub none_of_bytes : (trace : Recording) (bytes : List ℕ) (fault : Fault) → IsRecordingOfSteps trace → Spells bytes trace → IsFirstOf bytes fault → ⊥
+none_of_bytes trace bytes fault is spells first = none_of_spelled bytes trace fault spells (none_of_steps trace is) first
