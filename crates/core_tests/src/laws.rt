@@ -9,9 +9,11 @@ ghost use Rattle.nr_trace.specs.Orders.{recorded_order};
 ghost use Rattle.nr_trace.specs.Recording.{Recording};
 ghost use Rattle.nr_trace.specs.Spelling.{Spells};
 
-/// Whatever the steps: the verdict on the spelling of a recording of them is yes, with its recorded order.
+/// Whatever the steps: yes, with its recorded order, is a verdict on the spelling of a recording of them, and no other is.
 pub fn steps_are_judged_yes()
-    ensures { (trace : Recording) (bytes : List ℕ) (verdict : Verdict) → IsRecordingOfSteps trace
-        → Spells bytes trace → IsVerdictOf bytes verdict
+    ensures yes { (trace : Recording) (bytes : List ℕ) → IsRecordingOfSteps trace
+        → Spells bytes trace → IsVerdictOf bytes (Yes (recorded_order trace)) }
+    ensures no_other { (trace : Recording) (bytes : List ℕ) (verdict : Verdict)
+        → IsRecordingOfSteps trace → Spells bytes trace → IsVerdictOf bytes verdict
         → verdict ≡ Yes (recorded_order trace) }
 {}

@@ -8,6 +8,7 @@ mod cases;
 mod examples;
 #[cfg(test)]
 mod growths;
+pub mod judging;
 pub mod laws;
 #[cfg(test)]
 mod lists;
