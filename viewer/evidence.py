@@ -12,7 +12,8 @@ from ways import Step, path_address, step_words, walked
 
 @dataclasses.dataclass
 class Evidence:
-    """What is said and marked: a sentence, facts, calls with what they are, other events, places, and entries of a dump."""
+    """What is said and marked: a sentence, facts, calls with what they are, other events, places, and entries of a dump; the address
+    that the fault names, and how many entries of the log stand before what is wrong."""
     sentence: str
     facts: list = dataclasses.field(default_factory=list)
     calls: dict = dataclasses.field(default_factory=dict)
@@ -21,6 +22,8 @@ class Evidence:
     replica: int = None
     frame: int = None
     paths: list = dataclasses.field(default_factory=list)
+    address: str = None
+    after: int = None
 
 
 def of_yes(trace, order, counts):
@@ -105,7 +108,7 @@ def of_early(trace, shown):
                     [f"Too early: {trace.call_text(number)}.",
                      f"Told before: event {index}, the reply to {trace.call_text(answered)}."],
                     {answered: "its reply tells how much has to be seen", number: "stands too early"}, [index],
-                    [floor - 1] + [entries] * is_update)
+                    [floor - 1] + [entries] * is_update, address=hex(trace.events[number].address), after=entries)
 
 
 def last_change(trace, shown):
@@ -123,7 +126,8 @@ def of_wrong_answer(trace, shown):
     places, facts, calls = last_change(trace, shown)
     return Evidence(f"Call {number} was told \u201c{reply['answer']}\u201d; the address space after the "
                     f"{many(reply['at'], 'update')} before it answers \u201c{shown['wanted']}\u201d.",
-                    [f"The call: {trace.call_text(number)}.", *facts], calls | {number: "is answered wrongly"}, [reply["event"]], places)
+                    [f"The call: {trace.call_text(number)}.", *facts], calls | {number: "is answered wrongly"}, [reply["event"]], places,
+                    address=shown["address"], after=reply["at"])
 
 
 def of_prefix_past_log(trace, shown):
@@ -181,7 +185,7 @@ def of_differs(trace, shown):
     path = walked(trace, trace.dumps[replica], int(shown["address"], 0))
     return Evidence(f"At {shown['address']} the tables of replica {replica} say \u201c{shown['found']}\u201d; the address space after its "
                     f"{applied} says \u201c{shown['wanted']}\u201d.", [*facts, *map(step_words, path)], calls, [], places, replica,
-                    paths=[path])
+                    paths=[path], address=shown["address"], after=shown["applied"])
 
 
 OF_FAULT = {
@@ -225,6 +229,15 @@ def check_events(trace, shown):
                 raise LookupError
 
 
+def of_dump(trace, verdict, found):
+    """A trace without calls is looked at for its dumps: what the auditor misses there is a fact, and no fault of a run."""
+    frames = many(sum(len(dump.frames) for dump in trace.dumps), "table")
+    whose = "one replica" if trace.replicas == 1 else many(trace.replicas, "replica")
+    return Evidence(f"A dump of {whose}: {frames} in memory, and no calls.",
+                    [f"nrvs audit says \u201c{verdict}\u201d: without calls it expects tables that map nothing, each reached once.",
+                     found.sentence, *found.facts])
+
+
 def evidence(trace, said):
     """The verdict, and what is marked in its trace of what `nrvs explain --json` says of it."""
     whole = json.loads(said)
@@ -236,5 +249,7 @@ def evidence(trace, said):
         return verdict, of_yes(trace, whole["order"], whole["counts"])
     check_events(trace, shown)
     found = OF_FAULT[name](trace, shown)
+    if trace.is_dump:
+        return verdict, of_dump(trace, verdict, found)
     found.facts += [f"Most often this tells {TELLS[name]}."] if name in TELLS else []
     return verdict, found

@@ -29,6 +29,11 @@ const kindOf = call => bytes.getUint8(offset(call) + 4);
 const threadOf = call => bytes.getUint16(offset(call) + 2);
 const replicaOf = call => bytes.getUint8(offset(call) + 1);
 const addressOf = call => bytes.getBigUint64(offset(call) + 8);
+const sizeOf = call => bytes.getUint8(offset(call) + 5);
+const rightsOf = call => bytes.getUint8(offset(call) + 6);
+const physicalOf = map => bytes.getBigUint64(offset(map) + 16);
+/** The number of the 4 KiB page that a call's address lies in: below 2^52, so that a number has it exactly. */
+const pageOf = call => bytes.getUint32(offset(call) + 8) * 2 ** 20 + (bytes.getUint32(offset(call) + 12) >>> 12);
 const isUpdate = call => kindOf(call) < 3;
 const answerOf = reply => bytes.getUint8(offset(reply) + 1);
 const answeredBy = reply => bytes.getUint32(offset(reply) + 4);
@@ -37,9 +42,8 @@ const hex = number => "0x" + number.toString(16);
 const rightsText = rights => (rights & 1 ? "w" : "-") + (rights & 2 ? "u" : "-") + (rights & 4 ? "x" : "-");
 
 function requestText(call) {
-  const at = offset(call), kind = kindOf(call), size = bytes.getUint8(at + 5), rights = bytes.getUint8(at + 6);
-  const address = hex(addressOf(call));
-  if (kind === 0) return `map ${SIZES[size]} ${address} to ${hex(bytes.getBigUint64(at + 16))} ${rightsText(rights)}`;
+  const kind = kindOf(call), size = sizeOf(call), rights = rightsOf(call), address = hex(addressOf(call));
+  if (kind === 0) return `map ${SIZES[size]} ${address} to ${hex(physicalOf(call))} ${rightsText(rights)}`;
   if (kind === 4) return `access ${"su"[rights]} ${"rwx"[size]} ${address}`;
   return `${KINDS[kind]} ${address}` + (kind === 2 ? " " + rightsText(rights) : "");
 }
@@ -57,36 +61,22 @@ function answerText(reply) {
 
 const run = {};
 
+/** Of each call its first reply and its first place, which stand too early, and which are marked. */
 function indexRun() {
-  run.lanes = Array.from({ length: Math.max(told.threads, 1) }, () => []);
+  run.calls = [];
   run.reply = new Int32Array(told.events).fill(-1);
   run.place = new Int32Array(told.events).fill(-1);
   for (let event = 0; event < told.events; event++) {
     const named = isCall(event) ? event : answeredBy(event);
-    if (named === event) run.lanes[threadOf(event)].push(event);
+    if (named === event) run.calls.push(event);
     else if (named < event && isCall(named) && run.reply[named] < 0) run.reply[named] = event;
   }
   for (let place = told.places - 1; place >= 0; place--) if (isCall(logAt(place))) run.place[logAt(place)] = place;
-  run.reach = run.lanes.map(lane => { let most = 0; return lane.map(call => most = Math.max(most, endOf(call))); });
+  run.early = earlyCalls();
   run.marked = Object.keys(told.calls).map(Number);
-  indexLog();
 }
 
 const endOf = call => run.reply[call] < 0 ? told.events : run.reply[call];
-
-/** Updates by place, and each answered read after the entries that it saw: the recorded order. */
-function recordedOrder() {
-  const reads = [], order = [];
-  for (const lane of run.lanes) for (const call of lane) if (!isUpdate(call) && run.reply[call] >= 0) reads.push(call);
-  const saw = call => atOf(run.reply[call]);
-  reads.sort((one, other) => saw(one) - saw(other) || one - other);
-  let next = 0;
-  for (let place = 0; place <= told.places; place++) {
-    while (next < reads.length && (saw(reads[next]) <= place || place === told.places)) order.push(reads[next++]);
-    if (place < told.places) order.push(-1 - place);
-  }
-  return order;
-}
 
 /** The calls that stand after fewer entries than a reply before them tells of. */
 function earlyCalls() {
@@ -101,30 +91,12 @@ function earlyCalls() {
   return early;
 }
 
-/** Gives each member of the recorded order a span of its own, rising, and within its call unless that stands too early. */
-function indexLog() {
-  const order = recordedOrder(), latest = new Float64Array(order.length + 1).fill(told.events), early = earlyCalls();
-  const callOf = member => member >= 0 ? member : isCall(logAt(-1 - member)) ? logAt(-1 - member) : -1;
-  const bounds = order.map(member => early.has(callOf(member)) ? -1 : callOf(member));
-  for (let k = order.length - 1; k >= 0; k--) latest[k] = Math.min(latest[k + 1], bounds[k] < 0 ? told.events : endOf(bounds[k]));
-  run.from = new Float64Array(told.places);
-  run.to = new Float64Array(told.places);
-  run.stands = new Float64Array(told.events).fill(-1);
-  for (let first = 0, left = 0; first < order.length;) {
-    left = Math.max(left, bounds[first]);
-    let after = first + 1;
-    while (after < order.length && bounds[after] <= left) after++;
-    const next = after < order.length ? bounds[after] : told.events, room = Math.max(0.6, Math.min(next, latest[first]) - left - 0.4);
-    const wide = room / (after - first);
-    for (let k = first; k < after; k++) putMember(order[k], callOf(order[k]), left + 0.2 + wide * (k - first), 0.85 * wide);
-    first = after;
+/** The first of some rising numbers that is at least the least. */
+function firstFrom(numbers, least) {
+  let low = 0, high = numbers.length;
+  while (low < high) {
+    const middle = (low + high) >> 1;
+    if (numbers[middle] < least) low = middle + 1; else high = middle;
   }
-}
-
-function putMember(member, call, from, wide) {
-  if (member < 0) {
-    run.from[-1 - member] = from;
-    run.to[-1 - member] = from + wide;
-  }
-  if (call >= 0 && run.stands[call] < 0) run.stands[call] = from + wide / 2;
+  return low;
 }

@@ -156,6 +156,11 @@ class Trace:
     def words(self, dump, frame):
         return struct.unpack_from(">512Q", self.data, dump.frames[frame])
 
+    @property
+    def is_dump(self):
+        """Whether it has no calls and no log: it is a dump alone."""
+        return not (self.broken or self.events or self.log)
+
     def is_call(self, number):
         return number < len(self.events) and isinstance(self.events[number], Call)
 

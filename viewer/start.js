@@ -1,29 +1,5 @@
 // ---- start ----
 
-function makeLegend() {
-  const entry = (sign, text, colour, full) => {
-    const item = element("li"), box = element("i", sign);
-    box.style.borderColor = `var(--${colour})`;
-    if (full) Object.assign(box.style, { background: `var(--${colour})`, color: inkOn(colours[colour]) });
-    item.append(box, text);
-    return item;
-  };
-  const kinds = KINDS.map(kind => entry(kind[0].toUpperCase(), kind, kind, true));
-  $("legend").replaceChildren(...kinds,
-    entry("U", "refused or nothing there: hollow", "unmap"),
-    entry("", "no answer: dashed, open to the end", "soft"),
-    entry("!", "marked: red frame and flag, a diamond for a reply", "fault"),
-    entry("\u2193", "to its place in the log; dashed: a read, between the entries that it saw and the others", "soft"));
-  $("legend").children[KINDS.length + 1].firstChild.style.borderStyle = "dashed";
-  $("map-legend").replaceChildren(
-    entry("\u25be", "table", "line"),
-    entry("w", "page that may be written: left bar", "unmap", true),
-    entry("u", "by users: middle bar", "map", true),
-    entry("x", "executed: right bar", "resolve", true),
-    entry("!", "reserved bit", "fault"),
-    entry("\u00a0", "red frame: on the marked way", "fault"));
-}
-
 function startDumps() {
   const readable = told.dumps.filter(dump => dump.frames.length).length;
   $("dumps").hidden = !readable;
@@ -37,29 +13,38 @@ function startDumps() {
   }));
   onKeys($("map"), MAP_KEYS);
   $("map").addEventListener("click", clickMap);
+  $("seek").addEventListener("submit", event => {
+    event.preventDefault();
+    const stretch = stretchOf($("where").value);
+    if (stretch) showAddress(stretch.address);
+    else $("cell").textContent = "Not an address, as 0x400000 is.";
+  });
   showReplica(told.replica !== null && told.replica < readable ? told.replica : 0);
 }
 
 function startRun() {
-  indexRun();
   onKeys($("run"), RUN_KEYS);
   onMouse($("run"));
+  $("scroller").addEventListener("scroll", redraw);
   $("nearer").addEventListener("click", () => zoom(0.5));
   $("farther").addEventListener("click", () => zoom(2));
-  $("all").addEventListener("click", () => show(0, told.events));
-  $("fault").addEventListener("click", () => show(...told.view));
+  $("all").addEventListener("click", showAll);
+  $("fault").addEventListener("click", showMarked);
   $("search").addEventListener("submit", event => { event.preventDefault(); find(); });
+  $("the-run").hidden = told.isDump;
   $("marked").hidden = !run.marked.length;
   $("fault").hidden = !run.marked.length && !told.marked.length;
-  show(...told.view);
   if (run.marked.length) describe(run.marked[run.marked.length - 1]);
   else $("details").replaceChildren(element("div", "Point at a call, or choose one with the arrow keys.", "hint"));
   $("details").hidden = !told.events;
 }
 
-/** What the address asks for after its `#`: `zoom=N` presses the button N times, `find=TEXT` searches. */
+/** What the page's address asks for after its `#`: `only=ADDRESS` shows the calls there alone, `zoom=N` presses the button N times,
+ *  `after=N` shows the pages after N places, `find=TEXT` searches. */
 function pressHash() {
   const asked = new URLSearchParams(location.hash.slice(1));
+  if (asked.has("only")) showOnly(asked.get("only"));
+  if (asked.has("after")) showAfter(Math.min(Number(asked.get("after")) || 0, told.places));
   for (let times = Number(asked.get("zoom") || 0); times > 0; times--) $("nearer").click();
   if (asked.has("find")) {
     $("find").value = asked.get("find");
@@ -72,7 +57,6 @@ function pressHash() {
 
 function repaint() {
   readColours();
-  makeLegend();
   drawRun();
   if (!$("dumps").hidden) drawMap();
 }
@@ -80,7 +64,11 @@ function repaint() {
 async function start() {
   await openBytes();
   readColours();
+  indexRun();
+  indexSpace();
   startRun();
+  startSpace();
+  startOnly();
   startDumps();
   pressHash();
   repaint();

@@ -1,7 +1,7 @@
 // ---- the dumped tables ----
 
-const PER_ROW = 64;
-const tables = { replica: 0, path: [], level: 0, marked: new Set(), frames: [] };
+const HEAD = 24, GAP = 10, FOLDED = 14;             // pixels: above and below a table, and of rows without an entry
+const tables = { replica: 0, path: [], level: 0, perRow: 64, cell: 20, shown: [], marked: new Set(), frames: [] };
 
 const WORDS = { absent: "absent", reserved: "a reserved bit is set", page: "page", table: "table" };
 const entryBits = level => BigInt(3 + 9 * level);
@@ -58,35 +58,84 @@ function describeEntry(table, index) {
 
 const isMarkedEntry = (frame, index) => tables.marked.has(`${tables.replica}:${frame}:${index}`);
 
-function drawMap() {
-  const chain = tablesOnPath(), canvas = $("map"), cell = Math.max(5, Math.min(20, Math.floor((canvas.clientWidth - 90) / PER_ROW)));
-  tables.cell = cell;
-  tables.level = Math.min(tables.level, Math.max(chain.length - 1, 0));
-  const [pen] = sized(canvas, Math.max(chain.length, 1) * (8 * cell + 34) + 4);
-  chain.forEach((table, depth) => drawTable(pen, table, depth, cell));
-  if (chain.length) $("cell").textContent = describeEntry(chain[tables.level], chain[tables.level].index);
-  pen.fillStyle = colours.fault;
-  if (!chain.length) pen.fillText(`the root, frame ${told.dumps[tables.replica].root}, is missing`, 12, 20);
-  $("cell").hidden = !chain.length;
+/** Whether an entry has to be seen: it is present, marked or chosen. */
+const isSeen = (table, index) => index === table.index || isMarkedEntry(table.frame, index) || meaning(table.frame, index, table.level).kind !== "absent";
+
+/** The bands of a table from above: rows with an entry, and runs of rows without one, each from its first entry up to another. */
+function bandsOf(table, top, cell) {
+  const bands = [], wide = tables.perRow;
+  for (let first = 0, y = top; first < 512;) {
+    const seen = row => Array.from({ length: wide }, (_, column) => row + column).some(index => isSeen(table, index));
+    const full = seen(first);
+    let after = first + wide;
+    while (!full && after < 512 && !seen(after)) after += wide;
+    bands.push({ first, after, y, tall: full ? cell : FOLDED, full });
+    y += bands[bands.length - 1].tall;
+    first = after;
+  }
+  return bands;
 }
 
-function drawTable(pen, table, depth, cell) {
-  const top = depth * (8 * cell + 34) + 24, last = canonical(table.address + (512n << entryBits(table.level)) - 1n);
+/** The tables on the chosen way with their bands, one below the other, and the height of all. */
+function layOutTables() {
+  const wide = $("map").clientWidth;
+  tables.perRow = wide < NARROW ? 32 : 64;
+  tables.cell = Math.max(5, Math.min(20, Math.floor((wide - 90) / tables.perRow)));
+  let y = 0;
+  tables.shown = tablesOnPath().map(table => {
+    const top = y + HEAD, bands = bandsOf(table, top, tables.cell), last = bands[bands.length - 1];
+    y = last.y + last.tall + GAP;
+    return { table, top, bands, end: y - GAP };
+  });
+  return Math.max(y, HEAD + GAP);
+}
+
+function drawMap() {
+  const height = layOutTables(), { shown } = tables, canvas = $("map");
+  tables.level = Math.min(tables.level, Math.max(shown.length - 1, 0));
+  const [pen] = sized(canvas, height);
+  shown.forEach((each, depth) => drawTable(pen, each, depth));
+  if (shown.length) {
+    const { table } = shown[tables.level];
+    $("cell").replaceChildren(...withAddresses(describeEntry(table, table.index)));
+  }
+  pen.fillStyle = colours.fault;
+  if (!shown.length) pen.fillText(`the root, frame ${told.dumps[tables.replica].root}, is missing`, 12, 20);
+  $("cell").hidden = !shown.length;
+}
+
+function drawTable(pen, { table, top, bands }, depth) {
+  const last = canonical(table.address + (512n << entryBits(table.level)) - 1n), { cell, perRow } = tables;
   pen.font = "600 12px system-ui, sans-serif";
   pen.fillStyle = colours.ink;
-  const size = ["4K", "2M", "1G", "512G", "256T"][table.level - 1], first = hex(entryAddress(table, 0));
-  pen.fillText(`Level ${table.level}, frame ${hex(table.frame)}: ${first} to ${hex(last)}, ${size} an entry`, 12, top - 12);
-  if (!depth) {
-    pen.font = "11px system-ui, sans-serif";
-    pen.fillStyle = colours.soft;
-    pen.fillText("low half", PER_ROW * cell + 22, top + 2 * cell);
-    pen.fillText("high half", PER_ROW * cell + 22, top + 6 * cell);
-    pen.fillRect(12, top + 4 * cell - 1, PER_ROW * cell + 64, 1.5);
+  const size = ["4K", "2M", "1G", "512G", "256T"][table.level - 1], first = hex(entryAddress(table, 0)), which = `Level ${table.level}, frame ${hex(table.frame)}`;
+  pen.fillText(perRow < 64 ? `${which}: from ${first}` : `${which}: ${first} to ${hex(last)}, ${size} an entry`, 12, top - 12);
+  for (const band of bands) {
+    if (band.full) for (let index = band.first; index < band.after; index++) drawCell(pen, table, index, 12 + index % perRow * cell, band.y, cell);
+    else drawFolded(pen, band, cell);
   }
-  for (let index = 0; index < 512; index++) {
-    drawCell(pen, table, index, 12 + index % PER_ROW * cell, top + Math.floor(index / PER_ROW) * cell, cell);
+  if (!depth) drawHalves(pen, bands, cell);
+  outlineCell(pen, bands, table.index, cell, depth === tables.level ? colours.focus : colours.ink);
+}
+
+/** Rows without an entry: a low band, that says which. */
+function drawFolded(pen, { first, after, y, tall }, cell) {
+  pen.fillStyle = colours.panel;
+  pen.fillRect(13, y + 2, tables.perRow * cell - 2, tall - 4);
+  pen.fillStyle = colours.soft;
+  pen.font = "9px system-ui, sans-serif";
+  pen.fillText(`${first} to ${after - 1}: absent`, 18, y + tall / 2 + 1);
+}
+
+/** Which rows of the root are of the low half of the addresses, and which of the high. */
+function drawHalves(pen, bands, cell) {
+  const left = tables.perRow * cell + 16;
+  pen.font = "10px system-ui, sans-serif";
+  pen.fillStyle = colours.soft;
+  for (const [name, least, stop] of [["low half", 0, 256], ["high half", 256, 512]]) {
+    const band = bands.find(each => each.after > least && each.first < stop && each.first >= least);
+    if (band) pen.fillText(name, left, band.y + band.tall / 2 + 1);
   }
-  outlineCell(pen, table.index, top, cell, depth === tables.level ? colours.focus : colours.ink);
 }
 
 function drawCell(pen, table, index, x, y, cell) {
@@ -126,8 +175,8 @@ function drawRights(pen, rights, x, y, size) {
   }
 }
 
-function outlineCell(pen, index, top, cell, colour) {
-  const x = 12 + index % PER_ROW * cell, y = top + Math.floor(index / PER_ROW) * cell;
+function outlineCell(pen, bands, index, cell, colour) {
+  const x = 12 + index % tables.perRow * cell, { y } = bands.find(band => index < band.after);
   pen.strokeStyle = colour;
   pen.lineWidth = 2;
   pen.strokeRect(x - 1.5, y - 1.5, cell + 3, cell + 3);
@@ -165,14 +214,16 @@ function changeLevel(by) {
 
 const MAP_KEYS = {
   "ArrowLeft": () => choose(tables.level, chosen() - 1), "ArrowRight": () => choose(tables.level, chosen() + 1),
-  "ArrowUp": () => choose(tables.level, chosen() - PER_ROW), "ArrowDown": () => choose(tables.level, chosen() + PER_ROW),
+  "ArrowUp": () => choose(tables.level, chosen() - tables.perRow), "ArrowDown": () => choose(tables.level, chosen() + tables.perRow),
   "Enter": () => changeLevel(1), "Backspace": () => changeLevel(-1), "n": choosePresent,
 };
 
-function clickMap(event) {
-  const tall = 8 * tables.cell + 34, depth = Math.floor(event.offsetY / tall);
-  const column = Math.floor((event.offsetX - 12) / tables.cell), row = Math.floor((event.offsetY - depth * tall - 24) / tables.cell);
-  if (column >= 0 && column < PER_ROW && row >= 0 && row < 8) choose(depth, row * PER_ROW + column);
+/** A click on an entry chooses it, one on a low band its first. */
+function clickMap({ offsetX, offsetY }) {
+  const column = Math.floor((offsetX - 12) / tables.cell), depth = tables.shown.findIndex(({ top, end }) => offsetY >= top && offsetY < end);
+  if (depth < 0 || column < 0 || column >= tables.perRow) return;
+  const band = tables.shown[depth].bands.find(({ y, tall }) => offsetY < y + tall);
+  choose(depth, band.first + (band.full ? column : 0));
 }
 
 // ---- the tree of tables ----
@@ -199,17 +250,18 @@ function entriesOf(table) {
   for (let index = 0; index < 512;) {
     const entry = meaning(table.frame, index, table.level), red = isMarkedEntry(table.frame, index);
     let after = index + 1;
-    while (entry.kind === "page" && !red && after < 512 && follows(table, entry, index, after)) after++;
-    if (entry.kind !== "absent" || red) items.push(itemOf(table, entry, index, after, red));
+    while (!red && after < 512 && follows(table, entry, index, after)) after++;
+    items.push(itemOf(table, entry, index, after, red));
     index = after;
   }
-  return items.length ? items : [element("li", "no entry is present", "leaf")];
+  return items;
 }
 
-/** The entry maps the page that comes after those from the first one on, with the same rights. */
+/** The entry is absent as those from the first one on, or maps the page that comes after theirs, with the same rights. */
 function follows(table, first, index, after) {
   const next = meaning(table.frame, after, table.level), target = first.target + (after - index) * 2 ** (3 + 9 * table.level);
-  return next.kind === "page" && next.rights === first.rights && next.target === target && !isMarkedEntry(table.frame, after);
+  if (isMarkedEntry(table.frame, after) || next.kind !== first.kind) return false;
+  return next.kind === "absent" || next.kind === "page" && next.rights === first.rights && next.target === target;
 }
 
 function itemOf(table, entry, index, after, red) {
@@ -221,10 +273,11 @@ function itemOf(table, entry, index, after, red) {
     item.append(branch(below, `${index}: ${from} table in frame ${hex(entry.target)}${rights}${mark}`, red));
     return item;
   }
-  const which = after - index > 1 ? `${index} to ${after - 1}: ${from}, ${after - index} pages` : `${index}: ${from} ${WORDS[entry.kind]}`;
+  const nouns = entry.kind === "page" ? ", " + plural(after - index, "page") : " absent";
+  const which = after - index > 1 ? `${index} to ${after - 1}: ${from}${nouns}` : `${index}: ${from} ${WORDS[entry.kind]}`;
   const more = entry.kind === "page" ? ` of ${SIZES[table.level - 1]} at ${hex(entry.target)}`
     : entry.kind === "table" ? ` in frame ${hex(entry.target)}, which is missing` : "";
-  item.append(element("div", which + more + rights + mark, red || entry.kind === "reserved" ? "here leaf" : "leaf"));
+  item.append(element("div", which + more + rights + mark, red || entry.kind === "reserved" ? "here leaf" : entry.kind === "absent" ? "none leaf" : "leaf"));
   return item;
 }
 
