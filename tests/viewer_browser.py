@@ -8,7 +8,7 @@ import tempfile
 import threading
 
 FAULT_COLOUR = [200, 16, 46]
-SECONDS = 400
+SECONDS = 600                                       # for all pages together, on a machine that has other work
 
 
 class Server(http.server.ThreadingHTTPServer):

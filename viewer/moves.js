@@ -15,8 +15,9 @@ function showMarked() {
   const replies = run.marked.map(call => run.reply[call]).filter(reply => reply >= 0);
   const placed = told.markedPlaces.map(logAt).filter(isCall), last = told.broken !== null && told.events ? [told.events - 1] : [];
   const stands = run.marked.map(call => run.stands[call]).filter(spot => spot >= 0);
-  const spots = [...[...run.marked, ...replies, ...placed, ...told.marked, ...last].map(fold), ...stands], least = Math.min(...spots), most = Math.max(...spots);
+  const spots = [...[...run.marked, ...replies, ...placed, ...told.marked, ...last].map(fold), ...stands];
   if (!spots.length) return showAll();
+  const least = Math.min(...spots), most = Math.max(...spots);
   const margin = Math.max(4, Math.floor((most - least) / 6));
   show(Math.max(0, least - margin), Math.min(axis.length, most + 2 + margin));
   reveal(run.marked[run.marked.length - 1]);

@@ -19,7 +19,8 @@ function callsOver({ first, after }) {
 
 /** Shows the calls of the named stretch alone, with those that are marked; all where the text names none, or there are no such calls. */
 function showOnly(text) {
-  const stretch = stretchOf(text), over = stretch ? callsOver(stretch) : [], named = told.marked.map(event => isCall(event) ? event : answeredBy(event));
+  const stretch = stretchOf(text), over = stretch ? callsOver(stretch) : [];
+  const named = told.marked.map(event => isCall(event) ? event : answeredBy(event));
   showCalls(over.length ? new Set([...over, ...run.marked, ...named.filter(isCall)]) : null);
   $("only").value = stretch ? text : told.address || "";
   $("every").hidden = !run.shown;

@@ -17,7 +17,8 @@ window.addEventListener("unhandledrejection", event => showError(String(event.re
 let bytes;
 
 async function openBytes() {
-  const packed = Uint8Array.from(atob($("bytes").textContent), letter => letter.charCodeAt(0));
+  const letters = atob($("bytes").textContent), packed = new Uint8Array(letters.length);
+  for (let at = 0; at < letters.length; at++) packed[at] = letters.charCodeAt(at);
   const stream = new Blob([packed]).stream().pipeThrough(new DecompressionStream("deflate"));
   bytes = new DataView(await new Response(stream).arrayBuffer());
 }

@@ -59,7 +59,8 @@ function describeEntry(table, index) {
 const isMarkedEntry = (frame, index) => tables.marked.has(`${tables.replica}:${frame}:${index}`);
 
 /** Whether an entry has to be seen: it is present, marked or chosen. */
-const isSeen = (table, index) => index === table.index || isMarkedEntry(table.frame, index) || meaning(table.frame, index, table.level).kind !== "absent";
+const isSeen = (table, index) => index === table.index || isMarkedEntry(table.frame, index)
+  || meaning(table.frame, index, table.level).kind !== "absent";
 
 /** The bands of a table from above: rows with an entry, and runs of rows without one, each from its first entry up to another. */
 function bandsOf(table, top, cell) {
@@ -108,7 +109,8 @@ function drawTable(pen, { table, top, bands }, depth) {
   const last = canonical(table.address + (512n << entryBits(table.level)) - 1n), { cell, perRow } = tables;
   pen.font = "600 12px system-ui, sans-serif";
   pen.fillStyle = colours.ink;
-  const size = ["4K", "2M", "1G", "512G", "256T"][table.level - 1], first = hex(entryAddress(table, 0)), which = `Level ${table.level}, frame ${hex(table.frame)}`;
+  const size = ["4K", "2M", "1G", "512G", "256T"][table.level - 1], first = hex(entryAddress(table, 0));
+  const which = `Level ${table.level}, frame ${hex(table.frame)}`;
   pen.fillText(perRow < 64 ? `${which}: from ${first}` : `${which}: ${first} to ${hex(last)}, ${size} an entry`, 12, top - 12);
   for (const band of bands) {
     if (band.full) for (let index = band.first; index < band.after; index++) drawCell(pen, table, index, 12 + index % perRow * cell, band.y, cell);
@@ -277,7 +279,8 @@ function itemOf(table, entry, index, after, red) {
   const which = after - index > 1 ? `${index} to ${after - 1}: ${from}${nouns}` : `${index}: ${from} ${WORDS[entry.kind]}`;
   const more = entry.kind === "page" ? ` of ${SIZES[table.level - 1]} at ${hex(entry.target)}`
     : entry.kind === "table" ? ` in frame ${hex(entry.target)}, which is missing` : "";
-  item.append(element("div", which + more + rights + mark, red || entry.kind === "reserved" ? "here leaf" : entry.kind === "absent" ? "none leaf" : "leaf"));
+  const how = red || entry.kind === "reserved" ? "here leaf" : entry.kind === "absent" ? "none leaf" : "leaf";
+  item.append(element("div", which + more + rights + mark, how));
   return item;
 }
 
@@ -310,7 +313,8 @@ function showReplica(replica) {
   tables.level = Math.max(0, tables.path.length - 1);
   const dump = told.dumps[replica];
   const applied = `${dump.applied.toLocaleString("en")} of ${plural(told.places, "place")} of the log`;
-  $("dump-says").textContent = `Replica ${replica} had applied ${applied}; its dump has ${plural(dump.frames.length, "frame")}, the root is frame ${dump.root}.`;
+  const has = `its dump has ${plural(dump.frames.length, "frame")}, the root is frame ${dump.root}.`;
+  $("dump-says").textContent = `Replica ${replica} had applied ${applied}; ${has}`;
   [...$("replicas").children].forEach((button, index) => button.setAttribute("aria-pressed", index === replica));
   drawMap();
   makeTree();
