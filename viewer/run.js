@@ -1,6 +1,6 @@
 // ---- the picture of the run ----
 
-const OVERVIEW = 14, AXIS = 20, FLAG = 15, LEAST_LANE = 19;
+const OVERVIEW = 14, AXIS = 20, FLAG = 15, LEAST_LANE = 20;
 const picture = { from: 0, to: 1, selected: -1, place: -1, hits: [], hit: -1, labels: 116 };
 const NARROW = 600;                                 // pixels: below, labels are short and tables have more rows
 let colours = {}, waiting = false;
@@ -154,7 +154,7 @@ function drawCut(pen, width, part, top, tall, free) {
     for (let y = top, side = 2; y <= top + tall; y += 6, side = -side) pen.lineTo(x + side, y);
     pen.stroke();
   }
-  const label = [`${counted(many)} events cut`, counted(many)].find(each => pen.measureText(each).width < right - left - 4);
+  const label = [`${counted(many)} events cut`, `${counted(many)} cut`, "\u2026"].find(each => pen.measureText(each).width < right - left - 4);
   const wide = label ? pen.measureText(label).width : 0, start = (left + right - wide) / 2;
   if (!label || start < free - 4) return free;
   pen.fillStyle = colours.ink;
@@ -263,7 +263,7 @@ function drawCalls(pen, width, place, lane, row) {
 
 function drawBox(pen, call, left, width, top, height) {
   const colour = colours[KINDS[kindOf(call)]], reply = run.reply[call], thick = height > 12 ? 2 : 1;
-  const y = top + (height > 12 ? 3 : 1), tall = height - (height > 12 ? 6 : 2);
+  const room = height > 24 ? 3 : 1, y = top + room, tall = height - 2 * room;
   const hollow = reply < 0 || REFUSED.has(answerOf(reply));
   pen.fillStyle = hollow && width > 4 ? colours.paper : colour;
   pen.fillRect(left, y, width, tall);
