@@ -1,0 +1,297 @@
+#!/usr/bin/env python3
+"""Makes a trace of a recorder's log: each change of a translation is an update, each access and each page fault an access.
+
+    convert.py [--no-intent] [--every-access] [--most N] [--calls FILE] LOG >TRACE
+
+--no-intent: what mprotect and munmap promised is left to the tables.   --every-access: also those between a store and its flush.
+--most: stop after so many updates.   --calls: where each call comes from, a line each, parted by tabs: its number, the processor or
+the task, and the instructions, each an address and its place in the kernel: that of the store or the access, and those to which
+the calls return that led there.   A log that ends with .xz is unpacked.
+
+How, and why so, stands in README.md. Nothing here is verified, and nothing rests on it.
+"""
+import argparse
+import collections
+import lzma
+import sys
+from dataclasses import dataclass, field
+
+sys.dont_write_bytecode = True
+import log_lines
+from log_lines import Access, Born, Dumped, End, Entered, Entry, Fault, Flushed, InUser, Line, Note, Returned, Store, Symbol, Table, Word
+from page_tables import BYTES, EXEC, USER, WRITE, Change, Page, PageTables
+from trace import ACCESS, ALLOWED, CHANGED, DONE, FAULT, MAP, PROTECT, REMOVED, THREADS, UNMAP, Trace
+
+PROCESSORS = 8                  # threads 0 to 7 are the processors' accesses, the others updates under way
+MPROTECT, MUNMAP = 10, 11
+PROT_WRITE, PROT_EXEC, PROT_ALL = 2, 4, 7
+EVERYTHING = (1 << 64) - 1
+
+Window = tuple[int, int]        # a page's size and base: its entry was stored to, and isn't flushed
+
+
+@dataclass(frozen=True)
+class Options:
+    intent: bool = True
+    every_access: bool = False
+    most: int = 0
+
+
+@dataclass
+class Update:
+    """One that has its place in the log, and no reply yet."""
+    call: int
+    place: int
+    thread: int
+    change: Change
+
+
+@dataclass
+class Converter:
+    options: Options
+    trace: Trace = field(default_factory=Trace)
+    tables: PageTables = field(default_factory=lambda: PageTables(0))
+    pages: dict[int, Page] = field(default_factory=dict)                    # after the log as it is
+    latest: dict[int, tuple[int, int]] = field(default_factory=dict)        # by base: place and task of the latest update
+    windows: dict[Window, dict[int, list[Update]]] = field(default_factory=dict)    # by task that owes the flush
+    owed: dict[int, set[Window]] = field(default_factory=lambda: collections.defaultdict(set))      # by task
+    entered: dict[int, int] = field(default_factory=dict)                   # by task: places when its system call began
+    free: list[int] = field(default_factory=lambda: list(range(THREADS - 1, PROCESSORS - 1, -1)))
+    dump: dict[int, dict[int, int]] = field(default_factory=dict)
+    sources: list[tuple[int, str, tuple[int, ...]]] = field(default_factory=list)       # call, who, instructions
+    symbols: dict[int, str] = field(default_factory=dict)
+    notes: list[str] = field(default_factory=list)
+    counts: collections.Counter[str] = field(default_factory=collections.Counter)
+    is_over: bool = False
+
+    # ---- updates ----
+
+    def kind(self, change: Change) -> int:
+        if change.before is None:
+            return MAP
+        return UNMAP if change.after is None else PROTECT
+
+    def update(self, change: Change, task: int, pcs: tuple[int, ...]) -> None:
+        """One page's update: it is called and placed here, and replied to here or when it is flushed."""
+        kind, after, page = self.kind(change), change.after, change.before or change.after
+        assert page is not None
+        size, rights, physical = (after.size, after.rights, after.physical) if after and kind == MAP else (0, 0, 0)
+        takes_away = kind == UNMAP or kind == PROTECT and after is not None and change.before.rights & ~after.rights
+        window = (page.size, change.base)
+        waits = (takes_away or window in self.windows) and len(self.free) > 1
+        thread = self.free.pop() if waits else self.free[-1]
+        call = self.trace.call(thread, kind, change.base, size, after.rights if kind == PROTECT else rights, physical)
+        update = Update(call, self.trace.place(call), thread, change)
+        self.sources.append((call, f"task {task:x}", pcs))
+        self.latest[change.base] = (update.place, task)
+        if takes_away:
+            self.windows.setdefault(window, {}).setdefault(task, [])
+            self.owed[task].add(window)
+        if waits:
+            owner = task if task in self.windows[window] else next(iter(self.windows[window]))
+            self.windows[window][owner].append(update)
+        else:
+            self.reply(update)
+        self.apply(change)
+        self.counts[("maps", "unmaps", "protects")[kind]] += 1
+
+    def apply(self, change: Change) -> None:
+        if change.after is None:
+            del self.pages[change.base]
+        else:
+            self.pages[change.base] = change.after
+
+    def reply(self, update: Update) -> None:
+        """Answers with what the update overwrote."""
+        kind, before = self.kind(update.change), update.change.before
+        if kind == MAP:
+            self.trace.reply(update.call, update.place, DONE)
+        elif kind == UNMAP:
+            self.trace.reply(update.call, update.place, REMOVED, before.size, before.rights, before.physical)
+        else:
+            self.trace.reply(update.call, update.place, CHANGED, 0, before.rights)
+
+    def close(self, task: int, begin: int, end: int) -> None:
+        """The task's flush of these addresses is over."""
+        for window in sorted(self.owed.get(task, ())):
+            size, base = window
+            if base >= end or base + BYTES[size] <= begin:
+                continue
+            self.owed[task].discard(window)
+            for update in self.windows[window].pop(task):
+                self.reply(update)
+                self.free.append(update.thread)
+            if not self.windows[window]:
+                del self.windows[window]
+
+    # ---- stores ----
+
+    def store(self, line: Store) -> None:
+        changes = self.tables.store(line.frame, line.index, line.old, line.new)
+        self.counts["stores"] += 1
+        self.counts["stores for another address space's task"] += not line.is_own
+        for change in changes:
+            for each in self.split(change):
+                self.update(each, line.task, line.pcs)
+
+    def split(self, change: Change) -> list[Change]:
+        """One change of a page as updates, of the page as the log has it: what a system call promised has gone already."""
+        base, before, after = change
+        if after and after.physical + BYTES[after.size] > 1 << 51:
+            self.counts["left out: words that are no page of a space"] += 1
+            after = None
+        here = self.pages.get(base)
+        if before and not here:
+            return []
+        if here == after:
+            return []
+        if here and after and here[:2] != after[:2]:
+            return [Change(base, here, None), Change(base, None, after)]
+        return [Change(base, here, after)]
+
+    # ---- accesses ----
+
+    def is_between(self, address: int) -> bool:
+        """The page's entry was stored to, and isn't flushed yet: the processor may answer by what was or by what is."""
+        return any((size, address & -BYTES[size]) in self.windows for size in range(3))
+
+    def access(self, processor: int, is_user: bool, access: int, address: int, answer: tuple[int, int], pc: int) -> None:
+        if address >> (11 + 9 * self.tables.levels):
+            return
+        if self.is_between(address) and not self.options.every_access:
+            self.counts["left out: accesses between a store and its flush"] += 1
+            return
+        call = self.trace.call(processor % PROCESSORS, ACCESS, address, access, int(is_user))
+        self.trace.reply(call, len(self.trace.log), answer[0], value=answer[1])
+        self.sources.append((call, f"processor {processor}", (pc,) if pc else ()))
+        self.counts["accesses" if answer[0] == ALLOWED else "page faults"] += 1
+
+    def fault(self, line: Fault) -> None:
+        access = 2 if line.code & 16 else line.code >> 1 & 1
+        self.access(line.processor, bool(line.code & 4), access, line.address, (FAULT, line.code & 0x17), 0)
+
+    # ---- what system calls promise ----
+
+    def returned(self, line: Returned) -> None:
+        """After mprotect or munmap no page of its range allows more than it said: where one does, the log has what was promised."""
+        if line.number not in (MPROTECT, MUNMAP) or line.result:
+            return
+        begin, length, protection = line.arguments
+        protection = protection & PROT_ALL if line.number == MPROTECT else 0
+        allowed = USER | (WRITE if protection & PROT_WRITE else 0) | (EXEC if protection & PROT_EXEC else 0)
+        end, entered = begin + (length + 4095 & -4096), self.entered.get(line.task, 0)
+        for base in sorted(each for each in self.pages if begin <= each < end):
+            page, (place, task) = self.pages[base], self.latest[base]
+            is_of_another = task != line.task and place >= entered
+            if base + BYTES[page.size] > end or is_of_another or (protection and not page.rights & ~allowed):
+                continue
+            self.counts["pages that allow more than a system call said"] += 1
+            if self.options.intent:
+                after = page._replace(rights=page.rights & allowed) if protection else None
+                self.update(Change(base, page, after), line.task, ())
+                self.close(line.task, base, base + 1)
+
+    # ---- the log ----
+
+    def take(self, line: Line) -> None:
+        match line:
+            case Store():
+                self.store(line)
+            case Access(processor, is_user, access, address, physical, pc):
+                self.access(processor, is_user, access, address, (ALLOWED, physical), pc)
+            case Fault():
+                self.fault(line)
+            case Flushed(task, begin, end):
+                self.close(task, begin, EVERYTHING if end == EVERYTHING else end)
+            case InUser(task):
+                self.close(task, 0, EVERYTHING)
+            case Entered(task):
+                self.entered[task] = len(self.trace.log)
+            case Returned():
+                self.returned(line)
+            case _:
+                self.take_table(line)
+
+    def take_table(self, line: Line) -> None:
+        match line:
+            case Born(root):
+                self.tables = PageTables(root)
+            case Table(frame, level):
+                self.tables.tell(frame, level)
+            case Word(frame, index, word):
+                self.tables.tell_word(frame, index, word)
+            case Dumped(frame):
+                self.dump[frame] = {}
+            case Entry(frame, index, word):
+                self.dump[frame][index] = word
+            case Symbol(pc, place):
+                self.symbols[pc] = place
+            case Note(text):
+                self.notes.append(text)
+            case End():
+                self.is_over = True
+
+    def is_enough(self) -> bool:
+        return self.trace.is_full() or 0 < self.options.most <= len(self.trace.log)
+
+    def read(self, lines: list[str]) -> None:
+        """Takes a whole log; of one that is too long, or ends in between, the tables as the stores made them are the dump."""
+        is_cut = False
+        for line in log_lines.parse(lines):
+            is_cut = is_cut or self.is_enough()
+            if not is_cut or isinstance(line, Symbol):
+                self.take(line)
+        for task in list(self.owed):
+            self.close(task, 0, EVERYTHING)
+        if is_cut or not self.is_over:
+            self.notes.append("the log is cut: the dump is that of the stores")
+            self.dump = self.tables.frames()
+
+    def spell(self) -> bytes:
+        self.trace.levels = self.tables.levels
+        return self.trace.spell(self.tables.root, self.dump)
+
+    def summary(self) -> str:
+        """One line for what is in the trace, and one for each that isn't."""
+        kinds = ("stores", "maps", "unmaps", "protects", "accesses", "page faults")
+        lines = [", ".join(f"{self.counts[kind]} {kind}" for kind in kinds) + f", {len(self.pages)} pages at the end"]
+        lines += [f"{kind}: {count}" for kind, count in sorted(self.counts.items()) if kind not in kinds and count]
+        return "\n".join(lines + self.notes)
+
+    def calls(self) -> str:
+        rows = []
+        for call, who, pcs in self.sources:
+            rows.append("\t".join([str(call), who, *(f"{pc:#x} {self.symbols.get(pc, '')}".rstrip() for pc in pcs)]) + "\n")
+        return "".join(rows)
+
+
+def read_lines(path: str) -> list[str]:
+    with lzma.open(path, "rt") if path.endswith(".xz") else open(path) as file:
+        return file.readlines()
+
+
+def convert(lines: list[str], options: Options = Options()) -> Converter:
+    converter = Converter(options)
+    converter.read(lines)
+    return converter
+
+
+def main() -> int:
+    parser = argparse.ArgumentParser(usage="convert.py [--no-intent] [--every-access] [--most N] [--calls FILE] LOG >TRACE")
+    parser.add_argument("--no-intent", action="store_true")
+    parser.add_argument("--every-access", action="store_true")
+    parser.add_argument("--most", type=int, default=0)
+    parser.add_argument("--calls")
+    parser.add_argument("log")
+    words = parser.parse_args()
+    converter = convert(read_lines(words.log), Options(not words.no_intent, words.every_access, words.most))
+    sys.stdout.buffer.write(converter.spell())
+    if words.calls:
+        with open(words.calls, "w") as file:
+            file.write(converter.calls())
+    print(converter.summary(), file=sys.stderr)
+    return 0
+
+
+if __name__ == "__main__":
+    sys.exit(main())

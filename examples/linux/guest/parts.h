@@ -1,0 +1,27 @@
+/* What the process does, by name. */
+#ifndef PARTS_H
+#define PARTS_H
+
+#include <stdint.h>
+#include <sys/mman.h>
+
+#define PAGE 4096ul
+#define READ_WRITE (PROT_READ | PROT_WRITE)
+#define PRIVATE (MAP_PRIVATE | MAP_ANONYMOUS)
+
+extern uint64_t seed;
+extern unsigned rounds;
+extern int wrong; /* how often the process saw something that shouldn't be */
+
+/* A fault that a part tries is counted by it; any other ends the process. */
+void catch_faults(void);
+
+void run_part(const char *name);
+
+char *map_at(uint64_t address, uint64_t bytes, int protection, int flags, int file);
+
+/* Each page is written, or read. */
+void touch(volatile char *at, uint64_t bytes);
+void look(const volatile char *at, uint64_t bytes);
+
+#endif

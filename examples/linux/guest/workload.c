@@ -1,0 +1,104 @@
+/*
+ * The guest's process: it does to its address space what processes do.
+ *
+ *     workload live SEED ROUNDS PART..     has its own address space watched, from exec to the mark at its end
+ *     workload die SEED ROUNDS PART..      .. to its exit, where nothing is mapped any more
+ *     workload fork SEED PAGES             has the address space watched that fork makes of one with so many pages
+ *     workload exec PROGRAM WORD..         has another program's watched, from exec to exit
+ *     workload tick MICROSECONDS           sleeps and wakes for ever: at each of these interrupts QEMU goes to the next processor
+ *
+ * A store to the page of marks is a word to the plugin (plugin/watch.c). A line WRONG says that the process saw something
+ * that shouldn't be.
+ */
+#include "parts.h"
+
+#include <errno.h>
+#include <stdio.h>
+#include <stdlib.h>
+#include <string.h>
+#include <sys/wait.h>
+#include <unistd.h>
+
+#define MARKS ((volatile uint64_t *)0x6e7276730000)
+enum mark { MARK_NEXT = 1, MARK_END = 2, MARK_WHEN_EMPTY = 3 };
+
+static void report(const char *what, pid_t child)
+{
+	int status;
+
+	waitpid(child, &status, 0);
+	printf("ENDED %s with status %x\n", what, (unsigned)status);
+}
+
+/* The next address space that is made is that of the program which the child becomes. */
+static int exec_watched(int until_empty, char **words)
+{
+	pid_t child = fork();
+
+	if (!child) {
+		if (until_empty)
+			*MARKS = MARK_WHEN_EMPTY;
+		*MARKS = MARK_NEXT;
+		execv(words[0], words);
+		printf("WRONG exec: %s\n", strerror(errno));
+		_exit(8);
+	}
+	report(words[0], child);
+	return 0;
+}
+
+static int fork_watched(uint64_t pages)
+{
+	char *at = map_at(0x50000000, pages * PAGE, READ_WRITE, PRIVATE, -1);
+	pid_t child;
+
+	madvise(at, pages * PAGE, MADV_NOHUGEPAGE);
+	touch(at, pages * PAGE);
+	*MARKS = MARK_WHEN_EMPTY;
+	*MARKS = MARK_NEXT;
+	child = fork();
+	if (!child) {
+		touch(at, pages / 2 * PAGE);
+		look(at, pages * PAGE);
+		_exit(0);
+	}
+	touch(at, pages / 4 * PAGE);
+	report("fork", child);
+	return 0;
+}
+
+static int run_parts(int marks_end, char **names)
+{
+	catch_faults();
+	for (; *names; names++)
+		run_part(*names);
+	printf("DONE, %d wrong\n", wrong);
+	if (marks_end)
+		*MARKS = MARK_END;
+	return wrong != 0;
+}
+
+int main(int count, char **words)
+{
+	const char *what = count > 2 ? words[1] : "";
+
+	setvbuf(stdout, NULL, _IONBF, 0);
+	seed = count > 2 ? strtoul(words[2], NULL, 0) : 0;
+	rounds = count > 3 ? (unsigned)strtoul(words[3], NULL, 0) : 0;
+	if (!strcmp(what, "tick"))
+		for (;;)
+			usleep((unsigned)seed);
+	map_at((uint64_t)MARKS, PAGE, READ_WRITE, PRIVATE, -1);
+	if (!strcmp(what, "exec"))
+		return exec_watched(1, words + 2);
+	if (!strcmp(what, "fork") && count > 3)
+		return fork_watched(rounds);
+	if (!strncmp(what, "watched-", 8) && count > 3)
+		return run_parts(!strcmp(what, "watched-live"), words + 4);
+	if ((!strcmp(what, "live") || !strcmp(what, "die")) && count > 3) {
+		words[1] = !strcmp(what, "live") ? "watched-live" : "watched-die";
+		return exec_watched(!strcmp(what, "die"), words);
+	}
+	printf("WRONG the command line\n");
+	return 2;
+}

@@ -1,0 +1,132 @@
+"""Debian's package of the kernel, and where in this kernel the things stand that the plugin has to know."""
+import bisect
+import functools
+import glob
+import os
+import re
+import shutil
+import subprocess
+from dataclasses import dataclass
+
+SERIES = "linux-image-cloud-amd64"          # a package that depends on the newest kernel
+NAME = r"linux-image-6\.1\.0-[0-9]+-cloud-amd64"
+COMPRESSED = ((b"\x02\x21\x4c\x18", "lz4"), (b"\xfd7zXZ\0", "xz"), (b"\x28\xb5\x2f\xfd", "zstd"))
+COMMAND_LINE = "nokaslr norandmaps mitigations=off panic=-1 quiet console=ttyS0"
+PACKAGES = {"qemu-system-x86_64": "qemu-system-x86", "busybox": "busybox-static", "cpio": "cpio", "objdump": "binutils", "gcc": "gcc",
+            "apt-get": "apt", "dpkg-deb": "dpkg", "xz": "xz-utils", "lz4": "lz4"}
+
+
+class Missing(Exception):
+    """Something that isn't on this machine; its text says what, and how one gets it."""
+
+
+def check_commands() -> None:
+    lacking = [name for name in PACKAGES if not shutil.which(name)]
+    if lacking:
+        packages = " ".join(PACKAGES[name] for name in lacking)
+        raise Missing(f"{', '.join(lacking)}: apt-get install --no-install-recommends {packages}")
+
+
+def said(*words: str, folder: str | None = None, data: bytes | None = None) -> str:
+    """What a command prints; Missing where it fails."""
+    done = subprocess.run(words, input=data, stdout=subprocess.PIPE, stderr=subprocess.PIPE, cwd=folder)
+    if done.returncode:
+        raise Missing(f"{' '.join(words[:3])}: {done.stderr.decode(errors='replace').strip()}")
+    return done.stdout.decode(errors="replace")
+
+
+def fetch(folder: str) -> str:
+    """The package's folder boot, downloaded where it isn't there yet."""
+    boot = f"{folder}/kernel/boot"
+    if not glob.glob(f"{boot}/vmlinuz-*"):
+        names = re.findall(NAME, said("apt-cache", "depends", SERIES))
+        if not names:
+            raise Missing(f"apt knows no {SERIES} of Linux 6.1 (Debian 12): apt-get update")
+        said("apt-get", "download", "-q", names[0], folder=folder)
+        package, = glob.glob(f"{folder}/{names[0]}_*.deb")
+        said("dpkg-deb", "-x", package, f"{folder}/kernel")
+        os.remove(package)
+    return boot
+
+
+def unpack(image: str, path: str) -> None:
+    """The kernel as an ELF file out of its compressed image."""
+    data = open(image, "rb").read()
+    for magic, tool in COMPRESSED:
+        at = data.find(magic)
+        while at >= 0:
+            found = subprocess.run([tool, "-dc"], input=data[at:], stdout=subprocess.PIPE, stderr=subprocess.DEVNULL).stdout
+            if found[:4] == b"\x7fELF":
+                with open(path, "wb") as file:
+                    file.write(found)
+                return
+            at = data.find(magic, at + 1)
+    raise Missing(f"no kernel in {image} that lz4, xz or zstd unpack")
+
+
+def parse_symbols(lines: str) -> dict[str, int]:
+    """The kernel's own names out of what /proc/kallsyms says; of those that stand twice the first."""
+    found: dict[str, int] = {}
+    for line in lines.splitlines():
+        address, _, name, *module = line.split()
+        if not module:
+            found.setdefault(name, int(address, 16))
+    return found
+
+
+@dataclass(frozen=True)
+class Kernel:
+    version: str
+    image: str
+    elf: str
+    symbols: dict[str, int]
+
+    def address(self, name: str) -> int:
+        if name not in self.symbols:
+            raise Missing(f"this kernel, {self.version}, has no symbol {name}; the recorder knows Linux 6.1")
+        return self.symbols[name]
+
+    @functools.cached_property
+    def sorted_text(self) -> tuple[list[int], list[str]]:
+        """Addresses of the kernel's half, rising, each with one name."""
+        pairs = dict(sorted((address, name) for name, address in self.symbols.items() if address >> 63))
+        return list(pairs), list(pairs.values())
+
+    def end(self, name: str) -> int:
+        """Where the next symbol begins."""
+        addresses, _ = self.sorted_text
+        return addresses[bisect.bisect_right(addresses, self.address(name))]
+
+    def place(self, pc: int) -> str:
+        """An address as a symbol and an offset."""
+        addresses, names = self.sorted_text
+        at = bisect.bisect_right(addresses, pc) - 1
+        return f"{names[at]}+{pc - addresses[at]:#x}" if at >= 0 else f"{pc:#x}"
+
+    def code(self, name: str, with_bytes: bool = False) -> str:
+        """A function, disassembled."""
+        plain = [] if with_bytes else ["--no-show-raw-insn"]
+        return said("objdump", "-d", *plain, f"--start-address={self.address(name):#x}", f"--stop-address={self.end(name):#x}", self.elf)
+
+    def calls(self, caller: str, callee: str) -> list[int]:
+        """The addresses at which a function calls another."""
+        pattern = rf"^([0-9a-f]+):\s+call\s+0x{self.address(callee):x}\b"
+        return [int(address, 16) for address in re.findall(pattern, self.code(caller), re.M)]
+
+    def found(self, name: str, pattern: str, what: str) -> tuple[str, ...]:
+        match = re.search(pattern, self.code(name))
+        if not match:
+            raise Missing(f"{what} isn't found in {name} of this kernel, {self.version}")
+        return match.groups()
+
+    def settings(self) -> list[str]:
+        """What the plugin has to know, as name=value."""
+        birth, pgd = self.found("mm_init", rf"call\s+0x{self.address('pgd_alloc'):x}.*\n([0-9a-f]+):\s+mov\s+%rax,0x([0-9a-f]+)\(",
+                                "the store of the page table of a new address space")
+        leave, = self.found("do_syscall_64", r"([0-9a-f]+):\s+mov\s+%rax,0x50\(%r", "the store of a system call's result")
+        numbers = {"birth": int(birth, 16), "pgd": int(pgd, 16), "leave": int(leave, 16), "percpu": self.address("__per_cpu_offset"),
+                   "loaded": self.address("cpu_tlbstate"), "current": self.address("current_task"),
+                   "flushing": self.address("flush_tlb_info"), "entry": self.address("do_syscall_64"),
+                   "fault": self.address("asm_exc_page_fault"), "thunk": self.address("__x86_return_thunk")}
+        flushers = [f"flusher={self.address(name):#x}-{self.end(name):#x}" for name in ("flush_tlb_mm_range", "arch_tlbbatch_flush")]
+        return [f"{name}={value:#x}" for name, value in numbers.items()] + flushers

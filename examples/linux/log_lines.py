@@ -1,0 +1,197 @@
+"""The recorder's log, line by line. Its form is said at the head of plugin/watch.c; beside those lines there are
+
+    @fault CPU TASK CODE ADDRESS        a page fault: made of what QEMU says of an exception and of the @faulted behind it
+    @symbol PC PLACE                    a place in the kernel that other lines name, as symbol+offset
+
+and behind the words of a @store the addresses to which the calls return that led there, the innermost first.
+"""
+import re
+from collections.abc import Callable, Iterable, Iterator
+from typing import NamedTuple
+
+
+class Store(NamedTuple):
+    task: int
+    is_own: bool        # by a processor that has this address space loaded
+    pcs: tuple[int, ...]    # of the store, and behind the calls that led there
+    frame: int
+    index: int
+    old: int
+    new: int
+
+
+class Access(NamedTuple):
+    processor: int
+    is_user: bool
+    access: int         # 0 read, 1 write, 2 fetch
+    address: int
+    physical: int
+    pc: int
+
+
+class Fault(NamedTuple):
+    processor: int
+    code: int
+    address: int
+
+
+class Flushed(NamedTuple):
+    task: int
+    begin: int
+    end: int
+
+
+class InUser(NamedTuple):
+    task: int
+
+
+class Entered(NamedTuple):
+    task: int
+
+
+class Returned(NamedTuple):
+    task: int
+    number: int
+    arguments: tuple[int, int, int]
+    result: int
+
+
+class Born(NamedTuple):
+    root: int
+
+
+class Table(NamedTuple):
+    frame: int
+    level: int
+
+
+class Word(NamedTuple):
+    frame: int
+    index: int
+    word: int
+
+
+class Dumped(NamedTuple):
+    frame: int
+
+
+class Entry(NamedTuple):
+    frame: int
+    index: int
+    word: int
+
+
+class Symbol(NamedTuple):
+    pc: int
+    place: str
+
+
+class Note(NamedTuple):
+    text: str
+
+
+class End(NamedTuple):
+    why: str
+
+
+Line = Store | Access | Fault | Flushed | InUser | Entered | Returned | Born | Table | Word | Dumped | Entry | Symbol | Note | End
+
+
+def number(text: str) -> int:
+    return int(text, 16)
+
+
+def returned(words: list[str]) -> Returned:
+    first, second, third, result = map(number, words[4:8])
+    return Returned(number(words[2]), int(words[3]), (first, second, third), result)
+
+
+def store(words: list[str]) -> Store:
+    return Store(number(words[2]), words[3] == "1", tuple(map(number, [words[4], *words[9:]])), *map(number, words[5:9]))
+
+
+def access(words: list[str]) -> Access:
+    return Access(int(words[1]), words[3] == "u", "rwx".index(words[4]), number(words[5]), number(words[6]), number(words[7]))
+
+
+PARSERS: dict[str, Callable[[list[str]], Line]] = {
+    "@store": store,
+    "@access": access,
+    "@fault": lambda words: Fault(int(words[1]), number(words[3]), number(words[4])),
+    "@flushed": lambda words: Flushed(*map(number, words[2:5])),
+    "@user": lambda words: InUser(number(words[2])),
+    "@entered": lambda words: Entered(number(words[2])),
+    "@returned": returned,
+    "@born": lambda words: Born(number(words[2])),
+    "@table": lambda words: Table(number(words[1]), int(words[2])),
+    "@word": lambda words: Word(*map(number, words[1:4])),
+    "@dump": lambda words: Dumped(number(words[1])),
+    "@entry": lambda words: Entry(*map(number, words[1:4])),
+    "@symbol": lambda words: Symbol(number(words[1]), words[2]),
+    "@note": lambda words: Note(" ".join(words[1:])),
+    "@freed": lambda words: Note(f"table {words[1]} of level {words[2]} is linked, and the kernel doesn't hold it as a table"),
+    "@end": lambda words: End(words[1]),
+}
+
+
+def parse(lines: Iterable[str]) -> Iterator[Line]:
+    """What the lines of a slim log say; others are passed over."""
+    for line in lines:
+        words = line.split()
+        if words and words[0] in PARSERS:
+            yield PARSERS[words[0]](words)
+
+
+EXCEPTION = re.compile(r" *\d+: v=0e e=([0-9a-f]{4}) .* CR2=([0-9a-f]+)")
+CALLERS = 5
+
+
+class Slimmer:
+    """Makes a slim log out of QEMU's: the lines of the plugin alone, each page fault as one, and the places of the kernel that they
+    name, for which `place` has the symbol+offset."""
+
+    def __init__(self, place: Callable[[int], str]) -> None:
+        self.place = place
+        self.fault: re.Match[str] | None = None
+        self.callers: list[tuple[str, int]] = []
+        self.named: set[str] = set()
+
+    def function(self, pc: int) -> str:
+        return self.place(pc).partition("+")[0]
+
+    def calls_to(self, pc: int) -> list[str]:
+        """The way to an instruction: from its function on, each time the next word of the stack that stands behind a call of it."""
+        found, at = [], self.function(pc)
+        for back, called in self.callers:
+            if len(found) < CALLERS and self.place(called) == f"{at}+0x0":
+                found.append(back)
+                at = self.function(int(back, 16))
+        return found
+
+    def of_plugin(self, line: str) -> Iterator[str]:
+        words = line.split()
+        if words[0] == "@faulted":
+            if self.fault:
+                yield f"@fault {words[1]} {words[2]} {self.fault.group(1)} {self.fault.group(2)}\n"
+            self.fault = None
+        elif words[0] == "@callers":
+            self.callers = [(back, int(called, 16)) for back, called in (each.split(":") for each in words[1:])]
+        elif words[0] == "@store":
+            pcs = [words[4], *self.calls_to(int(words[4], 16))]
+            self.named.update(pcs)
+            self.callers = []
+            yield " ".join(words + pcs[1:]) + "\n"
+        else:
+            if words[0] == "@access":
+                self.named.add(words[7])
+            yield line
+
+    def slim(self, lines: Iterable[str]) -> Iterator[str]:
+        for line in lines:
+            if line.startswith("@"):
+                yield from self.of_plugin(line)
+            elif "v=0e" in line:
+                self.fault = EXCEPTION.match(line) or self.fault
+        for pc in sorted(self.named):
+            if int(pc, 16) >> 63:
+                yield f"@symbol {pc} {self.place(int(pc, 16))}\n"

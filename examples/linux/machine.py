@@ -1,0 +1,166 @@
+"""The guest: an initrd, QEMU with the plugin, and code that is overwritten while it runs."""
+import os
+import shutil
+import socket
+import subprocess
+import time
+from dataclasses import dataclass
+
+import kernel_image
+from kernel_image import COMMAND_LINE, Kernel, Missing, said
+from plants import Replaced, Silenced
+from stub import Stub
+
+HERE = os.path.dirname(os.path.abspath(__file__))
+OUT = f"{HERE}/out"
+LIMIT = 300                     # seconds that a guest may take
+PROCESSOR = "max,pku=off,smep=off,smap=off"     # as docs/FORMATS.md has it
+INIT = """#!/bin/busybox sh
+b=/bin/busybox
+$b mount -t proc proc /proc
+$b mount -t sysfs sys /sys
+$b mount -t devtmpfs dev /dev
+$b mount -t tmpfs tmp /tmp
+echo 1 >/proc/sys/kernel/printk
+%s
+$b poweroff -f
+"""
+
+
+@dataclass(frozen=True)
+class Guest:
+    """What is booted, and how."""
+    command: str                    # what init runs
+    processors: int = 1
+    levels: int = 4
+    isolated: bool = False
+    rest: int = 0
+    memory: int = 1024              # MiB
+    code: tuple[Replaced | Silenced, ...] = ()      # what is overwritten when the guest says so
+
+
+def pack(name: str, command: str, programs: list[str]) -> str:
+    """An initrd with busybox, an init and some programs."""
+    root, path = f"{OUT}/{name}.root", f"{OUT}/{name}.initrd"
+    shutil.rmtree(root, ignore_errors=True)
+    for folder in ("bin", "proc", "sys", "dev", "tmp"):
+        os.makedirs(f"{root}/{folder}")
+    for program in [shutil.which("busybox"), *programs]:
+        shutil.copy(program, f"{root}/bin/")
+    with open(f"{root}/init", "w") as file:
+        file.write(INIT % command)
+    os.chmod(f"{root}/init", 0o755)
+    names = said("find", ".", folder=root).encode()
+    done = subprocess.run(["cpio", "-o", "-H", "newc", "--quiet"], cwd=root, input=names, stdout=subprocess.PIPE, check=True)
+    with open(path, "wb") as file:
+        file.write(done.stdout)
+    shutil.rmtree(root)
+    return path
+
+
+def compile_parts() -> tuple[str, str]:
+    """The plugin and the workload, built."""
+    flags = ["-std=c11", "-D_DEFAULT_SOURCE", "-Wall", "-Wextra", "-Wpedantic", "-Werror"]
+    built = []
+    for name, folder, more in (("watch.so", "plugin", ["-O2", "-shared", "-fPIC", "-fvisibility=hidden"]),
+                               ("workload", "guest", ["-O1", "-static", "-pthread"])):
+        sources = sorted(f"{HERE}/{folder}/{each}" for each in os.listdir(f"{HERE}/{folder}") if each.endswith(".c"))
+        said("gcc", *flags, *more, "-o", f"{OUT}/{name}", *sources)
+        built.append(f"{OUT}/{name}")
+    return built[0], built[1]
+
+
+def plain_command(image: str, initrd: str) -> list[str]:
+    return ["qemu-system-x86_64", "-accel", "tcg,thread=single", "-display", "none", "-monitor", "none", "-no-reboot", "-kernel", image,
+            "-initrd", initrd]
+
+
+def told_symbols(image: str, version: str) -> str:
+    """What the guest says of its kernel's symbols: it is booted for that once."""
+    path = f"{OUT}/symbols-{version}"
+    if not os.path.exists(path):
+        initrd = pack("symbols", "$b cat /proc/kallsyms >/dev/ttyS1", [])
+        said(*plain_command(image, initrd), "-m", "1G", "-cpu", f"{PROCESSOR},la57=off", "-append", COMMAND_LINE, "-serial", "null",
+             "-serial", f"file:{path}.part")
+        os.rename(f"{path}.part", path)
+    return open(path).read()
+
+
+def kernel() -> Kernel:
+    """Debian's kernel, ready to be booted; Missing where it can't be."""
+    kernel_image.check_commands()
+    os.makedirs(OUT, exist_ok=True)
+    boot = kernel_image.fetch(OUT)
+    version = sorted(name[len("vmlinuz-"):] for name in os.listdir(boot) if name.startswith("vmlinuz-"))[-1]
+    image, elf = f"{boot}/vmlinuz-{version}", f"{OUT}/vmlinux-{version}"
+    if not os.path.exists(elf):
+        kernel_image.unpack(image, elf)
+    return Kernel(version, image, elf, kernel_image.parse_symbols(told_symbols(image, version)))
+
+
+@dataclass(frozen=True)
+class Recording:
+    """What a guest left: QEMU's log, and what was printed on the serial line."""
+    log: str
+    serial: str
+    is_over: bool               # it ended by itself
+
+
+def remove(path: str) -> None:
+    if os.path.exists(path):
+        os.remove(path)
+
+
+def text_of(path: str) -> str:
+    return open(path, errors="replace").read() if os.path.exists(path) else ""
+
+
+def plant(name: str, guest: Guest, kernel: Kernel, qemu: subprocess.Popen[bytes]) -> None:
+    """Overwrites the kernel's code when the guest says that it waits for that."""
+    deadline = time.monotonic() + LIMIT
+    while "PLANT" not in text_of(f"{OUT}/{name}.serial"):
+        if qemu.poll() is not None or time.monotonic() > deadline:
+            raise Missing("the guest didn't come to where its kernel is changed: " + text_of(f"{OUT}/{name}.serial")[-300:])
+        time.sleep(0.2)
+    stub = Stub(f"{OUT}/{name}.debug")
+    for each in guest.code:
+        each.plant(kernel, stub)
+    stub.leave()
+    line = socket.socket(socket.AF_UNIX)
+    line.connect(f"{OUT}/{name}.line")
+    line.sendall(b"\n")
+
+
+def command(name: str, guest: Guest, kernel: Kernel, plugin: str, initrd: str) -> list[str]:
+    memory = f"{OUT}/{name}.memory"
+    told = [plugin, f"memory={memory}", f"levels={guest.levels}", f"isolated={int(guest.isolated)}", f"rest={guest.rest}"]
+    words = plain_command(kernel.image, initrd)
+    words += ["-m", f"{guest.memory}M", "-smp", str(guest.processors), "-cpu", PROCESSOR + (",la57=off" if guest.levels == 4 else "")]
+    words += ["-object", f"memory-backend-file,id=memory,size={guest.memory}M,mem-path={memory},share=on", "-machine",
+              "pc,memory-backend=memory", "-append", COMMAND_LINE + (" pti=on" if guest.isolated else ""), "-serial",
+              f"file:{OUT}/{name}.serial", "-plugin", ",".join(told + kernel.settings()), "-d", "int,plugin", "-D", f"{OUT}/{name}.raw"]
+    if guest.code:
+        words += ["-serial", f"unix:{OUT}/{name}.line,server,nowait", "-gdb", f"unix:{OUT}/{name}.debug,server,nowait"]
+    return words
+
+
+def record(name: str, guest: Guest, kernel: Kernel, limit: int = LIMIT) -> Recording:
+    """Boots a guest, and waits until it is over."""
+    plugin, workload = compile_parts()
+    initrd = pack(name, guest.command, [workload])
+    for ending in ("raw", "serial", "memory", "line", "debug"):
+        remove(f"{OUT}/{name}.{ending}")
+    qemu = subprocess.Popen(command(name, guest, kernel, plugin, initrd))
+    try:
+        if guest.code:
+            plant(name, guest, kernel, qemu)
+        qemu.wait(limit)
+    except subprocess.TimeoutExpired:
+        pass
+    finally:
+        is_over = qemu.poll() is not None
+        qemu.kill()
+        qemu.wait()
+        for ending in ("memory", "line", "debug", "initrd"):
+            remove(f"{OUT}/{name}.{ending}")
+    return Recording(f"{OUT}/{name}.raw", text_of(f"{OUT}/{name}.serial"), is_over)

@@ -1,0 +1,77 @@
+"""Bugs that are planted in the guest's kernel: calls or functions of its code that are overwritten while it runs."""
+from dataclasses import dataclass
+
+from kernel_image import Kernel, Missing
+from stub import Stub
+
+RETURN = bytes.fromhex("c3")                    # ret
+RETURN_NOTHING = bytes.fromhex("31c0c3")        # xor %eax, %eax; ret
+NOTHING = bytes.fromhex("0f1f440000")           # a nop as long as a call
+CALL = 0xE8
+
+
+@dataclass(frozen=True)
+class Replaced:
+    """The function begins with other code."""
+    function: str
+    code: bytes
+
+    def plant(self, kernel: Kernel, stub: Stub) -> None:
+        stub.write(kernel.address(self.function), self.code)
+
+
+@dataclass(frozen=True)
+class Silenced:
+    """The function doesn't make a call that it makes; all of these, or the one of this number."""
+    function: str
+    called: str
+    only: int | None = None
+
+    def places(self, kernel: Kernel, stub: Stub) -> list[int]:
+        """Where the calls are in the code as it runs: the kernel has changed some of it while it booted."""
+        begin, target = kernel.address(self.function), kernel.address(self.called)
+        code = stub.read(begin, kernel.end(self.function) - begin)
+        found = []
+        for at in range(len(code) - 4):
+            distance = int.from_bytes(code[at + 1:at + 5], "little", signed=True)
+            if code[at] == CALL and begin + at + 5 + distance == target:
+                found.append(begin + at)
+        return found
+
+    def plant(self, kernel: Kernel, stub: Stub) -> None:
+        found = self.places(kernel, stub)
+        chosen = found if self.only is None else found[self.only:self.only + 1]
+        if not chosen:
+            raise Missing(f"{self.function} of this kernel, {kernel.version}, doesn't call {self.called}")
+        for place in chosen:
+            stub.write(place, NOTHING)
+
+
+@dataclass(frozen=True)
+class Plant:
+    """A bug, and the process that meets it."""
+    what: str
+    code: tuple[Replaced | Silenced, ...]
+    parts: str
+    rounds: int = 5
+    processors: int = 1         # with one, nothing but the kernel's own flushes comes between a store and what the process does next
+    tick: int = 0
+
+
+PLANTS = {
+    "no-ipi": Plant("no other processor is told to flush", (Replaced("native_flush_tlb_multi", RETURN),), "shootdown", 100, 3, 50),
+    "no-flush-func": Plant("a processor that is told to flush doesn't", (Replaced("flush_tlb_func", RETURN),), "shootdown", 50, 3, 50),
+    "no-invlpg": Plant("the flush of one page does nothing", (Replaced("native_flush_tlb_one_user", RETURN),), "shootdown", 100, 3, 50),
+    "mremap": Plant("mremap moves entries and doesn't flush", (Silenced("move_page_tables", "flush_tlb_mm_range"),), "moved"),
+    "unmap": Plant("munmap, madvise and mprotect don't flush", (Silenced("tlb_flush_mmu", "flush_tlb_mm_range"),
+                                                               Silenced("tlb_finish_mmu", "flush_tlb_mm_range")), "threads shootdown", 20, 3, 50),
+    "fork": Plant("fork doesn't flush: the parent still writes what it shares with its child",
+                  (Silenced("dup_mmap", "flush_tlb_mm_range"),), "cow"),
+    "cow": Plant("the copy of a page on a write isn't flushed", (Silenced("ptep_clear_flush", "flush_tlb_mm_range"),), "copied", 5, 3, 50),
+    "split": Plant("a large page that is split isn't flushed", (Silenced("pmdp_invalidate", "flush_tlb_mm_range"),), "huge", 5, 3, 50),
+    "collapse": Plant("pages that become a large one aren't flushed", (Silenced("pmdp_collapse_flush", "flush_tlb_mm_range"),), "huge"),
+    "reclaim": Plant("pages that reclaim takes aren't flushed", (Replaced("arch_tlbbatch_flush", RETURN),), "reclaimed"),
+    "freed-table": Plant("a table is freed, and stays linked", (Silenced("free_pgd_range", "native_set_pmd"),), "emptied"),
+    "no-protect": Plant("mprotect changes nothing", (Replaced("change_protection", RETURN_NOTHING),), "threads shootdown", 10, 3, 50),
+    "no-unmap": Plant("munmap leaves the pages mapped", (Replaced("unmap_page_range", RETURN),), "threads", 5),
+}

@@ -1,0 +1,13 @@
+/* Who called: what may be return addresses on a processor's stack. The reader picks those that fit (callers in log_lines.py). */
+#ifndef CALLERS_H
+#define CALLERS_H
+
+#include <stdint.h>
+
+/* A call instruction stored its return address there. */
+void callers_called(unsigned cpu, uint64_t at);
+
+/* Tells the words of the stack, from the latest call's on, that stand behind a call, each with what is called there. */
+void callers_tell(unsigned cpu);
+
+#endif

@@ -1,0 +1,126 @@
+#include "guest.h"
+
+#include <stdio.h>
+#include <stdlib.h>
+#include <string.h>
+
+#define STRUCT_PAGE_BYTES 64
+#define PAGE_TYPE 48          /* of struct page: where its kind stands, */
+#define PAGE_TYPE_MASK 0xf0000200u
+#define PAGE_TYPE_TABLE 0xf0000000u /* and what stands there while it is a page table */
+
+struct guest guest = { .levels = 4 };
+
+static const uint8_t *memory;
+static uint64_t size;
+
+static uint64_t direct_map(void)
+{
+	return guest.levels == 5 ? 0xff11000000000000u : 0xffff888000000000u;
+}
+
+static uint64_t struct_pages(void)
+{
+	return guest.levels == 5 ? 0xffd4000000000000u : 0xffffea0000000000u;
+}
+
+int guest_is_found(void)
+{
+	return memory != NULL;
+}
+
+/* The memory is the largest map of its file in QEMU's own address space. */
+void guest_find(void)
+{
+	FILE *maps = fopen("/proc/self/maps", "r");
+	unsigned long begin, end;
+	char line[1024];
+
+	while (maps && fgets(line, sizeof line, maps)) {
+		if (!strstr(line, guest.memory) || sscanf(line, "%lx-%lx", &begin, &end) != 2 || end - begin <= size)
+			continue;
+		memory = (const uint8_t *)begin;
+		size = end - begin;
+	}
+	if (maps)
+		fclose(maps);
+	if (!memory) {
+		fprintf(stderr, "watch: the guest's memory isn't the file %s\n", guest.memory);
+		exit(2);
+	}
+}
+
+uint64_t guest_frames(void)
+{
+	return size >> 12;
+}
+
+uint64_t guest_word(uint64_t physical)
+{
+	return physical <= size - 8 ? *(const volatile uint64_t *)(memory + physical) : 0;
+}
+
+uint64_t guest_direct(uint64_t address)
+{
+	return address >= direct_map() && address - direct_map() < size ? address - direct_map() : NOWHERE;
+}
+
+uint64_t guest_of_host(const void *byte)
+{
+	uint64_t offset = (uint64_t)byte - (uint64_t)memory;
+
+	return offset < size ? offset : NOWHERE;
+}
+
+/* The physical address of a processor's copy of a variable. */
+static uint64_t own(unsigned cpu, uint64_t variable)
+{
+	return guest_word(guest.percpu - KERNEL_TEXT + 8 * cpu) - direct_map() + variable;
+}
+
+uint64_t guest_loaded(unsigned cpu)
+{
+	return guest_word(own(cpu, guest.loaded));
+}
+
+uint64_t guest_task(unsigned cpu)
+{
+	return guest_word(own(cpu, guest.current));
+}
+
+uint64_t guest_root_of(uint64_t pgd)
+{
+	return ((pgd - direct_map()) >> 12) + guest.isolated;
+}
+
+struct flush guest_flush(unsigned cpu)
+{
+	uint64_t at = own(cpu, guest.flushing);
+	struct flush flush = { guest_word(at), guest_word(at + 8), guest_word(at + 16) };
+
+	return flush;
+}
+
+uint64_t guest_walk(uint64_t address, uint64_t root)
+{
+	uint64_t word, bytes, table = root;
+
+	for (unsigned level = (unsigned)guest.levels;; level--) {
+		word = guest_word((table << 12) + 8 * (address >> (3 + 9 * level) & (ENTRIES - 1)));
+		if (!(word & 1))
+			return NOWHERE;
+		bytes = (uint64_t)1 << (3 + 9 * level);
+		if (level == 1 || (level <= 3 && word & 0x80))
+			return (word & 0x000ffffffffff000u & ~(bytes - 1)) + (address & (bytes - 1));
+		table = (word & 0x000ffffffffff000u) >> 12;
+	}
+}
+
+int guest_holds_table(uint64_t frame, uint64_t root)
+{
+	uint64_t at = guest_walk(struct_pages() + frame * STRUCT_PAGE_BYTES + PAGE_TYPE, root - guest.isolated);
+
+	if (at == NOWHERE)
+		return 1;
+	return (guest_word(at) & PAGE_TYPE_MASK) == PAGE_TYPE_TABLE;
+}

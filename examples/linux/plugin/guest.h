@@ -1,0 +1,57 @@
+/* The guest: its memory as QEMU holds it, and the words of its kernel that say what a processor does. */
+#ifndef GUEST_H
+#define GUEST_H
+
+#include <stdint.h>
+
+#define ENTRIES 512
+#define NOWHERE (~(uint64_t)0)
+#define KERNEL_TEXT 0xffffffff80000000u /* where physical 0 is in the map of the kernel's own code */
+
+/* What the plugin is told of the guest's kernel, each as name=value. Addresses are the kernel's own, without KASLR. */
+struct guest {
+	char memory[512];      /* the file that is the guest's memory */
+	uint64_t levels;       /* of its page tables: 4 or 5 */
+	uint64_t isolated;     /* 1: the user's table stands behind the kernel's (page-table isolation) */
+	uint64_t percpu;       /* __per_cpu_offset */
+	uint64_t loaded;       /* cpu_tlbstate, whose first word is the address space that a processor has loaded */
+	uint64_t current;      /* current_task */
+	uint64_t flushing;     /* flush_tlb_info: the address space and the range of a processor's latest flush */
+	uint64_t birth, pgd;   /* the instruction that stores the table of a new address space, and where in mm_struct it does so */
+	uint64_t entry, leave; /* do_syscall_64, and the instruction in it that stores a call's result */
+	uint64_t fault;        /* asm_exc_page_fault */
+	uint64_t thunk;        /* __x86_return_thunk */
+	uint64_t rest;         /* 0, or: at each so many stores that take rights away, let QEMU go to the next processor */
+};
+
+extern struct guest guest;
+
+/* Finds the guest's memory; ends QEMU where it isn't there. Afterwards it is found. */
+void guest_find(void);
+int guest_is_found(void);
+
+uint64_t guest_frames(void);
+uint64_t guest_word(uint64_t physical);
+
+/* The physical address that the kernel's map of all memory has there, or NOWHERE. */
+uint64_t guest_direct(uint64_t address);
+
+/* The physical address of a byte that QEMU holds, or NOWHERE. */
+uint64_t guest_of_host(const void *byte);
+
+uint64_t guest_loaded(unsigned cpu);
+uint64_t guest_task(unsigned cpu);
+uint64_t guest_root_of(uint64_t pgd);
+
+/* Where an address of the kernel lies, by the tables of this root. */
+uint64_t guest_walk(uint64_t address, uint64_t root);
+
+struct flush {
+	uint64_t space, begin, end;
+};
+struct flush guest_flush(unsigned cpu);
+
+/* Whether the kernel holds a frame as a page table, by its struct page. Of tables of levels 1 and 2 alone it does. */
+int guest_holds_table(uint64_t frame, uint64_t root);
+
+#endif

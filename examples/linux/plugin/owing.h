@@ -1,0 +1,18 @@
+/* Tasks that took something away from the tables, and haven't flushed, or aren't in user mode again. */
+#ifndef OWING_H
+#define OWING_H
+
+#include <stdint.h>
+
+/* A task changed the word at a physical address; NOWHERE stands for more than one. */
+void owing_add(uint64_t task, uint64_t word);
+
+/* The task has flushed. What it changed has to be looked at again. */
+void owing_flushed(uint64_t task);
+
+/* The task is in user mode: it owes nothing. Whether it did. */
+int owing_in_user(uint64_t task);
+
+int owing_is_none(void);
+
+#endif

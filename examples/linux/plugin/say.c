@@ -1,0 +1,17 @@
+#include "say.h"
+
+#include "qemu_plugin.h"
+
+#include <stdarg.h>
+#include <stdio.h>
+
+void say(const char *form, ...)
+{
+	char text[1024];
+	va_list rest;
+
+	va_start(rest, form);
+	vsnprintf(text, sizeof text, form, rest);
+	va_end(rest);
+	qemu_plugin_outs(text);
+}

@@ -1,0 +1,7 @@
+/* A line of QEMU's log, where the exceptions stand that QEMU tells itself: so all of it is in one order. */
+#ifndef SAY_H
+#define SAY_H
+
+void say(const char *form, ...) __attribute__((format(printf, 1, 2)));
+
+#endif

@@ -1,0 +1,387 @@
+/*
+ * A plugin of QEMU's translator that watches one address space of a Linux guest, from the store that gives it its page table on: each
+ * store of the guest's kernel to its page tables, what the guest's processors do with it, flushes and system calls. It writes lines to
+ * QEMU's log, among those of the exceptions that QEMU tells itself (-d int,plugin). With -accel tcg,thread=single one thread of the
+ * host runs all processors, so that what is told comes one at a time, in order.
+ *
+ * Lines, numbers in hexadecimal but for levels, processors and counts:
+ *
+ *     @born SPACE ROOT                                the address space has a root
+ *     @table FRAME LEVEL                              a table was linked, with
+ *     @word FRAME INDEX WORD                          .. these words that aren't 0; before the @store of its link
+ *     @callers BACK:CALLED ..                         words of the stack behind a call, with what is called there; before each
+ *     @store CPU TASK OWN PC FRAME INDEX OLD NEW      a word of a table changed; OWN: by a processor that has the address space loaded
+ *     @access CPU TASK MODE ACCESS ADDRESS PHYSICAL PC  an access went through; MODE s or u, ACCESS r, w or x
+ *     @faulted CPU TASK                               the page fault of the log's line before it was in this address space
+ *     @flushed CPU TASK BEGIN END                     a flush of BEGIN to END of this address space is over
+ *     @user CPU TASK                                  a task that had taken something away is in user mode again
+ *     @entered CPU TASK                               a system call begins
+ *     @returned CPU TASK NUMBER A0 A1 A2 RESULT       one that changes mappings ends
+ *     @marked CPU TASK VALUE                          the guest stored to the page of marks
+ *     @dump FRAME, @entry FRAME INDEX WORD            a table at the end, from memory
+ *     @freed FRAME LEVEL                              one that is linked and that the kernel doesn't hold as a table
+ *     @end WHY                                        nothing is watched any more
+ *     @note TEXT                                      something that shouldn't be
+ */
+#include "callers.h"
+#include "guest.h"
+#include "owing.h"
+#include "qemu_plugin.h"
+#include "say.h"
+#include "seen.h"
+#include "tables.h"
+
+#include <inttypes.h>
+#include <stdio.h>
+#include <stdlib.h>
+#include <string.h>
+#include <unistd.h>
+
+#define MARKS 0x6e7276730000u /* the page of marks: what the guest stores there is a word to the plugin */
+enum mark { MARK_NEXT = 1, MARK_END = 2, MARK_WHEN_EMPTY = 3 };
+
+#define HIGH_HALF(address) ((address) >> 63)
+#define PRESENT 1u
+#define WRITABLE 2u
+#define REGISTERS_RESULT 0x50 /* of struct pt_regs: rax */
+#define FLUSHERS 4
+#define REST 110000 /* microseconds: QEMU goes to the next processor 10 times a second */
+
+EXPORTED int qemu_plugin_version = PLUGIN_VERSION;
+
+static enum { WAITING, ARMED, WATCHING, ENDED } state;
+static uint64_t space; /* its mm_struct */
+static int ends_when_empty;
+static uint64_t losses;
+
+/* The functions that end with a flush, each from its first instruction to behind its last. */
+static struct {
+	uint64_t begin, end;
+} flushers[FLUSHERS];
+static unsigned flusher_count;
+
+static void end(const char *why)
+{
+	tables_dump();
+	say("@end %s\n", why);
+	state = ENDED;
+}
+
+static void begin(uint64_t at, uint64_t pgd)
+{
+	space = at;
+	seen_begin();
+	state = WATCHING;
+	say("@born %" PRIx64 " %" PRIx64 "\n", space, guest_root_of(pgd));
+	tables_begin(guest_root_of(pgd));
+}
+
+static void in_user_mode(unsigned cpu)
+{
+	if (!owing_is_none() && owing_in_user(guest_task(cpu)))
+		say("@user %u %" PRIx64 "\n", cpu, guest_task(cpu));
+}
+
+static void tell_access(unsigned cpu, int is_user, enum access access, uint64_t address, uint64_t physical, uint64_t pc)
+{
+	say("@access %u %" PRIx64 " %c %c %" PRIx64 " %" PRIx64 " %" PRIx64 "\n", cpu, guest_task(cpu), "su"[is_user], "rwx"[access], address,
+		physical, pc);
+}
+
+/* ---- stores to page tables ---- */
+
+/* Between such a store and its flush another processor may run. */
+static void let_others_run(const struct change *change)
+{
+	int takes_away = !(change->new & PRESENT) || (change->old & ~change->new & WRITABLE);
+
+	if (guest.rest && takes_away && losses++ % guest.rest == 0)
+		usleep(REST);
+}
+
+static void word_stored(unsigned cpu, uint64_t physical, uint64_t pc)
+{
+	struct change change;
+	uint64_t task = guest_task(cpu);
+	int own = guest_loaded(cpu) == space;
+
+	if (!tables_stored(physical, &change))
+		return;
+	if (change.level > 1)
+		seen_all_changed();
+	else
+		seen_changed(physical);
+	tables_changed(&change);
+	callers_tell(cpu);
+	say("@store %u %" PRIx64 " %d %" PRIx64 " %" PRIx64 " %" PRIx64 " %" PRIx64 " %" PRIx64 "\n", cpu, task, own, pc, change.frame,
+		change.index, change.old, change.new);
+	if (change.old & PRESENT) { /* what only appears needs no flush */
+		owing_add(task, change.level > 1 ? NOWHERE : physical);
+		if (own)
+			let_others_run(&change);
+	}
+	if (ends_when_empty && change.frame == tables_root() && tables_is_empty())
+		end("empty");
+}
+
+static void kernel_stored(unsigned cpu, uint64_t physical, unsigned bytes, uint64_t pc)
+{
+	for (uint64_t word = physical & ~(uint64_t)7; word < physical + bytes && state == WATCHING; word += 8)
+		word_stored(cpu, word, pc);
+}
+
+/* ---- accesses ---- */
+
+static void process_accessed(unsigned cpu, qemu_plugin_meminfo_t info, uint64_t address, uint64_t pc)
+{
+	const struct qemu_plugin_hwaddr *where;
+	int is_user = !HIGH_HALF(pc);
+	enum access access = qemu_plugin_mem_is_store(info) ? WRITE : READ;
+
+	if (guest_loaded(cpu) != space)
+		return;
+	if (is_user)
+		in_user_mode(cpu);
+	if ((address & 4095) + ((uint64_t)1 << qemu_plugin_mem_size_shift(info)) > 4096 || !seen_is_new(cpu, is_user, access, address))
+		return;
+	where = qemu_plugin_get_hwaddr(info, address);
+	if (where && !qemu_plugin_hwaddr_is_io(where))
+		tell_access(cpu, is_user, access, address, qemu_plugin_hwaddr_phys_addr(where), pc);
+}
+
+static void marked(unsigned cpu, qemu_plugin_meminfo_t info, uint64_t address)
+{
+	const struct qemu_plugin_hwaddr *where = qemu_plugin_get_hwaddr(info, address);
+	uint64_t value = where ? guest_word(qemu_plugin_hwaddr_phys_addr(where)) : 0;
+
+	say("@marked %u %" PRIx64 " %" PRIx64 "\n", cpu, guest_task(cpu), value);
+	if (value == MARK_NEXT && state == WAITING)
+		state = ARMED;
+	if (value == MARK_WHEN_EMPTY)
+		ends_when_empty = 1;
+	if (value == MARK_END && state == WATCHING && guest_loaded(cpu) == space)
+		end("marked");
+}
+
+static void on_user_memory(unsigned cpu, qemu_plugin_meminfo_t info, uint64_t address, void *pc)
+{
+	if (address == MARKS && qemu_plugin_mem_is_store(info))
+		marked(cpu, info, address);
+	else if (state == WATCHING)
+		process_accessed(cpu, info, address, (uint64_t)pc);
+}
+
+/* The result of a system call is stored to the registers that it returns with. */
+static void returns(unsigned cpu, qemu_plugin_meminfo_t info, uint64_t address)
+{
+	enum { MMAP = 9, MPROTECT = 10, MUNMAP = 11, BRK = 12, MREMAP = 25, MADVISE = 28 };
+	const struct qemu_plugin_hwaddr *where = qemu_plugin_get_hwaddr(info, address);
+	uint64_t registers, number;
+
+	if (!where || guest_loaded(cpu) != space)
+		return;
+	registers = qemu_plugin_hwaddr_phys_addr(where) - REGISTERS_RESULT;
+	number = guest_word(registers + 0x78);
+	if (number != MMAP && number != MPROTECT && number != MUNMAP && number != BRK && number != MREMAP && number != MADVISE)
+		return;
+	say("@returned %u %" PRIx64 " %" PRIu64 " %" PRIx64 " %" PRIx64 " %" PRIx64 " %" PRIx64 "\n", cpu, guest_task(cpu), number,
+		guest_word(registers + 0x70), guest_word(registers + 0x68), guest_word(registers + 0x60),
+		guest_word(registers + REGISTERS_RESULT));
+}
+
+static void on_kernel_memory(unsigned cpu, qemu_plugin_meminfo_t info, uint64_t address, void *data)
+{
+	uint64_t pc = (uint64_t)data, physical;
+	int is_store = qemu_plugin_mem_is_store(info);
+
+	if (state == ARMED && pc == guest.birth && is_store)
+		begin(address - guest.pgd, guest_word(guest_direct(address)));
+	if (state != WATCHING)
+		return;
+	if (pc == guest.leave && is_store) {
+		returns(cpu, info, address);
+		return;
+	}
+	physical = guest_direct(address);
+	if (physical != NOWHERE && is_store)
+		kernel_stored(cpu, physical, 1u << qemu_plugin_mem_size_shift(info), pc);
+	else if (!(address >> 56))
+		process_accessed(cpu, info, address, pc);
+}
+
+static void on_call(unsigned cpu, qemu_plugin_meminfo_t info, uint64_t address, void *pc)
+{
+	if (qemu_plugin_mem_is_store(info))
+		callers_called(cpu, address);
+	on_kernel_memory(cpu, info, address, pc);
+}
+
+/* ---- instructions ---- */
+
+struct code {
+	uint64_t address, physical;
+};
+
+static void on_user_code(unsigned cpu, void *data)
+{
+	const struct code *code = data;
+
+	if (state != WATCHING || guest_loaded(cpu) != space)
+		return;
+	in_user_mode(cpu);
+	if (seen_is_new(cpu, 1, FETCH, code->address))
+		tell_access(cpu, 1, FETCH, code->address, code->physical, code->address);
+}
+
+static void on_flushed(unsigned cpu, void *unused)
+{
+	struct flush flush;
+
+	(void)unused;
+	if (state != WATCHING)
+		return;
+	flush = guest_flush(cpu);
+	if (flush.space && flush.space != space) /* none: all that the processors have */
+		return;
+	owing_flushed(guest_task(cpu));
+	say("@flushed %u %" PRIx64 " %" PRIx64 " %" PRIx64 "\n", cpu, guest_task(cpu), flush.begin, flush.end);
+}
+
+static void on_entry(unsigned cpu, void *unused)
+{
+	(void)unused;
+	if (state == WATCHING && guest_loaded(cpu) == space)
+		say("@entered %u %" PRIx64 "\n", cpu, guest_task(cpu));
+}
+
+static void on_fault(unsigned cpu, void *unused)
+{
+	(void)unused;
+	if (state == WATCHING && guest_loaded(cpu) == space)
+		say("@faulted %u %" PRIx64 "\n", cpu, guest_task(cpu));
+}
+
+static void ask(struct qemu_plugin_insn *instruction, qemu_plugin_ran *call)
+{
+	qemu_plugin_register_vcpu_insn_exec_cb(instruction, call, QEMU_PLUGIN_CB_NO_REGS, NULL);
+}
+
+/* A return, or the jump to the kernel's place of returns. */
+static int is_return(const struct qemu_plugin_insn *instruction)
+{
+	const uint8_t *bytes = qemu_plugin_insn_data(instruction);
+	int32_t distance;
+
+	if (bytes[0] != 0xe9)
+		return bytes[0] == 0xc3;
+	memcpy(&distance, bytes + 1, sizeof distance);
+	return qemu_plugin_insn_vaddr(instruction) + 5 + (uint64_t)(int64_t)distance == guest.thunk;
+}
+
+/* By a distance, or by a register or memory. */
+static int is_call(const struct qemu_plugin_insn *instruction)
+{
+	const uint8_t *bytes = qemu_plugin_insn_data(instruction);
+
+	return bytes[0] == 0xe8 || (bytes[0] == 0xff && (bytes[1] >> 3 & 7) == 2);
+}
+
+static void translate_kernel(struct qemu_plugin_insn *instruction)
+{
+	uint64_t pc = qemu_plugin_insn_vaddr(instruction);
+
+	qemu_plugin_register_vcpu_mem_cb(instruction, is_call(instruction) ? on_call : on_kernel_memory, QEMU_PLUGIN_CB_NO_REGS,
+		QEMU_PLUGIN_MEM_RW, (void *)pc);
+	if (pc == guest.entry)
+		ask(instruction, on_entry);
+	if (pc == guest.fault)
+		ask(instruction, on_fault);
+	for (unsigned k = 0; k < flusher_count; k++)
+		if (pc >= flushers[k].begin && pc < flushers[k].end && is_return(instruction))
+			ask(instruction, on_flushed);
+}
+
+/* Of a block in user mode its first instruction is told as a fetch. */
+static void translate_user(struct qemu_plugin_tb *block, struct qemu_plugin_insn *first)
+{
+	uint64_t physical = guest_of_host(qemu_plugin_insn_haddr(first));
+	struct code *code;
+
+	if (physical == NOWHERE)
+		return;
+	code = malloc(sizeof *code); /* as long as QEMU may run the block: for ever */
+	if (!code)
+		return;
+	code->address = qemu_plugin_insn_vaddr(first);
+	code->physical = physical;
+	qemu_plugin_register_vcpu_tb_exec_cb(block, on_user_code, QEMU_PLUGIN_CB_NO_REGS, code);
+}
+
+static void on_translate(qemu_plugin_id_t id, struct qemu_plugin_tb *block)
+{
+	struct qemu_plugin_insn *instruction = qemu_plugin_tb_get_insn(block, 0);
+	int is_kernel = (int)HIGH_HALF(qemu_plugin_insn_vaddr(instruction));
+
+	(void)id;
+	if (!guest_is_found())
+		guest_find();
+	if (!is_kernel)
+		translate_user(block, instruction);
+	for (size_t k = 0; k < qemu_plugin_tb_n_insns(block); k++) {
+		instruction = qemu_plugin_tb_get_insn(block, k);
+		if (is_kernel)
+			translate_kernel(instruction);
+		else
+			qemu_plugin_register_vcpu_mem_cb(instruction, on_user_memory, QEMU_PLUGIN_CB_NO_REGS, QEMU_PLUGIN_MEM_RW,
+				(void *)qemu_plugin_insn_vaddr(instruction));
+	}
+}
+
+/* ---- what the plugin is told ---- */
+
+static const struct {
+	const char *name;
+	uint64_t *number;
+} settings[] = {
+	{ "levels", &guest.levels }, { "isolated", &guest.isolated }, { "percpu", &guest.percpu }, { "loaded", &guest.loaded },
+	{ "current", &guest.current }, { "flushing", &guest.flushing }, { "birth", &guest.birth }, { "pgd", &guest.pgd },
+	{ "entry", &guest.entry }, { "leave", &guest.leave }, { "fault", &guest.fault }, { "thunk", &guest.thunk },
+	{ "rest", &guest.rest },
+};
+
+static int set(const char *name, const char *value)
+{
+	char *rest;
+
+	if (!strcmp(name, "memory"))
+		return snprintf(guest.memory, sizeof guest.memory, "%s", value) < (int)sizeof guest.memory;
+	if (!strcmp(name, "flusher") && flusher_count < FLUSHERS) {
+		flushers[flusher_count].begin = strtoull(value, &rest, 0);
+		flushers[flusher_count].end = *rest == '-' ? strtoull(rest + 1, NULL, 0) : 0;
+		return flushers[flusher_count++].end != 0;
+	}
+	for (size_t k = 0; k < sizeof settings / sizeof settings[0]; k++) {
+		if (strcmp(name, settings[k].name))
+			continue;
+		*settings[k].number = strtoull(value, NULL, 0);
+		return 1;
+	}
+	return 0;
+}
+
+EXPORTED int qemu_plugin_install(qemu_plugin_id_t id, const void *info, int count, char **words)
+{
+	(void)info;
+	for (int k = 0; k < count; k++) {
+		char *equals = strchr(words[k], '=');
+
+		if (equals)
+			*equals++ = 0;
+		if (!equals || !set(words[k], equals)) {
+			fprintf(stderr, "watch: what is %s?\n", words[k]);
+			return 1;
+		}
+	}
+	qemu_plugin_register_vcpu_tb_trans_cb(id, on_translate);
+	return 0;
+}
