@@ -64,14 +64,10 @@ def unpack(image: str, path: str) -> None:
     raise Missing(f"no kernel in {image} that lz4, xz or zstd unpack")
 
 
-def parse_symbols(lines: str) -> dict[str, int]:
-    """The kernel's own names out of what /proc/kallsyms says; of those that stand twice the first."""
-    found: dict[str, int] = {}
-    for line in lines.splitlines():
-        address, _, name, *module = line.split()
-        if not module:
-            found.setdefault(name, int(address, 16))
-    return found
+def parse_symbols(lines: str) -> list[tuple[int, str]]:
+    """The kernel's own symbols, without its modules', out of what /proc/kallsyms says."""
+    rows = (line.split() for line in lines.splitlines())
+    return [(int(row[0], 16), row[2]) for row in rows if len(row) == 3]
 
 
 @dataclass(frozen=True)
@@ -79,17 +75,23 @@ class Kernel:
     version: str
     image: str
     elf: str
-    symbols: dict[str, int]
+    symbols: list[tuple[int, str]]
+
+    @functools.cached_property
+    def by_name(self) -> dict[str, int]:
+        """Of a name that stands twice, the first address."""
+        return {name: address for address, name in reversed(self.symbols)}
 
     def address(self, name: str) -> int:
-        if name not in self.symbols:
+        if name not in self.by_name:
             raise Missing(f"this kernel, {self.version}, has no symbol {name}; the recorder knows Linux 6.1")
-        return self.symbols[name]
+        return self.by_name[name]
 
     @functools.cached_property
     def sorted_text(self) -> tuple[list[int], list[str]]:
         """Addresses of the kernel's half, rising, each with one name."""
-        pairs = dict(sorted((address, name) for name, address in self.symbols.items() if address >> 63))
+        pairs = dict(sorted(((address, name) for address, name in self.symbols if address >> 63), reverse=True))
+        pairs = dict(reversed(pairs.items()))
         return list(pairs), list(pairs.values())
 
     def end(self, name: str) -> int:
@@ -97,11 +99,11 @@ class Kernel:
         addresses, _ = self.sorted_text
         return addresses[bisect.bisect_right(addresses, self.address(name))]
 
-    def place(self, pc: int) -> str:
-        """An address as a symbol and an offset."""
+    def place(self, pc: int) -> tuple[str, int]:
+        """The symbol before an address, and the address's offset from there."""
         addresses, names = self.sorted_text
         at = bisect.bisect_right(addresses, pc) - 1
-        return f"{names[at]}+{pc - addresses[at]:#x}" if at >= 0 else f"{pc:#x}"
+        return (names[at], pc - addresses[at]) if at >= 0 else ("", pc)
 
     def code(self, name: str, with_bytes: bool = False) -> str:
         """A function, disassembled."""

@@ -143,29 +143,30 @@ def parse(lines: Iterable[str]) -> Iterator[Line]:
 
 
 EXCEPTION = re.compile(r" *\d+: v=0e e=([0-9a-f]{4}) .* CR2=([0-9a-f]+)")
-CALLERS = 5
+CALLERS = 6
 
 
 class Slimmer:
     """Makes a slim log out of QEMU's: the lines of the plugin alone, each page fault as one, and the places of the kernel that they
-    name, for which `place` has the symbol+offset."""
+    name, for which `place` has symbol and offset."""
 
-    def __init__(self, place: Callable[[int], str]) -> None:
+    def __init__(self, place: Callable[[int], tuple[str, int]]) -> None:
         self.place = place
         self.fault: re.Match[str] | None = None
         self.callers: list[tuple[str, int]] = []
         self.named: set[str] = set()
 
-    def function(self, pc: int) -> str:
-        return self.place(pc).partition("+")[0]
+    def begin(self, pc: int) -> int:
+        """Where the function of an instruction begins."""
+        return pc - self.place(pc)[1]
 
     def calls_to(self, pc: int) -> list[str]:
         """The way to an instruction: from its function on, each time the next word of the stack that stands behind a call of it."""
-        found, at = [], self.function(pc)
+        found, at = [], self.begin(pc)
         for back, called in self.callers:
-            if len(found) < CALLERS and self.place(called) == f"{at}+0x0":
+            if len(found) < CALLERS and called == at:
                 found.append(back)
-                at = self.function(int(back, 16))
+                at = self.begin(int(back, 16))
         return found
 
     def of_plugin(self, line: str) -> Iterator[str]:
@@ -194,4 +195,5 @@ class Slimmer:
                 self.fault = EXCEPTION.match(line) or self.fault
         for pc in sorted(self.named):
             if int(pc, 16) >> 63:
-                yield f"@symbol {pc} {self.place(int(pc, 16))}\n"
+                name, offset = self.place(int(pc, 16))
+                yield f"@symbol {pc} {name}+{offset:#x}\n"

@@ -24,8 +24,8 @@ class Change(NamedTuple):
 @dataclass
 class Table:
     level: int
-    base: int                   # of the addresses that it translates; of a table that isn't linked yet 0
     words: dict[int, int]
+    bases: list[int]            # of the addresses that it translates: one for each way to it
 
 
 def is_table(word: int, level: int) -> bool:
@@ -48,26 +48,38 @@ class PageTables:
         self.told: dict[int, Table] = {}        # those whose link is told of next
 
     def tell(self, frame: int, level: int) -> None:
-        self.told[frame] = Table(level, 0, {})
+        self.told[frame] = Table(level, {}, [])
         if frame == self.root:
             self.levels = level
 
     def tell_word(self, frame: int, index: int, word: int) -> None:
         self.told[frame].words[index] = word
 
-    def link(self, frame: int, base: int) -> None:
-        table = self.told.pop(frame)
-        table.base = base
-        self.linked[frame] = table
-        for index, word in table.words.items():
-            if is_table(word, table.level):
-                self.link(frame_in(word), base + self.reach(index, table.level))
+    def at(self, frame: int, level: int) -> Table | None:
+        """The table of that level there, if there is one: of a wrong link there isn't."""
+        table = self.linked.get(frame)
+        return table if table and table.level == level else None
 
-    def unlink(self, frame: int) -> None:
-        table = self.linked.pop(frame)
-        for word in table.words.values():
-            if is_table(word, table.level):
-                self.unlink(frame_in(word))
+    def link(self, frame: int, level: int, base: int) -> None:
+        if frame in self.told:
+            self.linked[frame] = self.told.pop(frame)
+        table = self.at(frame, level)
+        if table:
+            table.bases.append(base)
+            for index, word in table.words.items():
+                if is_table(word, level):
+                    self.link(frame_in(word), level - 1, base + self.reach(index, level))
+
+    def unlink(self, frame: int, level: int, base: int) -> None:
+        table = self.at(frame, level)
+        if not table or base not in table.bases:
+            return
+        table.bases.remove(base)
+        for index, word in table.words.items():
+            if is_table(word, level):
+                self.unlink(frame_in(word), level - 1, base + self.reach(index, level))
+        if not table.bases:
+            del self.linked[frame]
 
     @staticmethod
     def reach(index: int, level: int) -> int:
@@ -81,38 +93,45 @@ class PageTables:
         if not is_table(word, level):
             found[base] = Page(level - 1, word & ADDRESS & -BYTES[level - 1], rights)
             return
-        table = self.linked[frame_in(word)]
-        for index, below in table.words.items():
-            self.pages_below(below, table.level, base + self.reach(index, table.level), rights, found)
+        table = self.at(frame_in(word), level - 1)
+        for index, below in table.words.items() if table else ():
+            self.pages_below(below, level - 1, base + self.reach(index, level - 1), rights, found)
 
-    def rights_above(self, table: Table) -> int:
+    def rights_above(self, base: int, level: int) -> int:
         rights, frame = ALL, self.root
-        for level in range(self.levels, table.level, -1):
-            word = self.linked[frame].words[table.base >> (3 + 9 * level) & 511]
+        for above in range(self.levels, level, -1):
+            word = self.linked[frame].words.get(base >> (3 + 9 * above) & 511, 0)
             rights &= rights_in(word)
             frame = frame_in(word)
         return rights
 
+    def pages_of(self, table: Table, index: int, word: int) -> dict[int, Page]:
+        """The pages of a word of a table, along each way to it."""
+        found: dict[int, Page] = {}
+        for base in table.bases:
+            self.pages_below(word, table.level, base + self.reach(index, table.level), self.rights_above(base, table.level), found)
+        return found
+
     def store(self, frame: int, index: int, old: int, new: int) -> list[Change]:
         """Stores a word of a table; which pages are others then, by base."""
         if self.root in self.told:
-            self.link(self.root, 0)
-        if frame not in self.linked:
+            self.link(self.root, self.levels, 0)
+        table = self.linked.get(frame)
+        if not table:
             return []
-        table = self.linked[frame]
-        at, rights = table.base + self.reach(index, table.level), self.rights_above(table)
-        before: dict[int, Page] = {}
-        after: dict[int, Page] = {}
-        self.pages_below(old, table.level, at, rights, before)
-        was, now = (frame_in(word) if is_table(word, table.level) else None for word in (old, new))
-        if was is not None and was != now:
-            self.unlink(was)
+        level, before = table.level, self.pages_of(table, index, old)
+        was, now = (frame_in(word) if is_table(word, level) else None for word in (old, new))
+        bases = list(table.bases) if was != now else []
+        for base in bases:
+            if was is not None:
+                self.unlink(was, level - 1, base + self.reach(index, level))
         table.words[index] = new
-        if now in self.told:
-            self.link(now, at)
-        self.pages_below(new, table.level, at, rights, after)
-        bases = sorted(before.keys() | after.keys())
-        return [Change(base, before.get(base), after.get(base)) for base in bases if before.get(base) != after.get(base)]
+        for base in bases:
+            if now is not None:
+                self.link(now, level - 1, base + self.reach(index, level))
+        after = self.pages_of(table, index, new)
+        changed = sorted(base for base in before.keys() | after.keys() if before.get(base) != after.get(base))
+        return [Change(base, before.get(base), after.get(base)) for base in changed]
 
     def frames(self) -> dict[int, dict[int, int]]:
         """All tables: their words that aren't 0, by frame and index."""

@@ -6,6 +6,7 @@ from stub import Stub
 
 RETURN = bytes.fromhex("c3")                    # ret
 RETURN_NOTHING = bytes.fromhex("31c0c3")        # xor %eax, %eax; ret
+RETURN_WRITABLE = bytes.fromhex("48b82700000000000080c3")   # movabs $0x8000000000000027, %rax: present, written, of users; ret
 NOTHING = bytes.fromhex("0f1f440000")           # a nop as long as a call
 CALL = 0xE8
 
@@ -70,8 +71,8 @@ PLANTS = {
     "cow": Plant("the copy of a page on a write isn't flushed", (Silenced("ptep_clear_flush", "flush_tlb_mm_range"),), "copied", 5, 3, 50),
     "split": Plant("a large page that is split isn't flushed", (Silenced("pmdp_invalidate", "flush_tlb_mm_range"),), "huge", 5, 3, 50),
     "collapse": Plant("pages that become a large one aren't flushed", (Silenced("pmdp_collapse_flush", "flush_tlb_mm_range"),), "huge"),
-    "reclaim": Plant("pages that reclaim takes aren't flushed", (Replaced("arch_tlbbatch_flush", RETURN),), "reclaimed"),
     "freed-table": Plant("a table is freed, and stays linked", (Silenced("free_pgd_range", "native_set_pmd"),), "emptied"),
     "no-protect": Plant("mprotect changes nothing", (Replaced("change_protection", RETURN_NOTHING),), "threads shootdown", 10, 3, 50),
+    "all-rights": Plant("a page that is mapped may be written, whatever was asked", (Replaced("vm_get_page_prot", RETURN_WRITABLE),), "threads"),
     "no-unmap": Plant("munmap leaves the pages mapped", (Replaced("unmap_page_range", RETURN),), "threads", 5),
 }

@@ -274,6 +274,7 @@ static void huge(void)
 	madvise(at + 6 * MIB, 64 * KIB, MADV_DONTNEED);
 	has_to_fault(at + 2 * MIB, 1, "a store to a large page that was made read-only");
 	mprotect(at + 4 * MIB, 2 * MIB, READ_WRITE);
+	look(at + 4 * MIB, 2 * MIB);
 	madvise(at + 4 * MIB, 2 * MIB, 25 /* MADV_COLLAPSE */);
 	look(at + 4 * MIB, 2 * MIB);
 	touch(at, 2 * MIB);

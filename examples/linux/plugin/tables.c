@@ -13,8 +13,9 @@
 #define BY_PROCESSOR 0x60u /* accessed, dirty */
 #define USER_ENTRIES 256   /* of the root: the half that is the process's */
 
-/* By frame: the level, 0 of what is no table, and the words as last seen. */
+/* By frame: the level, 0 of what is no table, how many words link it, and the words as last seen. */
 static unsigned char *level_of;
+static unsigned *links_of;
 static uint64_t **words_of;
 static uint64_t root;
 
@@ -49,9 +50,12 @@ static void follow(uint64_t frame, unsigned level)
 	if (frame >= guest_frames() || level_of[frame]) {
 		say("@note table %" PRIx64 " is linked at level %u, and %s\n", frame, level,
 			frame < guest_frames() ? "elsewhere too" : "lies outside of memory");
+		if (frame < guest_frames() && level_of[frame] == level)
+			links_of[frame]++;
 		return;
 	}
 	level_of[frame] = (unsigned char)level;
+	links_of[frame] = 1;
 	words_of[frame] = checked(calloc(ENTRIES, 8));
 	say("@table %" PRIx64 " %u\n", frame, level);
 	for (unsigned index = 0; index < entries(frame); index++) {
@@ -65,7 +69,7 @@ static void follow(uint64_t frame, unsigned level)
 
 static void leave(uint64_t frame, unsigned level)
 {
-	if (frame >= guest_frames() || level_of[frame] != level)
+	if (frame >= guest_frames() || level_of[frame] != level || --links_of[frame])
 		return;
 	level_of[frame] = 0;
 	for (unsigned index = 0; index < ENTRIES; index++)
@@ -78,6 +82,7 @@ static void leave(uint64_t frame, unsigned level)
 void tables_begin(uint64_t from)
 {
 	level_of = checked(calloc(guest_frames(), 1));
+	links_of = checked(calloc(guest_frames(), sizeof *links_of));
 	words_of = checked(calloc(guest_frames(), sizeof *words_of));
 	root = from;
 	follow(root, (unsigned)guest.levels);
