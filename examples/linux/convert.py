@@ -52,6 +52,7 @@ class Converter:
     trace: Trace = field(default_factory=Trace)
     tables: PageTables = field(default_factory=lambda: PageTables(0))
     pages: dict[int, Page] = field(default_factory=dict)                    # after the log as it is
+    promised: set[int] = field(default_factory=set)                         # bases where a system call's promise stands, not a store
     latest: dict[int, tuple[int, int]] = field(default_factory=dict)        # by base: place and task of the latest update
     windows: dict[Window, dict[int, list[Update]]] = field(default_factory=dict)    # by task that owes the flush
     owed: dict[int, set[Window]] = field(default_factory=lambda: collections.defaultdict(set))      # by task
@@ -97,12 +98,12 @@ class Converter:
 
     def apply(self, change: Change) -> None:
         if change.after is None:
-            del self.pages[change.base]
+            self.pages.pop(change.base, None)
         else:
             self.pages[change.base] = change.after
 
     def reply(self, update: Update) -> None:
-        """Answers with what the update overwrote."""
+        """Answers with what the store overwrote."""
         kind, before = self.kind(update.change), update.change.before
         if kind == MAP:
             self.trace.reply(update.call, update.place, DONE)
@@ -135,19 +136,24 @@ class Converter:
                 self.update(each, line.task, line.pcs)
 
     def split(self, change: Change) -> list[Change]:
-        """One change of a page as updates, of the page as the log has it: what a system call promised has gone already."""
+        """One change of a page as updates."""
         base, before, after = change
         if after and after.physical + BYTES[after.size] > 1 << 51:
             self.counts["left out: words that are no page of a space"] += 1
             after = None
-        here = self.pages.get(base)
-        if before and not here:
+        if base in self.promised:
+            here = self.pages.get(base)
+            if before and not here:     # it has gone by promise, and is still in the tables
+                if after is None:
+                    self.promised.discard(base)
+                return []
+            self.promised.discard(base)
+            before = here
+        if before == after:
             return []
-        if here == after:
-            return []
-        if here and after and here[:2] != after[:2]:
-            return [Change(base, here, None), Change(base, None, after)]
-        return [Change(base, here, after)]
+        if before and after and before[:2] != after[:2]:
+            return [Change(base, before, None), Change(base, None, after)]
+        return [Change(base, before, after)]
 
     # ---- accesses ----
 
@@ -188,6 +194,7 @@ class Converter:
             self.counts["pages that allow more than a system call said"] += 1
             if self.options.intent:
                 after = page._replace(rights=page.rights & allowed) if protection else None
+                self.promised.add(base)
                 self.update(Change(base, page, after), line.task, ())
                 self.close(line.task, base, base + 1)
 
