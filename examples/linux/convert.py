@@ -20,7 +20,7 @@ sys.dont_write_bytecode = True
 import log_lines
 from log_lines import Access, Born, Dumped, End, Entered, Entry, Fault, Flushed, InUser, Line, Note, Returned, Store, Symbol, Table, Word
 from page_tables import BYTES, EXEC, USER, WRITE, Change, Page, PageTables
-from trace import ACCESS, ALLOWED, CHANGED, DONE, FAULT, MAP, PROTECT, REMOVED, THREADS, UNMAP, Trace
+from trace_bytes import ACCESS, ALLOWED, CHANGED, DONE, FAULT, MAP, PROTECT, REMOVED, THREADS, UNMAP, Trace
 
 PROCESSORS = 8                  # threads 0 to 7 are the processors' accesses, the others updates under way
 MPROTECT, MUNMAP = 10, 11

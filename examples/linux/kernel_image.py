@@ -8,28 +8,40 @@ import shutil
 import subprocess
 from dataclasses import dataclass
 
+QEMU = "7.2"
 SERIES = "linux-image-cloud-amd64"          # a package that depends on the newest kernel
 NAME = r"linux-image-6\.1\.0-[0-9]+-cloud-amd64"
-COMPRESSED = ((b"\x02\x21\x4c\x18", "lz4"), (b"\xfd7zXZ\0", "xz"), (b"\x28\xb5\x2f\xfd", "zstd"))
+COMPRESSED = ((b"\x02\x21\x4c\x18", "lz4"), (b"\xfd7zXZ\0", "xz"))
+PATIENCE = 600                              # seconds that a command may take
 COMMAND_LINE = "nokaslr norandmaps mitigations=off panic=-1 quiet console=ttyS0"
 PACKAGES = {"qemu-system-x86_64": "qemu-system-x86", "busybox": "busybox-static", "cpio": "cpio", "objdump": "binutils", "gcc": "gcc",
             "apt-get": "apt", "dpkg-deb": "dpkg", "xz": "xz-utils", "lz4": "lz4"}
 
 
 class Missing(Exception):
-    """Something that isn't on this machine; its text says what, and how one gets it."""
+    """Something isn't there that a recording needs; its text says what, and how one gets it."""
 
 
 def check_commands() -> None:
     lacking = [name for name in PACKAGES if not shutil.which(name)]
     if lacking:
         packages = " ".join(PACKAGES[name] for name in lacking)
-        raise Missing(f"{', '.join(lacking)}: apt-get install --no-install-recommends {packages}")
+        raise Missing(f"not installed: {', '.join(lacking)}; apt-get install --no-install-recommends {packages}")
 
 
-def said(*words: str, folder: str | None = None, data: bytes | None = None) -> str:
+def check_qemu() -> None:
+    """The plugin speaks version 1 of QEMU's interface, which newer ones don't know, and was tried with one alone."""
+    version = said("qemu-system-x86_64", "--version").partition("version ")[2].split()[0]
+    if not version.startswith(QEMU):
+        raise Missing(f"this is QEMU {version}, and the plugin was tried with {QEMU} of Debian 12 alone")
+
+
+def said(*words: str, folder: str | None = None) -> str:
     """What a command prints; Missing where it fails."""
-    done = subprocess.run(words, input=data, stdout=subprocess.PIPE, stderr=subprocess.PIPE, cwd=folder)
+    try:
+        done = subprocess.run(words, stdin=subprocess.DEVNULL, stdout=subprocess.PIPE, stderr=subprocess.PIPE, cwd=folder, timeout=PATIENCE)
+    except subprocess.TimeoutExpired:
+        raise Missing(f"{' '.join(words[:3])} doesn't end in {PATIENCE} seconds") from None
     if done.returncode:
         raise Missing(f"{' '.join(words[:3])}: {done.stderr.decode(errors='replace').strip()}")
     return done.stdout.decode(errors="replace")
@@ -61,7 +73,7 @@ def unpack(image: str, path: str) -> None:
                     file.write(found)
                 return
             at = data.find(magic, at + 1)
-    raise Missing(f"no kernel in {image} that lz4, xz or zstd unpack")
+    raise Missing(f"no kernel in {image} that lz4 or xz unpacks")
 
 
 def parse_symbols(lines: str) -> list[tuple[int, str]]:

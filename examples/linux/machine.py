@@ -89,6 +89,7 @@ def told_symbols(image: str, version: str) -> str:
 def kernel() -> Kernel:
     """Debian's kernel, ready to be booted; Missing where it can't be."""
     kernel_image.check_commands()
+    kernel_image.check_qemu()
     os.makedirs(OUT, exist_ok=True)
     boot = kernel_image.fetch(OUT)
     version = sorted(name[len("vmlinuz-"):] for name in os.listdir(boot) if name.startswith("vmlinuz-"))[-1]
