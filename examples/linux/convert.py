@@ -25,6 +25,7 @@ from trace_bytes import ACCESS, ALLOWED, CHANGED, DONE, FAULT, MAP, PROTECT, REM
 PROCESSORS = 8                  # threads 0 to 7 are the processors' accesses, the others updates under way
 MPROTECT, MUNMAP = 10, 11
 PROT_WRITE, PROT_EXEC, PROT_ALL = 2, 4, 7
+MORE = "pages that allow more than a system call said"
 EVERYTHING = (1 << 64) - 1
 
 Window = tuple[int, int]        # a page's size and base: its entry was stored to, and isn't flushed
@@ -191,7 +192,7 @@ class Converter:
             is_of_another = task != line.task and place >= entered
             if base + BYTES[page.size] > end or is_of_another or (protection and not page.rights & ~allowed):
                 continue
-            self.counts["pages that allow more than a system call said"] += 1
+            self.counts[MORE] += 1
             if self.options.intent:
                 after = page._replace(rights=page.rights & allowed) if protection else None
                 self.promised.add(base)

@@ -13,7 +13,7 @@ SERIES = "linux-image-cloud-amd64"          # a package that depends on the newe
 NAME = r"linux-image-6\.1\.0-[0-9]+-cloud-amd64"
 COMPRESSED = ((b"\x02\x21\x4c\x18", "lz4"), (b"\xfd7zXZ\0", "xz"))
 PATIENCE = 600                              # seconds that a command may take
-COMMAND_LINE = "nokaslr norandmaps mitigations=off panic=-1 quiet console=ttyS0"
+COMMAND_LINE = "nokaslr no_timer_check norandmaps mitigations=off panic=-1 quiet console=ttyS0"
 PACKAGES = {"qemu-system-x86_64": "qemu-system-x86", "busybox": "busybox-static", "cpio": "cpio", "objdump": "binutils", "gcc": "gcc",
             "apt-get": "apt", "dpkg-deb": "dpkg", "xz": "xz-utils", "lz4": "lz4"}
 

@@ -13,7 +13,7 @@ from stub import Stub
 
 HERE = os.path.dirname(os.path.abspath(__file__))
 OUT = f"{HERE}/out"
-LIMIT = 300                     # seconds that a guest may take
+LIMIT = 600                     # seconds that a guest may take
 PROCESSOR = "max,pku=off,smep=off,smap=off"     # as docs/FORMATS.md has it
 INIT = """#!/bin/busybox sh
 b=/bin/busybox

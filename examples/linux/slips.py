@@ -6,7 +6,7 @@ otherwise than the processors saw has to be found.
 
 Of each kind N are drawn among the stores to entries of pages: one is dropped, one is altered (another frame, or a right more or
 less), or one is moved behind some of the lines that follow. It prints for each kind what shows them: an access of a processor, the
-word that a later store overwrote, or the tables at the end. A slip that makes the same trace counts for none. NRVS says where the
+word that a later store overwrote, the tables at the end, or what a system call promised, as the converter counts. A slip that makes the same trace counts for none. NRVS says where the
 program is, else it is crates/nrvs/out/nrvs.
 """
 import argparse
@@ -71,7 +71,7 @@ def verdict(lines: list[str]) -> tuple[bytes, str]:
     done = subprocess.run([explain.program(), "audit"], input=trace, stdout=subprocess.PIPE)
     words = done.stdout.decode().split("\n")[0].split()
     if words[0] == "yes":
-        return trace, NOTHING
+        return trace, "what a system call promised" if converter.counts[convert.MORE] else NOTHING
     if words[2] != "WrongAnswer":
         return trace, "the tables at the end"
     by_processor = {call for call, who, _ in converter.sources if who.startswith("processor")}
