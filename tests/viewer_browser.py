@@ -7,7 +7,7 @@ import subprocess
 import tempfile
 import threading
 
-FAULT_COLOUR = [200, 16, 46]
+FAULT_COLOUR, CUT_COLOUR = [200, 16, 46], [227, 230, 234]
 SECONDS = 600                                       # for all pages together, on a machine that has other work
 
 
@@ -43,7 +43,8 @@ def browser(work, *words):
 def look_at_all(work, asked):
     """What a browser found in each of these pages of the folder; nothing where it didn't come to an end."""
     with open(os.path.join(os.path.dirname(os.path.abspath(__file__)), "viewer_look.html"), encoding="utf-8") as file:
-        text = file.read().replace("{{names}}", json.dumps(asked)).replace("{{red}}", json.dumps(FAULT_COLOUR))
+        text = file.read().replace("{{names}}", json.dumps(asked))
+    text = text.replace("{{red}}", json.dumps(FAULT_COLOUR)).replace("{{cut}}", json.dumps(CUT_COLOUR))
     with open(os.path.join(work, "look.html"), "w", encoding="utf-8") as file:
         file.write(text)
     server = Server(work)
