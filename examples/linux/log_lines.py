@@ -189,6 +189,8 @@ class Slimmer:
 
     def slim(self, lines: Iterable[str]) -> Iterator[str]:
         for line in lines:
+            if not line.endswith("\n"):      # QEMU was ended while it wrote
+                break
             if line.startswith("@"):
                 yield from self.of_plugin(line)
             elif "v=0e" in line:
