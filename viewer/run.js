@@ -115,7 +115,8 @@ function drawLogLabels(pen, width, place) {
   pen.font = "10px system-ui, sans-serif";
   told.dumps.forEach((dump, replica) => {
     pen.fillStyle = replica === told.replica ? colours.fault : colours.soft;
-    pen.fillText((width < NARROW ? `r${replica}: ` : `replica ${replica}: `) + counted(dump.applied), 8, place.log + 28 + 11 * replica);
+    const name = width < NARROW ? `r${replica}: ` : `replica ${replica}: `;
+    pen.fillText(name + counted(dump.applied), width < NARROW ? 3 : 8, place.log + 28 + 11 * replica);
   });
 }
 
