@@ -1,7 +1,7 @@
 //! Lists of steps, each with what its recording says: step by step and at once.
 
 use crate::cases::{Asks, CASES, Case, Item};
-use crate::scripts::{Tries, assert_alike, order_of, run_at_once, run_one_by_one};
+use crate::scripts::{Tries, assert_alike, order_at_once, run_at_once, run_one_by_one};
 use nr_core::Step;
 use nr_trace::{Event, Trace};
 use std::alloc::Global;
@@ -105,7 +105,8 @@ fn run(rt: &impl Abort, alloc: Global, case: &Case) -> Result<(), Fail> {
     assert_recorded(rt, &trace, case)?;
     let again = run_at_once(rt, alloc, config, scripts_of(alloc, case)?, &steps)?;
     assert_alike(rt, alloc, &trace, &again)?;
-    assert_eq!(rt; order_of(rt, alloc, &again)?.calls(), case.order);
+    let order = order_at_once(rt, alloc, config, scripts_of(alloc, case)?, &steps)?;
+    assert_eq!(rt; order.calls(), case.order);
     Ok(())
 }
 

@@ -3,6 +3,7 @@ ghost use Rattle.std.specs.Prelude.{◌≡◌, All, map};
 ghost use Rattle.vs_types.specs.Query.{IsQuery};
 ghost use Rattle.vs_types.specs.Query.{AreScripts};
 
+use crate::judging::judge_steps;
 use nr_audit::{Order, Verdict, audit};
 use nr_core::{Core, Step, run_steps};
 use nr_trace::{Trace, write};
@@ -89,13 +90,30 @@ pub fn run_one_by_one(
     Ok((recording_of(&core, tries)?, made))
 }
 
+/// The order of a verdict, which has to be yes.
+fn order_in(rt: &impl Abort, verdict: Verdict) -> Order {
+    match verdict {
+        Verdict::Yes(order) => order,
+        Verdict::No(fault) => panic!(rt; "{fault:?}"),
+    }
+}
+
 /// The order with which the auditor says yes to the spelling of a trace.
 pub fn order_of(rt: &impl Abort, alloc: Global, trace: &Trace) -> Result<Order, Memory> {
     let bytes = write(alloc, trace)?;
-    match audit(alloc, &bytes)? {
-        Verdict::Yes(order) => Ok(order),
-        Verdict::No(fault) => panic!(rt; "{fault:?}"),
-    }
+    Ok(order_in(rt, audit(alloc, &bytes)?))
+}
+
+/// The order with which the auditor says yes to a run of the steps.
+pub fn order_at_once(
+    rt: &impl Abort,
+    alloc: Global,
+    config: Config,
+    scripts: Vec<Vec<Request>>,
+    steps: &[Step],
+) -> Result<Order, Memory> {
+    assert_scripts(rt, config, &scripts);
+    Ok(order_in(rt, judge_steps(alloc, config, scripts, steps)?))
 }
 
 /// That two traces are spelled alike.
