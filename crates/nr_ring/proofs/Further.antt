@@ -1,7 +1,6 @@
 -- Of what two passes have seen of one history, one begins with the other; and the codes of their words tell which.
 use Rattle.std.proofs.Common.{◌≡◌, ℕ, zero, suc, ◌+◌, ◌<◌, ◌≤◌, ◌⊎◌, List, [], ◌∷◌, ◌++◌, All, Option, drop, length, get_or, ⊎_elim, inl, inr, refl, ap, sym, subst, ◌∙◌, arith}
 use Rattle.std.specs.Prelude.{slice_index_or}
-use Rattle.std.specs.List.{sum_by}
 use Rattle.std.proofs.lemmas.List.{append-nil, append_assoc, append_cancel_left}
 use Rattle.std.proofs.lemmas.List.Elements.{All-cons}
 use mathlib.Core.Option.{some}
@@ -68,7 +67,7 @@ all_of_rest P [] ys all = all
 all_of_rest P (x ∷ xs) ys all = all_of_rest P xs ys (λ k d lt. all (suc k) d (omega arith))
 
 -- what is between the seen and the whole has no advance of a replica that the whole has none of since
-between : (replica : ℕ) (whole middle seen : List LogEvent) → HasSeenAdvances replica whole seen → StartsWith whole middle → StartsWith middle seen
+pub between : (replica : ℕ) (whole middle seen : List LogEvent) → HasSeenAdvances replica whole seen → StartsWith whole middle → StartsWith middle seen
     → HasSeenAdvances replica whole middle × HasSeenAdvances replica middle seen
 between replica whole middle seen all last first =
     let more : all.0 ≡ first.0 ++ last.0 = append_cancel_left seen all.0 (first.0 ++ last.0)

@@ -21,3 +21,4 @@ pub mod Makers
 mod Codes
 pub mod FirstWords
 pub mod Further
+pub mod Gathers

@@ -1,5 +1,5 @@
 -- What contracts see of a log and of its passes.
-use Rattle.std.specs.Prelude.{ℕ, List, [], ◌∷◌, ◌++◌, map, replicate}
+use Rattle.std.specs.Prelude.{ℕ, List, [], ◌∷◌, ◌++◌, Contains, ⊤, map, replicate}
 use Rattle.std.specs.List.{range_with_len}
 pub use Rattle.atomic_table.specs.Seated.{TableId}
 use Rattle.nr_ring.specs.LogHistory.{Log, tail, local_of, completed}
@@ -22,3 +22,8 @@ new_passes log replicas others = map (λ replica. new_pass log (replica ∷ []))
 -- the tails of a log
 abbrev pub tails_of : Log → Tails
 tails_of log = record { tail = tail log; completed = completed log; local = local_of log 0 ∷ local_of log 1 ∷ local_of log 2 ∷ local_of log 3 ∷ [] }
+
+-- none of these lists of replicas has one that is among the owned, or that a list before it has
+abbrev pub AreApart : List ℕ → List (List ℕ) → Type 0
+AreApart owned [] = ⊤
+AreApart owned (given ∷ lists) = ((replica : ℕ) → Contains owned replica → Contains given replica → ⊥) × AreApart (owned ++ given) lists

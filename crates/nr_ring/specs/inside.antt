@@ -2,3 +2,4 @@
 pub mod Held
 pub mod Batch
 pub mod Codes
+pub mod Gathering

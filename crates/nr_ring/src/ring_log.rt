@@ -1,5 +1,5 @@
 //! The log: one cell that its threads share.
-ghost use Rattle.std.specs.Prelude.{◌≡◌, ◌≤◌, ◌+◌, ◌-◌, ◌<◌, ℕ, All, Contains, IfErr, IfOk, IsFalse, IsTrue, OnErr, OnOk, Option, [], ◌∷◌, length, slice_index};
+ghost use Rattle.std.specs.Prelude.{◌≡◌, ◌≤◌, ◌+◌, ◌-◌, ◌<◌, ℕ, All, Contains, IfErr, IfOk, IsFalse, IsTrue, OnErr, OnOk, Option, [], ◌∷◌, ◌++◌, length, map, slice_index};
 ghost use Rattle.std.specs.List.{range_with_len};
 ghost use Rattle.version_cell.specs.Changes.{changed};
 ghost use Rattle.vs_types.specs.LogEntry.{IsLogEntry};
@@ -7,7 +7,7 @@ ghost use Rattle.nr_ring.specs.Calls.{HasLooked, HasMoved, HasTaken, LiesAhead, 
 ghost use Rattle.nr_ring.specs.LogHistory.{IsLogHistory, MayAdvance, MayAppend, MayFollow, local_of, log_after_event, log_after, tail};
 ghost use Rattle.nr_ring.specs.declared.log_event.LogEvent.TheVariants.{Append, Advance};
 ghost use Rattle.nr_ring.specs.Entries.{HasAppended, HasTakenAll, IsReason, to_take};
-ghost use Rattle.nr_ring.specs.Pass.{new_pass, new_passes, tails_of};
+ghost use Rattle.nr_ring.specs.Pass.{AreApart, new_pass, new_passes, tails_of};
 ghost use Rattle.nr_ring.specs.View.{HasSeenAdvances, StartsWith};
 ghost use Rattle.nr_ring.specs.Words.{IsWordsOf, new_words};
 ghost use Rattle.nr_ring.specs.inside.Codes.{code_of_log};
@@ -17,7 +17,7 @@ use crate::batch::{advanced, list_changes, list_places, read_entries, test_room,
 use crate::code::{code_of, locals_in};
 use crate::name::LogName;
 use crate::pass::LogPass;
-use crate::rule::{Copies, FirstOwned, Happening, LogRule, Looking, Making};
+use crate::rule::{Copies, Existing, FirstOwned, Gathers, Happening, LogRule, Looking, Making};
 use crate::tails::{AppendFault, Moved, Tails};
 use crate::view::View;
 use crate::words::{CELL_WORDS, COUNT_WORD, LOCAL_WORDS, OTHERS, RING_WORDS, TAIL_WORD};
@@ -457,5 +457,32 @@ impl<J: LogName> RingLog<J> {
     {
         self.cell
             .meet_as::<Copies, Looking<J>>(&mut pass.inner, &mut told.inner);
+    }
+
+    /// Gathers the replicas that passes own in the first of them, which has seen all that the others have. They are given up. Each
+    /// replica has one owner at most: so no two of these passes own the same one. It looks at nothing, and waits for nobody.
+    pub fn gather(&self, first: LogPass<J>, others: Vec<LogPass<J>>)
+        requires log { (first.log ≡ self.now) × All (λ pass. pass.log ≡ self.now) others.items }
+        requires seen { All (λ pass. StartsWith first.view.seen pass.view.seen) others.items }
+        ensures { AreApart first.view.owns (map (λ pass. pass.view.owns) others.items) }
+    {
+        let mut owner = first.inner;
+        for other in others {
+            self.take_over(&mut owner, other);
+        }
+    }
+
+    /// Takes over the replicas that a pass owns.
+    fn take_over(&self, owner: &mut Pass<View, RING_WORDS, CELL_WORDS>, other: LogPass<J>)
+        requires log { (owner.old.cell ≡ self.now) × (other.log ≡ self.now) }
+        requires seen { StartsWith owner.old.view.seen other.view.seen }
+        ensures log { owner.new.cell ≡ owner.old.cell }
+        ensures seen { owner.new.view.seen ≡ owner.old.view.seen }
+        ensures owns { owner.new.view.owns ≡ owner.old.view.owns ++ other.view.owns }
+        ensures apart { (replica : ℕ) → Contains owner.old.view.owns replica
+            → Contains other.view.owns replica → ⊥ }
+    {
+        let mut pass = other.inner;
+        self.cell.meet_as::<Gathers, Existing>(&mut pass, owner);
     }
 }

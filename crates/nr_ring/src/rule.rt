@@ -97,3 +97,35 @@ impl Join<View> for Copies {
 
     ghost spent = { empty_view };
 }
+
+/// What a pass owns goes to another, which gathers it. Each replica has one owner at most, so that both owned different ones.
+pub struct Gathers;
+
+impl Split<View> for Gathers {
+    ghost use Rattle.std.specs.Prelude.{[]};
+    ghost use Rattle.nr_ring.specs.Calls.{left_view};
+    ghost use Rattle.nr_ring.specs.inside.Gathering.{owner_of};
+
+    ghost left = { λ v. left_view v [] v.rights };
+
+    ghost right = { owner_of };
+}
+
+impl Join<View> for Gathers {
+    ghost use Rattle.nr_ring.specs.Calls.{empty_view};
+    ghost use Rattle.nr_ring.specs.inside.Gathering.{gathered};
+
+    ghost both = { gathered };
+
+    ghost spent = { empty_view };
+}
+
+/// That the view is one that a pass has.
+pub struct Existing;
+
+impl CellOutcome<View> for Existing {
+    ghost use Rattle.std.specs.Prelude.{◌≡◌, ◌≢◌};
+    ghost use Rattle.nr_ring.specs.inside.Gathering.{no_view};
+
+    ghost then = { λ before words words' after. (before ≢ no_view) × (after ≡ before) };
+}
