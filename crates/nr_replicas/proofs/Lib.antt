@@ -5,3 +5,4 @@ pub mod Rests
 pub mod NewPasses
 pub mod Settled
 pub mod Fits
+pub mod Numbers

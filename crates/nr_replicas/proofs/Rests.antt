@@ -1,5 +1,5 @@
 -- Lists that are gone through one by one.
-use Rattle.std.proofs.Common.{◌≡◌, ℕ, suc, ◌+◌, List, [], ◌∷◌, ◌++◌, All, length, take, drop, refl, ap, sym, subst, ◌∙◌, arith}
+use Rattle.std.proofs.Common.{◌≡◌, ℕ, suc, ◌+◌, List, [], ◌∷◌, ◌++◌, All, length, take, drop, ap, sym, subst, ◌∙◌, arith}
 use Rattle.std.proofs.Math.ListN.{length-append}
 use Rattle.std.proofs.lemmas.List.{append-nil, take_all}
 use Rattle.std.proofs.lemmas.List.Elements.{All-append}
@@ -23,10 +23,13 @@ pub one_over : {X Y : Type 0} (xs xs' : List X) (x : X) (ys ys' : List Y) (y : Y
 one_over xs xs' x ys ys' y n more less is =
     omega (arith, ap (λ (l : List _). length l) more, ap (λ (l : List _). length l) less, length-append xs (x ∷ []), is)
 
--- a list into which it was written what it was
+-- a list into which as many were written as it had
+pub written_over : {X : Type 0} (n : ℕ) (new items : List X) → length new ≡ length items → n ≡ length items → take n (new ++ drop (length new) items) ≡ new
+written_over {X} n new items many long =
+    ap (λ (l : List X). take n (new ++ l)) (drop_whole items (length new) (sym many))
+    ∙ ap (λ (l : List X). take n l) (append-nil new)
+    ∙ take_all n new (omega (arith, many, long))
+
+-- and what it was
 pub written_back : {X : Type 0} (n : ℕ) (new items : List X) → new ≡ items → n ≡ length items → take n (new ++ drop (length new) items) ≡ items
-written_back {X} n new items same long =
-    ap (λ (l : List X). take n (l ++ drop (length l) items)) same
-    ∙ ap (λ (l : List X). take n (items ++ l)) (drop_whole items (length items) refl)
-    ∙ ap (λ (l : List X). take n l) (append-nil items)
-    ∙ take_all n items (omega arith)
+written_back {X} n new items same long = written_over n new items (ap (λ (l : List X). length l) same) long ∙ same

@@ -16,15 +16,16 @@ use nr_node::{Held, Node};
 use nr_ring::{AppendFault, LogName, LogPass, RingLog};
 use nr_slots::{Answered, Slots, Waiting};
 use std::marker::{Model, PhantomData};
-use std::sync::Wait;
+use std::sync::{Arc, Wait};
 use vs_arena::RawArena;
 use vs_types::{Answer, LogEntry, RING};
 
-/// The node of a replica, which is of the log that the name says and may have as many tables. Beside it there is room for what
-/// a call collects and answers, so that no call has to fill an array of its own.
+/// The node of a replica, which is of the log that the name says and may have as many tables, and the slots of its threads. Beside
+/// them there is room for what a call collects and answers, so that no call has to fill an array of its own.
 #[derive(Drop)]
 pub(crate) struct Local<J: LogName, K: ReplicasName> {
     node: Node<RawArena, J>,
+    slots: Arc<Slots<Fitting<J>>>,
     waiting: ArrayVec<Waiting, RING>,
     answers: ArrayVec<Answered, RING>,
     of: PhantomData<K>,
@@ -42,13 +43,14 @@ impl<J: LogName, K: ReplicasName> Model for Local<J, K> {
 }
 
 impl<J: LogName, K: ReplicasName> Local<J, K> {
-    pub(crate) fn new(node: Node<RawArena, J>) -> Local<J, K>
+    pub(crate) fn new(node: Node<RawArena, J>, slots: Arc<Slots<Fitting<J>>>) -> Local<J, K>
         requires log { node.known.log ≡ K.log }
         requires tables { node.tables ≡ K.tables }
         ensures { result ≡ node }
     {
         Local {
             node,
+            slots,
             waiting: ArrayVec::new(),
             answers: ArrayVec::new(),
             of: PhantomData,
@@ -65,22 +67,17 @@ impl<J: LogName, K: ReplicasName> Local<J, K> {
 
     /// A combiner's turn: takes a batch from the slots where the node holds none, appends it where it has no place yet, and
     /// catches up once. Whether it appended one.
-    pub(crate) fn combine<R: Wait>(
-        &mut self,
-        rt: &R,
-        log: &RingLog<J>,
-        slots: &Slots<Fitting<J>>,
-    ) -> Result<bool, AppendFault>
+    pub(crate) fn combine<R: Wait>(&mut self, rt: &R, log: &RingLog<J>) -> Result<bool, AppendFault>
         requires { log.now ≡ K.log }
         ensures { IfErr result (λ fault. fault ≡ LogEnded
             → LOG_PLACES - RING < tail (log_of J.replicas self.new)) }
     {
         if self.node.held() == Held::Nothing {
-            self.collect(rt, slots);
+            self.collect(rt);
         }
         match self.put_batch(rt, log) {
             Ok(appended) => {
-                self.catch_up(rt, log, slots);
+                self.catch_up(rt, log);
                 Ok(appended)
             }
             Err(fault) => Err(fault),
@@ -104,19 +101,19 @@ impl<J: LogName, K: ReplicasName> Local<J, K> {
     }
 
     /// Takes the updates that wait in the slots into a batch.
-    fn collect<R: Wait>(&mut self, rt: &R, slots: &Slots<Fitting<J>>)
+    fn collect<R: Wait>(&mut self, rt: &R)
         requires { self.old.batch ≡ [] }
         ensures { self.new.known ≡ self.old.known }
     {
         self.waiting.clear();
-        slots.collect(rt, &mut self.waiting);
+        self.slots.collect(rt, &mut self.waiting);
         if !self.waiting.is_empty() {
             self.node.hold(&self.waiting);
         }
     }
 
     /// Takes all entries that the log has, and leaves the answers of the held updates in their slots.
-    pub(crate) fn catch_up<R: Wait>(&mut self, rt: &R, log: &RingLog<J>, slots: &Slots<Fitting<J>>)
+    pub(crate) fn catch_up<R: Wait>(&mut self, rt: &R, log: &RingLog<J>)
         requires log { log.now ≡ K.log }
     {
         self.answers.clear();
@@ -124,7 +121,7 @@ impl<J: LogName, K: ReplicasName> Local<J, K> {
             return;
         }
         for answered in self.answers.as_slice() {
-            let _taken = slots.answer(rt, *answered);
+            let _taken = self.slots.answer(rt, *answered);
         }
     }
 
@@ -174,7 +171,6 @@ impl<J: LogName, K: ReplicasName> Local<J, K> {
         &mut self,
         rt: &R,
         log: &RingLog<J>,
-        slots: &Slots<Fitting<J>>,
         pass: &mut LogPass<J>,
         completed: u32,
         address: u64,
@@ -191,7 +187,7 @@ impl<J: LogName, K: ReplicasName> Local<J, K> {
             (answer_in question address) read.0 read.1) }
     {
         if self.node.applied() < completed {
-            self.catch_up(rt, log, slots);
+            self.catch_up(rt, log);
             return None;
         }
         let read = self.answer(address, question);

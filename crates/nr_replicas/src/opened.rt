@@ -1,4 +1,5 @@
 //! Replicas whose log has no name yet.
+ghost use Rattle.std.specs.Arc.{arc_value};
 ghost use Rattle.std.specs.Prelude.{◌≡◌, ◌+◌, ◌<◌, ◌≤◌, All, IfOk, [], length, map, replicate};
 ghost use Rattle.nr_ring.specs.Pass.{new_pass};
 ghost use Rattle.nr_replicas.specs.inside.Replicas.{IsNewPass, IsNodeOf};
@@ -13,7 +14,7 @@ use nr_ring::{LogName, LogPass, RingLog};
 use nr_slots::Slots;
 use std::alloc::Global;
 use std::marker::Model;
-use std::sync::Mutex;
+use std::sync::{Arc, Mutex};
 use vs_arena::RawArena;
 use vs_types::{Config, Fail, Memory, TABLES};
 
@@ -150,13 +151,14 @@ fn share<J: LogName, K: ReplicasName>(
     requires { All (IsNodeOf K.log K.tables) nodes.items }
     ensures count { IfOk result (λ shared. length shared.items ≡ length nodes.items) }
     ensures slots { IfOk result (λ shared.
-        All (λ n. n ≡ config.threads) (map (λ s. s.slots) shared.items)) }
+        All (λ n. n ≡ config.threads) (map (λ s. arc_value s.slots) shared.items)) }
 {
     let mut shared = Vec::new(alloc);
     for node in nodes {
-        let slots = Slots::new(alloc, config.threads())?;
+        let slots = Arc::new(alloc, Slots::new(alloc, config.threads())?)?;
+        let local = Local::new(node, Arc::try_clone(&slots)?);
         shared.push(Shared {
-            local: CachePadded::new(Mutex::new(Local::new(node))),
+            local: CachePadded::new(Mutex::new(local)),
             slots,
         })?;
     }

@@ -1,4 +1,5 @@
 //! The replicas of an address space, which threads share.
+ghost use Rattle.std.specs.Arc.{arc_value};
 ghost use Rattle.std.specs.Prelude.{◌≡◌, ◌≢◌, ◌-◌, ◌<◌, IfErr, IfOk};
 ghost use Rattle.vs_types.specs.declared.limits.TheConstants.{LOG_PLACES, RING};
 ghost use Rattle.vs_types.specs.Depth.{IsCanonical};
@@ -39,6 +40,7 @@ pub struct Replicas<J: LogName, K: ReplicasName> {
 }
 
 impl<J: LogName, K: ReplicasName> Model for Replicas<J, K> {
+    ghost use Rattle.std.specs.Arc.{arc_value};
     ghost use Rattle.std.specs.Prelude.{◌≡◌, map};
     ghost use Rattle.vs_types.specs.Config.{Layout};
     ghost use Rattle.nr_replicas.specs.inside.Replicas.{AreShared};
@@ -48,7 +50,7 @@ impl<J: LogName, K: ReplicasName> Model for Replicas<J, K> {
     ghost view = { λ r. r.config };
 
     ghost invariant = { λ r. (r.log ≡ K.log)
-        × AreShared J.depth J.replicas K.tables r.config (map (λ s. s.slots) r.shared.items) };
+        × AreShared J.depth J.replicas K.tables r.config (map (λ s. arc_value s.slots) r.shared.items) };
 }
 
 /// What an update does next.
@@ -78,7 +80,7 @@ impl<J: LogName, K: ReplicasName> Replicas<J, K> {
     /// The replica to which a thread belongs.
     fn home(&self, thread: u16) -> &Shared<J, K>
         requires { thread < self.now.threads }
-        ensures { result.now.slots ≡ self.now.threads }
+        ensures { arc_value result.now.slots ≡ self.now.threads }
     {
         &self.shared[usize::from(thread) % self.shared.len()]
     }
@@ -204,7 +206,7 @@ impl<J: LogName, K: ReplicasName> Replicas<J, K> {
         let Some(mut local) = attempt(rt, &home.local, backoff) else {
             return Combined::Went;
         };
-        match local.combine(rt, &self.log, &home.slots) {
+        match local.combine(rt, &self.log) {
             Ok(true) => Combined::Appended,
             Ok(false) | Err(AppendFault::Moved(_)) => Combined::Went,
             Err(AppendFault::Full(_)) => Combined::Full,
@@ -222,7 +224,7 @@ impl<J: LogName, K: ReplicasName> Replicas<J, K> {
             return Turn::Poll;
         };
         if let Some(mut local) = attempt(rt, &shared.local, backoff) {
-            local.catch_up(rt, &self.log, &shared.slots);
+            local.catch_up(rt, &self.log);
         }
         if replica + 1 < self.shared.len() {
             Turn::CatchUp(replica + 1)
@@ -324,15 +326,7 @@ impl<J: LogName, K: ReplicasName> Replicas<J, K> {
         let backoff = Backoff::new();
         for _ in 0..turns {
             if let Some(mut local) = attempt(rt, &home.local, &backoff) {
-                let read = local.read(
-                    rt,
-                    &self.log,
-                    &home.slots,
-                    pass,
-                    completed,
-                    address,
-                    question,
-                );
+                let read = local.read(rt, &self.log, pass, completed, address, question);
                 if let Some(read) = read {
                     return Ok(read);
                 }

@@ -1,12 +1,13 @@
 //! What is left of the replicas when all is done: the calls of the log, and a dump of each replica.
-ghost use Rattle.std.specs.Prelude.{◌≡◌, ◌++◌, ◌∷◌, [], ℕ, All, IfOk, OnOk, drop, length, map, take};
+ghost use Rattle.std.specs.Prelude.{◌≡◌, ◌<◌, ◌≤◌, ◌++◌, ◌∷◌, [], ℕ, All, IfOk, OnOk, Some, drop, length, map, slice_get, take};
 ghost use Rattle.nr_ring.specs.LogHistory.{log_after};
+ghost use Rattle.nr_ring.specs.Pass.{AreApart};
 ghost use Rattle.nr_ring.specs.View.{StartsWith};
-ghost use Rattle.nr_node.specs.Node.{IsNode, applied_of, log_of, taken_by};
+ghost use Rattle.nr_node.specs.Node.{IsNode, applied_of, log_of, replica_of, taken_by};
 ghost use Rattle.nr_replicas.specs.Replicas.{HasHeard};
 ghost use Rattle.nr_replicas.specs.Settled.{IsDumpOf, IsSettled};
 ghost use Rattle.nr_replicas.specs.inside.Replicas.{IsNodeOf};
-ghost use Rattle.nr_replicas.specs.inside.Settling.{AreDumpsOf, HasSeenOwnAdvances, OwnInTurn};
+ghost use Rattle.nr_replicas.specs.inside.Settling.{AreDumpsOf, HasSeenOwnAdvances, OwnRising};
 
 use crate::name::ReplicasName;
 use crate::replicas::Replicas;
@@ -46,53 +47,51 @@ impl<J: LogName, K: ReplicasName> Replicas<J, K> {
             alloc,
             ..
         } = self;
-        let nodes = nodes_of(rt, alloc, shared)?;
+        let nodes = nodes_of(alloc, shared)?;
         let mut calls = calls_of(alloc, &nodes[0])?;
         let (mut others, dumps) = passes_of::<J, K>(alloc, nodes)?;
         let mut first = others.remove(0);
         hear_all(&log, &mut first, &mut others);
         hear_all(&log, &mut first, passes);
         add_rest(rt, &log, &mut first, &mut calls)?;
-        tell_all(&log, &mut first, others);
+        gather_all(&log, first, others);
         Ok((calls, dumps))
     }
 }
 
-/// The nodes of the replicas, by number.
-fn nodes_of<J: LogName, K: ReplicasName, R: Wait>(
-    rt: &R,
+/// The nodes of the replicas, by rising number. Which one lies under which lock no proof knows, since a lock's type knows no number:
+/// so each is asked for its own.
+fn nodes_of<J: LogName, K: ReplicasName>(
     alloc: Global,
     shared: Vec<Shared<J, K>>,
 ) -> Result<Vec<Node<RawArena, J>>, Memory>
     ensures count { IfOk result (λ nodes. length nodes.items ≡ length shared.items) }
     ensures each { IfOk result (λ nodes. All (IsNodeOf K.log K.tables) nodes.items) }
-    ensures in_turn { IfOk result (λ nodes. OwnInTurn 0 (map (λ node. node.known) nodes.items)) }
+    ensures rising { IfOk result (λ nodes. OwnRising 0 (map (λ node. node.known) nodes.items)) }
 {
     let mut nodes = Vec::new(alloc);
     for replica in shared {
-        let node = node_of(rt, nodes.len(), replica);
-        nodes.push(node)?;
+        let Shared { local, slots: _ } = replica;
+        let node = local.into_inner().into_inner().into_node();
+        let place = place_among(&nodes, node.number());
+        nodes.insert(place, node)?;
     }
     Ok(nodes)
 }
 
-/// The node of the replica of this number, which is the one under its lock. No proof knows that, since a lock's type knows no
-/// number: so the node is asked for its own. Were it another's, this would wait for ever.
-fn node_of<J: LogName, K: ReplicasName, R: Wait>(
-    rt: &R,
-    number: usize,
-    replica: Shared<J, K>,
-) -> Node<RawArena, J>
-    ensures node { IsNodeOf K.log K.tables result }
-    ensures owner { result.known.view.owns ≡ number ∷ [] }
+/// Where a node of this number goes among nodes by rising number.
+fn place_among<J: LogName>(nodes: &[Node<RawArena, J>], number: u8) -> usize
+    ensures within { result ≤ length nodes.now }
+    ensures before { All (λ node. replica_of node.known.view ≤ number) (take result nodes.now) }
+    ensures behind { (node : _) → slice_get nodes.now result ≡ Some node
+        → number ≤ replica_of node.known.view }
 {
-    let Shared { local, slots: _ } = replica;
-    let node = local.into_inner().into_inner().into_node();
-    if usize::from(node.number()) == number {
-        return node;
+    for place in 0..nodes.len() {
+        if number < nodes[place].number() {
+            return place;
+        }
     }
-    for _ in rt.forever() {}
-    unreachable!()
+    nodes.len()
 }
 
 /// The call numbers of the entries that a node has applied.
@@ -120,6 +119,8 @@ fn passes_of<J: LogName, K: ReplicasName>(
     requires { All (IsNodeOf K.log K.tables) nodes.items }
     ensures passes { IfOk result (λ all. all.0.items ≡ map (λ node. node.known) nodes.items) }
     ensures count { IfOk result (λ all. length all.1.items ≡ length nodes.items) }
+    ensures below { IfOk result (λ all.
+        All (λ pass. All (λ replica. replica < J.replicas) pass.view.owns) all.0.items) }
     ensures dumps { IfOk result (λ all.
         AreDumpsOf J.depth J.replicas K.tables all.0.items all.1.items) }
 {
@@ -128,7 +129,9 @@ fn passes_of<J: LogName, K: ReplicasName>(
     for node in nodes {
         let dump = dump_of(&node)?;
         dumps.push(dump)?;
-        passes.push(node.into_pass())?;
+        let pass = node.into_pass();
+        pass.has_seen_a_history();
+        passes.push(pass)?;
     }
     Ok((passes, dumps))
 }
@@ -180,13 +183,32 @@ fn add_rest<J: LogName, R: Wait>(
 }
 
 /// Tells passes what the first has seen. Each of them then sees no advance of its own replica there that it had not seen before.
-fn tell_all<J: LogName>(log: &RingLog<J>, first: &mut LogPass<J>, others: Vec<LogPass<J>>)
-    requires log { (first.old.log ≡ log.now) × All (λ pass. pass.log ≡ log.now) others.items }
-    requires begins { All (λ pass. StartsWith first.old.view.seen pass.view.seen) others.items }
+fn tell_all<J: LogName>(log: &RingLog<J>, first: &mut LogPass<J>, others: &mut [LogPass<J>])
+    requires log { (first.old.log ≡ log.now) × All (λ pass. pass.log ≡ log.now) others.old }
+    requires begins { All (λ pass. StartsWith first.old.view.seen pass.view.seen) others.old }
     ensures first { first.new ≡ first.old }
-    ensures taken { All (HasSeenOwnAdvances first.old.view.seen) others.items }
+    ensures count { length others.new ≡ length others.old }
+    ensures log { All (λ pass. pass.log ≡ log.now) others.new }
+    ensures owns { map (λ pass. pass.view.owns) others.new
+        ≡ map (λ pass. pass.view.owns) others.old }
+    ensures taken { All (HasSeenOwnAdvances first.old.view.seen) others.old }
 {
-    for mut other in others {
-        log.meet(first, &mut other);
+    for i in 0..others.len() {
+        log.meet(first, &mut others[i]);
     }
+}
+
+/// Tells passes what the first has seen, and gathers what they own. Each of them then sees no advance of its own replica there that it
+/// had not seen before, and no two own the same replica.
+fn gather_all<J: LogName>(log: &RingLog<J>, first: LogPass<J>, others: Vec<LogPass<J>>)
+    requires log { (first.log ≡ log.now) × All (λ pass. pass.log ≡ log.now) others.items }
+    requires begins { All (λ pass. StartsWith first.view.seen pass.view.seen) others.items }
+    ensures taken { All (HasSeenOwnAdvances first.view.seen) others.items }
+    ensures apart { AreApart first.view.owns (map (λ pass. pass.view.owns) others.items) }
+{
+    let mut first = first;
+    let mut others = others;
+    tell_all(log, &mut first, &mut others);
+    hear_all(log, &mut first, &mut others);
+    log.gather(first, others);
 }

@@ -1,7 +1,8 @@
 /// Why an update was not answered.
 #[derive(Clone, Copy, Debug, PartialEq, Eq)]
 pub enum UpdateFault {
-    /// The thread's slot is not empty: an update of it was ended or stopped before. Nothing was done.
+    /// The thread's slot is not empty: an update of it was ended or stopped before. The pass has looked at the log;
+    /// nothing else was done.
     Occupied,
     /// The log has no room for a batch: its tail is above 65,520. The update of this call may still be placed.
     Ended(u32),

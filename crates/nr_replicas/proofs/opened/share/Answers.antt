@@ -1,4 +1,5 @@
 use Rattle.std.proofs.Common.{◌≡◌, ℕ, List, map, ap, ◌∙◌}
+use Rattle.std.specs.Arc.{arc_value}
 use Rattle.std.proofs.lemmas.List.{map-append}
 use Rattle.nr_replicas.specs.inside.Replicas.{IsNodeOf}
 use Rattle.nr_replicas.proofs.Rests.{first_and_rest, holds_of_more, one_over}
@@ -11,7 +12,7 @@ loop-node-preserved g c =
     let more = c.in_ok-push.ensures.items in (
       of.1,
       one_over c.loop-node.shared.items c.push.new.self.items _ _ _ c.in-Some.node _ more c.in-Some.ensures.steps.0 c.loop-node.invariant.1,
-      holds_of_more (λ (n : ℕ). n ≡ c.args.config.threads) (map (λ (s : _). s.slots) c.loop-node.shared.items) _ _
-          (ap (λ (l : List _). map (λ (s : _). s.slots) l) more ∙ map-append (λ (s : _). s.slots) c.loop-node.shared.items _)
-          c.loop-node.invariant.2 (c.in_ok-slots.ensures ∙ c.threads.ensures.reads),
+      holds_of_more (λ (n : ℕ). n ≡ c.args.config.threads) (map (λ (s : _). arc_value s.slots) c.loop-node.shared.items) _ _
+          (ap (λ (l : List _). map (λ (s : _). arc_value s.slots) l) more ∙ map-append (λ (s : _). arc_value s.slots) c.loop-node.shared.items _)
+          c.loop-node.invariant.2 (c.in_ok-slots.ensures.ok ∙ c.in_ok-new.ensures ∙ c.threads.ensures.reads),
     )

@@ -1,10 +1,10 @@
 use Rattle.std.proofs.Common.{◌≡◌, ◌+◌, All, length, map}
 use Rattle.nr_replicas.specs.inside.Replicas.{IsNodeOf}
-use Rattle.nr_replicas.specs.inside.Settling.{OwnInTurn}
+use Rattle.nr_replicas.specs.inside.Settling.{OwnRising}
 use Rattle.nr_replicas.proofs.settling.nodes_of.Given as goal
 
 abbrev pub invariant-loop-replica : goal.invariant-loop-replica
 invariant-loop-replica g l =
     All (IsNodeOf g.K.ReplicasName.log g.K.ReplicasName.tables) l.nodes.items
     × (length l.nodes.items + length l.replica-iterator.rest.items ≡ length l.fn.shared.items)
-    × OwnInTurn 0 (map (λ node. node.known) l.nodes.items)
+    × OwnRising 0 (map (λ node. node.known) l.nodes.items)

@@ -1,4 +1,4 @@
-use Rattle.std.proofs.Common.{◌≡◌, List, [], ◌∷◌, ◌++◌, length, map, ap, sym, subst, ◌∙◌, arith}
+use Rattle.std.proofs.Common.{◌≡◌, ◌<◌, List, [], ◌∷◌, ◌++◌, All, length, map, ap, sym, subst, ◌∙◌, arith}
 use Rattle.std.proofs.Math.ListN.{length-append}
 use Rattle.std.proofs.lemmas.List.{append_assoc}
 use Rattle.vs_walk.specs.Dump.{Image}
@@ -6,7 +6,7 @@ use Rattle.nr_ring.specs.Pass.{Known}
 use Rattle.nr_node.specs.Node.{NodeState}
 use Rattle.nr_replicas.specs.inside.Replicas.{IsNodeOf}
 use Rattle.nr_replicas.specs.inside.Settling.{AreDumpsOf, HasAppliedOwn}
-use Rattle.nr_replicas.proofs.Rests.{first_and_rest}
+use Rattle.nr_replicas.proofs.Rests.{first_and_rest, holds_of_more}
 use Rattle.nr_replicas.proofs.Settled.{one_dump_more}
 use Rattle.nr_replicas.proofs.settling.passes_of.Goals as goal
 
@@ -26,7 +26,8 @@ loop-node-preserved g c =
     let steps : c.loop-node.node-iterator.rest.items ≡ node ∷ rest = c.in-Some.ensures.steps.0 in
     let each = first_and_rest P _ rest node steps is.0 in
     let one : c.push-in-loop-node.new.self.items ≡ passes ++ node.known ∷ [] =
-    c.in_ok-push-2.ensures.items ∙ ap (λ (k : Known). passes ++ k ∷ []) c.into_pass.ensures.pass in
+    c.in_ok-push-2.ensures.items ∙ ap (λ (k : Known). passes ++ k ∷ []) c.into_pass-pass.ensures.pass in
+    let Below : Known → Type 0 = λ pass. All (λ replica. replica < replicas) pass.view.owns in
     let Dumps : List Known → List Image → Type 0 = λ p d. AreDumpsOf depth replicas tables p d in
     let applied : HasAppliedOwn replicas node.known dump = c.in_ok-dump.ensures.applied in
     let now = one_dump_more depth replicas tables passes dumps node dump is.3 each.0.tables_are c.in_ok-dump.ensures.dump applied in (
@@ -45,4 +46,5 @@ loop-node-preserved g c =
       ),
       subst (λ (p : List Known). Dumps p c.push.new.self.items) (sym one)
           (subst (λ (d : List Image). Dumps (passes ++ node.known ∷ []) d) (sym c.in_ok-push.ensures.items) now),
+      holds_of_more Below passes c.push-in-loop-node.new.self.items node.known one is.4 (subst Below c.into_pass-pass.ensures.pass c.has_seen_a_history.ensures.owns),
     )

@@ -1,11 +1,11 @@
-use Rattle.std.proofs.Common.{◌≡◌, All}
-use Rattle.nr_ring.specs.View.{StartsWith}
+use Rattle.std.proofs.Common.{◌≡◌, ℕ, ◌≤◌, All, length, map, take, get_or}
+use Rattle.nr_ring.specs.Pass.{Known}
 use Rattle.nr_replicas.specs.inside.Settling.{HasSeenOwnAdvances}
 use Rattle.nr_replicas.proofs.settling.tell_all.Given as goal
 
--- where all that is left holds of the rest, it holds of all
-abbrev pub invariant-loop-other : goal.invariant-loop-other
-invariant-loop-other g l = (l.first ≡ l.fn.first) × All (λ pass. pass.log ≡ l.log) l.other-iterator.rest.items
-    × All (λ pass. StartsWith l.fn.first.view.seen pass.view.seen) l.other-iterator.rest.items
-    × (All (HasSeenOwnAdvances l.fn.first.view.seen) l.other-iterator.rest.items
-    → All (HasSeenOwnAdvances l.fn.first.view.seen) l.fn.others.items)
+-- those from i on are as they were
+abbrev pub invariant-loop-i : goal.invariant-loop-i
+invariant-loop-i g l = (l.first ≡ l.fn.first) × (length l.others ≡ length l.fn.others) × All (λ pass. pass.log ≡ l.log) l.others
+    × (map (λ pass. pass.view.owns) l.others ≡ map (λ pass. pass.view.owns) l.fn.others)
+    × ((k : ℕ) (d : Known) → l.i ≤ k → get_or l.others k d ≡ get_or l.fn.others k d)
+    × All (HasSeenOwnAdvances l.fn.first.view.seen) (take l.i l.fn.others)

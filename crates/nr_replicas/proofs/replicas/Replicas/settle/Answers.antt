@@ -1,10 +1,12 @@
-use Rattle.std.proofs.Common.{◌≡◌, ◌<◌, All, length, ap, sym, subst, ◌∙◌, arith}
+use Rattle.std.proofs.Common.{◌≡◌, ◌<◌, ℕ, List, All, length, map, ap, sym, subst, ◌∙◌, arith}
+use Rattle.std.specs.Arc.{arc_value}
 use Rattle.std.proofs.lemmas.List.{length-map}
-use Rattle.nr_ring.specs.Pass.{Known}
+use Rattle.nr_ring.specs.Pass.{AreApart, Known}
 use Rattle.nr_ring.specs.View.{StartsWith}
 use Rattle.nr_replicas.specs.Replicas.{HasHeard}
-use Rattle.nr_replicas.specs.inside.Settling.{HasSeenOwnAdvances, OwnInTurn}
+use Rattle.nr_replicas.specs.inside.Settling.{HasSeenOwnAdvances, OwnInTurn, OwnRising}
 use Rattle.nr_replicas.proofs.Hearing.{heard_twice}
+use Rattle.nr_replicas.proofs.Numbers.{AreBelow, own_in_turn}
 use Rattle.nr_replicas.proofs.Rests.{first_and_rest, written_back}
 use Rattle.nr_replicas.proofs.Settled.{all_begin_later, all_of_log, first_known, settled}
 use Rattle.nr_replicas.proofs.replicas.Replicas.settle.Goals as goal
@@ -17,7 +19,7 @@ hear_all-requires g c =
     let node = c.index.result.now in
     let shared = c.self.inside.shared.items in
     let many : 0 < length nodes =
-    omega (arith, c.in_ok-nodes.ensures.count, length-map shared (λ (s : _). s.slots), c.self.invariant.1.count, c.self.invariant.1.some) in
+    omega (arith, c.in_ok-nodes.ensures.count, length-map shared (λ (s : _). arc_value s.slots), c.self.invariant.1.count, c.self.invariant.1.some) in
     let split = first_known nodes passes others node c.remove-first.result many c.in_ok-others.ensures.passes c.index.ensures c.remove-first.ensures.value
     c.remove-first.ensures.items in
     let Of : Known → Type 0 = λ pass. pass.log ≡ g.K.ReplicasName.log in
@@ -35,7 +37,7 @@ hear_all-requires-2 g c =
     let node = c.index.result.now in
     let shared = c.self.inside.shared.items in
     let many : 0 < length nodes =
-    omega (arith, c.in_ok-nodes.ensures.count, length-map shared (λ (s : _). s.slots), c.self.invariant.1.count, c.self.invariant.1.some) in
+    omega (arith, c.in_ok-nodes.ensures.count, length-map shared (λ (s : _). arc_value s.slots), c.self.invariant.1.count, c.self.invariant.1.some) in
     let split = first_known nodes passes others node c.remove-first.result many c.in_ok-others.ensures.passes c.index.ensures c.remove-first.ensures.value
     c.remove-first.ensures.items in
     let Of : Known → Type 0 = λ pass. pass.log ≡ g.K.ReplicasName.log in
@@ -52,7 +54,7 @@ add_rest-requires-clause-log g c =
     let node = c.index.result.now in
     let shared = c.self.inside.shared.items in
     let many : 0 < length nodes =
-    omega (arith, c.in_ok-nodes.ensures.count, length-map shared (λ (s : _). s.slots), c.self.invariant.1.count, c.self.invariant.1.some) in
+    omega (arith, c.in_ok-nodes.ensures.count, length-map shared (λ (s : _). arc_value s.slots), c.self.invariant.1.count, c.self.invariant.1.some) in
     let split = first_known nodes passes others node c.remove-first.result many c.in_ok-others.ensures.passes c.index.ensures c.remove-first.ensures.value
     c.remove-first.ensures.items in
     let Of : Known → Type 0 = λ pass. pass.log ≡ g.K.ReplicasName.log in
@@ -61,15 +63,15 @@ add_rest-requires-clause-log g c =
     let first : c.remove-first.result.log ≡ c.self.inside.log = ap (λ (k : Known). k.log) split.0 ∙ own ∙ sym c.self.invariant.0 in
     c.hear_all-2.ensures.log ∙ c.hear_all.ensures.log ∙ first
 
-pub tell_all-requires-clause-log : goal.tell_all-requires-clause-log
-tell_all-requires-clause-log g c =
+pub gather_all-requires-clause-log : goal.gather_all-requires-clause-log
+gather_all-requires-clause-log g c =
     let nodes = c.in_ok-nodes.nodes.items in
     let passes = c.in_ok-others.others.items in
     let others = c.remove-first.new.self.items in
     let node = c.index.result.now in
     let shared = c.self.inside.shared.items in
     let many : 0 < length nodes =
-    omega (arith, c.in_ok-nodes.ensures.count, length-map shared (λ (s : _). s.slots), c.self.invariant.1.count, c.self.invariant.1.some) in
+    omega (arith, c.in_ok-nodes.ensures.count, length-map shared (λ (s : _). arc_value s.slots), c.self.invariant.1.count, c.self.invariant.1.some) in
     let split = first_known nodes passes others node c.remove-first.result many c.in_ok-others.ensures.passes c.index.ensures c.remove-first.ensures.value
     c.remove-first.ensures.items in
     let Of : Known → Type 0 = λ pass. pass.log ≡ g.K.ReplicasName.log in
@@ -82,8 +84,8 @@ tell_all-requires-clause-log g c =
     c.remove-first.new.self.ok.0 in
     (c.add_rest.ensures.log ∙ c.hear_all-2.ensures.log ∙ c.hear_all.ensures.log ∙ first, subst (All Here) (sym back) rest)
 
-pub tell_all-requires-clause-begins : goal.tell_all-requires-clause-begins
-tell_all-requires-clause-begins g c =
+pub gather_all-requires-clause-begins : goal.gather_all-requires-clause-begins
+gather_all-requires-clause-begins g c =
     let depth = g.J.LogName.depth in
     let replicas = g.J.LogName.replicas in
     let others = c.remove-first.new.self.items in
@@ -109,7 +111,7 @@ returns-clause-settled g c =
     let node = c.index.result.now in
     let shared = c.self.inside.shared.items in
     let many : 0 < length nodes =
-    omega (arith, c.in_ok-nodes.ensures.count, length-map shared (λ (s : _). s.slots), c.self.invariant.1.count, c.self.invariant.1.some) in
+    omega (arith, c.in_ok-nodes.ensures.count, length-map shared (λ (s : _). arc_value s.slots), c.self.invariant.1.count, c.self.invariant.1.some) in
     let split = first_known nodes passes others node c.remove-first.result many c.in_ok-others.ensures.passes c.index.ensures c.remove-first.ensures.value
     c.remove-first.ensures.items in
     let a = c.hear_all.new.first.view in
@@ -120,12 +122,21 @@ returns-clause-settled g c =
     let Begins : Known → Type 0 = λ pass. StartsWith a.seen pass.view.seen in
     let begins : All Begins others = subst (All Begins) c.deref_mut.ensures.value c.hear_all.ensures.begins in
     let count : length c.in_ok-others.dumps.items ≡ replicas =
-    c.in_ok-others.ensures.count ∙ c.in_ok-nodes.ensures.count ∙ sym (length-map shared (λ (s : _). s.slots)) ∙ c.self.invariant.1.count
+    c.in_ok-others.ensures.count ∙ c.in_ok-nodes.ensures.count ∙ sym (length-map shared (λ (s : _). arc_value s.slots)) ∙ c.self.invariant.1.count
     ∙ c.self.invariant.1.replicas_are in
     let back = written_back c.remove-first.new.self.len c.hear_all.new.passes others (c.hear_all.ensures.passes ∙ c.deref_mut.ensures.value)
     c.remove-first.new.self.ok.0 in
-    let own_advances = subst (All (HasSeenOwnAdvances last.seen)) back c.tell_all.ensures.taken in
-    let own : OwnInTurn 0 passes = subst (OwnInTurn 0) (sym c.in_ok-others.ensures.passes) c.in_ok-nodes.ensures.in_turn in
+    let own_advances = subst (All (HasSeenOwnAdvances last.seen)) back c.gather_all.ensures.taken in
+    let owns = c.in_ok-add_rest.ensures.heard.owns ∙ c.hear_all-2.ensures.heard.owns ∙ c.hear_all.ensures.heard.owns ∙ ap (λ (k : Known). k.view.owns) split.0 in
+    let Apart : List Known → Type 0 = λ l. AreApart last.owns (map (λ (p : Known). p.view.owns) l) in
+    let Owned : List ℕ → Type 0 = λ l. AreApart l (map (λ (p : Known). p.view.owns) others) in
+    let apart = subst Owned owns (subst Apart back c.gather_all.ensures.apart) in
+    let Rising : List Known → Type 0 = OwnRising 0 in
+    let rising = subst Rising (sym c.in_ok-others.ensures.passes ∙ split.1) c.in_ok-nodes.ensures.rising in
+    let below = subst (AreBelow replicas) split.1 c.in_ok-others.ensures.below in
+    let all = ap (λ (l : List Known). length l) (sym split.1 ∙ c.in_ok-others.ensures.passes) ∙ length-map nodes (λ (n : _). n.known) ∙ sym c.in_ok-others.ensures.count ∙ count in
+    let Turn : List Known → Type 0 = OwnInTurn 0 in
+    let own : OwnInTurn 0 passes = subst Turn (sym split.1) (own_in_turn replicas node.known others rising apart below all) in
     settled depth replicas tables c.args.passes.now passes others node c.in_ok-others.dumps.items c.in_ok-calls.calls.items c.add_rest.new.calls.items a b last
     c.in_ok-calls.ensures.is_node split.1 heard begins c.hear_all-2.ensures.heard c.hear_all-2.ensures.begins c.in_ok-add_rest.ensures.heard
     c.in_ok-others.ensures.dumps own count c.in_ok-calls.ensures.calls c.in_ok-add_rest.ensures.rest
