@@ -26,9 +26,11 @@ enum Call {
     AdvanceAfterAnother,
     Tell,
     BeTold,
+    Take,
+    AppendSome,
 }
 
-static CALLS: [Call; 8] = [
+static CALLS: [Call; 10] = [
     Call::Look,
     Call::Fetch,
     Call::Append,
@@ -37,6 +39,8 @@ static CALLS: [Call; 8] = [
     Call::AdvanceAfterAnother,
     Call::Tell,
     Call::BeTold,
+    Call::Take,
+    Call::AppendSome,
 ];
 
 /// Looks, and is to see these tails.
@@ -80,8 +84,25 @@ fn has_taken<N: LogName, K: OfLog, R: Wait + Abort>(
     tails.completed = tail;
 }
 
-/// Fetches, and is to get all entries that its replica has still to take.
-fn fetch<N: LogName, K: OfLog, R: Wait + Abort>(rt: &R, party: &mut Party<N, K>, tails: &Tails) {
+/// Appends 2 to 15 entries at once, of which the call is the first one's place.
+fn append_some<N: LogName, K: OfLog, R: Wait + Abort>(
+    rt: &R,
+    party: &mut Party<N, K>,
+    tails: &mut Tails,
+) {
+    let place = tails.tail;
+    let count = 2 + place % 14;
+    assert!(rt; party.append_some(rt, count as usize, place) == Ok(place));
+    tails.tail = place.saturating_add(count);
+}
+
+/// Fetches, or takes in one exchange, and is to get all entries that its replica has still to take.
+fn get<N: LogName, K: OfLog, R: Wait + Abort>(
+    rt: &R,
+    party: &mut Party<N, K>,
+    tails: &Tails,
+    takes: bool,
+) {
     let Some(replica) = party.replica() else {
         return;
     };
@@ -93,7 +114,14 @@ fn fetch<N: LogName, K: OfLog, R: Wait + Abort>(rt: &R, party: &mut Party<N, K>,
     for at in 0..16 {
         calls[at] = local.saturating_add(at as u32);
     }
-    assert!(rt; party.fetches(rt, &calls[..count as usize]));
+    let calls = &calls[..count as usize];
+    assert!(rt;
+        if takes {
+            party.takes(rt, calls)
+        } else {
+            party.fetches(rt, calls)
+        }
+    );
 }
 
 /// The other makes its call, after the first has made an event.
@@ -106,7 +134,7 @@ fn make_call<'a, N: LogName, K: OfLog, R: Wait + Abort>(
 ) {
     match call {
         Call::Look => look(rt, other, tails),
-        Call::Fetch => fetch(rt, other, tails),
+        Call::Fetch => get(rt, other, tails, false),
         Call::Append => append(rt, other, tails),
         Call::AppendFull => {
             let full = AppendFault::Full(*tails);
@@ -139,6 +167,11 @@ fn make_call<'a, N: LogName, K: OfLog, R: Wait + Abort>(
             look(rt, other, tails);
             append(rt, first, tails);
         }
+        Call::Take => {
+            get(rt, other, tails, true);
+            has_taken(rt, other, tails);
+        }
+        Call::AppendSome => append_some(rt, other, tails),
     }
     look(rt, other, tails);
     look(rt, first, tails);
@@ -196,10 +229,29 @@ fn all_calls<'a, N: LogName, K: OfLog, R: Wait + Abort>(
     }
 }
 
-/// Each party makes each event, and each of the others each call after it.
+/// The first party appends so many batches of 16 entries, and all replicas take each.
+fn append_batches<'a, N: LogName, K: OfLog, R: Wait + Abort>(
+    rt: &R,
+    parties: &mut [Party<'a, N, K>],
+    count: u32,
+    tails: &mut Tails,
+) {
+    for _ in 0..count {
+        let place = tails.tail;
+        let first = parties.first_mut().expect(rt, "a party");
+        assert!(rt; first.append_all(rt, place) == Ok(place));
+        tails.tail = place.saturating_add(16);
+        for party in parties.iter_mut() {
+            advance(rt, party, tails);
+        }
+    }
+}
+
+/// Each party makes each event, and each of the others each call after it, where the log has so many batches of 16 entries before.
 pub fn each_call<'a, N: LogName, K: OfLog, R: Wait + Abort>(
     rt: &R,
     parties: Vec<Party<'a, N, K>>,
+    batches: u32,
 ) -> Result<(), Fail> {
     let mut all = parties;
     let mut tails = Tails {
@@ -207,6 +259,7 @@ pub fn each_call<'a, N: LogName, K: OfLog, R: Wait + Abort>(
         completed: 0,
         local: [0; 4],
     };
+    append_batches(rt, all.as_mut_slice(), batches, &mut tails);
     for _ in 0..8 {
         assert!(rt; all.len() > 0);
         let mut first = all.remove(0);
@@ -218,7 +271,11 @@ pub fn each_call<'a, N: LogName, K: OfLog, R: Wait + Abort>(
     Ok(())
 }
 
+/// At the log's beginning, past its place 20,000, and towards its end.
 #[test]
 fn each_call_after_each_event(rt: HostRuntime) -> Result<(), Fail> {
-    run(&rt, rt.alloc(), OF_FOUR, Test::EachCall)
+    for batches in [0, 1_250, 3_750] {
+        run(&rt, rt.alloc(), OF_FOUR, Test::EachCall(batches))?;
+    }
+    Ok(())
 }

@@ -28,8 +28,8 @@ pub enum Test<'s> {
     Fill,
     /// They append batches of each size, and take them.
     Batches,
-    /// Each makes each call after each event of another.
-    EachCall,
+    /// Each makes each call after each event of another, where so many batches of 16 entries stand in the log.
+    EachCall(u32),
     /// They make calls at the same time, and no look is old.
     Rounds,
     /// The same, in short rounds.
@@ -125,7 +125,7 @@ fn make_calls<N: LogName + Send + Sync, K: OfLog + Send + Sync, R: Wait + Abort 
         Test::Steps(steps) => take_all(rt, parties, steps),
         Test::Fill => fill(rt, parties),
         Test::Batches => append_each_size(rt, parties),
-        Test::EachCall => each_call(rt, parties),
+        Test::EachCall(batches) => each_call(rt, parties, batches),
         Test::Rounds => run_rounds(rt, alloc, parties),
         Test::Races => run_races(rt, alloc, parties),
         Test::Share => share(rt, alloc, parties),
