@@ -23,6 +23,8 @@ mod scene;
 #[cfg(test)]
 mod slots;
 #[cfg(test)]
+mod slots_threads;
+#[cfg(test)]
 mod start;
 #[cfg(test)]
 mod steps;

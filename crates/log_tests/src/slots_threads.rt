@@ -1,0 +1,124 @@
+//! Threads that post, and one that answers, at the same time.
+ghost use Rattle.std.specs.Prelude.{◌≡◌};
+ghost use Rattle.log_tests.specs.declared.slots_threads.TheConstants.{POSTERS};
+
+use arrayvec::ArrayVec;
+use crossbeam_utils::Backoff;
+use nr_slots::{Answered, Slots};
+use std::process::Abort;
+use std::sync::Wait;
+use std::test::Fail;
+use std::thread;
+use vs_types::{Answer, CALLS, Depth, Op};
+
+/// How many threads post.
+const POSTERS: u16 = 2;
+
+/// How many updates each of them posts.
+const ROUNDS: u32 = 5_000;
+
+/// A slot for each thread that posts.
+#[derive(Drop)]
+struct Shared {
+    slots: Slots,
+    ghost each: { slots ≡ POSTERS },
+}
+
+/// What a thread posts in a round, and what it is answered: it unmaps a page of its own, which is not mapped.
+fn update_of(rt: &impl Abort, thread: u16, round: u32) -> Answered {
+    let base = 0x1000 * (u64::from(thread) + 1);
+    Answered {
+        thread,
+        call: round,
+        op: Op::unmap(Depth::Four, base).expect(rt, "an unmap"),
+        place: 65_535u32.saturating_sub(round),
+        answer: Answer::Full(u64::from(round) + 1),
+    }
+}
+
+impl Shared {
+    /// Posts into its slot, which is empty.
+    fn post<R: Wait + Abort>(&self, rt: &R, update: Answered) {
+        assert!(rt; update.thread < POSTERS && update.call < CALLS);
+        let posted = self.slots.post(rt, update.thread, update.call, update.op);
+        assert_eq!(rt; posted, Ok(()));
+    }
+
+    /// Waits for the answer.
+    fn wait<R: Wait + Abort>(&self, rt: &R, thread: u16) -> Answered {
+        assert!(rt; thread < POSTERS);
+        let backoff = Backoff::new();
+        for _ in rt.forever() {
+            if let Some(answered) = self.slots.poll(rt, thread) {
+                return answered;
+            }
+            backoff.snooze();
+        }
+        unreachable!()
+    }
+
+    /// Posts in each round, and is answered that update before the next.
+    fn post_all<R: Wait + Abort>(&self, rt: &R, thread: u16) {
+        for round in 0..ROUNDS {
+            let update = update_of(rt, thread, round);
+            self.post(rt, update);
+            assert_eq!(rt; self.wait(rt, thread), update);
+        }
+    }
+
+    /// Answers the update of a round, which was collected, and can't do so again.
+    fn answer<R: Wait + Abort>(&self, rt: &R, thread: u16, round: u32) {
+        let answered = self.slots.answer(rt, update_of(rt, thread, round));
+        let again = self.slots.answer(rt, update_of(rt, thread, round));
+        assert!(rt; answered.is_ok() && again.is_err());
+    }
+
+    /// Collects what was posted, and answers it: of each thread the update of the round that comes next.
+    fn answer_some<R: Wait + Abort>(&self, rt: &R, rounds: &mut [u32; 2]) {
+        let mut batch = ArrayVec::new();
+        self.slots.collect(rt, &mut batch);
+        for waiting in batch.as_slice() {
+            assert!(rt; waiting.thread < POSTERS);
+            let thread = usize::from(waiting.thread);
+            let round = rounds[thread];
+            let update = update_of(rt, waiting.thread, round);
+            let is_next = waiting.call == update.call && waiting.op == update.op;
+            assert!(rt; is_next);
+            self.answer(rt, waiting.thread, round);
+            rounds[thread] = round.saturating_add(1);
+        }
+    }
+
+    /// Collects, without a rest, until it has answered all.
+    fn answer_all<R: Wait + Abort>(&self, rt: &R) {
+        let mut rounds = [0; 2];
+        for _ in rt.forever() {
+            self.answer_some(rt, &mut rounds);
+            if rounds == [ROUNDS; 2] {
+                return;
+            }
+        }
+        unreachable!()
+    }
+}
+
+/// No update is lost, answered twice or refused: a slot that is empty takes one, also where the thread that collects has its lock.
+#[test]
+fn two_threads_post(rt: HostRuntime) -> Result<(), Fail> {
+    let shared = Shared {
+        slots: Slots::new(rt.alloc(), POSTERS)?,
+    };
+    let threads = vec![in rt.alloc(); 0u16, 1, POSTERS]?;
+    thread::map_vec(
+        &rt,
+        threads,
+        &|thread: u16| {
+            if thread < POSTERS {
+                shared.post_all(&rt, thread);
+            } else {
+                shared.answer_all(&rt);
+            }
+        },
+    )?;
+    Ok(())
+}
