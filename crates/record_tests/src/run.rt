@@ -1,6 +1,7 @@
-ghost use Rattle.std.specs.Prelude.{◌≡◌, [], ◌∷◌, IfOk};
+ghost use Rattle.std.specs.Prelude.{◌≡◌, ◌≤◌, [], ◌∷◌, IfOk};
 ghost use Rattle.std.specs.FinMap as finite;
 ghost use Rattle.vs_types.specs.Query.{IsQuery};
+ghost use Rattle.vs_types.specs.declared.limits.TheConstants.{LOG_PLACES};
 ghost use Rattle.nr_record.specs.Pen.{AreAllPens, new_pen};
 
 use nr_record::{Clock, Pen, finish, pens};
@@ -51,15 +52,16 @@ fn map(rt: &impl Abort) -> Request
     request
 }
 
-/// A clock and its only pen, for one call.
-fn one_pen(alloc: Global, config: Config) -> Result<(Clock, Pen), Memory>
-    requires { config.threads ≡ 1 }
+/// A clock and its only pen, for so many calls.
+pub fn one_pen(alloc: Global, config: Config, quota: u32) -> Result<(Clock, Pen), Memory>
+    requires threads { config.threads ≡ 1 }
+    requires quota { quota ≤ LOG_PLACES }
     ensures layout { IfOk result (λ made. made.0.layout ≡ config) }
     ensures threads { IfOk result (λ made. made.0.layout.threads ≡ 1) }
-    ensures calls { IfOk result (λ made. made.0.calls ≡ 1) }
-    ensures pen { IfOk result (λ made. made.1 ≡ new_pen made.0 0 1) }
+    ensures calls { IfOk result (λ made. made.0.calls ≡ quota) }
+    ensures pen { IfOk result (λ made. made.1 ≡ new_pen made.0 0 quota) }
 {
-    let (clock, mut pens) = pens(alloc, config, &[1])?;
+    let (clock, mut pens) = pens(alloc, config, &[quota])?;
     Ok((clock, pens.remove(0)))
 }
 
@@ -146,7 +148,7 @@ fn version_of(
 ) -> Result<Version, Memory> {
     assert!(rt; request.fits(depth));
     let config = Config::new(depth, 1, 1, 1).expect(rt, "a configuration");
-    let (clock, mut pen) = one_pen(alloc, config)?;
+    let (clock, mut pen) = one_pen(alloc, config, 1)?;
     pen.call(&clock, request);
     pen.reply(&clock, 0, answer);
     let pens = vec![in alloc; pen]?;
@@ -181,23 +183,5 @@ fn least_version_of_a_run(rt: HostRuntime) -> Result<(), Fail> {
         version_of(&rt, alloc, Depth::Five, resolve, none)?,
         Version::V2
     );
-    Ok(())
-}
-
-/// A call and its reply take no memory: `tests/programs` counts as many growths here as in `pen_without_calls`.
-#[test]
-fn pen_of_one_call(rt: HostRuntime) -> Result<(), Fail> {
-    let config = Config::new(Depth::Four, 1, 1, 1).expect(&rt, "a configuration");
-    let resolve = resolve(&rt);
-    let (clock, mut pen) = one_pen(rt.alloc(), config)?;
-    assert_eq!(rt; pen.call(&clock, resolve), 0);
-    assert_eq!(rt; pen.reply(&clock, 0, Answer::NotMapped), 1);
-    Ok(())
-}
-
-#[test]
-fn pen_without_calls(rt: HostRuntime) -> Result<(), Fail> {
-    let config = Config::new(Depth::Four, 1, 1, 1).expect(&rt, "a configuration");
-    one_pen(rt.alloc(), config)?;
     Ok(())
 }
