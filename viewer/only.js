@@ -30,6 +30,7 @@ function showOnly(text) {
   space.drawn = false;
   showAfter(space.after);
   if (picture.selected >= 0 && !isShown(picture.selected)) picture.selected = -1;
+  if (run.shown && axis.length * LEAST_EVENT < $("run").clientWidth - picture.labels) return showAll();
   if (run.shown || picture.selected < 0) return showMarked();
   show(fold(picture.selected) - 20, fold(picture.selected) + 40);
   reveal(picture.selected);
@@ -49,7 +50,7 @@ function isFarApart() {
   return spots.length > 0 && (Math.max(...spots) - Math.min(...spots) > FAR || layOut().stuck);
 }
 
-const FAR = 100;
+const FAR = 100, LEAST_EVENT = 24;                  // events; pixels of one, for all that is left to be shown at once
 
 /** An address that shows its calls alone by a click, and in a dump where it leads. */
 function addressButton(text, only) {
