@@ -117,9 +117,12 @@ static void *work(void *which)
 		has_to_fault(at + page, 0, "a read of a page without rights");
 		mprotect(at + page, 8 * PAGE, READ_WRITE);
 		touch(at, 32 * PAGE);
-		munmap(at + page, 4 * PAGE);
-		madvise(at, page ? page : PAGE, MADV_DONTNEED);
-		munmap(at, 32 * PAGE);
+		munmap(at + page, 4 * PAGE); /* from here on that may be another thread's */
+		if (page) {
+			madvise(at, page, MADV_DONTNEED);
+			munmap(at, page);
+		}
+		munmap(at + page + 4 * PAGE, 28 * PAGE - page);
 	}
 	return NULL;
 }
