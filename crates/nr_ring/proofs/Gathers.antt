@@ -122,7 +122,8 @@ existing_recalls depth replicas passes pass v words x views kept at = (
   (
     λ e.
         let idle = kept.makers_right pass v at (ap (λ (z : View). z.rights) e) in
-        let none : length {A = ℕ} (0 ∷ []) ≡ length {A = ℕ} [] = ap (λ (l : List ℕ). length l) (sym (ap (λ (z : View). z.mine) e) ∙ idle) in absurd (omega (arith, none)),
+        let none : length {A = ℕ} (0 ∷ []) ≡ length {A = ℕ} [] =
+        ap (λ (l : List ℕ). length l) (sym (ap (λ (z : View). z.mine) e) ∙ idle) in absurd (omega (arith, none)),
     refl,
   ),
 )

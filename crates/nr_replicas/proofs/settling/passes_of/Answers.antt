@@ -46,5 +46,6 @@ loop-node-preserved g c =
       ),
       subst (λ (p : List Known). Dumps p c.push.new.self.items) (sym one)
           (subst (λ (d : List Image). Dumps (passes ++ node.known ∷ []) d) (sym c.in_ok-push.ensures.items) now),
-      holds_of_more Below passes c.push-in-loop-node.new.self.items node.known one is.4 (subst Below c.into_pass-pass.ensures.pass c.has_seen_a_history.ensures.owns),
+      holds_of_more Below passes c.push-in-loop-node.new.self.items node.known one is.4
+          (subst Below c.into_pass-pass.ensures.pass c.has_seen_a_history.ensures.owns),
     )

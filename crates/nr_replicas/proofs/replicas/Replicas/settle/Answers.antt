@@ -127,14 +127,16 @@ returns-clause-settled g c =
     let back = written_back c.remove-first.new.self.len c.hear_all.new.passes others (c.hear_all.ensures.passes ∙ c.deref_mut.ensures.value)
     c.remove-first.new.self.ok.0 in
     let own_advances = subst (All (HasSeenOwnAdvances last.seen)) back c.gather_all.ensures.taken in
-    let owns = c.in_ok-add_rest.ensures.heard.owns ∙ c.hear_all-2.ensures.heard.owns ∙ c.hear_all.ensures.heard.owns ∙ ap (λ (k : Known). k.view.owns) split.0 in
+    let owns = c.in_ok-add_rest.ensures.heard.owns ∙ c.hear_all-2.ensures.heard.owns ∙ c.hear_all.ensures.heard.owns
+    ∙ ap (λ (k : Known). k.view.owns) split.0 in
     let Apart : List Known → Type 0 = λ l. AreApart last.owns (map (λ (p : Known). p.view.owns) l) in
     let Owned : List ℕ → Type 0 = λ l. AreApart l (map (λ (p : Known). p.view.owns) others) in
     let apart = subst Owned owns (subst Apart back c.gather_all.ensures.apart) in
     let Rising : List Known → Type 0 = OwnRising 0 in
     let rising = subst Rising (sym c.in_ok-others.ensures.passes ∙ split.1) c.in_ok-nodes.ensures.rising in
     let below = subst (AreBelow replicas) split.1 c.in_ok-others.ensures.below in
-    let all = ap (λ (l : List Known). length l) (sym split.1 ∙ c.in_ok-others.ensures.passes) ∙ length-map nodes (λ (n : _). n.known) ∙ sym c.in_ok-others.ensures.count ∙ count in
+    let all = ap (λ (l : List Known). length l) (sym split.1 ∙ c.in_ok-others.ensures.passes) ∙ length-map nodes (λ (n : _). n.known)
+    ∙ sym c.in_ok-others.ensures.count ∙ count in
     let Turn : List Known → Type 0 = OwnInTurn 0 in
     let own : OwnInTurn 0 passes = subst Turn (sym split.1) (own_in_turn replicas node.known others rising apart below all) in
     settled depth replicas tables c.args.passes.now passes others node c.in_ok-others.dumps.items c.in_ok-calls.calls.items c.add_rest.new.calls.items a b last
