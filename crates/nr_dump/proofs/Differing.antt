@@ -12,7 +12,8 @@ use Rattle.vs_types.specs.declared.page.Page.{Page}
 use Rattle.vs_types.proofs.Lists.{Contains-head, Contains-tail, Contains-cases, not_in_nil, find_found}
 use Rattle.vs_types.proofs.Pages.{covers_means, covers_base, same_page}
 use Rattle.vs_walk.specs.Differences.{IsLeast}
-use Rattle.vs_walk.specs.Laws.{page_covering, as_found}
+use Rattle.vs_types.specs.Space.{page_covering}
+use Rattle.vs_walk.specs.Laws.{as_found}
 use Rattle.vs_walk.proofs.LawsOfSpaces.{ArePages, rises_first, rises_rest}
 use Rattle.nr_dump.specs.inside.Comparing.{HeadsDiffer}
 

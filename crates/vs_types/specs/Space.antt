@@ -29,9 +29,13 @@ pub record IsSpace (depth : Depth) (space : Space) : Type 0 where
   pub well_formed : (page : Page) → Holds space page → IsPage depth page
   pub apart : (p q : Page) (address : ℕ) → Holds space p → Holds space q → IsTrue (covers p address) → IsTrue (covers q address) → p ≡ q
 
--- the page that covers an address
+-- the page that covers an address, of some pages
+abbrev pub page_covering : ℕ → List Page → Option Page
+page_covering address = find (λ page. covers page address)
+
+-- the page of a space that covers an address
 abbrev pub page_at : Space → ℕ → Option Page
-page_at space address = find (λ page. covers page address) (pages space)
+page_at space address = page_covering address (pages space)
 
 -- the least of some numbers
 abbrev pub least : List ℕ → Option ℕ

@@ -11,7 +11,7 @@ use Rattle.std.proofs.lemmas.List.Elements.{All-nil, All-cons, All-head, All-tai
 use lib.Dec.{T}
 use Rattle.vs_types.specs.Depth.{IsCanonical}
 use Rattle.vs_types.specs.Page.{bytes_of, covers, IsPageBelow}
-use Rattle.vs_types.specs.Space.{Space, pages, IsSpace, page_at}
+use Rattle.vs_types.specs.Space.{Space, pages, IsSpace, page_at, page_covering}
 use Rattle.vs_types.specs.Step.{look}
 use Rattle.vs_types.specs.declared.depth.Depth.{Depth}
 use Rattle.vs_types.specs.declared.page.Page.{Page}
@@ -21,7 +21,7 @@ use Rattle.vs_types.proofs.Spaces.{same_key, is_true, both_true, below_key, hold
 use Rattle.vs_walk.specs.Memory.{Memory, AreWhole}
 use Rattle.vs_walk.specs.Walk.{as_walk, TranslatesAs}
 use Rattle.vs_walk.specs.Traversal.{traversal, found, walk_fault}
-use Rattle.vs_walk.specs.Laws.{page_covering, as_found}
+use Rattle.vs_walk.specs.Laws.{as_found}
 use Rattle.vs_walk.specs.declared.walk.WalkFault.{WalkFault}
 use Rattle.vs_walk.specs.declared.walk.WalkFault.TheVariants as faults
 use Rattle.vs_walk.proofs.LawsOfTranslations.{not_reserved, not_missing}
@@ -174,16 +174,11 @@ space_pages {depth} {space} is = record {
 
 -- ---- memories and spaces
 
-as_looked : (space : Space) (address : ℕ) (at : Option Page) → page_at space address ≡ at → as_walk (look space address) ≡ as_found address at
-as_looked space address None e = rw e refl
-as_looked space address (Some page) e = rw e refl
-
 pub found_translates : (depth : Depth) (memory : Memory) (root : ℕ) (space : Space) → AreWhole memory → walk_fault depth memory root ≡ None
     → found (traversal depth memory root) ≡ pages space → TranslatesAs depth memory root space
 found_translates depth memory root space whole none same address canonical =
     faultless_walk depth memory root address whole canonical none
     ∙ ap (λ ps. as_found address (page_covering address ps)) same
-    ∙ sym (as_looked space address (page_at space address) refl)
 
 found_well : (address : ℕ) (page : Option Page) → unfaulted (as_found address page) ≡ as_found address page
 found_well address None = refl
@@ -194,7 +189,7 @@ pub translates_found : (depth : Depth) (memory : Memory) (root : ℕ) (space : S
 translates_found depth memory root space whole is translates =
     same_pages (found_are_pages depth memory root whole) (space_pages is) (λ address canonical.
     sym (walk_is_found depth memory root address whole canonical)
-    ∙ ap unfaulted (translates address canonical ∙ as_looked space address (page_at space address) refl)
+    ∙ ap unfaulted (translates address canonical)
     ∙ found_well address (page_at space address))
 
 -- of faults, the traversal of a memory that translates as a space can meet only a shared frame

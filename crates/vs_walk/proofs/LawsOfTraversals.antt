@@ -19,7 +19,8 @@ use Rattle.vs_walk.specs.Memory.{Memory, AreWhole}
 use Rattle.vs_walk.specs.Walk.{all_rights, walk}
 use Rattle.vs_walk.specs.Traversal.{Visit, OfFrame, OfLeaf, OfReservedBit, ReachedTable, entry_visits, table_visits, traversal, reached_by, reached, found}
 use Rattle.vs_walk.specs.Traversal.{walk_fault}
-use Rattle.vs_walk.specs.Laws.{page_covering, as_found, LeadsTo, IsTableAt, IsRoot, IsBelow, IsReservedWord}
+use Rattle.vs_types.specs.Space.{page_covering}
+use Rattle.vs_walk.specs.Laws.{as_found, LeadsTo, IsTableAt, IsRoot, IsBelow, IsReservedWord}
 use Rattle.vs_walk.specs.declared.walk.Walk.{Walk}
 use Rattle.vs_walk.specs.declared.walk.Walk.TheVariants.{NotMapped, Reserved, Missing, Mapped}
 use Rattle.vs_walk.specs.declared.walk.WalkFault.TheVariants as faults

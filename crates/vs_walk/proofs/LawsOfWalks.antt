@@ -18,7 +18,8 @@ use Rattle.vs_types.proofs.Pages.{covers_means}
 use Rattle.vs_walk.specs.Memory.{Memory, AreWhole}
 use Rattle.vs_walk.specs.Walk.{all_rights, walk_entry, walk_from, walk}
 use Rattle.vs_walk.specs.Traversal.{ReachedTable, canonical_from, entry_visits, table_visits, traversal, found_by, found}
-use Rattle.vs_walk.specs.Laws.{page_covering, as_found}
+use Rattle.vs_types.specs.Space.{page_covering}
+use Rattle.vs_walk.specs.Laws.{as_found}
 use Rattle.vs_walk.specs.declared.walk.Walk.{Walk}
 use Rattle.vs_walk.specs.declared.walk.Walk.TheVariants.{NotMapped, Reserved, Missing, Mapped}
 use Rattle.vs_walk.proofs.Walks.{walk_nowhere, walk_missing, walk_at}

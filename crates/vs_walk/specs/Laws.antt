@@ -1,25 +1,20 @@
 -- Words of the laws of the traversal: what it says of the walks of single addresses, and where a reserved bit is met.
-use Rattle.std.specs.Prelude.{◌≡◌, ℕ, suc, ◌+◌, ◌-◌, ◌<◌, List, length, slice_index, Option, Some, None, find}
+use Rattle.std.specs.Prelude.{◌≡◌, ℕ, suc, ◌<◌, List, length, slice_index, Option, Some}
 use Rattle.std.specs.FinMap as finite
 use Rattle.vs_types.specs.Depth.{levels}
 use Rattle.vs_types.specs.Entry.{meaning}
-use Rattle.vs_types.specs.Page.{covers}
+use Rattle.vs_types.specs.Step.{look_in_page}
 use Rattle.vs_types.specs.declared.depth.Depth.{Depth}
 use Rattle.vs_types.specs.declared.entry.Meaning.TheVariants as entry
 use Rattle.vs_types.specs.declared.page.Page.{Page}
 use Rattle.vs_types.specs.declared.page.Rights.{Rights}
 use Rattle.vs_walk.specs.Memory.{Memory}
+use Rattle.vs_walk.specs.Walk.{as_walk}
 use Rattle.vs_walk.specs.declared.walk.Walk.{Walk}
-use Rattle.vs_walk.specs.declared.walk.Walk.TheVariants.{NotMapped, Mapped}
-
--- the page that covers an address, of some pages
-abbrev pub page_covering : ℕ → List Page → Option Page
-page_covering address pages = find (λ page. covers page address) pages
 
 -- the walk of an address that this page covers, or no page
 abbrev pub as_found : ℕ → Option Page → Walk
-as_found address None = NotMapped
-as_found address (Some page) = Mapped (page.phys + (address - page.base)) page.size page.rights
+as_found address page = as_walk (look_in_page address page)
 
 -- a word of the frame, as an entry of a table of this level, leads to the other frame
 pub record LeadsTo (memory : Memory) (level number other : ℕ) : Type 0 where

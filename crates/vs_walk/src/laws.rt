@@ -8,12 +8,12 @@ ghost use Rattle.vs_types.specs.declared.depth.Depth.{Depth};
 ghost use Rattle.vs_types.specs.declared.page.Page.{Page};
 ghost use Rattle.vs_types.specs.Depth.{IsCanonical};
 ghost use Rattle.vs_types.specs.Page.{covers, end_of, IsPage, IsPageBelow};
-ghost use Rattle.vs_types.specs.Space.{Space, IsSpace, pages};
+ghost use Rattle.vs_types.specs.Space.{Space, IsSpace, pages, page_covering};
 ghost use Rattle.vs_walk.specs.Dump.{Image, IsDump};
 ghost use Rattle.vs_walk.specs.Memory.{Memory, AreWhole};
 ghost use Rattle.vs_walk.specs.Walk.{walk, TranslatesAs};
 ghost use Rattle.vs_walk.specs.Traversal.{OfReservedBit, traversal, found, reached, walk_fault};
-ghost use Rattle.vs_walk.specs.Laws.{page_covering, as_found, IsReservedWord};
+ghost use Rattle.vs_walk.specs.Laws.{as_found, IsReservedWord};
 ghost use Rattle.vs_walk.specs.declared.walk.Walk.TheVariants as ends;
 ghost use Rattle.vs_walk.specs.declared.walk.WalkFault.TheVariants as faults;
 

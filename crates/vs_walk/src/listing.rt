@@ -6,7 +6,8 @@ ghost use Rattle.vs_walk.specs.Reached.{AreJust};
 ghost use Rattle.vs_walk.specs.Traversal.{traversal, reached, found, walk_fault};
 ghost use Rattle.vs_walk.specs.Walk.{walk};
 ghost use Rattle.vs_walk.specs.Memory.{AreWhole};
-ghost use Rattle.vs_walk.specs.Laws.{page_covering, as_found};
+ghost use Rattle.vs_types.specs.Space.{page_covering};
+ghost use Rattle.vs_walk.specs.Laws.{as_found};
 
 use crate::frames::Frames;
 use crate::pages::{Leaves, Pages};

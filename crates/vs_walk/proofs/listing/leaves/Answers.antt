@@ -2,7 +2,8 @@ use Rattle.std.proofs.Common.{◌≡◌, ◌<◌, List, [], sym, ap, subst, ◌�
 use Rattle.std.specs.List.{AllPairs}
 use Rattle.vs_types.specs.declared.page.Page.{Page}
 use Rattle.vs_walk.specs.Traversal.{traversal, found}
-use Rattle.vs_walk.specs.Laws.{page_covering, as_found}
+use Rattle.vs_types.specs.Space.{page_covering}
+use Rattle.vs_walk.specs.Laws.{as_found}
 use Rattle.vs_walk.proofs.LawsOfTraversals.{faultless_walk}
 use Rattle.vs_walk.proofs.LawsOfRising.{pages_rise, bases_rise}
 use Rattle.vs_walk.proofs.listing.leaves.Goals as goal
