@@ -21,6 +21,8 @@ ghost use Rattle.vs_space.specs.inside.Descent.{HasEnded, HasMet};
 use crate::descent::{Descent, PATH_LENGTH};
 use crate::tables::Tables;
 use crate::word::{RightsBits, read_written};
+use std::error::Error;
+use std::fmt;
 use std::marker::Model;
 use vs_arena::{FRAME_WORDS, FrameStore};
 use vs_types::{
@@ -31,6 +33,14 @@ use vs_walk::{FrameWords, Frames};
 /// There is no frame for the root: the store has none.
 #[derive(Clone, Copy, Debug, PartialEq, Eq)]
 pub struct NoRoot;
+
+impl fmt::Display for NoRoot {
+    fn fmt<W: fmt::Write>(&self, f: &mut fmt::Formatter<W>) -> fmt::Result {
+        write!(f, "the store has no frame for the root")
+    }
+}
+
+impl Error for NoRoot {}
 
 /// An address space as a page table in the frames of a store. An emptied table goes back to the store at once.
 #[derive(Drop)]

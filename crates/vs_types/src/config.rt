@@ -2,6 +2,8 @@ ghost use Rattle.std.specs.Prelude.{◌≡◌};
 
 use crate::depth::Depth;
 use crate::limits::{REPLICAS, TABLES, THREADS};
+use std::error::Error;
+use std::fmt;
 use std::marker::Model;
 
 /// Why numbers make no configuration.
@@ -14,6 +16,18 @@ pub enum BadConfig {
     /// The tables are not 1 to 4,096.
     Tables,
 }
+
+impl fmt::Display for BadConfig {
+    fn fmt<W: fmt::Write>(&self, f: &mut fmt::Formatter<W>) -> fmt::Result {
+        match self {
+            BadConfig::Replicas => write!(f, "the replicas are not 1 to 4"),
+            BadConfig::Threads => write!(f, "the threads are not 1 to 64"),
+            BadConfig::Tables => write!(f, "the tables are not 1 to 4096"),
+        }
+    }
+}
+
+impl Error for BadConfig {}
 
 /// How a service is laid out: its depth, replicas, threads, and tables for each replica.
 #[derive(Clone, Copy, Debug, PartialEq, Eq)]

@@ -2,6 +2,8 @@ ghost use Rattle.std.specs.Prelude.{◌≡◌, ◌↔◌, IsTrue};
 
 use crate::depth::Depth;
 use crate::page::{Page, Rights, Size};
+use std::error::Error;
+use std::fmt;
 use std::marker::Model;
 
 /// Why an address or a page makes no operation: the first reason that holds.
@@ -16,6 +18,19 @@ pub enum BadOp {
     /// A map's page does not lie below physical 2^51.
     PhysRange,
 }
+
+impl fmt::Display for BadOp {
+    fn fmt<W: fmt::Write>(&self, f: &mut fmt::Formatter<W>) -> fmt::Result {
+        match self {
+            BadOp::NotCanonical => write!(f, "the address is not canonical"),
+            BadOp::Unaligned => write!(f, "the address is not aligned"),
+            BadOp::PhysUnaligned => write!(f, "the physical address is not aligned to the size"),
+            BadOp::PhysRange => write!(f, "the page does not lie below physical 2^51"),
+        }
+    }
+}
+
+impl Error for BadOp {}
 
 /// What an operation does to a space.
 #[derive(Clone, Copy, Debug, PartialEq, Eq)]
