@@ -12,14 +12,18 @@ pub record Layout : Type 0 where
   pub threads : ℕ
   pub tables : ℕ
 
--- 1 to 4 replicas, 1 to 64 threads, 1 to 4,096 tables for each replica
-pub record IsLayout (layout : Layout) : Type 0 where
+-- 1 to 4 replicas, and at least one thread, and one table for each replica, but no more than these
+pub record IsLayoutWithin (threads tables : ℕ) (layout : Layout) : Type 0 where
   pub some_replica : 1 ≤ layout.replicas
   pub few_replicas : layout.replicas ≤ REPLICAS
   pub some_thread : 1 ≤ layout.threads
-  pub few_threads : layout.threads ≤ THREADS
+  pub few_threads : layout.threads ≤ threads
   pub some_table : 1 ≤ layout.tables
-  pub few_tables : layout.tables ≤ TABLES
+  pub few_tables : layout.tables ≤ tables
+
+-- 1 to 4 replicas, 1 to 64 threads, 1 to 4,096 tables for each replica
+abbrev pub IsLayout : Layout → Type 0
+IsLayout layout = IsLayoutWithin THREADS TABLES layout
 
 -- the first part that is out of its range
 abbrev pub config_fault : Layout → Option BadConfig

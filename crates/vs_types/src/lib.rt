@@ -28,7 +28,7 @@ pub use depth::{Depth, index_at};
 pub use entry::{Entry, Meaning};
 pub use fields::RequestFields;
 pub use frame::FRAME_WORDS;
-pub use limits::{CALLS, LOG_PLACES, MOST_LEVELS, REPLICAS, RING, TABLES, THREADS};
+pub use limits::{CALLS, FRAMES, LOG_PLACES, MOST_LEVELS, REPLICAS, RING, TABLES, THREADS};
 pub use log_entry::{LogEntry, entry_of, pack, unpack};
 pub use op::{Action, BadOp, Op};
 pub use page::{Page, Rights, Size};

@@ -9,6 +9,9 @@ pub const THREADS: u16 = 64;
 /// The most tables of a space: frames of 4,096 bytes.
 pub const TABLES: u16 = 4_096;
 
+/// The most frames of a dump.
+pub const FRAMES: u16 = 65_535;
+
 /// The most levels of tables.
 pub const MOST_LEVELS: u8 = 5;
 

@@ -13,7 +13,7 @@ use Rattle.std.proofs.lemmas.List.Elements.{All-head, All-tail, All-push}
 use Rattle.std.proofs.lemmas.List.Sorted.{searchable_from_sorted}
 use Rattle.std.proofs.lemmas.Bool.{cases_lt}
 use lib.Dec.{T}
-use Rattle.vs_types.specs.declared.limits.TheConstants.{TABLES}
+use Rattle.vs_types.specs.declared.limits.TheConstants.{FRAMES}
 use Rattle.vs_types.specs.Frame.{IsFrame}
 use Rattle.vs_walk.specs.Memory.{Memory}
 use Rattle.vs_walk.specs.Dump.{AreParts}
@@ -88,7 +88,7 @@ from_sorted_push es k v h s =
 
 -- what stays of the parts of a dump where a frame is added
 pub parts_push : {applied root : ℕ} (es : List (ℕ × List ℕ)) (k : ℕ) (v : List ℕ) → AreParts applied root es → All (λ held. held < k) (map (λ e. e.0) es)
-    → k < 2 ^ 40 → length es < TABLES → IsFrame v → AreParts applied root (es ++ (k, v) ∷ [])
+    → k < 2 ^ 40 → length es < FRAMES → IsFrame v → AreParts applied root (es ++ (k, v) ∷ [])
 parts_push es k v parts above below room whole = record {
   applied_fits = parts.applied_fits;
   root_fits = parts.root_fits;

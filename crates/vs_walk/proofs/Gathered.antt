@@ -14,7 +14,7 @@ use Rattle.std.proofs.lemmas.List.Elements.{Contains-append_cases, All-contains,
 use Rattle.std.proofs.lemmas.Map.Made.{length-le_from_is_member, is_member-Decides, IsDistinct-from_AllPairs}
 use Rattle.std.proofs.lemmas.Map.Views.{Contains-from_any}
 use Rattle.vs_types.proofs.Lists.{Contains-cases, not_in_nil}
-use Rattle.vs_types.specs.declared.limits.TheConstants.{TABLES}
+use Rattle.vs_types.specs.declared.limits.TheConstants.{FRAMES}
 use Rattle.vs_types.specs.declared.depth.Depth.{Depth}
 use Rattle.vs_walk.specs.Dump.{Image, IsDump}
 use Rattle.vs_walk.specs.Memory.{Memory}
@@ -81,11 +81,11 @@ reached_few depth memory root none =
 
 -- of a dump
 pub dump_few : (dump : Image) (depth : Depth) (root : ℕ) → IsDump dump → walk_fault depth dump.frames root ≡ None
-    → length (reached (traversal depth dump.frames root)) ≤ TABLES
+    → length (reached (traversal depth dump.frames root)) ≤ FRAMES
 dump_few dump depth root is none =
     let few = reached_few depth dump.frames root none in
     let count = finite.len-entries dump.frames in
-    let held : length (finite.entries dump.frames) ≤ TABLES = is.few in
+    let held : length (finite.entries dump.frames) ≤ FRAMES = is.few in
     omega arith
 
 dump_number : (dump : Image) (q : ℕ) → IsDump dump → Contains (finite.keys dump.frames) q → q < 2 ^ 40

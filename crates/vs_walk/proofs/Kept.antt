@@ -8,7 +8,7 @@ use Rattle.std.specs.Ordering.{nat_cmp}
 use Rattle.std.proofs.lemmas.List.{drop-append-le, length-drop, length-append, drop_all, map-append}
 use Rattle.std.proofs.lemmas.List.Elements.{All-nil, All-push, All-append, All-replicate}
 use Rattle.vs_types.specs.declared.frame.TheConstants.{FRAME_WORDS}
-use Rattle.vs_types.specs.declared.limits.TheConstants.{TABLES}
+use Rattle.vs_types.specs.declared.limits.TheConstants.{FRAMES}
 use Rattle.vs_types.specs.Frame.{IsFrame}
 use Rattle.vs_walk.specs.Dump.{AreParts}
 use Rattle.vs_walk.specs.declared.dump.Span.{Span}
@@ -41,7 +41,7 @@ frame_pushed numbers spans words number span some parts start len =
 
 pub kept_pushed : {applied root : ℕ} (numbers : List ℕ) (spans : List Span) (words : List ℕ) (number : ℕ) (span : Span) (some : List ℕ)
     → AreKept applied root numbers spans words → span.start ≡ length words → span.len ≡ length some → span.before + span.len ≤ FRAME_WORDS
-    → All (λ held. held < number) (map (λ e. e.0) (paired numbers spans words)) → number < 2 ^ 40 → length (paired numbers spans words) < TABLES
+    → All (λ held. held < number) (map (λ e. e.0) (paired numbers spans words)) → number < 2 ^ 40 → length (paired numbers spans words) < FRAMES
     → IsFrame (spread span.before some)
     → AreKept applied root (numbers ++ number ∷ []) (spans ++ span ∷ []) (words ++ some)
 kept_pushed {applied} {root} numbers spans words number span some parts start len few above in_range room whole =
@@ -62,7 +62,7 @@ kept_pushed {applied} {root} numbers spans words number span some parts start le
 pub frame_begins : {applied root : ℕ} (numbers : List ℕ) (spans : List Span) (words : List ℕ) (number : ℕ) (ns : Vec ℕ) (ss : Vec Span) (ws : Vec ℕ)
     (start : ℕ) → start ≡ length words → AreKept applied root numbers spans words
     → ns.items ≡ numbers → ss.items ≡ spans → ws.items ≡ words → All (λ held. held < number) (map (λ e. e.0) (paired numbers spans words))
-    → number < 2 ^ 40 → length (paired numbers spans words) < TABLES → vec_len ns + 1 ≤ vec_capacity ns → vec_len ss + 1 ≤ vec_capacity ss
+    → number < 2 ^ 40 → length (paired numbers spans words) < FRAMES → vec_len ns + 1 ≤ vec_capacity ns → vec_len ss + 1 ≤ vec_capacity ss
     → vec_len ws + 512 ≤ vec_capacity ws → AreOpen applied root ns ss ws number start 0 0
 frame_begins {applied} {root} numbers spans words number ns ss ws start begins parts same_numbers same_spans same_words above in_range one_more room
     room_for_span room_for_words =
@@ -78,7 +78,7 @@ frame_begins {applied} {root} numbers spans words number ns ss ws start begins p
       parts = subst (AreParts applied root) (sym frames) parts.parts;
       above = subst (λ es. All (λ held. held < number) (map (λ e. e.0) es)) (sym frames) above;
       in_range = in_range;
-      one_more = subst (λ es. length es < TABLES) (sym frames) one_more;
+      one_more = subst (λ es. length es < FRAMES) (sym frames) one_more;
       fit = subst (All (λ word. word < 2 ^ 64)) (sym none) (All-nil (λ word. word < 2 ^ 64));
       room_for_number = omega (arith, room);
       room_for_span = omega (arith, room_for_span);
@@ -105,7 +105,7 @@ words_come {applied} {root} {numbers} {spans} words {number} {start} more some b
       parts = subst (AreParts applied root) (sym frames) parts.parts;
       above = subst (λ es. All (λ held. held < number) (map (λ e. e.0) es)) (sym frames) parts.above;
       in_range = parts.in_range;
-      one_more = subst (λ es. length es < TABLES) (sym frames) parts.one_more;
+      one_more = subst (λ es. length es < FRAMES) (sym frames) parts.one_more;
       fit = subst (All (λ word. word < 2 ^ 64)) (sym come)
           (All-append (λ word. word < 2 ^ 64) (drop start words.items) some parts.fit fits);
       room_for_number = parts.room_for_number;

@@ -3,7 +3,7 @@ use Rattle.std.specs.Prelude.{ℕ, ◌^◌, ◌<◌, ◌≤◌, List, All, IsTru
 use Rattle.std.specs.Coded.{Coded, code_by, coded×, coded_ℕ, coded_list}
 use Rattle.std.specs.FinMap as finite
 use Rattle.std.specs.Ordering.{nat_cmp}
-use Rattle.vs_types.specs.declared.limits.TheConstants.{TABLES}
+use Rattle.vs_types.specs.declared.limits.TheConstants.{FRAMES}
 use Rattle.vs_types.specs.Frame.{IsFrame}
 use Rattle.vs_walk.specs.Memory.{Memory}
 
@@ -27,11 +27,11 @@ abbrev pub open_image_code : Coded OpenImage
 open_image_code = code_by (Image × (ℕ × List ℕ)) (coded× image_code (coded× coded_ℕ (coded_list coded_ℕ)))
     (λ d. (d.dump, (d.number, d.coming))) (λ p. record { dump = p.0; number = p.1.0; coming = p.1.1 }) (λ _. refl)
 
--- what the parts of a dump are: at most 4,096 frames, whose numbers rise
+-- what the parts of a dump are: at most 65,535 frames, whose numbers rise
 pub record AreParts (applied root : ℕ) (frames : List (ℕ × List ℕ)) : Type 0 where
   pub applied_fits : applied < 2 ^ 32
   pub root_fits : root < 2 ^ 64
-  pub few : length frames ≤ TABLES
+  pub few : length frames ≤ FRAMES
   pub rising : IsTrue (finite.is_sorted nat_cmp frames)
   pub in_range : All (λ frame. frame.0 < 2 ^ 40) frames
   pub whole : All (λ frame. IsFrame frame.1) frames

@@ -2,7 +2,7 @@ ghost use Rattle.std.specs.Prelude.{◌≡◌, ◌+◌, ◌<◌, ◌≤◌, ◌^
 ghost use Rattle.std.specs.FinMap as finite;
 ghost use Rattle.std.specs.Vec.{vec_len, vec_capacity};
 ghost use Rattle.vs_types.specs.declared.frame.TheConstants.{FRAME_WORDS};
-ghost use Rattle.vs_types.specs.declared.limits.TheConstants.{TABLES};
+ghost use Rattle.vs_types.specs.declared.limits.TheConstants.{FRAMES};
 ghost use Rattle.vs_walk.specs.Dump.{IsDump};
 
 use crate::frame_words::FrameWords;
@@ -80,7 +80,7 @@ impl Dump {
     pub fn push(&mut self, number: u64, words: &[u64; FRAME_WORDS]) -> Result<(), Memory>
         requires above { All (λ held. held < number) (finite.keys self.old.frames) }
         requires in_range { number < 2 ^ 40 }
-        requires room { finite.len self.old.frames < TABLES }
+        requires room { finite.len self.old.frames < FRAMES }
         ensures ok { OnOk result
             (self.new
             ≡ record self.old { frames = finite.insert self.old.frames number words.now }) }
@@ -96,7 +96,7 @@ impl Dump {
     pub(crate) fn add(&mut self, number: u64, words: &FrameWords<'_>) -> Result<(), Memory>
         requires above { All (λ held. held < number) (finite.keys self.old.frames) }
         requires in_range { number < 2 ^ 40 }
-        requires room { finite.len self.old.frames < TABLES }
+        requires room { finite.len self.old.frames < FRAMES }
         ensures ok { OnOk result
             (self.new
             ≡ record self.old { frames = finite.insert self.old.frames number words.now }) }
@@ -148,7 +148,7 @@ impl Dump {
     pub fn begin_frame(self, number: u64) -> Result<OpenDump, Memory>
         requires above { All (λ held. held < number) (finite.keys self.frames) }
         requires in_range { number < 2 ^ 40 }
-        requires room { finite.len self.frames < TABLES }
+        requires room { finite.len self.frames < FRAMES }
         ensures { IfOk result
             (λ opened. opened ≡ record { dump = self; number = number; coming = [] }) }
     {
@@ -190,7 +190,7 @@ impl Dump {
         self.root
     }
 
-    /// How many frames it holds: 0 to 4,096.
+    /// How many frames it holds: 0 to 65,535.
     pub fn count(&self) -> usize
         ensures reads { result ≡ finite.len self.now.frames }
         ensures is_dump { IsDump self.now }

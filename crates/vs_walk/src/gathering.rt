@@ -1,6 +1,6 @@
 ghost use Rattle.std.specs.Prelude.{◌≡◌, ◌<◌, ◌≤◌, ◌^◌, ℕ, length, All, Contains, IsTrue, Some, None, IfOk, IfErr, OnOk};
 ghost use Rattle.std.specs.FinMap as finite;
-ghost use Rattle.vs_types.specs.declared.limits.TheConstants.{TABLES};
+ghost use Rattle.vs_types.specs.declared.limits.TheConstants.{FRAMES};
 ghost use Rattle.vs_types.specs.Refusal.{IfRefused};
 ghost use Rattle.vs_walk.specs.Traversal.{traversal, reached, walk_fault};
 
@@ -27,7 +27,7 @@ impl Dump {
     /// The dump of the page table whose root is the frame of number `root`, after `applied` entries of the log: just the
     /// frames that are reached from there, each with its words. Takes memory for them.
     ///
-    /// Where the traversal meets no fault, at most 4,096 frames may be reached, with numbers below 2^40.
+    /// Where the traversal meets no fault, at most 65,535 frames may be reached, with numbers below 2^40.
     ///
     /// # Errors
     ///
@@ -40,7 +40,7 @@ impl Dump {
         applied: u32,
     ) -> Result<Dump, Fail<WalkFault>>
         requires few { walk_fault depth (F.memory frames.now) root ≡ None
-            → length (reached (traversal depth (F.memory frames.now) root)) ≤ TABLES }
+            → length (reached (traversal depth (F.memory frames.now) root)) ≤ FRAMES }
         requires in_range { walk_fault depth (F.memory frames.now) root ≡ None
             → All (λ number. number < 2 ^ 40)
             (reached (traversal depth (F.memory frames.now) root)) }
@@ -53,6 +53,8 @@ impl Dump {
         ensures only { IfOk result
             (λ dump. (number : ℕ) → IsTrue (finite.contains_key dump.frames number)
             → Contains (reached (traversal depth (F.memory frames.now) root)) number) }
+        ensures few { IfOk result (λ dump. finite.len dump.frames
+            ≤ length (reached (traversal depth (F.memory frames.now) root))) }
         ensures faultless { OnOk result (walk_fault depth (F.memory frames.now) root ≡ None) }
         ensures first { IfErr result
             (IfRefused (λ fault. walk_fault depth (F.memory frames.now) root ≡ Some fault)) }

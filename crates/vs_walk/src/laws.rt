@@ -3,7 +3,7 @@
 ghost use Rattle.std.specs.Prelude.{◌≡◌, ◌≢◌, ◌≤◌, ◌<◌, ◌^◌, ◌⊎◌, ◌++◌, ◌∷◌, ℕ, List, length, All, Contains, IsTrue, IsFalse, Some, None, nat_eq};
 ghost use Rattle.std.specs.FinMap as finite;
 ghost use Rattle.std.specs.List.{AllPairs, IsDistinct};
-ghost use Rattle.vs_types.specs.declared.limits.TheConstants.{TABLES};
+ghost use Rattle.vs_types.specs.declared.limits.TheConstants.{FRAMES};
 ghost use Rattle.vs_types.specs.declared.depth.Depth.{Depth};
 ghost use Rattle.vs_types.specs.declared.page.Page.{Page};
 ghost use Rattle.vs_types.specs.Depth.{IsCanonical};
@@ -157,14 +157,14 @@ pub fn dumps_are_whole()
     ensures { (dump : Image) → IsDump dump → AreWhole dump.frames }
 {}
 
-/// Without a fault of the traversal, no more frames are reached than the memory has: of a dump at most 4,096, with
+/// Without a fault of the traversal, no more frames are reached than the memory has: of a dump at most 65,535, with
 /// numbers below 2^40.
 pub fn few_are_reached()
     ensures few { (depth : Depth) (memory : Memory) (root : ℕ) → walk_fault depth memory root ≡ None
         → length (reached (traversal depth memory root)) ≤ finite.len memory }
     ensures of_dump { (dump : Image) (depth : Depth) (root : ℕ) → IsDump dump
         → walk_fault depth dump.frames root ≡ None
-        → length (reached (traversal depth dump.frames root)) ≤ TABLES }
+        → length (reached (traversal depth dump.frames root)) ≤ FRAMES }
     ensures in_range { (dump : Image) (depth : Depth) (root : ℕ) → IsDump dump
         → walk_fault depth dump.frames root ≡ None
         → All (λ number. number < 2 ^ 40) (reached (traversal depth dump.frames root)) }

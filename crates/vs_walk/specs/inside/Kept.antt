@@ -5,7 +5,7 @@ use Rattle.std.specs.Global.{Vec}
 use Rattle.std.specs.Vec.{vec_len, vec_capacity}
 use Rattle.std.specs.FinMap as finite
 use Rattle.vs_types.specs.declared.frame.TheConstants.{FRAME_WORDS}
-use Rattle.vs_types.specs.declared.limits.TheConstants.{TABLES}
+use Rattle.vs_types.specs.declared.limits.TheConstants.{FRAMES}
 use Rattle.vs_walk.specs.Dump.{Image, AreParts}
 use Rattle.vs_walk.specs.declared.dump.Span.{Span}
 
@@ -49,7 +49,7 @@ pub record AreOpen (applied root : ℕ) (numbers : Vec ℕ) (spans : Vec Span) (
   pub parts : AreParts applied root (paired numbers.items spans.items words.items)
   pub above : All (λ held. held < number) (map (λ frame. frame.0) (paired numbers.items spans.items words.items))
   pub in_range : number < 2 ^ 40
-  pub one_more : length (paired numbers.items spans.items words.items) < TABLES
+  pub one_more : length (paired numbers.items spans.items words.items) < FRAMES
   pub fit : All (λ word. word < 2 ^ 64) (drop start words.items)
   pub room_for_number : vec_len numbers < vec_capacity numbers
   pub room_for_span : vec_len spans < vec_capacity spans

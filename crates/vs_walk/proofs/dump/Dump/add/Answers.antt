@@ -2,7 +2,7 @@ use Rattle.std.proofs.Common.{◌≡◌, ◌<◌, ◌++◌, [], ◌∷◌, lengt
 use Rattle.std.specs.Prelude.{All}
 use Rattle.std.specs.FinMap as finite
 use Rattle.std.specs.Ordering.{nat_cmp}
-use Rattle.vs_types.specs.declared.limits.TheConstants.{TABLES}
+use Rattle.vs_types.specs.declared.limits.TheConstants.{FRAMES}
 use Rattle.vs_walk.specs.Dump.{Image}
 use Rattle.vs_walk.specs.inside.Kept.{paired}
 use Rattle.vs_walk.specs.declared.dump.Span.{Span}
@@ -19,8 +19,8 @@ above : (c : goal.After-push_reserved-2) → All (λ n. n < c.args.number)
     (map (λ e. e.0) (paired c.self.inside.numbers.items c.self.inside.spans.items c.self.inside.words.items))
 above c = subst (λ es. All (λ n. n < c.args.number) (map (λ e. e.0) es)) (held c) c.requires.above
 
-room : (c : goal.After-push_reserved-2) → length (paired c.self.inside.numbers.items c.self.inside.spans.items c.self.inside.words.items) < TABLES
-room c = subst (λ es. length es < TABLES) (held c) (subst (λ n. n < TABLES) (finite.len-entries c.args.self.now.frames) c.requires.room)
+room : (c : goal.After-push_reserved-2) → length (paired c.self.inside.numbers.items c.self.inside.spans.items c.self.inside.words.items) < FRAMES
+room c = subst (λ es. length es < FRAMES) (held c) (subst (λ n. n < FRAMES) (finite.len-entries c.args.self.now.frames) c.requires.room)
 
 abbrev span : (c : goal.After-push_reserved-2) → Span
 span c = record { start = c.len.result; before = c.parts-before.result.0; len = length c.parts-before.result.1.now }

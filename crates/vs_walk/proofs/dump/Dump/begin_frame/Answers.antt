@@ -1,7 +1,7 @@
 use Rattle.std.proofs.Common.{◌≡◌, ◌<◌, length, map, sym, ap, subst, ◌∙◌}
 use Rattle.std.specs.Prelude.{All}
 use Rattle.std.specs.FinMap as finite
-use Rattle.vs_types.specs.declared.limits.TheConstants.{TABLES}
+use Rattle.vs_types.specs.declared.limits.TheConstants.{FRAMES}
 use Rattle.vs_walk.specs.inside.Kept.{paired}
 use Rattle.vs_walk.proofs.Dumps.{entries_stand}
 use Rattle.vs_walk.proofs.Kept.{frame_begins}
@@ -19,5 +19,5 @@ invariant_of-result c =
     c.self.invariant c.in_ok-reserve.ensures.items
     c.in_ok-reserve-2.ensures.items c.in_ok-reserve-3.ensures.items
     (subst (λ es. All (λ n. n < c.args.number) (map (λ e. e.0) es)) held c.requires.above) c.requires.in_range
-    (subst (λ es. length es < TABLES) held (subst (λ n. n < TABLES) (finite.len-entries c.args.self.frames) c.requires.room))
+    (subst (λ es. length es < FRAMES) held (subst (λ n. n < FRAMES) (finite.len-entries c.args.self.frames) c.requires.room))
     c.in_ok-reserve.ensures.ok c.in_ok-reserve-2.ensures.ok c.in_ok-reserve-3.ensures.ok

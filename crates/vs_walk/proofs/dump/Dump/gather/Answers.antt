@@ -3,9 +3,9 @@ use Rattle.std.specs.Prelude.{All}
 use Rattle.std.specs.FinMap as finite
 use Rattle.std.specs.List.{AllPairs}
 use Rattle.std.proofs.Math.Seq.{take-suc}
-use Rattle.std.proofs.lemmas.List.{take_all}
+use Rattle.std.proofs.lemmas.List.{take_all, length-map, length-take}
 use Rattle.std.proofs.lemmas.List.Elements.{All-contains, Contains-get_or}
-use Rattle.vs_types.specs.declared.limits.TheConstants.{TABLES}
+use Rattle.vs_types.specs.declared.limits.TheConstants.{FRAMES}
 use Rattle.vs_walk.specs.Dump.{Image}
 use Rattle.vs_walk.specs.Reached.{AreJust}
 use Rattle.vs_walk.specs.Traversal.{traversal, reached}
@@ -48,9 +48,9 @@ add-requires-clause-room g c =
     let just : AreJust ks ns = subst (λ xs. AreJust xs ns) (sym c.as_slice-numbers.ensures.is) c.in_ok-reached.ensures.reached in
     let rising : AllPairs (λ a b. a < b) ks = subst (AllPairs (λ a b. a < b)) (sym c.as_slice-numbers.ensures.is) c.as_slice-numbers.ensures.rising in
     let fit : length ks ≤ length ns = no_longer ks ns rising just in
-    let few : length ns ≤ TABLES = c.requires.few c.in_ok-reached.ensures.faultless in
+    let few : length ns ≤ FRAMES = c.requires.few c.in_ok-reached.ensures.faultless in
     let within : c.loop-number.number-index < length ks = c.loop-number-test.true in
-    subst (λ n. n < TABLES) (sym c.loop-number.invariant.count) (omega (arith, within, fit, few))
+    subst (λ n. n < FRAMES) (sym c.loop-number.invariant.count) (omega (arith, within, fit, few))
 
 pub loop-number-preserved : goal.loop-number-preserved
 loop-number-preserved g c =
@@ -85,3 +85,15 @@ returns-clause-only g c number held =
     let just : AreJust ks ns = subst (λ xs. AreJust xs ns) (sym c.as_slice-numbers.ensures.is) c.in_ok-reached.ensures.reached in
     (just number).0 (subst (λ xs. Contains xs number) (c.loop-number.invariant.numbers ∙ take_all c.loop-number.number-index ks c.loop-number-test.false)
     (held_number c.loop-number.dump.frames number held))
+
+pub returns-clause-few : goal.returns-clause-few
+returns-clause-few g c =
+    let ns = reached (traversal c.args.depth (g.F.Frames.memory c.args.frames.now) c.args.root) in
+    let ks = c.as_slice-numbers.result.now in
+    let frames = c.loop-number.dump.frames in
+    let just : AreJust ks ns = subst (λ xs. AreJust xs ns) (sym c.as_slice-numbers.ensures.is) c.in_ok-reached.ensures.reached in
+    let rising : AllPairs (λ a b. a < b) ks = subst (AllPairs (λ a b. a < b)) (sym c.as_slice-numbers.ensures.is) c.as_slice-numbers.ensures.rising in
+    let fit : length ks ≤ length ns = no_longer ks ns rising just in
+    let count : length (finite.keys frames) ≡ finite.len frames = length-map (finite.entries frames) (λ e. e.0) ∙ sym (finite.len-entries frames) in
+    let held : length (finite.keys frames) ≡ length (take c.loop-number.number-index ks) = ap length c.loop-number.invariant.numbers in
+    omega (arith, fit, count, held, length-take c.loop-number.number-index ks)
