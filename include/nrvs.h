@@ -1,7 +1,7 @@
 /* A page table of x86-64 in memory of the caller's: four or five levels, pages of 4 KiB, 2 MiB and 1 GiB.
  *
  * Each call is given a handle and the memory that it works in. It allocates nothing, keeps no pointer, and takes no lock. What each
- * does is proved: its contract is that of the same call of `Space` (docs/PROMISES.md).
+ * does is proved: its contract is that of the same call of `Space` (crates/nrvs_c/README.md).
  *
  * The memory: the words of `frames` frames, and `marks`, one for each frame at least; what there are more stay as they are. Frame number
  * `base + i` is words[i]: where words[0] lies at the physical address `base * 4096`, a processor walks what is written there, from the root

@@ -4,7 +4,7 @@
  * each reply answers an earlier call, no call is answered twice, and no thread has two calls open; all its answered calls and some
  * unanswered updates stand in the order, each once; a call that was answered before another was made comes first; every answer is
  * what one sequential address space gives there; and each dumped page table translates every address as that space does after as
- * many of the order's updates as the replica had applied (docs/PROMISES.md).
+ * many of the order's updates as the replica had applied (crates/nrvs_audit_c/README.md).
  *
  * Any bytes may be judged, and no argument is refused but for what a call can't test, which the caller has to keep:
  *   - pointers are not null, aligned as their types are, and to as many elements as is said, where that is 0 too; none overlaps

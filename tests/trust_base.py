@@ -1,6 +1,6 @@
 #!/usr/bin/env python3
-"""Compares the words that a reader has to believe with docs/DEFINITIONS.md, which reads each of them aloud; and the public calls
-of the libraries and their premises with docs/PROMISES.md. Part 1 of DEFINITIONS.md has to have just the words of the headline, and
+"""Compares the words that a reader has to believe with docs/DEFINITIONS.md, which has each of them in words; and the public calls
+of the libraries and their preconditions with the promises of their crates' READMEs. Part 1 of DEFINITIONS.md has to have just the words of the headline, and
 just the types and constants of the code of which these speak, with their variants, fields and values as the code declares them; and
 the crates of the audit depend on none of the replication.
 
@@ -239,26 +239,83 @@ def calls_of(crate, file, exported, is_open):
 
 
 def names(cell, owner, name):
-    """Whether the cell of a table names the call: `name` or `Owner::name`, and its type or trait somewhere in it."""
+    """Whether an item names the call: `name` or `Owner::name`, and its type or trait somewhere in it."""
     told = re.findall(r"`([\w:]+)`", cell)
     if owner is None:
         return name in told
     return f"{owner}::{name}" in told or name in told and re.search(rf"`{owner}(::\w+)?`", cell) is not None
 
 
+SECTIONS = ("What is proved", "What is only tested", "What is taken on trust")
+PRECONDITIONS = "Preconditions"
+WIDTH = 140
+HEADLINE_ROWS = 40
+
+
+def items(text):
+    """The items of the lists of a text, each with its further lines, and the rows of its tables."""
+    found, inside = [], False
+    for line in text.splitlines():
+        if line.startswith(("- ", "| ")):
+            found.append(line[2:])
+        elif inside and line.startswith("  "):
+            found[-1] += " " + line.strip()
+        else:
+            inside = False
+            continue
+        inside = line.startswith(("- ", "  "))
+    return found
+
+
+def promises_of(crate):
+    """The promises of the README of a crate, of each section, and the calls of its list of preconditions, item by item."""
+    text = (ROOT / "crates" / crate / "README.md").read_text()
+    sections = {part.partition("\n")[0]: part for part in text.split("\n## ")[1:]}
+    promises, preconditions = {}, []
+    for name in SECTIONS:
+        promises[name] = []
+        for part in sections.get(name, "").split("\n### "):
+            if part.startswith(PRECONDITIONS):
+                preconditions += [item.partition(": ")[0] for item in items(part)]
+            else:
+                promises[name] += items(part)
+    return [name for name in SECTIONS if name not in sections], sum(promises.values(), []), preconditions
+
+
 def untold():
-    """The public calls that no line of PROMISES.md names, and the premises that its table lacks."""
-    text = (ROOT / "docs/PROMISES.md").read_text()
-    rows = [line for line in text.splitlines() if line.startswith("| ")]
-    premises = [line.split("|")[1] for line in text.partition("## Premises")[2].partition("\n## ")[0].splitlines() if line.startswith("| ")]
+    """The public calls that no promise of their crate's README names, and what its list of preconditions lacks or has beside."""
+    calls = {}
     for crate, owner, name, has_premise in public_calls():
-        call = f"{owner}::{name}" if owner else name
-        if not any(names(row, owner, name) for row in rows):
-            yield f"no line of PROMISES.md names {call} of {crate}"
-        if has_premise and not any(names(row, owner, name) for row in premises):
-            yield f"the table of premises lacks {call} of {crate}"
-        if not has_premise and any(f"{owner}::{name}" in row if owner else names(row, owner, name) for row in premises):
-            yield f"the table of premises has {call} of {crate}, which has none"
+        calls.setdefault(crate, []).append((owner, name, has_premise))
+    for crate, those in calls.items():
+        lacking, promises, preconditions = promises_of(crate)
+        for name in lacking:
+            yield f"the README of {crate} has no section {name}"
+        for owner, name, has_premise in those:
+            call = f"{owner}::{name}" if owner else name
+            if not any(names(item, owner, name) for item in promises):
+                yield f"no promise of the README of {crate} names {call}"
+            if has_premise and not any(names(item, owner, name) for item in preconditions):
+                yield f"the preconditions of {crate} lack {call}"
+            if not has_premise and any(f"{owner}::{name}" in item if owner else names(item, owner, name) for item in preconditions):
+                yield f"the preconditions of {crate} have {call}, which has none"
+
+
+def main_promises():
+    """What is wrong with PROMISES.md, and with the length of its lines and of the crates' READMEs."""
+    page = ROOT / "docs/PROMISES.md"
+    text = page.read_text()
+    rows = sum(line.startswith("| ") for line in text.splitlines()) - 1
+    if rows > HEADLINE_ROWS:
+        yield f"PROMISES.md has {rows} rows, of {HEADLINE_ROWS} at most"
+    for library in sorted(ROOT.glob("crates/*/src/lib.rt")):
+        crate = library.parent.parent.name
+        if not crate.endswith("_tests") and f"[{crate}]: ../crates/{crate}/README.md" not in text:
+            yield f"PROMISES.md has no link to the README of {crate}"
+    for file in [page, *sorted(ROOT.glob("crates/*/README.md"))]:
+        for number_, line in enumerate(file.read_text().splitlines(), 1):
+            if len(line) > WIDTH:
+                yield f"{file.relative_to(ROOT)}:{number_} has {len(line)} columns, of {WIDTH} at most"
 
 
 def read_aloud(text):
@@ -291,7 +348,7 @@ def main(words):
     others = [(places, name) for places, name in told if not any((place, name) in base for place in places)]
     for places, name in others:
         print(f"read aloud, and no clause rests on it: {name} (of {', '.join(places)})")
-    lacking = [*first_part(), *audit_alone(), *untold()]
+    lacking = [*first_part(), *audit_alone(), *untold(), *main_promises()]
     for line in lacking:
         print(line)
     wrong = len(missing) + len(others) + len(lacking)
