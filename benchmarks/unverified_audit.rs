@@ -16,7 +16,7 @@ fn long(bytes: &[u8], at: usize) -> u64 {
     u64::from_be_bytes(*bytes[at..].first_chunk().unwrap())
 }
 
-/// Its events are those that the bytes spell, and of its dumps only where they stand is known.
+/// Its events are those that the bytes spell, and of its dumps only where they are is known.
 struct Trace<'a> {
     threads: usize,
     log: Vec<u32>,
@@ -74,7 +74,7 @@ struct Replies {
     read_before: Vec<u32>,
 }
 
-/// Pairs calls and replies: each reply is to its thread's open call, an update's stands at its place of the log, and none is at a place
+/// Pairs calls and replies: each reply is to its thread's open call, an update's is at its place of the log, and none is at a place
 /// below those that were known when its call was made.
 fn pair(trace: &Trace) -> Result<Replies, &'static str> {
     let (count, places) = (trace.events.len(), trace.log.len());

@@ -47,7 +47,7 @@ fn op_of(entry: Entry) -> Op {
 #[derive(Default)]
 struct Word(AtomicU64);
 
-/// A cell of the ring: an entry, and one more than the place where it stands.
+/// A cell of the ring: an entry, and one more than the place where it is.
 #[repr(align(64))]
 #[derive(Default)]
 struct Cell {
@@ -60,7 +60,7 @@ struct Cell {
 pub trait Log: Sync {
     fn new(replicas: usize) -> Self;
 
-    /// Appends the entries, if no replica would have more than 16 to take. Where they stand.
+    /// Appends the entries, if no replica would have more than 16 to take. Where they are.
     fn append(&self, entries: &[Entry]) -> Option<u64>;
 
     /// Takes all entries from this place on, for a replica that has taken those before: how many they are.
@@ -141,7 +141,7 @@ impl Log for Apart {
     }
 }
 
-/// A log in one cell, as that of the proved program is: the ring, and a version that tells the tails, which each event of any
+/// A log in one cell, as that of the proved program is: the ring, and a version that determines the tails, which each event of any
 /// replica exchanges. It is odd while entries are written.
 pub struct OneCell {
     replicas: usize,
@@ -303,7 +303,7 @@ impl Replica {
         }
     }
 
-    /// Tests that an update stands at its place, which is not below this one, and was answered so.
+    /// Tests that an update is at its place, which is not below this one, and was answered so.
     fn confirm(&self, from: u64, place: u64, entry: Entry, answer: Answer) {
         let node = self.node.lock().unwrap();
         assert!(place >= from && node.told[place as usize] == (entry, answer), "not confirmed");

@@ -15,17 +15,17 @@
  *     proved of flags that change between calls. A protect clears those of its page. Of flags that are set while a call runs nothing is
  *     proved;
  *   - a handle that was not made does not have the magic word by chance: let it be 0. Beside that word a call tests that `levels` is 4 or
- *     5, `taken` at most `frames`, `given` at most `taken`, and the root and the frame that was given back last among those taken; what
+ *     5, `taken` at most `frames`, `given` at most `taken`, and the root and the frame that was freed last among those taken; what
  *     else is written over a handle that was made it can't see;
  *   - a call that changes a table (new, map, unmap, protect) runs alone among those with its handle, or with memory that is lent to it.
  *     Those that only ask (resolve, access, tables) may run at once: they take both const, and write nothing of them. A processor may walk
  *     the frames while those run. It may too while a map, an unmap or a protect runs, as the one on which a kernel runs does: the code
  *     writes each entry of a table that is linked at most once, and a link after it has cleared the frame to which it leads. That a walk
- *     meets nothing else meanwhile rests on the code and on how it is compiled, and is proved nowhere. While nrvs_table_new runs none may;
+ *     meets nothing else meanwhile depends on the code and on how it is compiled, and is proved nowhere. While nrvs_table_new runs none may;
  *   - what a processor keeps in its TLB and paging-structure caches is invalidated after an unmap and a protect, and before a further
- *     map, which may take a frame that the unmap gave back. That this is enough rests on what each call is proved to leave as it was
+ *     map, which may take a frame that the unmap freed. That this is enough depends on what each call is proved to leave as it was
  *     (`kept` of `IsTableStep`): a map changes no word that isn't 0, and moves no table; an unmap clears words on the path of its address
- *     alone, and gives back tables of that path alone; a protect changes one word, that of its page.
+ *     alone, and frees tables of that path alone; a protect changes one word, that of its page.
  */
 #ifndef NRVS_H
 #define NRVS_H
@@ -99,7 +99,7 @@ enum {
 	NRVS_BAD_FRAMES = 3,     /* no frame, or more than 4,096; of a handle that was made, another number than it was made with */
 	NRVS_BAD_MARKS = 4,      /* fewer marks than frames */
 	NRVS_BAD_BASE = 5,       /* the last frame's number isn't below 2^40 */
-	NRVS_BAD_SIZE = 6,       /* the number stands for no size */
+	NRVS_BAD_SIZE = 6,       /* the number means no size */
 	NRVS_BAD_RIGHTS = 7,     /* .. for no rights */
 	NRVS_BAD_MODE = 8,       /* .. for no mode */
 	NRVS_BAD_ACCESS = 9,     /* .. for no access */
@@ -119,7 +119,7 @@ uint32_t nrvs_table_new(NRVS_LENT, uint64_t levels, uint64_t base);
 /* Maps a page: NRVS_DONE, NRVS_OVERLAP or NRVS_FULL. */
 uint32_t nrvs_table_map(NRVS_LENT, uint64_t base, uint32_t size, uint64_t physical, uint32_t rights, struct nrvs_reply *reply);
 
-/* Unmaps the page that begins at an address: NRVS_REMOVED, NRVS_INSIDE or NRVS_NOT_MAPPED. Tables left empty are given back at once. */
+/* Unmaps the page that begins at an address: NRVS_REMOVED, NRVS_INSIDE or NRVS_NOT_MAPPED. Tables left empty are freed at once. */
 uint32_t nrvs_table_unmap(NRVS_LENT, uint64_t base, struct nrvs_reply *reply);
 
 /* Gives the page that begins at an address these rights and no others: NRVS_CHANGED, NRVS_INSIDE or NRVS_NOT_MAPPED. */

@@ -2,7 +2,7 @@
  *
  * What the call answers is proved: its verdict is that of the audit on just these bytes, so of a NRVS_RIGHT the bytes spell one trace;
  * each reply answers an earlier call, no call is answered twice, and no thread has two calls open; all its answered calls and some
- * unanswered updates stand in the order, each once; a call that was answered before another was made comes first; every answer is
+ * unanswered updates are in the order, each once; a call that was answered before another was made comes first; every answer is
  * what one sequential address space gives there; and each dumped page table translates every address as that space does after as
  * many of the order's updates as the replica had applied (crates/nrvs_audit_c/README.md).
  *

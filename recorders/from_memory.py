@@ -5,14 +5,14 @@
 
 IMAGE is a file of the machine's physical memory from address 0 on: what QEMU's monitor command `pmemsave 0 SIZE FILE` wrote, or
 the file of `-object memory-backend-file`. Where the file isn't one run from 0 on (QEMU's PC machines put what doesn't fit
-below 3 or 3.5 GiB at 4 GiB), each --part says that LENGTH bytes at physical PHYS stand in the file at OFFSET (else at PHYS).
+below 3 or 3.5 GiB at 4 GiB), each --part says that LENGTH bytes at physical PHYS are in the file at OFFSET (else at PHYS).
 CR3 is the register's value: its bits 51:12 are the root, the others (PCID, LAM, no flush) are left out. Numbers are
 decimal, or hexadecimal after 0x. Five levels (CR4.LA57) make a trace of version 2.
 
 The trace has no log and no events: it is for `nrvs resolve`. `nrvs audit` seeks faults 13 to 16 in the dump, and then says
 `no 17 Differs` of any page table that maps something.
 
-Nothing here is verified, and nothing rests on it. Python 3 alone.
+Nothing here is verified, and nothing depends on it. Python 3 alone.
 """
 import argparse
 import os

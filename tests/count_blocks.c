@@ -1,5 +1,5 @@
-/* Preloaded: counts the large blocks of memory that a program takes and gives back, and writes at its end into the file
- * BLOCKS how many were taken and how many are left. A block that is given back twice ends the program. */
+/* Preloaded: counts the large blocks of memory that a program allocates and frees, and writes at its end into the file
+ * BLOCKS how many were allocated and how many are left. A block that is freed twice ends the program. */
 #define _GNU_SOURCE
 #include <dlfcn.h>
 #include <stdio.h>

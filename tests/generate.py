@@ -23,7 +23,7 @@ class Run:
         self.version, self.levels = version, levels
         self.events, self.log, self.open = [], [], {}
         self.after = [Space(tables, levels=levels)] # the space after the first n updates
-        self.seen = 0                               # what a call that is made now may not stand before
+        self.seen = 0                               # what a call that is made now may not come before
         self.needs = [0] * replicas                 # how many entries each dump has to have taken
         self.answers = {}                           # of a place
         self.reads = []                             # (at, call, index of the reply, floor, request)

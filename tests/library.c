@@ -166,7 +166,7 @@ static void refuses_handle(struct lent *l, const struct nrvs_table *damaged, uin
 		refuses_handle(&l, &damaged, status, __LINE__); \
 	} while (0)
 
-/* Each number of a handle just out of its range, and far out of it. Frames were given back, so that there is a last one. */
+/* Each number of a handle just out of its range, and far out of it. Frames were freed, so that there is a last one. */
 static void damaged_handles(uint64_t levels)
 {
 	struct lent l = lend(8);
@@ -257,7 +257,7 @@ static void answers(uint64_t levels)
 	take_back(&l);
 }
 
-/* Pages until no frame is left, and off again, twice: frames that were given back are taken again. */
+/* Pages until no frame is left, and off again, twice: frames that were freed are taken again. */
 static void fills(uint64_t levels)
 {
 	struct lent l = lend(32);

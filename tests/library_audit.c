@@ -109,7 +109,7 @@ static struct bytes bytes_of(const char *path)
 	return b;
 }
 
-/* What the audit tells of bytes, with room for so many calls. */
+/* What the audit says of bytes, with room for so many calls. */
 static void tells(const struct known *k, struct bytes b, size_t room)
 {
 	uint32_t order[MOST];

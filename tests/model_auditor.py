@@ -1,7 +1,7 @@
 #!/usr/bin/env python3
 """A second auditor, in plain Python: written from docs/FORMATS.md and docs/DEFINITIONS.md alone, to compare with.
 
-Nothing here is proved, and nothing rests on it. It shares no line and no idea of a loop with the program: where the two
+Nothing here is proved, and nothing depends on it. It shares no line and no idea of a loop with the program: where the two
 disagree on a trace, one of them is wrong. The largest trace takes it some seconds.
 
     model_auditor.py audit <TRACE                  what `nrvs audit` prints, with its status
@@ -130,7 +130,7 @@ class Space:
         self.levels, self.limit = levels, limit
         self.bases = []                             # rising
         self.pages = {}                             # base: size code, physical address, rights
-        self.users = collections.Counter()          # table below the root: how many pages stand below it
+        self.users = collections.Counter()          # table below the root: how many pages are below it
 
     def tables_of(self, base, size):
         """The tables below the root that a page needs: at each level whose table covers more than the page."""

@@ -1,6 +1,6 @@
 #!/usr/bin/env python3
 """A second reader of scripts, and a second core that takes their steps, in plain Python: written from docs/FORMATS.md alone, over the
-spaces of model_auditor.py, to compare with. Nothing here is proved, and nothing rests on it.
+spaces of model_auditor.py, to compare with. Nothing here is proved, and nothing depends on it.
 
     model_core.py [--levels N] [--replicas N] [--tables N] <SCRIPT     the events, the log and each replica's applied entries
 """
@@ -100,7 +100,7 @@ class Thread:
 
 
 class Core:
-    """One state of the protocol; `step` changes it where the step is enabled, and tells whether it was."""
+    """One state of the protocol; `step` changes it where the step is enabled, and says whether it was."""
 
     def __init__(self, levels, replicas, tables, requests):
         self.levels, self.tables = levels, tables

@@ -1,12 +1,12 @@
 #!/usr/bin/env python3
 """Compares the words that a reader has to believe with docs/DEFINITIONS.md, which has each of them in words; and the public calls
-of the libraries and their preconditions with the promises of their crates' READMEs. Part 1 of DEFINITIONS.md has to have just the words of the headline, and
-just the types and constants of the code of which these speak, with their variants, fields and values as the code declares them; and
-the crates of the audit depend on none of the replication.
+of the libraries and their preconditions with the promises of their crates' READMEs. Part 1 of DEFINITIONS.md has to have just the words
+of the headline, and just the types and constants of the code of which these speak, with their variants, fields and values as the code declares them; and
+the crates of the audit depend on none of the replication. The tables of ARCHITECTURE.md list the crates of crates.txt.
 
 A word of the trust base is a definition of some specs/ folder that a clause of a public call cites, or that such a word
-cites; worked examples aside. In DEFINITIONS.md a word is read aloud where it stands in bold code, **`word`**, under a heading that
-names its crate and file: so two words of one name are read aloud each. Prints each word that is missing on either side, and with
+cites; worked examples aside. In DEFINITIONS.md a word has its words where it is in bold code, **`word`**, under a heading that
+names its crate and file: so two words of one name are there each. Prints each word that is missing on either side, and with
 --list the words by file, in brackets those that are not of the trust base.
 """
 import re
@@ -202,8 +202,19 @@ def audit_alone():
                 yield f"{crate} of the audit depends on {other}"
 
 
+def listed():
+    """The crates of crates.txt that the tables of ARCHITECTURE.md lack, or have twice, and those that they have beside."""
+    lines = [re.sub(r"#.*", "", line) for line in (ROOT / "crates.txt").read_text().splitlines()]
+    crates = sorted(line.partition(":")[0].split()[0] for line in lines if line.strip())
+    section = (ROOT / "docs/ARCHITECTURE.md").read_text().partition("\n## Crates\n")[2].partition("\n## ")[0]
+    rows = [line.split("|")[1] for line in section.splitlines() if line.startswith("| ")]
+    named = sorted(name for row in rows for name in re.findall(r"`(\w+)`", row))
+    if named != crates:
+        yield f"ARCHITECTURE.md has other crates than crates.txt: {' '.join(sorted(set(named) ^ set(crates))) or 'some twice'}"
+
+
 def public_calls():
-    """Each public function and method of the libraries, worked examples aside: its crate, its type or trait (or None), its name, and whether it has a premise."""
+    """Each public function and method of the libraries, worked examples aside: its crate, its type or trait (or None), its name, and whether it has a precondition."""
     for library in sorted(ROOT.glob("crates/*/src/lib.rt")):
         crate = library.parent.parent.name
         if crate.endswith("_tests"):
@@ -348,7 +359,7 @@ def main(words):
     others = [(places, name) for places, name in told if not any((place, name) in base for place in places)]
     for places, name in others:
         print(f"read aloud, and no clause rests on it: {name} (of {', '.join(places)})")
-    lacking = [*first_part(), *audit_alone(), *untold(), *main_promises()]
+    lacking = [*first_part(), *audit_alone(), *untold(), *main_promises(), *listed()]
     for line in lacking:
         print(line)
     wrong = len(missing) + len(others) + len(lacking)

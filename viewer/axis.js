@@ -89,7 +89,7 @@ function recordedOrder() {
   return order.concat(reads.slice(next));
 }
 
-/** Gives each member of the recorded order a span of its own on the axis, rising, and within its call unless that stands too early. */
+/** Gives each member of the recorded order a span of its own on the axis, rising, and within its call unless that comes too early. */
 function indexLog() {
   run.entries = [];
   for (let place = 0; place < told.places; place++) {

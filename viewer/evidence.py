@@ -13,7 +13,7 @@ from ways import Step, path_address, step_words, walked
 @dataclasses.dataclass
 class Evidence:
     """What is said and marked: a sentence, facts, calls with what they are, other events, places, and entries of a dump; the address
-    that the fault names, and how many entries of the log stand before what is wrong."""
+    that the fault names, and how many entries of the log come before what is wrong."""
     sentence: str
     facts: list = dataclasses.field(default_factory=list)
     calls: dict = dataclasses.field(default_factory=dict)
@@ -196,7 +196,7 @@ OF_FAULT = {
     "Differs": of_differs,
 }
 
-# what each fault tells of most often (docs/RECORDING.md)
+# what each fault means most often (docs/RECORDING.md)
 TELLS = {
     "ThreadOpen": "of the hook: a thread has two calls open",
     "NoSuchCall": "of the hook: a reply to a call that wasn't made",

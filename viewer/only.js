@@ -44,7 +44,7 @@ function onlyText(text, stretch, over) {
     + (cut ? `${plural(cut, "event")} of others` : "no event") + (lanes ? ` and ${plural(lanes, "thread")} without such a call.` : ".");
 }
 
-/** Whether the marked calls don't stand side by side as long as all are shown. */
+/** Whether the marked calls aren't side by side as long as all are shown. */
 function isFarApart() {
   const spots = run.marked.map(fold);
   return spots.length > 0 && (Math.max(...spots) - Math.min(...spots) > FAR || layOut().stuck);

@@ -62,7 +62,7 @@ function answerText(reply) {
 
 const run = {};
 
-/** Of each call its first reply and its first place, which stand too early, and which are marked. */
+/** Of each call its first reply and its first place, which come too early, and which are marked. */
 function indexRun() {
   run.calls = [];
   run.reply = new Int32Array(told.events).fill(-1);
@@ -79,7 +79,7 @@ function indexRun() {
 
 const endOf = call => run.reply[call] < 0 ? told.events : run.reply[call];
 
-/** The calls that stand after fewer entries than a reply before them tells of. */
+/** The calls that come after fewer entries than a reply before them makes known. */
 function earlyCalls() {
   const early = new Set();
   let known = 0;

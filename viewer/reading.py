@@ -178,7 +178,7 @@ class Trace:
         return {reply.call: (index, reply) for index, reply in reversed(self.replies)}
 
     def known_by(self, reply):
-        """How many entries of the log the reply tells of."""
+        """How many entries of the log the reply makes known."""
         return reply.at + self.is_update(reply.call)
 
     def call_text(self, number):

@@ -11,7 +11,7 @@ function readColours() {
   for (const name of names) colours[name] = style.getPropertyValue("--" + name).trim();
 }
 
-/** Black or white, whichever is told apart better on a colour #rrggbb. */
+/** Black or white, whichever differs more on a colour #rrggbb. */
 function inkOn(colour) {
   const [red, green, blue] = [1, 3, 5].map(at => (parseInt(colour.slice(at, at + 2), 16) / 255) ** 2.2);
   return 0.2126 * red + 0.7152 * green + 0.0722 * blue > 0.18 ? "#101215" : "#ffffff";
@@ -143,7 +143,7 @@ function drawAxis(pen, width, place) {
   }
 }
 
-/** A stretch of the axis that is left out: hatched between two wavy lines. Returns where the next number may stand. */
+/** A stretch of the axis that is left out: hatched between two wavy lines. Returns where the next number may be. */
 function drawCut(pen, width, part, top, tall, free) {
   const left = toX(axis.to[part], width), right = toX(axis.to[part + 1], width), many = axis.at[part + 1] - axis.at[part];
   pen.fillStyle = colours.cut;
@@ -222,10 +222,10 @@ function drawApplied(pen, width, y, dump, replica) {
   pen.fillRect(end, y - 5, 2, 9);
 }
 
-/** Whether so few events are in view that each call's arrow can be told from the others; marked ones are always drawn. */
+/** Whether so few events are in view that each call's arrow can be seen apart from the others; marked ones are always drawn. */
 const hasArrows = place => picture.to - picture.from < (place.stuck ? 120 : 400);
 
-/** From a call's box to where it stands in the log. */
+/** From a call's box to where it is in the log. */
 function arrow(pen, place, width, call, colour, thick) {
   const at = run.stands[call], row = run.row[threadOf(call)];
   if (at < 0 || row < 0 || place.stuck && place.tops[row] + place.heights[row] / 2 < place.lanes) return;

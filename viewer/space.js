@@ -62,7 +62,7 @@ function pagesAfter(count) {
   return [...pages.values()].sort((one, other) => one.base - other.base);
 }
 
-/** How many entries of the log a call stands after, with itself; -1 where it isn't known. */
+/** How many entries of the log a call comes after, with itself; -1 where it isn't known. */
 function entriesWith(call) {
   if (run.place[call] >= 0) return run.place[call] + 1;
   return isUpdate(call) || run.reply[call] < 0 ? -1 : Math.min(atOf(run.reply[call]), told.places);
@@ -101,7 +101,7 @@ function updateText(place, call) {
   return `Place ${place}: call ${call}, thread ${threadOf(call)}: ${requestText(call)} \u2192 ${answerText(run.reply[call])}.${nothing}`;
 }
 
-/** What stands first: the page that covers the fault's address, that of the address which is shown alone, and that of the last update. */
+/** What comes first: the page that covers the fault's address, that of the address which is shown alone, and that of the last update. */
 function firstRows(pages) {
   const place = space.after - 1, last = place >= 0 && isCall(logAt(place)) ? addressOf(logAt(place)) : null, rows = [];
   const wanted = [[told.address && BigInt(told.address), "the fault's address"], [space.address, "the address that is shown alone"],
@@ -139,7 +139,7 @@ function joined(pages) {
   return rows;
 }
 
-/** A row of the panel: a page, or some that were joined, or an address where none is; what stands first says why. */
+/** A row of the panel: a page, or some that were joined, or an address where none is; what comes first says why. */
 function pageRow(page, why) {
   const row = element("tr", undefined, why ? "first" : ""), many = page.many || 1;
   const only = page.map === undefined ? hex(page.address) : pageHex(page.base) + (page.size ? ` ${SIZES[page.size]}` : "");

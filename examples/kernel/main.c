@@ -10,7 +10,7 @@
 #include "spots.h"
 #include "tries.h"
 
-/* What the loader tells (PVH): no more of it than this kernel reads. */
+/* What the loader passes (PVH): no more of it than this kernel reads. */
 struct start_info {
 	uint32_t magic, version, flags, modules;
 	uint64_t modules_at, command_line;
@@ -75,7 +75,7 @@ static void build(unsigned levels)
 	rounds_map_first_pages();
 }
 
-/* What the library's answers rest on (docs/FORMATS.md): NX and WP on; PG, PAE and LA57 are since boot.S. */
+/* What the library's answers depend on (docs/FORMATS.md): NX and WP on; PG, PAE and LA57 are since boot.S. */
 static void enter(void)
 {
 	write_msr(MSR_EFER, read_msr(MSR_EFER) | EFER_NXE);

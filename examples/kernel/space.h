@@ -9,7 +9,7 @@
 struct page {
 	uint64_t base, physical;
 	unsigned size, rights; /* the library's codes */
-	int is_own;            /* the kernel stands on it: it is left as it is */
+	int is_own;            /* the kernel itself needs it: it is left as it is */
 };
 
 enum { SPACE_TABLES = 72, SPACE_PAGES = 256 };
@@ -19,7 +19,7 @@ void space_begin(unsigned levels);
 uint64_t space_root(void);
 unsigned space_levels(void);
 
-/* Updates, which flush what the processor kept of the page. Each tells the code of the library's answer. */
+/* Updates, which flush what the processor kept of the page. Each returns the code of the library's answer. */
 unsigned space_map(const struct page *page);
 unsigned space_unmap(uint64_t base);
 unsigned space_protect(uint64_t base, unsigned rights);

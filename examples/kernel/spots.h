@@ -11,7 +11,7 @@ extern const uint64_t spots[SPOTS], regions[REGIONS];
 /* Whether there is memory at each. */
 int spots_are_there(void);
 
-/* A physical address in a spot of a page, whose physical address and size are told; a multiple of 8. */
+/* A physical address in a spot of a page, whose physical address and size are given; a multiple of 8. */
 uint64_t spot_address(uint64_t physical, uint64_t bytes);
 
 /* Whether an address is in a spot. */

@@ -8,7 +8,7 @@
 the task, and the instructions, each an address and its place in the kernel: that of the store or the access, and those to which
 the calls return that led there.   A log that ends with .xz is unpacked.
 
-How, and why so, stands in README.md. Nothing here is verified, and nothing rests on it.
+How, and why so, is in README.md. Nothing here is verified, and nothing depends on it.
 """
 import argparse
 import collections
@@ -53,7 +53,7 @@ class Converter:
     trace: Trace = field(default_factory=Trace)
     tables: PageTables = field(default_factory=lambda: PageTables(0))
     pages: dict[int, Page] = field(default_factory=dict)                    # after the log as it is
-    promised: set[int] = field(default_factory=set)                         # bases where a system call's promise stands, not a store
+    promised: set[int] = field(default_factory=set)                         # bases where a system call's promise is, not a store
     latest: dict[int, tuple[int, int]] = field(default_factory=dict)        # by base: place and task of the latest update
     windows: dict[Window, dict[int, list[Update]]] = field(default_factory=dict)    # by task that owes the flush
     owed: dict[int, set[Window]] = field(default_factory=lambda: collections.defaultdict(set))      # by task

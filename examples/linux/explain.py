@@ -43,7 +43,7 @@ def origin(words: list[str]) -> str:
 
 
 def explained(lines: list[str], calls: dict[int, list[str]]) -> list[str]:
-    """The lines, each call that they name told of once, behind the line that names it first."""
+    """The lines, each call that they name described once, behind the line that names it first."""
     found, told = [], set()
     for line in lines:
         found.append(line)

@@ -1,4 +1,4 @@
-"""Debian's package of the kernel, and where in this kernel the things stand that the plugin has to know."""
+"""Debian's package of the kernel, and where in this kernel the things are that the plugin has to know."""
 import bisect
 import functools
 import glob
@@ -91,7 +91,7 @@ class Kernel:
 
     @functools.cached_property
     def by_name(self) -> dict[str, int]:
-        """Of a name that stands twice, the first address."""
+        """Of a name that is there twice, the first address."""
         return {name: address for address, name in reversed(self.symbols)}
 
     def address(self, name: str) -> int:

@@ -161,7 +161,7 @@ class Slimmer:
         return pc - self.place(pc)[1]
 
     def calls_to(self, pc: int) -> list[str]:
-        """The way to an instruction: from its function on, each time the next word of the stack that stands behind a call of it."""
+        """The way to an instruction: from its function on, each time the next word of the stack that comes after a call of it."""
         found, at = [], self.begin(pc)
         for back, called in self.callers:
             if len(found) < CALLERS and called == at:

@@ -45,7 +45,7 @@ class PageTables:
         self.root = root
         self.levels = 4
         self.linked: dict[int, Table] = {}
-        self.told: dict[int, Table] = {}        # those whose link is told of next
+        self.told: dict[int, Table] = {}        # those whose link is logged next
 
     def tell(self, frame: int, level: int) -> None:
         self.told[frame] = Table(level, {}, [])

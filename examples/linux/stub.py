@@ -13,7 +13,7 @@ class Stub:
         self.socket.connect(path)
         self.socket.settimeout(60)
         self.received = b""
-        self.ask("?")       # the guest stands still from here on
+        self.ask("?")       # the guest is stopped from here on
 
     def ask(self, text: str) -> str:
         data = text.encode()

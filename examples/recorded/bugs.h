@@ -1,5 +1,5 @@
 /*
- * Bugs that page tables of real systems have had, each behind one name; docs/RECORDING.md says what the auditor tells of
+ * Bugs that page tables of real systems have had, each behind one name; docs/RECORDING.md says what the auditor says of
  * each. A run has at most one of them. Those that begin at once are in the random requests too; the others only begin with
  * the closing requests, since what they leave behind would be met in different ways by different schedules.
  */
@@ -13,7 +13,7 @@ enum bug {
 	STALE_READ,           /* a translation of before is answered, as of before, without a look at the log */
 	NO_SHOOTDOWN,         /* a cached translation is used after the page table has changed */
 	LOST_UPDATE,          /* a map is answered, and its entry isn't stored */
-	SWAPPED_UPDATES,      /* the place is taken after the lock was given back */
+	SWAPPED_UPDATES,      /* the place is taken after the lock was released */
 	UNMAP_NEIGHBOUR,      /* an unmap clears the next entry too */
 	FREED_TABLE,          /* an emptied table is freed, and stays linked */
 	SHARED_TABLE,         /* a new table is linked at two entries */

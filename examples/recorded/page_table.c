@@ -134,7 +134,7 @@ nrvs_answer page_table_map(struct page_table *table, uint64_t address, nrvs_size
 	return nrvs_done();
 }
 
-/* Frees the tables that became empty, from the one that the entry at this level stands in upwards. */
+/* Frees the tables that became empty, from the one that has the entry at this level upwards. */
 static void free_empty(struct page_table *table, uint64_t address, entries way, int level)
 {
 	for (; level < 4; level++) {

@@ -5,7 +5,7 @@
  *     ./recorded --threads 8 --seed 1 | nrvs audit
  *     ./recorded --bug lost-update | nrvs audit
  *
- * What it takes to record a page table stands between the lines marked `trace`.
+ * What it takes to record a page table is between the lines marked `trace`.
  */
 #include "bugs.h"
 #include "page_table.h"

@@ -6,7 +6,7 @@ use core::fmt::{self, Display, Formatter};
 /// What the audit finds.
 #[derive(Clone, Copy, Debug, PartialEq, Eq)]
 pub enum Verdict<'a> {
-    /// The bytes are right: all answered calls and some unanswered updates stand in an order that explains them.
+    /// The bytes are right: all answered calls and some unanswered updates are in an order that explains them.
     Right {
         /// How many calls the order has.
         calls: usize,
@@ -65,8 +65,8 @@ impl Display for OutOfMemory {
 
 impl Error for OutOfMemory {}
 
-/// Judges bytes. The calls of an order are written to the begin of the array where it has room for all of them. Takes memory of
-/// the C library's heap, and gives it back.
+/// Judges bytes. The calls of an order are written to the begin of the array where it has room for all of them. Allocates
+/// on the C library's heap, and frees all of it.
 ///
 /// # Errors
 ///

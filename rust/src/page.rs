@@ -1,4 +1,4 @@
-//! Pages, and the memory in which tables stand.
+//! Pages, and the memory in which tables are.
 
 /// How many levels of tables a translation goes through.
 #[derive(Clone, Copy, Debug, PartialEq, Eq)]

@@ -3,7 +3,7 @@ use crate::errors::{AccessError, BadMemory, BadRequest, ChangeError, MapError};
 use crate::ffi::{self, Reply};
 use crate::page::{Access, Depth, Frame, Mapping, Mark, Mode, Page, Rights, Size};
 
-/// A page table in frames that are lent to it. As it ends, the frames keep what then stands in them.
+/// A page table in frames that are lent to it. As it ends, the frames keep what is then in them.
 ///
 /// Frame number `base + i` is `frames[i]`: where the first frame lies at the physical address `base * 4096`, a processor walks the
 /// table from `root() * 4096` in CR3.
@@ -15,7 +15,7 @@ pub struct PageTable<'a> {
 }
 
 impl<'a> PageTable<'a> {
-    /// A page table with no pages, whatever stands in the memory. Its root takes a frame.
+    /// A page table with no pages, whatever is in the memory. Its root takes a frame.
     ///
     /// # Errors
     ///
@@ -57,7 +57,7 @@ impl<'a> PageTable<'a> {
         self.handle.root
     }
 
-    /// The frames as they stand.
+    /// The frames as they are.
     pub fn frames(&self) -> &[Frame] {
         self.frames
     }

@@ -7,7 +7,7 @@
 /* A call instruction stored its return address there. */
 void callers_called(unsigned cpu, uint64_t at);
 
-/* Tells the words of the stack, from the latest call's on, that stand behind a call, each with what is called there. */
+/* Logs the words of the stack, from the latest call's on, that come after a call, each with what is called there. */
 void callers_tell(unsigned cpu);
 
 #endif

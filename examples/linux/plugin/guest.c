@@ -5,9 +5,9 @@
 #include <string.h>
 
 #define STRUCT_PAGE_BYTES 64
-#define PAGE_TYPE 48          /* of struct page: where its kind stands, */
+#define PAGE_TYPE 48          /* of struct page: where its kind is, */
 #define PAGE_TYPE_MASK 0xf0000200u
-#define PAGE_TYPE_TABLE 0xf0000000u /* and what stands there while it is a page table */
+#define PAGE_TYPE_TABLE 0xf0000000u /* and what is there while it is a page table */
 
 struct guest guest = { .levels = 4 };
 

@@ -8,11 +8,11 @@
 #define NOWHERE (~(uint64_t)0)
 #define KERNEL_TEXT 0xffffffff80000000u /* where physical 0 is in the map of the kernel's own code */
 
-/* What the plugin is told of the guest's kernel, each as name=value. Addresses are the kernel's own, without KASLR. */
+/* What the plugin gets to know of the guest's kernel, each as name=value. Addresses are the kernel's own, without KASLR. */
 struct guest {
 	char memory[512];      /* the file that is the guest's memory */
 	uint64_t levels;       /* of its page tables: 4 or 5 */
-	uint64_t isolated;     /* 1: the user's table stands behind the kernel's (page-table isolation) */
+	uint64_t isolated;     /* 1: the user's table comes after the kernel's (page-table isolation) */
 	uint64_t percpu;       /* __per_cpu_offset */
 	uint64_t loaded;       /* cpu_tlbstate, whose first word is the address space that a processor has loaded */
 	uint64_t current;      /* current_task */

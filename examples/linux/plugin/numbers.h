@@ -8,7 +8,7 @@ struct numbers;
 
 struct numbers *numbers_new(void);
 
-/* The number that stands there for `key`, which isn't 0; one that wasn't asked for before is 0. */
+/* The number that is there for `key`, which isn't 0; one that wasn't asked for before is 0. */
 uint64_t *numbers_at(struct numbers *numbers, uint64_t key);
 
 #endif

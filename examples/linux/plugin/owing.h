@@ -4,7 +4,7 @@
 
 #include <stdint.h>
 
-/* A task changed the word at a physical address; NOWHERE stands for more than one. */
+/* A task changed the word at a physical address; NOWHERE means more than one. */
 void owing_add(uint64_t task, uint64_t word);
 
 /* The task has flushed. What it changed has to be looked at again. */

@@ -1,4 +1,4 @@
-/* A line of QEMU's log, where the exceptions stand that QEMU tells itself: so all of it is in one order. */
+/* A line of QEMU's log, where the exceptions are that QEMU logs itself: so all of it is in one order. */
 #ifndef SAY_H
 #define SAY_H
 

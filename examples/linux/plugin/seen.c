@@ -4,7 +4,7 @@
 #include "numbers.h"
 #include "tables.h"
 
-/* Changes are counted. By access: the count when it was told. By word: the count of its latest change. */
+/* Changes are counted. By access: the count when it was logged. By word: the count of its latest change. */
 static struct numbers *told, *changed;
 static uint64_t count, of_all;
 

@@ -1,4 +1,4 @@
-/* Which accesses are told: one page's again, by the same processor and in the same way, only where the page has changed since. */
+/* Which accesses are logged: one page's again, by the same processor and in the same way, only where the page has changed since. */
 #ifndef SEEN_H
 #define SEEN_H
 
@@ -12,7 +12,7 @@ void seen_begin(void);
 void seen_changed(uint64_t word);
 void seen_all_changed(void);
 
-/* Whether this access has to be told; it counts as told. */
+/* Whether this access has to be logged; it counts as logged. */
 int seen_is_new(unsigned cpu, int is_user, enum access access, uint64_t address);
 
 #endif

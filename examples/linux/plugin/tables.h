@@ -4,7 +4,7 @@
 
 #include <stdint.h>
 
-/* From the root on; each table that is linked is told. */
+/* From the root on; each table that is linked is logged. */
 void tables_begin(uint64_t root);
 uint64_t tables_root(void);
 
@@ -25,7 +25,7 @@ int tables_is_empty(void);
 /* The physical address of the last word of the walk of an address, by what is in memory now; NOWHERE where it leads out of it. */
 uint64_t tables_last_word(uint64_t address);
 
-/* Tells the tables as they are in memory. */
+/* Logs the tables as they are in memory. */
 void tables_dump(void);
 
 #endif

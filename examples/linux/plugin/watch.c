@@ -1,8 +1,8 @@
 /*
  * A plugin of QEMU's translator that watches one address space of a Linux guest, from the store that gives it its page table on: each
  * store of the guest's kernel to its page tables, what the guest's processors do with it, flushes and system calls. It writes lines to
- * QEMU's log, among those of the exceptions that QEMU tells itself (-d int,plugin). With -accel tcg,thread=single one thread of the
- * host runs all processors, so that what is told comes one at a time, in order.
+ * QEMU's log, among those of the exceptions that QEMU logs itself (-d int,plugin). With -accel tcg,thread=single one thread of the
+ * host runs all processors, so that what is logged comes one at a time, in order.
  *
  * Lines, numbers in hexadecimal but for levels, processors and counts:
  *
@@ -301,7 +301,7 @@ static void translate_kernel(struct qemu_plugin_insn *instruction)
 			ask(instruction, on_flushed);
 }
 
-/* Of a block in user mode its first instruction is told as a fetch. */
+/* Of a block in user mode its first instruction is logged as a fetch. */
 static void translate_user(struct qemu_plugin_tb *block, struct qemu_plugin_insn *first)
 {
 	uint64_t physical = guest_of_host(qemu_plugin_insn_haddr(first));
@@ -337,7 +337,7 @@ static void on_translate(qemu_plugin_id_t id, struct qemu_plugin_tb *block)
 	}
 }
 
-/* ---- what the plugin is told ---- */
+/* ---- what the plugin gets to know ---- */
 
 static const struct {
 	const char *name;
