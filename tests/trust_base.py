@@ -1,8 +1,8 @@
 #!/usr/bin/env python3
 """Compares the words that a reader has to believe with docs/DEFINITIONS.md, which has each of them in words; and the public calls
 of the libraries and their preconditions with the promises of their crates' READMEs. Part 1 of DEFINITIONS.md has to have just the words
-of the headline, and just the types and constants of the code of which these speak, with their variants, fields and values as the code declares them; and
-the crates of the audit depend on none of the replication. The tables of ARCHITECTURE.md list the crates of crates.txt.
+of the headline, and just the types and constants of the code of which these speak, with their variants, fields and values as the code
+declares them; and the crates of the audit depend on none of the replication. The tables of ARCHITECTURE.md list the crates of crates.txt.
 
 A word of the trust base is a definition of some specs/ folder that a clause of a public call cites, or that such a word
 cites; worked examples aside. In DEFINITIONS.md a word has its words where it is in bold code, **`word`**, under a heading that
@@ -78,7 +78,8 @@ def braced(text, begin):
 
 def is_public(text, at):
     """Whether the clause at this index is one of a public call, or of a trait or model that callers see."""
-    head = re.findall(r"^\s*(pub(?:\(crate\))? |)(?:unsafe )?(?:const )?(?:extern \"C\" )?(fn|trait|impl|struct)\b([^\n]*)", text[:at], re.M)
+    head = re.findall(r"^\s*(pub(?:\(crate\))? |)(?:unsafe )?(?:const )?(?:extern \"C\" )?(fn|trait|impl|struct)\b([^\n]*)",
+                      text[:at], re.M)
     public_trait = False
     for visible, kind, rest in head:
         if kind == "trait":
@@ -136,7 +137,8 @@ def declared_by(base, found):
                 if not is_declared:
                     continue
                 file = ROOT / "crates" / crate / "src" / f"{module}.rt"
-                (constants if item.startswith("TheConstants") else types).add((name if item.startswith("TheConstants") else item.partition(".")[0], file))
+                is_constant = item.startswith("TheConstants")
+                (constants if is_constant else types).add((name if is_constant else item.partition(".")[0], file))
     return types, constants
 
 
@@ -155,7 +157,8 @@ def number(text):
 
 
 def undeclared(part, base, found):
-    """What is wrong with the tables of types and constants: each has a line, in which code are just its variants and fields, or the value is its own."""
+    """What is wrong with the tables of types and constants: each has a line, in which code are just its variants and fields, or the
+    value is its own."""
     section = part.partition(DECLARED)[2].partition("\n### ")[0]
     rows = {name: cells for name, cells in re.findall(r"^\| \*\*`(\w+)`\*\* \|(.*)\|$", section, re.M)}
     types, constants = declared_by(base, found)
@@ -214,7 +217,8 @@ def listed():
 
 
 def public_calls():
-    """Each public function and method of the libraries, worked examples aside: its crate, its type or trait (or None), its name, and whether it has a precondition."""
+    """Each public function and method of the libraries, worked examples aside: its crate, its type or trait (or None), its name, and
+    whether it has a precondition."""
     for library in sorted(ROOT.glob("crates/*/src/lib.rt")):
         crate = library.parent.parent.name
         if crate.endswith("_tests"):
@@ -312,6 +316,25 @@ def untold():
                 yield f"the preconditions of {crate} have {call}, which has none"
 
 
+def unknown_names():
+    """The names in the promises of a crate's README that no source and no test has, and the paths that lead nowhere."""
+    patterns = ("crates/*", "crates/*/src/**/*.rt", "crates/*/specs/**/*.antt", "crates/*/must-fail/*", "include/*.h", "tests/*",
+                "tests/cases/*")
+    files = [path for pattern in patterns for path in ROOT.glob(pattern)]
+    known = {path.name for path in files} | {path.stem for path in files} | {path.parent.name for path in files}
+    for path in files:
+        if path.is_file():
+            known.update(re.findall(r"\w+", path.read_text(errors="replace")))
+    for readme in sorted(ROOT.glob("crates/*/README.md")):
+        promised = re.sub(r"\s+", " ", readme.read_text().partition("\n## ")[2])
+        for name in sorted(set(re.findall(r"`([^`\s]+)`", promised))):
+            is_path = "/" in name
+            if is_path and not (ROOT / name).exists() and not (readme.parent / name).exists() and name != "must-fail/":
+                yield f"{readme.relative_to(ROOT)} names a path that leads nowhere: {name}"
+            elif re.fullmatch(r"[A-Za-z_]\w*(::\w+)*", name) and not set(name.split("::")) <= known:
+                yield f"{readme.relative_to(ROOT)} has a name that no source has: {name}"
+
+
 def main_promises():
     """What is wrong with PROMISES.md, and with the length of its lines and of the crates' READMEs."""
     page = ROOT / "docs/PROMISES.md"
@@ -359,7 +382,7 @@ def main(words):
     others = [(places, name) for places, name in told if not any((place, name) in base for place in places)]
     for places, name in others:
         print(f"read aloud, and no clause rests on it: {name} (of {', '.join(places)})")
-    lacking = [*first_part(), *audit_alone(), *untold(), *main_promises(), *listed()]
+    lacking = [*first_part(), *audit_alone(), *untold(), *main_promises(), *unknown_names(), *listed()]
     for line in lacking:
         print(line)
     wrong = len(missing) + len(others) + len(lacking)
