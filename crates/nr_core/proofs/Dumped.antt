@@ -6,11 +6,13 @@ use Rattle.std.specs.FinMap as finite
 use Rattle.std.specs.FinMap.{nat_cmp-IsAntisymmetric}
 use Rattle.vs_types.specs.Space.{Space, table_count}
 use Rattle.vs_types.specs.declared.depth.Depth.{Depth}
+use Rattle.vs_types.specs.declared.limits.TheConstants.{TABLES}
 use Rattle.vs_walk.specs.Dump.{Image}
 use Rattle.vs_walk.specs.Memory.{Memory}
 use Rattle.vs_walk.specs.Traversal.{traversal, reached, walk_fault}
 use Rattle.vs_walk.specs.Walk.{TranslatesAs}
 use Rattle.vs_space.specs.Table.{PageTable, IsTableOf}
+use Rattle.nr_trace.specs.Parts.{HasFrames}
 use Rattle.nr_core.specs.State.{Replica}
 use Rattle.nr_core.specs.Run.{IsDumpOfReplica}
 
@@ -68,9 +70,9 @@ is_dump table space replica depth root dump of space_is applied faultless is =
           stray.1 there;
     }
 
--- and has a frame, as each space has a table
-pub has_frame : (table : PageTable) (space : Space) (depth : Depth) (root tables : ℕ) (dump : Image) → IsGathered table depth root dump
-    → tables ≡ finite.len table.memory → tables ≡ table_count table.depth space → 1 ≤ finite.len dump.frames
-has_frame table space depth root tables dump is reads counts =
+-- and has a frame, as each space has a table, and no more than tables
+pub has_frames : (table : PageTable) (space : Space) (depth : Depth) (root tables : ℕ) (dump : Image) → IsGathered table depth root dump
+    → tables ≡ finite.len table.memory → tables ≡ table_count table.depth space → tables ≤ TABLES → HasFrames dump
+has_frames table space depth root tables dump is reads counts few =
     let frames = ap (λ (m : Memory). finite.len m) (same_frames table depth root dump is) in
-    omega (arith, frames, reads, counts)
+    (omega (arith, frames, reads, counts), omega (arith, frames, reads, few))

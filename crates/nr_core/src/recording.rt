@@ -1,7 +1,7 @@
 //! A recording of the state.
 ghost use Rattle.std.specs.Prelude.{◌≡◌, ◌≤◌, ◌&&◌, All, IfOk, map, if◌then◌else◌};
-ghost use Rattle.std.specs.FinMap as finite;
 ghost use Rattle.std.specs.List.{list_all, AllZip};
+ghost use Rattle.nr_trace.specs.Parts.{HasFrames};
 ghost use Rattle.nr_trace.specs.Recording.{IsRecording};
 ghost use Rattle.nr_trace.specs.declared.version.Version.TheVariants.{V1, V2};
 ghost use Rattle.nr_core.specs.Run.{depth_in_first, event_in_first, IsDumpOfReplica, IsRecordingOf};
@@ -86,7 +86,7 @@ fn dumps_of(alloc: Global, config: Config, replicas: &[ReplicaState]) -> Result<
     requires { All (IsReplica config) replicas.now }
     ensures each { IfOk result (λ dumps.
         AllZip (IsDumpOfReplica config.depth) (map replica_in replicas.now) dumps.items) }
-    ensures frames { IfOk result (λ dumps. All (λ dump. 1 ≤ finite.len dump.frames) dumps.items) }
+    ensures frames { IfOk result (λ dumps. All HasFrames dumps.items) }
 {
     let mut dumps = Vec::with_capacity(alloc, replicas.len())?;
     for replica in replicas {
@@ -99,7 +99,7 @@ fn dumps_of(alloc: Global, config: Config, replicas: &[ReplicaState]) -> Result<
 fn dump_of(alloc: Global, config: Config, replica: &ReplicaState) -> Result<Dump, Memory>
     requires { IsReplica config replica.now }
     ensures is { IfOk result (IsDumpOfReplica config.depth (replica_in replica.now)) }
-    ensures frames { IfOk result (λ dump. 1 ≤ finite.len dump.frames) }
+    ensures frames { IfOk result HasFrames }
 {
     let _tables = config.tables();
     replica.table.dump(alloc, replica.marks.applied)

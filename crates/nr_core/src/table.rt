@@ -1,4 +1,3 @@
-ghost use Rattle.std.specs.FinMap as finite;
 ghost use Rattle.std.specs.Prelude.{◌≡◌, ◌+◌, ◌*◌, ◌^◌, ◌<◌, ◌≤◌, IfOk};
 ghost use Rattle.vs_types.specs.Config.{IsLayout};
 ghost use Rattle.vs_types.specs.Depth.{IsCanonical};
@@ -8,6 +7,7 @@ ghost use Rattle.vs_types.specs.Space as spaces;
 ghost use Rattle.vs_types.specs.Step.{step, look, allow};
 ghost use Rattle.vs_types.specs.declared.limits.TheConstants.{TABLES};
 ghost use Rattle.vs_space.specs.Table.{IsTableOf};
+ghost use Rattle.nr_trace.specs.Parts.{HasFrames};
 ghost use Rattle.nr_core.specs.Run.{IsDumpOfReplica};
 ghost use Rattle.nr_core.specs.State.{Replica};
 ghost use Rattle.nr_core.specs.inside.OneSpace.{one_space};
@@ -79,7 +79,7 @@ impl Table {
         requires { self.now.pages.limit ≤ TABLES }
         ensures is { (replica : Replica) → replica.applied ≡ applied → replica.space ≡ self.now.of.0
             → IfOk result (IsDumpOfReplica self.now.pages.depth replica) }
-        ensures frames { IfOk result (λ dump. 1 ≤ finite.len dump.frames) }
+        ensures frames { IfOk result HasFrames }
     {
         let _tables = self.pages.tables();
         let root = self.pages.root();

@@ -7,7 +7,7 @@ use Rattle.vs_types.specs.declared.depth.Depth.{Depth}
 use Rattle.vs_walk.specs.Memory.{Memory}
 use Rattle.vs_walk.specs.Traversal.{traversal, reached}
 
-pub all_gathered : (memory dump : Memory) (reached : List ℕ) → ((number : ℕ) → Contains reached number → IsTrue (finite.contains_key memory number))
+all_gathered : (memory dump : Memory) (reached : List ℕ) → ((number : ℕ) → Contains reached number → IsTrue (finite.contains_key memory number))
     → ((number : ℕ) → IsTrue (finite.contains_key memory number) → Contains reached number)
     → ((number : ℕ) → Contains reached number → finite.get dump number ≡ finite.get memory number)
     → ((number : ℕ) → IsTrue (finite.contains_key dump number) → Contains reached number) → dump ≡ memory
@@ -20,3 +20,14 @@ all_gathered memory dump reached in_use each held only =
 
 pub same_reached : (memory : Memory) (depth d : Depth) (root r : ℕ) → d ≡ depth → r ≡ root → reached (traversal d memory r) ≡ reached (traversal depth memory root)
 same_reached memory depth d root r ed er = ap (λ z. reached (traversal z memory r)) ed ∙ ap (λ z. reached (traversal depth memory z)) er
+
+-- where all frames of the memory are reached, the dump has just these
+pub same_frames : (memory dump : Memory) (depth d : Depth) (root r : ℕ) → d ≡ depth → r ≡ root
+    → ((number : ℕ) → Contains (reached (traversal depth memory root)) number → IsTrue (finite.contains_key memory number))
+    → ((number : ℕ) → IsTrue (finite.contains_key memory number) → Contains (reached (traversal depth memory root)) number)
+    → ((number : ℕ) → Contains (reached (traversal d memory r)) number → finite.get dump number ≡ finite.get memory number)
+    → ((number : ℕ) → IsTrue (finite.contains_key dump number) → Contains (reached (traversal d memory r)) number) → dump ≡ memory
+same_frames memory dump depth d root r same_depth same_root in_use each held only =
+    let same = same_reached memory depth d root r same_depth same_root in
+    all_gathered memory dump (reached (traversal depth memory root)) in_use each
+    (λ n h. held n (subst (λ l. Contains l n) (sym same) h)) (λ n h. subst (λ l. Contains l n) same (only n h))

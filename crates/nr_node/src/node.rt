@@ -5,6 +5,7 @@ ghost use Rattle.vs_types.specs.Operation.{IsAction};
 ghost use Rattle.vs_types.specs.Refusal.{IfRefused};
 ghost use Rattle.vs_types.specs.Space.{table_count};
 ghost use Rattle.vs_types.specs.Step.{allow, look};
+ghost use Rattle.vs_types.specs.declared.limits.TheConstants.{TABLES};
 ghost use Rattle.vs_walk.specs.Walk.{TranslatesAs};
 ghost use Rattle.nr_ring.specs.Calls.{HasLooked, HasMoved, copy_of, joint_view};
 ghost use Rattle.nr_ring.specs.Entries.{HasAppended, IsReason};
@@ -250,6 +251,7 @@ impl<S: FrameStore, J: LogName> Node<S, J> {
             TranslatesAs J.depth dump.frames dump.root (node_space J.depth J.replicas self.now)) }
         ensures frames { IfOk result (λ dump.
             finite.len dump.frames ≡ table_count J.depth (node_space J.depth J.replicas self.now)) }
+        ensures few { IfOk result (λ dump. finite.len dump.frames ≤ TABLES) }
     {
         self.replica.dump()
     }

@@ -5,7 +5,7 @@ ghost use Rattle.vs_types.specs.LogEntry.{IsLogEntry};
 ghost use Rattle.vs_types.specs.Refusal.{IfRefused};
 ghost use Rattle.vs_types.specs.Space.{table_count};
 ghost use Rattle.vs_types.specs.Step.{allow, look};
-ghost use Rattle.vs_types.specs.declared.limits.TheConstants.{LOG_PLACES};
+ghost use Rattle.vs_types.specs.declared.limits.TheConstants.{LOG_PLACES, TABLES};
 ghost use Rattle.vs_walk.specs.Walk.{TranslatesAs};
 ghost use Rattle.nr_node.specs.Calls.{answered_from, answers_of};
 ghost use Rattle.nr_node.specs.Node.{StandFrom};
@@ -175,6 +175,7 @@ impl<S: FrameStore> Replica<S> {
         ensures frames { IfOk result (λ dump. finite.len dump.frames
             ≡ table_count self.now.depth
             (space_of self.now.depth self.now.tables self.now.entries)) }
+        ensures few { IfOk result (λ dump. finite.len dump.frames ≤ TABLES) }
     {
         let _frames = self.space.tables();
         let root = self.space.root();

@@ -1,8 +1,8 @@
 //! The trace of a run that has ended.
 ghost use Rattle.std.specs.Prelude.{◌≡◌, ◌↔◌, ◌≤◌, All, IfOk, OnOk, length, map};
-ghost use Rattle.std.specs.FinMap as finite;
 ghost use Rattle.std.specs.List.{flat_map};
 ghost use Rattle.vs_types.specs.declared.limits.TheConstants.{CALLS, LOG_PLACES};
+ghost use Rattle.nr_trace.specs.Parts.{HasFrames};
 ghost use Rattle.nr_trace.specs.Versions.{FitsFirst};
 ghost use Rattle.nr_trace.specs.declared.version.Version.TheVariants.{V1};
 ghost use Rattle.nr_record.specs.Events.{HasNotes, events_of};
@@ -51,7 +51,7 @@ fn gather(alloc: Global, clock: Clock, pens: Vec<Pen>) -> Result<(u64, Vec<Vec<S
 
 /// The trace of a run: the events in the order of their stamps, with the log and the dumps as they are handed in. All pens of the clock
 /// are handed in, by thread, with the configuration that they were made with; at most 65,536 log words; and one dump for each replica,
-/// which has a frame. The version is the least that can say the trace.
+/// which has 1 to 4,096 frames. The version is the least that can say the trace.
 ///
 /// It takes 24 bytes for each event, and then for each thread as many.
 ///
@@ -70,7 +70,7 @@ pub fn finish(
     requires pens { AreAllPens clock pens.items }
     requires log { length log.items ≤ LOG_PLACES }
     requires dumps { (length dumps.items ≡ config.replicas)
-        × All (λ dump. 1 ≤ finite.len dump.frames) dumps.items }
+        × All HasFrames dumps.items }
     ensures stamps { IfOk result
         (λ trace. AreBelow (length trace.events) (flat_map stamps_of pens.items)) }
     ensures rising { OnOk result (All (λ pen. Rise (stamps_of pen)) pens.items) }

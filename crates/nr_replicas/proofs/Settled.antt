@@ -96,6 +96,7 @@ dump_stays depth tables p q dump on is =
       applied = omega (arith, is.applied, tail_rises p q on);
       translates = subst (TranslatesAs depth dump.frames dump.root) (sym same) is.translates;
       frames = is.frames ∙ ap (table_count depth) (sym same);
+      few = is.few;
     }
 
 -- the dumps are of each log that begins with all that the passes have seen

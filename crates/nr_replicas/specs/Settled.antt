@@ -3,6 +3,7 @@ use Rattle.std.specs.Prelude.{◌≡◌, ℕ, ◌≤◌, List, All, Some, length
 use Rattle.std.specs.FinMap as finite
 use Rattle.vs_types.specs.Space.{table_count}
 use Rattle.vs_types.specs.declared.depth.Depth.{Depth}
+use Rattle.vs_types.specs.declared.limits.TheConstants.{TABLES}
 use Rattle.vs_walk.specs.Dump.{Image}
 use Rattle.vs_walk.specs.Walk.{TranslatesAs}
 use Rattle.nr_ring.specs.LogHistory.{Log, IsLogHistory, local_of, log_after, tail}
@@ -11,11 +12,13 @@ use Rattle.nr_ring.specs.View.{StartsWith}
 use Rattle.nr_ring.specs.declared.log_event.LogEvent.{LogEvent}
 use Rattle.nr_node.specs.Spaces.{space_at}
 
--- a dump of a replica: a page table that translates as the space after the entries that it has applied, with a frame for each table
+-- a dump of a replica: a page table that translates as the space after the entries that it has applied, with a frame for each table, of
+-- which there are at most 4,096
 pub record IsDumpOf (depth : Depth) (tables : ℕ) (log : Log) (dump : Image) : Type 0 where
   pub applied : dump.applied ≤ tail log
   pub translates : TranslatesAs depth dump.frames dump.root (space_at depth tables log.entries dump.applied)
   pub frames : finite.len dump.frames ≡ table_count depth (space_at depth tables log.entries dump.applied)
+  pub few : finite.len dump.frames ≤ TABLES
 
 -- the calls of one log, which begins with all that each of these passes has seen, and a dump of each replica, by number, after just the
 -- entries that it has taken

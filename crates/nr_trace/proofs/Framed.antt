@@ -72,7 +72,7 @@ dump_put image applied count root k old head new all is_applied is_root past is_
     (is_new ∙ ap (λ (es : List (ℕ × List ℕ)). head ++ flat_map frame es)
     (take_all k (finite.entries image.frames) (omega (arith, past, all, finite.len-entries image.frames))))
 
-pub few_fit : (image : Image) (count : ℕ) → IsDump image → count ≡ finite.len image.frames → count ≤ 4096
+pub few_fit : (image : Image) (count : ℕ) → IsDump image → count ≡ finite.len image.frames → count ≤ 65535
 few_fit image count parts all = omega (arith, parts.few, all, finite.len-entries image.frames)
 
 -- one dump more

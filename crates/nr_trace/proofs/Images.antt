@@ -7,15 +7,15 @@ use Rattle.vs_types.specs.Frame.{IsFrame}
 use Rattle.vs_types.specs.declared.limits.TheConstants.{LOG_PLACES, CALLS}
 use Rattle.nr_trace.specs.Versions.{KnowsDepth}
 use Rattle.nr_trace.specs.Recording.{Recording, IsImage}
-use Rattle.nr_trace.specs.Parts.{HasBadCount}
+use Rattle.nr_trace.specs.Parts.{HasBadCount, HasFrames}
 
--- a dump with a frame is one of a trace
-pub image_of : (dump : Image) → IsDump dump → 1 ≤ finite.len dump.frames → IsImage dump
-image_of dump is some = record {
+-- a dump with as many frames as one of a trace
+pub image_of : (dump : Image) → IsDump dump → HasFrames dump → IsImage dump
+image_of dump is has = record {
   applied = is.applied_fits;
   root = is.root_fits;
-  some_frame = some;
-  few_frames = omega (arith, is.few, finite.len-entries dump.frames);
+  some_frame = has.0;
+  few_frames = has.1;
   numbers = All-map (λ number. number < 2 ^ 40) (λ (e : ℕ × List ℕ). e.0) (finite.entries dump.frames) is.in_range;
   words = All-map IsFrame (λ (e : ℕ × List ℕ). e.1) (finite.entries dump.frames) is.whole;
 }

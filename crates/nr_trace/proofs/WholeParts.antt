@@ -1,12 +1,10 @@
 -- Parts without a fault, in a version that knows them, make a trace.
 use Rattle.std.proofs.Common.{◌≡◌, ◌≤◌, ⊎_elim, List, All, length, get_or, subst, refl, arith}
 use Rattle.std.specs.Prelude.{Any}
-use Rattle.std.specs.FinMap as finite
 use Rattle.std.proofs.lemmas.Option.{slice_get_within, get_or_from_slice_get}
 use Rattle.vs_types.specs.Config.{Layout}
 use Rattle.vs_types.specs.declared.limits.TheConstants.{CALLS, LOG_PLACES}
-use Rattle.vs_walk.specs.Dump.{Image}
-use Rattle.nr_trace.specs.Parts.{HasBadCount, IsPartsFault}
+use Rattle.nr_trace.specs.Parts.{HasBadCount, HasFrames, IsPartsFault, LacksFrames}
 use Rattle.nr_trace.specs.Recording.{Recording, IsEvent}
 use Rattle.nr_trace.specs.Versions.{FitsFirst, KnowsDepth, KnowsEvent}
 use Rattle.nr_trace.specs.declared.event.Event.{Event}
@@ -21,7 +19,7 @@ pub record AreWhole (parts : Recording) : Type 0 where
   pub places : length parts.log ≤ LOG_PLACES
   pub few : length parts.events ≤ CALLS
   pub dumps : length parts.dumps ≡ parts.layout.replicas
-  pub frames : All (λ (dump : Image). 1 ≤ finite.len dump.frames) parts.dumps
+  pub frames : All HasFrames parts.dumps
 
 no_bad_count : (parts : Recording) → AreWhole parts → HasBadCount parts → ⊥
 no_bad_count parts is bad =
@@ -34,11 +32,8 @@ whole_parts parts BadMagic is bad = bad
 whole_parts parts BadVersion is bad = bad
 whole_parts parts BadCount is bad =
     ⊎_elim (λ count. no_bad_count parts is count) (λ (rest : (HasBadCount parts → ⊥) × All (IsEvent parts.version parts.layout) parts.events
-    × Any (λ (dump : Image). finite.len dump.frames ≡ 0) parts.dumps).
-    let none = rest.2 in
-    let some : 1 ≤ finite.len none.1.frames =
-    subst (λ (dump : Image). 1 ≤ finite.len dump.frames) none.3 (is.frames none.0 none.1 none.2) in
-    omega (arith, some, none.4)) bad
+    × Any LacksFrames parts.dumps).
+    let none = rest.2 in none.4 (subst HasFrames none.3 (is.frames none.0 none.1 none.2))) bad
 whole_parts parts (BadEvent index) is bad =
     let first = bad.1 in
     first.out (subst (IsEvent parts.version parts.layout) (get_or_from_slice_get parts.events index first.recorded first.recorded first.stands)

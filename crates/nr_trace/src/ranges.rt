@@ -1,14 +1,14 @@
 //! Which events and dumps are in the ranges of a trace.
 
 ghost use Rattle.std.specs.Prelude.{◌≡◌, ◌↔◌, IsTrue, IsFalse, All, Any, MatchOption};
-ghost use Rattle.std.specs.FinMap as finite;
+ghost use Rattle.vs_walk.specs.Dump.{IsDump};
 ghost use Rattle.nr_trace.specs.Recording.{IsEvent, IsImage};
-ghost use Rattle.nr_trace.specs.Parts.{IsFirstOut};
+ghost use Rattle.nr_trace.specs.Parts.{HasFrames, IsFirstOut, LacksFrames};
 
 use crate::event::Event;
 use crate::recorded::Recorded;
 use crate::version::Version;
-use vs_types::Config;
+use vs_types::{Config, TABLES};
 use vs_walk::Dump;
 
 fn is_in_range(version: Version, config: Config, event: Event) -> bool
@@ -47,13 +47,22 @@ pub(crate) fn first_out_of_range(
     None
 }
 
-/// Whether each dump has a frame.
+/// Whether the dump has 1 to 4,096 frames.
+fn has_frames(dump: &Dump) -> bool
+    ensures count { IsTrue result ↔ HasFrames dump.now }
+    ensures is_dump { IsDump dump.now }
+{
+    let frames = dump.count();
+    frames >= 1 && frames <= usize::from(TABLES)
+}
+
+/// Whether each dump has 1 to 4,096 frames.
 pub(crate) fn all_have_frames(dumps: &[Dump]) -> bool
     ensures yes { IsTrue result → All IsImage dumps.now }
-    ensures no { IsFalse result → Any (λ dump. finite.len dump.frames ≡ 0) dumps.now }
+    ensures no { IsFalse result → Any LacksFrames dumps.now }
 {
     for dump in dumps {
-        if dump.count() == 0 {
+        if !has_frames(dump) {
             return false;
         }
     }

@@ -76,7 +76,7 @@ impl Trace {
     /// # Errors
     ///
     /// `BadCount` for a depth that the version does not know, for a number of places, events or dumps, or for a dump without
-    /// frames; `BadEvent` for the first event that is out of its range or that the version does not know.
+    /// frames or with more than 4,096; `BadEvent` for the first event that is out of its range or that the version does not know.
     pub fn new(
         version: Version,
         config: Config,

@@ -1,7 +1,7 @@
 ghost use Rattle.std.specs.Prelude.{◌≡◌, ◌≤◌, [], ◌∷◌, IfOk};
-ghost use Rattle.std.specs.FinMap as finite;
 ghost use Rattle.vs_types.specs.Query.{IsQuery};
 ghost use Rattle.vs_types.specs.declared.limits.TheConstants.{LOG_PLACES};
+ghost use Rattle.nr_trace.specs.Parts.{HasFrames};
 ghost use Rattle.nr_record.specs.Pen.{AreAllPens, new_pen};
 
 use nr_record::{Clock, Pen, finish, pens};
@@ -14,7 +14,7 @@ use vs_walk::Dump;
 
 /// A dump with one frame, its root, which is empty.
 fn empty_dump(alloc: Global) -> Result<Dump, Memory>
-    ensures { IfOk result (λ dump. finite.len dump.frames ≡ 1) }
+    ensures { IfOk result HasFrames }
 {
     let mut dump = Dump::new(alloc, 0, 1);
     dump.push(1, &[0; 512])?;

@@ -19,7 +19,7 @@ use Rattle.vs_types.proofs.Lists.{Contains-head, Contains-tail, Contains-cases, 
 use Rattle.vs_types.proofs.Pages.{covers_means, covers_base, same_page, same_aligned}
 use Rattle.vs_types.proofs.Spaces.{same_key, is_true, both_true, below_key, holds_listed}
 use Rattle.vs_walk.specs.Memory.{Memory, AreWhole}
-use Rattle.vs_walk.specs.Walk.{as_walk, TranslatesAs}
+use Rattle.vs_walk.specs.Walk.{TranslatesAs}
 use Rattle.vs_walk.specs.Traversal.{traversal, found, walk_fault}
 use Rattle.vs_walk.specs.Laws.{as_found}
 use Rattle.vs_walk.specs.declared.walk.WalkFault.{WalkFault}

@@ -2,7 +2,7 @@ use Rattle.std.proofs.Common.{Contains, get_or, sym, subst, ◌∙◌, arith}
 use Rattle.std.proofs.lemmas.List.Elements.{Contains-get_or}
 use Rattle.vs_walk.specs.Traversal.{traversal, reached}
 use Rattle.vs_walk.proofs.Gathered.{reached_few}
-use Rattle.nr_core.proofs.Dumped.{has_frame, is_dump, same_reached}
+use Rattle.nr_core.proofs.Dumped.{has_frames, is_dump, same_reached}
 use Rattle.nr_core.proofs.table.Table.dump.Goals as goal
 
 pub gather-requires-clause-few : goal.gather-requires-clause-few
@@ -40,7 +40,7 @@ returns-in-Ok-clause-frames c =
     let pages = c.args.self.now.pages in
     let all = c.root-root.ensures in
     let made = c.in-Ok.ensures in
-    has_frame pages c.args.self.now.of.0 c.depth-depth.result c.root-root.result c.tables-tables.result c.in-Ok.dump
+    has_frames pages c.args.self.now.of.0 c.depth-depth.result c.root-root.result c.tables-tables.result c.in-Ok.dump
     (record {
       depth_is = c.depth-depth.ensures;
       root_is = all.reads;
@@ -50,3 +50,4 @@ returns-in-Ok-clause-frames c =
       held = made.held;
       only = made.only;
     }) c.tables-tables.ensures.reads (c.tables-tables.ensures.counts c.args.self.now.of.0 c.args.self.now.of.1)
+    (omega (arith, c.tables-tables.ensures.reads, c.tables-tables.ensures.at_most, c.requires))

@@ -8,7 +8,7 @@ use Rattle.vs_walk.proofs.Gathered.{reached_few}
 use Rattle.nr_ring.proofs.Views.{contains_item}
 use Rattle.nr_node.specs.Spaces.{space_of}
 use Rattle.nr_node.specs.inside.Replica.{ReplicaState, entries_told}
-use Rattle.nr_node.proofs.Dumps.{all_gathered, same_reached}
+use Rattle.nr_node.proofs.Dumps.{same_frames, same_reached}
 use Rattle.nr_node.proofs.replica.Replica.dump.Goals as goal
 
 pub gather-requires-clause-few : goal.gather-requires-clause-few
@@ -31,9 +31,8 @@ returns-in-Ok-clause-translates g c =
     let dump = c.in-Ok.dump in
     let all = c.root-root.ensures in
     let gathered = c.in-Ok.ensures in
-    let same = same_reached space.memory space.depth c.depth-depth.result space.root c.root-root.result c.depth-depth.ensures all.reads in
-    let frames : dump.frames ≡ space.memory = all_gathered space.memory dump.frames (reached (traversal space.depth space.memory space.root)) all.in_use all.each
-    (λ n h. gathered.held n (subst (λ l. Contains l n) (sym same) h)) (λ n h. subst (λ l. Contains l n) same (gathered.only n h)) in
+    let frames = same_frames space.memory dump.frames space.depth c.depth-depth.result space.root c.root-root.result c.depth-depth.ensures all.reads
+    all.in_use all.each gathered.held gathered.only in
     let root : dump.root ≡ space.root = gathered.root ∙ all.reads in
     let of = space_of space.depth space.limit (entries_told c.self.inside.told.items) in
     let ByRoot : ℕ → Type 0 = λ r. TranslatesAs space.depth space.memory r of in
@@ -41,15 +40,24 @@ returns-in-Ok-clause-translates g c =
     let ByState : ReplicaState → Type 0 = λ r. TranslatesAs r.depth dump.frames dump.root (space_of r.depth r.tables r.entries) in
     subst ByState c.self.view_is (subst ByFrames (sym frames) (subst ByRoot (sym root) c.self.invariant.table_of.translates))
 
+pub returns-in-Ok-clause-few : goal.returns-in-Ok-clause-few
+returns-in-Ok-clause-few g c =
+    let space = c.self.inside.space in
+    let dump = c.in-Ok.dump in
+    let all = c.root-root.ensures in
+    let gathered = c.in-Ok.ensures in
+    let frames = same_frames space.memory dump.frames space.depth c.depth-depth.result space.root c.root-root.result c.depth-depth.ensures all.reads
+    all.in_use all.each gathered.held gathered.only in
+    omega (arith, ap (λ (m : Memory). finite.len m) frames, c.tables-frames.ensures.reads, c.tables-frames.ensures.at_most, c.self.invariant.tables)
+
 pub returns-in-Ok-clause-frames : goal.returns-in-Ok-clause-frames
 returns-in-Ok-clause-frames g c =
     let space = c.self.inside.space in
     let dump = c.in-Ok.dump in
     let all = c.root-root.ensures in
     let gathered = c.in-Ok.ensures in
-    let same = same_reached space.memory space.depth c.depth-depth.result space.root c.root-root.result c.depth-depth.ensures all.reads in
-    let frames : dump.frames ≡ space.memory = all_gathered space.memory dump.frames (reached (traversal space.depth space.memory space.root)) all.in_use all.each
-    (λ n h. gathered.held n (subst (λ l. Contains l n) (sym same) h)) (λ n h. subst (λ l. Contains l n) same (gathered.only n h)) in
+    let frames = same_frames space.memory dump.frames space.depth c.depth-depth.result space.root c.root-root.result c.depth-depth.ensures all.reads
+    all.in_use all.each gathered.held gathered.only in
     let of = space_of space.depth space.limit (entries_told c.self.inside.told.items) in
     let ByState : ReplicaState → Type 0 = λ r. finite.len dump.frames ≡ table_count r.depth (space_of r.depth r.tables r.entries) in
     subst ByState c.self.view_is (ap (λ (m : Memory). finite.len m) frames ∙ sym c.tables-frames.ensures.reads ∙ c.tables-frames.ensures.counts of c.self.invariant.table_of)

@@ -1,10 +1,9 @@
 use Rattle.std.proofs.Common.{◌≡◌, ◌≤◌, length, All, refl, subst, arith, inr}
 use Rattle.std.specs.List.{Any}
-use Rattle.std.specs.FinMap as finite
 use Rattle.vs_types.specs.declared.limits.TheConstants.{LOG_PLACES, CALLS}
-use Rattle.vs_walk.specs.Dump.{Image}
 use Rattle.nr_trace.specs.Versions.{KnowsDepth}
 use Rattle.nr_trace.specs.Recording.{Recording, IsEvent}
+use Rattle.nr_trace.specs.Parts.{LacksFrames}
 use Rattle.nr_trace.proofs.Images.{good_counts}
 use Rattle.nr_trace.proofs.trace.Trace.new.Goals as goal
 
@@ -26,5 +25,5 @@ returns-then-not-all_have_frames c =
     inr (
       good_counts parts known places events dumps,
       subst (All (IsEvent c.args.version c.args.config)) c.deref.ensures.value c.in_default.ensures,
-      subst (Any (λ (dump : Image). finite.len dump.frames ≡ 0)) c.deref-2.ensures.value (c.if-not-all_have_frames.ensures.no refl),
+      subst (Any LacksFrames) c.deref-2.ensures.value (c.if-not-all_have_frames.ensures.no refl),
     )
