@@ -1,25 +1,23 @@
 """Debian's package of the kernel, and where in this kernel the things are that the plugin has to know."""
 import bisect
 import functools
-import glob
 import os
 import re
 import shutil
 import subprocess
 from dataclasses import dataclass
 
+import debian
+from debian import Missing, said
+
 QEMU = "7.2"
 SERIES = "linux-image-cloud-amd64"          # a package that depends on the newest kernel
 NAME = r"linux-image-6\.1\.0-[0-9]+-cloud-amd64"
+MODULES = ("virt/lib/irqbypass", "arch/x86/kvm/kvm", "arch/x86/kvm/kvm-amd")
 COMPRESSED = ((b"\x02\x21\x4c\x18", "lz4"), (b"\xfd7zXZ\0", "xz"))
-PATIENCE = 600                              # seconds that a command may take
 COMMAND_LINE = "nokaslr no_timer_check norandmaps mitigations=off panic=-1 quiet console=ttyS0"
 PACKAGES = {"qemu-system-x86_64": "qemu-system-x86", "busybox": "busybox-static", "cpio": "cpio", "objdump": "binutils", "gcc": "gcc",
             "apt-get": "apt", "dpkg-deb": "dpkg", "xz": "xz-utils", "lz4": "lz4"}
-
-
-class Missing(Exception):
-    """Something isn't there that a recording needs; its text says what, and how one gets it."""
 
 
 def check_commands() -> None:
@@ -36,29 +34,14 @@ def check_qemu() -> None:
         raise Missing(f"this is QEMU {version}, and the plugin was tried with {QEMU} of Debian 12 alone")
 
 
-def said(*words: str, folder: str | None = None) -> str:
-    """What a command prints; Missing where it fails."""
-    try:
-        done = subprocess.run(words, stdin=subprocess.DEVNULL, stdout=subprocess.PIPE, stderr=subprocess.PIPE, cwd=folder, timeout=PATIENCE)
-    except subprocess.TimeoutExpired:
-        raise Missing(f"{' '.join(words[:3])} doesn't end in {PATIENCE} seconds") from None
-    if done.returncode:
-        raise Missing(f"{' '.join(words[:3])}: {done.stderr.decode(errors='replace').strip()}")
-    return done.stdout.decode(errors="replace")
-
-
 def fetch(folder: str) -> str:
-    """The package's folder boot, downloaded where it isn't there yet."""
-    boot = f"{folder}/kernel/boot"
-    if not glob.glob(f"{boot}/vmlinuz-*"):
-        names = re.findall(NAME, said("apt-cache", "depends", SERIES))
+    """The folder of Debian's newest kernel, downloaded where it isn't there yet."""
+    if not os.path.isdir(f"{folder}/kernel"):
+        names = re.findall(NAME, debian.depends(SERIES))
         if not names:
-            raise Missing(f"apt knows no {SERIES} of Linux 6.1 (Debian 12): apt-get update")
-        said("apt-get", "download", "-q", names[0], folder=folder)
-        package, = glob.glob(f"{folder}/{names[0]}_*.deb")
-        said("dpkg-deb", "-x", package, f"{folder}/kernel")
-        os.remove(package)
-    return boot
+            raise Missing(f"{SERIES} of apt isn't Linux 6.1, that of Debian 12")
+        debian.unpack(names[:1], f"{folder}/kernel")
+    return f"{folder}/kernel"
 
 
 def unpack(image: str, path: str) -> None:
@@ -77,9 +60,9 @@ def unpack(image: str, path: str) -> None:
 
 
 def parse_symbols(lines: str) -> list[tuple[int, str]]:
-    """The kernel's own symbols, without its modules', out of what /proc/kallsyms says."""
+    """The kernel's symbols, and its modules' behind them, out of what /proc/kallsyms says."""
     rows = (line.split() for line in lines.splitlines())
-    return [(int(row[0], 16), row[2]) for row in rows if len(row) == 3]
+    return [(int(row[0], 16), row[2]) for row in rows]
 
 
 @dataclass(frozen=True)
@@ -87,6 +70,7 @@ class Kernel:
     version: str
     image: str
     elf: str
+    modules: list[str]
     symbols: list[tuple[int, str]]
 
     @functools.cached_property
@@ -141,6 +125,11 @@ class Kernel:
         numbers = {"birth": int(birth, 16), "pgd": int(pgd, 16), "leave": int(leave, 16), "percpu": self.address("__per_cpu_offset"),
                    "loaded": self.address("cpu_tlbstate"), "current": self.address("current_task"),
                    "flushing": self.address("flush_tlb_info"), "entry": self.address("do_syscall_64"),
-                   "fault": self.address("asm_exc_page_fault"), "thunk": self.address("__x86_return_thunk")}
+                   "thunk": self.address("__x86_return_thunk")}
         flushers = [f"flusher={self.address(name):#x}-{self.end(name):#x}" for name in ("flush_tlb_mm_range", "arch_tlbbatch_flush")]
         return [f"{name}={value:#x}" for name, value in numbers.items()] + flushers
+
+    def nested_settings(self) -> list[str]:
+        """The same of KVM, where nested tables are watched."""
+        name = "svm_load_mmu_pgd"
+        return [f"nested={self.address(name):#x}", f"nested_end={self.end(name):#x}"]

@@ -1,6 +1,6 @@
 """The recorder's log, line by line. Its form is said at the head of plugin/watch.c; beside those lines there are
 
-    @fault CPU TASK CODE ADDRESS        a page fault: made of what QEMU says of an exception and of the @faulted behind it
+    @fault CPU CODE ADDRESS             a page fault: made of what QEMU says of an exception and of the registers
     @symbol PC PLACE                    a place in the kernel that other lines name, as symbol+offset
 
 and behind the words of a @store the addresses to which the calls return that led there, the innermost first.
@@ -117,7 +117,7 @@ def access(words: list[str]) -> Access:
 PARSERS: dict[str, Callable[[list[str]], Line]] = {
     "@store": store,
     "@access": access,
-    "@fault": lambda words: Fault(int(words[1]), number(words[3]), number(words[4])),
+    "@fault": lambda words: Fault(int(words[1]), number(words[2]), number(words[3])),
     "@flushed": lambda words: Flushed(*map(number, words[2:5])),
     "@user": lambda words: InUser(number(words[2])),
     "@entered": lambda words: Entered(number(words[2])),
@@ -142,7 +142,10 @@ def parse(lines: Iterable[str]) -> Iterator[Line]:
             yield PARSERS[words[0]](words)
 
 
-EXCEPTION = re.compile(r" *\d+: v=0e e=([0-9a-f]{4}) .* CR2=([0-9a-f]+)")
+EXCEPTION = re.compile(r" *\d+: v=([0-9a-f]{2}) e=([0-9a-f]{4}) ")
+TASK_STATE = re.compile(r"TR =0040 (fffffe[0-9a-f]{10}) ")      # where the kernel has it: one behind the other, by processors
+CONTROL = re.compile(r"CR0=[0-9a-f]+ CR2=([0-9a-f]+) CR3=([0-9a-f]+) ")
+PAGE_FAULT = "0e"
 CALLERS = 6
 
 
@@ -152,7 +155,10 @@ class Slimmer:
 
     def __init__(self, place: Callable[[int], tuple[str, int]]) -> None:
         self.place = place
-        self.fault: re.Match[str] | None = None
+        self.exception: tuple[str, str] = "", ""        # its number and error code; what follows are the registers
+        self.task_state = ""
+        self.task_states: set[str] = set()
+        self.roots: tuple[int, ...] = ()                # frames of the tables that are watched, as CR3 has them
         self.callers: list[tuple[str, int]] = []
         self.named: set[str] = set()
 
@@ -171,11 +177,7 @@ class Slimmer:
 
     def of_plugin(self, line: str) -> Iterator[str]:
         words = line.split()
-        if words[0] == "@faulted":
-            if self.fault:
-                yield f"@fault {words[1]} {words[2]} {self.fault.group(1)} {self.fault.group(2)}\n"
-            self.fault = None
-        elif words[0] == "@callers":
+        if words[0] == "@callers":
             self.callers = [(back, int(called, 16)) for back, called in (each.split(":") for each in words[1:])]
         elif words[0] == "@store":
             pcs = [words[4], *self.calls_to(int(words[4], 16))]
@@ -185,7 +187,24 @@ class Slimmer:
         else:
             if words[0] == "@access":
                 self.named.add(words[7])
+            if words[0] == "@born":
+                self.roots = number(words[2]), number(words[3])
+            if words[0] == "@end":
+                self.roots = ()
             yield line
+
+    def of_qemu(self, line: str) -> Iterator[str]:
+        """An exception, and the registers behind it: they say in which address space it was, and on which processor."""
+        if found := EXCEPTION.match(line):
+            self.exception = found.group(1), found.group(2)
+        elif found := TASK_STATE.match(line):
+            self.task_state = found.group(1)
+            self.task_states.add(self.task_state)
+        elif found := CONTROL.match(line):
+            kind, code = self.exception
+            if kind == PAGE_FAULT and number(found.group(2)) >> 12 in self.roots:
+                yield f"@fault {sorted(self.task_states).index(self.task_state)} {code} {found.group(1)}\n"
+            self.exception = "", ""
 
     def slim(self, lines: Iterable[str]) -> Iterator[str]:
         for line in lines:
@@ -193,8 +212,8 @@ class Slimmer:
                 break
             if line.startswith("@"):
                 yield from self.of_plugin(line)
-            elif "v=0e" in line:
-                self.fault = EXCEPTION.match(line) or self.fault
+            else:
+                yield from self.of_qemu(line)
         for pc in sorted(self.named):
             if int(pc, 16) >> 63:
                 name, offset = self.place(int(pc, 16))

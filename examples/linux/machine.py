@@ -6,8 +6,10 @@ import subprocess
 import time
 from dataclasses import dataclass
 
+import debian
 import kernel_image
-from kernel_image import COMMAND_LINE, Kernel, Missing, said
+from debian import Missing, said
+from kernel_image import COMMAND_LINE, MODULES, Kernel
 from plants import Replaced, Silenced
 from stub import Stub
 
@@ -25,6 +27,8 @@ echo 1 >/proc/sys/kernel/printk
 %s
 $b poweroff -f
 """
+INSERT = "".join(f"$b insmod /bin/{os.path.basename(each)}.ko\n" for each in MODULES)
+UNUSED = shutil.ignore_patterns("share", "gconv")     # of Debian's packages
 
 
 @dataclass(frozen=True)
@@ -37,23 +41,28 @@ class Guest:
     rest: int = 0
     memory: int = 1024              # MiB
     code: tuple[Replaced | Silenced, ...] = ()      # what is overwritten when the guest says so
+    package: str = ""               # of Debian, unpacked in the guest with all that it depends on
+    nested: bool = False            # KVM is there, and the nested tables of a guest's guest are watched
 
 
-def pack(name: str, command: str, programs: list[str]) -> str:
-    """An initrd with busybox, an init and some programs."""
+def pack(name: str, command: str, files: list[str], package: str = "") -> str:
+    """An initrd with busybox, an init, some files, and a package."""
     root, path = f"{OUT}/{name}.root", f"{OUT}/{name}.initrd"
     shutil.rmtree(root, ignore_errors=True)
+    if package:
+        debian.unpack(debian.needed(package), f"{OUT}/{package}")
+        shutil.copytree(f"{OUT}/{package}", root, symlinks=True, ignore=UNUSED)
     for folder in ("bin", "proc", "sys", "dev", "tmp"):
-        os.makedirs(f"{root}/{folder}")
-    for program in [shutil.which("busybox"), *programs]:
-        shutil.copy(program, f"{root}/bin/")
-    with open(f"{root}/init", "w") as file:
-        file.write(INIT % command)
+        os.makedirs(f"{root}/{folder}", exist_ok=True)
+    for file in [shutil.which("busybox"), *files]:
+        shutil.copy(file, f"{root}/bin/")
+    with open(f"{root}/init", "w") as init:
+        init.write(INIT % command)
     os.chmod(f"{root}/init", 0o755)
     names = said("find", ".", folder=root).encode()
     done = subprocess.run(["cpio", "-o", "-H", "newc", "--quiet"], cwd=root, input=names, stdout=subprocess.PIPE, check=True)
-    with open(path, "wb") as file:
-        file.write(done.stdout)
+    with open(path, "wb") as initrd:
+        initrd.write(done.stdout)
     shutil.rmtree(root)
     return path
 
@@ -75,13 +84,15 @@ def plain_command(image: str, initrd: str) -> list[str]:
             "-initrd", initrd]
 
 
-def told_symbols(image: str, version: str) -> str:
-    """What the guest says of its kernel's symbols: it is booted for that once."""
-    path = f"{OUT}/symbols-{version}"
+def told_symbols(image: str, version: str, modules: list[str]) -> str:
+    """What the guest says of the symbols of its kernel, with KVM's modules: it is booted for that once."""
+    path = f"{OUT}/kallsyms-{version}"
     if not os.path.exists(path):
-        initrd = pack("symbols", "$b cat /proc/kallsyms >/dev/ttyS1", [])
+        print(f"booting Linux {version} once, for its symbols", flush=True)
+        initrd = pack("symbols", INSERT + "$b cat /proc/kallsyms >/dev/ttyS1", modules)
         said(*plain_command(image, initrd), "-m", "1G", "-cpu", f"{PROCESSOR},la57=off", "-append", COMMAND_LINE, "-serial", "null",
              "-serial", f"file:{path}.part")
+        remove(initrd)
         os.rename(f"{path}.part", path)
     return open(path).read()
 
@@ -91,12 +102,13 @@ def kernel() -> Kernel:
     kernel_image.check_commands()
     kernel_image.check_qemu()
     os.makedirs(OUT, exist_ok=True)
-    boot = kernel_image.fetch(OUT)
-    version = sorted(name[len("vmlinuz-"):] for name in os.listdir(boot) if name.startswith("vmlinuz-"))[-1]
-    image, elf = f"{boot}/vmlinuz-{version}", f"{OUT}/vmlinux-{version}"
+    folder = kernel_image.fetch(OUT)
+    version = sorted(name[len("vmlinuz-"):] for name in os.listdir(f"{folder}/boot") if name.startswith("vmlinuz-"))[-1]
+    image, elf = f"{folder}/boot/vmlinuz-{version}", f"{OUT}/vmlinux-{version}"
+    modules = [f"{folder}/lib/modules/{version}/kernel/{each}.ko" for each in MODULES]
     if not os.path.exists(elf):
         kernel_image.unpack(image, elf)
-    return Kernel(version, image, elf, kernel_image.parse_symbols(told_symbols(image, version)))
+    return Kernel(version, image, elf, modules, kernel_image.parse_symbols(told_symbols(image, version, modules)))
 
 
 @dataclass(frozen=True)
@@ -135,11 +147,12 @@ def plant(name: str, guest: Guest, kernel: Kernel, qemu: subprocess.Popen[bytes]
 def command(name: str, guest: Guest, kernel: Kernel, plugin: str, initrd: str) -> list[str]:
     memory = f"{OUT}/{name}.memory"
     told = [plugin, f"memory={memory}", f"levels={guest.levels}", f"isolated={int(guest.isolated)}", f"rest={guest.rest}"]
+    told += kernel.settings() + (kernel.nested_settings() if guest.nested else [])
     words = plain_command(kernel.image, initrd)
     words += ["-m", f"{guest.memory}M", "-smp", str(guest.processors), "-cpu", PROCESSOR + (",la57=off" if guest.levels == 4 else "")]
     words += ["-object", f"memory-backend-file,id=memory,size={guest.memory}M,mem-path={memory},share=on", "-machine",
               "pc,memory-backend=memory", "-append", COMMAND_LINE + (" pti=on" if guest.isolated else ""), "-serial",
-              f"file:{OUT}/{name}.serial", "-plugin", ",".join(told + kernel.settings()), "-d", "int,plugin", "-D", f"{OUT}/{name}.raw"]
+              f"file:{OUT}/{name}.serial", "-plugin", ",".join(told), "-d", "int,plugin", "-D", f"{OUT}/{name}.raw"]
     if guest.code:
         words += ["-serial", f"unix:{OUT}/{name}.line,server,nowait", "-gdb", f"unix:{OUT}/{name}.debug,server,nowait"]
     return words
@@ -148,7 +161,8 @@ def command(name: str, guest: Guest, kernel: Kernel, plugin: str, initrd: str) -
 def record(name: str, guest: Guest, kernel: Kernel, limit: int = LIMIT) -> Recording:
     """Boots a guest, and waits until it is over."""
     plugin, workload = compile_parts()
-    initrd = pack(name, guest.command, [workload])
+    files = [workload, f"{HERE}/guest/script.py"] + (kernel.modules if guest.nested else [])
+    initrd = pack(name, (INSERT if guest.nested else "") + guest.command, files, guest.package)
     for ending in ("raw", "serial", "memory", "line", "debug"):
         remove(f"{OUT}/{name}.{ending}")
     qemu = subprocess.Popen(command(name, guest, kernel, plugin, initrd))

@@ -1,7 +1,8 @@
 """Bugs that are planted in the guest's kernel: calls or functions of its code that are overwritten while it runs."""
 from dataclasses import dataclass
 
-from kernel_image import Kernel, Missing
+from debian import Missing
+from kernel_image import Kernel
 from stub import Stub
 
 RETURN = bytes.fromhex("c3")                    # ret

@@ -18,7 +18,7 @@ import sys
 sys.dont_write_bytecode = True
 import convert
 import explain
-from kernel_image import Missing
+from debian import Missing
 from page_tables import LARGE, PRESENT
 
 WRITABLE, OF_USERS, NO_EXECUTE = 2, 4, 1 << 63

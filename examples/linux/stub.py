@@ -2,7 +2,7 @@
 import re
 import socket
 
-from kernel_image import Missing
+from debian import Missing
 
 MOST = 1024         # bytes of memory in one answer
 

@@ -16,11 +16,14 @@ class Workload:
     rest: int = 0
     levels: int = 4
     isolated: bool = False
+    package: str = ""
+    nested: bool = False
 
     def guest(self, seed: int, plant: Plant | None = None) -> Guest:
         command = f"/bin/workload {self.command.replace('SEED', str(seed))}"
         ticking = f"/bin/workload tick {self.tick} &\n" if self.tick else ""
-        return Guest(ticking + command, self.processors, self.levels, self.isolated, self.rest, code=plant.code if plant else ())
+        return Guest(ticking + command, self.processors, self.levels, self.isolated, self.rest, code=plant.code if plant else (),
+                     package=self.package, nested=self.nested)
 
 
 WORKLOADS = {
@@ -34,6 +37,14 @@ WORKLOADS = {
     "fork": Workload("the address space that fork makes of one with 1,000 pages, to the child's exit, 2 processors", "fork SEED 1000", 2, 50),
     "busybox": Workload("a shell of busybox with pipes, from exec to exit, 2 processors",
                         "exec /bin/busybox sh -c '/bin/busybox seq 1 2000 | /bin/busybox sort -r | /bin/busybox md5sum'", 2, 50),
+    "python": Workload("Debian's Python, with threads and a fork, from exec to exit, 2 processors",
+                       "exec /usr/bin/python3.11 /bin/script.py SEED", 2, 50, package="python3.11-minimal"),
+    "stress-vm": Workload("stress-ng's process that maps, writes and unmaps (vm), from fork to exit, 3 processors",
+                          "later 2 /usr/bin/stress-ng --vm 1 --vm-bytes 1M --vm-method flip --vm-ops 1000 --seed SEED", 3, 50,
+                          package="stress-ng"),
+    "stress-tlb": Workload("stress-ng's process that has TLBs shot down (tlb-shootdown), from fork to exit, 3 processors",
+                           "later 2 /usr/bin/stress-ng --tlb-shootdown 1 --tlb-shootdown-ops 4 --seed SEED", 3, 50, package="stress-ng"),
+    "kvm": Workload("the nested tables of KVM's guest in the guest, 1 processor", "monitor SEED 100", nested=True),
     "race": Workload("rests between stores and their flushes, so that other processors' accesses fall there, 3 processors",
                      "live SEED 12 shootdown", 3, 50, rest=25),
 }

@@ -45,7 +45,7 @@ void look(const volatile char *at, uint64_t bytes)
 		(void)at[offset];
 }
 
-static uint64_t draw(uint64_t *state, uint64_t below)
+uint64_t draw(uint64_t *state, uint64_t below)
 {
 	*state = *state * 6364136223846793005u + 1442695040888963407u;
 	return (*state >> 33) % below;

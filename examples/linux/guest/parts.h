@@ -20,6 +20,9 @@ void run_part(const char *name);
 
 char *map_at(uint64_t address, uint64_t bytes, int protection, int flags, int file);
 
+/* A drawn number below a bound. */
+uint64_t draw(uint64_t *state, uint64_t below);
+
 /* Each page is written, or read. */
 void touch(volatile char *at, uint64_t bytes);
 void look(const volatile char *at, uint64_t bytes);

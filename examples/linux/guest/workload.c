@@ -5,11 +5,14 @@
  *     workload die SEED ROUNDS PART..      .. to its exit, where nothing is mapped any more
  *     workload fork SEED PAGES             has the address space watched that fork makes of one with so many pages
  *     workload exec PROGRAM WORD..         has another program's watched, from exec to exit
+ *     workload later N PROGRAM WORD..      .. the one that is made when N others were made from that exec on, to its end
+ *     workload monitor SEED ROUNDS         has the nested tables watched of a virtual machine, whose monitor it is
  *     workload tick MICROSECONDS           sleeps and wakes for ever: at each of these interrupts QEMU goes to the next processor
  *
  * A store to the page of marks is a word to the plugin (plugin/watch.c). A line WRONG says that the process saw something
  * that shouldn't be.
  */
+#include "monitor.h"
 #include "parts.h"
 
 #include <errno.h>
@@ -20,7 +23,7 @@
 #include <unistd.h>
 
 #define MARKS ((volatile uint64_t *)0x6e7276730000)
-enum mark { MARK_NEXT = 1, MARK_END = 2, MARK_WHEN_EMPTY = 3 };
+enum mark { MARK_NEXT = 1, MARK_END = 2, MARK_WHEN_EMPTY = 3, MARK_LATER = 0x100 };
 
 static void report(const char *what, pid_t child)
 {
@@ -30,15 +33,15 @@ static void report(const char *what, pid_t child)
 	printf("ENDED %s with status %x\n", what, (unsigned)status);
 }
 
-/* The next address space that is made is that of the program which the child becomes. */
-static int exec_watched(int until_empty, char **words)
+/* The next address space that is made is that of the program which the child becomes; `mark` says which is watched. */
+static int exec_watched(int until_empty, uint64_t mark, char **words)
 {
 	pid_t child = fork();
 
 	if (!child) {
 		if (until_empty)
 			*MARKS = MARK_WHEN_EMPTY;
-		*MARKS = MARK_NEXT;
+		*MARKS = mark;
 		execv(words[0], words);
 		printf("WRONG exec: %s\n", strerror(errno));
 		_exit(8);
@@ -67,6 +70,17 @@ static int fork_watched(uint64_t pages)
 	return 0;
 }
 
+static int monitor_watched(void)
+{
+	int others;
+
+	*MARKS = MARK_NEXT;
+	others = run_monitor(seed, rounds);
+	printf("DONE, %d wrong\n", others);
+	*MARKS = MARK_END;
+	return others != 0;
+}
+
 static int run_parts(int marks_end, char **names)
 {
 	catch_faults();
@@ -90,14 +104,18 @@ int main(int count, char **words)
 			usleep((unsigned)seed);
 	map_at((uint64_t)MARKS, PAGE, READ_WRITE, PRIVATE, -1);
 	if (!strcmp(what, "exec"))
-		return exec_watched(1, words + 2);
+		return exec_watched(1, MARK_NEXT, words + 2);
+	if (!strcmp(what, "later") && count > 3)
+		return exec_watched(1, MARK_LATER + seed, words + 3);
+	if (!strcmp(what, "monitor") && count > 3)
+		return monitor_watched();
 	if (!strcmp(what, "fork") && count > 3)
 		return fork_watched(rounds);
 	if (!strncmp(what, "watched-", 8) && count > 3)
 		return run_parts(!strcmp(what, "watched-live"), words + 4);
 	if ((!strcmp(what, "live") || !strcmp(what, "die")) && count > 3) {
 		words[1] = !strcmp(what, "live") ? "watched-live" : "watched-die";
-		return exec_watched(!strcmp(what, "die"), words);
+		return exec_watched(!strcmp(what, "die"), MARK_NEXT, words);
 	}
 	printf("WRONG the command line\n");
 	return 2;

@@ -13,6 +13,7 @@ struct guest guest = { .levels = 4 };
 
 static const uint8_t *memory;
 static uint64_t size;
+static uint64_t kernel_root; /* the frame of a table that has the kernel's half */
 
 static uint64_t direct_map(void)
 {
@@ -88,9 +89,14 @@ uint64_t guest_task(unsigned cpu)
 	return guest_word(own(cpu, guest.current));
 }
 
-uint64_t guest_root_of(uint64_t pgd)
+void guest_enter(uint64_t space)
 {
-	return ((pgd - direct_map()) >> 12) + guest.isolated;
+	kernel_root = guest_direct(guest_word(guest_direct(space + guest.pgd))) >> 12;
+}
+
+uint64_t guest_root(void)
+{
+	return kernel_root + guest.isolated;
 }
 
 struct flush guest_flush(unsigned cpu)
@@ -101,9 +107,9 @@ struct flush guest_flush(unsigned cpu)
 	return flush;
 }
 
-uint64_t guest_walk(uint64_t address, uint64_t root)
+uint64_t guest_walk(uint64_t address)
 {
-	uint64_t word, bytes, table = root;
+	uint64_t word, bytes, table = kernel_root;
 
 	for (unsigned level = (unsigned)guest.levels;; level--) {
 		word = guest_word((table << 12) + 8 * (address >> (3 + 9 * level) & (ENTRIES - 1)));
@@ -116,9 +122,16 @@ uint64_t guest_walk(uint64_t address, uint64_t root)
 	}
 }
 
-int guest_holds_table(uint64_t frame, uint64_t root)
+uint64_t guest_kernel_word(uint64_t address)
 {
-	uint64_t at = guest_walk(struct_pages() + frame * STRUCT_PAGE_BYTES + PAGE_TYPE, root - guest.isolated);
+	uint64_t physical = guest_walk(address);
+
+	return physical == NOWHERE ? 0 : guest_word(physical);
+}
+
+int guest_holds_table(uint64_t frame)
+{
+	uint64_t at = guest_walk(struct_pages() + frame * STRUCT_PAGE_BYTES + PAGE_TYPE);
 
 	if (at == NOWHERE)
 		return 1;

@@ -19,9 +19,9 @@ struct guest {
 	uint64_t flushing;     /* flush_tlb_info: the address space and the range of a processor's latest flush */
 	uint64_t birth, pgd;   /* the instruction that stores the table of a new address space, and where in mm_struct it does so */
 	uint64_t entry, leave; /* do_syscall_64, and the instruction in it that stores a call's result */
-	uint64_t fault;        /* asm_exc_page_fault */
 	uint64_t thunk;        /* __x86_return_thunk */
 	uint64_t rest;         /* 0, or: at each so many stores that take rights away, let QEMU go to the next processor */
+	uint64_t nested, nested_end;   /* 0, or the function of KVM that loads a guest's nested tables: these are watched, no process */
 };
 
 extern struct guest guest;
@@ -41,10 +41,16 @@ uint64_t guest_of_host(const void *byte);
 
 uint64_t guest_loaded(unsigned cpu);
 uint64_t guest_task(unsigned cpu);
-uint64_t guest_root_of(uint64_t pgd);
 
-/* Where an address of the kernel lies, by the tables of this root. */
-uint64_t guest_walk(uint64_t address, uint64_t root);
+/* From here on the kernel's own addresses are looked up by the table of this mm_struct. */
+void guest_enter(uint64_t space);
+
+/* The frame of the process's table there. */
+uint64_t guest_root(void);
+
+/* Where an address of the kernel lies, and the word there, 0 where there is none. */
+uint64_t guest_walk(uint64_t address);
+uint64_t guest_kernel_word(uint64_t address);
 
 struct flush {
 	uint64_t space, begin, end;
@@ -52,6 +58,6 @@ struct flush {
 struct flush guest_flush(unsigned cpu);
 
 /* Whether the kernel holds a frame as a page table, by its struct page. Of tables of levels 1 and 2 alone it does. */
-int guest_holds_table(uint64_t frame, uint64_t root);
+int guest_holds_table(uint64_t frame);
 
 #endif

@@ -11,7 +11,7 @@
 #define LARGE 0x80u
 #define ADDRESS 0x000ffffffffff000u
 #define BY_PROCESSOR 0x60u /* accessed, dirty */
-#define USER_ENTRIES 256   /* of the root: the half that is the process's */
+#define USER_ENTRIES 256   /* of a process's root: the half that isn't the kernel's */
 
 /* By frame: the level, 0 of what is no table, how many words link it, and the words as last seen. */
 static unsigned char *level_of;
@@ -31,7 +31,7 @@ static uint64_t frame_in(uint64_t word)
 
 static unsigned entries(uint64_t frame)
 {
-	return frame == root ? USER_ENTRIES : ENTRIES;
+	return frame == root && !guest.nested ? USER_ENTRIES : ENTRIES;
 }
 
 static void *checked(void *memory)
@@ -120,7 +120,7 @@ void tables_changed(const struct change *change)
 
 int tables_is_empty(void)
 {
-	for (unsigned index = 0; index < USER_ENTRIES; index++)
+	for (unsigned index = 0; index < entries(root); index++)
 		if (words_of[root][index] & PRESENT)
 			return 0;
 	return 1;
@@ -145,7 +145,7 @@ static void dump(uint64_t frame, unsigned level)
 {
 	uint64_t word;
 
-	if (level <= 2 && !guest_holds_table(frame, root)) {
+	if (level <= 2 && !guest.nested && !guest_holds_table(frame)) {
 		say("@freed %" PRIx64 " %u\n", frame, level);
 		return;
 	}

@@ -4,15 +4,17 @@
  * QEMU's log, among those of the exceptions that QEMU logs itself (-d int,plugin). With -accel tcg,thread=single one thread of the
  * host runs all processors, so that what is logged comes one at a time, in order.
  *
+ * With the setting `nested` it is no process's address space but the memory of a guest in the guest, which the guest's KVM maps by nested
+ * tables: stores to these are logged, accesses of that guest, and that the task that runs it has left the kernel.
+ *
  * Lines, numbers in hexadecimal but for levels, processors and counts:
  *
- *     @born SPACE ROOT                                the address space has a root
+ *     @born SPACE ROOT LOADED                         the address space has a root; LOADED: the frame that CR3 has in the kernel, or 0
  *     @table FRAME LEVEL                              a table was linked, with
  *     @word FRAME INDEX WORD                          .. these words that aren't 0; before the @store of its link
  *     @callers BACK:CALLED ..                         words of the stack behind a call, with what is called there; before each
  *     @store CPU TASK OWN PC FRAME INDEX OLD NEW      a word of a table changed; OWN: by a processor that has the address space loaded
  *     @access CPU TASK MODE ACCESS ADDRESS PHYSICAL PC  an access went through; MODE s or u, ACCESS r, w or x
- *     @faulted CPU TASK                               the page fault of the log's line before it was in this address space
  *     @flushed CPU TASK BEGIN END                     a flush of BEGIN to END of this address space is over
  *     @user CPU TASK                                  a task that had taken something away is in user mode again
  *     @entered CPU TASK                               a system call begins
@@ -38,7 +40,10 @@
 #include <unistd.h>
 
 #define MARKS 0x6e7276730000u /* the page of marks: what the guest stores there is a word to the plugin */
-enum mark { MARK_NEXT = 1, MARK_END = 2, MARK_WHEN_EMPTY = 3 };
+enum mark { MARK_NEXT = 1, MARK_END = 2, MARK_WHEN_EMPTY = 3, MARK_LATER = 0x100 };
+#define NESTED_CODE 0x100000u /* the guest in the guest runs below, and nothing else does */
+#define NESTED_ROOT 0xb0      /* of the page that controls it (AMD's VMCB): the address of its nested tables */
+#define FRAME 0x000ffffffffff000u
 
 #define HIGH_HALF(address) ((address) >> 63)
 #define PRESENT 1u
@@ -52,6 +57,7 @@ EXPORTED int qemu_plugin_version = PLUGIN_VERSION;
 static enum { WAITING, ARMED, WATCHING, ENDED } state;
 static uint64_t space; /* its mm_struct */
 static int ends_when_empty;
+static uint64_t earlier; /* so many address spaces are made before the one that is watched */
 static uint64_t losses;
 
 /* The functions that end with a flush, each from its first instruction to behind its last. */
@@ -67,13 +73,37 @@ static void end(const char *why)
 	state = ENDED;
 }
 
-static void begin(uint64_t at, uint64_t pgd)
+/* Whether a store gives an address space its tables: a process's root to its mm_struct, or the root of nested tables to where the
+ * processor finds it. */
+static int is_birth(uint64_t address, uint64_t pc)
 {
-	space = at;
+	if (guest.nested)
+		return pc >= guest.nested && pc < guest.nested_end && (address & 4095) == NESTED_ROOT;
+	return pc == guest.birth && (!earlier || !earlier--);
+}
+
+static void begin(unsigned cpu, uint64_t address)
+{
+	uint64_t root;
+
+	space = guest.nested ? guest_loaded(cpu) : address - guest.pgd;
+	guest_enter(space);
+	root = guest.nested ? (guest_word(guest_direct(address)) & FRAME) >> 12 : guest_root();
 	seen_begin();
 	state = WATCHING;
-	say("@born %" PRIx64 " %" PRIx64 "\n", space, guest_root_of(pgd));
-	tables_begin(guest_root_of(pgd));
+	say("@born %" PRIx64 " %" PRIx64 " %" PRIx64 "\n", space, root, guest.nested ? 0 : root - guest.isolated);
+	tables_begin(root);
+}
+
+/* By the tables that are watched; of nested ones all code of the guest in the guest does. */
+static int is_access(uint64_t pc)
+{
+	return !guest.nested || pc < NESTED_CODE;
+}
+
+static int is_of_process(unsigned cpu)
+{
+	return state == WATCHING && !guest.nested && guest_loaded(cpu) == space;
 }
 
 static void in_user_mode(unsigned cpu)
@@ -142,6 +172,8 @@ static void process_accessed(unsigned cpu, qemu_plugin_meminfo_t info, uint64_t 
 		return;
 	if (is_user)
 		in_user_mode(cpu);
+	if (!is_access(pc))
+		return;
 	if ((address & 4095) + ((uint64_t)1 << qemu_plugin_mem_size_shift(info)) > 4096 || !seen_is_new(cpu, is_user, access, address))
 		return;
 	where = qemu_plugin_get_hwaddr(info, address);
@@ -155,8 +187,10 @@ static void marked(unsigned cpu, qemu_plugin_meminfo_t info, uint64_t address)
 	uint64_t value = where ? guest_word(qemu_plugin_hwaddr_phys_addr(where)) : 0;
 
 	say("@marked %u %" PRIx64 " %" PRIx64 "\n", cpu, guest_task(cpu), value);
-	if (value == MARK_NEXT && state == WAITING)
+	if ((value == MARK_NEXT || value > MARK_LATER) && state == WAITING) {
 		state = ARMED;
+		earlier = value == MARK_NEXT ? 0 : value - MARK_LATER;
+	}
 	if (value == MARK_WHEN_EMPTY)
 		ends_when_empty = 1;
 	if (value == MARK_END && state == WATCHING && guest_loaded(cpu) == space)
@@ -178,7 +212,7 @@ static void returns(unsigned cpu, qemu_plugin_meminfo_t info, uint64_t address)
 	const struct qemu_plugin_hwaddr *where = qemu_plugin_get_hwaddr(info, address);
 	uint64_t registers, number;
 
-	if (!where || guest_loaded(cpu) != space)
+	if (!where || !is_of_process(cpu))
 		return;
 	registers = qemu_plugin_hwaddr_phys_addr(where) - REGISTERS_RESULT;
 	number = guest_word(registers + 0x78);
@@ -194,8 +228,8 @@ static void on_kernel_memory(unsigned cpu, qemu_plugin_meminfo_t info, uint64_t 
 	uint64_t pc = (uint64_t)data, physical;
 	int is_store = qemu_plugin_mem_is_store(info);
 
-	if (state == ARMED && pc == guest.birth && is_store)
-		begin(address - guest.pgd, guest_word(guest_direct(address)));
+	if (state == ARMED && is_store && is_birth(address, pc))
+		begin(cpu, address);
 	if (state != WATCHING)
 		return;
 	if (pc == guest.leave && is_store) {
@@ -229,7 +263,7 @@ static void on_user_code(unsigned cpu, void *data)
 	if (state != WATCHING || guest_loaded(cpu) != space)
 		return;
 	in_user_mode(cpu);
-	if (seen_is_new(cpu, 1, FETCH, code->address))
+	if (is_access(code->address) && seen_is_new(cpu, 1, FETCH, code->address))
 		tell_access(cpu, 1, FETCH, code->address, code->physical, code->address);
 }
 
@@ -238,7 +272,7 @@ static void on_flushed(unsigned cpu, void *unused)
 	struct flush flush;
 
 	(void)unused;
-	if (state != WATCHING)
+	if (state != WATCHING || guest.nested)
 		return;
 	flush = guest_flush(cpu);
 	if (flush.space && flush.space != space) /* none: all that the processors have */
@@ -250,15 +284,8 @@ static void on_flushed(unsigned cpu, void *unused)
 static void on_entry(unsigned cpu, void *unused)
 {
 	(void)unused;
-	if (state == WATCHING && guest_loaded(cpu) == space)
+	if (is_of_process(cpu))
 		say("@entered %u %" PRIx64 "\n", cpu, guest_task(cpu));
-}
-
-static void on_fault(unsigned cpu, void *unused)
-{
-	(void)unused;
-	if (state == WATCHING && guest_loaded(cpu) == space)
-		say("@faulted %u %" PRIx64 "\n", cpu, guest_task(cpu));
 }
 
 static void ask(struct qemu_plugin_insn *instruction, qemu_plugin_ran *call)
@@ -294,8 +321,6 @@ static void translate_kernel(struct qemu_plugin_insn *instruction)
 		QEMU_PLUGIN_MEM_RW, (void *)pc);
 	if (pc == guest.entry)
 		ask(instruction, on_entry);
-	if (pc == guest.fault)
-		ask(instruction, on_fault);
 	for (unsigned k = 0; k < flusher_count; k++)
 		if (pc >= flushers[k].begin && pc < flushers[k].end && is_return(instruction))
 			ask(instruction, on_flushed);
@@ -345,8 +370,8 @@ static const struct {
 } settings[] = {
 	{ "levels", &guest.levels }, { "isolated", &guest.isolated }, { "percpu", &guest.percpu }, { "loaded", &guest.loaded },
 	{ "current", &guest.current }, { "flushing", &guest.flushing }, { "birth", &guest.birth }, { "pgd", &guest.pgd },
-	{ "entry", &guest.entry }, { "leave", &guest.leave }, { "fault", &guest.fault }, { "thunk", &guest.thunk },
-	{ "rest", &guest.rest },
+	{ "entry", &guest.entry }, { "leave", &guest.leave }, { "thunk", &guest.thunk },
+	{ "rest", &guest.rest }, { "nested", &guest.nested }, { "nested_end", &guest.nested_end },
 };
 
 static int set(const char *name, const char *value)

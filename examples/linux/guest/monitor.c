@@ -1,0 +1,122 @@
+#include "monitor.h"
+
+#include "parts.h"
+
+#include <errno.h>
+#include <fcntl.h>
+#include <linux/kvm.h>
+#include <stdio.h>
+#include <stdlib.h>
+#include <string.h>
+#include <sys/ioctl.h>
+
+#define MIB (1024ul * 1024)
+#define BYTES (8 * MIB) /* of the machine's memory: small pages below the half, large ones above */
+#define HALF (BYTES / 2)
+#define LARGE (2 * MIB)
+#define RUN (16 * PAGE) /* what one run of the machine accesses */
+#define CODE 0x800u
+#define COLLAPSE 25 /* MADV_COLLAPSE */
+
+/* In real mode, from DS:0 on, a byte of each of 16 pages: xor %bx,%bx; then incb (%bx), or mov (%bx),%al; add $4096,%bx; jnz; hlt. */
+static const uint8_t writing[] = { 0x31, 0xdb, 0xfe, 0x07, 0x81, 0xc3, 0x00, 0x10, 0x75, 0xf8, 0xf4 };
+static const uint8_t reading[] = { 0x31, 0xdb, 0x8a, 0x07, 0x81, 0xc3, 0x00, 0x10, 0x75, 0xf8, 0xf4 };
+
+static struct {
+	int file, processor;
+	struct kvm_run *run;
+	struct kvm_userspace_memory_region region;
+	char *memory;
+} machine;
+
+static int ask(int file, unsigned long request, void *what)
+{
+	int answer = ioctl(file, request, what);
+
+	if (answer < 0) {
+		printf("WRONG kvm, request %#lx: %s\n", request, strerror(errno));
+		exit(1);
+	}
+	return answer;
+}
+
+static void begin_machine(void)
+{
+	int kvm = open("/dev/kvm", O_RDWR | O_CLOEXEC);
+
+	machine.file = ask(kvm, KVM_CREATE_VM, NULL);
+	machine.memory = map_at(0x40000000, BYTES, READ_WRITE, PRIVATE, -1);
+	madvise(machine.memory, HALF, MADV_NOHUGEPAGE);
+	madvise(machine.memory + HALF, HALF, MADV_HUGEPAGE);
+	machine.region.memory_size = BYTES;
+	machine.region.userspace_addr = (uint64_t)machine.memory;
+	ask(machine.file, KVM_SET_USER_MEMORY_REGION, &machine.region);
+	machine.processor = ask(machine.file, KVM_CREATE_VCPU, NULL);
+	machine.run = mmap(NULL, (size_t)ask(kvm, KVM_GET_VCPU_MMAP_SIZE, NULL), READ_WRITE, MAP_SHARED, machine.processor, 0);
+	if (machine.run == MAP_FAILED)
+		exit(1);
+}
+
+/* The machine runs until it halts; 1 where it ends otherwise. */
+static int access_pages(uint64_t base, int is_store)
+{
+	struct kvm_regs registers = { .rip = CODE, .rflags = 2 };
+	struct kvm_sregs segments;
+
+	memcpy(machine.memory + CODE, is_store ? writing : reading, sizeof writing);
+	ask(machine.processor, KVM_GET_SREGS, &segments);
+	segments.cs.base = 0;
+	segments.cs.selector = 0;
+	segments.ds.base = base;
+	ask(machine.processor, KVM_SET_SREGS, &segments);
+	ask(machine.processor, KVM_SET_REGS, &registers);
+	ask(machine.processor, KVM_RUN, NULL);
+	return machine.run->exit_reason != KVM_EXIT_HLT;
+}
+
+static void log_writes(void)
+{
+	machine.region.flags ^= KVM_MEM_LOG_DIRTY_PAGES;
+	ask(machine.file, KVM_SET_USER_MEMORY_REGION, &machine.region);
+}
+
+static void take_log(void)
+{
+	static uint64_t pages[BYTES / PAGE / 64];
+	struct kvm_dirty_log log = { .dirty_bitmap = pages };
+
+	if (machine.region.flags)
+		ask(machine.file, KVM_GET_DIRTY_LOG, &log);
+}
+
+static void change_memory(uint64_t base, uint64_t how)
+{
+	char *at = machine.memory + base;
+
+	if (how < 2)
+		madvise(at, RUN, MADV_DONTNEED);
+	else if (how < 3)
+		log_writes();
+	else if (how < 4)
+		take_log();
+	else if (how < 5)
+		madvise(at, RUN, MADV_PAGEOUT);
+	else if (how < 6 && base >= HALF)
+		madvise(machine.memory + (base & -LARGE), LARGE, COLLAPSE);
+}
+
+int run_monitor(uint64_t random, unsigned rounds)
+{
+	int others = 0;
+
+	begin_machine();
+	for (unsigned round = 0; round < rounds; round++) {
+		uint64_t base = (1 + draw(&random, BYTES / RUN - 1)) * RUN;
+
+		others += access_pages(base, draw(&random, 2) != 0);
+		change_memory(base, draw(&random, 8));
+		others += access_pages(base, 0);
+		others += access_pages(base, draw(&random, 2) != 0);
+	}
+	return others;
+}
