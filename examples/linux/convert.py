@@ -15,6 +15,7 @@ import collections
 import lzma
 import sys
 from dataclasses import dataclass, field
+from typing import NamedTuple
 
 sys.dont_write_bytecode = True
 import log_lines
@@ -36,6 +37,19 @@ class Options:
     intent: bool = True
     every_access: bool = False
     most: int = 0
+
+
+class Answer(NamedTuple):
+    """Of a processor: ALLOWED and the physical address, or FAULT and the error code."""
+    kind: int
+    value: int
+
+
+class Source(NamedTuple):
+    """Who made a call, and by which instructions, the innermost first."""
+    call: int
+    who: str
+    instructions: tuple[int, ...]
 
 
 @dataclass
@@ -60,7 +74,7 @@ class Converter:
     entered: dict[int, int] = field(default_factory=dict)                   # by task: places when its system call began
     free: list[int] = field(default_factory=lambda: list(range(THREADS - 1, PROCESSORS - 1, -1)))
     dump: dict[int, dict[int, int]] = field(default_factory=dict)
-    sources: list[tuple[int, str, tuple[int, ...]]] = field(default_factory=list)       # call, who, instructions
+    sources: list[Source] = field(default_factory=list)
     symbols: dict[int, str] = field(default_factory=dict)
     notes: list[str] = field(default_factory=list)
     counts: collections.Counter[str] = field(default_factory=collections.Counter)
@@ -84,7 +98,7 @@ class Converter:
         thread = self.free.pop() if waits else self.free[-1]
         call = self.trace.call(thread, kind, change.base, size, after.rights if kind == PROTECT else rights, physical)
         update = Update(call, self.trace.place(call), thread, change)
-        self.sources.append((call, f"task {task:x}", pcs))
+        self.sources.append(Source(call, f"task {task:x}", pcs))
         self.latest[change.base] = (update.place, task)
         if takes_away:
             self.windows.setdefault(window, {}).setdefault(task, [])
@@ -162,20 +176,20 @@ class Converter:
         """The page's entry was stored to, and isn't flushed yet: the processor may answer by what was or by what is."""
         return any((size, address & -BYTES[size]) in self.windows for size in range(3))
 
-    def access(self, processor: int, is_user: bool, access: int, address: int, answer: tuple[int, int], pc: int) -> None:
+    def access(self, processor: int, is_user: bool, access: int, address: int, answer: Answer, pc: int) -> None:
         if address >> (11 + 9 * self.tables.levels):
             return
         if self.is_between(address) and not self.options.every_access:
             self.counts["left out: accesses between a store and its flush"] += 1
             return
         call = self.trace.call(processor % PROCESSORS, ACCESS, address, access, int(is_user))
-        self.trace.reply(call, len(self.trace.log), answer[0], value=answer[1])
-        self.sources.append((call, f"processor {processor}", (pc,) if pc else ()))
-        self.counts["accesses" if answer[0] == ALLOWED else "page faults"] += 1
+        self.trace.reply(call, len(self.trace.log), answer.kind, value=answer.value)
+        self.sources.append(Source(call, f"processor {processor}", (pc,) if pc else ()))
+        self.counts["accesses" if answer.kind == ALLOWED else "page faults"] += 1
 
     def fault(self, line: Fault) -> None:
         access = 2 if line.code & 16 else line.code >> 1 & 1
-        self.access(line.processor, bool(line.code & 4), access, line.address, (FAULT, line.code & 0x17), 0)
+        self.access(line.processor, bool(line.code & 4), access, line.address, Answer(FAULT, line.code & 0x17), 0)
 
     # ---- what system calls promise ----
 
@@ -206,7 +220,7 @@ class Converter:
             case Store():
                 self.store(line)
             case Access(processor, is_user, access, address, physical, pc):
-                self.access(processor, is_user, access, address, (ALLOWED, physical), pc)
+                self.access(processor, is_user, access, address, Answer(ALLOWED, physical), pc)
             case Fault():
                 self.fault(line)
             case Flushed(task, begin, end):
@@ -268,8 +282,8 @@ class Converter:
 
     def calls(self) -> str:
         rows = []
-        for call, who, pcs in self.sources:
-            rows.append("\t".join([str(call), who, *(f"{pc:#x} {self.symbols.get(pc, '')}".rstrip() for pc in pcs)]) + "\n")
+        for call, who, instructions in self.sources:
+            rows.append("\t".join([str(call), who, *(f"{pc:#x} {self.symbols.get(pc, '')}".rstrip() for pc in instructions)]) + "\n")
         return "".join(rows)
 
 

@@ -50,7 +50,12 @@ def source_lines(words: list[str], debug: str) -> list[str]:
     """The kernel's lines at the instructions of a call, the innermost first, with those whose functions were inlined."""
     addresses = [int(each.partition(" ")[0], 16) - (number > 0) for number, each in enumerate(words[1:])]      # in the call, not behind it
     kernel = [hex(each) for each in addresses if each >> 63]
-    rows = said("addr2line", "-f", "-i", "-e", debug, *kernel).splitlines() if kernel else []
+    return places(said("addr2line", "-f", "-i", "-e", debug, *kernel)) if kernel else []
+
+
+def places(said_of_lines: str) -> list[str]:
+    """What addr2line says, a line for each function; of those that it doesn't know none."""
+    rows = said_of_lines.splitlines()
     return [f"    {BUILD.sub('', place)} {function}" for function, place in zip(rows[::2], rows[1::2]) if not place.startswith("?")]
 
 

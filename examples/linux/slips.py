@@ -6,8 +6,8 @@ otherwise than the processors saw has to be found.
 
 Of each kind N are drawn among the stores to entries of pages: one is dropped, one is altered (another frame, or a right more or
 less), or one is moved behind some of the lines that follow. It prints for each kind what shows them: an access of a processor, the
-word that a later store overwrote, the tables at the end, or what a system call promised, as the converter counts. A slip that makes the same trace counts for none. NRVS says where the
-program is, else it is crates/nrvs/out/nrvs.
+word that a later store overwrote, the tables at the end, or what a system call promised, as the converter counts. A slip that makes
+the same trace isn't counted. NRVS says where the program is, else it is crates/nrvs/out/nrvs.
 """
 import argparse
 import collections

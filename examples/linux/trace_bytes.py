@@ -1,7 +1,7 @@
 """A trace of version 2 (docs/FORMATS.md), in the making."""
 import struct
 
-MAP, UNMAP, PROTECT, _, ACCESS = range(5)
+MAP, UNMAP, PROTECT, RESOLVE, ACCESS = range(5)
 DONE, REMOVED, CHANGED, ALLOWED, FAULT = 0, 3, 6, 8, 9
 THREADS, TABLES = 64, 4096
 PLACES, EVENTS = 65536, 131072

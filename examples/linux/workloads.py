@@ -27,14 +27,15 @@ class Workload:
 
 
 WORKLOADS = {
-    "short": Workload("threads that map, protect and unmap, copy on write, large pages; 2 processors", "live SEED 5 threads shootdown cow huge",
-                      2, 50),
+    "short": Workload("threads that map, protect and unmap, copy on write, large pages; 2 processors",
+                      "live SEED 5 threads shootdown cow huge", 2, 50),
     "whole": Workload("all parts, from exec to exit, 1 processor", f"die SEED 5 {PARTS}"),
     "long": Workload("all parts, 3 processors", f"live SEED 10 {PARTS}", 3, 50),
     "five": Workload("five levels, 2 processors", "live SEED 5 threads shootdown cow huge moved files", 2, 50, levels=5),
-    "isolated": Workload("the user's table of page-table isolation, 2 processors", "live SEED 5 threads shootdown cow huge moved files", 2, 50,
-                         isolated=True),
-    "fork": Workload("the address space that fork makes of one with 1,000 pages, to the child's exit, 2 processors", "fork SEED 1000", 2, 50),
+    "isolated": Workload("the user's table of page-table isolation, 2 processors",
+                         "live SEED 5 threads shootdown cow huge moved files", 2, 50, isolated=True),
+    "fork": Workload("the address space that fork makes of one with 1,000 pages, to the child's exit, 2 processors",
+                     "fork SEED 1000", 2, 50),
     "busybox": Workload("a shell of busybox with pipes, from exec to exit, 2 processors",
                         "exec /bin/busybox sh -c '/bin/busybox seq 1 2000 | /bin/busybox sort -r | /bin/busybox md5sum'", 2, 50),
     "python": Workload("Debian's Python, with threads and a fork, from exec to exit, 2 processors",
