@@ -2,6 +2,7 @@
 use Rattle.std.proofs.Common.{◌≡◌, ◌≢◌, ℕ, zero, suc, ◌<◌, ◌≤◌, ◌⊎◌, inl, inr, List, length, take, slice_get, Contains, Some, refl, ap, ap₂, sym, ◌∙◌, subst}
 use Rattle.std.proofs.Common.{arith}
 use Rattle.std.proofs.lemmas.Bool.{cases_eq, cases_lt, cases_order}
+use Rattle.vs_types.specs.Space.{Space}
 use Rattle.vs_types.specs.Step.{look}
 use Rattle.vs_walk.specs.Dump.{Image}
 use Rattle.vs_walk.specs.Walk.{walk, as_walk, TranslatesAs}
@@ -11,10 +12,10 @@ use Rattle.nr_trace.specs.Recording.{Recording}
 use Rattle.vs_types.specs.Codes.{size_code, rights_code}
 use Rattle.nr_trace.specs.declared.fields.AnswerFields.{AnswerFields}
 use Rattle.nr_trace.specs.Calls.{Invocation, call_of, IsUpdate, IsRead, Response, reply_of, reply_to}
-use Rattle.nr_trace.specs.Orders.{below, before, updates, space_after, recorded_order, known_by, IsLegalOrder, FitsOrder}
+use Rattle.nr_trace.specs.Orders.{below, before, updates, space_from, recorded_order, known_by, IsLegalFrom, FitsFrom}
 use Rattle.nr_trace.specs.Faults.{StandsAfter, RestsOnMore}
 use Rattle.vs_walk.specs.Differences.{IsLeast, TranslatesOtherwise}
-use Rattle.nr_trace.specs.Laws.{HasCleanLog, IsFaultless}
+use Rattle.nr_trace.specs.Laws.{HasCleanLog, IsFaultlessFrom}
 use Rattle.nr_trace.specs.declared.fault.Fault.TheVariants.{ThreadOpen, NoSuchCall, AnsweredTwice, NotAnUpdate, PlacedTwice, NotPlaced, PastLog, Early}
 use Rattle.nr_trace.specs.declared.fault.Fault.TheVariants.{WrongAnswer, PrefixPastLog, PrefixShort, Differs}
 use Rattle.nr_trace.proofs.LawsOfUnits.{size_from, size_back, rights_from, rights_back}
@@ -82,8 +83,8 @@ none_from_no_least P no_least n p = none_up_to P no_least (suc n) n (omega arith
 
 -- ---- dumps
 
-pub clean_if_faultless : (trace : Recording) → IsFaultless trace → HasCleanLog trace
-clean_if_faultless trace faultless = record {
+pub clean_if_faultless : (start : Space) (trace : Recording) → IsFaultlessFrom start trace → HasCleanLog trace
+clean_if_faultless start trace faultless = record {
   no_thread_open = λ i h. faultless (ThreadOpen i) h;
   no_such_call = λ i h. faultless (NoSuchCall i) h;
   none_twice = λ i h. faultless (AnsweredTwice i) h;
@@ -93,9 +94,9 @@ clean_if_faultless trace faultless = record {
   none_past_log = λ i h. faultless (PastLog i) h;
 }
 
-pub legal_if_faultless : (trace : Recording) → IsFaultless trace → IsLegalOrder trace (recorded_order trace)
-legal_if_faultless trace faultless =
-    legal trace (clean_if_faultless trace faultless) (λ call h. faultless (Early call) h) (λ call h. faultless (WrongAnswer call) h)
+pub legal_if_faultless : (start : Space) (trace : Recording) → IsFaultlessFrom start trace → IsLegalFrom start trace (recorded_order trace)
+legal_if_faultless start trace faultless =
+    legal start trace (clean_if_faultless start trace faultless) (λ call h. faultless (Early call) h) (λ call h. faultless (WrongAnswer call) h)
 
 -- the dump has applied what an answer given at its replica rests on
 known_applied : (trace : Recording) (replica : ℕ) (dump : Image) (call : ℕ) (made : Invocation) (reply : Response) → (RestsOnMore trace replica dump → ⊥)
@@ -109,12 +110,12 @@ known_applied trace replica dump call made reply no_more is_made here is_reply =
       (record { index = event.0; reply = reply; is_reply = event.1; made = made; is_made = ap (call_of trace) event.2 ∙ is_made; here = here; more = l }))
   by_order (inr l) = l
 
-pub dump_translates : (trace : Recording) (dump : Image)
-    → ((address : ℕ) → IsLeast (TranslatesOtherwise trace.layout.depth dump.frames dump.root (space_after trace (take dump.applied trace.log))) address → ⊥)
-    → TranslatesAs trace.layout.depth dump.frames dump.root (space_after trace (take dump.applied trace.log))
-dump_translates trace dump none_differs address canonical =
-    same_walk (walk trace.layout.depth dump.frames dump.root address) (as_walk (look (space_after trace (take dump.applied trace.log)) address))
-    (λ apart. none_from_no_least (TranslatesOtherwise trace.layout.depth dump.frames dump.root (space_after trace (take dump.applied trace.log))) none_differs
+pub dump_translates : (start : Space) (trace : Recording) (dump : Image)
+    → ((address : ℕ) → IsLeast (TranslatesOtherwise trace.layout.depth dump.frames dump.root (space_from start trace (take dump.applied trace.log))) address → ⊥)
+    → TranslatesAs trace.layout.depth dump.frames dump.root (space_from start trace (take dump.applied trace.log))
+dump_translates start trace dump none_differs address canonical =
+    same_walk (walk trace.layout.depth dump.frames dump.root address) (as_walk (look (space_from start trace (take dump.applied trace.log)) address))
+    (λ apart. none_from_no_least (TranslatesOtherwise trace.layout.depth dump.frames dump.root (space_from start trace (take dump.applied trace.log))) none_differs
     address (canonical, apart))
 
 -- the places that a dump has applied
@@ -149,18 +150,18 @@ earlier_update trace dump call earlier reply clean r is_reply g l within u i =
       by_side at_most (inr j) = absurd
           (not_both trace earlier u (read_from_saw trace reply.at earlier (in_filter (saw trace reply.at) earlier (below call) j).1).0)
 
-pub fits_if_faultless : (trace : Recording) (replica : ℕ) (dump : Image) → IsFaultless trace → slice_get trace.dumps replica ≡ Some dump
-    → FitsOrder trace (recorded_order trace) replica dump
-fits_if_faultless trace replica dump faultless is = record {
+pub fits_if_faultless : (start : Space) (trace : Recording) (replica : ℕ) (dump : Image) → IsFaultlessFrom start trace
+    → slice_get trace.dumps replica ≡ Some dump → FitsFrom start trace (recorded_order trace) replica dump
+fits_if_faultless start trace replica dump faultless is = record {
   enough = subst (λ (log : List ℕ). dump.applied ≤ length log) (sym log_is) (by_order (cases_lt (length trace.log) dump.applied));
-  translates = subst (λ (log : List ℕ). TranslatesAs trace.layout.depth dump.frames dump.root (space_after trace (take dump.applied log))) (sym log_is)
-      (dump_translates trace dump (λ address h. faultless (Differs replica address) (dump, is, h)));
+  translates = subst (λ (log : List ℕ). TranslatesAs trace.layout.depth dump.frames dump.root (space_from start trace (take dump.applied log))) (sym log_is)
+      (dump_translates start trace dump (λ address h. faultless (Differs replica address) (dump, is, h)));
   own_updates = λ call made is_made here u answered. in_log call (of_update call made is_made here u (the_some (reply_to trace call) answered));
   own_reads = λ call earlier made is_made here r answered u i. in_log earlier
       (of_read call earlier made is_made here r (the_some (reply_to trace call) answered) u i);
 } where
   clean : HasCleanLog trace
-  clean = clean_if_faultless trace faultless
+  clean = clean_if_faultless start trace faultless
 
   log_is : updates trace (recorded_order trace) ≡ trace.log
   log_is = updates_of_order trace clean

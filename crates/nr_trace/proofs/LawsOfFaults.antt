@@ -9,15 +9,16 @@ use Rattle.std.specs.declared.cmp.Ordering.TheVariants.{Less, Equal, Greater}
 use Rattle.std.proofs.lemmas.Bool.{cases_order}
 use Rattle.std.proofs.lemmas.Bool.Decides.{nat_tests}
 use Rattle.std.proofs.lemmas.Option.{same_Some, slice_get_within}
+use Rattle.vs_types.specs.Space.{Space, no_pages}
 use Rattle.vs_walk.specs.Dump.{Image}
 use Rattle.vs_walk.specs.declared.walk.WalkFault.TheVariants as walks
 use Rattle.nr_trace.specs.Recording.{Recording}
 use Rattle.nr_trace.specs.Spelling.{Spells}
 use Rattle.nr_trace.specs.FirstFault.{HasFormatFault}
 use Rattle.nr_trace.specs.Calls.{Invocation, call_of, Response}
-use Rattle.nr_trace.specs.Orders.{before, space_after, recorded_order}
+use Rattle.nr_trace.specs.Orders.{before, space_from, recorded_order}
 use Rattle.vs_walk.specs.Differences.{IsLeast, IsStray, TranslatesOtherwise}
-use Rattle.nr_trace.specs.Faults.{IsReplyWith, HasPlaced, HasDump, IsWrong, HasFault, rank, Earlier, IsFirst, IsFirstOf}
+use Rattle.nr_trace.specs.Faults.{IsReplyWith, HasPlaced, HasDump, IsWrongFrom, HasFaultFrom, rank, Earlier, IsFirst, IsFirstFrom, IsFirstOf}
 use Rattle.nr_trace.specs.Laws.{HasCleanLog, HasRank}
 use Rattle.nr_trace.specs.declared.fault.Format.{Format as FormatFault}
 use Rattle.nr_trace.specs.declared.fault.Fault.{Fault}
@@ -63,48 +64,49 @@ reserved_same m n i j e = (cc, cc)
 
 -- ---- faults by their ranks
 
-pub same_rank : (trace : Recording) (f g : Fault) → HasRank trace f → HasRank trace g → HasFault trace f → HasFault trace g → rank trace f ≡ rank trace g → f ≡ g
-same_rank trace (Format f) g a b h k e = absurd h
-same_rank trace (ThreadOpen i) (ThreadOpen j) a b h k e = ap ThreadOpen (ap second e)
-same_rank trace (NoSuchCall i) (NoSuchCall j) a b h k e = ap NoSuchCall (ap second e)
-same_rank trace (AnsweredTwice i) (AnsweredTwice j) a b h k e = ap AnsweredTwice (ap second e)
-same_rank trace (NotAnUpdate i) (NotAnUpdate j) a b h k e = ap NotAnUpdate (ap second e)
-same_rank trace (PlacedTwice i) (PlacedTwice j) a b h k e = ap PlacedTwice (ap second e)
-same_rank trace (NotPlaced i) (NotPlaced j) a b h k e = ap NotPlaced (ap second e)
-same_rank trace (PastLog i) (PastLog j) a b h k e = ap PastLog (ap second e)
-same_rank trace (Early i) (Early j) a b h k e = ap Early (ap second e)
-same_rank trace (WrongAnswer i) (WrongAnswer j) a b h k e =
+pub same_rank : (start : Space) (trace : Recording) (f g : Fault) → HasRank trace f → HasRank trace g → HasFaultFrom start trace f → HasFaultFrom start trace g
+    → rank trace f ≡ rank trace g → f ≡ g
+same_rank start trace (Format f) g a b h k e = absurd h
+same_rank start trace (ThreadOpen i) (ThreadOpen j) a b h k e = ap ThreadOpen (ap second e)
+same_rank start trace (NoSuchCall i) (NoSuchCall j) a b h k e = ap NoSuchCall (ap second e)
+same_rank start trace (AnsweredTwice i) (AnsweredTwice j) a b h k e = ap AnsweredTwice (ap second e)
+same_rank start trace (NotAnUpdate i) (NotAnUpdate j) a b h k e = ap NotAnUpdate (ap second e)
+same_rank start trace (PlacedTwice i) (PlacedTwice j) a b h k e = ap PlacedTwice (ap second e)
+same_rank start trace (NotPlaced i) (NotPlaced j) a b h k e = ap NotPlaced (ap second e)
+same_rank start trace (PastLog i) (PastLog j) a b h k e = ap PastLog (ap second e)
+same_rank start trace (Early i) (Early j) a b h k e = ap Early (ap second e)
+same_rank start trace (WrongAnswer i) (WrongAnswer j) a b h k e =
     ap WrongAnswer (same_place i j (recorded_order trace) (in_from_Contains i (recorded_order trace) a)
     (in_from_Contains j (recorded_order trace) b) (ap second e))
-same_rank trace (PrefixPastLog i) (PrefixPastLog j) a b h k e = ap PrefixPastLog (ap second e)
-same_rank trace (PrefixShort i) (PrefixShort j) a b h k e = ap PrefixShort (ap second e)
-same_rank trace (MissingFrame i m) (MissingFrame j n) a b h k e =
+same_rank start trace (PrefixPastLog i) (PrefixPastLog j) a b h k e = ap PrefixPastLog (ap second e)
+same_rank start trace (PrefixShort i) (PrefixShort j) a b h k e = ap PrefixShort (ap second e)
+same_rank start trace (MissingFrame i m) (MissingFrame j n) a b h k e =
     ap₂ MissingFrame (ap second e)
     (of_one_dump trace i j _ _ (ap second e) h k (λ dump p q. missing_same m n (same_Some (walks.Missing m) (walks.Missing n) (sym p ∙ q))))
-same_rank trace (SharedFrame i m) (SharedFrame j n) a b h k e =
+same_rank start trace (SharedFrame i m) (SharedFrame j n) a b h k e =
     ap₂ SharedFrame (ap second e)
     (of_one_dump trace i j _ _ (ap second e) h k (λ dump p q. shared_same m n (same_Some (walks.Shared m) (walks.Shared n) (sym p ∙ q))))
-same_rank trace (ReservedBit i m x) (ReservedBit j n y) a b h k e =
+same_rank start trace (ReservedBit i m x) (ReservedBit j n y) a b h k e =
     let both = of_one_dump trace i j _ _ (ap second e) h k
     (λ dump p q. reserved_same m n x y (same_Some (walks.Reserved m x) (walks.Reserved n y) (sym p ∙ q))) in
     let place = ap second e in
     λ t. ReservedBit (place t) (both.0 t) (both.1 t)
-same_rank trace (StrayFrame i m) (StrayFrame j n) a b h k e =
+same_rank start trace (StrayFrame i m) (StrayFrame j n) a b h k e =
     ap₂ StrayFrame (ap second e) (of_one_dump trace i j _ _ (ap second e) h k
     (λ dump p q. one_least (IsStray trace.layout.depth dump.frames dump.root) m n p q))
-same_rank trace (Differs i m) (Differs j n) a b h k e =
+same_rank start trace (Differs i m) (Differs j n) a b h k e =
     ap₂ Differs (ap second e) (of_one_dump trace i j _ _ (ap second e) h k
-    (λ dump p q. one_least (TranslatesOtherwise trace.layout.depth dump.frames dump.root (space_after trace (take dump.applied trace.log))) m n p q))
-same_rank trace f g a b h k e =
+    (λ dump p q. one_least (TranslatesOtherwise trace.layout.depth dump.frames dump.root (space_from start trace (take dump.applied trace.log))) m n p q))
+same_rank start trace f g a b h k e =
     let number = ap third e in
     absurd (omega arith)
 
-pub ordered : (trace : Recording) (f g : Fault) → HasRank trace f → HasRank trace g → HasFault trace f → HasFault trace g
+pub ordered : (start : Space) (trace : Recording) (f g : Fault) → HasRank trace f → HasRank trace g → HasFaultFrom start trace f → HasFaultFrom start trace g
     → (f ≡ g) ⊎ (Earlier trace f g ⊎ Earlier trace g f)
-ordered trace f g a b h k = by_order (slice_cmp nat_cmp (rank trace f) (rank trace g)) refl where
+ordered start trace f g a b h k = by_order (slice_cmp nat_cmp (rank trace f) (rank trace g)) refl where
   by_order : (r : Ordering) → slice_cmp nat_cmp (rank trace f) (rank trace g) ≡ r → (f ≡ g) ⊎ (Earlier trace f g ⊎ Earlier trace g f)
   by_order Less e = inr (inl e)
-  by_order Equal e = inl (same_rank trace f g a b h k (finite.slice_cmp-IsAntisymmetric finite.nat_cmp-IsAntisymmetric (rank trace f) (rank trace g) e))
+  by_order Equal e = inl (same_rank start trace f g a b h k (finite.slice_cmp-IsAntisymmetric finite.nat_cmp-IsAntisymmetric (rank trace f) (rank trace g) e))
   by_order Greater e = inr (inr (nat_list_cmp_total.antisymm (rank trace g) (rank trace f) ∙ ap ordering_reverse e))
 
 -- ---- which rank is earlier
@@ -173,17 +175,18 @@ dump_within trace replica P (dump, e, h) = slice_get_within trace.dumps replica 
 pub made_within : (trace : Recording) (call : ℕ) (made : Invocation) → call_of trace call ≡ Some made → call < length trace.events
 made_within trace call made e = call_within trace call (is_some_from (call_of trace call) made e)
 
-pub wrong_is_member : (trace : Recording) (call : ℕ) → HasCleanLog trace → IsWrong trace call → Contains (recorded_order trace) call
-wrong_is_member trace call clean wrong =
+pub wrong_is_member : (start : Space) (trace : Recording) (call : ℕ) → HasCleanLog trace → IsWrongFrom start trace call → Contains (recorded_order trace) call
+wrong_is_member start trace call clean wrong =
     let both = answered_stands trace call wrong.reply clean wrong.is_reply in
     Contains-from_in call (recorded_order trace) (standing_is_member trace wrong.reply.at call both.1 both.0)
 
 -- a wrong answer that is earlier than another one is of a call that stands before the other's
-pub earlier_answer : (trace : Recording) (i j : ℕ) → HasCleanLog trace → HasFault trace (WrongAnswer i) → HasFault trace (WrongAnswer j)
+pub earlier_answer : (start : Space) (trace : Recording) (i j : ℕ) → HasCleanLog trace → HasFaultFrom start trace (WrongAnswer i)
+    → HasFaultFrom start trace (WrongAnswer j)
     → Earlier trace (WrongAnswer i) (WrongAnswer j) → In i (before j (recorded_order trace))
-earlier_answer trace i j clean h k e =
-    earlier_member i j (recorded_order trace) (in_from_Contains i (recorded_order trace) (wrong_is_member trace i clean h))
-    (in_from_Contains j (recorded_order trace) (wrong_is_member trace j clean k))
+earlier_answer start trace i j clean h k e =
+    earlier_member i j (recorded_order trace) (in_from_Contains i (recorded_order trace) (wrong_is_member start trace i clean h))
+    (in_from_Contains j (recorded_order trace) (wrong_is_member start trace j clean k))
     (by_parts (earlier_parts trace (WrongAnswer i) (WrongAnswer j) e)) where
       by_parts : IsBelow 6 (length (before i (recorded_order trace))) 10 6 (length (before j (recorded_order trace))) 10
           → length (before i (recorded_order trace)) < length (before j (recorded_order trace))
@@ -201,8 +204,8 @@ answer_before trace i j h =
 -- ---- the first fault
 
 -- where a wrong answer is the first fault, no fault holds of the events, the log or a reply's place
-pub clean_before_answers : (trace : Recording) (call : ℕ) → IsFirst trace (WrongAnswer call) → HasCleanLog trace
-clean_before_answers trace call first = record {
+pub clean_before_answers : (start : Space) (trace : Recording) (call : ℕ) → IsFirstFrom start trace (WrongAnswer call) → HasCleanLog trace
+clean_before_answers start trace call first = record {
   no_thread_open = λ i h. first.none_earlier (ThreadOpen i) h refl;
   no_such_call = λ i h. first.none_earlier (NoSuchCall i) h refl;
   none_twice = λ i h. first.none_earlier (AnsweredTwice i) h refl;
@@ -212,12 +215,12 @@ clean_before_answers trace call first = record {
   none_past_log = λ i h. first.none_earlier (PastLog i) h refl;
 }
 
-first_has_rank : (trace : Recording) (f : Fault) → IsFirst trace f → HasRank trace f
-first_has_rank trace (WrongAnswer call) first = wrong_is_member trace call (clean_before_answers trace call first) first.holds
-first_has_rank trace f first = tt
+first_has_rank : (start : Space) (trace : Recording) (f : Fault) → IsFirstFrom start trace f → HasRank trace f
+first_has_rank start trace (WrongAnswer call) first = wrong_is_member start trace call (clean_before_answers start trace call first) first.holds
+first_has_rank start trace f first = tt
 
-pub one_first : (trace : Recording) (f g : Fault) → IsFirst trace f → IsFirst trace g → f ≡ g
-one_first trace f g x y = by_order (ordered trace f g (first_has_rank trace f x) (first_has_rank trace g y) x.holds y.holds) where
+pub one_first : (start : Space) (trace : Recording) (f g : Fault) → IsFirstFrom start trace f → IsFirstFrom start trace g → f ≡ g
+one_first start trace f g x y = by_order (ordered start trace f g (first_has_rank start trace f x) (first_has_rank start trace g y) x.holds y.holds) where
   by_order : (f ≡ g) ⊎ (Earlier trace f g ⊎ Earlier trace g f) → f ≡ g
   by_order (inl e) = e
   by_order (inr (inl l)) = absurd (y.none_earlier f x.holds l)
@@ -243,4 +246,4 @@ one_first_of bytes f g x y = by_sides (by_side bytes f x) (by_side bytes g y) wh
   by_sides (inr (trace, spells, first)) (inl (b, d, k)) = absurd (no_fault bytes trace b spells k)
   by_sides (inr (s, spells, first)) (inr (t, also, other)) =
       let e = one_trace bytes s t spells also in
-      one_first t f g (subst (λ trace. IsFirst trace f) e first) other
+      one_first no_pages t f g (subst (λ trace. IsFirst trace f) e first) other

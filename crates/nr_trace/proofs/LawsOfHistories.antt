@@ -3,10 +3,11 @@ use Rattle.std.proofs.Common.{◌≡◌, ℕ, zero, suc, ◌<◌, ◌≤◌, ◌
 use Rattle.std.proofs.Common.{arith, if◌then◌else◌}
 use Rattle.std.specs.Prelude.{◌↔◌}
 use Rattle.std.proofs.lemmas.Bool.{both_ways, cases_Bool, cases_lt, cases_order}
+use Rattle.vs_types.specs.Space.{Space}
 use Rattle.nr_trace.specs.Recording.{Recording}
 use Rattle.nr_trace.specs.Calls.{Invocation, call_of, Response, reply_of, Answers, Precedes, IsWellFormedHistory}
 use Rattle.nr_trace.specs.Faults.{HasFault}
-use Rattle.nr_trace.specs.Laws.{IsFaultless}
+use Rattle.nr_trace.specs.Laws.{IsFaultlessFrom}
 use Rattle.nr_trace.specs.declared.fault.Fault.TheVariants.{ThreadOpen, NoSuchCall, AnsweredTwice}
 use Rattle.nr_trace.proofs.LawsOfCalls.{answers_from, behind_its_call, is_some_from, reply_that_answers}
 
@@ -81,8 +82,8 @@ module _ (trace : Recording) (history : IsWellFormedHistory trace) where
         omega (arith, l, same),
   )
 
-pub history_if_faultless : (trace : Recording) → IsFaultless trace → IsWellFormedHistory trace
-history_if_faultless trace faultless = well_formed trace (λ index. (faultless (ThreadOpen index), faultless (NoSuchCall index), faultless (AnsweredTwice index)))
+pub history_if_faultless : (start : Space) (trace : Recording) → IsFaultlessFrom start trace → IsWellFormedHistory trace
+history_if_faultless start trace faultless = well_formed trace (λ index. (faultless (ThreadOpen index), faultless (NoSuchCall index), faultless (AnsweredTwice index)))
 
 pub well_formed_as_faults : (trace : Recording) → IsWellFormedHistory trace ↔ HasNoCallFault trace
 well_formed_as_faults trace = (λ history. no_call_fault trace history, λ clean. well_formed trace clean)

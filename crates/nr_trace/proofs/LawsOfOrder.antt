@@ -10,14 +10,14 @@ use Rattle.std.proofs.lemmas.List.Concat.{flat_map-append}
 use Rattle.std.proofs.lemmas.List.Elements.{filter_map-append, filter-append}
 use Rattle.std.proofs.lemmas.Option.{slice_get_within}
 use Rattle.vs_types.specs.Step.{after_all}
-use Rattle.vs_types.specs.Space.{no_pages}
+use Rattle.vs_types.specs.Space.{Space}
 use Rattle.vs_types.specs.declared.answer.Answer.{Answer}
 use Rattle.nr_trace.specs.Recording.{Recording}
 use Rattle.nr_trace.specs.Spelling.{answer_fields}
 use Rattle.nr_trace.specs.Calls.{Invocation, call_of, operation_of, address_of, IsCall, IsUpdate, IsRead, Response, reply_to, IsAnswered}
-use Rattle.nr_trace.specs.Orders.{below, before, updates, operations, space_after, answer_in, reads_at, recorded_order}
-use Rattle.nr_trace.specs.Faults.{HasFault, StandsAfter}
-use Rattle.nr_trace.specs.Laws.{HasCleanLog, IsSerialOrder}
+use Rattle.nr_trace.specs.Orders.{below, before, updates, operations, space_from, answer_in, reads_at, recorded_order}
+use Rattle.nr_trace.specs.Faults.{HasFaultFrom, StandsAfter}
+use Rattle.nr_trace.specs.Laws.{HasCleanLog, IsSerialFrom}
 use Rattle.nr_trace.specs.declared.fault.Fault.TheVariants.{WrongAnswer}
 use Rattle.nr_trace.proofs.LawsOfUnits.{answer_apart}
 use Rattle.nr_trace.proofs.LawsOfLists.{In, Contains-from_in, in_from_Contains, in_left, in_right, in_either, in_filter, in_filtered, in_flat_map}
@@ -224,9 +224,9 @@ operations_before trace n call clean l (inr h) =
     ap (operations trace) (before_read trace n call clean l h)
     ∙ with_reads trace n (earlier_reads trace n call) (λ c i. (read_from_saw trace n c (in_filter (saw trace n) c (below call) i).1).0)
 
-pub space_before : (trace : Recording) (n call : ℕ) → HasCleanLog trace → n ≤ length trace.log → StandsAfter trace call n
-    → space_after trace (before call (recorded_order trace)) ≡ space_after trace (take n trace.log)
-space_before trace n call clean l h = ap (after_all trace.layout.depth trace.layout.tables no_pages) (operations_before trace n call clean l h)
+pub space_before : (start : Space) (trace : Recording) (n call : ℕ) → HasCleanLog trace → n ≤ length trace.log → StandsAfter trace call n
+    → space_from start trace (before call (recorded_order trace)) ≡ space_from start trace (take n trace.log)
+space_before start trace n call clean l h = ap (after_all trace.layout.depth trace.layout.tables start) (operations_before trace n call clean l h)
 
 no_updates : (trace : Recording) (calls : List ℕ) → ((call : ℕ) → In call calls → IsRead trace call) → updates trace calls ≡ []
 no_updates trace [] h = refl
@@ -272,27 +272,27 @@ same_or_not a b =
       by_parts (inl c) (inl s) (inr n) v = inr (λ e. n (ap (λ x. (answer_fields x).rights) e))
       by_parts (inl c) (inl s) (inl r) (inr n) = inr (λ e. n (ap (λ x. (answer_fields x).value) e))
 
-pub right_answer : (trace : Recording) → ((call : ℕ) → HasFault trace (WrongAnswer call) → ⊥) → (call : ℕ) (made : Invocation) (reply : Response)
+pub right_answer : (start : Space) (trace : Recording) → ((call : ℕ) → HasFaultFrom start trace (WrongAnswer call) → ⊥) → (call : ℕ) (made : Invocation) (reply : Response)
     → call_of trace call ≡ Some made → reply_to trace call ≡ Some reply
-    → reply.answer ≡ answer_in trace.layout (space_after trace (before call (recorded_order trace))) made.request
-right_answer trace right call made reply e f =
-    by_case (same_or_not reply.answer (answer_in trace.layout (space_after trace (before call (recorded_order trace))) made.request)) where
-      by_case : (reply.answer ≡ answer_in trace.layout (space_after trace (before call (recorded_order trace))) made.request) ⊎
-          (reply.answer ≢ answer_in trace.layout (space_after trace (before call (recorded_order trace))) made.request)
-          → reply.answer ≡ answer_in trace.layout (space_after trace (before call (recorded_order trace))) made.request
+    → reply.answer ≡ answer_in trace.layout (space_from start trace (before call (recorded_order trace))) made.request
+right_answer start trace right call made reply e f =
+    by_case (same_or_not reply.answer (answer_in trace.layout (space_from start trace (before call (recorded_order trace))) made.request)) where
+      by_case : (reply.answer ≡ answer_in trace.layout (space_from start trace (before call (recorded_order trace))) made.request) ⊎
+          (reply.answer ≢ answer_in trace.layout (space_from start trace (before call (recorded_order trace))) made.request)
+          → reply.answer ≡ answer_in trace.layout (space_from start trace (before call (recorded_order trace))) made.request
       by_case (inl h) = h
       by_case (inr n) = absurd (right call (record { made = made; is_made = e; reply = reply; is_reply = f; differs = n }))
 
-pub legal_but_precedence : (trace : Recording) → HasCleanLog trace → ((call : ℕ) → HasFault trace (WrongAnswer call) → ⊥)
-    → IsSerialOrder trace (recorded_order trace)
-legal_but_precedence trace clean right = record {
+pub legal_but_precedence : (start : Space) (trace : Recording) → HasCleanLog trace → ((call : ℕ) → HasFaultFrom start trace (WrongAnswer call) → ⊥)
+    → IsSerialFrom start trace (recorded_order trace)
+legal_but_precedence start trace clean right = record {
   members = record {
     once = order_distinct trace clean;
     calls = λ call m. is_call call (member_stands trace call clean (in_from_Contains call (recorded_order trace) m));
     answered = λ call c a. stands call (the_some (reply_to trace call) a);
     others = λ call m. kind call (member_stands trace call clean (in_from_Contains call (recorded_order trace) m));
   };
-  answers = right_answer trace right;
+  answers = right_answer start trace right;
 } where
   is_call : (call : ℕ) → (n : ℕ) × (n ≤ length trace.log) × StandsAfter trace call n → IsCall trace call
   is_call call (n, l, h) = stands_as_call trace call n h

@@ -5,10 +5,11 @@ use Rattle.std.specs.Prelude.{filter_map}
 use Rattle.std.specs.List.{cons_option}
 use Rattle.std.proofs.lemmas.Bool.{cases_order, cases_lt}
 use Rattle.std.proofs.lemmas.Option.{same_Some, none-some}
+use Rattle.vs_types.specs.Space.{Space}
 use Rattle.nr_trace.specs.Recording.{Recording}
 use Rattle.nr_trace.specs.Calls.{operation_of, IsCall, IsUpdate, IsRead, Response, reply_in, reply_of, reply_to, Precedes}
-use Rattle.nr_trace.specs.Orders.{below, before, reads_at, recorded_order, known_by, floor, IsLegalOrder}
-use Rattle.nr_trace.specs.Faults.{HasFault, StandsAfter}
+use Rattle.nr_trace.specs.Orders.{below, before, reads_at, recorded_order, known_by, floor, IsLegalFrom}
+use Rattle.nr_trace.specs.Faults.{HasFault, HasFaultFrom, StandsAfter}
 use Rattle.nr_trace.specs.Laws.{HasCleanLog}
 use Rattle.nr_trace.specs.declared.fault.Fault.TheVariants.{Early, WrongAnswer}
 use Rattle.nr_trace.proofs.LawsOfLists.{In, Contains-from_in, in_from_Contains, in_left, in_right, in_filtered, below_in}
@@ -125,10 +126,10 @@ keeps_precedence trace clean in_time first second n k h precedes =
     let f : reply_to trace first ≡ Some reply = ap (reply_to trace) (sym g) ∙ reply_is_first trace precedes.1 reply clean e in
     first_in_front trace first second n reply clean k h l f g (omega arith) (update_or_read trace first made)
 
-pub legal : (trace : Recording) → HasCleanLog trace → ((call : ℕ) → HasFault trace (Early call) → ⊥) → ((call : ℕ) → HasFault trace (WrongAnswer call) → ⊥)
-    → IsLegalOrder trace (recorded_order trace)
-legal trace clean in_time right =
-    let but = legal_but_precedence trace clean right in
+pub legal : (start : Space) (trace : Recording) → HasCleanLog trace → ((call : ℕ) → HasFault trace (Early call) → ⊥)
+    → ((call : ℕ) → HasFaultFrom start trace (WrongAnswer call) → ⊥) → IsLegalFrom start trace (recorded_order trace)
+legal start trace clean in_time right =
+    let but = legal_but_precedence start trace clean right in
     record {
       members = but.members;
       precedence = λ first second a b p. in_front first second (member_stands trace second clean (in_from_Contains second (recorded_order trace) b)) p;

@@ -5,13 +5,13 @@ use Rattle.std.specs.Prelude.{filter_map}
 use Rattle.std.proofs.lemmas.List.{map-append}
 use Rattle.std.proofs.lemmas.List.Elements.{filter_map-append}
 use Rattle.std.proofs.lemmas.Grind.{fold-append}
-use Rattle.vs_types.specs.Space.{Space, no_pages}
+use Rattle.vs_types.specs.Space.{Space}
 use Rattle.vs_types.specs.Step.{step, after_all}
 use Rattle.vs_types.specs.declared.depth.Depth.{Depth}
 use Rattle.vs_types.specs.declared.op.Action.{Action}
 use Rattle.nr_trace.specs.Recording.{Recording}
 use Rattle.nr_trace.specs.Calls.{operation_of, Response, reply_in, reply_of}
-use Rattle.nr_trace.specs.Orders.{operations, space_after, known_by, floor}
+use Rattle.nr_trace.specs.Orders.{operations, space_from, known_by, floor}
 use Rattle.nr_trace.specs.declared.event.Event.{Event}
 use Rattle.nr_trace.proofs.LawsOfLists.{take-next}
 
@@ -61,14 +61,14 @@ one_operation : (trace : Recording) (o : Option ℕ) (call : ℕ) (action : Acti
 one_operation trace o call action e f = rw (e, f) refl
 
 -- the space after one place more
-pub space_next : (trace : Recording) (place call : ℕ) (action : Action) → slice_get trace.log place ≡ Some call → operation_of trace call ≡ Some action
-    → space_after trace (take (place + 1) trace.log) ≡ (step trace.layout.depth trace.layout.tables (space_after trace (take place trace.log)) action).space
-space_next trace place call action e f =
+pub space_next : (start : Space) (trace : Recording) (place call : ℕ) (action : Action) → slice_get trace.log place ≡ Some call → operation_of trace call ≡ Some action
+    → space_from start trace (take (place + 1) trace.log) ≡ (step trace.layout.depth trace.layout.tables (space_from start trace (take place trace.log)) action).space
+space_next start trace place call action e f =
     let more = one_operation trace (slice_get trace.log place) call action e f in
-    ap (λ n. space_after trace (take n trace.log)) (add-one place)
-    ∙ ap (space_after trace) (take-next place trace.log)
-    ∙ ap (after_all trace.layout.depth trace.layout.tables no_pages)
+    ap (λ n. space_from start trace (take n trace.log)) (add-one place)
+    ∙ ap (space_from start trace) (take-next place trace.log)
+    ∙ ap (after_all trace.layout.depth trace.layout.tables start)
     (filter_map-append (operation_of trace) (take place trace.log) (option_to_list (slice_get trace.log place)))
-    ∙ after_append trace.layout.depth trace.layout.tables no_pages (operations trace (take place trace.log))
+    ∙ after_append trace.layout.depth trace.layout.tables start (operations trace (take place trace.log))
     (operations trace (option_to_list (slice_get trace.log place)))
-    ∙ ap (after_all trace.layout.depth trace.layout.tables (space_after trace (take place trace.log))) more
+    ∙ ap (after_all trace.layout.depth trace.layout.tables (space_from start trace (take place trace.log))) more

@@ -3,13 +3,14 @@ use Rattle.std.specs.Prelude.{◌≡◌, ◌≢◌, ℕ, ◌<◌, ◌⊎◌, Lis
 use Rattle.std.specs.Ordering.{nat_cmp}
 use Rattle.std.specs.Cmp.Lexicographic.{slice_cmp}
 use Rattle.std.specs.declared.cmp.Ordering.TheVariants.{Less}
+use Rattle.vs_types.specs.Space.{Space, no_pages}
 use Rattle.vs_walk.specs.Differences.{HasMissingFrame, HasSharedFrame, HasReservedBit, HasStrayFrame, HasDifference}
 use Rattle.vs_walk.specs.Dump.{Image}
 use Rattle.nr_trace.specs.Recording.{Recording}
 use Rattle.nr_trace.specs.Spelling.{Spells}
 use Rattle.nr_trace.specs.FirstFault.{HasFormatFault}
 use Rattle.nr_trace.specs.Calls.{Invocation, call_of, Response, reply_of, reply_to, Answers, IsCall, IsUpdate, IsRead}
-use Rattle.nr_trace.specs.Orders.{before, space_after, answer_in, recorded_order, floor, known_by}
+use Rattle.nr_trace.specs.Orders.{before, space_from, answer_in, recorded_order, floor, known_by}
 use Rattle.nr_trace.specs.declared.fault.Fault.{Fault}
 use Rattle.nr_trace.specs.declared.fault.Fault.TheVariants.{Format, ThreadOpen, NoSuchCall, AnsweredTwice, NotAnUpdate, PlacedTwice, NotPlaced, PastLog, Early}
 use Rattle.nr_trace.specs.declared.fault.Fault.TheVariants.{WrongAnswer, PrefixPastLog, PrefixShort, MissingFrame, SharedFrame, ReservedBit, StrayFrame}
@@ -41,12 +42,12 @@ StandsAfter trace call entries =
     ⊎ (IsRead trace call × (reply : Response) × (reply_to trace call ≡ Some reply) × (reply.at ≡ entries))
 
 -- an answered call whose answer the space does not give in the recorded order
-pub record IsWrong (trace : Recording) (call : ℕ) : Type 0 where
+pub record IsWrongFrom (start : Space) (trace : Recording) (call : ℕ) : Type 0 where
   pub made : Invocation
   pub is_made : call_of trace call ≡ Some made
   pub reply : Response
   pub is_reply : reply_to trace call ≡ Some reply
-  pub differs : reply.answer ≢ answer_in trace.layout (space_after trace (before call (recorded_order trace))) made.request
+  pub differs : reply.answer ≢ answer_in trace.layout (space_from start trace (before call (recorded_order trace))) made.request
 
 -- a reply to a call made at the replica, by which more entries are known than the dump has applied
 pub record RestsOnMore (trace : Recording) (replica : ℕ) (dump : Image) : Type 0 where
@@ -62,26 +63,30 @@ pub record RestsOnMore (trace : Recording) (replica : ℕ) (dump : Image) : Type
 abbrev pub HasDump : Recording → ℕ → (Image → Type 0) → Type 0
 HasDump trace replica P = (dump : Image) × (slice_get trace.dumps replica ≡ Some dump) × P dump
 
--- what each fault but that of the format says of a trace
+-- what each fault but that of the format says of a trace, from a start on
+abbrev pub HasFaultFrom : Space → Recording → Fault → Type 0
+HasFaultFrom start trace (Format fault) = ⊥
+HasFaultFrom start trace (ThreadOpen index) = OpensTwice trace index
+HasFaultFrom start trace (NoSuchCall index) = IsReplyWith trace index (λ reply. (reply.call < index) × IsCall trace reply.call → ⊥)
+HasFaultFrom start trace (AnsweredTwice index) = IsReplyWith trace index (λ reply. (earlier : ℕ) × (earlier < index) × Answers trace earlier reply.call)
+HasFaultFrom start trace (NotAnUpdate place) = HasPlaced trace place (λ call. IsUpdate trace call → ⊥)
+HasFaultFrom start trace (PlacedTwice place) = HasPlaced trace place (λ call. (earlier : ℕ) × (earlier < place) × (slice_get trace.log earlier ≡ Some call))
+HasFaultFrom start trace (NotPlaced index) = IsReplyWith trace index (λ reply. IsUpdate trace reply.call × (slice_get trace.log reply.at ≢ Some reply.call))
+HasFaultFrom start trace (PastLog index) = IsReplyWith trace index (λ reply. IsRead trace reply.call × (length trace.log < reply.at))
+HasFaultFrom start trace (Early call) = (entries : ℕ) × StandsAfter trace call entries × (entries < floor trace call)
+HasFaultFrom start trace (WrongAnswer call) = IsWrongFrom start trace call
+HasFaultFrom start trace (PrefixPastLog replica) = HasDump trace replica (λ dump. length trace.log < dump.applied)
+HasFaultFrom start trace (PrefixShort replica) = HasDump trace replica (RestsOnMore trace replica)
+HasFaultFrom start trace (MissingFrame replica number) = HasDump trace replica (λ dump. HasMissingFrame trace.layout.depth dump number)
+HasFaultFrom start trace (SharedFrame replica number) = HasDump trace replica (λ dump. HasSharedFrame trace.layout.depth dump number)
+HasFaultFrom start trace (ReservedBit replica number index) = HasDump trace replica (λ dump. HasReservedBit trace.layout.depth dump number index)
+HasFaultFrom start trace (StrayFrame replica number) = HasDump trace replica (λ dump. HasStrayFrame trace.layout.depth dump number)
+HasFaultFrom start trace (Differs replica address) =
+    HasDump trace replica (λ dump. HasDifference trace.layout.depth dump (space_from start trace (take dump.applied trace.log)) address)
+
+-- the same from no pages on
 abbrev pub HasFault : Recording → Fault → Type 0
-HasFault trace (Format fault) = ⊥
-HasFault trace (ThreadOpen index) = OpensTwice trace index
-HasFault trace (NoSuchCall index) = IsReplyWith trace index (λ reply. (reply.call < index) × IsCall trace reply.call → ⊥)
-HasFault trace (AnsweredTwice index) = IsReplyWith trace index (λ reply. (earlier : ℕ) × (earlier < index) × Answers trace earlier reply.call)
-HasFault trace (NotAnUpdate place) = HasPlaced trace place (λ call. IsUpdate trace call → ⊥)
-HasFault trace (PlacedTwice place) = HasPlaced trace place (λ call. (earlier : ℕ) × (earlier < place) × (slice_get trace.log earlier ≡ Some call))
-HasFault trace (NotPlaced index) = IsReplyWith trace index (λ reply. IsUpdate trace reply.call × (slice_get trace.log reply.at ≢ Some reply.call))
-HasFault trace (PastLog index) = IsReplyWith trace index (λ reply. IsRead trace reply.call × (length trace.log < reply.at))
-HasFault trace (Early call) = (entries : ℕ) × StandsAfter trace call entries × (entries < floor trace call)
-HasFault trace (WrongAnswer call) = IsWrong trace call
-HasFault trace (PrefixPastLog replica) = HasDump trace replica (λ dump. length trace.log < dump.applied)
-HasFault trace (PrefixShort replica) = HasDump trace replica (RestsOnMore trace replica)
-HasFault trace (MissingFrame replica number) = HasDump trace replica (λ dump. HasMissingFrame trace.layout.depth dump number)
-HasFault trace (SharedFrame replica number) = HasDump trace replica (λ dump. HasSharedFrame trace.layout.depth dump number)
-HasFault trace (ReservedBit replica number index) = HasDump trace replica (λ dump. HasReservedBit trace.layout.depth dump number index)
-HasFault trace (StrayFrame replica number) = HasDump trace replica (λ dump. HasStrayFrame trace.layout.depth dump number)
-HasFault trace (Differs replica address) =
-    HasDump trace replica (λ dump. HasDifference trace.layout.depth dump (space_after trace (take dump.applied trace.log)) address)
+HasFault trace fault = HasFaultFrom no_pages trace fault
 
 -- where a fault stands: its pass, then its index in that pass, then its number. Answers are compared in the recorded order
 abbrev pub rank : Recording → Fault → List ℕ
@@ -107,9 +112,12 @@ abbrev pub Earlier : Recording → Fault → Fault → Type 0
 Earlier trace first second = slice_cmp nat_cmp (rank trace first) (rank trace second) ≡ Less
 
 -- the fault holds of the trace, and no earlier one does
-pub record IsFirst (trace : Recording) (fault : Fault) : Type 0 where
-  pub holds : HasFault trace fault
-  pub none_earlier : (other : Fault) → HasFault trace other → Earlier trace other fault → ⊥
+pub record IsFirstFrom (start : Space) (trace : Recording) (fault : Fault) : Type 0 where
+  pub holds : HasFaultFrom start trace fault
+  pub none_earlier : (other : Fault) → HasFaultFrom start trace other → Earlier trace other fault → ⊥
+
+abbrev pub IsFirst : Recording → Fault → Type 0
+IsFirst trace fault = IsFirstFrom no_pages trace fault
 
 -- the fault is the first one of the bytes
 abbrev pub IsFirstOf : List ℕ → Fault → Type 0

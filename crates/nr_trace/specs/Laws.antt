@@ -1,10 +1,11 @@
 -- What the laws of `src/laws.rt` say of orders.
 use Rattle.std.specs.Prelude.{ℕ, ◌≤◌, List, length, Contains, ⊤}
+use Rattle.vs_types.specs.Space.{Space, no_pages}
 use Rattle.nr_trace.specs.Recording.{Recording}
-use Rattle.nr_trace.specs.Orders.{HasItsCalls, HasTheAnswers, recorded_order}
+use Rattle.nr_trace.specs.Orders.{HasItsCalls, HasAnswersFrom, recorded_order}
 use Rattle.nr_trace.specs.declared.fault.Fault.{Fault}
 use Rattle.nr_trace.specs.declared.fault.Fault.TheVariants.{ThreadOpen, NoSuchCall, AnsweredTwice, NotAnUpdate, PlacedTwice, NotPlaced, PastLog, WrongAnswer}
-use Rattle.nr_trace.specs.Faults.{HasFault, StandsAfter}
+use Rattle.nr_trace.specs.Faults.{HasFault, HasFaultFrom, StandsAfter}
 
 -- no fault holds of the events by themselves, of the log, or of a reply's place
 pub record HasCleanLog (trace : Recording) : Type 0 where
@@ -21,9 +22,12 @@ abbrev pub Stands : Recording → ℕ → Type 0
 Stands trace call = (entries : ℕ) × (entries ≤ length trace.log) × StandsAfter trace call entries
 
 -- a legal order, but that a call answered before another was made may come after it
-pub record IsSerialOrder (trace : Recording) (order : List ℕ) : Type 0 where
+pub record IsSerialFrom (start : Space) (trace : Recording) (order : List ℕ) : Type 0 where
   pub members : HasItsCalls trace order
-  pub answers : HasTheAnswers trace order
+  pub answers : HasAnswersFrom start trace order
+
+abbrev pub IsSerialOrder : Recording → List ℕ → Type 0
+IsSerialOrder trace order = IsSerialFrom no_pages trace order
 
 -- wrong answers are compared in the recorded order, so that the call has to stand there
 abbrev pub HasRank : Recording → Fault → Type 0
@@ -31,5 +35,8 @@ HasRank trace (WrongAnswer call) = Contains (recorded_order trace) call
 HasRank trace fault = ⊤
 
 -- no fault holds but perhaps one of the format
+abbrev pub IsFaultlessFrom : Space → Recording → Type 0
+IsFaultlessFrom start trace = (fault : Fault) → HasFaultFrom start trace fault → ⊥
+
 abbrev pub IsFaultless : Recording → Type 0
-IsFaultless trace = (fault : Fault) → HasFault trace fault → ⊥
+IsFaultless trace = IsFaultlessFrom no_pages trace

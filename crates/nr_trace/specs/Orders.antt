@@ -26,9 +26,13 @@ updates trace calls = filter (λ call. is_some (operation_of trace call)) calls
 abbrev pub operations : Recording → List ℕ → List Action
 operations trace calls = filter_map (operation_of trace) calls
 
--- the one sequential space of a trace, after the updates among these calls, in their order
+-- the one sequential space of a trace that begins with a start, after the updates among these calls, in their order
+abbrev pub space_from : Space → Recording → List ℕ → Space
+space_from start trace calls = after_all trace.layout.depth trace.layout.tables start (operations trace calls)
+
+-- the same from no pages on
 abbrev pub space_after : Recording → List ℕ → Space
-space_after trace calls = after_all trace.layout.depth trace.layout.tables no_pages (operations trace calls)
+space_after trace calls = space_from no_pages trace calls
 
 -- what a request is answered in a space
 abbrev pub answer_in : Layout → Space → Query → Answer
@@ -49,25 +53,34 @@ KeepsPrecedence trace order = (first second : ℕ) → Contains order first → 
     → Contains (before second order) first
 
 -- each answer is what the space gives after the updates that stand before
+abbrev pub HasAnswersFrom : Space → Recording → List ℕ → Type 0
+HasAnswersFrom start trace order = (call : ℕ) (made : Invocation) (reply : Response) → call_of trace call ≡ Some made → reply_to trace call ≡ Some reply
+    → reply.answer ≡ answer_in trace.layout (space_from start trace (before call order)) made.request
+
 abbrev pub HasTheAnswers : Recording → List ℕ → Type 0
-HasTheAnswers trace order = (call : ℕ) (made : Invocation) (reply : Response) → call_of trace call ≡ Some made → reply_to trace call ≡ Some reply
-    → reply.answer ≡ answer_in trace.layout (space_after trace (before call order)) made.request
+HasTheAnswers trace order = HasAnswersFrom no_pages trace order
 
 -- a legal order: a linearization of the calls
-pub record IsLegalOrder (trace : Recording) (order : List ℕ) : Type 0 where
+pub record IsLegalFrom (start : Space) (trace : Recording) (order : List ℕ) : Type 0 where
   pub members : HasItsCalls trace order
   pub precedence : KeepsPrecedence trace order
-  pub answers : HasTheAnswers trace order
+  pub answers : HasAnswersFrom start trace order
+
+abbrev pub IsLegalOrder : Recording → List ℕ → Type 0
+IsLegalOrder trace order = IsLegalFrom no_pages trace order
 
 -- the dump of a replica fits an order: it translates as the space after the first updates, as many as it has applied, and
 -- among these are all on which an answer given at the replica rests
-pub record FitsOrder (trace : Recording) (order : List ℕ) (replica : ℕ) (dump : Image) : Type 0 where
+pub record FitsFrom (start : Space) (trace : Recording) (order : List ℕ) (replica : ℕ) (dump : Image) : Type 0 where
   pub enough : dump.applied ≤ length (updates trace order)
-  pub translates : TranslatesAs trace.layout.depth dump.frames dump.root (space_after trace (take dump.applied (updates trace order)))
+  pub translates : TranslatesAs trace.layout.depth dump.frames dump.root (space_from start trace (take dump.applied (updates trace order)))
   pub own_updates : (call : ℕ) (made : Invocation) → call_of trace call ≡ Some made → made.replica ≡ replica → IsUpdate trace call → IsAnswered trace call
       → Contains (take dump.applied (updates trace order)) call
   pub own_reads : (call earlier : ℕ) (made : Invocation) → call_of trace call ≡ Some made → made.replica ≡ replica → IsRead trace call → IsAnswered trace call
       → IsUpdate trace earlier → Contains (before call order) earlier → Contains (take dump.applied (updates trace order)) earlier
+
+abbrev pub FitsOrder : Recording → List ℕ → ℕ → Image → Type 0
+FitsOrder trace order replica dump = FitsFrom no_pages trace order replica dump
 
 -- the numbers below one
 abbrev pub below : ℕ → List ℕ

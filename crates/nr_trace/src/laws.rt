@@ -7,16 +7,16 @@ ghost use Rattle.std.specs.List.{concat};
 ghost use Rattle.vs_walk.specs.Dump.{Image};
 ghost use Rattle.vs_types.specs.declared.refusal.Fail.{Fail};
 ghost use Rattle.vs_types.specs.declared.refusal.Fail.TheVariants.{Memory};
-ghost use Rattle.vs_types.specs.Space.{no_pages};
+ghost use Rattle.vs_types.specs.Space.{Space};
 ghost use Rattle.vs_types.specs.Step.{step};
 ghost use Rattle.vs_types.specs.declared.op.Action.{Action};
 ghost use Rattle.nr_trace.specs.Calls.{operation_of, reply_of, reply_to, IsWellFormedHistory, Response};
 ghost use Rattle.nr_trace.specs.FirstFault.{HasFormatFault};
 ghost use Rattle.nr_trace.specs.Feed.{Ends, Fed, FeedsAll, Reads};
 ghost use Rattle.nr_trace.specs.Feed.Fed.{Taken};
-ghost use Rattle.nr_trace.specs.Faults.{Earlier, HasFault, IsFirst, IsFirstOf, StandsAfter};
-ghost use Rattle.nr_trace.specs.Laws.{HasCleanLog, HasRank, IsFaultless, IsSerialOrder, Stands};
-ghost use Rattle.nr_trace.specs.Orders.{before, floor, known_by, recorded_order, space_after, updates, FitsOrder, IsLegalOrder};
+ghost use Rattle.nr_trace.specs.Faults.{Earlier, HasFault, HasFaultFrom, IsFirstFrom, IsFirstOf, StandsAfter};
+ghost use Rattle.nr_trace.specs.Laws.{HasCleanLog, HasRank, IsFaultlessFrom, IsSerialFrom, Stands};
+ghost use Rattle.nr_trace.specs.Orders.{before, floor, known_by, recorded_order, space_from, updates, FitsFrom, IsLegalFrom};
 ghost use Rattle.nr_trace.specs.Recording.{Recording};
 ghost use Rattle.nr_trace.specs.Spelling.{Spells};
 ghost use Rattle.nr_trace.specs.declared.fault.Fault.{Fault};
@@ -66,33 +66,33 @@ pub fn well_formed_histories_have_no_call_fault()
         × (HasFault trace (NoSuchCall index) → ⊥) × (HasFault trace (AnsweredTwice index) → ⊥)) }
 {}
 
-/// Where no fault holds of the events, the log and the replies' places, and no answer is wrong, the recorded order is
-/// legal but for precedence.
+/// From any start: where no fault holds of the events, the log and the replies' places, and no answer is wrong, the recorded
+/// order is legal but for precedence.
 pub fn recorded_order_is_serial()
-    ensures { (trace : Recording) → HasCleanLog trace
-        → ((call : ℕ) → HasFault trace (WrongAnswer call) → ⊥)
-        → IsSerialOrder trace (recorded_order trace) }
+    ensures { (start : Space) (trace : Recording) → HasCleanLog trace
+        → ((call : ℕ) → HasFaultFrom start trace (WrongAnswer call) → ⊥)
+        → IsSerialFrom start trace (recorded_order trace) }
 {}
 
 /// Where moreover no call stands too early, the recorded order is legal.
 pub fn recorded_order_is_legal()
-    ensures { (trace : Recording) → HasCleanLog trace
+    ensures { (start : Space) (trace : Recording) → HasCleanLog trace
         → ((call : ℕ) → HasFault trace (Early call) → ⊥)
-        → ((call : ℕ) → HasFault trace (WrongAnswer call) → ⊥)
-        → IsLegalOrder trace (recorded_order trace) }
+        → ((call : ℕ) → HasFaultFrom start trace (WrongAnswer call) → ⊥)
+        → IsLegalFrom start trace (recorded_order trace) }
 {}
 
-/// Of two faults that hold of a trace, one is earlier, or they are one.
+/// Of two faults that hold of a trace from a start on, one is earlier, or they are one.
 pub fn faults_are_ordered()
-    ensures { (trace : Recording) (first second : Fault) → HasRank trace first
-        → HasRank trace second → HasFault trace first → HasFault trace second
+    ensures { (start : Space) (trace : Recording) (first second : Fault) → HasRank trace first
+        → HasRank trace second → HasFaultFrom start trace first → HasFaultFrom start trace second
         → (first ≡ second) ⊎ (Earlier trace first second ⊎ Earlier trace second first) }
 {}
 
-/// A trace has at most one first fault.
+/// A trace has at most one first fault from a start on.
 pub fn one_first_fault()
-    ensures { (trace : Recording) (first second : Fault) → IsFirst trace first
-        → IsFirst trace second → first ≡ second }
+    ensures { (start : Space) (trace : Recording) (first second : Fault)
+        → IsFirstFrom start trace first → IsFirstFrom start trace second → first ≡ second }
 {}
 
 /// Bytes have at most one first fault.
@@ -101,14 +101,16 @@ pub fn one_first_fault_of_bytes()
         → IsFirstOf bytes second → first ≡ second }
 {}
 
-/// Where no fault holds of a recording, its history is well formed, the recorded order is legal, and each dump fits it.
+/// Where no fault holds of a recording from a start on, its history is well formed, the recorded order is legal, and each
+/// dump fits it.
 pub fn faultless_recordings_have_an_order()
-    ensures history { (trace : Recording) → IsFaultless trace → IsWellFormedHistory trace }
-    ensures legal { (trace : Recording) → IsFaultless trace
-        → IsLegalOrder trace (recorded_order trace) }
-    ensures fits { (trace : Recording) (replica : ℕ) (dump : Image) → IsFaultless trace
-        → slice_get trace.dumps replica ≡ Some dump
-        → FitsOrder trace (recorded_order trace) replica dump }
+    ensures history { (start : Space) (trace : Recording) → IsFaultlessFrom start trace
+        → IsWellFormedHistory trace }
+    ensures legal { (start : Space) (trace : Recording) → IsFaultlessFrom start trace
+        → IsLegalFrom start trace (recorded_order trace) }
+    ensures fits { (start : Space) (trace : Recording) (replica : ℕ) (dump : Image)
+        → IsFaultlessFrom start trace → slice_get trace.dumps replica ≡ Some dump
+        → FitsFrom start trace (recorded_order trace) replica dump }
 {}
 
 /// The members of the recorded order are the calls that stand after some entries, each after one number of them. Before a
@@ -126,16 +128,16 @@ pub fn recorded_order_by_entries()
         → reply_to trace reply.call ≡ Some reply }
     ensures updates { (trace : Recording) → HasCleanLog trace
         → updates trace (recorded_order trace) ≡ trace.log }
-    ensures space { (trace : Recording) (call n : ℕ) → HasCleanLog trace → n ≤ length trace.log
-        → StandsAfter trace call n
-        → space_after trace (before call (recorded_order trace))
-        ≡ space_after trace (take n trace.log) }
+    ensures space { (start : Space) (trace : Recording) (call n : ℕ) → HasCleanLog trace
+        → n ≤ length trace.log → StandsAfter trace call n
+        → space_from start trace (before call (recorded_order trace))
+        ≡ space_from start trace (take n trace.log) }
 {}
 
 /// Of two wrong answers the one whose call stands before the other's is earlier.
 pub fn earlier_wrong_answer()
-    ensures { (trace : Recording) (i j : ℕ) → HasCleanLog trace → HasFault trace (WrongAnswer i)
-        → HasFault trace (WrongAnswer j)
+    ensures { (start : Space) (trace : Recording) (i j : ℕ) → HasCleanLog trace
+        → HasFaultFrom start trace (WrongAnswer i) → HasFaultFrom start trace (WrongAnswer j)
         → Earlier trace (WrongAnswer i) (WrongAnswer j) ↔ Contains (before j (recorded_order trace))
         i }
 {}
@@ -152,12 +154,13 @@ pub fn floors_rise_by_replies()
 
 /// The space after one place more is that after a step by its operation.
 pub fn spaces_go_on_by_places()
-    ensures start { (trace : Recording) → space_after trace (take 0 trace.log) ≡ no_pages }
-    ensures next { (trace : Recording) (place call : ℕ) (action : Action)
+    ensures start { (start : Space) (trace : Recording)
+        → space_from start trace (take 0 trace.log) ≡ start }
+    ensures next { (start : Space) (trace : Recording) (place call : ℕ) (action : Action)
         → slice_get trace.log place ≡ Some call → operation_of trace call ≡ Some action
-        → space_after trace (take (place + 1) trace.log)
+        → space_from start trace (take (place + 1) trace.log)
         ≡ (step trace.layout.depth trace.layout.tables
-        (space_after trace (take place trace.log)) action).space }
+        (space_from start trace (take place trace.log)) action).space }
 {}
 
 /// Bytes have the fault `Trailing` exactly where a front of them spells a trace, and more bytes come after it.

@@ -3,10 +3,10 @@ use Rattle.nr_trace.proofs.LawsOfHistories.{history_if_faultless}
 use Rattle.nr_trace.proofs.laws.faultless_recordings_have_an_order.Goals as goal
 
 pub returns-clause-history : goal.returns-clause-history
-returns-clause-history c = λ trace faultless. history_if_faultless trace faultless
+returns-clause-history c = λ start trace faultless. history_if_faultless start trace faultless
 
 pub returns-clause-legal : goal.returns-clause-legal
-returns-clause-legal c = λ trace faultless. legal_if_faultless trace faultless
+returns-clause-legal c = λ start trace faultless. legal_if_faultless start trace faultless
 
 pub returns-clause-fits : goal.returns-clause-fits
-returns-clause-fits c = λ trace replica dump faultless is. fits_if_faultless trace replica dump faultless is
+returns-clause-fits c = λ start trace replica dump faultless is. fits_if_faultless start trace replica dump faultless is

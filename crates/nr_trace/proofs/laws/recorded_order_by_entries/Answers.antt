@@ -23,4 +23,4 @@ pub returns-clause-updates : goal.returns-clause-updates
 returns-clause-updates c = updates_of_order
 
 pub returns-clause-space : goal.returns-clause-space
-returns-clause-space c = λ trace call n clean l h. space_before trace n call clean l h
+returns-clause-space c = λ start trace call n clean l h. space_before start trace n call clean l h
