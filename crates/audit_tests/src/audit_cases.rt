@@ -35,7 +35,7 @@ const DONE: [u8; 24] = [
 ];
 
 /// Thread 0 asks for 0x400123.
-const RESOLVE: [u8; 24] = [
+pub const RESOLVE: [u8; 24] = [
     0, 0, 0, 0, 3, 0, 0, 0, 0, 0, 0, 0, 0, 0x40, 0x01, 0x23, 0, 0, 0, 0, 0, 0, 0, 0,
 ];
 
@@ -45,7 +45,7 @@ const ACCESS: [u8; 24] = [
 ];
 
 /// Call 2 saw one entry, and found its address mapped to 0x1123.
-const MAPPED: [u8; 24] = [
+pub const MAPPED: [u8; 24] = [
     1, 7, 0, 7, 0, 0, 0, 2, 0, 0, 0, 1, 0, 0, 0, 0, 0, 0, 0, 0, 0, 0, 0x11, 0x23,
 ];
 
@@ -60,12 +60,12 @@ const FAULT: [u8; 24] = [
 ];
 
 /// Call 2 saw no entry, and found its address not mapped.
-const NOT_MAPPED: [u8; 24] = [
+pub const NOT_MAPPED: [u8; 24] = [
     1, 4, 0, 0, 0, 0, 0, 2, 0, 0, 0, 0, 0, 0, 0, 0, 0, 0, 0, 0, 0, 0, 0, 0,
 ];
 
 /// Thread 2 unmaps 0x400000.
-const UNMAP: [u8; 24] = [
+pub const UNMAP: [u8; 24] = [
     0, 0, 0, 2, 1, 0, 0, 0, 0, 0, 0, 0, 0, 0x40, 0, 0, 0, 0, 0, 0, 0, 0, 0, 0,
 ];
 
@@ -75,7 +75,7 @@ const UNMAP_OTHER: [u8; 24] = [
 ];
 
 /// The page table without pages.
-const EMPTY: Table = Table {
+pub const EMPTY: Table = Table {
     applied: 0,
     root: 1,
     words: &[(0, 0)],
@@ -89,12 +89,12 @@ const ONE_PAGE: Table = Table {
 };
 
 /// The same with other numbers of applied entries.
-const EMPTY_LATE: Table = Table {
+pub const EMPTY_LATE: Table = Table {
     applied: 1,
     ..EMPTY
 };
 
-const PAGE_EARLY: Table = Table {
+pub const PAGE_EARLY: Table = Table {
     applied: 0,
     ..ONE_PAGE
 };
@@ -131,7 +131,7 @@ const NO_CALLS: Case = Case {
     verdict: Ok(&[]),
 };
 
-const RIGHT: Case = Case {
+pub const RIGHT: Case = Case {
     name: "map then resolve",
     config: [1, 4, 4],
     log: &[0],

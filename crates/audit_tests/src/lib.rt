@@ -25,6 +25,8 @@ mod pieces;
 #[cfg(test)]
 mod recorded;
 #[cfg(test)]
+mod starts;
+#[cfg(test)]
 mod trace;
 #[cfg(test)]
 mod units;

@@ -8,7 +8,7 @@ use Rattle.std.proofs.lemmas.List.{length-take, length-take-le, take_more}
 use Rattle.std.proofs.lemmas.List.Sums.{position_or_len_is, passes_at_first}
 use Rattle.std.proofs.lemmas.List.Elements.{filter_map-append, at_from_Contains}
 use Rattle.vs_types.specs.Config.{Layout}
-use Rattle.vs_types.specs.Space.{Space, no_pages}
+use Rattle.vs_types.specs.Space.{Space}
 use Rattle.vs_types.specs.Step.{step, after_all}
 use Rattle.vs_types.specs.declared.depth.Depth.{Depth}
 use Rattle.vs_types.specs.declared.op.Action.{Action}
@@ -18,16 +18,17 @@ use Rattle.vs_types.specs.declared.answer.Answer.{Answer}
 use Rattle.vs_plain.specs.Plain.{BoundedSpace}
 use Rattle.nr_trace.specs.Recording.{Recording}
 use Rattle.nr_trace.specs.Calls.{Invocation, Response, call_of, operation_in, operation_of, reply_to}
-use Rattle.nr_trace.specs.Orders.{before, updates, operations, space_after, answer_in, recorded_order}
-use Rattle.nr_trace.specs.Faults.{HasFault, Earlier, IsWrong}
+use Rattle.nr_trace.specs.Orders.{before, updates, operations, space_from, answer_in, recorded_order}
+use Rattle.nr_trace.specs.Faults.{HasFaultFrom, Earlier, IsWrongFrom}
 use Rattle.nr_trace.specs.Laws.{HasCleanLog}
 use Rattle.nr_trace.specs.declared.fault.Fault.{Fault}
 use Rattle.nr_trace.specs.declared.fault.Fault.TheVariants.{WrongAnswer}
 use Rattle.nr_trace.proofs.LawsOfOrder.{order_distinct, updates_of_order}
 use Rattle.nr_trace.proofs.LawsOfFaults.{wrong_is_member}
-use Rattle.nr_audit.specs.inside.Search.{HasNone, IsFirstAmong}
+use Rattle.nr_audit.specs.inside.Search.{HasNoneFrom, IsFirstAmongFrom}
 use Rattle.nr_audit.specs.inside.Passes.{IsAnswerFault}
 use Rattle.nr_audit.specs.inside.Steps.{Serves}
+use Rattle.nr_audit.specs.Verdict.{space_of}
 use Rattle.nr_audit.specs.inside.Replies.{answer_to}
 use Rattle.nr_audit.proofs.Ranks.{earlier_cases}
 
@@ -78,30 +79,26 @@ served layout space (Update action) = (step layout.depth layout.tables space act
 served layout space (Resolve address) = space
 served layout space (Access address mode access) = space
 
--- the space that is kept for a layout
-abbrev pub kept : Layout → Space → BoundedSpace
-kept layout space = record { depth = layout.depth; limit = layout.tables; space = space }
-
-pub answered : (layout : Layout) (space : Space) (query : Query) (answer : Answer) (new : BoundedSpace) → Serves (kept layout space) query answer new
+pub answered : (layout : Layout) (space : Space) (query : Query) (answer : Answer) (new : BoundedSpace) → Serves (space_of layout space) query answer new
     → answer ≡ answer_in layout space query
 answered layout space (Update action) answer new h = h.0
 answered layout space (Resolve address) answer new h = h.0
 answered layout space (Access address mode access) answer new h = h.0
 
-pub left : (layout : Layout) (space : Space) (query : Query) (answer : Answer) (new : BoundedSpace) → Serves (kept layout space) query answer new
-    → new ≡ kept layout (served layout space query)
+pub left : (layout : Layout) (space : Space) (query : Query) (answer : Answer) (new : BoundedSpace) → Serves (space_of layout space) query answer new
+    → new ≡ space_of layout (served layout space query)
 unfolding served
 left layout space (Update action) answer new h = h.1
 left layout space (Resolve address) answer new h = h.1
 left layout space (Access address mode access) answer new h = h.1
 
-more : (trace : Recording) (order : List ℕ) (k d : ℕ) → k < length order
-    → space_after trace (take (k + 1) order)
-    ≡ after_all trace.layout.depth trace.layout.tables (space_after trace (take k order)) (operations trace (get_or order k d ∷ []))
-more trace order k d within =
-    ap (λ xs. space_after trace xs) (take_more order k d within)
-    ∙ ap (λ xs. after_all trace.layout.depth trace.layout.tables no_pages xs) (filter_map-append (operation_of trace) (take k order) (get_or order k d ∷ []))
-    ∙ after_all-append trace.layout.depth trace.layout.tables no_pages (operations trace (take k order)) (operations trace (get_or order k d ∷ []))
+more : (start : Space) (trace : Recording) (order : List ℕ) (k d : ℕ) → k < length order
+    → space_from start trace (take (k + 1) order)
+    ≡ after_all trace.layout.depth trace.layout.tables (space_from start trace (take k order)) (operations trace (get_or order k d ∷ []))
+more start trace order k d within =
+    ap (λ xs. space_from start trace xs) (take_more order k d within)
+    ∙ ap (λ xs. after_all trace.layout.depth trace.layout.tables start xs) (filter_map-append (operation_of trace) (take k order) (get_or order k d ∷ []))
+    ∙ after_all-append trace.layout.depth trace.layout.tables start (operations trace (take k order)) (operations trace (get_or order k d ∷ []))
 
 asked : (o : Option Invocation)
     → option_and_then (λ (made : Invocation). operation_in made.request) o ≡ option_and_then operation_in (option_map (λ (made : Invocation). made.request) o)
@@ -109,38 +106,38 @@ asked None = refl
 asked (Some made) = refl
 
 -- what a request tells of its call
-operation_by : (trace : Recording) (call : ℕ) (query : Option Query) → query ≡ option_map (λ (made : Invocation). made.request) (call_of trace call)
+pub operation_by : (trace : Recording) (call : ℕ) (query : Option Query) → query ≡ option_map (λ (made : Invocation). made.request) (call_of trace call)
     → operation_of trace call ≡ option_and_then operation_in query
 operation_by trace call query e = asked (call_of trace call) ∙ ap (λ q. option_and_then operation_in q) (sym e)
 
 -- what is no call leaves the space
-pub space_stays : (trace : Recording) (order : List ℕ) (k d : ℕ) → k < length order
+pub space_stays : (start : Space) (trace : Recording) (order : List ℕ) (k d : ℕ) → k < length order
     → option_map (λ (made : Invocation). made.request) (call_of trace (get_or order k d)) ≡ None
-    → space_after trace (take k order) ≡ space_after trace (take (k + 1) order)
-space_stays trace order k d within none =
-    sym (more trace order k d within
-    ∙ ap (λ o. after_all trace.layout.depth trace.layout.tables (space_after trace (take k order)) (cons_option o []))
+    → space_from start trace (take k order) ≡ space_from start trace (take (k + 1) order)
+space_stays start trace order k d within none =
+    sym (more start trace order k d within
+    ∙ ap (λ o. after_all trace.layout.depth trace.layout.tables (space_from start trace (take k order)) (cons_option o []))
     (operation_by trace (get_or order k d) None (sym none)))
 
 -- a call leaves the space that its request leaves
-pub space_visits : (trace : Recording) (order : List ℕ) (k d : ℕ) (query : Query) → k < length order
+pub space_visits : (start : Space) (trace : Recording) (order : List ℕ) (k d : ℕ) (query : Query) → k < length order
     → Some query ≡ option_map (λ (made : Invocation). made.request) (call_of trace (get_or order k d))
-    → served trace.layout (space_after trace (take k order)) query ≡ space_after trace (take (k + 1) order)
+    → served trace.layout (space_from start trace (take k order)) query ≡ space_from start trace (take (k + 1) order)
 unfolding served
-space_visits trace order k d (Update action) within asks =
-    sym (more trace order k d within
-    ∙ ap (λ o. after_all trace.layout.depth trace.layout.tables (space_after trace (take k order)) (cons_option o []))
+space_visits start trace order k d (Update action) within asks =
+    sym (more start trace order k d within
+    ∙ ap (λ o. after_all trace.layout.depth trace.layout.tables (space_from start trace (take k order)) (cons_option o []))
     (operation_by trace (get_or order k d) (Some (Update action)) asks))
-space_visits trace order k d (Resolve address) within asks =
-    sym (more trace order k d within
-    ∙ ap (λ o. after_all trace.layout.depth trace.layout.tables (space_after trace (take k order)) (cons_option o []))
+space_visits start trace order k d (Resolve address) within asks =
+    sym (more start trace order k d within
+    ∙ ap (λ o. after_all trace.layout.depth trace.layout.tables (space_from start trace (take k order)) (cons_option o []))
     (operation_by trace (get_or order k d) (Some (Resolve address)) asks))
-space_visits trace order k d (Access address mode access) within asks =
-    sym (more trace order k d within
-    ∙ ap (λ o. after_all trace.layout.depth trace.layout.tables (space_after trace (take k order)) (cons_option o []))
+space_visits start trace order k d (Access address mode access) within asks =
+    sym (more start trace order k d within
+    ∙ ap (λ o. after_all trace.layout.depth trace.layout.tables (space_from start trace (take k order)) (cons_option o []))
     (operation_by trace (get_or order k d) (Some (Access address mode access)) asks))
 
-operations_of_updates : (trace : Recording) (xs : List ℕ) → operations trace (updates trace xs) ≡ operations trace xs
+pub operations_of_updates : (trace : Recording) (xs : List ℕ) → operations trace (updates trace xs) ≡ operations trace xs
 operations_of_updates trace [] = refl
 operations_of_updates trace (x ∷ xs) = by_case (operation_of trace x) refl (operations_of_updates trace xs) where
   by_case : (o : Option Action) → operation_of trace x ≡ o → operations trace (updates trace xs) ≡ operations trace xs
@@ -153,11 +150,11 @@ operations_of_updates trace (x ∷ xs) = by_case (operation_of trace x) refl (op
       ∙ ap (λ ys. cons_option (operation_of trace x) ys) rest
 
 -- the recorded order leaves the space that the log does
-pub space_of_order : (trace : Recording) (order : List ℕ) → HasCleanLog trace → order ≡ recorded_order trace
-    → space_after trace order ≡ space_after trace trace.log
-space_of_order trace order clean listed =
-    ap (λ xs. space_after trace xs) listed
-    ∙ ap (λ xs. after_all trace.layout.depth trace.layout.tables no_pages xs)
+pub space_of_order : (start : Space) (trace : Recording) (order : List ℕ) → HasCleanLog trace → order ≡ recorded_order trace
+    → space_from start trace order ≡ space_from start trace trace.log
+space_of_order start trace order clean listed =
+    ap (λ xs. space_from start trace xs) listed
+    ∙ ap (λ xs. after_all trace.layout.depth trace.layout.tables start xs)
     (sym (operations_of_updates trace (recorded_order trace)) ∙ ap (λ xs. operations trace xs) (updates_of_order trace clean))
 
 -- ---- answers
@@ -173,7 +170,7 @@ response_of : (o : Option Response) (answer : Answer) → Some answer ≡ option
 response_of None answer e = absurd (cc)
 response_of (Some response) answer e = (response, refl, cc)
 
-module _ (trace : Recording) (order : List ℕ) (listed : order ≡ recorded_order trace) (clean : HasCleanLog trace) where
+module _ (start : Space) (trace : Recording) (order : List ℕ) (listed : order ≡ recorded_order trace) (clean : HasCleanLog trace) where
   distinct : IsDistinct nat_eq order
   distinct = subst (λ xs. IsDistinct nat_eq xs) (sym listed) (order_distinct trace clean)
 
@@ -184,8 +181,8 @@ module _ (trace : Recording) (order : List ℕ) (listed : order ≡ recorded_ord
   -- an answer that is told and is not the space's is wrong
   pub wrong_here : (k : ℕ) (query : Query) (answer : Answer) (told : Option Answer) → k < length order
       → Some query ≡ option_map (λ (made : Invocation). made.request) (call_of trace (get_or order k 0))
-      → answer ≡ answer_in trace.layout (space_after trace (take k order)) query → told ≡ answer_to trace (get_or order k 0)
-      → (IfSome told (λ t. t ≡ answer) → ⊥) → IsWrong trace (get_or order k 0)
+      → answer ≡ answer_in trace.layout (space_from start trace (take k order)) query → told ≡ answer_to trace (get_or order k 0)
+      → (IfSome told (λ t. t ≡ answer) → ⊥) → IsWrongFrom start trace (get_or order k 0)
   wrong_here k query answer None within asks gives is differs = absurd (differs tt)
   wrong_here k query answer (Some told) within asks gives is differs =
       let made = made_of (call_of trace (get_or order k 0)) query asks in
@@ -196,15 +193,15 @@ module _ (trace : Recording) (order : List ℕ) (listed : order ≡ recorded_ord
         reply = reply.0;
         is_reply = reply.1;
         differs = λ same. differs (sym reply.2 ∙ same
-            ∙ ap (λ xs. answer_in trace.layout (space_after trace xs) made.0.request) (before_here k within)
-            ∙ ap (λ q. answer_in trace.layout (space_after trace (take k order)) q) made.2 ∙ sym gives);
+            ∙ ap (λ xs. answer_in trace.layout (space_from start trace xs) made.0.request) (before_here k within)
+            ∙ ap (λ q. answer_in trace.layout (space_from start trace (take k order)) q) made.2 ∙ sym gives);
       }
 
   -- one that is told, if any is, and is the space's is not
   pub right_here : (k : ℕ) (query : Query) (answer : Answer) (told : Option Answer) → k < length order
       → Some query ≡ option_map (λ (made : Invocation). made.request) (call_of trace (get_or order k 0))
-      → answer ≡ answer_in trace.layout (space_after trace (take k order)) query → told ≡ answer_to trace (get_or order k 0)
-      → IfSome told (λ t. t ≡ answer) → IsWrong trace (get_or order k 0) → ⊥
+      → answer ≡ answer_in trace.layout (space_from start trace (take k order)) query → told ≡ answer_to trace (get_or order k 0)
+      → IfSome told (λ t. t ≡ answer) → IsWrongFrom start trace (get_or order k 0) → ⊥
   right_here k query answer told within asks gives is agrees wrong =
       let made = made_of (call_of trace (get_or order k 0)) query asks in
       let one = made.1 in
@@ -212,22 +209,22 @@ module _ (trace : Recording) (order : List ℕ) (listed : order ≡ recorded_ord
       let same : made.0 ≡ wrong.made = cc in
       let here = is ∙ ap (λ o. option_map (λ (r : Response). r.answer) o) wrong.is_reply in
       wrong.differs (subst (λ o. IfSome o (λ t. t ≡ answer)) here agrees ∙ gives
-      ∙ ap (λ q. answer_in trace.layout (space_after trace (take k order)) q) (sym made.2 ∙ ap (λ (m : Invocation). m.request) same)
-      ∙ ap (λ xs. answer_in trace.layout (space_after trace xs) wrong.made.request) (sym (before_here k within)))
+      ∙ ap (λ q. answer_in trace.layout (space_from start trace (take k order)) q) (sym made.2 ∙ ap (λ (m : Invocation). m.request) same)
+      ∙ ap (λ xs. answer_in trace.layout (space_from start trace xs) wrong.made.request) (sym (before_here k within)))
 
   -- what is no call has no answer
-  pub no_call_is_right : (call : ℕ) → option_map (λ (made : Invocation). made.request) (call_of trace call) ≡ None → IsWrong trace call → ⊥
+  pub no_call_is_right : (call : ℕ) → option_map (λ (made : Invocation). made.request) (call_of trace call) ≡ None → IsWrongFrom start trace call → ⊥
   no_call_is_right call none wrong = let made = ap (λ o. option_map (λ (made : Invocation). made.request) o) wrong.is_made in cc
 
   -- the first wrong answer in the recorded order is the first of all
-  pub first_wrong : (k : ℕ) → k < length order → ((j : ℕ) → j < k → IsWrong trace (get_or order j 0) → ⊥) → IsWrong trace (get_or order k 0)
-      → IsFirstAmong IsAnswerFault trace (WrongAnswer (get_or order k 0))
+  pub first_wrong : (k : ℕ) → k < length order → ((j : ℕ) → j < k → IsWrongFrom start trace (get_or order j 0) → ⊥) → IsWrongFrom start trace (get_or order k 0)
+      → IsFirstAmongFrom start IsAnswerFault trace (WrongAnswer (get_or order k 0))
   first_wrong k within none wrong = record {
     is_among = tt;
     holds = wrong;
     none_earlier = λ other among holds earlier. no_earlier other among holds earlier;
   } where
-    no_earlier : (other : Fault) → IsAnswerFault other → HasFault trace other → Earlier trace other (WrongAnswer (get_or order k 0)) → ⊥
+    no_earlier : (other : Fault) → IsAnswerFault other → HasFaultFrom start trace other → Earlier trace other (WrongAnswer (get_or order k 0)) → ⊥
     no_earlier (WrongAnswer call) among holds earlier =
         let counted = ap length (before_here k within) in
         let taken = length-take-le k order (omega arith) in
@@ -236,23 +233,23 @@ module _ (trace : Recording) (order : List ℕ) (listed : order ≡ recorded_ord
           | inr rest ↦ elim rest.1 [
             | inl low ↦
                 let there = stands_there order call k 0 (subst (λ xs. length (before call xs) < k) (sym listed) (omega arith)) (omega arith) in
-                none there.0 there.1 (subst (λ c. IsWrong trace c) (sym there.2) holds)
+                none there.0 there.1 (subst (λ c. IsWrongFrom start trace c) (sym there.2) holds)
             | inr also ↦ (let low = also.1 in omega arith)
           ]
         ]
     no_earlier other among holds earlier = among
 
   -- where no call of the recorded order is answered wrongly, none is
-  pub none_wrong : ((j : ℕ) → j < length order → IsWrong trace (get_or order j 0) → ⊥) → HasNone IsAnswerFault trace
+  pub none_wrong : ((j : ℕ) → j < length order → IsWrongFrom start trace (get_or order j 0) → ⊥) → HasNoneFrom start IsAnswerFault trace
   none_wrong none (WrongAnswer call) among holds =
-      let there = at_from_Contains order call (subst (λ xs. Contains xs call) (sym listed) (wrong_is_member trace call clean holds)) in
-      none there.0 there.1 (subst (λ c. IsWrong trace c) (sym (there.2 0)) holds)
+      let there = at_from_Contains order call (subst (λ xs. Contains xs call) (sym listed) (wrong_is_member start trace call clean holds)) in
+      none there.0 there.1 (subst (λ c. IsWrongFrom start trace c) (sym (there.2 0)) holds)
   none_wrong none other among holds = among
 
 -- one more place that is not wrong
-pub right_more : (trace : Recording) (order : List ℕ) (k : ℕ) → ((j : ℕ) → j < k → IsWrong trace (get_or order j 0) → ⊥)
-    → (IsWrong trace (get_or order k 0) → ⊥) → (j : ℕ) → j < k + 1 → IsWrong trace (get_or order j 0) → ⊥
-right_more trace order k below here j lt wrong = elim (cases_lt j k) [
+pub right_more : (start : Space) (trace : Recording) (order : List ℕ) (k : ℕ) → ((j : ℕ) → j < k → IsWrongFrom start trace (get_or order j 0) → ⊥)
+    → (IsWrongFrom start trace (get_or order k 0) → ⊥) → (j : ℕ) → j < k + 1 → IsWrongFrom start trace (get_or order j 0) → ⊥
+right_more start trace order k below here j lt wrong = elim (cases_lt j k) [
   | inl low ↦ below j low wrong
-  | inr same ↦ here (subst (λ i. IsWrong trace (get_or order i 0)) (let it : j ≡ k = omega arith in it) wrong)
+  | inr same ↦ here (subst (λ i. IsWrongFrom start trace (get_or order i 0)) (let it : j ≡ k = omega arith in it) wrong)
 ]

@@ -5,22 +5,23 @@ use Rattle.std.specs.Cmp.Lexicographic.{slice_cmp}
 use Rattle.std.specs.declared.cmp.Ordering.TheVariants.{Less}
 use Rattle.std.proofs.lemmas.Bool.{cases_lt}
 use Rattle.std.proofs.lemmas.Option.{slice_get_within, slice_get_past, slice_get-get_or, same_Some}
+use Rattle.vs_types.specs.Space.{Space}
 use Rattle.vs_walk.specs.Dump.{Image}
 use Rattle.nr_trace.specs.Recording.{Recording}
 use Rattle.nr_trace.specs.Calls.{Response, reply_of}
-use Rattle.nr_trace.specs.Orders.{space_after}
-use Rattle.nr_trace.specs.Faults.{HasFault, Earlier, rank, RestsOnMore, HasDump}
+use Rattle.nr_trace.specs.Orders.{space_from}
+use Rattle.nr_trace.specs.Faults.{HasFaultFrom, Earlier, rank, RestsOnMore, HasDump}
 use Rattle.nr_trace.specs.declared.fault.Fault.{Fault}
 use Rattle.nr_trace.specs.declared.fault.Fault.TheVariants.{PrefixPastLog, PrefixShort, MissingFrame, SharedFrame, ReservedBit, StrayFrame, Differs}
 use Rattle.nr_trace.proofs.LawsOfCalls.{reply_in_event}
 use Rattle.nr_dump.specs.Faults as dumps
 use Rattle.nr_dump.specs.declared.fault.DumpFault.{DumpFault}
 use Rattle.nr_dump.specs.declared.fault.DumpFault.TheVariants as of_dump
-use Rattle.nr_audit.specs.inside.Search.{HasNone, IsFirstAmong}
+use Rattle.nr_audit.specs.inside.Search.{HasNoneFrom, IsFirstAmongFrom}
 use Rattle.nr_audit.specs.inside.Passes.{IsDumpFaultAt, IsDumpFault}
 use Rattle.nr_audit.specs.inside.Dumps.{at_replica}
 use Rattle.nr_audit.specs.inside.Prefixes.{AreNeeds}
-use Rattle.nr_audit.proofs.Ranks.{IsRanked, none_of_all, first_of_all, lower_number}
+use Rattle.nr_audit.proofs.Ranks.{IsRanked, none_from, first_from, lower_number}
 
 pub dump_ranks : (trace : Recording) → IsRanked IsDumpFaultAt 7 trace
 dump_ranks trace replica (PrefixPastLog at) among = (11, ap (λ i. 7 ∷ i ∷ 11 ∷ []) among)
@@ -33,9 +34,10 @@ dump_ranks trace replica (Differs at address) among = (17, ap (λ i. 7 ∷ i ∷
 dump_ranks trace replica fault among = absurd among
 
 -- the first fault of a replica, after replicas that have none, is the first of the dumps
-pub first_dump_fault : (trace : Recording) (replica : ℕ) (fault : Fault) → ((lower : ℕ) → lower < replica → HasNone (IsDumpFaultAt lower) trace)
-    → IsFirstAmong (IsDumpFaultAt replica) trace fault → IsFirstAmong IsDumpFault trace fault
-first_dump_fault trace = first_of_all IsDumpFaultAt 7 trace (dump_ranks trace)
+pub first_dump_fault : (start : Space) (trace : Recording) (replica : ℕ) (fault : Fault)
+    → ((lower : ℕ) → lower < replica → HasNoneFrom start (IsDumpFaultAt lower) trace)
+    → IsFirstAmongFrom start (IsDumpFaultAt replica) trace fault → IsFirstAmongFrom start IsDumpFault trace fault
+first_dump_fault start trace = first_from start IsDumpFaultAt 7 trace (dump_ranks trace)
 
 -- a dump, as it is read
 pub read_dump : (dumps real : List Image) (i : ℕ) (dump : Image) → dumps ≡ real → i < length real → dump ≡ get_or dumps i dump → slice_get real i ≡ Some dump
@@ -46,20 +48,21 @@ read_dump dumps real i dump same lt read =
 no_dump_past : (trace : Recording) (replica : ℕ) (P : Image → Type 0) → length trace.dumps ≤ replica → HasDump trace replica P → ⊥
 no_dump_past trace replica P past has = let none = slice_get_past trace.dumps replica past in let there = has.1 in cc
 
-none_past : (trace : Recording) (replica : ℕ) → length trace.dumps ≤ replica → HasNone (IsDumpFaultAt replica) trace
-none_past trace replica past (PrefixPastLog at) among holds = no_dump_past trace at _ (subst (λ r. length trace.dumps ≤ r) (sym among) past) holds
-none_past trace replica past (PrefixShort at) among holds = no_dump_past trace at _ (subst (λ r. length trace.dumps ≤ r) (sym among) past) holds
-none_past trace replica past (MissingFrame at frame) among holds = no_dump_past trace at _ (subst (λ r. length trace.dumps ≤ r) (sym among) past) holds
-none_past trace replica past (SharedFrame at frame) among holds = no_dump_past trace at _ (subst (λ r. length trace.dumps ≤ r) (sym among) past) holds
-none_past trace replica past (ReservedBit at frame index) among holds = no_dump_past trace at _ (subst (λ r. length trace.dumps ≤ r) (sym among) past) holds
-none_past trace replica past (StrayFrame at frame) among holds = no_dump_past trace at _ (subst (λ r. length trace.dumps ≤ r) (sym among) past) holds
-none_past trace replica past (Differs at address) among holds = no_dump_past trace at _ (subst (λ r. length trace.dumps ≤ r) (sym among) past) holds
-none_past trace replica past other among holds = among
+none_past : (start : Space) (trace : Recording) (replica : ℕ) → length trace.dumps ≤ replica → HasNoneFrom start (IsDumpFaultAt replica) trace
+none_past start trace replica past (PrefixPastLog at) among holds = no_dump_past trace at _ (subst (λ r. length trace.dumps ≤ r) (sym among) past) holds
+none_past start trace replica past (PrefixShort at) among holds = no_dump_past trace at _ (subst (λ r. length trace.dumps ≤ r) (sym among) past) holds
+none_past start trace replica past (MissingFrame at frame) among holds = no_dump_past trace at _ (subst (λ r. length trace.dumps ≤ r) (sym among) past) holds
+none_past start trace replica past (SharedFrame at frame) among holds = no_dump_past trace at _ (subst (λ r. length trace.dumps ≤ r) (sym among) past) holds
+none_past start trace replica past (ReservedBit at frame index) among holds = no_dump_past trace at _ (subst (λ r. length trace.dumps ≤ r) (sym among) past) holds
+none_past start trace replica past (StrayFrame at frame) among holds = no_dump_past trace at _ (subst (λ r. length trace.dumps ≤ r) (sym among) past) holds
+none_past start trace replica past (Differs at address) among holds = no_dump_past trace at _ (subst (λ r. length trace.dumps ≤ r) (sym among) past) holds
+none_past start trace replica past other among holds = among
 
-pub no_dump_fault : (trace : Recording) → ((lower : ℕ) → lower < length trace.dumps → HasNone (IsDumpFaultAt lower) trace) → HasNone IsDumpFault trace
-no_dump_fault trace none = none_of_all IsDumpFaultAt trace (λ replica. elim (cases_lt replica (length trace.dumps)) [
+pub no_dump_fault : (start : Space) (trace : Recording) → ((lower : ℕ) → lower < length trace.dumps → HasNoneFrom start (IsDumpFaultAt lower) trace)
+    → HasNoneFrom start IsDumpFault trace
+no_dump_fault start trace none = none_from start IsDumpFaultAt trace (λ replica. elim (cases_lt replica (length trace.dumps)) [
   | inl low ↦ none replica low
-  | inr past ↦ none_past trace replica past
+  | inr past ↦ none_past start trace replica past
 ])
 
 -- ---- one replica's faults, by number
@@ -101,16 +104,16 @@ none_lower replica (StrayFrame at frame) among lt = omega arith
 none_lower replica (Differs at address) among lt = omega arith
 none_lower replica other among lt = among
 
-one_lower : (trace : Recording) (replica : ℕ) (other : Fault) → (HasFault trace (PrefixPastLog replica) → ⊥) → IsDumpFaultAt replica other → HasFault trace other
-    → number_of other < 12 → ⊥
-one_lower trace replica (PrefixPastLog at) none among holds lt = none (subst (λ r. HasFault trace (PrefixPastLog r)) among holds)
-one_lower trace replica (PrefixShort at) none among holds lt = omega arith
-one_lower trace replica (MissingFrame at frame) none among holds lt = omega arith
-one_lower trace replica (SharedFrame at frame) none among holds lt = omega arith
-one_lower trace replica (ReservedBit at frame index) none among holds lt = omega arith
-one_lower trace replica (StrayFrame at frame) none among holds lt = omega arith
-one_lower trace replica (Differs at address) none among holds lt = omega arith
-one_lower trace replica other none among holds lt = among
+one_lower : (start : Space) (trace : Recording) (replica : ℕ) (other : Fault) → (HasFaultFrom start trace (PrefixPastLog replica) → ⊥)
+    → IsDumpFaultAt replica other → HasFaultFrom start trace other → number_of other < 12 → ⊥
+one_lower start trace replica (PrefixPastLog at) none among holds lt = none (subst (λ r. HasFaultFrom start trace (PrefixPastLog r)) among holds)
+one_lower start trace replica (PrefixShort at) none among holds lt = omega arith
+one_lower start trace replica (MissingFrame at frame) none among holds lt = omega arith
+one_lower start trace replica (SharedFrame at frame) none among holds lt = omega arith
+one_lower start trace replica (ReservedBit at frame index) none among holds lt = omega arith
+one_lower start trace replica (StrayFrame at frame) none among holds lt = omega arith
+one_lower start trace replica (Differs at address) none among holds lt = omega arith
+one_lower start trace replica other none among holds lt = among
 
 -- ---- faults of the tables
 
@@ -138,10 +141,10 @@ is_of_replica replica (of_dump.Differs address) = refl
 reply_below : (trace : Recording) (index : ℕ) (reply : Response) → reply_of trace index ≡ Some reply → index < length trace.events
 reply_below trace index reply is = let (event, at, own) = reply_in_event (slice_get trace.events index) reply is in slice_get_within trace.events index event at
 
-module _ (trace : Recording) (replica : ℕ) (dump : Image) (is : slice_get trace.dumps replica ≡ Some dump) where
+module _ (start : Space) (trace : Recording) (replica : ℕ) (dump : Image) (is : slice_get trace.dumps replica ≡ Some dump) where
   -- what holds of the dump holds of the trace
-  told : (fault : DumpFault) → dumps.HoldsOfDump trace.layout.depth dump (space_after trace (take dump.applied trace.log)) fault
-      → HasFault trace (at_replica replica fault)
+  told : (fault : DumpFault) → dumps.HoldsOfDump trace.layout.depth dump (space_from start trace (take dump.applied trace.log)) fault
+      → HasFaultFrom start trace (at_replica replica fault)
   told (of_dump.MissingFrame frame) holds = (dump, is, holds)
   told (of_dump.SharedFrame frame) holds = (dump, is, holds)
   told (of_dump.ReservedBit frame index) holds = (dump, is, holds)
@@ -152,58 +155,58 @@ module _ (trace : Recording) (replica : ℕ) (dump : Image) (is : slice_get trac
   own_dump at other same there = same_Some other dump (sym there ∙ ap (slice_get trace.dumps) same ∙ is)
 
   -- a fault of the replica that holds is one of its prefix, or one of the dump's
-  back : (other : Fault) → IsDumpFaultAt replica other → HasFault trace other → (number_of other < 13)
-      ⊎ ((fault : DumpFault) × dumps.HoldsOfDump trace.layout.depth dump (space_after trace (take dump.applied trace.log)) fault
+  back : (other : Fault) → IsDumpFaultAt replica other → HasFaultFrom start trace other → (number_of other < 13)
+      ⊎ ((fault : DumpFault) × dumps.HoldsOfDump trace.layout.depth dump (space_from start trace (take dump.applied trace.log)) fault
       × (number_in fault ≡ number_of other))
   back (PrefixPastLog at) among holds = inl (lit< tt)
   back (PrefixShort at) among holds = inl (lit< tt)
   back (MissingFrame at frame) among holds =
       inr (
         of_dump.MissingFrame frame,
-        subst (λ d. dumps.HoldsOfDump trace.layout.depth d (space_after trace (take d.applied trace.log)) (of_dump.MissingFrame frame))
+        subst (λ d. dumps.HoldsOfDump trace.layout.depth d (space_from start trace (take d.applied trace.log)) (of_dump.MissingFrame frame))
             (own_dump at holds.0 among holds.1) holds.2,
         refl,
       )
   back (SharedFrame at frame) among holds =
       inr (
         of_dump.SharedFrame frame,
-        subst (λ d. dumps.HoldsOfDump trace.layout.depth d (space_after trace (take d.applied trace.log)) (of_dump.SharedFrame frame))
+        subst (λ d. dumps.HoldsOfDump trace.layout.depth d (space_from start trace (take d.applied trace.log)) (of_dump.SharedFrame frame))
             (own_dump at holds.0 among holds.1) holds.2,
         refl,
       )
   back (ReservedBit at frame index) among holds =
       inr (
         of_dump.ReservedBit frame index,
-        subst (λ d. dumps.HoldsOfDump trace.layout.depth d (space_after trace (take d.applied trace.log)) (of_dump.ReservedBit frame index))
+        subst (λ d. dumps.HoldsOfDump trace.layout.depth d (space_from start trace (take d.applied trace.log)) (of_dump.ReservedBit frame index))
             (own_dump at holds.0 among holds.1) holds.2,
         refl,
       )
   back (StrayFrame at frame) among holds =
       inr (
         of_dump.StrayFrame frame,
-        subst (λ d. dumps.HoldsOfDump trace.layout.depth d (space_after trace (take d.applied trace.log)) (of_dump.StrayFrame frame))
+        subst (λ d. dumps.HoldsOfDump trace.layout.depth d (space_from start trace (take d.applied trace.log)) (of_dump.StrayFrame frame))
             (own_dump at holds.0 among holds.1) holds.2,
         refl,
       )
   back (Differs at address) among holds =
       inr (
         of_dump.Differs address,
-        subst (λ d. dumps.HoldsOfDump trace.layout.depth d (space_after trace (take d.applied trace.log)) (of_dump.Differs address))
+        subst (λ d. dumps.HoldsOfDump trace.layout.depth d (space_from start trace (take d.applied trace.log)) (of_dump.Differs address))
             (own_dump at holds.0 among holds.1) holds.2,
         refl,
       )
   back other among holds = absurd among
 
-  past_log : HasFault trace (PrefixPastLog replica) → length trace.log < dump.applied
+  past_log : HasFaultFrom start trace (PrefixPastLog replica) → length trace.log < dump.applied
   past_log holds = subst (λ (d : Image). length trace.log < d.applied) (own_dump replica holds.0 refl holds.1) holds.2
 
-  rests_on_more : HasFault trace (PrefixShort replica) → RestsOnMore trace replica dump
+  rests_on_more : HasFaultFrom start trace (PrefixShort replica) → RestsOnMore trace replica dump
   rests_on_more holds = subst (λ (d : Image). RestsOnMore trace replica d) (own_dump replica holds.0 refl holds.1) holds.2
 
   -- a fault of a lower number comes earlier
   comes_earlier : (other fault : DumpFault) → number_in other < number_in fault
-      → dumps.HoldsOfDump trace.layout.depth dump (space_after trace (take dump.applied trace.log)) other
-      → dumps.HoldsOfDump trace.layout.depth dump (space_after trace (take dump.applied trace.log)) fault → dumps.rank_in_dump other < dumps.rank_in_dump fault
+      → dumps.HoldsOfDump trace.layout.depth dump (space_from start trace (take dump.applied trace.log)) other
+      → dumps.HoldsOfDump trace.layout.depth dump (space_from start trace (take dump.applied trace.log)) fault → dumps.rank_in_dump other < dumps.rank_in_dump fault
   comes_earlier (of_dump.MissingFrame a) (of_dump.MissingFrame b) lt f g = absurd (omega arith)
   comes_earlier (of_dump.MissingFrame a) (of_dump.SharedFrame b) lt f g = absurd cc
   comes_earlier (of_dump.MissingFrame a) (of_dump.ReservedBit b i) lt f g = absurd cc
@@ -232,7 +235,7 @@ module _ (trace : Recording) (replica : ℕ) (dump : Image) (is : slice_get trac
 
   -- ---- how many entries are applied
 
-  pub first_past_log : length trace.log < dump.applied → IsFirstAmong (IsDumpFaultAt replica) trace (PrefixPastLog replica)
+  pub first_past_log : length trace.log < dump.applied → IsFirstAmongFrom start (IsDumpFaultAt replica) trace (PrefixPastLog replica)
   first_past_log past = record {
     is_among = refl;
     holds = (dump, is, past);
@@ -240,11 +243,11 @@ module _ (trace : Recording) (replica : ℕ) (dump : Image) (is : slice_get trac
   }
 
   module _ (within : dump.applied ≤ length trace.log) where
-    not_past : HasFault trace (PrefixPastLog replica) → ⊥
+    not_past : HasFaultFrom start trace (PrefixPastLog replica) → ⊥
     not_past holds = let past = past_log holds in omega arith
 
     pub first_short : (needs : List ℕ) → AreNeeds trace (length trace.events) needs → dump.applied < get_or needs replica 0
-        → IsFirstAmong (IsDumpFaultAt replica) trace (PrefixShort replica)
+        → IsFirstAmongFrom start (IsDumpFaultAt replica) trace (PrefixShort replica)
     first_short needs are short =
         let known = are.reached replica (omega arith) in
         record {
@@ -262,12 +265,12 @@ module _ (trace : Recording) (replica : ℕ) (dump : Image) (is : slice_get trac
               more = let just = known.just in omega arith;
             },
           );
-          none_earlier = λ other among holds earlier. one_lower trace replica other not_past among holds
+          none_earlier = λ other among holds earlier. one_lower start trace replica other not_past among holds
               (lower trace replica 12 (PrefixShort replica) refl other among earlier);
         }
 
     module _ (needs : List ℕ) (are : AreNeeds trace (length trace.events) needs) (enough : get_or needs replica 0 ≤ dump.applied) where
-      not_short : HasFault trace (PrefixShort replica) → ⊥
+      not_short : HasFaultFrom start trace (PrefixShort replica) → ⊥
       not_short holds =
           let rests = rests_on_more holds in
           let most = are.most replica rests.index rests.reply (record {
@@ -281,9 +284,9 @@ module _ (trace : Recording) (replica : ℕ) (dump : Image) (is : slice_get trac
           let more = rests.more in
           omega arith
 
-      no_prefix : (other : Fault) → IsDumpFaultAt replica other → HasFault trace other → number_of other < 13 → ⊥
-      no_prefix (PrefixPastLog at) among holds lt = not_past (subst (λ r. HasFault trace (PrefixPastLog r)) among holds)
-      no_prefix (PrefixShort at) among holds lt = not_short (subst (λ r. HasFault trace (PrefixShort r)) among holds)
+      no_prefix : (other : Fault) → IsDumpFaultAt replica other → HasFaultFrom start trace other → number_of other < 13 → ⊥
+      no_prefix (PrefixPastLog at) among holds lt = not_past (subst (λ r. HasFaultFrom start trace (PrefixPastLog r)) among holds)
+      no_prefix (PrefixShort at) among holds lt = not_short (subst (λ r. HasFaultFrom start trace (PrefixShort r)) among holds)
       no_prefix (MissingFrame at frame) among holds lt = omega arith
       no_prefix (SharedFrame at frame) among holds lt = omega arith
       no_prefix (ReservedBit at frame index) among holds lt = omega arith
@@ -293,14 +296,14 @@ module _ (trace : Recording) (replica : ℕ) (dump : Image) (is : slice_get trac
 
       -- ---- the tables
 
-      pub none_of_replica : dumps.HasNoFault trace.layout.depth dump (space_after trace (take dump.applied trace.log)) → HasNone (IsDumpFaultAt replica) trace
+      pub none_of_replica : dumps.HasNoFault trace.layout.depth dump (space_from start trace (take dump.applied trace.log)) → HasNoneFrom start (IsDumpFaultAt replica) trace
       none_of_replica none other among holds = elim (back other among holds) [
         | inl low ↦ no_prefix other among holds low
         | inr there ↦ none there.0 there.1
       ]
 
-      pub first_of_replica : (fault : DumpFault) → dumps.IsFirstOfDump trace.layout.depth dump (space_after trace (take dump.applied trace.log)) fault
-          → IsFirstAmong (IsDumpFaultAt replica) trace (at_replica replica fault)
+      pub first_of_replica : (fault : DumpFault) → dumps.IsFirstOfDump trace.layout.depth dump (space_from start trace (take dump.applied trace.log)) fault
+          → IsFirstAmongFrom start (IsDumpFaultAt replica) trace (at_replica replica fault)
       first_of_replica fault first = record {
         is_among = is_of_replica replica fault;
         holds = told fault first.holds;

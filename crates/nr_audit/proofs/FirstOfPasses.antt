@@ -1,13 +1,14 @@
 -- The passes one after another: the first fault of a pass, where none of an earlier pass holds, is the first of all.
-use Rattle.std.proofs.Common.{◌≡◌, ℕ, ◌+◌, ◌<◌, [], ◌∷◌, inl, inr, refl, subst, ◌∙◌, arith, lit<, length}
+use Rattle.std.proofs.Common.{◌≡◌, ℕ, ◌+◌, ◌<◌, ◌≤◌, [], ◌∷◌, inl, inr, refl, subst, ◌∙◌, arith, lit<, length}
 use Rattle.std.specs.Ordering.{nat_cmp}
 use Rattle.std.specs.Cmp.Lexicographic.{slice_cmp}
 use Rattle.std.specs.declared.cmp.Ordering.TheVariants.{Less}
 use Rattle.std.proofs.lemmas.Bool.{cases_lt}
+use Rattle.vs_types.specs.Space.{Space, no_pages}
 use Rattle.nr_trace.specs.Recording.{Recording}
 use Rattle.nr_trace.specs.Orders.{before, recorded_order}
-use Rattle.nr_trace.specs.Faults.{HasFault, rank, IsFirst}
-use Rattle.nr_trace.specs.Laws.{HasCleanLog, IsFaultless}
+use Rattle.nr_trace.specs.Faults.{HasFaultFrom, Earlier, rank, IsFirst, IsFirstFrom}
+use Rattle.nr_trace.specs.Laws.{HasCleanLog, IsFaultlessFrom}
 use Rattle.nr_trace.specs.declared.fault.Fault.{Fault}
 use Rattle.nr_trace.specs.declared.fault.Fault.TheVariants.{Format, ThreadOpen, NoSuchCall, AnsweredTwice, NotAnUpdate, PlacedTwice, NotPlaced, PastLog, Early}
 use Rattle.nr_trace.specs.declared.fault.Fault.TheVariants.{WrongAnswer, PrefixPastLog, PrefixShort, MissingFrame, SharedFrame, ReservedBit, StrayFrame}
@@ -15,7 +16,7 @@ use Rattle.nr_trace.specs.declared.fault.Fault.TheVariants.{Differs}
 use Rattle.vs_types.specs.Refusal.{IfRefused}
 use Rattle.vs_types.specs.declared.refusal.Fail.{Fail}
 use Rattle.vs_types.specs.declared.refusal.Fail.TheVariants.{Memory, Refused}
-use Rattle.nr_audit.specs.inside.Search.{HasNone, IsFirstAmong}
+use Rattle.nr_audit.specs.inside.Search.{HasNone, HasNoneFrom, IsFirstAmong, IsFirstAmongFrom, IsFirstFromAny}
 use Rattle.nr_audit.specs.inside.Passes.{IsCallFault, IsLogFault, IsPositionFault, IsFloorFault, IsAnswerFault, IsDumpFault}
 use Rattle.nr_audit.proofs.Ranks.{earlier_cases}
 
@@ -69,11 +70,11 @@ pub record AreOfPass (pass : ℕ) (Among : Fault → Type 0) : Type 0 where
   pub all : (fault : Fault) → pass_of fault ≡ pass → Among fault
   pub only : (fault : Fault) → Among fault → pass_of fault ≡ pass
 
--- no fault of a pass before this one holds
-abbrev pub HasNoneBefore : ℕ → Recording → Type 0
-HasNoneBefore pass trace = (fault : Fault) → pass_of fault < pass → HasFault trace fault → ⊥
+-- no fault of a pass before this one holds from a start on
+abbrev pub HasNoneBefore : Space → ℕ → Recording → Type 0
+HasNoneBefore start pass trace = (fault : Fault) → pass_of fault < pass → HasFaultFrom start trace fault → ⊥
 
-pub none_of_format : (trace : Recording) → HasNoneBefore 2 trace
+pub none_of_format : (trace : Recording) → HasNoneBefore no_pages 2 trace
 none_of_format trace (Format fault) lt holds = holds
 none_of_format trace (ThreadOpen index) lt holds = omega arith
 none_of_format trace (NoSuchCall index) lt holds = omega arith
@@ -93,17 +94,17 @@ none_of_format trace (StrayFrame replica number) lt holds = omega arith
 none_of_format trace (Differs replica address) lt holds = omega arith
 
 -- one pass more
-pub none_before_next : (pass : ℕ) (Among : Fault → Type 0) (trace : Recording) → AreOfPass pass Among → HasNoneBefore pass trace → HasNone Among trace
-    → HasNoneBefore (pass + 1) trace
-none_before_next pass Among trace are none here fault lt holds = elim (cases_lt (pass_of fault) pass) [
+pub none_before_next : (start : Space) (pass : ℕ) (Among : Fault → Type 0) (trace : Recording) → AreOfPass pass Among → HasNoneBefore start pass trace
+    → HasNoneFrom start Among trace → HasNoneBefore start (pass + 1) trace
+none_before_next start pass Among trace are none here fault lt holds = elim (cases_lt (pass_of fault) pass) [
   | inl low ↦ none fault low holds
   | inr same ↦ here fault (are.all fault (omega arith)) holds
 ]
 
 -- the first fault of a pass is the first of all
-pub first_of_pass : (pass : ℕ) (Among : Fault → Type 0) (trace : Recording) (fault : Fault) → AreOfPass pass Among → HasNoneBefore pass trace
-    → IsFirstAmong Among trace fault → IsFirst trace fault
-first_of_pass pass Among trace fault are none first = record {
+pub first_of_pass : (start : Space) (pass : ℕ) (Among : Fault → Type 0) (trace : Recording) (fault : Fault) → AreOfPass pass Among
+    → HasNoneBefore start pass trace → IsFirstAmongFrom start Among trace fault → IsFirstFrom start trace fault
+first_of_pass start pass Among trace fault are none first = record {
   holds = first.holds;
   none_earlier = λ other holds earlier.
       let r = ranked trace other in
@@ -119,18 +120,76 @@ first_of_pass pass Among trace fault are none first = record {
 }
 
 -- what a pass refuses is the first of all
-pub refused_by_pass : (pass : ℕ) (Among : Fault → Type 0) (trace : Recording) (fail : Fail Fault) → AreOfPass pass Among → HasNoneBefore pass trace
-    → IfRefused (IsFirstAmong Among trace) fail → IfRefused (IsFirst trace) fail
-refused_by_pass pass Among trace Memory are none first = tt
-refused_by_pass pass Among trace (Refused fault) are none first = first_of_pass pass Among trace fault are none first
+pub refused_by_pass : (start : Space) (pass : ℕ) (Among : Fault → Type 0) (trace : Recording) (fail : Fail Fault) → AreOfPass pass Among
+    → HasNoneBefore start pass trace → IfRefused (IsFirstAmongFrom start Among trace) fail → IfRefused (IsFirstFrom start trace) fail
+refused_by_pass start pass Among trace Memory are none first = tt
+refused_by_pass start pass Among trace (Refused fault) are none first = first_of_pass start pass Among trace fault are none first
 
 -- what is refused of a history is refused of its trace
-pub refused_of : (history trace : Recording) (fail : Fail Fault) → history ≡ trace → IfRefused (IsFirst history) fail → IfRefused (IsFirst trace) fail
-refused_of history trace fail same first = subst (λ t. IfRefused (IsFirst t) fail) same first
+pub refused_of : (start : Space) (history trace : Recording) (fail : Fail Fault) → history ≡ trace → IfRefused (IsFirstFrom start history) fail
+    → IfRefused (IsFirstFrom start trace) fail
+refused_of start history trace fail same first = subst (λ t. IfRefused (IsFirstFrom start t) fail) same first
 
-pub refused_in : (Among : Fault → Type 0) (one other : Recording) (fail : Fail Fault) → one ≡ other → IfRefused (IsFirstAmong Among one) fail
-    → IfRefused (IsFirstAmong Among other) fail
-refused_in Among one other fail same first = subst (λ t. IfRefused (IsFirstAmong Among t) fail) same first
+pub refused_in : (start : Space) (Among : Fault → Type 0) (one other : Recording) (fail : Fail Fault) → one ≡ other
+    → IfRefused (IsFirstAmongFrom start Among one) fail → IfRefused (IsFirstAmongFrom start Among other) fail
+refused_in start Among one other fail same first = subst (λ t. IfRefused (IsFirstAmongFrom start Among t) fail) same first
+
+-- ---- faults of the passes before the answers are those from any start on
+
+of_any : (one other : Space) (trace : Recording) (fault : Fault) → pass_of fault < 6 → HasFaultFrom one trace fault → HasFaultFrom other trace fault
+of_any one other trace (Format fault) low holds = holds
+of_any one other trace (ThreadOpen index) low holds = holds
+of_any one other trace (NoSuchCall index) low holds = holds
+of_any one other trace (AnsweredTwice index) low holds = holds
+of_any one other trace (NotAnUpdate place) low holds = holds
+of_any one other trace (PlacedTwice place) low holds = holds
+of_any one other trace (NotPlaced index) low holds = holds
+of_any one other trace (PastLog index) low holds = holds
+of_any one other trace (Early call) low holds = holds
+of_any one other trace (WrongAnswer call) low holds = absurd (omega arith)
+of_any one other trace (PrefixPastLog replica) low holds = holds
+of_any one other trace (PrefixShort replica) low holds = holds
+of_any one other trace (MissingFrame replica number) low holds = holds
+of_any one other trace (SharedFrame replica number) low holds = holds
+of_any one other trace (ReservedBit replica number index) low holds = holds
+of_any one other trace (StrayFrame replica number) low holds = holds
+of_any one other trace (Differs replica address) low holds = absurd (omega arith)
+
+pub none_before_from : (start : Space) (trace : Recording) → HasNoneBefore no_pages 6 trace → HasNoneBefore start 6 trace
+none_before_from start trace none fault low holds = none fault low (of_any start no_pages trace fault low holds)
+
+-- what comes earlier is of no later pass
+not_later : (trace : Recording) (other fault : Fault) → Earlier trace other fault → pass_of other ≤ pass_of fault
+not_later trace other fault earlier =
+    let r = ranked trace other in
+    let s = ranked trace fault in
+    let ordered : slice_cmp nat_cmp (pass_of other ∷ r.at ∷ r.number ∷ []) (pass_of fault ∷ s.at ∷ s.number ∷ []) ≡ Less =
+    subst (λ b. slice_cmp nat_cmp (pass_of other ∷ r.at ∷ r.number ∷ []) b ≡ Less) s.is
+    (subst (λ a. slice_cmp nat_cmp a (rank trace fault) ≡ Less) r.is earlier) in
+    elim (earlier_cases (pass_of other) r.at r.number (pass_of fault) s.at s.number ordered) [
+      | inl low ↦ omega arith
+      | inr same ↦ let e = same.0 in omega arith
+    ]
+
+pub first_from_any : (trace : Recording) (fault : Fault) → pass_of fault < 6 → IsFirst trace fault → IsFirstFromAny trace fault
+first_from_any trace fault low first = λ start. record {
+  holds = of_any no_pages start trace fault low first.holds;
+  none_earlier = λ other holds earlier.
+      let before = not_later trace other fault earlier in
+      first.none_earlier other (of_any start no_pages trace other (omega arith) holds) earlier;
+}
+
+-- what such a pass refuses is the first from any start on
+pub refused_from_any : (start : Space) (pass : ℕ) (Among : Fault → Type 0) (trace : Recording) (fail : Fail Fault) → pass < 6 → AreOfPass pass Among
+    → HasNoneBefore no_pages pass trace → IfRefused (IsFirstAmong Among trace) fail → IfRefused (IsFirstFrom start trace) fail
+refused_from_any start pass Among trace Memory low are none first = tt
+refused_from_any start pass Among trace (Refused fault) low are none first =
+    let own = are.only fault first.is_among in
+    first_from_any trace fault (omega arith) (first_of_pass no_pages pass Among trace fault are none first) start
+
+pub refused_of_any : (start : Space) (trace : Recording) (fail : Fail Fault) → IfRefused (IsFirstFromAny trace) fail → IfRefused (IsFirstFrom start trace) fail
+refused_of_any start trace Memory first = tt
+refused_of_any start trace (Refused fault) first = first start
 
 call_from : (fault : Fault) → pass_of fault ≡ 2 → IsCallFault fault
 call_from (Format fault) e = absurd (omega arith)
@@ -318,11 +377,11 @@ last_pass (ReservedBit replica number index) = lit< tt
 last_pass (StrayFrame replica number) = lit< tt
 last_pass (Differs replica address) = lit< tt
 
-pub faultless_after_all : (trace : Recording) → HasNoneBefore 8 trace → IsFaultless trace
-faultless_after_all trace none fault holds = none fault (last_pass fault) holds
+pub faultless_after_all : (start : Space) (trace : Recording) → HasNoneBefore start 8 trace → IsFaultlessFrom start trace
+faultless_after_all start trace none fault holds = none fault (last_pass fault) holds
 
 -- nothing is wrong with the events, the log and the positions
-pub clean_after_positions : (trace : Recording) → HasNoneBefore 5 trace → HasCleanLog trace
+pub clean_after_positions : (trace : Recording) → HasNoneBefore no_pages 5 trace → HasCleanLog trace
 clean_after_positions trace none = record {
   no_thread_open = λ index. none (ThreadOpen index) (lit< tt);
   no_such_call = λ index. none (NoSuchCall index) (lit< tt);
@@ -336,24 +395,28 @@ clean_after_positions trace none = record {
 -- ---- the passes that found nothing
 
 module _ (trace : Recording) (calls : HasNone IsCallFault trace) where
-  pub after_calls : HasNoneBefore 3 trace
-  after_calls = none_before_next 2 IsCallFault trace call_faults (none_of_format trace) calls
+  pub after_calls : HasNoneBefore no_pages 3 trace
+  after_calls = none_before_next no_pages 2 IsCallFault trace call_faults (none_of_format trace) calls
 
   module _ (log : HasNone IsLogFault trace) where
-    pub after_log : HasNoneBefore 4 trace
-    after_log = none_before_next 3 IsLogFault trace log_faults after_calls log
+    pub after_log : HasNoneBefore no_pages 4 trace
+    after_log = none_before_next no_pages 3 IsLogFault trace log_faults after_calls log
 
     module _ (positions : HasNone IsPositionFault trace) where
-      pub after_positions : HasNoneBefore 5 trace
-      after_positions = none_before_next 4 IsPositionFault trace position_faults after_log positions
+      pub after_positions : HasNoneBefore no_pages 5 trace
+      after_positions = none_before_next no_pages 4 IsPositionFault trace position_faults after_log positions
 
       module _ (floors : HasNone IsFloorFault trace) where
-        pub after_floors : HasNoneBefore 6 trace
-        after_floors = none_before_next 5 IsFloorFault trace floor_faults after_positions floors
+        pub after_floors : HasNoneBefore no_pages 6 trace
+        after_floors = none_before_next no_pages 5 IsFloorFault trace floor_faults after_positions floors
 
-        module _ (answers : HasNone IsAnswerFault trace) where
-          pub after_answers : HasNoneBefore 7 trace
-          after_answers = none_before_next 6 IsAnswerFault trace answer_faults after_floors answers
+        module _ (start : Space) where
+          pub before_answers : HasNoneBefore start 6 trace
+          before_answers = none_before_from start trace after_floors
 
-          pub after_dumps : HasNone IsDumpFault trace → HasNoneBefore 8 trace
-          after_dumps dumps = none_before_next 7 IsDumpFault trace dump_faults after_answers dumps
+          module _ (answers : HasNoneFrom start IsAnswerFault trace) where
+            pub after_answers : HasNoneBefore start 7 trace
+            after_answers = none_before_next start 6 IsAnswerFault trace answer_faults before_answers answers
+
+            pub after_dumps : HasNoneFrom start IsDumpFault trace → HasNoneBefore start 8 trace
+            after_dumps dumps = none_before_next start 7 IsDumpFault trace dump_faults after_answers dumps

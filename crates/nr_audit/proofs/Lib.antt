@@ -15,4 +15,5 @@ pub mod FirstOfPasses
 pub mod NeededEntries
 pub mod DumpFaults
 pub mod ComparedDumps
+pub mod PassedPlaces
 pub mod PartsOfVerdicts

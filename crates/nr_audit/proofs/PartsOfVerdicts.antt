@@ -1,5 +1,7 @@
 -- A right verdict is the only one, and where it is yes the bytes are right with its order.
-use Rattle.std.proofs.Common.{◌≡◌, ℕ, ◌⊎◌, inl, inr, IfOk, IfErr, List, Result, Ok, Err, refl, sym, ap, subst, ◌∙◌}
+use Rattle.std.proofs.Common.{◌≡◌, ℕ, ◌⊎◌, inl, inr, IfOk, IfErr, List, Result, Ok, Err, refl, sym, ap, ap₂, subst, ◌∙◌}
+use Rattle.vs_types.specs.Space.{Space, no_pages}
+use Rattle.vs_plain.specs.Plain.{BoundedSpace}
 use Rattle.vs_types.specs.Refusal.{IfRefused}
 use Rattle.vs_types.specs.declared.refusal.Fail.{Fail}
 use Rattle.nr_trace.specs.Feed.{Reads}
@@ -7,9 +9,9 @@ use Rattle.nr_trace.specs.Recording.{Recording}
 use Rattle.nr_trace.specs.Spelling.{Spells}
 use Rattle.nr_trace.specs.Calls.{IsWellFormedHistory}
 use Rattle.nr_trace.specs.FirstFault.{HasFormatFault}
-use Rattle.nr_trace.specs.Orders.{recorded_order, HasItsCalls, KeepsPrecedence, HasTheAnswers}
-use Rattle.nr_trace.specs.Faults.{HasFault, IsFirst, IsFirstOf}
-use Rattle.nr_trace.specs.Laws.{IsFaultless}
+use Rattle.nr_trace.specs.Orders.{recorded_order, space_from, HasItsCalls, KeepsPrecedence, HasAnswersFrom, HasTheAnswers, IsLegalFrom}
+use Rattle.nr_trace.specs.Faults.{HasFault, IsFirst, IsFirstFrom, IsFirstOf}
+use Rattle.nr_trace.specs.Laws.{IsFaultless, IsFaultlessFrom}
 use Rattle.nr_trace.specs.declared.fault.Fault.{Fault}
 use Rattle.nr_trace.specs.declared.fault.Fault.TheVariants.{Format, ThreadOpen, NoSuchCall, AnsweredTwice, NotAnUpdate, PlacedTwice, NotPlaced, PastLog, Early}
 use Rattle.nr_trace.specs.declared.fault.Fault.TheVariants.{WrongAnswer, PrefixPastLog, PrefixShort, MissingFrame, SharedFrame, ReservedBit, StrayFrame}
@@ -20,10 +22,72 @@ use Rattle.nr_trace.proofs.LawsOfFormat.{no_fault}
 use Rattle.nr_trace.proofs.LawsOfFaults.{one_first, one_first_of}
 use Rattle.nr_trace.proofs.LawsOfHistories.{history_if_faultless}
 use Rattle.nr_trace.proofs.LawsOfDumps.{legal_if_faultless, fits_if_faultless}
-use Rattle.nr_audit.specs.Verdict.{IsVerdictOn, IsVerdictOf, IfYes}
-use Rattle.nr_audit.specs.Headline.{SpellsAlone, HasFittingDumps, IsSpelledWith, AreRightWith}
+use Rattle.nr_audit.specs.Verdict.{IsJudgedFrom, IsVerdictOn, IsVerdictOf, IfRight, IfYes, space_of}
+use Rattle.nr_audit.specs.Headline.{SpellsAlone, HasDumpsFrom, HasFittingDumps, IsSpelledWith, AreRightWith}
+use Rattle.nr_audit.specs.declared.verdict.Judged.{Judged}
+use Rattle.nr_audit.specs.declared.verdict.Judged.TheVariants.{Right, Wrong}
 use Rattle.nr_audit.specs.declared.verdict.Verdict.{Verdict}
 use Rattle.nr_audit.specs.declared.verdict.Verdict.TheVariants.{Yes, No}
+
+-- ---- what holds of a trace without faults from a start on, with its recorded order
+
+module _ (start : Space) (trace : Recording) (order : List ℕ) (faultless : IsFaultlessFrom start trace) (is : order ≡ recorded_order trace) where
+  legal_order : IsLegalFrom start trace order
+  legal_order = subst (IsLegalFrom start trace) (sym is) (legal_if_faultless start trace faultless)
+
+  dumps_of_order : HasDumpsFrom start trace order
+  dumps_of_order = subst (HasDumpsFrom start trace) (sym is) (λ replica dump there. fits_if_faultless start trace replica dump faultless there)
+
+-- ---- what is judged from a start on
+
+pub same_judged : (start : Space) (trace : Recording) (a b : Judged) → IsJudgedFrom start trace a → IsJudgedFrom start trace b → a ≡ b
+same_judged start trace (Right order space) (Right other more) h k = ap₂ Right (h.1 ∙ sym k.1) (h.2 ∙ sym k.2)
+same_judged start trace (Right order space) (Wrong fault) h k = absurd (h.0 fault k.holds)
+same_judged start trace (Wrong fault) (Right order space) h k = absurd (k.0 fault h.holds)
+same_judged start trace (Wrong fault) (Wrong other) h k = ap Wrong (one_first start trace fault other h k)
+
+pub right_from : (start : Space) (trace : Recording) (judged : Judged) → IsJudgedFrom start trace judged → IsFaultlessFrom start trace
+    → judged ≡ Right (recorded_order trace) (space_of trace.layout (space_from start trace trace.log))
+right_from start trace judged is faultless =
+    same_judged start trace judged (Right (recorded_order trace) (space_of trace.layout (space_from start trace trace.log))) is (faultless, refl, refl)
+
+pub wrong_from : (start : Space) (trace : Recording) (judged : Judged) (fault : Fault) → IsJudgedFrom start trace judged → IsFirstFrom start trace fault
+    → judged ≡ Wrong fault
+wrong_from start trace judged fault is first = same_judged start trace judged (Wrong fault) is first
+
+module _ (start : Space) (trace : Recording) where
+  pub events_from : (judged : Judged) → IsJudgedFrom start trace judged → IfRight (λ order. IsWellFormedHistory trace) judged
+  events_from (Right order space) is = history_if_faultless start trace is.0
+  events_from (Wrong fault) is = tt
+
+  pub members_from : (judged : Judged) → IsJudgedFrom start trace judged → IfRight (HasItsCalls trace) judged
+  members_from (Right order space) is = (legal_order start trace order is.0 is.1).members
+  members_from (Wrong fault) is = tt
+
+  pub precedence_from : (judged : Judged) → IsJudgedFrom start trace judged → IfRight (KeepsPrecedence trace) judged
+  precedence_from (Right order space) is = (legal_order start trace order is.0 is.1).precedence
+  precedence_from (Wrong fault) is = tt
+
+  pub answers_from : (judged : Judged) → IsJudgedFrom start trace judged → IfRight (HasAnswersFrom start trace) judged
+  answers_from (Right order space) is = (legal_order start trace order is.0 is.1).answers
+  answers_from (Wrong fault) is = tt
+
+  pub dumps_from : (judged : Judged) → IsJudgedFrom start trace judged → IfRight (HasDumpsFrom start trace) judged
+  dumps_from (Right order space) is = dumps_of_order start trace order is.0 is.1
+  dumps_from (Wrong fault) is = tt
+
+-- what is judged from no pages on is the verdict
+pub yes_from : (start : Space) (trace : Recording) (judged : Judged) (order : List ℕ) (space : BoundedSpace) → start ≡ no_pages → judged ≡ Right order space
+    → IsJudgedFrom start trace judged → IsVerdictOn trace (Yes order)
+yes_from start trace judged order space empty same is =
+    let right : IsJudgedFrom no_pages trace (Right order space) =
+    subst (λ s. IsJudgedFrom s trace (Right order space)) empty (subst (IsJudgedFrom start trace) same is) in
+    (right.0, right.1)
+
+pub no_from : (start : Space) (trace : Recording) (judged : Judged) (fault : Fault) → start ≡ no_pages → judged ≡ Wrong fault
+    → IsJudgedFrom start trace judged → IsVerdictOn trace (No fault)
+no_from start trace judged fault empty same is =
+    subst (λ s. IsJudgedFrom s trace (Wrong fault)) empty (subst (IsJudgedFrom start trace) same is)
 
 -- ---- verdicts on a trace
 
@@ -31,7 +95,7 @@ pub same_on : (trace : Recording) (a b : Verdict) → IsVerdictOn trace a → Is
 same_on trace (Yes order) (Yes other) h k = ap Yes (h.1 ∙ sym k.1)
 same_on trace (Yes order) (No fault) h k = absurd (h.0 fault k.holds)
 same_on trace (No fault) (Yes order) h k = absurd (k.0 fault h.holds)
-same_on trace (No fault) (No other) h k = ap No (one_first trace fault other h k)
+same_on trace (No fault) (No other) h k = ap No (one_first no_pages trace fault other h k)
 
 pub yes_on : (trace : Recording) (verdict : Verdict) → IsVerdictOn trace verdict → IsFaultless trace → verdict ≡ Yes (recorded_order trace)
 yes_on trace verdict is faultless = same_on trace verdict (Yes (recorded_order trace)) is (faultless, refl)
@@ -40,23 +104,23 @@ pub no_on : (trace : Recording) (verdict : Verdict) (fault : Fault) → IsVerdic
 no_on trace verdict fault is first = same_on trace verdict (No fault) is first
 
 pub events_on : (trace : Recording) (verdict : Verdict) → IsVerdictOn trace verdict → IfYes (λ order. IsWellFormedHistory trace) verdict
-events_on trace (Yes order) is = history_if_faultless trace is.0
+events_on trace (Yes order) is = history_if_faultless no_pages trace is.0
 events_on trace (No fault) is = tt
 
 pub members_on : (trace : Recording) (verdict : Verdict) → IsVerdictOn trace verdict → IfYes (HasItsCalls trace) verdict
-members_on trace (Yes order) is = subst (HasItsCalls trace) (sym is.1) (legal_if_faultless trace is.0).members
+members_on trace (Yes order) is = (legal_order no_pages trace order is.0 is.1).members
 members_on trace (No fault) is = tt
 
 pub precedence_on : (trace : Recording) (verdict : Verdict) → IsVerdictOn trace verdict → IfYes (KeepsPrecedence trace) verdict
-precedence_on trace (Yes order) is = subst (KeepsPrecedence trace) (sym is.1) (legal_if_faultless trace is.0).precedence
+precedence_on trace (Yes order) is = (legal_order no_pages trace order is.0 is.1).precedence
 precedence_on trace (No fault) is = tt
 
 pub answers_on : (trace : Recording) (verdict : Verdict) → IsVerdictOn trace verdict → IfYes (HasTheAnswers trace) verdict
-answers_on trace (Yes order) is = subst (HasTheAnswers trace) (sym is.1) (legal_if_faultless trace is.0).answers
+answers_on trace (Yes order) is = (legal_order no_pages trace order is.0 is.1).answers
 answers_on trace (No fault) is = tt
 
 pub dumps_on : (trace : Recording) (verdict : Verdict) → IsVerdictOn trace verdict → IfYes (HasFittingDumps trace) verdict
-dumps_on trace (Yes order) is = subst (HasFittingDumps trace) (sym is.1) (λ replica dump there. fits_if_faultless trace replica dump is.0 there)
+dumps_on trace (Yes order) is = dumps_of_order no_pages trace order is.0 is.1
 dumps_on trace (No fault) is = tt
 
 -- ---- verdicts on bytes

@@ -6,13 +6,14 @@ use Rattle.std.specs.declared.cmp.Ordering.{Ordering}
 use Rattle.std.specs.declared.cmp.Ordering.TheVariants.{Less, Equal, Greater}
 use Rattle.std.proofs.lemmas.Cmp.{ranked}
 use Rattle.std.proofs.lemmas.Bool.{cases_lt}
+use Rattle.vs_types.specs.Space.{Space, no_pages}
 use Rattle.nr_trace.specs.Recording.{Recording}
 use Rattle.nr_trace.specs.Faults.{rank}
 use Rattle.nr_trace.specs.declared.fault.Fault.{Fault}
 use Rattle.vs_types.specs.Refusal.{IfRefused}
 use Rattle.vs_types.specs.declared.refusal.Fail.{Fail}
 use Rattle.vs_types.specs.declared.refusal.Fail.TheVariants.{Memory, Refused}
-use Rattle.nr_audit.specs.inside.Search.{HasNone, IsFirstAmong}
+use Rattle.nr_audit.specs.inside.Search.{HasNone, HasNoneFrom, IsFirstAmong, IsFirstAmongFrom}
 
 then_less : (r s : Ordering) → ordering_then r s ≡ Less → (r ≡ Less) ⊎ ((r ≡ Equal) × (s ≡ Less))
 then_less Less s e = inl refl
@@ -43,39 +44,53 @@ earlier_cases p i m q j n e =
 abbrev pub IsRanked : (ℕ → Fault → Type 0) → ℕ → Recording → Type 0
 IsRanked At pass trace = (index : ℕ) (fault : Fault) → At index fault → (number : ℕ) × (rank trace fault ≡ pass ∷ index ∷ number ∷ [])
 
--- none below an index and none at it are none below the next
+module _ (start : Space) (At : ℕ → Fault → Type 0) where
+  -- none below an index and none at it are none below the next
+  pub more_from : (trace : Recording) (index : ℕ) → ((lower : ℕ) → lower < index → HasNoneFrom start (At lower) trace) → HasNoneFrom start (At index) trace
+      → (lower : ℕ) → lower < index + 1 → HasNoneFrom start (At lower) trace
+  more_from trace index below here lower lt = elim (cases_lt lower index) [
+    | inl low ↦ below lower low
+    | inr same ↦ subst (λ i. HasNoneFrom start (At i) trace) (let it : index ≡ lower = omega arith in it) here
+  ]
+
+  -- none of the faults of an index holds, at any index
+  pub none_from : (trace : Recording) → ((index : ℕ) → HasNoneFrom start (At index) trace) → HasNoneFrom start (λ fault. (index : ℕ) × At index fault) trace
+  none_from trace none fault among holds = none among.0 fault among.1 holds
+
+  -- the first of the faults of an index, where none of a lower index holds, is the first of all
+  pub first_from : (pass : ℕ) (trace : Recording) → IsRanked At pass trace → (index : ℕ) (fault : Fault)
+      → ((lower : ℕ) → lower < index → HasNoneFrom start (At lower) trace) → IsFirstAmongFrom start (At index) trace fault
+      → IsFirstAmongFrom start (λ fault. (index : ℕ) × At index fault) trace fault
+  first_from pass trace ranks index fault none first = record {
+    is_among = (index, first.is_among);
+    holds = first.holds;
+    none_earlier = λ other among holds earlier.
+        let r = ranks among.0 other among.1 in
+        let s = ranks index fault first.is_among in
+        let ordered : slice_cmp nat_cmp (pass ∷ among.0 ∷ r.0 ∷ []) (pass ∷ index ∷ s.0 ∷ []) ≡ Less =
+        subst (λ b. slice_cmp nat_cmp (pass ∷ among.0 ∷ r.0 ∷ []) b ≡ Less) s.1 (subst (λ a. slice_cmp nat_cmp a (rank trace fault) ≡ Less) r.1 earlier) in
+        elim (earlier_cases pass among.0 r.0 pass index s.0 ordered) [
+          | inl low ↦ absurd (omega arith)
+          | inr same ↦ elim same.1 [
+            | inl low ↦ none among.0 low other among.1 holds
+            | inr also ↦ first.none_earlier other (subst (λ k. At k other) also.0 among.1) holds earlier
+          ]
+        ];
+  }
+
+-- the same of faults that no start changes
 pub more_of : (At : ℕ → Fault → Type 0) (trace : Recording) (index : ℕ) → ((lower : ℕ) → lower < index → HasNone (At lower) trace) → HasNone (At index) trace
     → (lower : ℕ) → lower < index + 1 → HasNone (At lower) trace
-more_of At trace index below here lower lt = elim (cases_lt lower index) [
-  | inl low ↦ below lower low
-  | inr same ↦ subst (λ i. HasNone (At i) trace) (let it : index ≡ lower = omega arith in it) here
-]
+more_of = more_from no_pages
 
--- none of the faults of an index holds, at any index
 pub none_of_all : (At : ℕ → Fault → Type 0) (trace : Recording) → ((index : ℕ) → HasNone (At index) trace)
     → HasNone (λ fault. (index : ℕ) × At index fault) trace
-none_of_all At trace none fault among holds = none among.0 fault among.1 holds
+none_of_all = none_from no_pages
 
--- the first of the faults of an index, where none of a lower index holds, is the first of all
 pub first_of_all : (At : ℕ → Fault → Type 0) (pass : ℕ) (trace : Recording) → IsRanked At pass trace → (index : ℕ) (fault : Fault)
     → ((lower : ℕ) → lower < index → HasNone (At lower) trace) → IsFirstAmong (At index) trace fault
     → IsFirstAmong (λ fault. (index : ℕ) × At index fault) trace fault
-first_of_all At pass trace ranks index fault none first = record {
-  is_among = (index, first.is_among);
-  holds = first.holds;
-  none_earlier = λ other among holds earlier.
-      let r = ranks among.0 other among.1 in
-      let s = ranks index fault first.is_among in
-      let ordered : slice_cmp nat_cmp (pass ∷ among.0 ∷ r.0 ∷ []) (pass ∷ index ∷ s.0 ∷ []) ≡ Less =
-      subst (λ b. slice_cmp nat_cmp (pass ∷ among.0 ∷ r.0 ∷ []) b ≡ Less) s.1 (subst (λ a. slice_cmp nat_cmp a (rank trace fault) ≡ Less) r.1 earlier) in
-      elim (earlier_cases pass among.0 r.0 pass index s.0 ordered) [
-        | inl low ↦ absurd (omega arith)
-        | inr same ↦ elim same.1 [
-          | inl low ↦ none among.0 low other among.1 holds
-          | inr also ↦ first.none_earlier other (subst (λ k. At k other) also.0 among.1) holds earlier
-        ]
-      ];
-}
+first_of_all = first_from no_pages
 
 -- of two faults of one index the earlier one has the lower number
 pub lower_number : (p i m j n : ℕ) → slice_cmp nat_cmp (p ∷ i ∷ m ∷ []) (p ∷ j ∷ n ∷ []) ≡ Less → i ≡ j → m < n

@@ -1,19 +1,23 @@
 -- What bytes are right with an order of calls.
 use Rattle.std.specs.Prelude.{◌≡◌, ℕ, List, slice_get, Some}
+use Rattle.vs_types.specs.Space.{Space, no_pages}
 use Rattle.vs_walk.specs.Dump.{Image}
 use Rattle.nr_trace.specs.Recording.{Recording}
 use Rattle.nr_trace.specs.Spelling.{Spells}
 use Rattle.nr_trace.specs.Calls.{IsWellFormedHistory}
-use Rattle.nr_trace.specs.Orders.{HasItsCalls, KeepsPrecedence, HasTheAnswers, FitsOrder}
+use Rattle.nr_trace.specs.Orders.{HasItsCalls, KeepsPrecedence, HasTheAnswers, FitsFrom}
 
 -- the bytes spell the trace and no other
 pub record SpellsAlone (bytes : List ℕ) (trace : Recording) : Type 0 where
   pub spelled : Spells bytes trace
   pub no_other : (other : Recording) → Spells bytes other → other ≡ trace
 
--- every dump fits the order
+-- every dump fits the order, from a start on
+abbrev pub HasDumpsFrom : Space → Recording → List ℕ → Type 0
+HasDumpsFrom start trace order = (replica : ℕ) (dump : Image) → slice_get trace.dumps replica ≡ Some dump → FitsFrom start trace order replica dump
+
 abbrev pub HasFittingDumps : Recording → List ℕ → Type 0
-HasFittingDumps trace order = (replica : ℕ) (dump : Image) → slice_get trace.dumps replica ≡ Some dump → FitsOrder trace order replica dump
+HasFittingDumps trace order = HasDumpsFrom no_pages trace order
 
 -- what the bytes spell has the property
 abbrev pub IsSpelledWith : List ℕ → (Recording → Type 0) → Type 0

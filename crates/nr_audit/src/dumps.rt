@@ -1,16 +1,13 @@
 //! The last pass: each dump beside the space after the entries that it has applied.
 
-ghost use Rattle.std.specs.Prelude.{◌≡◌, ◌+◌, ◌<◌, ◌≤◌, OnOk, IfOk, IfErr, length, take};
+ghost use Rattle.std.specs.Prelude.{◌≡◌, ◌+◌, ◌<◌, OnOk, IfOk, IfErr, length};
 ghost use Rattle.vs_types.specs.Refusal.{IfRefused};
-ghost use Rattle.nr_trace.specs.Orders.{space_after};
-ghost use Rattle.nr_audit.specs.inside.Dumps.{at_replica, IsFoundBeside, AreFound, AreCompared, HasShorterBelow};
+ghost use Rattle.vs_types.specs.Space.{Space};
+ghost use Rattle.nr_audit.specs.inside.Dumps.{at_replica, IsFoundBeside, AreFound, AreCompared, IsServed};
 ghost use Rattle.nr_audit.specs.inside.Passes.{IsDumpFault, IsDumpFaultAt};
 ghost use Rattle.nr_audit.specs.inside.Prefixes.{AreNeeds};
-ghost use Rattle.nr_audit.specs.inside.Search.{HasNone, IsFirstAmong};
-ghost use Rattle.nr_audit.specs.inside.Steps.{space_of};
+ghost use Rattle.nr_audit.specs.inside.Search.{HasNoneFrom, IsFirstAmongFrom};
 
-use crate::answers::serve;
-use crate::requests::request_of;
 use nr_dump::{DumpFault, check};
 use nr_trace::{Fault, Trace};
 use std::alloc::Global;
@@ -42,19 +39,17 @@ fn table_fault(alloc: Global, dump: &Dump, space: &PlainSpace) -> Result<Option<
     }
 }
 
-/// Compares the dumps that have applied just so many entries with the space after these. What is wrong with a dump is kept
-/// under its replica.
-fn compare_dumps(
+/// Compares the dumps that have applied just so many entries with a space. What is wrong with a dump is kept under its
+/// replica.
+pub(crate) fn compare_dumps(
     alloc: Global,
     trace: &Trace,
     applied: usize,
     space: &PlainSpace,
     faults: &mut [Option<DumpFault>; REPLICAS as usize],
 ) -> Result<(), Memory>
-    requires { space.now
-        ≡ space_of trace.now.layout (space_after trace.now (take applied trace.now.log)) }
     ensures { OnOk result
-        (AreCompared trace.now applied (length trace.now.dumps) faults.old faults.new) }
+        (AreCompared trace.now space.now applied (length trace.now.dumps) faults.old faults.new) }
 {
     for replica in 0..trace.dumps().len() {
         let dump = &trace.dumps()[replica];
@@ -62,71 +57,6 @@ fn compare_dumps(
             let found = table_fault(alloc, dump, space)?;
             faults[replica] = found;
         }
-    }
-    Ok(())
-}
-
-/// Compares the dumps that have applied the whole log with the space after it.
-fn compare_whole(
-    alloc: Global,
-    trace: &Trace,
-    space: PlainSpace,
-) -> Result<[Option<DumpFault>; REPLICAS as usize], Memory>
-    requires { space ≡ space_of trace.now.layout (space_after trace.now trace.now.log) }
-    ensures { IfOk result (AreFound trace.now 0) }
-{
-    let mut faults = [None; REPLICAS as usize];
-    compare_dumps(alloc, trace, trace.log().len(), &space, &mut faults)?;
-    Ok(faults)
-}
-
-/// How many places of the log it takes to come to the entries of each dump that has not applied the whole log.
-fn places_to_visit(trace: &Trace) -> usize
-    ensures all { HasShorterBelow trace.now (length trace.now.dumps) result }
-    ensures within { result ≤ length trace.now.log }
-{
-    let log = trace.log();
-    let mut end = 0;
-    for replica in 0..trace.dumps().len() {
-        let applied = trace.dumps()[replica].applied() as usize;
-        if applied < log.len() {
-            end = end.max(applied + 1);
-        }
-    }
-    end
-}
-
-/// Applies the update of a place to the space before it.
-fn apply_place(trace: &Trace, space: &mut PlainSpace, place: usize) -> Result<(), Memory>
-    requires within { place < length trace.now.log }
-    requires before { space.old
-        ≡ space_of trace.now.layout (space_after trace.now (take place trace.now.log)) }
-    ensures { OnOk result
-        (space.new
-        ≡ space_of trace.now.layout (space_after trace.now (take (place + 1) trace.now.log))) }
-{
-    let log = trace.log();
-    if let Some(request) = request_of(trace, log[place]) {
-        serve(space, request)?;
-    }
-    Ok(())
-}
-
-/// Compares the dumps that have not applied the whole log, by rising number of entries: the updates are applied once more,
-/// up to the last that one of these dumps has applied.
-fn compare_shorter(
-    alloc: Global,
-    trace: &Trace,
-    faults: &mut [Option<DumpFault>; REPLICAS as usize],
-) -> Result<(), Memory>
-    requires { AreFound trace.now 0 faults.old }
-    ensures { OnOk result (AreFound trace.now (length trace.now.log) faults.new) }
-{
-    let config = trace.config();
-    let mut space = PlainSpace::new(alloc, config.tables(), config.depth());
-    for place in 0..places_to_visit(trace) {
-        compare_dumps(alloc, trace, place, &space, faults)?;
-        apply_place(trace, &mut space, place)?;
     }
     Ok(())
 }
@@ -140,9 +70,10 @@ fn check_dump(
 ) -> Result<(), Fail<Fault>>
     requires replica { replica < length trace.now.dumps }
     requires needed { AreNeeds trace.now (length trace.now.events) needed.now }
-    requires found { AreFound trace.now (length trace.now.log) faults.now }
-    ensures clean { OnOk result (HasNone (IsDumpFaultAt replica) trace.now) }
-    ensures first { IfErr result (IfRefused (IsFirstAmong (IsDumpFaultAt replica) trace.now)) }
+    ensures clean { (start : Space) → AreFound start trace.now (length trace.now.log + 1) faults.now
+        → OnOk result (HasNoneFrom start (IsDumpFaultAt replica) trace.now) }
+    ensures first { (start : Space) → AreFound start trace.now (length trace.now.log + 1) faults.now
+        → IfErr result (IfRefused (IsFirstAmongFrom start (IsDumpFaultAt replica) trace.now)) }
 {
     let dump = &trace.dumps()[replica];
     let applied = dump.applied() as usize;
@@ -158,24 +89,25 @@ fn check_dump(
     }
 }
 
-/// Looks for what is wrong with the dumps, in the order of the replicas, from what each replica needs and from the space
-/// after the whole log on: it is compared with the dumps that have applied so much. Takes memory for a second space, once
-/// that one is given back, where a dump has applied less, and for what the check of a dump takes.
+/// Looks for what is wrong with the dumps, in the order of the replicas: from what each replica needs, what was found in the
+/// dumps that have not applied the whole log, and the space after it, with which the others are compared. Takes memory for
+/// what the check of a dump takes.
 pub(crate) fn check_dumps(
     alloc: Global,
     trace: &Trace,
     needed: &[u64; REPLICAS as usize],
-    space: PlainSpace,
+    space: &PlainSpace,
+    faults: &mut [Option<DumpFault>; REPLICAS as usize],
 ) -> Result<(), Fail<Fault>>
     requires needed { AreNeeds trace.now (length trace.now.events) needed.now }
-    requires space { space ≡ space_of trace.now.layout (space_after trace.now trace.now.log) }
-    ensures clean { OnOk result (HasNone IsDumpFault trace.now) }
-    ensures first { IfErr result (IfRefused (IsFirstAmong IsDumpFault trace.now)) }
+    ensures clean { (start : Space) → IsServed start trace.now space.now faults.old
+        → OnOk result (HasNoneFrom start IsDumpFault trace.now) }
+    ensures first { (start : Space) → IsServed start trace.now space.now faults.old
+        → IfErr result (IfRefused (IsFirstAmongFrom start IsDumpFault trace.now)) }
 {
-    let mut faults = compare_whole(alloc, trace, space)?;
-    compare_shorter(alloc, trace, &mut faults)?;
+    compare_dumps(alloc, trace, trace.log().len(), space, faults)?;
     for replica in 0..trace.dumps().len() {
-        check_dump(trace, replica, needed, &faults)?;
+        check_dump(trace, replica, needed, faults)?;
     }
     Ok(())
 }

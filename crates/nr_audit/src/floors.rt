@@ -4,12 +4,12 @@ ghost use Rattle.std.specs.Prelude.{◌≡◌, ◌+◌, ◌<◌, OnOk, IfOk, IfE
 ghost use Rattle.vs_types.specs.Refusal.{IfRefused};
 ghost use Rattle.vs_types.specs.declared.answer.Answer.{Answer};
 ghost use Rattle.nr_trace.specs.Calls.{Response, call_of};
-ghost use Rattle.nr_trace.specs.Faults.{IsFirst, StandsAfter};
+ghost use Rattle.nr_trace.specs.Faults.{StandsAfter};
 ghost use Rattle.nr_trace.specs.Laws.{HasCleanLog};
 ghost use Rattle.nr_trace.specs.Orders.{floor, known_by};
 ghost use Rattle.nr_audit.specs.inside.Chains.{AreReads};
 ghost use Rattle.nr_audit.specs.inside.Prefixes.{AreNeeds, with_known};
-ghost use Rattle.nr_audit.specs.inside.Search.{FindsEarly, HasNone};
+ghost use Rattle.nr_audit.specs.inside.Search.{FindsEarly, HasNone, IsFirstFromAny};
 ghost use Rattle.nr_audit.specs.inside.Passes.{IsCallFault, IsFloorFault, IsLogFault, IsPositionFault};
 ghost use Rattle.nr_audit.specs.inside.Tables.{ArePlaces};
 
@@ -98,7 +98,7 @@ pub(crate) fn check_replies(
         (λ standing. AreNeeds history.now (length history.now.events) standing.needed) }
     ensures clean { OnOk result
         (HasNone IsPositionFault history.now × HasNone IsFloorFault history.now) }
-    ensures first { IfErr result (IfRefused (IsFirst history.now)) }
+    ensures first { IfErr result (IfRefused (IsFirstFromAny history.now)) }
 {
     let mut lasts = empty_table(alloc, history.log().len() + 1)?;
     let mut rows = places;

@@ -3,20 +3,54 @@
 ghost use Rattle.std.specs.Prelude.{◌≡◌, ℕ, IfOk, List};
 ghost use Rattle.nr_trace.specs.Calls.{IsWellFormedHistory};
 ghost use Rattle.nr_trace.specs.Feed.{Reads};
-ghost use Rattle.nr_trace.specs.Faults.{IsFirst, IsFirstOf};
-ghost use Rattle.nr_trace.specs.Laws.{IsFaultless};
-ghost use Rattle.nr_trace.specs.Orders.{recorded_order, HasItsCalls, HasTheAnswers, KeepsPrecedence};
+ghost use Rattle.nr_trace.specs.Faults.{IsFirst, IsFirstFrom, IsFirstOf};
+ghost use Rattle.nr_trace.specs.Laws.{IsFaultless, IsFaultlessFrom};
+ghost use Rattle.nr_trace.specs.Orders.{recorded_order, space_from, HasItsCalls, HasAnswersFrom, HasTheAnswers, KeepsPrecedence};
 ghost use Rattle.nr_trace.specs.Recording.{Recording};
 ghost use Rattle.nr_trace.specs.Spelling.{Spells};
 ghost use Rattle.nr_trace.specs.declared.fault.Fault.{Fault};
-ghost use Rattle.nr_audit.specs.Headline.{AreRightWith, HasFittingDumps, IsSpelledWith, SpellsAlone};
-ghost use Rattle.nr_audit.specs.Verdict.{IfYes, IsVerdictOf, IsVerdictOn};
+ghost use Rattle.nr_audit.specs.Headline.{AreRightWith, HasDumpsFrom, HasFittingDumps, IsSpelledWith, SpellsAlone};
+ghost use Rattle.nr_audit.specs.Verdict.{IfRight, IfYes, IsJudgedFrom, IsVerdictOf, IsVerdictOn, space_of};
 
 use crate::search::search;
-use crate::verdict::Verdict;
+use crate::verdict::{Judged, Verdict};
 use nr_trace::{Fault, Format, Trace, read};
 use std::alloc::Global;
+use vs_plain::PlainSpace;
 use vs_types::{Fail, Memory};
+
+/// Whether a trace is right where its address space begins with this start: `Right` with the recorded order of its calls and the
+/// space after its whole log where none of the faults holds, else `Wrong` with the first.
+///
+/// `Right` says of the trace what `judge` says, of the one sequential address space that begins with the start. So a recording
+/// that goes on where another one ended is judged from the space to which that one led.
+///
+/// Takes what `judge` takes; the space grows from the start.
+///
+/// # Errors
+///
+/// `Memory` where a growth of memory was refused.
+pub fn judge_from(alloc: Global, trace: &Trace, start: PlainSpace) -> Result<Judged, Memory>
+    requires depth { start.depth ≡ trace.now.layout.depth }
+    requires limit { start.limit ≡ trace.now.layout.tables }
+    ensures judged { IfOk result (IsJudgedFrom start.space trace.now) }
+    ensures right { IsFaultlessFrom start.space trace.now → IfOk result (λ judged. judged
+        ≡ Judged.Right (recorded_order trace.now)
+        (space_of trace.now.layout (space_from start.space trace.now trace.now.log))) }
+    ensures wrong { (fault : Fault) → IsFirstFrom start.space trace.now fault
+        → IfOk result (λ judged. judged ≡ Judged.Wrong fault) }
+    ensures events { IfOk result (IfRight (λ order. IsWellFormedHistory trace.now)) }
+    ensures members { IfOk result (IfRight (HasItsCalls trace.now)) }
+    ensures precedence { IfOk result (IfRight (KeepsPrecedence trace.now)) }
+    ensures answers { IfOk result (IfRight (HasAnswersFrom start.space trace.now)) }
+    ensures dumps { IfOk result (IfRight (HasDumpsFrom start.space trace.now)) }
+{
+    match search(alloc, trace, start) {
+        Ok((order, space)) => Ok(Judged::Right(order, space)),
+        Err(Fail::Memory) => Err(Memory),
+        Err(Fail::Refused(fault)) => Ok(Judged::Wrong(fault)),
+    }
+}
 
 /// Whether a trace is right: `Yes` with the recorded order of its calls where none of the faults holds, else `No` with the
 /// first. The recorded order has the updates by place, and each answered read after the entries that it saw.
@@ -28,7 +62,7 @@ use vs_types::{Fail, Memory};
 /// applied. `No` does not say that no other order explains the trace.
 ///
 /// Takes memory beside the trace: at most 16 bytes for each event and 4 for each thread; and, when these are given back but
-/// for 4 bytes for each call of the order, for one space at a time and what the check of a dump takes.
+/// for 4 bytes for each call of the order, for one space and what the check of a dump takes.
 ///
 /// # Errors
 ///
@@ -45,10 +79,12 @@ pub fn judge(alloc: Global, trace: &Trace) -> Result<Verdict, Memory>
     ensures answers { IfOk result (IfYes (HasTheAnswers trace.now)) }
     ensures dumps { IfOk result (IfYes (HasFittingDumps trace.now)) }
 {
-    match search(alloc, trace) {
-        Ok(order) => Ok(Verdict::Yes(order)),
-        Err(Fail::Memory) => Err(Memory),
-        Err(Fail::Refused(fault)) => Ok(Verdict::No(fault)),
+    let config = trace.config();
+    let empty = PlainSpace::new(alloc, config.tables(), config.depth());
+    let judged = judge_from(alloc, trace, empty)?;
+    match judged {
+        Judged::Right(order, _) => Ok(Verdict::Yes(order)),
+        Judged::Wrong(fault) => Ok(Verdict::No(fault)),
     }
 }
 

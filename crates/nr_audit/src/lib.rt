@@ -23,5 +23,5 @@ mod search;
 mod tables;
 mod verdict;
 
-pub use judging::{audit, judge, judge_read};
-pub use verdict::{Order, Verdict};
+pub use judging::{audit, judge, judge_from, judge_read};
+pub use verdict::{Judged, Order, Verdict};

@@ -1,10 +1,11 @@
 //! The passes, one after another.
 
-ghost use Rattle.std.specs.Prelude.{◌≡◌, IfOk, IfErr};
+ghost use Rattle.std.specs.Prelude.{◌≡◌, IfOk, IfErr, OnOk};
 ghost use Rattle.vs_types.specs.Refusal.{IfRefused};
-ghost use Rattle.nr_trace.specs.Faults.{IsFirst};
-ghost use Rattle.nr_trace.specs.Laws.{IsFaultless};
-ghost use Rattle.nr_trace.specs.Orders.{recorded_order};
+ghost use Rattle.nr_trace.specs.Faults.{IsFirstFrom};
+ghost use Rattle.nr_trace.specs.Laws.{IsFaultlessFrom};
+ghost use Rattle.nr_trace.specs.Orders.{recorded_order, space_from};
+ghost use Rattle.nr_audit.specs.Verdict.{space_of};
 
 use crate::answers::check_answers;
 use crate::calls::check_calls;
@@ -16,13 +17,22 @@ use crate::order::list_order;
 use crate::verdict::Order;
 use nr_trace::{Fault, Trace};
 use std::alloc::Global;
-use vs_types::Fail;
+use vs_plain::PlainSpace;
+use vs_types::{Fail, REPLICAS};
 
-/// The passes over a trace, one after another, up to the first fault. Gives the recorded order where there is none.
-pub(crate) fn search(alloc: Global, trace: &Trace) -> Result<Order, Fail<Fault>>
-    ensures none { IfOk result
-        (λ order. IsFaultless trace.now × (order ≡ recorded_order trace.now)) }
-    ensures first { IfErr result (IfRefused (IsFirst trace.now)) }
+/// The passes over a trace, one after another, up to the first fault from the start on. Where there is none, gives the recorded
+/// order and the space after the whole log.
+pub(crate) fn search(
+    alloc: Global,
+    trace: &Trace,
+    start: PlainSpace,
+) -> Result<(Order, PlainSpace), Fail<Fault>>
+    requires { start ≡ space_of trace.now.layout start.space }
+    ensures none { OnOk result (IsFaultlessFrom start.space trace.now) }
+    ensures order { IfOk result (λ right. right.0 ≡ recorded_order trace.now) }
+    ensures space { IfOk result (λ right. right.1
+        ≡ space_of trace.now.layout (space_from start.space trace.now trace.now.log)) }
+    ensures first { IfErr result (IfRefused (IsFirstFrom start.space trace.now)) }
 {
     let history = check_calls(alloc, trace)?;
     let places = check_log(alloc, &history)?;
@@ -30,7 +40,8 @@ pub(crate) fn search(alloc: Global, trace: &Trace) -> Result<Order, Fail<Fault>>
     let needed = standing.needed;
     let order = list_order(alloc, &history, standing)?;
     let events = LastEvents::of(history, order);
-    let (order, space) = check_answers(alloc, trace, events)?;
-    check_dumps(alloc, trace, &needed, space)?;
-    Ok(order)
+    let mut faults = [None; REPLICAS as usize];
+    let (order, space) = check_answers(alloc, trace, events, start, &mut faults)?;
+    check_dumps(alloc, trace, &needed, &space, &mut faults)?;
+    Ok((order, space))
 }

@@ -2,6 +2,7 @@
 
 use nr_trace::Fault;
 use std::marker::Model;
+use vs_plain::PlainSpace;
 
 /// Calls of a trace in an order, each by the index of its event. Contracts see the list.
 #[derive(Debug, Drop)]
@@ -41,6 +42,15 @@ impl Order {
     {
         &self.calls
     }
+}
+
+/// What is found of a trace from a start on.
+#[derive(Debug, Drop)]
+pub enum Judged {
+    /// The trace is right, with this order of its calls, and leads to this space: that after its whole log.
+    Right(Order, PlainSpace),
+    /// The first fault.
+    Wrong(Fault),
 }
 
 /// What an audit finds.

@@ -1,7 +1,7 @@
 -- An answer that is not the space's.
 use Rattle.std.proofs.Common.{◌≡◌, ℕ, ◌≤◌, Option, length, take, sym, ap, ◌∙◌}
 use Rattle.std.proofs.lemmas.Option.{same_Some}
-use Rattle.vs_types.specs.Space.{Space}
+use Rattle.vs_types.specs.Space.{Space, no_pages}
 use Rattle.vs_types.specs.declared.answer.Answer.{Answer}
 use Rattle.nr_trace.specs.Recording.{Recording}
 use Rattle.nr_trace.specs.Calls.{Invocation, Response}
@@ -23,7 +23,7 @@ use Rattle.nr_explain.proofs.Replies.{first_to}
 pub few_seen : (trace : Recording) (index : ℕ) (reply : RecordedReply) → IsFirst trace (WrongAnswer index) → IsReplyOf trace reply → reply.call ≡ index
     → reply.at ≤ length trace.log
 few_seen trace index reply first is names =
-    let clean = clean_before_answers trace index first in
+    let clean = clean_before_answers no_pages trace index first in
     (answered_stands trace index (response reply) clean (first_to trace index reply clean is names)).1
 
 pub wrong_facts : (trace : Recording) (call : RecordedCall) (reply : RecordedReply) (wanted : Answer) (address : ℕ) (changed : Option PlacedUpdate)
@@ -32,10 +32,10 @@ pub wrong_facts : (trace : Recording) (call : RecordedCall) (reply : RecordedRep
     → IsLastChange trace address reply.at changed
     → IsOtherAnswer trace (record { call = call; reply = reply; wanted = wanted; address = address; changed = changed })
 wrong_facts trace call reply wanted address changed first is_call is_reply names told about change =
-    let clean = clean_before_answers trace call.event first in
+    let clean = clean_before_answers no_pages trace call.event first in
     let to = first_to trace call.event reply clean is_reply names in
     let stands = answered_stands trace call.event (response reply) clean to in
-    let space = space_before trace reply.at call.event clean stands.1 stands.0 in
+    let space = space_before no_pages trace reply.at call.event clean stands.1 stands.0 in
     let wrong = first.holds in
     let is = told ∙ ap (λ (s : Space). answer_in trace.layout s call.request) (sym space) in
     let one_reply = same_Some wrong.reply (response reply) (sym wrong.is_reply ∙ to) in

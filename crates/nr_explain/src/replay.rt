@@ -3,7 +3,8 @@
 ghost use Rattle.std.specs.Prelude.{◌≡◌, ◌+◌, ◌<◌, ◌≤◌, ◌↔◌, length, take, slice_get, Some, IfOk, IsTrue, OnOk};
 ghost use Rattle.vs_types.specs.Query.{IsQuery};
 ghost use Rattle.nr_trace.specs.Orders.{answer_in, space_after};
-ghost use Rattle.nr_audit.specs.inside.Steps.{Serves, space_of};
+ghost use Rattle.nr_audit.specs.Verdict.{space_of};
+ghost use Rattle.nr_audit.specs.inside.Steps.{Serves};
 ghost use Rattle.nr_explain.specs.Facts.{IsCallOf, IsLastChange, looks_after};
 ghost use Rattle.nr_explain.specs.inside.Searches.{HasOnlyCalls};
 

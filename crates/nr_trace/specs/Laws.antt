@@ -26,9 +26,6 @@ pub record IsSerialFrom (start : Space) (trace : Recording) (order : List ℕ) :
   pub members : HasItsCalls trace order
   pub answers : HasAnswersFrom start trace order
 
-abbrev pub IsSerialOrder : Recording → List ℕ → Type 0
-IsSerialOrder trace order = IsSerialFrom no_pages trace order
-
 -- wrong answers are compared in the recorded order, so that the call has to stand there
 abbrev pub HasRank : Recording → Fault → Type 0
 HasRank trace (WrongAnswer call) = Contains (recorded_order trace) call

@@ -1,7 +1,5 @@
 -- What a request does to a plain space, and how it is answered. No public clause cites this file.
 use Rattle.std.specs.Prelude.{◌≡◌}
-use Rattle.vs_types.specs.Config.{Layout}
-use Rattle.vs_types.specs.Space.{Space}
 use Rattle.vs_types.specs.Step.{look, allow}
 use Rattle.vs_types.specs.declared.answer.Answer.{Answer}
 use Rattle.vs_types.specs.declared.request.Query.{Query}
@@ -13,7 +11,3 @@ abbrev pub Serves : BoundedSpace → Query → Answer → BoundedSpace → Type 
 Serves old (Update action) answer new = IsPlainStep old action answer new
 Serves old (Resolve address) answer new = (answer ≡ look old.space address) × (new ≡ old)
 Serves old (Access address mode access) answer new = (answer ≡ allow old.space address mode access) × (new ≡ old)
-
--- what is kept of a space with the layout's depth and limit
-abbrev pub space_of : Layout → Space → BoundedSpace
-space_of layout space = record { depth = layout.depth; limit = layout.tables; space = space }

@@ -61,5 +61,5 @@ none_wrong state version dumps call reached h = h.differs (is_right (reply_event
       right.answered
       ∙ ap (λ (m : Invocation). answer_in state.layout (space_at state.layout state.log h.reply.at) m.request) one
       ∙ ap (λ space. answer_in state.layout space h.made.request)
-      (sym (space_before trace h.reply.at call (clean_log state version dumps reached) stands.1 stands.0
+      (sym (space_before no_pages trace h.reply.at call (clean_log state version dumps reached) stands.1 stands.0
       ∙ space_of_log state version dumps h.reply.at reached))

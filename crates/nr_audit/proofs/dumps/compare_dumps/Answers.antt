@@ -1,9 +1,6 @@
-use Rattle.std.proofs.Common.{◌≡◌, ◌+◌, ◌<◌, List, Option, length, take, sym, ap, subst, ◌∙◌, arith}
-use Rattle.vs_plain.specs.Plain.{BoundedSpace}
+use Rattle.std.proofs.Common.{◌≡◌, ◌+◌, ◌<◌, List, Option, length, sym, ap, subst, ◌∙◌, arith}
 use Rattle.nr_dump.specs.declared.fault.DumpFault.{DumpFault}
-use Rattle.nr_trace.specs.Orders.{space_after}
-use Rattle.nr_audit.specs.inside.Dumps.{IsFoundBeside, AreCompared}
-use Rattle.nr_audit.specs.inside.Steps.{space_of}
+use Rattle.nr_audit.specs.inside.Dumps.{AreCompared}
 use Rattle.nr_audit.proofs.DumpFaults.{read_dump}
 use Rattle.nr_audit.proofs.ComparedDumps.{compared_without, compared_with}
 use Rattle.nr_audit.proofs.dumps.compare_dumps.Goals as goal
@@ -23,12 +20,11 @@ loop-replica-preserved c =
           let same : dump.applied ≡ c.args.applied = sym c.applied.ensures ∙ w.if-applied.true in
           let within : replica < length c.loop-replica.faults =
           omega (arith, low, are.as_many, c.told-faults, c.dumps.ensures.in_range.one_dump_each, c.dumps.ensures.in_range.layout.few_replicas) in
-          subst (λ (faults : List (Option DumpFault)). AreCompared trace c.args.applied (replica + 1) c.args.faults.now faults) (sym w.faults-is)
-          (compared_with trace c.args.applied replica c.args.faults.now c.loop-replica.faults dump is are w.in_ok-found.found same within
-          (subst (λ (s : BoundedSpace). IsFoundBeside dump s w.in_ok-found.found)
-          (c.requires ∙ ap (λ n. space_of trace.layout (space_after trace (take n trace.log))) (sym same)) w.in_ok-found.ensures))
+          subst (λ (faults : List (Option DumpFault)). AreCompared trace c.args.space.now c.args.applied (replica + 1) c.args.faults.now faults) (sym w.faults-is)
+          (compared_with trace c.args.space.now c.args.applied replica c.args.faults.now c.loop-replica.faults dump is are w.in_ok-found.found same within
+          w.in_ok-found.ensures)
       | else-applied w ↦
-          subst (λ (faults : List (Option DumpFault)). AreCompared trace c.args.applied (replica + 1) c.args.faults.now faults) (sym w.faults-is)
-          (compared_without trace c.args.applied replica c.args.faults.now c.loop-replica.faults dump is are
+          subst (λ (faults : List (Option DumpFault)). AreCompared trace c.args.space.now c.args.applied (replica + 1) c.args.faults.now faults) (sym w.faults-is)
+          (compared_without trace c.args.space.now c.args.applied replica c.args.faults.now c.loop-replica.faults dump is are
           (λ same. w.if-applied.false (c.applied.ensures ∙ same)))
     ]

@@ -1,4 +1,5 @@
-use Rattle.std.proofs.Common.{Vec, Global, Option, ◌≡◌, ℕ, ◌+◌, ◌<◌, List, length, max, sym, ap, subst, ◌∙◌, arith}
+use Rattle.std.proofs.Common.{Vec, Global, Option, ◌≡◌, ℕ, ◌+◌, ◌<◌, List, length, max, sym, ap, subst, ◌∙◌, arith, lit<}
+use Rattle.vs_types.specs.Space.{no_pages}
 use Rattle.nr_trace.specs.Orders.{floor}
 use Rattle.nr_trace.specs.Calls.{Response, call_of}
 use Rattle.nr_trace.proofs.LawsOfSteps.{floor_after_reply, floor_after_other}
@@ -11,7 +12,7 @@ use Rattle.nr_audit.specs.inside.Prefixes.{AreNeeds, with_known}
 use Rattle.nr_audit.proofs.CallsAndReplies.{read_event, reply_here, no_reply_at_call, no_call_at_reply}
 use Rattle.nr_audit.proofs.Ranks.{more_of}
 use Rattle.nr_audit.proofs.FloorFaults.{early_at_other, none_at_call, none_at_other, no_floor_fault}
-use Rattle.nr_audit.proofs.FirstOfPasses.{after_log, after_positions, clean_after_positions, first_of_pass, floor_faults, position_faults}
+use Rattle.nr_audit.proofs.FirstOfPasses.{after_log, after_positions, clean_after_positions, first_from_any, first_of_pass, floor_faults, position_faults}
 use Rattle.nr_audit.proofs.PositionFaults.{first_position_fault, no_position_fault, none_without_reply}
 use Rattle.nr_audit.proofs.NeededEntries.{needs_stay, no_reply_at, needs_after_reply}
 use Rattle.nr_audit.proofs.RecordedOrder.{passed_as, passed_by}
@@ -105,8 +106,8 @@ returns-in-Some-early-clause-first c =
     let at_end : c.loop-index.index ≡ length trace.events = omega (arith, ap length c.events-event-items.ensures.reads) in
     let positions = placed trace c.loop-index.index at_end c.loop-index.invariant.positions in
     let before = after_positions trace c.requires.calls c.requires.log positions in
-    first_of_pass 5 IsFloorFault trace (Early c.in-Some-early.call) floor_faults before
-    (subst (λ o. FindsEarly trace c.loop-index.index o) c.in-Some-early.is (c.loop-index.invariant.early (clean_after_positions trace before)))
+    first_from_any trace (Early c.in-Some-early.call) (lit< tt) (first_of_pass no_pages 5 IsFloorFault trace (Early c.in-Some-early.call) floor_faults before
+    (subst (λ o. FindsEarly trace c.loop-index.index o) c.in-Some-early.is (c.loop-index.invariant.early (clean_after_positions trace before))))
 
 pub returns-in-Some-position_fault-clause-first : goal.returns-in-Some-position_fault-clause-first
 returns-in-Some-position_fault-clause-first c =
@@ -114,5 +115,8 @@ returns-in-Some-position_fault-clause-first c =
     let index = c.loop-index.index in
     let is = read_event trace c.events-event-items.result.now index _ _ c.events-event-items.ensures.reads c.loop-index-test.true
     c.event-item.is (sym c.event.ensures ∙ c.in-Reply.is) in
-    first_of_pass 4 IsPositionFault trace c.in-Some-position_fault.fault position_faults (after_log trace c.requires.calls c.requires.log)
-    (first_position_fault trace index c.in-Some-position_fault.fault c.loop-index.invariant.positions (c.in-Some-position_fault.ensures c.in-Reply.answer is))
+    let first = first_position_fault trace index c.in-Some-position_fault.fault c.loop-index.invariant.positions
+    (c.in-Some-position_fault.ensures c.in-Reply.answer is) in
+    let own = position_faults.only c.in-Some-position_fault.fault first.is_among in
+    first_from_any trace c.in-Some-position_fault.fault (omega arith)
+    (first_of_pass no_pages 4 IsPositionFault trace c.in-Some-position_fault.fault position_faults (after_log trace c.requires.calls c.requires.log) first)

@@ -1,23 +1,24 @@
-use Rattle.std.proofs.Common.{◌≡◌, ◌++◌, length, take, drop, sym, ap, subst, ◌∙◌, arith}
-use Rattle.std.proofs.Math.Seq.{take-append_seam}
+use Rattle.std.proofs.Common.{◌≡◌, refl, sym, subst, lit<}
 use Rattle.std.proofs.lemmas.Result.{err_from_is_err_and}
 use Rattle.std.specs.Prelude.{All}
 use Rattle.nr_trace.specs.Calls.{IsCall}
-use Rattle.nr_trace.specs.Laws.{HasCleanLog, IsFaultless}
+use Rattle.nr_trace.specs.Laws.{HasCleanLog, IsFaultlessFrom}
 use Rattle.nr_trace.specs.Orders.{recorded_order}
 use Rattle.nr_audit.specs.inside.LastEvents.{AreLastEvents}
-use Rattle.nr_audit.specs.inside.Search.{HasNone}
+use Rattle.nr_audit.specs.inside.Search.{HasNone, HasNoneFrom}
 use Rattle.nr_audit.specs.inside.Passes.{IsCallFault, IsLogFault, IsAnswerFault, IsDumpFault}
-use Rattle.nr_audit.proofs.FirstOfPasses.{none_of_format, after_calls, after_positions, after_floors, after_answers, after_dumps}
-use Rattle.nr_audit.proofs.FirstOfPasses.{clean_after_positions, faultless_after_all, refused_by_pass, refused_of, refused_in, call_faults, log_faults}
-use Rattle.nr_audit.proofs.FirstOfPasses.{answer_faults, dump_faults}
+use Rattle.nr_audit.proofs.FirstOfPasses.{none_of_format, after_calls, after_positions, before_answers, after_answers, after_dumps}
+use Rattle.nr_audit.proofs.FirstOfPasses.{clean_after_positions, faultless_after_all, refused_by_pass, refused_from_any, refused_of, refused_of_any, refused_in}
+use Rattle.nr_audit.proofs.FirstOfPasses.{call_faults, log_faults, answer_faults, dump_faults}
+use Rattle.nr_audit.proofs.ComparedDumps.{none_found}
 use Rattle.nr_audit.proofs.LastEvents.{all_calls}
 use Rattle.nr_audit.proofs.search.search.Goals as goal
 
 pub returns-in_err-history-clause-first : goal.returns-in_err-history-clause-first
 returns-in_err-history-clause-first c =
     let p = err_from_is_err_and c.from_residual.result c.from_residual.ensures.1 in
-    rw (p.1, p.2) (refused_by_pass 2 IsCallFault c.args.trace.now _ call_faults (none_of_format c.args.trace.now) c.in_err-history.ensures.first)
+    rw (p.1, p.2) (refused_from_any c.args.start.space 2 IsCallFault c.args.trace.now _ (lit< tt) call_faults (none_of_format c.args.trace.now)
+    c.in_err-history.ensures.first)
 
 pub returns-in_err-places-clause-first : goal.returns-in_err-places-clause-first
 returns-in_err-places-clause-first c =
@@ -25,7 +26,8 @@ returns-in_err-places-clause-first c =
     let same = c.in_ok-history.ensures.history in
     let t = c.in_ok-history.history in
     let calls = subst (λ t. HasNone IsCallFault t) (sym same) c.in_ok-history.ensures.clean in
-    rw (p.1, p.2) (refused_of t c.args.trace.now _ same (refused_by_pass 3 IsLogFault t _ log_faults (after_calls t calls) c.in_err-places.ensures.first))
+    rw (p.1, p.2) (refused_of c.args.start.space t c.args.trace.now _ same
+    (refused_from_any c.args.start.space 3 IsLogFault t _ (lit< tt) log_faults (after_calls t calls) c.in_err-places.ensures.first))
 
 pub check_replies-requires-clause-calls : goal.check_replies-requires-clause-calls
 check_replies-requires-clause-calls c = subst (λ t. HasNone IsCallFault t) (sym c.in_ok-history.ensures.history) c.in_ok-history.ensures.clean
@@ -33,7 +35,8 @@ check_replies-requires-clause-calls c = subst (λ t. HasNone IsCallFault t) (sym
 pub returns-in_err-standing-clause-first : goal.returns-in_err-standing-clause-first
 returns-in_err-standing-clause-first c =
     let p = err_from_is_err_and c.from_residual-in_err-standing.result c.from_residual-in_err-standing.ensures.1 in
-    rw (p.1, p.2) (refused_of c.in_ok-history.history c.args.trace.now _ c.in_ok-history.ensures.history c.in_err-standing.ensures.first)
+    rw (p.1, p.2) (refused_of c.args.start.space c.in_ok-history.history c.args.trace.now _ c.in_ok-history.ensures.history
+    (refused_of_any c.args.start.space c.in_ok-history.history _ c.in_err-standing.ensures.first))
 
 pub of-events-requires : goal.of-events-requires
 of-events-requires c =
@@ -56,38 +59,41 @@ check_answers-requires-clause-listed c =
     subst (λ t. AreLastEvents t (recorded_order t) events) c.in_ok-history.ensures.history
     (subst (λ order. AreLastEvents t order events) c.in_ok-order.ensures c.of-events.ensures)
 
+pub check_answers-requires-clause-none : goal.check_answers-requires-clause-none
+check_answers-requires-clause-none c = none_found c.args.start.space c.args.trace.now _ refl
+
 pub returns-in_err-order-2-clause-first : goal.returns-in_err-order-2-clause-first
 returns-in_err-order-2-clause-first c =
+    let start = c.args.start.space in
     let p = err_from_is_err_and c.from_residual-in_err-order-2.result c.from_residual-in_err-order-2.ensures.1 in
     let same = c.in_ok-history.ensures.history in
     let t = c.in_ok-history.history in
     let calls = subst (λ t. HasNone IsCallFault t) (sym same) c.in_ok-history.ensures.clean in
-    rw (p.1, p.2) (refused_of t c.args.trace.now _ same (refused_by_pass 6 IsAnswerFault t _ answer_faults
-    (after_floors t calls c.in_ok-places.ensures.clean c.in_ok-standing.ensures.clean.0 c.in_ok-standing.ensures.clean.1)
-    (refused_in IsAnswerFault c.args.trace.now t _ (sym same) c.in_err-order-2.ensures.first)))
-
-pub check_dumps-requires-clause-space : goal.check_dumps-requires-clause-space
-check_dumps-requires-clause-space c = c.in_ok-order-2.ensures.space
+    rw (p.1, p.2) (refused_of start t c.args.trace.now _ same (refused_by_pass start 6 IsAnswerFault t _ answer_faults
+    (before_answers t calls c.in_ok-places.ensures.clean c.in_ok-standing.ensures.clean.0 c.in_ok-standing.ensures.clean.1 start)
+    (refused_in start IsAnswerFault c.args.trace.now t _ (sym same) c.in_err-order-2.ensures.first)))
 
 pub returns-in_err-check_dumps-clause-first : goal.returns-in_err-check_dumps-clause-first
 returns-in_err-check_dumps-clause-first c =
+    let start = c.args.start.space in
     let p = err_from_is_err_and c.from_residual-in_err-check_dumps.result c.from_residual-in_err-check_dumps.ensures.1 in
     let same = c.in_ok-history.ensures.history in
     let t = c.in_ok-history.history in
     let calls = subst (λ t. HasNone IsCallFault t) (sym same) c.in_ok-history.ensures.clean in
-    let right = subst (λ t. HasNone IsAnswerFault t) (sym same) c.in_ok-order-2.ensures.right in
-    rw (p.1, p.2) (refused_of t c.args.trace.now _ same (refused_by_pass 7 IsDumpFault t _ dump_faults
-    (after_answers t calls c.in_ok-places.ensures.clean c.in_ok-standing.ensures.clean.0 c.in_ok-standing.ensures.clean.1 right)
-    (refused_in IsDumpFault c.args.trace.now t _ (sym same) c.in_err-check_dumps.ensures.first)))
+    let right = subst (λ t. HasNoneFrom start IsAnswerFault t) (sym same) c.in_ok-order-2.ensures.right in
+    rw (p.1, p.2) (refused_of start t c.args.trace.now _ same (refused_by_pass start 7 IsDumpFault t _ dump_faults
+    (after_answers t calls c.in_ok-places.ensures.clean c.in_ok-standing.ensures.clean.0 c.in_ok-standing.ensures.clean.1 start right)
+    (refused_in start IsDumpFault c.args.trace.now t _ (sym same) (c.in_err-check_dumps.ensures.first start
+    (record { whole = c.in_ok-order-2.ensures.space; found = c.in_ok-order-2.ensures.found })))))
 
 pub returns-clause-none : goal.returns-clause-none
 returns-clause-none c =
+    let start = c.args.start.space in
     let same = c.in_ok-history.ensures.history in
     let t = c.in_ok-history.history in
     let calls = subst (λ t. HasNone IsCallFault t) (sym same) c.in_ok-history.ensures.clean in
-    let right = subst (λ t. HasNone IsAnswerFault t) (sym same) c.in_ok-order-2.ensures.right in
-    let dumps = subst (λ t. HasNone IsDumpFault t) (sym same) c.in_ok-check_dumps.ensures.clean in (
-      subst (λ t. IsFaultless t) same (faultless_after_all t (after_dumps t calls c.in_ok-places.ensures.clean c.in_ok-standing.ensures.clean.0
-          c.in_ok-standing.ensures.clean.1 right dumps)),
-      c.in_ok-order-2.ensures.calls,
-    )
+    let right = subst (λ t. HasNoneFrom start IsAnswerFault t) (sym same) c.in_ok-order-2.ensures.right in
+    let dumps = subst (λ t. HasNoneFrom start IsDumpFault t) (sym same) (c.in_ok-check_dumps.ensures.clean start
+    (record { whole = c.in_ok-order-2.ensures.space; found = c.in_ok-order-2.ensures.found })) in
+    subst (λ t. IsFaultlessFrom start t) same (faultless_after_all start t (after_dumps t calls c.in_ok-places.ensures.clean
+    c.in_ok-standing.ensures.clean.0 c.in_ok-standing.ensures.clean.1 start right dumps))

@@ -1,4 +1,5 @@
 use Rattle.std.proofs.Common.{ℕ, length, ap, subst, sym, ◌∙◌}
+use Rattle.vs_types.specs.Space.{no_pages}
 use Rattle.nr_trace.specs.Faults.{IsFirst}
 use Rattle.nr_trace.specs.declared.fault.Fault.TheVariants.{WrongAnswer}
 use Rattle.nr_trace.proofs.LawsOfFaults.{clean_before_answers}
@@ -24,7 +25,7 @@ last_look-requires-clause-within c =
     few_seen c.args.trace.now c.args.index c.in-Some.reply c.requires c.in-Some.ensures.0 c.in-Some.ensures.1
 
 pub last_look-requires-clause-calls : goal.last_look-requires-clause-calls
-last_look-requires-clause-calls c = only_calls c.args.trace.now (clean_before_answers c.args.trace.now c.args.index c.requires)
+last_look-requires-clause-calls c = only_calls c.args.trace.now (clean_before_answers no_pages c.args.trace.now c.args.index c.requires)
 
 pub returns-clause-is : goal.returns-clause-is
 returns-clause-is c =

@@ -4,7 +4,7 @@ use Rattle.vs_types.specs.Config.{Layout}
 use Rattle.vs_types.specs.Space.{pages}
 use Rattle.vs_plain.specs.Plain.{BoundedSpace}
 use Rattle.nr_trace.specs.Orders.{space_after}
-use Rattle.nr_audit.specs.inside.Steps.{space_of}
+use Rattle.nr_audit.specs.Verdict.{space_of}
 use Rattle.nr_explain.proofs.Counting.{all_placed}
 use Rattle.nr_explain.proofs.counts.count.Goals as goal
 

@@ -1,0 +1,144 @@
+//! Traces whose address space doesn't begin empty.
+
+ghost use Rattle.std.specs.Prelude.{◌≡◌, IfOk};
+
+use crate::audit::trace_of;
+use crate::audit_cases::{
+    Case, EMPTY, EMPTY_LATE, Event, MAPPED, NOT_MAPPED, PAGE_EARLY, RESOLVE, RIGHT, UNMAP,
+};
+use nr_audit::{Judged, judge_from};
+use nr_trace::{Fault, Trace, read};
+use std::alloc::Global;
+use std::process::Abort;
+use std::test::Fail;
+use vs_plain::PlainSpace;
+use vs_types::{Op, Rights, Size};
+
+/// Call 0 saw no entry, and found its address mapped to 0x1123.
+const SEES_THE_PAGE: &[Event] = &[Event(RESOLVE, &[]), Event(MAPPED, &[(7, 0), (11, 0)])];
+
+/// Call 0, at place 0, removed the page, which was mapped to 0x1000.
+const UNMAPS_THE_PAGE: &[Event] = &[
+    Event(UNMAP, &[]),
+    Event(MAPPED, &[(1, 3), (7, 0), (11, 0), (22, 0x10), (23, 0)]),
+];
+
+const RESOLVED: Case = Case {
+    name: "begins with a page and resolves it",
+    config: [1, 4, 4],
+    log: &[],
+    events: SEES_THE_PAGE,
+    dumps: &[PAGE_EARLY],
+    verdict: Ok(&[0]),
+};
+
+const UNMAPPED: Case = Case {
+    name: "begins with a page and unmaps it",
+    log: &[0],
+    events: UNMAPS_THE_PAGE,
+    dumps: &[EMPTY_LATE],
+    ..RESOLVED
+};
+
+/// Each with how many pages the space has at the end, where the trace is right.
+static BEGUN_WITH_A_PAGE: [(Case, usize); 6] = [
+    (RESOLVED, 1),
+    (UNMAPPED, 0),
+    (
+        Case {
+            name: "begins with a page and denies it",
+            events: &[Event(RESOLVE, &[]), Event(NOT_MAPPED, &[(7, 0)])],
+            verdict: Err(Fault::WrongAnswer(0)),
+            ..RESOLVED
+        },
+        0,
+    ),
+    (
+        Case {
+            name: "a dump without the start",
+            events: &[],
+            dumps: &[EMPTY],
+            verdict: Err(Fault::Differs(0, 0x400000)),
+            ..RESOLVED
+        },
+        0,
+    ),
+    (
+        Case {
+            name: "a dump that lags has the page still",
+            dumps: &[EMPTY_LATE, PAGE_EARLY],
+            ..UNMAPPED
+        },
+        0,
+    ),
+    (
+        Case {
+            name: "a dump that lags without the start",
+            dumps: &[EMPTY_LATE, EMPTY],
+            verdict: Err(Fault::Differs(1, 0x400000)),
+            ..UNMAPPED
+        },
+        0,
+    ),
+];
+
+/// The space with the page that the cases begin with, of a trace's depth and limit of tables.
+fn space_with_page(rt: &impl Abort, alloc: Global, trace: &Trace) -> Result<PlainSpace, Fail>
+    ensures depth { IfOk result (λ space. space.depth ≡ trace.now.layout.depth) }
+    ensures limit { IfOk result (λ space. space.limit ≡ trace.now.layout.tables) }
+{
+    let config = trace.config();
+    let mut space = PlainSpace::new(alloc, config.tables(), config.depth());
+    let op = Op::map(config.depth(), 0x400000, Size::K4, 0x1000, Rights::ALL)?;
+    assert!(rt; op.fits(space.depth()));
+    space.apply(op)?;
+    Ok(space)
+}
+
+/// Holds what is found of a case against what is expected; gives the space at the end.
+fn expect_case(rt: &impl Abort, case: &Case, judged: Judged) -> Option<PlainSpace> {
+    match judged {
+        Judged::Right(order, space) => {
+            assert_eq!(rt; Ok(order.calls()), case.verdict, "{}", case.name);
+            Some(space)
+        }
+        Judged::Wrong(fault) => {
+            assert_eq!(rt; Err(fault), case.verdict, "{}", case.name);
+            None
+        }
+    }
+}
+
+#[test]
+fn begun_with_a_page(rt: HostRuntime) -> Result<(), Fail> {
+    let alloc = rt.alloc();
+    for (case, left) in &BEGUN_WITH_A_PAGE {
+        let trace = read(alloc, &trace_of(alloc, case)?)?;
+        let start = space_with_page(&rt, alloc, &trace)?;
+        if let Some(space) = expect_case(&rt, case, judge_from(alloc, &trace, start)?) {
+            assert_eq!(&rt; space.pages()?.len(), *left, "{}", case.name);
+        }
+    }
+    Ok(())
+}
+
+/// A trace goes on where another one ended.
+#[test]
+fn one_after_another(rt: HostRuntime) -> Result<(), Fail> {
+    let alloc = rt.alloc();
+    let first = read(alloc, &trace_of(alloc, &RIGHT)?)?;
+    let second = read(alloc, &trace_of(alloc, &UNMAPPED)?)?;
+    let config = first.config();
+    assert_eq!(&rt; second.config(), config);
+    let empty = PlainSpace::new(alloc, config.tables(), config.depth());
+    let Judged::Right(_, space) = judge_from(alloc, &first, empty)? else {
+        panic!(&rt; "the first is right")
+    };
+    assert_eq!(&rt; space.tables(), 4);
+    let Judged::Right(order, end) = judge_from(alloc, &second, space)? else {
+        panic!(&rt; "the second is right")
+    };
+    assert_eq!(&rt; Ok(order.calls()), UNMAPPED.verdict);
+    assert_eq!(&rt; end.tables(), 1);
+    Ok(())
+}
