@@ -22,6 +22,7 @@ pub enum Said {
 /// A call that was made, and what it was told.
 #[derive(Clone, Copy)]
 pub struct Made {
+    pub call: u32,
     pub query: Query,
     pub said: Said,
     /// How many batches it appended, as its gate was asked.

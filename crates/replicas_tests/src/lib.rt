@@ -15,6 +15,8 @@ mod dumps;
 #[cfg(test)]
 mod ends;
 #[cfg(test)]
+mod ends_at_once;
+#[cfg(test)]
 mod examples;
 #[cfg(test)]
 mod gate;

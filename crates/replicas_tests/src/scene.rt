@@ -3,6 +3,7 @@ ghost use Rattle.std.specs.Prelude.{◌≡◌, ◌≤◌, ◌+◌, All, IfOk, []
 ghost use Rattle.nr_ring.specs.Pass.{new_pass};
 
 use crate::caller::{Caller, Made};
+use crate::ends_at_once::make_to_the_end;
 use crate::gate::CountingGate;
 use crate::held::hold;
 use crate::steps::{Step, take_all};
@@ -25,6 +26,8 @@ pub enum Test<'s> {
     Steps(&'s [Step], &'s CountingGate, bool),
     /// A script for each thread, all at once.
     Scripts(Vec<Vec<Drawn>>),
+    /// Updates of all threads at once to the end of the log.
+    ToTheEnd,
     /// Steps of all threads at once, while the first is held at its gate, which then gives a signal.
     Hold(&'s [Step], Signal),
 }
@@ -122,6 +125,7 @@ fn make_calls<
             Ok((callers, Vec::new(alloc)))
         }
         Test::Scripts(scripts) => make_at_once(rt, alloc, callers, scripts),
+        Test::ToTheEnd => make_to_the_end(rt, alloc, callers),
         Test::Hold(steps, then) => {
             let callers = hold(rt, callers, steps, then)?;
             Ok((callers, Vec::new(alloc)))

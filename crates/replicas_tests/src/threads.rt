@@ -28,7 +28,7 @@ const EACH: u32 = 64;
 
 /// What the threads of a run share beside the replicas.
 #[derive(Drop)]
-struct Shared {
+pub struct Shared {
     threads: u64,
     /// How many threads have come to the start.
     come: AtomicU64,
@@ -37,7 +37,7 @@ struct Shared {
 }
 
 impl Shared {
-    fn new(threads: u64) -> Shared {
+    pub fn new(threads: u64) -> Shared {
         Shared {
             threads,
             come: AtomicU64::new(0),
@@ -46,7 +46,7 @@ impl Shared {
     }
 
     /// Waits until all threads have come.
-    fn start<R: Wait>(&self, rt: &R) {
+    pub fn start<R: Wait>(&self, rt: &R) {
         self.come.fetch_add(1, Ordering::SeqCst);
         let backoff = Backoff::new();
         for _ in rt.forever() {
@@ -69,8 +69,8 @@ impl Shared {
 /// A call to be made.
 #[derive(Clone, Copy)]
 pub struct Drawn {
-    query: Query,
-    turns: u32,
+    pub query: Query,
+    pub turns: u32,
 }
 
 /// What one thread of a run does.
@@ -84,7 +84,7 @@ struct Part<'a, J: LogName, K: ReplicasName> {
 }
 
 /// Makes one call. It knows of all entries that calls had told of before it.
-fn make<J: LogName, K: ReplicasName, R: Wait + Abort>(
+pub fn make<J: LogName, K: ReplicasName, R: Wait + Abort>(
     rt: &R,
     caller: &mut Caller<J, K>,
     shared: &Shared,
@@ -109,6 +109,7 @@ fn make<J: LogName, K: ReplicasName, R: Wait + Abort>(
     let [called, batches, answered] = open.asked();
     assert_eq!(rt; (called, answered), (0, 0));
     Made {
+        call,
         query: drawn.query,
         said,
         batches,
@@ -292,7 +293,7 @@ fn drawn_runs<R: Wait + Abort + Threads + Env + Alloc<A = Global> + Sync>(
 /// Each call is answered.
 #[test]
 fn drawn_calls(rt: HostRuntime) -> Result<(), Fail> {
-    let (runs, calls) = drawn_runs(&rt, 20, false)?;
+    let (runs, calls) = drawn_runs(&rt, 3, false)?;
     println!(rt; "{runs} runs, {calls} calls")?;
     Ok(())
 }
@@ -300,7 +301,7 @@ fn drawn_calls(rt: HostRuntime) -> Result<(), Fail> {
 /// Some calls are stopped, and then the updates of the same thread are refused; the other threads go on.
 #[test]
 fn drawn_calls_that_stop(rt: HostRuntime) -> Result<(), Fail> {
-    let (runs, calls) = drawn_runs(&rt, 10, true)?;
+    let (runs, calls) = drawn_runs(&rt, 3, true)?;
     println!(rt; "{runs} runs, {calls} calls")?;
     Ok(())
 }

@@ -1,6 +1,6 @@
 //! Worked examples of runs, with values from elsewhere: a run of four lines, an empty one, two threads that really run at once, reads at
-//! their own replica, the points at which a gate is asked, holds a thread or stops it, and a run each of whose growths of memory
-//! `tests/programs` refuses in turn. No crate stands on this one.
+//! their own replica, the points at which a gate is asked, holds a thread or stops it, how many turns a call has, and a run each of whose
+//! growths of memory `tests/programs` refuses in turn. No crate stands on this one.
 #![tactic(auto)]
 
 #[cfg(test)]
@@ -17,3 +17,5 @@ mod runs;
 mod scene;
 #[cfg(test)]
 mod scripts;
+#[cfg(test)]
+mod turns;

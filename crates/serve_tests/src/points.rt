@@ -63,27 +63,47 @@ fn batches_of_several_threads(rt: HostRuntime) -> Result<(), test::Fail> {
     Ok(())
 }
 
-/// Eight threads are held until each has made its call, so that all calls come before all replies. They map one page.
-#[test]
-fn all_threads_run_at_once(rt: HostRuntime) -> Result<(), test::Fail> {
-    let alloc = rt.alloc();
-    let scripts = scripts_of(alloc, 8, &[map_a(&rt)])?;
-    let shown = verified(&rt, alloc, 4, scripts, TURNS, &AllAtOnce::new(8))?;
-    let trace = shown.read(&rt, alloc);
-    assert_eq!(rt; trace.events().len(), 16);
+/// So many threads are held until each has made its call, so that all calls come before all replies. They map one page.
+fn run_at_once<R: Threads + Wait + Abort + Sync>(
+    rt: &R,
+    alloc: Global,
+    replicas: u8,
+    threads: u32,
+) -> Result<(), Fail<NoThread>> {
+    let scripts = scripts_of(alloc, threads, &[map_a(rt)])?;
+    let shown = verified(
+        rt,
+        alloc,
+        replicas,
+        scripts,
+        TURNS,
+        &AllAtOnce::new(threads),
+    )?;
+    let trace = shown.read(rt, alloc);
+    let calls = threads as usize;
     for (stamp, event) in trace.events().iter().enumerate() {
         let is_call = matches!(event.event(), Event::Call { .. });
-        assert_eq!(rt; is_call, stamp < 8, "event {stamp}");
+        assert_eq!(rt; is_call, stamp < calls, "event {stamp}");
     }
-    let mut done = 0u32;
+    let (mut done, mut overlaps) = (0usize, 0usize);
     for said in shown.answers.threads() {
         match said.as_slice() {
             [Said::Answer(_, Answer::Done)] => done = done.wrapping_add(1),
-            [Said::Answer(_, Answer::Overlap(0x400000))] => {}
+            [Said::Answer(_, Answer::Overlap(0x400000))] => overlaps = overlaps.wrapping_add(1),
             said => panic!(rt; "{said:?}"),
         }
     }
-    assert_eq!(rt; done, 1);
+    assert_eq!(rt; (done, overlaps), (1, calls.wrapping_sub(1)));
+    assert_eq!(rt; trace.events().len(), calls.wrapping_mul(2));
+    Ok(())
+}
+
+/// Eight threads, one more, and as many as there can be.
+#[test]
+fn all_threads_run_at_once(rt: HostRuntime) -> Result<(), test::Fail> {
+    for (replicas, threads) in [(4, 8), (1, 9), (3, 64)] {
+        run_at_once(&rt, rt.alloc(), replicas, threads)?;
+    }
     Ok(())
 }
 
