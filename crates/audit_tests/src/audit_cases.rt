@@ -259,7 +259,7 @@ pub static FORMATS: [Case; 7] = [
 ];
 
 /// One fault each of the calls and of the log.
-pub static CALLS: [Case; 8] = [
+pub static CALLS: [Case; 10] = [
     Case {
         name: "a thread's call is open",
         events: &[
@@ -290,6 +290,29 @@ pub static CALLS: [Case; 8] = [
             Event(MAPPED, &[(7, 0)]),
         ],
         verdict: Err(Fault::AnsweredTwice(3)),
+        ..RIGHT
+    },
+    Case {
+        name: "a right trace, and a second reply with another answer",
+        events: &[
+            Event(MAP, &[]),
+            Event(DONE, &[]),
+            Event(RESOLVE, &[]),
+            Event(MAPPED, &[]),
+            Event(NOT_MAPPED, &[(11, 1)]),
+        ],
+        verdict: Err(Fault::AnsweredTwice(4)),
+        ..RIGHT
+    },
+    Case {
+        name: "a reply before its call",
+        events: &[
+            Event(MAP, &[]),
+            Event(DONE, &[]),
+            Event(MAPPED, &[(7, 3)]),
+            Event(RESOLVE, &[]),
+        ],
+        verdict: Err(Fault::NoSuchCall(2)),
         ..RIGHT
     },
     Case {
