@@ -3,5 +3,4 @@ mod Dumped
 mod InTurn
 mod Keeping
 mod Lists
-mod PartsOfTraces
 mod Starting

@@ -1,22 +1,16 @@
 -- Runs of the protocol: any steps in turn, and what a recording of the state after them is.
-use Rattle.std.specs.Prelude.{◌≡◌, ℕ, List, map, Bool, true, false, ◌&&◌, unwrap_or, Option, Some, None, if◌then◌else◌}
-use Rattle.std.specs.List.{fold, list_all, AllZip}
+use Rattle.std.specs.Prelude.{◌≡◌, ◌↔◌, ℕ, List, map, Bool, true, false, unwrap_or, Option, Some, None}
+use Rattle.std.specs.List.{fold, AllZip}
 use Rattle.vs_types.specs.Config.{Layout}
 use Rattle.vs_types.specs.declared.depth.Depth.{Depth}
-use Rattle.vs_types.specs.declared.depth.Depth.TheVariants.{Four, Five}
-use Rattle.vs_types.specs.declared.answer.Answer.{Answer}
-use Rattle.vs_types.specs.declared.answer.Answer.TheVariants.{Allowed, Fault}
 use Rattle.vs_types.specs.declared.request.Query.{Query}
-use Rattle.vs_types.specs.declared.request.Query.TheVariants.{Access}
 use Rattle.vs_walk.specs.Differences.{IsStray}
 use Rattle.vs_walk.specs.Dump.{Image}
 use Rattle.vs_walk.specs.Traversal.{walk_fault}
 use Rattle.vs_walk.specs.Walk.{TranslatesAs}
 use Rattle.nr_trace.specs.Recording.{Recording}
-use Rattle.nr_trace.specs.declared.version.Version.{Version}
-use Rattle.nr_trace.specs.declared.version.Version.TheVariants.{V1, V2}
-use Rattle.nr_trace.specs.declared.event.Event.{Event}
-use Rattle.nr_trace.specs.declared.event.Event.TheVariants.{Call, Reply}
+use Rattle.nr_trace.specs.Versions.{FitsFirst}
+use Rattle.nr_trace.specs.declared.version.Version.TheVariants.{V1}
 use Rattle.nr_core.specs.State.{State, Replica, start}
 use Rattle.nr_core.specs.Steps.{after_step}
 use Rattle.nr_core.specs.declared.step.Step.{Step}
@@ -34,28 +28,6 @@ after_steps state steps = fold (λ before step. unwrap_or (after_step before ste
 abbrev pub IsReachable : State → Type 0
 IsReachable state = (layout : Layout) × (scripts : List (List Query)) × (steps : List Step) × (state ≡ after_steps (start layout scripts) steps)
 
--- whether version 1 of the format has the query, the answer, the event, the depth
-abbrev pub query_in_first : Query → Bool
-query_in_first (Access address mode access) = false
-query_in_first query = true
-
-abbrev pub answer_in_first : Answer → Bool
-answer_in_first (Allowed phys) = false
-answer_in_first (Fault code) = false
-answer_in_first answer = true
-
-abbrev pub event_in_first : Event → Bool
-event_in_first (Call replica thread request) = query_in_first request
-event_in_first (Reply call at answer) = answer_in_first answer
-
-abbrev pub depth_in_first : Depth → Bool
-depth_in_first Four = true
-depth_in_first Five = false
-
--- the version of the format in which a state is recorded: the first that has all of it
-abbrev pub version_of : State → Version
-version_of state = if depth_in_first state.layout.depth && list_all event_in_first state.events then V1 else V2
-
 -- a dump of a replica: it translates as its space, and its walk meets no fault and reaches each of its frames
 pub record IsDumpOfReplica (depth : Depth) (replica : Replica) (dump : Image) : Type 0 where
   pub applied : dump.applied ≡ replica.applied
@@ -63,9 +35,10 @@ pub record IsDumpOfReplica (depth : Depth) (replica : Replica) (dump : Image) : 
   pub faultless : walk_fault depth dump.frames dump.root ≡ None
   pub none_stray : (number : ℕ) → IsStray depth dump.frames dump.root number → ⊥
 
--- a recording of a state: its events, the call at each place of its log, and a dump of each replica
+-- a recording of a state: its events, the call at each place of its log, and a dump of each replica, in version 1 of the format where
+-- that knows the depth and each event
 pub record IsRecordingOf (state : State) (trace : Recording) : Type 0 where
-  pub version : trace.version ≡ version_of state
+  pub version : (trace.version ≡ V1) ↔ FitsFirst state.layout.depth state.events
   pub layout : trace.layout ≡ state.layout
   pub log : trace.log ≡ map (λ entry. entry.call) state.log
   pub events : trace.events ≡ state.events

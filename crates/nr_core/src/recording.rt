@@ -1,17 +1,16 @@
 //! A recording of the state.
-ghost use Rattle.std.specs.Prelude.{◌≡◌, ◌≤◌, ◌&&◌, All, IfOk, map, if◌then◌else◌};
-ghost use Rattle.std.specs.List.{list_all, AllZip};
+ghost use Rattle.std.specs.Prelude.{◌≡◌, All, IfOk, map};
+ghost use Rattle.std.specs.List.{AllZip};
 ghost use Rattle.nr_trace.specs.Parts.{HasFrames};
 ghost use Rattle.nr_trace.specs.Recording.{IsRecording};
-ghost use Rattle.nr_trace.specs.declared.version.Version.TheVariants.{V1, V2};
-ghost use Rattle.nr_core.specs.Run.{depth_in_first, event_in_first, IsDumpOfReplica, IsRecordingOf};
+ghost use Rattle.nr_core.specs.Run.{IsDumpOfReplica, IsRecordingOf};
 ghost use Rattle.nr_core.specs.inside.Parts.{replica_in, IsReplica};
 
 use crate::parts::ReplicaState;
 use crate::state::Core;
-use nr_trace::{Event, Recorded, Trace, Version};
+use nr_trace::{Trace, Version};
 use std::alloc::Global;
-use vs_types::{Answer, Config, Depth, LogEntry, Memory, Query};
+use vs_types::{Config, LogEntry, Memory};
 use vs_walk::Dump;
 
 impl Core {
@@ -25,7 +24,7 @@ impl Core {
         ensures recording { IfOk result (IsRecordingOf self.now) }
         ensures in_range { IfOk result IsRecording }
     {
-        let version = version_of(self.config, &self.events);
+        let version = Version::least(self.config.depth(), &self.events);
         let log = calls_in(self.alloc, &self.log)?;
         let mut events = Vec::new(self.alloc);
         events.extend_from_slice(&self.events)?;
@@ -34,39 +33,6 @@ impl Core {
             Ok(trace) => Ok(trace),
             Err(_) => unreachable!(),
         }
-    }
-}
-
-/// Whether version 1 of the format has the event.
-fn is_in_first(event: Event) -> bool
-    ensures { result ≡ event_in_first event }
-{
-    match event {
-        Event::Call { request, .. } => !matches!(request.query(), Query::Access(_, _, _)),
-        Event::Reply { answer, .. } => !matches!(answer, Answer::Allowed(_) | Answer::Fault(_)),
-    }
-}
-
-/// Whether version 1 of the format has all events.
-fn all_in_first(events: &[Recorded]) -> bool
-    ensures { result ≡ list_all event_in_first events.now }
-{
-    for event in events {
-        if !is_in_first(event.event()) {
-            return false;
-        }
-    }
-    true
-}
-
-/// Version 1 where it has the depth and all events, else version 2.
-fn version_of(config: Config, events: &[Recorded]) -> Version
-    ensures { result
-        ≡ (if depth_in_first config.depth && list_all event_in_first events.now then V1 else V2) }
-{
-    match config.depth() {
-        Depth::Four if all_in_first(events) => Version::V1,
-        _ => Version::V2,
     }
 }
 
