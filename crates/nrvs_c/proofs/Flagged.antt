@@ -16,7 +16,7 @@ use Rattle.vs_space.specs.Table.{IsTableOf}
 use Rattle.vs_space.proofs.FlaggedWords.{flagged_fits, flagged_zeros}
 use Rattle.vs_space.proofs.Flagged.{flagged_len, flagged_kept, flagged_space}
 use Rattle.nrvs_c.specs.Flags.{IsLentSameButFlags}
-use Rattle.nrvs_c.specs.Table.{depth_in, table_in, lent_status}
+use Rattle.nrvs_c.specs.Table.{depth_in, lent_table, lent_status}
 use Rattle.nrvs_c.specs.Call.{IsSound}
 use Rattle.nrvs_c.specs.declared.table.Table.{Table}
 
@@ -125,6 +125,6 @@ module _ (handle : Table) (words after : Words) (marks : List FrameMark) (are : 
     keeps = rw long (flagged_kept (depth_in handle) handle.root handle.base (length words) in_use _ was.keeps);
   }
 
-  pub space_stays : (lenders : Lenders) {space : Space} → IsTableOf (table_in lenders handle words marks) space
-      → IsTableOf (table_in lenders handle after marks) space
+  pub space_stays : (lenders : Lenders) {space : Space} → IsTableOf (lent_table lenders handle words marks) space
+      → IsTableOf (lent_table lenders handle after marks) space
   space_stays lenders of = rw long (flagged_space (depth_in handle) handle.root handle.base (length words) in_use lenders of)

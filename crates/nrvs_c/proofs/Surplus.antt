@@ -5,7 +5,7 @@ use Rattle.vs_types.specs.declared.op.Action.{Action}
 use Rattle.vs_types.specs.declared.answer.Answer.{Answer}
 use Rattle.vs_arena.specs.declared.mark.FrameMark.{FrameMark}
 use Rattle.vs_space.specs.Table.{PageTable, IsTableStep}
-use Rattle.nrvs_c.specs.Table.{IsOpen, table_in}
+use Rattle.nrvs_c.specs.Table.{IsOpen, lent_table}
 use Rattle.nrvs_c.specs.declared.table.Table.{Table}
 
 abbrev Words : Type 0
@@ -24,7 +24,7 @@ front k marks le = λ n within.
     ap (take n) (sym (take-append-drop k marks)) ∙ take-append-le n (take k marks) (drop k marks) long
 
 module _ (handle : Table) (words : Words) (marks other : List FrameMark) (agree : Agree (length words) marks other) where
-  same_table : handle.taken ≤ length words → table_in [] handle words marks ≡ table_in [] handle words other
+  same_table : handle.taken ≤ length words → lent_table [] handle words marks ≡ lent_table [] handle words other
   same_table within = rw (agree handle.taken within) refl
 
   still_open : length words ≤ length other → IsOpen handle words marks → IsOpen handle words other
@@ -53,14 +53,14 @@ open_with_more handle words after marks now more same_words same_marks is =
 -- and a step there is one with more
 pub step_with_more : {action : Action} {answer : Answer} (old new : Table) (words words' after : Words) (marks own marks' now more : List FrameMark)
     → own ≡ take (length words) marks → after ≡ words' → now ≡ marks' → IsOpen old words marks → IsOpen new words' marks'
-    → IsTableStep (table_in [] old words own) action answer (table_in [] new words' marks')
-    → IsTableStep (table_in [] old words marks) action answer (table_in [] new after (now ++ more))
+    → IsTableStep (lent_table [] old words own) action answer (lent_table [] new words' marks')
+    → IsTableStep (lent_table [] old words marks) action answer (lent_table [] new after (now ++ more))
 step_with_more {action} {answer} old new words words' after marks own marks' now more own_is same_words same_marks was is step =
-    let before : table_in [] old words own ≡ table_in [] old words marks = ap (λ (m : List FrameMark). table_in [] old words m) own_is
+    let before : lent_table [] old words own ≡ lent_table [] old words marks = ap (λ (m : List FrameMark). lent_table [] old words m) own_is
     ∙ sym (same_table old words marks (take (length words) marks) (front (length words) marks was.laid_out.marks_for_each) was.laid_out.taken_within) in
-    let behind : table_in [] new words' marks' ≡ table_in [] new after (now ++ more) =
+    let behind : lent_table [] new words' marks' ≡ lent_table [] new after (now ++ more) =
     same_table new words' marks' (marks' ++ more) (with_more (length words') marks' more is.laid_out.marks_for_each) is.laid_out.taken_within
-    ∙ ap (λ (m : List FrameMark). table_in [] new words' (m ++ more)) (sym same_marks)
-    ∙ ap (λ (w : Words). table_in [] new w (now ++ more)) (sym same_words) in
-    subst (λ (t : PageTable). IsTableStep t action answer (table_in [] new after (now ++ more))) before
-    (subst (λ (t : PageTable). IsTableStep (table_in [] old words own) action answer t) behind step)
+    ∙ ap (λ (m : List FrameMark). lent_table [] new words' (m ++ more)) (sym same_marks)
+    ∙ ap (λ (w : Words). lent_table [] new w (now ++ more)) (sym same_words) in
+    subst (λ (t : PageTable). IsTableStep t action answer (lent_table [] new after (now ++ more))) before
+    (subst (λ (t : PageTable). IsTableStep (lent_table [] old words own) action answer t) behind step)

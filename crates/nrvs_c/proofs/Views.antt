@@ -31,7 +31,7 @@ use Rattle.vs_space.specs.Held.{numbered}
 use Rattle.vs_space.specs.Table.{IsTableOf}
 use Rattle.vs_space.proofs.Numbered.{get_numbered, get_below_base, named, len_numbered}
 use Rattle.vs_space.proofs.Protects.{space_of}
-use Rattle.nrvs_c.specs.Table.{IsOpen, depth_in, table_in}
+use Rattle.nrvs_c.specs.Table.{IsOpen, depth_in, lent_table}
 use Rattle.nrvs_c.specs.declared.table.Table.{Table}
 use Rattle.nrvs_c.specs.inside.View.{lent_memory}
 
@@ -110,7 +110,7 @@ module _ (handle : Table) (words : List (List ℕ)) (marks : List FrameMark) (is
       (get_numbered handle.base in_use used.0 ∙ is_marked.got ∙ ap (λ (own : List ℕ). Some own) (words_at is_open.laid_out is_marked)) in
       lent_from handle.base words number used.0 used.1 ∙ slice_get-get_or words used.0 [] (was_lent is_open.laid_out is_marked) ∙ sym there ∙ got
 
-  pub answered : {space : Space} (address : ℕ) (end : Walk) → IsCanonical (depth_in handle) address → IsTableOf (table_in [] handle words marks) space
+  pub answered : {space : Space} (address : ℕ) (end : Walk) → IsCanonical (depth_in handle) address → IsTableOf (lent_table [] handle words marks) space
       → end ≡ walk (depth_in handle) (lent_memory handle.base words) handle.root address → answer_of end ≡ look space address
   answered {space} address end canonical of is =
       let walked = of.translates address canonical in
@@ -119,7 +119,7 @@ module _ (handle : Table) (words : List (List ℕ)) (marks : List FrameMark) (is
       let same = from_same (numbered handle.base in_use) (lent_memory handle.base words) among (levels (depth_in handle)) handle.root all_rights address none in
       ap answer_of (is ∙ same ∙ walked) ∙ answer_looked address (page_at space address)
 
-  pub counted : {space : Space} → IsTableOf (table_in [] handle words marks) space → handle.taken - handle.given ≡ table_count (depth_in handle) space
+  pub counted : {space : Space} → IsTableOf (lent_table [] handle words marks) space → handle.taken - handle.given ≡ table_count (depth_in handle) space
   counted {space} of =
       let tables = (space_of is_open.keeps.table of).counted in
       let frames = len_numbered handle.base in_use in

@@ -6,8 +6,8 @@ use Rattle.vs_types.specs.declared.op.Action.{Action}
 use Rattle.vs_types.specs.declared.answer.Answer.{Answer}
 use Rattle.vs_arena.specs.declared.mark.FrameMark.{FrameMark}
 use Rattle.vs_space.specs.Table.{IsTableOf, IsTableStep}
-use Rattle.nrvs_c.specs.Reply.{reply_of}
-use Rattle.nrvs_c.specs.Table.{depth_in, table_in, IsOpen, IsUsable}
+use Rattle.nrvs_c.specs.Reply.{reply_for}
+use Rattle.nrvs_c.specs.Table.{depth_in, lent_table, IsOpen, IsUsable}
 use Rattle.nrvs_c.specs.declared.reply.Reply.{Reply}
 use Rattle.nrvs_c.specs.declared.table.Table.{Table}
 
@@ -22,10 +22,10 @@ pub record Steps (old : Table) (words : List (List ℕ)) (marks : List FrameMark
   pub still_usable : IsUsable new words' marks'
   pub well_formed : action_fault (depth_in old) action ≡ None
   pub answer : Answer
-  pub replied : reply ≡ reply_of answer
-  pub step : IsTableStep (table_in [] old words marks) action answer (table_in [] new words' marks')
+  pub replied : reply ≡ reply_for answer
+  pub step : IsTableStep (lent_table [] old words marks) action answer (lent_table [] new words' marks')
 
 -- the handle can be used with the memory, and the reply is what is answered for the space of its page table
 pub record Tells (handle : Table) (words : List (List ℕ)) (marks : List FrameMark) (answer : Space → Answer) (reply : Reply) : Type 0 where
   pub usable : IsUsable handle words marks
-  pub replied : (space : Space) → IsTableOf (table_in [] handle words marks) space → reply ≡ reply_of (answer space)
+  pub replied : (space : Space) → IsTableOf (lent_table [] handle words marks) space → reply ≡ reply_for (answer space)

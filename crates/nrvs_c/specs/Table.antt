@@ -16,8 +16,8 @@ abbrev pub depth_in : Table → Depth
 depth_in handle = if nat_eq handle.levels 5 then Five else Four
 
 -- the page table of a handle, in the memory lent
-abbrev pub table_in : Lenders → Table → List (List ℕ) → List FrameMark → PageTable
-table_in lenders handle words marks =
+abbrev pub lent_table : Lenders → Table → List (List ℕ) → List FrameMark → PageTable
+lent_table lenders handle words marks =
     table_of lenders (depth_in handle) handle.root handle.base (length words) (frames_in handle.taken marks words)
 
 -- the numbers of a handle are in range: it has 4 or 5 levels; at most all of its frames were ever taken, and at most these given back; the

@@ -5,7 +5,7 @@ ghost use Rattle.vs_types.specs.Operation.{IsAction};
 ghost use Rattle.vs_types.specs.Space.{no_pages};
 ghost use Rattle.vs_types.specs.declared.limits.TheConstants.{TABLES};
 ghost use Rattle.vs_space.specs.Table.{IsTableOf, IsTableStep};
-ghost use Rattle.nrvs_c.specs.Table.{IsOpen, IsUsable, depth_in, table_in};
+ghost use Rattle.nrvs_c.specs.Table.{IsOpen, IsUsable, depth_in, lent_table};
 
 use crate::table::{Closed, Table, close, open};
 use vs_arena::{FRAME_WORDS, FrameMark, LentArena};
@@ -26,7 +26,7 @@ pub(crate) fn make(
     requires marked { length words.old ≤ length marks.old }
     ensures usable { IsUsable table.new words.new marks.new }
     ensures open { IsOpen table.new words.new marks.new }
-    ensures empty { IsTableOf (table_in [] table.new words.new marks.new) no_pages }
+    ensures empty { IsTableOf (lent_table [] table.new words.new marks.new) no_pages }
     ensures levels { table.new.levels ≡ levels depth }
     ensures same_base { table.new.base ≡ base }
     ensures surplus { drop (length words.old) marks.new ≡ drop (length words.old) marks.old }
@@ -47,8 +47,8 @@ pub(crate) fn apply(
     requires well_formed { IsAction (depth_in table.old) op }
     ensures usable { IsUsable table.new words.new marks.new }
     ensures open { IsOpen table.new words.new marks.new }
-    ensures step { IsTableStep (table_in [] table.old words.old marks.old) op result
-        (table_in [] table.new words.new marks.new) }
+    ensures step { IsTableStep (lent_table [] table.old words.old marks.old) op result
+        (lent_table [] table.new words.new marks.new) }
     ensures surplus { drop (length words.old) marks.new ≡ drop (length words.old) marks.old }
 {
     let (own, _) = marks.split_at_mut(words.len());
@@ -81,7 +81,7 @@ fn make_in<'a, 'b>(
     ensures same_marks { result.marks.ghost_name ≡ marks.entry.ghost_name }
     ensures usable { IsUsable result.table result.words.now result.marks.now }
     ensures open { IsOpen result.table result.words.now result.marks.now }
-    ensures empty { IsTableOf (table_in [] result.table result.words.now result.marks.now)
+    ensures empty { IsTableOf (lent_table [] result.table result.words.now result.marks.now)
         no_pages }
     ensures levels { result.table.levels ≡ levels depth }
     ensures same_base { result.table.base ≡ base }
@@ -106,8 +106,8 @@ fn apply_in<'a, 'b>(
     ensures same_marks { result.marks.ghost_name ≡ marks.entry.ghost_name }
     ensures usable { IsUsable result.table result.words.now result.marks.now }
     ensures open { IsOpen result.table result.words.now result.marks.now }
-    ensures step { IsTableStep (table_in [] table words.old marks.old) op result.answer
-        (table_in [] result.table result.words.now result.marks.now) }
+    ensures step { IsTableStep (lent_table [] table words.old marks.old) op result.answer
+        (lent_table [] result.table result.words.now result.marks.now) }
 {
     let mut space = open(table, words, marks);
     let answer = space.apply(op);

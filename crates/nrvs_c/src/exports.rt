@@ -18,7 +18,7 @@ ghost use Rattle.vs_types.specs.declared.page.Size.{Size};
 ghost use Rattle.vs_space.specs.Table.{IsTableOf};
 ghost use Rattle.nrvs_c.specs.Call.{IsSound, Steps, Tells};
 ghost use Rattle.nrvs_c.specs.Status.{new_status, status_if};
-ghost use Rattle.nrvs_c.specs.Table.{IsUsable, depth_in, lent_status, table_in};
+ghost use Rattle.nrvs_c.specs.Table.{IsUsable, depth_in, lent_status, lent_table};
 
 use crate::change::{apply, make};
 use crate::codes::{access_of, mode_of, rights_of, size_of};
@@ -44,7 +44,7 @@ pub extern "C" fn nrvs_table_new(
     ensures status { result ≡ new_status levels (length words.old) (length marks.old) base }
     ensures usable { result ≡ 0 → IsUsable table.new words.new marks.new }
     ensures sound { result ≡ 0 → IsSound table.new words.new marks.new }
-    ensures empty { result ≡ 0 → IsTableOf (table_in [] table.new words.new marks.new) no_pages }
+    ensures empty { result ≡ 0 → IsTableOf (lent_table [] table.new words.new marks.new) no_pages }
     ensures same_base { result ≡ 0 → table.new.base ≡ base }
     ensures levels { result ≡ 0 → table.new.levels ≡ levels }
     ensures refused_table { result ≢ 0 → table.new ≡ table.old }
@@ -309,7 +309,7 @@ pub extern "C" fn nrvs_table_tables(
     ensures status { IsUsable table.now words.now marks.now → result ≡ 0 }
     ensures usable { result ≡ 0 → IsUsable table.now words.now marks.now }
     ensures counts { result ≡ 0 → (space : spaces.Space)
-        → IsTableOf (table_in [] table.now words.now marks.now) space
+        → IsTableOf (lent_table [] table.now words.now marks.now) space
         → count.new ≡ table_count (depth_in table.now) space }
     ensures at_most { result ≡ 0 → count.new ≤ length words.now }
     ensures refused_count { result ≢ 0 → count.new ≡ count.old }

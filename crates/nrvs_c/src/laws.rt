@@ -7,7 +7,7 @@ ghost use Rattle.vs_arena.specs.declared.mark.FrameMark.{FrameMark};
 ghost use Rattle.vs_space.specs.Table.{IsTableOf};
 ghost use Rattle.nrvs_c.specs.Call.{IsSound};
 ghost use Rattle.nrvs_c.specs.Flags.{IsLentSameButFlags};
-ghost use Rattle.nrvs_c.specs.Table.{lent_status, table_in};
+ghost use Rattle.nrvs_c.specs.Table.{lent_status, lent_table};
 ghost use Rattle.nrvs_c.specs.declared.table.Table.{Table};
 
 /// A processor that walks the tables sets the accessed flag and the dirty flag in entries that are present. Where these flags
@@ -21,6 +21,6 @@ pub fn flags_keep_the_table()
         → IsLentSameButFlags words after → IsSound handle words marks → IsSound handle after marks }
     ensures same_space { (lenders : Lenders) (handle : Table) (words after : List (List ℕ))
         (marks : List FrameMark) (space : Space) → IsLentSameButFlags words after
-        → IsTableOf (table_in lenders handle words marks) space
-        → IsTableOf (table_in lenders handle after marks) space }
+        → IsTableOf (lent_table lenders handle words marks) space
+        → IsTableOf (lent_table lenders handle after marks) space }
 {}

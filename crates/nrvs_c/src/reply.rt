@@ -1,5 +1,5 @@
 ghost use Rattle.std.specs.Prelude.{◌≡◌};
-ghost use Rattle.nrvs_c.specs.Reply.{reply_of};
+ghost use Rattle.nrvs_c.specs.Reply.{reply_for};
 
 use vs_types::{Answer, Rights, Size};
 
@@ -20,7 +20,7 @@ pub struct Reply {
 impl Reply {
     /// The numbers of an answer.
     pub(crate) fn of(answer: Answer) -> Reply
-        ensures { result ≡ reply_of answer }
+        ensures { result ≡ reply_for answer }
     {
         match answer {
             Answer::Done | Answer::NotMapped => Reply::with(answer.code(), 0),

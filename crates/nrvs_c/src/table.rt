@@ -2,7 +2,7 @@
 ghost use Rattle.std.specs.Prelude.{◌≡◌, [], ◌∷◌, length};
 ghost use Rattle.vs_types.specs.Depth.{levels};
 ghost use Rattle.nrvs_c.specs.declared.table.TheConstants.{MADE};
-ghost use Rattle.nrvs_c.specs.Table.{IsOpen, depth_in, is_in_range, lent_status, table_in};
+ghost use Rattle.nrvs_c.specs.Table.{IsOpen, depth_in, is_in_range, lent_status, lent_table};
 
 use crate::status::{BAD_FRAMES, BAD_MARKS, NO_TABLE, OK};
 use vs_arena::{FRAME_WORDS, FrameMark, LentArena, LentParts};
@@ -92,7 +92,7 @@ pub(crate) fn open<'a, 'b>(
 ) -> Space<LentArena<'a, 'b>>
     requires { IsOpen table words.old marks.old }
     ensures { result
-        ≡ table_in (words.entry.ghost_name ∷ marks.entry.ghost_name ∷ []) table words.old
+        ≡ lent_table (words.entry.ghost_name ∷ marks.entry.ghost_name ∷ []) table words.old
         marks.old }
 {
     let store = LentArena::from_parts(LentParts {
@@ -116,7 +116,7 @@ pub(crate) fn close<'a, 'b>(space: Space<LentArena<'a, 'b>>) -> Closed<'a, 'b>
     ensures made { result.table.magic ≡ MADE }
     ensures levels { result.table.levels ≡ levels space.entry.depth }
     ensures frames { result.table.frames ≡ length result.words.now }
-    ensures same { table_in (result.words.ghost_name ∷ result.marks.ghost_name ∷ []) result.table
+    ensures same { lent_table (result.words.ghost_name ∷ result.marks.ghost_name ∷ []) result.table
         result.words.now result.marks.now
         ≡ space.entry }
 {

@@ -5,7 +5,7 @@ ghost use Rattle.vs_types.specs.Space as spaces;
 ghost use Rattle.vs_types.specs.Space.{table_count};
 ghost use Rattle.vs_types.specs.Step.{look};
 ghost use Rattle.vs_space.specs.Table.{IsTableOf};
-ghost use Rattle.nrvs_c.specs.Table.{IsOpen, depth_in, table_in};
+ghost use Rattle.nrvs_c.specs.Table.{IsOpen, depth_in, lent_table};
 ghost use Rattle.nrvs_c.specs.inside.View.{lent_memory};
 
 use crate::table::Table;
@@ -38,7 +38,8 @@ impl View<'_> {
         requires open { IsOpen self.now.table.now self.now.words.now self.now.marks.now }
         requires canonical { IsCanonical (depth_in self.now.table.now) address }
         ensures { (space : spaces.Space)
-            → IsTableOf (table_in [] self.now.table.now self.now.words.now self.now.marks.now) space
+            → IsTableOf (lent_table [] self.now.table.now self.now.words.now self.now.marks.now)
+            space
             → result ≡ look space address }
     {
         match translate(self, self.table.root, self.table.depth(), address) {
@@ -51,7 +52,8 @@ impl View<'_> {
     pub(crate) fn tables(&self) -> usize
         requires { IsOpen self.now.table.now self.now.words.now self.now.marks.now }
         ensures counts { (space : spaces.Space)
-            → IsTableOf (table_in [] self.now.table.now self.now.words.now self.now.marks.now) space
+            → IsTableOf (lent_table [] self.now.table.now self.now.words.now self.now.marks.now)
+            space
             → result ≡ table_count (depth_in self.now.table.now) space }
         ensures at_most { result ≤ length self.now.words.now }
     {

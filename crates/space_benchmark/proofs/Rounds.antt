@@ -3,7 +3,7 @@ use Rattle.std.proofs.Common.{◌≡◌, ℕ, suc, ◌+◌, ap, subst, ◌∙◌
 use Rattle.vs_types.specs.declared.depth.Depth.{Depth}
 use Rattle.vs_space.specs.Table.{PageTable, IsTableOf}
 use Rattle.space_benchmark.specs.declared.load.Load.{Load}
-use Rattle.space_benchmark.specs.Work.{Progress, after_round, after_rounds, start, IsRound}
+use Rattle.space_benchmark.specs.Work.{Progress, after_round, after_rounds, no_progress, IsRound}
 
 -- a page table and a sum are at this point
 pub record IsAt (depth : Depth) (limit : ℕ) (progress : Progress) (table : PageTable) (sum : ℕ) : Type 0 where
@@ -24,12 +24,12 @@ round_at depth limit progress load old new old_sum new_sum at round =
     (subst (λ l. P old.depth l progress.sum) at.same_limit (subst (λ s. P old.depth old.limit s) at.is_sum here))
 
 pub rounds_more : (depth : Depth) (limit : ℕ) (load : Load) (n : ℕ) (old new : PageTable) (old_sum new_sum : ℕ)
-    → IsAt depth limit (after_rounds depth limit load n start) old old_sum → IsRound old load old_sum new new_sum
-    → IsAt depth limit (after_rounds depth limit load (n + 1) start) new new_sum
+    → IsAt depth limit (after_rounds depth limit load n no_progress) old old_sum → IsRound old load old_sum new new_sum
+    → IsAt depth limit (after_rounds depth limit load (n + 1) no_progress) new new_sum
 rounds_more depth limit load n old new old_sum new_sum at round =
-    let next = round_at depth limit (after_rounds depth limit load n start) load old new old_sum new_sum at round in
+    let next = round_at depth limit (after_rounds depth limit load n no_progress) load old new old_sum new_sum at round in
     let one_more : suc n ≡ n + 1 = omega arith in
-    subst (λ k. IsAt depth limit (after_rounds depth limit load k start) new new_sum) one_more record {
+    subst (λ k. IsAt depth limit (after_rounds depth limit load k no_progress) new new_sum) one_more record {
       same_depth = ap (λ (t : PageTable). t.depth) round.same ∙ at.same_depth;
       same_limit = ap (λ (t : PageTable). t.limit) round.same ∙ at.same_limit;
       is_table = next.1;

@@ -39,8 +39,8 @@ pub record Progress : Type 0 where
   pub sum : ℕ
 
 -- operations, one after another
-abbrev pub after_steps : Depth → ℕ → List Action → Progress → Progress
-after_steps depth limit actions progress =
+abbrev pub after_operations : Depth → ℕ → List Action → Progress → Progress
+after_operations depth limit actions progress =
     record { space = after_all depth limit progress.space actions; sum = sum_of_steps depth limit progress.space progress.sum actions }
 
 -- resolves of addresses
@@ -54,8 +54,9 @@ after_count depth progress = record progress { sum = sum_with progress.sum (tabl
 -- one round: maps, the tables, resolves, protects, unmaps, the tables
 abbrev pub after_round : Depth → ℕ → Load → Progress → Progress
 after_round depth limit load progress =
-    after_count depth (after_steps depth limit load.unmaps.items
-    (after_steps depth limit load.protects.items (after_looks load.addresses.items (after_count depth (after_steps depth limit load.maps.items progress)))))
+    let after_maps = after_count depth (after_operations depth limit load.maps.items progress) in
+    let after_protects = after_operations depth limit load.protects.items (after_looks load.addresses.items after_maps) in
+    after_count depth (after_operations depth limit load.unmaps.items after_protects)
 
 -- one round on a page table: the table after it is that of the space after it, and the sum goes on with all that was answered
 pub record IsRound (old : PageTable) (load : Load) (old_sum : ℕ) (new : PageTable) (new_sum : ℕ) : Type 0 where
@@ -68,6 +69,6 @@ abbrev pub after_rounds : Depth → ℕ → Load → ℕ → Progress → Progre
 after_rounds depth limit load zero progress = progress
 after_rounds depth limit load (suc n) progress = after_round depth limit load (after_rounds depth limit load n progress)
 
--- the start: no pages, and 0
-abbrev pub start : Progress
-start = record { space = no_pages; sum = 0 }
+-- before the first round: no pages, and 0
+abbrev pub no_progress : Progress
+no_progress = record { space = no_pages; sum = 0 }

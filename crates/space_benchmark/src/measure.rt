@@ -4,7 +4,7 @@ ghost use Rattle.vs_types.specs.Depth.{IsCanonical};
 ghost use Rattle.vs_types.specs.Space as spaces;
 ghost use Rattle.vs_types.specs.Operation.{IsAction};
 ghost use Rattle.vs_space.specs.Table.{IsTableOf};
-ghost use Rattle.space_benchmark.specs.Work.{Applies, IsRound, IsWellFormed, after_rounds, start, sum_of_looks};
+ghost use Rattle.space_benchmark.specs.Work.{Applies, IsRound, IsWellFormed, after_rounds, no_progress, sum_of_looks};
 
 use crate::fault::ProgFault;
 use crate::load::{Load, all_fit};
@@ -114,7 +114,7 @@ pub fn measure<S: FrameStore + Drop>(
 ) -> Result<Measured, ProgFault>
     requires empty { S.frames store ≡ finite.empty }
     requires size { S.size store ≡ FRAMES }
-    ensures ok { IfOk result (λ measured. measured.sum.value ≡ (after_rounds load.now.depth FRAMES load.now rounds start).sum) }
+    ensures ok { IfOk result (λ measured. measured.sum.value ≡ (after_rounds load.now.depth FRAMES load.now rounds no_progress).sum) }
     ensures err { IfErr result (λ fault. (fault ≡ ProgFault.NoClock) ⊎ ((fault ≡ ProgFault.BadPage) × (IsWellFormed load.now → ⊥))) }
 {
     let depth = load.depth;
