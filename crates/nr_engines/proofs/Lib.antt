@@ -1,4 +1,3 @@
-pub mod Addresses
 pub mod Input
 pub mod Reports
 pub mod WholeInput

@@ -17,7 +17,7 @@ use Rattle.nr_audit.specs.declared.verdict.Verdict.{Verdict}
 use Rattle.nr_explain.specs.Units.{ReadsUnits}
 use Rattle.nr_explain.specs.declared.units.Unread.{Unread}
 use Rattle.nr_engines.specs.Text.{no_text, verdict_text, walk_text}
-use Rattle.nr_engines.specs.Addresses.{SpellsAddress}
+use Rattle.vs_text.specs.Words.{SpellsAddress}
 
 -- of `audit`: the text and the status are those of the verdict of these bytes; where it is yes they are right with its order
 pub record IsAudit (bytes text : List ℕ) (status : ℕ) : Type 0 where

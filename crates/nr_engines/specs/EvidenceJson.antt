@@ -15,9 +15,11 @@ use Rattle.nr_explain.specs.declared.evidence.Evidence.{Evidence}
 use Rattle.nr_explain.specs.declared.evidence.Evidence.TheVariants as evidence
 use Rattle.nr_explain.specs.declared.explaining.Explanation.{Explanation}
 use Rattle.nr_explain.specs.declared.explaining.Explanation.TheVariants.{Yes, No}
-use Rattle.nr_engines.specs.Text.{fault_text, format_text, hexadecimal, line_end, walk_words}
+use Rattle.vs_text.specs.Requests.{request_text}
+use Rattle.vs_text.specs.Words.{hexadecimal}
+use Rattle.nr_engines.specs.Text.{fault_text, format_text, line_end, walk_words}
 use Rattle.nr_engines.specs.RunText.{answer_text}
-use Rattle.nr_engines.specs.EvidenceText.{bytes_text, request_text, unit_text}
+use Rattle.nr_engines.specs.EvidenceText.{bytes_text, unit_text}
 
 abbrev pub number_data : ℕ → Data
 number_data n = number (unsigned n)

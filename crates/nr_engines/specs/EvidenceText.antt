@@ -2,9 +2,8 @@
 use Rattle.std.specs.Prelude.{ℕ, ◌/◌, ◌%◌, ◌++◌, false, List, [], ◌∷◌, length, take, codes, decimal, flat_map, Option, Some, None}
 use Rattle.std.specs.Fmt.{digits}
 use Rattle.vs_types.specs.declared.answer.Answer.{Answer}
-use Rattle.vs_types.specs.declared.op.Action.TheVariants.{Map, Unmap, Protect}
-use Rattle.vs_types.specs.declared.request.Query.{Query}
-use Rattle.vs_types.specs.declared.request.Query.TheVariants.{Update, Resolve, Access}
+use Rattle.vs_text.specs.Requests.{request_text}
+use Rattle.vs_text.specs.Words.{hexadecimal}
 use Rattle.nr_trace.specs.declared.event.Event.{Event}
 use Rattle.nr_trace.specs.declared.event.Event.TheVariants.{Call, Reply}
 use Rattle.nr_trace.specs.declared.fault.Format.{Format}
@@ -37,18 +36,8 @@ use Rattle.nr_explain.specs.declared.evidence.Evidence.{Evidence}
 use Rattle.nr_explain.specs.declared.evidence.Evidence.TheVariants as evidence
 use Rattle.nr_explain.specs.declared.explaining.Explanation.{Explanation}
 use Rattle.nr_explain.specs.declared.explaining.Explanation.TheVariants.{Yes, No}
-use Rattle.nr_engines.specs.Text.{hexadecimal, line_end, no_text, rights_text, size_text, space, walk_text, yes_text}
-use Rattle.nr_script.specs.Words.{access_text, mode_text}
+use Rattle.nr_engines.specs.Text.{line_end, no_text, walk_text, yes_text}
 use Rattle.nr_engines.specs.RunText.{answer_text}
-
--- what a call asks, as a script has it
-unfoldable pub request_text : Query → List ℕ
-request_text (Update (Map page)) = codes "map " ++ (size_text page.size ++ (space ++ (hexadecimal page.base ++ (space ++ (hexadecimal page.phys
-    ++ (space ++ rights_text page.rights))))))
-request_text (Update (Unmap base)) = codes "unmap " ++ hexadecimal base
-request_text (Update (Protect base rights)) = codes "protect " ++ (hexadecimal base ++ (space ++ rights_text rights))
-request_text (Resolve address) = codes "resolve " ++ hexadecimal address
-request_text (Access address mode access) = codes "access " ++ (mode_text mode ++ (space ++ (access_text access ++ (space ++ hexadecimal address))))
 
 -- the line of a call: its number, its thread, its replica and what it asks
 unfoldable pub call_line : RecordedCall → List ℕ

@@ -1,6 +1,5 @@
 pub mod Text
 pub mod RunText
-pub mod Addresses
 pub mod EvidenceText
 pub mod EvidenceJson
 pub mod Explained
@@ -12,6 +11,8 @@ pub mod Commands
 pub use Rattle.vs_types.specs.Config
 pub use Rattle.vs_types.specs.Depth
 pub use Rattle.vs_types.specs.Refusal
+pub use Rattle.vs_text.specs.Words
+pub use Rattle.vs_text.specs.Requests
 pub use Rattle.vs_walk.specs.Walk
 pub use Rattle.vs_walk.specs.Dump
 pub use Rattle.nr_trace.specs.Recording
@@ -24,5 +25,4 @@ pub use Rattle.nr_explain.specs.Explanation
 pub use Rattle.serde_json.specs.Written
 pub use Rattle.nr_core.specs.State
 pub use Rattle.nr_core.specs.Run
-pub use Rattle.nr_script.specs.Words
 pub use Rattle.nr_script.specs.Script

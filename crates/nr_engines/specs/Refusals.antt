@@ -1,6 +1,6 @@
 -- The program ends with no answer: why, its exit status, and what it tells standard error.
 use Rattle.std.specs.Prelude.{◌≡◌, ◌≢◌, ◌++◌, ℕ, List, codes, decimal, Option, Result, Ok, Err, IfErr, ⊤}
-use Rattle.nr_engines.specs.Addresses.{SpellsAddress}
+use Rattle.vs_text.specs.Words.{SpellsAddress}
 use Rattle.nr_engines.specs.Text.{line_end}
 use Rattle.nr_engines.specs.Answers.{IsReadOf, IsOutOfItsDepth, IsResolve, LacksReplica}
 use Rattle.nr_engines.specs.declared.fault.ProgFault.{ProgFault}

@@ -3,16 +3,11 @@ use Rattle.std.specs.Prelude.{ℕ, ◌++◌, List, codes, decimal}
 use Rattle.std.specs.List.{enumerate_from, flat_map}
 use Rattle.vs_types.specs.declared.answer.Answer.{Answer}
 use Rattle.vs_types.specs.declared.answer.Answer.TheVariants as answers
-use Rattle.vs_types.specs.declared.page.Rights.{Rights}
-use Rattle.vs_types.specs.declared.page.Size.{Size}
+use Rattle.vs_text.specs.Words.{hexadecimal, page_text, rights_text, space}
 use Rattle.nr_trace.specs.declared.fault.Fault.{Fault}
 use Rattle.nr_serve.specs.declared.said.Said.{Said}
 use Rattle.nr_serve.specs.declared.said.Said.TheVariants.{Answer as Answered, Stopped}
-use Rattle.nr_engines.specs.Text.{fault_text, hexadecimal, line_end, rights_text, size_text, space}
-
--- a page's physical address, its size and its rights
-abbrev pub page_text : ℕ → Size → Rights → List ℕ
-page_text phys size rights = hexadecimal phys ++ (space ++ (size_text size ++ (space ++ rights_text rights)))
+use Rattle.nr_engines.specs.Text.{fault_text, line_end}
 
 -- the name of an answer, and what it tells
 unfoldable pub answer_text : Answer → List ℕ

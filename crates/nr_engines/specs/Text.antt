@@ -1,9 +1,6 @@
 -- What the program prints of a fault and of a verdict: numbers in decimal, addresses in hexadecimal.
-use Rattle.std.specs.Prelude.{ℕ, Bool, false, ◌++◌, List, codes, decimal, flat_map, if◌then◌else◌}
-use Rattle.std.specs.Fmt.{digits}
-use Rattle.vs_types.specs.declared.page.Size.{Size}
-use Rattle.vs_types.specs.declared.page.Size.TheVariants.{K4, M2, G1}
-use Rattle.vs_types.specs.declared.page.Rights.{Rights}
+use Rattle.std.specs.Prelude.{ℕ, ◌++◌, List, codes, decimal, flat_map}
+use Rattle.vs_text.specs.Words.{hexadecimal, page_text, space}
 use Rattle.vs_walk.specs.declared.walk.Walk.{Walk}
 use Rattle.vs_walk.specs.declared.walk.Walk.TheVariants.{NotMapped, Reserved, Missing, Mapped}
 use Rattle.nr_audit.specs.declared.verdict.Verdict.{Verdict}
@@ -13,15 +10,8 @@ use Rattle.nr_trace.specs.declared.fault.Format.TheVariants as formats
 use Rattle.nr_trace.specs.declared.fault.Fault.{Fault}
 use Rattle.nr_trace.specs.declared.fault.Fault.TheVariants as faults
 
-abbrev pub space : List ℕ
-space = codes " "
-
 abbrev pub line_end : List ℕ
 line_end = codes "\n"
-
--- 0x and lower case digits
-abbrev pub hexadecimal : ℕ → List ℕ
-hexadecimal address = codes "0x" ++ digits 16 false address
 
 -- the name of a format fault, and its numbers
 unfoldable pub format_text : Format → List ℕ
@@ -70,25 +60,12 @@ abbrev pub verdict_text : Verdict → List ℕ
 verdict_text (Yes order) = yes_text order
 verdict_text (No fault) = no_text fault
 
-abbrev pub size_text : Size → List ℕ
-size_text K4 = codes "4K"
-size_text M2 = codes "2M"
-size_text G1 = codes "1G"
-
--- the letter of a right, or a dash where it is not given
-abbrev pub mark : Bool → List ℕ → List ℕ
-mark given letter = if given then letter else codes "-"
-
--- write, user, exec
-abbrev pub rights_text : Rights → List ℕ
-rights_text rights = mark rights.write (codes "w") ++ (mark rights.user (codes "u") ++ mark rights.exec (codes "x"))
-
 -- where a walk ends
 unfoldable pub walk_words : Walk → List ℕ
 walk_words NotMapped = codes "not mapped"
 walk_words Reserved = codes "reserved"
 walk_words Missing = codes "missing"
-walk_words (Mapped phys size rights) = codes "mapped " ++ (hexadecimal phys ++ (space ++ (size_text size ++ (space ++ rights_text rights))))
+walk_words (Mapped phys size rights) = codes "mapped " ++ page_text phys size rights
 
 -- its line
 abbrev pub walk_text : Walk → List ℕ

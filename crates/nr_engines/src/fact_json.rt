@@ -4,12 +4,12 @@ ghost use Rattle.std.specs.Prelude.{◌≡◌, IfOk, Some, map};
 ghost use Rattle.serde_json.specs.View.{view};
 ghost use Rattle.nr_engines.specs.EvidenceJson.{call_data, changed_data, event_data, option_data, reply_data, step_data, way_data};
 
-use crate::fact_text::request_text;
 use crate::run_text::answer_text;
 use nr_explain::{PlacedUpdate, RecordedCall, RecordedReply, Step};
 use nr_trace::Event;
 use serde_json::{Value, json};
 use std::alloc::{AllocError, Global};
+use vs_text::request_text;
 
 /// A number, or null where there is none.
 pub(crate) fn option_value(number: Option<u32>) -> Value

@@ -1,9 +1,9 @@
 //! The engines of the program, each over a reader and a writer: `audit_io` writes the verdict on a trace, `resolve_io` where an
 //! address leads in one of its dumps, `explain_io` the verdict and what shows a fault, and `simulate_io` the verdict on the
-//! protocol's core after the steps of a script. What is written is a function of what is read.
+//! protocol's core after the steps of a script: what these write is a function of what they read. `run_io` writes what came of its
+//! run of a script's threads.
 #![tactic(auto)]
 
-mod address;
 mod audit;
 mod command;
 mod ends;
@@ -32,7 +32,7 @@ pub use fault::ProgFault;
 pub use report::Report;
 pub use resolve::{resolve_io, resolve_read};
 pub use script_input::input_script;
-pub use served_run::run_io;
+pub use served_run::{Told, run_io, write_served};
 pub use setup::Setup;
 pub use simulate::simulate_io;
 pub use unit_input::read_units;

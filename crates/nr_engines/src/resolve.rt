@@ -1,9 +1,10 @@
 ghost use Rattle.std.specs.Prelude.{ℕ, IfOk, IfErr, List, MatchResult, string_bytes};
+ghost use Rattle.vs_types.specs.Finds.{Finds};
+ghost use Rattle.vs_text.specs.Words.{SpellsAddress};
 ghost use Rattle.nr_trace.specs.Feed.{Reads};
 ghost use Rattle.nr_engines.specs.Answers.{HasReadFew, IsResolve, IsWalk, WritesReport};
 ghost use Rattle.nr_engines.specs.Refusals.{IsWalkFault, IsResolveFault, WritesAnswersAlone};
 
-use crate::address::parse_address;
 use crate::ends::{read_trace, write_report};
 use crate::fault::ProgFault;
 use crate::report::Report;
@@ -11,8 +12,16 @@ use crate::text::{no_text, walk_text};
 use nr_trace::{Fault, Format, Trace};
 use std::alloc::Global;
 use std::io::{Read, Write};
+use vs_text::parse_address;
 use vs_types::Fail;
 use vs_walk::translate;
+
+/// The address that a word of the command line spells.
+fn spelled_address(word: &str) -> Option<u64>
+    ensures { Finds (SpellsAddress word.now) result }
+{
+    parse_address(word.as_bytes())
+}
 
 /// What `resolve` answers to what was read of an input: where the walk of the address ends in a replica's dump, with status 0;
 /// or the line of the format fault, with status 1. Takes memory for the text.
@@ -74,7 +83,7 @@ pub fn resolve_io<R: Read, W: Write>(
     ensures alone { WritesAnswersAlone writer.old writer.new result }
     ensures few { HasReadFew (R.remaining reader.old) (R.remaining reader.new) }
 {
-    let address = parse_address(address).ok_or(ProgFault::BadAddress)?;
+    let address = spelled_address(address).ok_or(ProgFault::BadAddress)?;
     let read = read_trace(alloc, reader)?;
     let report = resolve_read(alloc, read, address, replica)?;
     write_report(writer, &report)

@@ -1,45 +1,16 @@
 //! What `run` prints.
 ghost use Rattle.std.specs.Prelude.{◌≡◌, ◌++◌, IfOk, OnOk, List, ℕ, decimal, map, string_bytes};
 ghost use Rattle.std.specs.List.{flat_map};
-ghost use Rattle.nr_engines.specs.RunText.{answer_text, call_line, page_text, refused_text, said_text, verified_text};
-ghost use Rattle.nr_engines.specs.Text.{hexadecimal, rights_text};
+ghost use Rattle.vs_text.specs.Words.{hexadecimal};
+ghost use Rattle.nr_engines.specs.RunText.{answer_text, call_line, refused_text, said_text, verified_text};
 
-use crate::text::{fault_text, mark, size_text};
+use crate::text::fault_text;
 use itoa::Buffer;
 use nr_serve::Said;
 use nr_trace::Fault;
 use std::alloc::{AllocError, Global};
-use vs_types::{Answer, Rights, Size};
-
-/// Adds the letters of a page's rights.
-fn push_rights(text: &mut String, rights: Rights) -> Result<(), AllocError>
-    ensures { OnOk result
-        (string_bytes text.new ≡ string_bytes text.old ++ rights_text rights) }
-{
-    text.push_str(mark(rights.write, "w"))?;
-    text.push_str(mark(rights.user, "u"))?;
-    text.push_str(mark(rights.exec, "x"))
-}
-
-/// Adds an address in hexadecimal digits.
-fn push_address(text: &mut String, address: u64) -> Result<(), AllocError>
-    ensures { OnOk result
-        (string_bytes text.new ≡ string_bytes text.old ++ hexadecimal address) }
-{
-    write!(text, "0x{address:x}")
-}
-
-/// Adds a page's physical address, its size and its rights.
-fn push_page(text: &mut String, phys: u64, size: Size, rights: Rights) -> Result<(), AllocError>
-    ensures { OnOk result
-        (string_bytes text.new ≡ string_bytes text.old ++ page_text phys size rights) }
-{
-    push_address(text, phys)?;
-    text.push(' ')?;
-    text.push_str(size_text(size))?;
-    text.push(' ')?;
-    push_rights(text, rights)
-}
+use vs_text::{push_address, push_page, push_rights};
+use vs_types::Answer;
 
 /// Adds a word that ends with a space, and an address.
 fn push_told(text: &mut String, word: &str, address: u64) -> Result<(), AllocError>

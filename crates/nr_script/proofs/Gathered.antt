@@ -5,14 +5,17 @@ use Rattle.std.specs.List.{fold, position_from, AllZip}
 use Rattle.std.specs.Option.{option_or}
 use Rattle.std.proofs.lemmas.Grind.{flat_map-append}
 use Rattle.std.proofs.lemmas.List.Sums.{fold-append}
+use Rattle.vs_types.specs.declared.limits.TheConstants.{LOG_PLACES}
 use Rattle.vs_types.specs.declared.depth.Depth.{Depth}
 use Rattle.vs_types.specs.declared.request.Query.{Query}
 use Rattle.nr_core.specs.declared.step.Step.{Step}
+use Rattle.nr_script.specs.declared.script.TheConstants.{SCRIPT_STEPS}
 use Rattle.nr_script.specs.Lines.{Says}
 use Rattle.nr_script.specs.Script.{asked, first_step_in, is_step, request_in, step_in, steps_of, thread_count, IsWithinLimits}
 use Rattle.nr_script.specs.declared.line.Line.{Line}
 use Rattle.nr_script.specs.declared.reading.Reading.{Reading}
-use Rattle.nr_script.specs.Words.{lines, parts}
+use Rattle.nr_script.specs.Lines.{lines}
+use Rattle.vs_text.specs.Words.{parts}
 use Rattle.nr_script.specs.Script.{IsBadAfter, IsBadLine}
 use Rattle.nr_script.specs.declared.line.Line.TheVariants as says
 use Rattle.nr_script.specs.inside.Left.{parts_left}
@@ -126,7 +129,7 @@ pub read_more : (said : List Line) (old new : Reading) (it : Line) (number : ℕ
     → new.asked ≡ old.asked + length (request_in it) → new.threads ≡ fold (λ most asked. max most (asked.0 + 1)) old.threads (request_in it)
     → map (λ list. list.items) new.lists.items ≡ shares (asked said ++ request_in it)
     → new.steps.items ≡ old.steps.items ++ step_in it → new.first_step ≡ option_or old.first_step (cond (is_step it) (Some number) None)
-    → new.asked ≤ 65536 → length new.steps.items ≤ 1000000 → IsReadSoFar (said ++ it ∷ []) new
+    → new.asked ≤ LOG_PLACES → length new.steps.items ≤ SCRIPT_STEPS → IsReadSoFar (said ++ it ∷ []) new
 unfolding higher
 read_more said old new it number kept is asked_is threads_is lists_are steps_is first_is few_asked few_steps =
     let all_asked = asked_more said it in
@@ -142,18 +145,18 @@ read_more said old new it number kept is asked_is threads_is lists_are steps_is 
       first_step_is =
           first_is ∙ ap (λ (first : Option ℕ). option_or first (cond (is_step it) (Some number) None)) kept.first_step_is ∙ sym (first_more said it number is);
       within_limits = record {
-        requests = subst (λ (n : ℕ). n ≤ 65536) count few_asked;
-        steps = subst (λ (them : List Step). length them ≤ 1000000) all_steps few_steps;
+        requests = subst (λ (n : ℕ). n ≤ LOG_PLACES) count few_asked;
+        steps = subst (λ (them : List Step). length them ≤ SCRIPT_STEPS) all_steps few_steps;
       };
     }
 
 -- a request or a step past the limit
-pub past_requests : (said : List Line) (old : Reading) (thread : ℕ) (query : Query) (it : Line) → request_in it ≡ (thread, query) ∷ [] → IsReadSoFar said old → 65536 ≤ old.asked
+pub past_requests : (said : List Line) (old : Reading) (thread : ℕ) (query : Query) (it : Line) → request_in it ≡ (thread, query) ∷ [] → IsReadSoFar said old → LOG_PLACES ≤ old.asked
     → IsWithinLimits (said ++ it ∷ []) → ⊥
 past_requests said old thread query it is kept full within =
     omega (arith, ap length (asked_more said it), ap length is, kept.asked_is, within.requests, length-append {A = ℕ × Query})
 
-pub past_steps : (said : List Line) (old : Reading) (step : Step) (it : Line) → step_in it ≡ step ∷ [] → IsReadSoFar said old → 1000000 ≤ length old.steps.items
+pub past_steps : (said : List Line) (old : Reading) (step : Step) (it : Line) → step_in it ≡ step ∷ [] → IsReadSoFar said old → SCRIPT_STEPS ≤ length old.steps.items
     → IsWithinLimits (said ++ it ∷ []) → ⊥
 past_steps said old step it is kept full within =
     omega (arith, ap length (steps_more said it), ap length is, ap length kept.steps_are, within.steps, length-append {A = Step})
@@ -165,10 +168,10 @@ zip_more R [] (y' ∷ ys) x y all last = absurd all
 zip_more R (x' ∷ xs) [] x y all last = absurd all
 zip_more R (x' ∷ xs) (y' ∷ ys) x y all last = (all.0, zip_more R xs ys x y all.1 last)
 
-few_steps_kept : (said : List Line) (reading : Reading) → IsReadSoFar said reading → length reading.steps.items ≤ 1000000
-few_steps_kept said reading kept = subst (λ (them : List Step). length them ≤ 1000000) (sym kept.steps_are) kept.within_limits.steps
+few_steps_kept : (said : List Line) (reading : Reading) → IsReadSoFar said reading → length reading.steps.items ≤ SCRIPT_STEPS
+few_steps_kept said reading kept = subst (λ (them : List Step). length them ≤ SCRIPT_STEPS) (sym kept.steps_are) kept.within_limits.steps
 
-few_asked_kept : (said : List Line) (reading : Reading) → IsReadSoFar said reading → reading.asked ≤ 65536
+few_asked_kept : (said : List Line) (reading : Reading) → IsReadSoFar said reading → reading.asked ≤ LOG_PLACES
 few_asked_kept said reading kept = omega (arith, kept.asked_is, kept.within_limits.requests)
 
 -- there is a list for each of the most threads
@@ -188,23 +191,23 @@ read_passed_over said reading number kept is =
 pub read_request : (said : List Line) (old new : Reading) (thread : ℕ) (query : Query) (number : ℕ) → IsReadSoFar said old → number ≡ length said + 1
     → thread < 64 → new.threads ≡ max old.threads (thread + 1) → new.asked ≡ old.asked + 1
     → map (λ list. list.items) new.lists.items ≡ with_request thread query (map (λ list. list.items) old.lists.items)
-    → new.steps ≡ old.steps → new.first_step ≡ old.first_step → old.asked < 65536
+    → new.steps ≡ old.steps → new.first_step ≡ old.first_step → old.asked < LOG_PLACES
     → IsReadSoFar (said ++ says.Request thread query ∷ []) new
 read_request said old new thread query number kept is within threads_is asked_is lists_are steps_is first_is few =
     read_more said old new (says.Request thread query) number kept is asked_is threads_is
     (lists_are ∙ ap (with_request thread query) kept.lists_are ∙ shares_more (asked said) thread query within)
     (ap (λ (them : Vec Step Global). them.items) steps_is ∙ sym (append-nil old.steps.items)) (first_is ∙ sym (or_none old.first_step))
     (omega (arith, asked_is))
-    (subst (λ (them : Vec Step Global). length them.items ≤ 1000000) (sym steps_is) (few_steps_kept said old kept))
+    (subst (λ (them : Vec Step Global). length them.items ≤ SCRIPT_STEPS) (sym steps_is) (few_steps_kept said old kept))
 
 pub read_step : (said : List Line) (old new : Reading) (step : Step) (number : ℕ) → IsReadSoFar said old → number ≡ length said + 1
     → new.threads ≡ old.threads → new.asked ≡ old.asked → new.lists ≡ old.lists → new.steps.items ≡ old.steps.items ++ step ∷ []
-    → new.first_step ≡ option_or old.first_step (Some number) → length old.steps.items < 1000000
+    → new.first_step ≡ option_or old.first_step (Some number) → length old.steps.items < SCRIPT_STEPS
     → IsReadSoFar (said ++ says.Step step ∷ []) new
 read_step said old new step number kept is threads_is asked_is lists_is steps_is first_is few =
     read_more said old new (says.Step step) number kept is (asked_is ∙ sym (add-zero old.asked)) threads_is
     (ap (λ (them : Vec (Vec Query Global) Global). map (λ list. list.items) them.items) lists_is ∙ same_shares said old kept) steps_is first_is
-    (subst (λ (n : ℕ). n ≤ 65536) (sym asked_is) (few_asked_kept said old kept))
+    (subst (λ (n : ℕ). n ≤ LOG_PLACES) (sym asked_is) (few_asked_kept said old kept))
     (omega (arith, ap length steps_is, length-append {A = Step}))
 
 -- no text has more lines than bytes, but for one

@@ -5,19 +5,16 @@ use Rattle.std.specs.Borrow.{Bor}
 use Rattle.std.proofs.lemmas.List.{length-take, take_all, take_rest}
 use Rattle.vs_types.specs.Finds.{Finds}
 use Rattle.vs_types.specs.declared.depth.Depth.{Depth}
-use Rattle.vs_types.specs.declared.op.Action.TheVariants.{Map, Unmap, Protect}
 use Rattle.vs_types.specs.declared.request.Query.{Query}
-use Rattle.vs_types.specs.declared.request.Query.TheVariants as queries
 use Rattle.nr_core.specs.declared.step.Act.{Act}
 use Rattle.nr_core.specs.declared.step.Act.TheVariants.{Call, Post, Take, Collect, Append, Advance, Apply, Answer, Release, Look, Read, Reply}
 use Rattle.nr_core.specs.declared.step.Step.{Step}
 use Rattle.nr_script.specs.Lines.{act_words, Says, SpellsRequest, SpellsStep}
-use Rattle.nr_script.specs.Requests.{AreArguments}
-use Rattle.nr_script.specs.Words.{words}
+use Rattle.vs_text.specs.Words.{texts, words}
+use Rattle.vs_text.proofs.OneRequest.{few_words_of_request}
 use Rattle.nr_script.specs.declared.line.Line.{Line}
 use Rattle.nr_script.specs.declared.line.Line.TheVariants as says
 use Rattle.nr_script.specs.inside.InWords.{SaysInWords}
-use Rattle.nr_script.specs.inside.Left.{texts}
 use Rattle.nr_script.proofs.Numbers.{digits_of_number, length_of_number}
 
 -- "step" is no number
@@ -35,6 +32,13 @@ pub split_off : (them : List (Bor (List ℕ))) (d : Bor (List ℕ)) → 1 ≤ le
     → texts them ≡ (get_or them 0 d).now ∷ texts (take (length them - 1) (drop 1 them))
 split_off them d some =
     texts_of_all them d some ∙ ap (λ (rest : List (Bor (List ℕ))). (get_or them 0 d).now ∷ texts rest) (sym (take_rest them 1))
+
+-- the words after the first
+pub rest_of : (them : List (Bor (List ℕ))) (first : List ℕ) (others : List (List ℕ)) → texts them ≡ first ∷ others
+    → texts (take (length them - 1) (drop 1 them)) ≡ others
+rest_of [] first others same = absurd (omega (arith, ap length same))
+rest_of (word ∷ them) first others same =
+    ap (λ (rest : List (Bor (List ℕ))). texts rest) (take_rest (word ∷ them) 1) ∙ ap (λ (parts : List (List ℕ)). drop 1 parts) same
 
 -- after "step" there is no request
 pub no_step : (depth : Depth) (them rest : List (List ℕ)) → them ≡ codes "step" ∷ rest → ((step : Step) → SpellsStep (codes "step" ∷ rest) step → ⊥)
@@ -55,13 +59,6 @@ no_request depth first them rest same other none (says.Step step) said =
     other (cc joined)
 
 -- no line that says something has more than six words
-few_arguments : (query : Query) (arguments : List (List ℕ)) → AreArguments arguments query → length arguments < 5
-few_arguments (queries.Update (Map page)) arguments are = omega (arith, ap length are.words_are)
-few_arguments (queries.Update (Unmap base)) arguments are = omega (arith, ap length are.words_are)
-few_arguments (queries.Update (Protect base rights)) arguments are = omega (arith, ap length are.words_are)
-few_arguments (queries.Resolve address) arguments are = omega (arith, ap length are.words_are)
-few_arguments (queries.Access address mode access) arguments are = omega (arith, ap length are.words_are)
-
 few_acts : (act : Act) → length (act_words act) < 3
 few_acts Call = omega arith
 few_acts Post = omega arith
@@ -79,7 +76,7 @@ few_acts Reply = omega arith
 few_words : (depth : Depth) (them : List (List ℕ)) (it : Line) → SaysInWords depth them it → length them < 7
 few_words depth them says.PassedOver said = absurd said
 few_words depth them (says.Request thread query) said =
-    let few = few_arguments query said.arguments said.arguments_are in
+    let few = few_words_of_request depth said.asks query said.query_is in
     omega (arith, ap length said.words_are)
 few_words depth them (says.Step step) said =
     let few = few_acts step.act in

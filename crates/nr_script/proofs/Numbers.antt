@@ -1,7 +1,9 @@
 -- The decimal text of a number below 64: one digit, or two of which the first is not 0.
-use Rattle.std.proofs.Common.{◌≡◌, ℕ, ◌+◌, ◌/◌, ◌%◌, ◌<◌, ◌≤◌, ◌⊎◌, ◌++◌, List, [], ◌∷◌, length, decimal, sym, ap, ◌∙◌, arith, inl, inr}
+use Rattle.std.proofs.Common.{◌≡◌, ℕ, ◌+◌, ◌/◌, ◌%◌, ◌<◌, ◌≤◌, ◌⊎◌, ◌==◌, ◌++◌, false, List, [], ◌∷◌, length, decimal, refl, sym, ap, subst, ◌∙◌, arith, inl, inr}
 use Rattle.std.proofs.lemmas.Bool.{cases_lt}
+use Rattle.std.proofs.lemmas.Bool.Decides.{nat_tests}
 use Rattle.std.proofs.lemmas.Fmt.{decimal_digit, decimal_step}
+use Rattle.vs_text.proofs.Cuts.{HasNoSpace}
 
 decimal_of_two : (n : ℕ) → 10 ≤ n → n < 64 → decimal n ≡ (48 + n / 10) ∷ (48 + n % 10) ∷ []
 decimal_of_two n low high =
@@ -36,4 +38,14 @@ pub two_digits : (n tens digit : ℕ) → n < 64 → tens ∷ digit ∷ [] ≡ d
 two_digits n tens digit small same = elim (digits_of_number n (tens ∷ digit ∷ []) small same) [
   | inl one ↦ absurd (omega (arith, ap length one.1))
   | inr two ↦ (two.0, cc (two.1), cc (two.1))
+]
+
+-- no digit is a space
+digit_alone : (digit : ℕ) → digit < 10 → (48 + digit == 32) ≡ false
+digit_alone digit small = grind (arith, nat_tests)
+
+pub number_alone : (n : ℕ) → n < 64 → HasNoSpace (decimal n)
+number_alone n small = elim (digits_of_number n (decimal n) small refl) [
+  | inl one ↦ subst HasNoSpace (sym one.1) (digit_alone n one.0, tt)
+  | inr two ↦ subst HasNoSpace (sym two.1) (digit_alone (n / 10) (omega arith), (digit_alone (n % 10) (omega arith), tt))
 ]

@@ -7,7 +7,7 @@ use Rattle.vs_types.specs.declared.request.Query.{Query}
 use Rattle.nr_core.specs.declared.step.Step.{Step}
 use Rattle.nr_script.specs.Lines.{IsPassedOver, Says}
 use Rattle.nr_script.specs.Script.{asked, request_in, step_in, steps_of, IsBadLine, IsScript, IsWithinLimits}
-use Rattle.nr_script.specs.Words.{words}
+use Rattle.vs_text.specs.Words.{words}
 use Rattle.nr_script.specs.declared.line.Line.{Line}
 use Rattle.nr_script.specs.declared.line.Line.TheVariants as says
 use Rattle.nr_script.specs.declared.script.Script.{Script}
@@ -40,7 +40,8 @@ passed_over line first second others (inr comment) same =
 
 pub not_request : (depth : Depth) (line : List ℕ) (thread : ℕ) (query : Query) → IsPassedOver line → Says depth line (says.Request thread query) → ⊥
 not_request depth line thread query over said =
-    let first = passed_over line (decimal thread) _ said.arguments over said.words_are in
+    let all = said.words_are ∙ ap (λ (asks : List (List ℕ)). decimal thread ∷ asks) said.query_is.words_are in
+    let first = passed_over line (decimal thread) _ said.query_is.arguments over all in
     no_mark thread first.0 said.thread_fits (sym first.1)
 
 pub not_step : (depth : Depth) (line : List ℕ) (step : Step) → IsPassedOver line → Says depth line (says.Step step) → ⊥

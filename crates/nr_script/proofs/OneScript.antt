@@ -1,7 +1,7 @@
 -- A line says one thing at most, and so a text is one script at most.
-use Rattle.std.proofs.Common.{◌≡◌, ℕ, ◌+◌, ◌*◌, ◌<◌, ◌==◌, List, [], ◌∷◌, decimal, drop, get_or, refl, sym, ap, ap₂, subst, ◌∙◌, arith}
+use Rattle.std.proofs.Common.{◌≡◌, ℕ, ◌<◌, ◌==◌, List, [], ◌∷◌, decimal, drop, get_or, refl, sym, ap, ap₂, subst, ◌∙◌, arith}
 use Rattle.std.specs.Prelude.{if◌then◌else◌}
-use Rattle.std.specs.List.{fold, AllZip}
+use Rattle.std.specs.List.{AllZip}
 use Rattle.std.proofs.lemmas.Fmt.{decimal_injective}
 use Rattle.vs_types.specs.declared.depth.Depth.{Depth}
 use Rattle.vs_types.specs.declared.request.Query.{Query}
@@ -9,36 +9,13 @@ use Rattle.nr_core.specs.declared.step.Act.{Act}
 use Rattle.nr_core.specs.declared.step.Act.TheVariants.{Call, Post, Take, Collect, Append, Advance, Apply, Answer, Release, Look, Read, Reply}
 use Rattle.nr_core.specs.declared.step.Step.{Step}
 use Rattle.nr_script.specs.Lines.{act_number, act_words, Says, SpellsRequest, SpellsStep}
-use Rattle.nr_script.specs.Requests.{name_of, name_text, AreArguments}
+use Rattle.vs_text.specs.Requests.{SpellsQuery}
 use Rattle.nr_script.specs.declared.line.Line.{Line}
 use Rattle.nr_script.specs.declared.line.Line.TheVariants as says
-use Rattle.nr_script.specs.declared.request.Name.{Name}
-use Rattle.nr_script.specs.declared.request.Name.TheVariants as names
-use Rattle.nr_script.proofs.ByName.{access_kind, map_kind, protect_kind, resolve_kind, unmap_kind, Kind}
+use Rattle.vs_text.proofs.OneRequest.{one_request, word_number}
 use Rattle.nr_script.proofs.OneReading.{not_both, not_request, not_step}
 
--- the number that the letters of a word make, which tells the words of names and of acts apart
-abbrev word_number : List ℕ → ℕ
-word_number word = fold (λ number letter. number * 256 + letter) 0 word
-
-abbrev name_at : ℕ → Name
-name_at word =
-    if word == 0x6d6170 then names.Map
-    else if word == 0x756e6d6170 then names.Unmap
-    else if word == 0x70726f74656374 then names.Protect
-    else if word == 0x7265736f6c7665 then names.Resolve
-    else names.Access
-
-found_name : (name : Name) → name_at (word_number (name_text name)) ≡ name
-found_name names.Map = refl
-found_name names.Unmap = refl
-found_name names.Protect = refl
-found_name names.Resolve = refl
-found_name names.Access = refl
-
-same_name : (a b : Name) → name_text a ≡ name_text b → a ≡ b
-same_name a b same = sym (found_name a) ∙ ap (λ (word : List ℕ). name_at (word_number word)) same ∙ found_name b
-
+-- the letters of its first word tell acts apart
 abbrev act_at : ℕ → ℕ → Act
 act_at word number =
     if word == 0x63616c6c then Call
@@ -92,29 +69,13 @@ same_act a b same p q =
     let number = same_number (act_number a) (act_number b) p q numbers in
     sym (found_act a) ∙ ap₂ (λ (word : List ℕ) (of : ℕ). act_at (word_number word) of) words number ∙ found_act b
 
-same_of_kind : {A : Type 0} {make : A → Query} {Spelled : A → Type 0} (name : Name) (words : List (List ℕ)) → Kind name words A make Spelled
-    → (a b : Query) → name_of a ≡ name → name_of b ≡ name → AreArguments words a → AreArguments words b → a ≡ b
-same_of_kind {make = make} name words kind a b is_a is_b spelled_a spelled_b =
-    let first = kind.made_of a is_a spelled_a in
-    let second = kind.made_of b is_b spelled_b in
-    first.1 ∙ ap make (kind.one first.0 second.0 first.2 second.2) ∙ sym second.1
-
-same_query : (name : Name) (words : List (List ℕ)) (a b : Query) → name_of a ≡ name → name_of b ≡ name → AreArguments words a → AreArguments words b → a ≡ b
-same_query names.Map words = same_of_kind names.Map words (map_kind words)
-same_query names.Unmap words = same_of_kind names.Unmap words (unmap_kind words)
-same_query names.Protect words = same_of_kind names.Protect words (protect_kind words)
-same_query names.Resolve words = same_of_kind names.Resolve words (resolve_kind words)
-same_query names.Access words = same_of_kind names.Access words (access_kind words)
-
 same_request : (depth : Depth) (words : List (List ℕ)) (t s : ℕ) (a b : Query) → SpellsRequest depth words t a → SpellsRequest depth words s b
     → says.Request t a ≡ says.Request s b
 same_request depth words t s a b p q =
     let same = sym p.words_are ∙ q.words_are in
     let thread = same_number t s p.thread_fits q.thread_fits (ap (λ (parts : List (List ℕ)). get_or parts 0 []) same) in
-    let name = same_name (name_of a) (name_of b) (ap (λ (parts : List (List ℕ)). get_or parts 1 []) same) in
-    let arguments : p.arguments ≡ q.arguments = ap (λ (parts : List (List ℕ)). drop 2 parts) same in
-    let spelled = subst (λ (parts : List (List ℕ)). AreArguments parts b) (sym arguments) q.arguments_are in
-    let query = same_query (name_of b) p.arguments a b name refl p.arguments_are spelled in
+    let asks : p.asks ≡ q.asks = ap (λ (parts : List (List ℕ)). drop 1 parts) same in
+    let query = one_request depth p.asks a b p.query_is (subst (λ (parts : List (List ℕ)). SpellsQuery depth parts b) (sym asks) q.query_is) in
     ap₂ (λ (thread : ℕ) (query : Query). says.Request thread query) thread query
 
 same_step : (words : List (List ℕ)) (a b : Step) → SpellsStep words a → SpellsStep words b → says.Step a ≡ says.Step b
@@ -126,7 +87,7 @@ same_step words a b p q =
     let made : ℕ → Act → Line = λ thread act. says.Step (record { thread = thread; act = act }) in
     ap₂ made thread act
 
-same_line : (depth : Depth) (line : List ℕ) (a b : Line) → Says depth line a → Says depth line b → a ≡ b
+pub same_line : (depth : Depth) (line : List ℕ) (a b : Line) → Says depth line a → Says depth line b → a ≡ b
 same_line depth line says.PassedOver says.PassedOver p q = refl
 same_line depth line says.PassedOver (says.Request thread query) p q = absurd (not_request depth line thread query p q)
 same_line depth line says.PassedOver (says.Step step) p q = absurd (not_step depth line step p q)

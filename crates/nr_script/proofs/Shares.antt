@@ -12,7 +12,7 @@ use Rattle.vs_types.specs.declared.request.Query.{Query}
 use Rattle.vs_types.specs.Query.{AreScripts}
 use Rattle.nr_script.specs.Lines.{Says}
 use Rattle.nr_script.specs.Script.{asked, requests_by, thread_count, IsScript}
-use Rattle.nr_script.specs.Words.{lines}
+use Rattle.nr_script.specs.Lines.{lines}
 use Rattle.nr_script.specs.declared.line.Line.{Line}
 use Rattle.nr_script.specs.declared.line.Line.TheVariants as says
 use Rattle.nr_script.specs.declared.script.Script.{Script}
@@ -27,7 +27,7 @@ all_asked depth [] (it ∷ said) all = absurd all
 all_asked depth (text ∷ texts) [] all = absurd all
 all_asked depth (text ∷ texts) (says.PassedOver ∷ said) all = all_asked depth texts said all.1
 all_asked depth (text ∷ texts) (says.Step step ∷ said) all = all_asked depth texts said all.1
-all_asked depth (text ∷ texts) (says.Request thread query ∷ said) all = ((all.0.thread_fits, all.0.well_formed), all_asked depth texts said all.1)
+all_asked depth (text ∷ texts) (says.Request thread query ∷ said) all = ((all.0.thread_fits, all.0.query_is.well_formed), all_asked depth texts said all.1)
 
 highest : (depth : Depth) (them : List (ℕ × Query)) (most : ℕ) → AllByRecursion (IsAsked depth) them → 1 ≤ most → most ≤ 64
     → (1 ≤ fold (λ most it. max most (it.0 + 1)) most them) × (fold (λ most it. max most (it.0 + 1)) most them ≤ 64)

@@ -1,5 +1,3 @@
-pub mod Words
-pub mod Requests
 pub mod Lines
 pub mod Script
 pub mod Examples

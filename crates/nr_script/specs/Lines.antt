@@ -1,24 +1,26 @@
 -- What a line of a script says, by its words: a request of a thread, or a step of a thread. An empty line and a comment are
 -- passed over.
 use Rattle.std.specs.Prelude.{◌≡◌, ◌<◌, ◌⊎◌, ◌++◌, ℕ, List, [], ◌∷◌, codes, decimal}
-use Rattle.vs_types.specs.Query.{IsQuery}
 use Rattle.vs_types.specs.declared.depth.Depth.{Depth}
 use Rattle.vs_types.specs.declared.request.Query.{Query}
 use Rattle.nr_core.specs.declared.step.Act.{Act}
 use Rattle.nr_core.specs.declared.step.Act.TheVariants.{Call, Post, Take, Collect, Append, Advance, Apply, Answer, Release, Look, Read, Reply}
 use Rattle.nr_core.specs.declared.step.Step.{Step}
-use Rattle.nr_script.specs.Requests.{name_of, name_text, AreArguments}
-use Rattle.nr_script.specs.Words.{words}
+use Rattle.vs_text.specs.Requests.{SpellsQuery}
+use Rattle.vs_text.specs.Words.{parts, words}
 use Rattle.nr_script.specs.declared.line.Line.{Line}
 use Rattle.nr_script.specs.declared.line.Line.TheVariants as says
 
--- T NAME and the arguments, where T is below 64 and the request is well formed at the depth
+-- the lines of a script are parted by LFs
+abbrev pub lines : List ℕ → List (List ℕ)
+lines bytes = parts 10 bytes
+
+-- T and a request that is well formed at the depth, where T is below 64
 pub record SpellsRequest (depth : Depth) (words : List (List ℕ)) (thread : ℕ) (query : Query) : Type 0 where
-  pub arguments : List (List ℕ)
-  pub words_are : words ≡ decimal thread ∷ name_text (name_of query) ∷ arguments
+  pub asks : List (List ℕ)
+  pub words_are : words ≡ decimal thread ∷ asks
   pub thread_fits : thread < 64
-  pub arguments_are : AreArguments arguments query
-  pub well_formed : IsQuery depth query
+  pub query_is : SpellsQuery depth asks query
 
 abbrev pub act_words : Act → List (List ℕ)
 act_words Call = codes "call" ∷ []

@@ -2,13 +2,14 @@
 use Rattle.std.specs.Prelude.{◌≡◌, ℕ, ◌+◌, ◌≤◌, ◌==◌, ◌⊎◌, max, Bool, true, false, List, [], ◌∷◌, ◌++◌, length, map, filter, Option}
 use Rattle.std.specs.List.{flat_map, fold, position_from, range_with_len, AllZip}
 use Rattle.vs_types.specs.declared.depth.Depth.{Depth}
+use Rattle.vs_types.specs.declared.limits.TheConstants.{LOG_PLACES}
 use Rattle.vs_types.specs.declared.request.Query.{Query}
 use Rattle.nr_core.specs.declared.step.Step.{Step}
-use Rattle.nr_script.specs.Lines.{Says}
-use Rattle.nr_script.specs.Words.{lines}
+use Rattle.nr_script.specs.Lines.{lines, Says}
 use Rattle.nr_script.specs.declared.line.Line.{Line}
 use Rattle.nr_script.specs.declared.line.Line.TheVariants as says
 use Rattle.nr_script.specs.declared.script.Script.{Script}
+use Rattle.nr_script.specs.declared.script.TheConstants.{SCRIPT_STEPS}
 
 -- each request with its thread, and each step, in the order of the lines
 abbrev pub request_in : Line → List (ℕ × Query)
@@ -41,10 +42,10 @@ is_step line = false
 abbrev pub first_step_in : List Line → Option ℕ
 first_step_in said = position_from is_step 1 said
 
--- at most 65,536 requests and 1,000,000 steps
+-- at most as many requests as a log has places, and 1,000,000 steps
 pub record IsWithinLimits (said : List Line) : Type 0 where
-  pub requests : length (asked said) ≤ 65536
-  pub steps : length (steps_of said) ≤ 1000000
+  pub requests : length (asked said) ≤ LOG_PLACES
+  pub steps : length (steps_of said) ≤ SCRIPT_STEPS
 
 -- each line has a form, all of them are within the limits, and the script is what they say
 pub record IsScript (depth : Depth) (bytes : List ℕ) (script : Script) : Type 0 where

@@ -4,9 +4,8 @@ ghost use Rattle.std.specs.Prelude.{◌≡◌, [], ◌∷◌, map, Some};
 ghost use Rattle.std.specs.List.{AllZip};
 ghost use Rattle.vs_types.specs.declared.depth.Depth.TheVariants.{Four};
 ghost use Rattle.nr_script.specs.Examples.{map_it, resolve_it, short_lines, short_script, two_spaces, two_steps};
-ghost use Rattle.nr_script.specs.Lines.{Says};
+ghost use Rattle.nr_script.specs.Lines.{lines, Says};
 ghost use Rattle.nr_script.specs.Script.{IsBadLine, IsScript};
-ghost use Rattle.nr_script.specs.Words.{lines};
 ghost use Rattle.nr_script.specs.declared.script.Script.{Script};
 
 /// A script of six lines. Thread 1 asks something, so there are two threads; the fifth line is the first that is a step.

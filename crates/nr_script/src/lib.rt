@@ -4,11 +4,10 @@
 pub mod examples;
 pub mod laws;
 mod line;
+mod number;
 mod parts;
 mod reading;
-mod request;
 mod script;
 mod step;
-mod words;
 
 pub use script::{BadLine, SCRIPT_BYTES, SCRIPT_REQUESTS, SCRIPT_STEPS, Script, read_script};

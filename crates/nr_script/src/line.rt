@@ -3,13 +3,13 @@ ghost use Rattle.std.specs.Prelude.{◌≡◌, ◌↔◌, codes, IsTrue};
 ghost use Rattle.vs_types.specs.Finds.{Finds};
 ghost use Rattle.nr_script.specs.Lines.{Says, SpellsRequest};
 ghost use Rattle.nr_script.specs.inside.InWords.{SaysInWords};
-ghost use Rattle.nr_script.specs.inside.Left.{texts};
+ghost use Rattle.vs_text.specs.Words.{texts};
 
+use crate::number::parse_number;
 use crate::parts::split_words;
-use crate::request::{parse_name, parse_named};
 use crate::step::parse_step;
-use crate::words::parse_number;
 use nr_core::Step;
+use vs_text::parse_request;
 use vs_types::{Depth, Request};
 
 /// What a line says.
@@ -24,15 +24,14 @@ pub enum Line {
 }
 
 /// The thread and its request.
-fn parse_request(depth: Depth, words: &[&[u8]]) -> Option<(u16, Request)>
+fn parse_asked(depth: Depth, words: &[&[u8]]) -> Option<(u16, Request)>
     ensures { Finds (λ it. SpellsRequest depth (texts words.now) it.0 it.1) result }
 {
-    let [thread, name, arguments @ ..] = words else {
+    let [thread, asks @ ..] = words else {
         return None;
     };
     let thread = parse_number(thread)?;
-    let name = parse_name(name)?;
-    let request = parse_named(depth, name, arguments)?;
+    let request = parse_request(depth, asks)?;
     Some((u16::from(thread), request))
 }
 
@@ -52,7 +51,7 @@ fn parse_words(depth: Depth, words: &[&[u8]]) -> Option<Line>
         let step = parse_step(rest)?;
         Some(Line::Step(step))
     } else {
-        let (thread, request) = parse_request(depth, words)?;
+        let (thread, request) = parse_asked(depth, words)?;
         Some(Line::Request(thread, request))
     }
 }

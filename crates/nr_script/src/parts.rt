@@ -1,6 +1,6 @@
 //! Texts cut at a separator.
 ghost use Rattle.std.specs.Prelude.{◌≡◌, ◌∷◌, map, take};
-ghost use Rattle.nr_script.specs.Words.{parts, words};
+ghost use Rattle.vs_text.specs.Words.{parts, words};
 ghost use Rattle.nr_script.specs.inside.Left.{parts_left};
 
 use arrayvec::ArrayVec;

@@ -1,6 +1,7 @@
 //! What is kept of the lines of a script as they are read.
 ghost use Rattle.std.specs.Prelude.{◌≡◌, ◌+◌, ◌<◌, max, [], ◌∷◌, ◌++◌, List, length, map, IfOk, MatchResult, OnOk, Some};
 ghost use Rattle.std.specs.Option.{option_or};
+ghost use Rattle.vs_types.specs.declared.limits.TheConstants.{LOG_PLACES};
 ghost use Rattle.vs_types.specs.Refusal.{IfRefused};
 ghost use Rattle.nr_script.specs.Lines.{Says};
 ghost use Rattle.nr_script.specs.Script.{IsBadAfter};
@@ -50,7 +51,7 @@ impl Reading {
     /// A request more.
     pub(crate) fn ask(&mut self, thread: u16, request: Request) -> Result<(), Memory>
         requires thread { thread < 64 }
-        requires few { self.old.asked < 65536 }
+        requires few { self.old.asked < LOG_PLACES }
         requires lists { length self.old.lists.items ≡ 64 }
         ensures threads { OnOk result (self.new.threads ≡ max self.old.threads (thread + 1)) }
         ensures asked { OnOk result (self.new.asked ≡ self.old.asked + 1) }

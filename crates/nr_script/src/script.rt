@@ -10,13 +10,13 @@ use crate::parts::cut;
 use crate::reading::Reading;
 use nr_core::Step;
 use std::alloc::Global;
-use vs_types::{Depth, Fail, Request};
+use vs_types::{Depth, Fail, LOG_PLACES, Request};
 
 /// The most bytes of a script.
 pub const SCRIPT_BYTES: usize = 16_777_216;
 
 /// The most requests of a script.
-pub const SCRIPT_REQUESTS: usize = 65_536;
+pub const SCRIPT_REQUESTS: usize = LOG_PLACES as usize;
 
 /// The most steps of a script.
 pub const SCRIPT_STEPS: usize = 1_000_000;
@@ -40,7 +40,7 @@ pub struct BadLine(pub u32);
 
 /// Reads the lines of a text.
 fn read_lines(alloc: Global, depth: Depth, bytes: &[u8]) -> Result<Reading, Fail<BadLine>>
-    requires { length bytes.now ≤ 16777216 }
+    requires { length bytes.now ≤ SCRIPT_BYTES }
     ensures ok { IfOk result (IsAllRead depth bytes.now) }
     ensures err { IfErr result (IfRefused (λ bad. IsBadLine depth bytes.now bad.0)) }
 {

@@ -2,9 +2,9 @@
 ghost use Rattle.std.specs.Prelude.{◌≡◌, ◌<◌, [], ◌∷◌, codes, decimal};
 ghost use Rattle.vs_types.specs.Finds.{Finds};
 ghost use Rattle.nr_script.specs.Lines.{SpellsAct, SpellsStep};
-ghost use Rattle.nr_script.specs.inside.Left.{texts};
+ghost use Rattle.vs_text.specs.Words.{texts};
 
-use crate::words::parse_number;
+use crate::number::parse_number;
 use nr_core::{Act, Step};
 
 /// An act without a number.

@@ -1,6 +1,8 @@
-//! Worked examples of the reader of scripts: each form, each reason why a line is bad, and the limits. No crate stands on this
-//! one, so that the reader is proved once.
+//! Worked examples of the reader of scripts and of the words of requests: each form, each reason why a line is bad, and the limits.
+//! No crate stands on this one, so that the reader is proved once.
 #![tactic(auto)]
 
 #[cfg(test)]
 mod scripts;
+#[cfg(test)]
+mod words;

@@ -1,6 +1,6 @@
 use Rattle.std.proofs.Common.{ℕ, Option, MatchOption, subst}
 use Rattle.std.proofs.lemmas.Result.{IfOk-weaker}
-use Rattle.nr_engines.specs.Addresses.{SpellsAddress}
+use Rattle.vs_text.specs.Words.{SpellsAddress}
 use Rattle.nr_engines.proofs.Reports.{writes}
 use Rattle.nr_engines.specs.Answers.{IsResolve}
 use Rattle.nr_engines.proofs.resolve.resolve_io.Goals as goal
@@ -12,7 +12,7 @@ returns-clause-ok g c =
     let text = c.args.address.now in
     let spelled : SpellsAddress text c.in_ok-address.address =
     subst (λ (o : Option ℕ). MatchOption o ((address : ℕ) → SpellsAddress text address → ⊥) (SpellsAddress text)) c.in_ok-address.ensures.ok_part
-    c.parse_address.ensures in
+    c.spelled_address.ensures in
     IfOk-weaker c.write_report.result _ _
     (λ status h. writes (IsResolve c.args.address.now c.args.replica) (g.R.Read.remaining c.args.reader.now) c.in_ok-read.read report.text.bytes.items
     (g.W.Write.contents c.args.writer.now) (g.W.Write.contents c.write_report.new.writer) report.status status has

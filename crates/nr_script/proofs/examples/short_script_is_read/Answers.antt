@@ -5,7 +5,8 @@ use Rattle.vs_types.specs.declared.depth.Depth.TheVariants.{Four}
 use Rattle.nr_core.specs.declared.step.Act.TheVariants.{Call, Take}
 use Rattle.nr_script.specs.Examples.{map_it, resolve_it, short_lines, short_script}
 use Rattle.nr_script.specs.Lines.{Says}
-use Rattle.nr_script.specs.Words.{lines, SpellsAddress}
+use Rattle.nr_script.specs.Lines.{lines}
+use Rattle.vs_text.specs.Words.{SpellsAddress}
 use Rattle.nr_script.specs.declared.line.Line.TheVariants as says
 use Rattle.nr_script.proofs.examples.short_script_is_read.Goals as goal
 
@@ -41,20 +42,28 @@ of_either_case = record {
 
 a_map : Says Four (codes "0 map 4K 0x400000 0x1000 wux") (says.Request 0 map_it)
 a_map = record {
-  arguments = codes "4K" ∷ codes "0x400000" ∷ codes "0x1000" ∷ codes "wux" ∷ [];
+  asks = codes "map" ∷ codes "4K" ∷ codes "0x400000" ∷ codes "0x1000" ∷ codes "wux" ∷ [];
   words_are = rw (decimal_digit 0 (lit< tt)) refl;
   thread_fits = lit< tt;
-  arguments_are = record { base = codes "0x400000"; phys = codes "0x1000"; words_are = refl; base_is = base; phys_is = phys };
-  well_formed = record { canonical = refl; aligned = refl; phys_aligned = refl; phys_range = lit≤ tt };
+  query_is = record {
+    arguments = codes "4K" ∷ codes "0x400000" ∷ codes "0x1000" ∷ codes "wux" ∷ [];
+    words_are = refl;
+    arguments_are = record { base = codes "0x400000"; phys = codes "0x1000"; words_are = refl; base_is = base; phys_is = phys };
+    well_formed = record { canonical = refl; aligned = refl; phys_aligned = refl; phys_range = lit≤ tt };
+  };
 }
 
 a_resolve : Says Four (codes "1 resolve 0x400aBc") (says.Request 1 resolve_it)
 a_resolve = record {
-  arguments = codes "0x400aBc" ∷ [];
+  asks = codes "resolve" ∷ codes "0x400aBc" ∷ [];
   words_are = rw (decimal_digit 1 (lit< tt)) refl;
   thread_fits = lit< tt;
-  arguments_are = record { word = codes "0x400aBc"; words_are = refl; address_is = of_either_case };
-  well_formed = refl;
+  query_is = record {
+    arguments = codes "0x400aBc" ∷ [];
+    words_are = refl;
+    arguments_are = record { word = codes "0x400aBc"; words_are = refl; address_is = of_either_case };
+    well_formed = refl;
+  };
 }
 
 a_call : Says Four (codes "step 0 call") (says.Step (record { thread = 0; act = Call }))

@@ -1,6 +1,6 @@
 use Rattle.std.proofs.Common.{ℕ, ◌<◌, List, length, ap, ◌∙◌, rules}
 use Rattle.std.specs.Borrow.{Bor}
-use Rattle.nr_script.specs.inside.Left.{texts}
+use Rattle.vs_text.specs.Words.{texts}
 use Rattle.nr_script.proofs.InLines.{found_in_words}
 use Rattle.nr_script.proofs.line.parse_line.Goals as goal
 

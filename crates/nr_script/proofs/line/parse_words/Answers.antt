@@ -1,6 +1,6 @@
 use Rattle.std.proofs.Common.{◌≡◌, ℕ, List, ◌∷◌, ◌-◌, length, take, drop, ap, subst, sym, refl, ◌∙◌, true, false}
 use Rattle.nr_script.specs.Lines.{SpellsStep}
-use Rattle.nr_script.specs.inside.Left.{texts}
+use Rattle.vs_text.specs.Words.{texts}
 use Rattle.nr_script.proofs.InLines.{no_request, no_step, split_off}
 use Rattle.nr_script.proofs.line.parse_words.Goals as goal
 

@@ -1,7 +1,7 @@
 use Rattle.std.proofs.Common.{◌∷◌, ◌+◌, List, ℕ, take, sym, ap, ◌∙◌, arith, eq-eqb}
 use Rattle.std.proofs.lemmas.List.{take_rest}
-use Rattle.nr_script.specs.Words.{parts}
-use Rattle.nr_script.proofs.Cuts.{cut_at, same, uncut}
+use Rattle.vs_text.specs.Words.{parts}
+use Rattle.vs_text.proofs.Cuts.{cut_at, same, uncut}
 use Rattle.nr_script.proofs.parts.cut.Goals as goal
 
 pub returns-in-Some : goal.returns-in-Some

@@ -1,5 +1,5 @@
 use Rattle.std.proofs.Common.{◌≡◌, ◌++◌, length, map}
-use Rattle.nr_script.specs.Words.{words}
+use Rattle.vs_text.specs.Words.{words}
 use Rattle.nr_script.specs.inside.Left.{parts_left}
 use Rattle.nr_script.proofs.parts.split_words.Given as goal
 

@@ -1,5 +1,5 @@
 use Rattle.std.proofs.Common.{arith}
-use Rattle.nr_script.specs.Words.{lines}
+use Rattle.nr_script.specs.Lines.{lines}
 use Rattle.nr_script.proofs.Gathered.{first_lists}
 use Rattle.nr_script.proofs.Shares.{scripts_of, threads_in_range}
 use Rattle.nr_script.proofs.script.read_script.Goals as goal

@@ -1,4 +1,6 @@
 use Rattle.std.proofs.Common.{◌<◌, ◌≤◌, length, ap, subst, refl, inr, arith}
+use Rattle.vs_types.specs.declared.limits.TheConstants.{LOG_PLACES}
+use Rattle.nr_script.specs.declared.script.TheConstants.{SCRIPT_STEPS}
 use Rattle.nr_script.specs.Lines.{Says}
 use Rattle.nr_script.specs.Script.{request_in}
 use Rattle.nr_script.specs.declared.line.Line.{Line}
@@ -7,7 +9,7 @@ use Rattle.nr_script.proofs.reading.Reading.take_line.Goals as goal
 
 pub returns-then-self-ge-SCRIPT_REQUESTS : goal.returns-then-self-ge-SCRIPT_REQUESTS
 returns-then-self-ge-SCRIPT_REQUESTS c = λ said kept is.
-    let full : 65536 ≤ c.args.self.now.asked = c.if-self-ge-SCRIPT_REQUESTS.true in (
+    let full : LOG_PLACES ≤ c.args.self.now.asked = c.if-self-ge-SCRIPT_REQUESTS.true in (
       refl,
       inr (
         c.in-Some.said,
@@ -25,7 +27,7 @@ returns-in-PassedOver c = λ said kept is. (
 
 pub returns-in_ok-ask-in-Request : goal.returns-in_ok-ask-in-Request
 returns-in_ok-ask-in-Request c = λ said kept is.
-    let few : c.args.self.now.asked < 65536 = c.if-self-ge-SCRIPT_REQUESTS.false in
+    let few : c.args.self.now.asked < LOG_PLACES = c.if-self-ge-SCRIPT_REQUESTS.false in
     let ensures = c.in_ok-ask-in-Request.ensures in
     let says = subst (λ (it : Line). Says c.args.depth c.args.line.now it) c.in-Request.is c.in-Some.ensures in (
       _,
@@ -36,7 +38,7 @@ returns-in_ok-ask-in-Request c = λ said kept is.
 
 pub returns-in_ok-step-in-Step : goal.returns-in_ok-step-in-Step
 returns-in_ok-step-in-Step c = λ said kept is.
-    let few : length c.args.self.now.steps.items < 1000000 =
+    let few : length c.args.self.now.steps.items < SCRIPT_STEPS =
     omega (arith, c.if-len-ge-SCRIPT_STEPS.false, c.len.ensures, c.args.self.now.steps.ok.0) in
     let ensures = c.in_ok-step-in-Step.ensures in (
       _,
