@@ -13,6 +13,7 @@ use crate::promise::Finished;
 use crate::said::Said;
 use crate::team::Team;
 use crate::worker::Worker;
+use core::thread::Stack;
 use nr_record::Pen;
 use nr_replicas::{Gate, ReplicasName};
 use nr_ring::{LogName, LogPass};
@@ -21,6 +22,9 @@ use std::sync::Wait;
 use std::thread;
 use std::thread::{PromisedHandle, Scope, Threads};
 use vs_types::{Fail, Memory, Request};
+
+/// The stack of a thread: many times what a call needs, and so little that 64 threads take 16 MiB of addresses.
+const STACK_BYTES: usize = 262_144;
 
 /// A thread that was started, and what it promises.
 type Started<J, K> = PromisedHandle<Worker<J>, Finished<J, K>>;
@@ -189,7 +193,8 @@ fn start_all<
                 × IsReadyJob team.now.clock.now K.log job }
             ensures { IsDone team.entry.now.clock.now K.log job result }
         { job.work(rt, team) };
-        let Ok(handle) = scope.spawn_with(promise, worker) else {
+        let stack = Stack::new().stack_size(STACK_BYTES);
+        let Ok(handle) = stack.spawn_scoped_with(scope, promise, worker) else {
             return (false, handles);
         };
         let Ok(()) = handles.push(handle) else {
