@@ -6,7 +6,7 @@ _nrvs() {
     --replica | --replicas | --tables | --turns | --address) return ;;
   esac
   if [ "$COMP_CWORD" -eq 1 ]; then
-    COMPREPLY=($(compgen -W 'audit explain resolve simulate run --help --version' -- "$word"))
+    COMPREPLY=($(compgen -W 'audit explain resolve simulate run help --help --version' -- "$word"))
     return
   fi
   case ${COMP_WORDS[1]} in
@@ -15,6 +15,7 @@ _nrvs() {
     resolve) options='--address --replica' ;;
     simulate) options='--levels --replicas --tables --trace' ;;
     run) options='--levels --replicas --tables --turns --trace' ;;
+    help) COMPREPLY=($(compgen -W 'audit explain resolve simulate run' -- "$word")); return ;;
   esac
   COMPREPLY=($(compgen -W "$options --help" -- "$word"))
 }

@@ -4,6 +4,7 @@ complete -c nrvs -n __fish_use_subcommand -f -a explain -d 'Prints whether a tra
 complete -c nrvs -n __fish_use_subcommand -f -a resolve -d 'Prints where an address leads in a dump'
 complete -c nrvs -n __fish_use_subcommand -f -a simulate -d 'Takes the steps of a script'
 complete -c nrvs -n __fish_use_subcommand -f -a run -d 'Runs the threads of a script'
+complete -c nrvs -n __fish_use_subcommand -f -a help -d 'Prints help, or that of a command'
 complete -c nrvs -n __fish_use_subcommand -l version -d 'Prints the version'
 complete -c nrvs -l help -d 'Prints help'
 complete -c nrvs -n '__fish_seen_subcommand_from explain' -l json -d 'Prints one JSON object'

@@ -78,7 +78,7 @@ run_app = with_rule (with_rule (with_rule (with_rule (with_rule (new_app (codes 
 -- the program, which has a version, and of which one of its subcommands is required
 abbrev pub program_app : App
 program_app = record (new_app (codes "nrvs")) {
-  top = record (new_app (codes "nrvs")).top { has_version = true; subcommand_required = true; disable_help_subcommand = true };
+  top = record (new_app (codes "nrvs")).top { has_version = true; subcommand_required = true };
 }
 
 abbrev pub command_line : App

@@ -10,6 +10,24 @@ use std::alloc::{AllocError, Global};
 /// The version that `--version` prints.
 const VERSION: &str = "0.1.0";
 
+/// What `--help` prints after the commands.
+const AFTER_HELP: &str = "\
+A trace is the record of a run. A script, which simulate and run read, has lines such as:
+  0 map 4K 0x400000 0x1000 wux
+  1 resolve 0x400123
+
+What is printed:
+  yes       The trace is right, and the order that follows shows it
+  no        It is not, and its first fault follows
+  verified  The trace of the run is right, and the answers printed are those in it
+  refused   It is not, and its first fault follows
+
+Exit status:
+  0  The trace or the run is right, or an answer or help was printed
+  1  The trace or the run is not right
+  2  Words, input or output are unusable, or a thread could not be started
+  3  Memory ran out";
+
 fn explain<'a>(alloc: Global) -> Result<Command<'a>, AllocError>
     ensures app { IfOk result (λ command. app_of command ≡ explain_app) }
     ensures local { IfOk result IsLocal }
@@ -136,7 +154,7 @@ pub fn command_line<'a>(alloc: Global) -> Result<Command<'a>, AllocError>
         .about("Checks recorded runs of replicated address spaces")
         .version(VERSION)
         .subcommand_required(true)
-        .disable_help_subcommand(true)
+        .after_help(AFTER_HELP)
         .subcommand(audit)?
         .subcommand(explain)?
         .subcommand(resolve)?

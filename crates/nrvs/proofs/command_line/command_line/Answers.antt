@@ -14,17 +14,14 @@ versioned a = record a { top = record a.top { has_version = true } }
 abbrev needs : App → App
 needs a = record a { top = record a.top { subcommand_required = true } }
 
-abbrev no_help : App → App
-no_help a = record a { top = record a.top { disable_help_subcommand = true } }
-
 pub returns : goal.returns
 returns c =
     let globals = λ (f : Command-F Command). f.has_globals in
     let top = λ (a : App). a.top in
     let audit_is : app_of c.about-audit.result ≡ audit_app = ap app_of_fields c.about-audit.ensures ∙ c.new.ensures.app in
     let audit_local : (out-Command c.about-audit.result).has_globals ≡ false = ap globals c.about-audit.ensures ∙ c.new.ensures.local in
-    let program_is : app_of c.disable_help_subcommand.result ≡ program_app = ap app_of_fields c.disable_help_subcommand.ensures
-    ∙ ap no_help (ap app_of_fields c.subcommand_required.ensures ∙ ap needs (ap app_of_fields c.version.ensures ∙ ap versioned (ap app_of_fields c.about.ensures ∙ c.new-2.ensures.app))) in
+    let program_is : app_of c.after_help.result ≡ program_app = ap app_of_fields c.after_help.ensures
+    ∙ (ap app_of_fields c.subcommand_required.ensures ∙ ap needs (ap app_of_fields c.version.ensures ∙ ap versioned (ap app_of_fields c.about.ensures ∙ c.new-2.ensures.app))) in
     let one_is = c.in_ok-subcommand.ensures.shape audit_local ∙ ap₂ with_subcommand program_is (ap top audit_is) in
     let two_is = c.in_ok-subcommand-2.ensures.shape c.in_ok-explain.ensures.local ∙ ap₂ with_subcommand one_is (ap top c.in_ok-explain.ensures.app) in
     let three_is = c.in_ok-subcommand-3.ensures.shape c.in_ok-resolve.ensures.local ∙ ap₂ with_subcommand two_is (ap top c.in_ok-resolve.ensures.app) in
