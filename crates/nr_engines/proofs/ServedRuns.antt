@@ -8,7 +8,7 @@ use Rattle.nr_trace.specs.Faults.{IsFirstOf}
 use Rattle.nr_trace.specs.Laws.{IsFaultless}
 use Rattle.nr_trace.specs.Orders.{recorded_order}
 use Rattle.nr_audit.specs.Headline.{AreRightWith, IsSpelledWith}
-use Rattle.nr_serve.specs.Run.{AreAllCallsOf, HaveSeenAnswers, IfRefused, IfVerified, IsLogOf, IsTraceOf}
+use Rattle.nr_serve.specs.Run.{AreAllCallsOf, HaveSeenAnswers, IfRunRefused, IfVerified, IsLogOf, IsTraceOf}
 use Rattle.nr_serve.specs.declared.no_thread.NoThread.{NoThread as NoThreadOfRun}
 use Rattle.nr_serve.specs.declared.outcome.Outcome.{Outcome}
 use Rattle.nr_serve.specs.declared.outcome.Outcome.TheVariants.{Verified, Refused}
@@ -44,14 +44,14 @@ all_shown layout scripts (Refused trace fault) layout_is answers_each calls pass
 
 -- the clauses of a refused run, together
 pub all_refused : {J : Type 0} (layout : Layout) (scripts : List (List Query)) (outcome : Outcome J)
-    → IfRefused (λ trace fault. IsTraceOf layout scripts trace) outcome → IfRefused (λ trace fault. IsFirstOf trace fault) outcome
-    → IfRefused (IsRefusedRun layout scripts) outcome
+    → IfRunRefused (λ trace fault. IsTraceOf layout scripts trace) outcome → IfRunRefused (λ trace fault. IsFirstOf trace fault) outcome
+    → IfRunRefused (IsRefusedRun layout scripts) outcome
 all_refused layout scripts (Verified answers trace order passes) trace_of first = tt
 all_refused layout scripts (Refused trace fault) trace_of first = record { trace_of = trace_of; first = first }
 
 -- what is told of an outcome is told of the run
 pub tells_run : {J : Type 0} (layout : Layout) (scripts : List (List Query)) (as_trace : Bool) (outcome : Outcome J) (status : ℕ)
-    → IfVerified (IsVerifiedRun layout scripts) outcome → IfRefused (IsRefusedRun layout scripts) outcome → status ≡ outcome_status outcome
+    → IfVerified (IsVerifiedRun layout scripts) outcome → IfRunRefused (IsRefusedRun layout scripts) outcome → status ≡ outcome_status outcome
     → TellsRun layout scripts as_trace (told_of as_trace outcome) status
 tells_run layout scripts as_trace (Verified answers trace order passes) status shown refused same = inl (record {
   answers = answers;

@@ -10,12 +10,12 @@ use Rattle.nr_engines.specs.declared.command.Command.TheVariants.{Audit, Explain
 use Rattle.nr_engines.specs.declared.fault.ProgFault.{ProgFault}
 
 -- the text and the status that are those of the command on these bytes
-abbrev pub IsAnswer : Command → List ℕ → List ℕ → ℕ → Type 0
-IsAnswer Audit = IsAudit
-IsAnswer (Explain as_json) = IsExplained as_json
-IsAnswer (Resolve word replica) = IsResolve word.now replica
-IsAnswer (Simulate setup as_trace) = IsSimulation setup as_trace
-IsAnswer (Run setup turns as_trace) = IsServedRun setup as_trace
+abbrev pub IsCommandAnswer : Command → List ℕ → List ℕ → ℕ → Type 0
+IsCommandAnswer Audit = IsAudit
+IsCommandAnswer (Explain as_json) = IsExplained as_json
+IsCommandAnswer (Resolve word replica) = IsResolve word.now replica
+IsCommandAnswer (Simulate setup as_trace) = IsSimulation setup as_trace
+IsCommandAnswer (Run setup turns as_trace) = IsServedRun setup as_trace
 
 -- the fault of the command, where the input is known
 abbrev pub IsRefusal : Command → Option (List ℕ) → ProgFault → Type 0

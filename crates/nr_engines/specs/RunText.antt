@@ -28,12 +28,12 @@ said_text (Answered at answer) = answer_text answer
 said_text Stopped = codes "stopped"
 
 -- the line of a call: its thread, and what came of it
-abbrev pub call_line : ℕ → Said → List ℕ
-call_line thread said = decimal thread ++ (space ++ (said_text said ++ line_end))
+abbrev pub said_line : ℕ → Said → List ℕ
+said_line thread said = decimal thread ++ (space ++ (said_text said ++ line_end))
 
 -- the lines of a thread's calls
 abbrev pub thread_lines : ℕ × List Said → List ℕ
-thread_lines (thread, said) = flat_map (call_line thread) said
+thread_lines (thread, said) = flat_map (said_line thread) said
 
 -- the lines of all threads, the first of which is thread 0; and that the run is verified
 abbrev pub verified_text : List (List Said) → List ℕ

@@ -29,7 +29,7 @@ impl Command<'_> {
     ghost use Rattle.std.specs.Prelude.{IfOk, IfErr};
     ghost use Rattle.nr_engines.specs.Answers.{WritesReport};
     ghost use Rattle.nr_engines.specs.Refusals.{WritesAnswersAlone};
-    ghost use Rattle.nr_engines.specs.Commands.{IsAnswer, IsRefusal, ReadsFew};
+    ghost use Rattle.nr_engines.specs.Commands.{IsCommandAnswer, IsRefusal, ReadsFew};
 
     /// Runs the command on the input, and gives the exit status. Only `Run` waits and starts threads.
     ///
@@ -43,7 +43,7 @@ impl Command<'_> {
         reader: &mut R,
         writer: &mut W,
     ) -> Result<u8, ProgFault>
-        ensures ok { IfOk result (WritesReport (IsAnswer self.entry) (R.remaining reader.old)
+        ensures ok { IfOk result (WritesReport (IsCommandAnswer self.entry) (R.remaining reader.old)
             (W.contents writer.old) (W.contents writer.new)) }
         ensures err { IfErr result (IsRefusal self.entry (R.remaining reader.old)) }
         ensures alone { WritesAnswersAlone writer.old writer.new result }

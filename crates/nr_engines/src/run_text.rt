@@ -2,7 +2,7 @@
 ghost use Rattle.std.specs.Prelude.{◌≡◌, ◌++◌, IfOk, OnOk, List, ℕ, decimal, map, string_bytes};
 ghost use Rattle.std.specs.List.{flat_map};
 ghost use Rattle.vs_text.specs.Words.{hexadecimal};
-ghost use Rattle.nr_engines.specs.RunText.{answer_text, call_line, refused_text, said_text, verified_text};
+ghost use Rattle.nr_engines.specs.RunText.{answer_text, said_line, refused_text, said_text, verified_text};
 
 use crate::text::fault_text;
 use itoa::Buffer;
@@ -80,7 +80,7 @@ fn push_said(text: &mut String, said: Said) -> Result<(), AllocError>
 
 /// Adds the line of a call.
 fn push_call(text: &mut String, thread: usize, said: Said) -> Result<(), AllocError>
-    ensures { OnOk result (string_bytes text.new ≡ string_bytes text.old ++ call_line thread said) }
+    ensures { OnOk result (string_bytes text.new ≡ string_bytes text.old ++ said_line thread said) }
 {
     text.push_str(Buffer::new().format(thread))?;
     text.push(' ')?;
@@ -91,7 +91,7 @@ fn push_call(text: &mut String, thread: usize, said: Said) -> Result<(), AllocEr
 /// Adds the lines of a thread's calls.
 fn push_thread(text: &mut String, thread: usize, said: &[Said]) -> Result<(), AllocError>
     ensures { OnOk result
-        (string_bytes text.new ≡ string_bytes text.old ++ flat_map (call_line thread) said.now) }
+        (string_bytes text.new ≡ string_bytes text.old ++ flat_map (said_line thread) said.now) }
 {
     for call in said {
         push_call(text, thread, *call)?;

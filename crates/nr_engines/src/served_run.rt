@@ -176,9 +176,13 @@ fn run_named<J: LogName + Send + Sync, W: Write, T: Threads + Wait + Sync>(
     ensures err { IfErr result IsRunEnd }
     ensures alone { WritesAnswersAlone writer.old writer.new result }
 {
-    write_served(alloc, writer, config, scripts, as_trace, |config, scripts| {
-        run::<J, AlwaysGo, T>(rt, alloc, config, scripts, turns, &AlwaysGo)
-    })
+    let serve = |config: Config, scripts: Vec<Vec<Request>>| -> Result<Outcome<J>, Fail<NoThread>>
+        requires depth { config.depth ≡ J.depth }
+        requires replicas { config.replicas ≡ J.replicas }
+        requires passes { J.passes ≡ config.replicas + config.threads }
+        requires scripts { AreScripts config (map (λ script. script.items) scripts.items) }
+    { run::<J, AlwaysGo, T>(rt, alloc, config, scripts, turns, &AlwaysGo) };
+    write_served(alloc, writer, config, scripts, as_trace, serve)
 }
 
 /// Reads a script that lists no steps, runs it, a thread for each of its threads and each call up to so many turns, and writes what

@@ -8,7 +8,7 @@ use Rattle.nr_trace.specs.Spelling.{Spells}
 use Rattle.nr_trace.proofs.LawsOfSpelling.{one_trace}
 use Rattle.nr_ring.specs.Pass.{Known}
 use Rattle.nr_audit.specs.Headline.{IsSpelledWith}
-use Rattle.nr_serve.specs.Run.{IfRefused, IfVerified}
+use Rattle.nr_serve.specs.Run.{IfRunRefused, IfVerified}
 use Rattle.nr_serve.specs.declared.outcome.Outcome.{Outcome}
 use Rattle.nr_serve.specs.declared.outcome.Outcome.TheVariants.{Refused, Verified}
 use Rattle.nr_serve.specs.declared.said.Said.{Said}
@@ -25,8 +25,8 @@ shown_with (Ok (Refused t f)) answers bytes passes Q same_answers same_bytes sam
 shown_with (Err e) answers bytes passes Q same_answers same_bytes same_passes is = tt
 
 -- what is true of the bytes that go in is true of those that are refused
-pub refused_with : {J E : Type 0} (r : Result (Outcome J) E) (bytes : List ℕ) (Q : List ℕ → Type 0) → IfOk r (IfRefused (λ t f. t ≡ bytes))
-    → Q bytes → IfOk r (IfRefused (λ t f. Q t))
+pub refused_with : {J E : Type 0} (r : Result (Outcome J) E) (bytes : List ℕ) (Q : List ℕ → Type 0) → IfOk r (IfRunRefused (λ t f. t ≡ bytes))
+    → Q bytes → IfOk r (IfRunRefused (λ t f. Q t))
 refused_with (Ok (Verified a t o p)) bytes Q same_bytes is = tt
 refused_with (Ok (Refused t f)) bytes Q same_bytes is = subst Q (sym same_bytes) is
 refused_with (Err e) bytes Q same_bytes is = tt

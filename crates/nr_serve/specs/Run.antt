@@ -93,6 +93,6 @@ IfVerified P (Verified answers trace order passes) = P answers trace order passe
 IfVerified P (Refused trace fault) = ⊤
 
 -- where it is refused, the trace and its fault have the property
-abbrev pub IfRefused : {J : Type 0} → (List ℕ → Fault → Type 0) → Outcome J → Type 0
-IfRefused P (Verified answers trace order passes) = ⊤
-IfRefused P (Refused trace fault) = P trace fault
+abbrev pub IfRunRefused : {J : Type 0} → (List ℕ → Fault → Type 0) → Outcome J → Type 0
+IfRunRefused P (Verified answers trace order passes) = ⊤
+IfRunRefused P (Refused trace fault) = P trace fault

@@ -9,7 +9,7 @@ ghost use Rattle.nr_trace.specs.Faults.{IsFirstOf};
 ghost use Rattle.nr_trace.specs.Laws.{IsFaultless};
 ghost use Rattle.nr_trace.specs.Orders.{recorded_order};
 ghost use Rattle.nr_serve.specs.inside.Calls.{AreServed};
-ghost use Rattle.nr_serve.specs.Run.{AreAllCallsOf, HaveSeenAnswers, IfRefused, IfVerified, IsLogOf, IsTraceOf};
+ghost use Rattle.nr_serve.specs.Run.{AreAllCallsOf, HaveSeenAnswers, IfRunRefused, IfVerified, IsLogOf, IsTraceOf};
 ghost use Rattle.nr_serve.specs.inside.Ending.{IsWrittenOf, answers_of, passes_of, pens_of};
 
 use crate::outcome::{Answers, Outcome, Passes, TraceBytes};
@@ -90,8 +90,8 @@ fn judged<J: LogName>(
     ensures verdict { IfOk result
         (IfVerified (λ shown trace order seen. IsVerdictOf trace (Yes order))) }
     ensures right { IfOk result (IfVerified (λ shown trace order seen. AreRightWith trace order)) }
-    ensures refused { IfOk result (IfRefused (λ trace fault. IsFirstOf trace fault)) }
-    ensures refused_bytes { IfOk result (IfRefused (λ trace fault. trace ≡ bytes.items)) }
+    ensures refused { IfOk result (IfRunRefused (λ trace fault. IsFirstOf trace fault)) }
+    ensures refused_bytes { IfOk result (IfRunRefused (λ trace fault. trace ≡ bytes.items)) }
 {
     let verdict = audit(alloc, &bytes)?;
     let trace = TraceBytes::of(bytes);
@@ -152,9 +152,9 @@ pub(crate) fn ending<J: LogName, K: ReplicasName, R: Wait>(
         IsSpelledWith trace (λ recording. order ≡ recorded_order recording))) }
     ensures right { IfOk result
         (IfVerified (λ answers trace order passes. AreRightWith trace order)) }
-    ensures refused { IfOk result (IfRefused (λ trace fault. IsFirstOf trace fault)) }
+    ensures refused { IfOk result (IfRunRefused (λ trace fault. IsFirstOf trace fault)) }
     ensures refused_run { (scripts : List (List Query)) → AreServed clock K.log scripts workers.items
-        → IfOk result (IfRefused (λ trace fault. IsTraceOf config scripts trace)) }
+        → IfOk result (IfRunRefused (λ trace fault. IsTraceOf config scripts trace)) }
 {
     let Parts {
         pens,

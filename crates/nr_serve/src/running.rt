@@ -6,7 +6,7 @@ ghost use Rattle.nr_record.specs.Pen.{new_pens};
 ghost use Rattle.nr_trace.specs.Faults.{IsFirstOf};
 ghost use Rattle.nr_trace.specs.Laws.{IsFaultless};
 ghost use Rattle.nr_trace.specs.Orders.{recorded_order};
-ghost use Rattle.nr_serve.specs.Run.{AreAllCallsOf, HaveSeenAnswers, IfRefused, IfVerified, IsLogOf, IsTraceOf};
+ghost use Rattle.nr_serve.specs.Run.{AreAllCallsOf, HaveSeenAnswers, IfRunRefused, IfVerified, IsLogOf, IsTraceOf};
 ghost use Rattle.vs_types.specs.Query.{AreScripts};
 
 use crate::ending::ending;
@@ -131,8 +131,8 @@ fn go_on<
         IsSpelledWith trace (λ recording. order ≡ recorded_order recording))) }
     ensures right { IfOk result
         (IfVerified (λ answers trace order passes. AreRightWith trace order)) }
-    ensures refused { IfOk result (IfRefused (λ trace fault. IsFirstOf trace fault)) }
-    ensures refused_run { IfOk result (IfRefused (λ trace fault.
+    ensures refused { IfOk result (IfRunRefused (λ trace fault. IsFirstOf trace fault)) }
+    ensures refused_run { IfOk result (IfRunRefused (λ trace fault.
         IsTraceOf config (map (λ script. script.items) scripts.items) trace)) }
 {
     let Beginning {
@@ -208,8 +208,8 @@ pub fn run<J: LogName + Send + Sync, G: Gate + Sync, R: Threads + Wait + Sync>(
         IsSpelledWith trace (λ recording. order ≡ recorded_order recording))) }
     ensures right { IfOk result
         (IfVerified (λ answers trace order passes. AreRightWith trace order)) }
-    ensures refused { IfOk result (IfRefused (λ trace fault. IsFirstOf trace fault)) }
-    ensures refused_run { IfOk result (IfRefused (λ trace fault.
+    ensures refused { IfOk result (IfRunRefused (λ trace fault. IsFirstOf trace fault)) }
+    ensures refused_run { IfOk result (IfRunRefused (λ trace fault.
         IsTraceOf config (map (λ script. script.items) scripts.items) trace)) }
 {
     let beginning = begin(alloc, config, &scripts)?;

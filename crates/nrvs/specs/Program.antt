@@ -5,7 +5,7 @@ use Rattle.clap.specs.declared.error.Error.{Error}
 use Rattle.clap.specs.declared.error.kind.ErrorKind.{ErrorKind}
 use Rattle.clap.specs.declared.error.kind.ErrorKind.TheVariants as kind
 use Rattle.nr_engines.specs.Answers.{WritesReport}
-use Rattle.nr_engines.specs.Commands.{IsAnswer, IsRefusal}
+use Rattle.nr_engines.specs.Commands.{IsCommandAnswer, IsRefusal}
 use Rattle.nr_engines.specs.Refusals.{WritesAnswersAlone, exit_status}
 use Rattle.nr_engines.specs.declared.command.Command.{Command}
 use Rattle.nr_engines.specs.declared.fault.ProgFault.{ProgFault}
@@ -25,7 +25,7 @@ shown_status false = 2
 -- the command's answer was written, or there is none, for a reason that is its own
 pub record RunsCommand {W : Type 0} (command : Command) (known : Option (List ℕ)) (contents : W
     → Option (List ℕ)) (old new : W) (outcome : Result ℕ ProgFault) : Type 0 where
-  pub ends : MatchResult outcome (WritesReport (IsAnswer command) known (contents old) (contents new)) (IsRefusal command known)
+  pub ends : MatchResult outcome (WritesReport (IsCommandAnswer command) known (contents old) (contents new)) (IsRefusal command known)
   pub alone : WritesAnswersAlone old new outcome
 
 -- why what clap answers was not told: it couldn't be written, or memory ran out
