@@ -1,0 +1,4 @@
+pub mod Joined
+pub mod Run
+pub mod Cut
+pub mod Examples
