@@ -1,7 +1,6 @@
 -- Two runs, of which the second is right from the space after the first, are one right run.
-use Rattle.std.proofs.Common.{◌≡◌, ℕ, ◌+◌, ◌<◌, ◌≤◌, ◌⊎◌, inl, inr, nat_eq, List, [], ◌++◌, length, take, slice_get, Contains, Some, is_some, refl, ap, sym, ◌∙◌, subst}
+use Rattle.std.proofs.Common.{◌≡◌, ℕ, ◌+◌, ◌<◌, ◌≤◌, ◌⊎◌, inl, inr, List, ◌++◌, length, take, slice_get, Contains, Some, is_some, ap, sym, ◌∙◌, subst}
 use Rattle.std.proofs.Common.{arith}
-use Rattle.std.specs.List.{IsDistinct}
 use Rattle.std.proofs.lemmas.List.{length-append, length-map}
 use Rattle.std.proofs.lemmas.Option.{slice_get-map}
 use Rattle.vs_types.specs.Config.{Layout}
@@ -9,13 +8,13 @@ use Rattle.vs_types.specs.Space.{Space}
 use Rattle.vs_walk.specs.Walk.{TranslatesAs}
 use Rattle.vs_walk.specs.Dump.{Image}
 use Rattle.nr_trace.specs.Recording.{Recording}
-use Rattle.nr_trace.specs.Calls.{Invocation, call_of, operation_of, IsCall, IsUpdate, IsRead, Response, reply_to, IsAnswered, Answers, Precedes}
+use Rattle.nr_trace.specs.Calls.{Invocation, call_of, operation_of, IsCall, IsUpdate, IsRead, Response, reply_to, IsAnswered, Precedes}
 use Rattle.nr_trace.specs.Orders.{before, updates, space_from, answer_in, HasItsCalls, KeepsPrecedence, HasAnswersFrom, FitsFrom}
 use Rattle.nr_trace.proofs.LawsOfLists.{In, Contains-from_in, in_from_Contains, in_left, in_right, in_either, in_filter, in_filtered, distinct_append}
 use Rattle.nr_trace.proofs.LawsOfCalls.{call_within, is_some_from}
 use Rattle.nr_chain.specs.Joined.{Segment, dump_behind, calls_behind, joined_traces, both}
-use Rattle.nr_chain.specs.Run.{IsHistory, IsRightFrom, HasFittingDumpsFrom, space_behind}
-use Rattle.nr_chain.proofs.Lists.{in_map, not_in_behind, in_behind, in_mapped, behind_distinct, before_left, before_right, before_behind, before_in, split_at, of_mapped}
+use Rattle.nr_chain.specs.Run.{IsRightFrom, HasFittingDumpsFrom, space_behind}
+use Rattle.nr_chain.proofs.Lists.{in_map, not_in_behind, in_behind, behind_distinct, before_left, before_right, before_behind, before_in, split_at, of_mapped}
 use Rattle.nr_chain.proofs.Parts.{call_left, call_right, reply_behind, reply_to_left, reply_to_right, HasEarlierCalls, answered_left, answered_right}
 use Rattle.nr_chain.proofs.Parts.{is_call_left, is_call_from_left, is_call_right, is_call_from_right, is_update_left, is_update_from_left, is_update_right}
 use Rattle.nr_chain.proofs.Parts.{is_update_from_right, is_read_right, is_answered_left, is_answered_from_left, is_answered_right, is_answered_from_right}

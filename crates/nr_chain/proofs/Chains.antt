@@ -1,5 +1,5 @@
 -- Some segments, each right from the space after those before it, are one right run.
-use Rattle.std.proofs.Common.{◌≡◌, ℕ, List, [], ◌∷◌, ◌++◌, refl, ap, sym, ◌∙◌, subst}
+use Rattle.std.proofs.Common.{◌≡◌, List, [], ◌∷◌, ◌++◌, refl, ap, sym, ◌∙◌, subst}
 use Rattle.vs_types.specs.Config.{Layout}
 use Rattle.vs_types.specs.Space.{Space}
 use Rattle.nr_chain.specs.Joined.{Segment, both, joined}

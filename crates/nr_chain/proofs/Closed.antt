@@ -1,10 +1,9 @@
 -- The history of a joined run is well formed, where all calls of the first are answered.
 use Rattle.std.proofs.Common.{◌≡◌, ℕ, ◌+◌, ◌<◌, ◌⊎◌, inl, inr, length, Some, sym, ◌∙◌, subst, arith}
 use Rattle.nr_trace.specs.Recording.{Recording}
-use Rattle.nr_trace.specs.Calls.{Invocation, call_of, IsCall, Response, reply_of, reply_to, IsAnswered, Answers, Precedes, IsWellFormedHistory}
+use Rattle.nr_trace.specs.Calls.{Invocation, call_of, IsCall, reply_to, IsAnswered, Answers, Precedes, IsWellFormedHistory}
 use Rattle.nr_trace.proofs.LawsOfCalls.{the_some, is_some_from, reply_event, answers_from}
 use Rattle.nr_chain.specs.Joined.{joined_traces}
-use Rattle.nr_chain.specs.Run.{IsHistory}
 use Rattle.nr_chain.proofs.Lists.{split_at}
 use Rattle.nr_chain.proofs.Parts.{call_left, call_right, answers_to_left, answers_to_right, within_events}
 use Rattle.nr_chain.proofs.History.{history_both, history_from}

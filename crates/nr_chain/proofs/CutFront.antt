@@ -1,20 +1,19 @@
 -- Where a joined run has no fault, the first of its runs has none.
-use Rattle.std.proofs.Common.{◌≡◌, ◌≢◌, ℕ, ◌+◌, ◌<◌, ◌≤◌, ◌⊎◌, inl, inr, List, [], ◌++◌, length, slice_get, get_or, Some, ap, sym, ◌∙◌, subst, arith}
+use Rattle.std.proofs.Common.{◌≡◌, ◌≢◌, ℕ, ◌<◌, ◌≤◌, ◌⊎◌, inl, inr, List, [], length, slice_get, get_or, Some, ap, ◌∙◌, arith}
 use Rattle.std.proofs.lemmas.Bool.{cases_lt}
 use Rattle.std.proofs.lemmas.Option.{none-some, slice_get-get_or, slice_get_within}
 use Rattle.vs_types.specs.Space.{Space}
 use Rattle.vs_walk.specs.Dump.{Image}
 use Rattle.nr_trace.specs.Recording.{Recording}
-use Rattle.nr_trace.specs.Calls.{Invocation, call_of, IsCall, IsUpdate, IsRead, Response, reply_of, reply_to, Answers}
+use Rattle.nr_trace.specs.Calls.{call_of, IsCall, IsUpdate, IsRead, Response, reply_of}
 use Rattle.nr_trace.specs.Orders.{before, space_from, answer_in, recorded_order, known_by, floor}
-use Rattle.nr_trace.specs.Faults.{HasFaultFrom, OpensTwice, IsWrongFrom, StandsAfter}
+use Rattle.nr_trace.specs.Faults.{OpensTwice, IsWrongFrom, StandsAfter}
 use Rattle.nr_trace.specs.Laws.{HasCleanLog, IsFaultlessFrom}
-use Rattle.nr_trace.specs.declared.fault.Fault.{Fault}
 use Rattle.nr_trace.specs.declared.fault.Fault.TheVariants.{Format, ThreadOpen, NoSuchCall, AnsweredTwice, NotAnUpdate, PlacedTwice, NotPlaced, PastLog, Early}
 use Rattle.nr_trace.specs.declared.fault.Fault.TheVariants.{WrongAnswer, PrefixPastLog, PrefixShort, MissingFrame, SharedFrame, ReservedBit, StrayFrame}
 use Rattle.nr_trace.specs.declared.fault.Fault.TheVariants.{Differs}
 use Rattle.nr_trace.proofs.LawsOfLists.{In}
-use Rattle.nr_trace.proofs.LawsOfCalls.{call_within, is_some_from, update_is_call, read_is_call, update_from_not_not, behind_its_call, answered_stands, the_some}
+use Rattle.nr_trace.proofs.LawsOfCalls.{call_within, is_some_from, update_is_call, read_is_call, update_from_not_not, behind_its_call, answered_stands}
 use Rattle.nr_trace.proofs.LawsOfOrder.{member_stands, standing_is_member}
 use Rattle.nr_trace.proofs.LawsOfPrecedence.{known_of_read}
 use Rattle.nr_chain.specs.Cut.{IsClosed, without_dumps}
@@ -23,7 +22,7 @@ use Rattle.nr_chain.proofs.Lists.{before_left, before_in}
 use Rattle.nr_chain.proofs.Orders.{space_left}
 use Rattle.nr_chain.proofs.Parts.{call_left, reply_left, HasEarlierCalls, within_events, answers_left, answers_to_left, reply_to_left, is_call_left}
 use Rattle.nr_chain.proofs.Parts.{is_update_left, is_update_from_left}
-use Rattle.nr_chain.proofs.Places.{is_read_from_left, placed_left, placed_in, placed_before, PlacedRight, stands_left, known_left, KnowsMore, floor_above, knows_more}
+use Rattle.nr_chain.proofs.Places.{is_read_from_left, placed_left, placed_in, placed_before, PlacedRight, stands_left, known_left, floor_above, knows_more}
 use Rattle.nr_chain.proofs.Recorded.{recorded_both}
 
 -- a call that stands after some entries is one of the run

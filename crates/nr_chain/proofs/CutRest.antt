@@ -1,5 +1,5 @@
 -- Where a joined run has no fault, the second of its runs has none from the space after the first.
-use Rattle.std.proofs.Common.{◌≡◌, ◌≢◌, ℕ, suc, ◌+◌, ◌<◌, ◌≤◌, ◌⊎◌, inl, inr, List, ◌++◌, length, take, slice_get, option_map, Some, is_some, refl, ap, sym, ◌∙◌, subst, arith}
+use Rattle.std.proofs.Common.{◌≡◌, ◌≢◌, ℕ, ◌+◌, ◌<◌, List, ◌++◌, length, take, slice_get, option_map, Some, is_some, refl, ap, sym, ◌∙◌, subst, arith}
 use Rattle.std.proofs.lemmas.List.{take-map}
 use Rattle.std.proofs.lemmas.Option.{slice_get-map}
 use Rattle.vs_types.specs.Config.{Layout}
@@ -7,26 +7,24 @@ use Rattle.vs_types.specs.Space.{Space}
 use Rattle.vs_walk.specs.Differences.{HasMissingFrame, HasSharedFrame, HasReservedBit, HasStrayFrame, HasDifference}
 use Rattle.vs_walk.specs.Dump.{Image}
 use Rattle.nr_trace.specs.Recording.{Recording}
-use Rattle.nr_trace.specs.Calls.{operation_of, IsCall, IsUpdate, IsRead, Response, reply_of, reply_to, Answers}
-use Rattle.nr_trace.specs.Orders.{before, updates, space_from, answer_in, recorded_order, known_by, floor}
-use Rattle.nr_trace.specs.Faults.{HasFaultFrom, OpensTwice, IsWrongFrom, RestsOnMore, StandsAfter}
+use Rattle.nr_trace.specs.Calls.{operation_of, IsCall, IsUpdate, IsRead, Response, reply_of, Answers}
+use Rattle.nr_trace.specs.Orders.{before, space_from, answer_in, recorded_order, known_by, floor}
+use Rattle.nr_trace.specs.Faults.{OpensTwice, IsWrongFrom, RestsOnMore, StandsAfter}
 use Rattle.nr_trace.specs.Laws.{HasCleanLog, IsFaultlessFrom}
-use Rattle.nr_trace.specs.declared.fault.Fault.{Fault}
 use Rattle.nr_trace.specs.declared.fault.Fault.TheVariants.{Format, ThreadOpen, NoSuchCall, AnsweredTwice, NotAnUpdate, PlacedTwice, NotPlaced, PastLog, Early}
 use Rattle.nr_trace.specs.declared.fault.Fault.TheVariants.{WrongAnswer, PrefixPastLog, PrefixShort, MissingFrame, SharedFrame, ReservedBit, StrayFrame}
 use Rattle.nr_trace.specs.declared.fault.Fault.TheVariants.{Differs}
-use Rattle.nr_trace.proofs.LawsOfLists.{In, in_from_Contains, in_filter}
-use Rattle.nr_trace.proofs.LawsOfCalls.{reply_behind_call, call_within, update_is_call, placed_is_update}
+use Rattle.nr_trace.proofs.LawsOfLists.{In, in_filter}
+use Rattle.nr_trace.proofs.LawsOfCalls.{reply_behind_call}
 use Rattle.nr_trace.proofs.LawsOfOrder.{updates_of_order, member_stands}
-use Rattle.nr_chain.specs.Cut.{IsClosed}
 use Rattle.nr_chain.specs.Joined.{calls_behind, dump_behind, joined_traces}
-use Rattle.nr_chain.proofs.Lists.{of_mapped, before_right, before_behind, take_behind}
+use Rattle.nr_chain.proofs.Lists.{before_right, before_behind, take_behind}
 use Rattle.nr_chain.proofs.Orders.{AreOf, space_both, space_of_updates}
 use Rattle.nr_chain.proofs.Parts.{call_right, reply_right, reply_behind, HasEarlierCalls, answered_right, answers_to_right, reply_to_right, is_call_right}
 use Rattle.nr_chain.proofs.Parts.{is_update_right, is_update_from_right}
 use Rattle.nr_chain.proofs.Places.{is_read_from_right, placed_right, placed_in_right, stands_right, known_right, floor_above, knows_more}
 use Rattle.nr_chain.proofs.Recorded.{recorded_both, places_of_both}
-use Rattle.nr_chain.proofs.CutFront.{stands_within, before_within}
+use Rattle.nr_chain.proofs.CutFront.{stands_within}
 
 -- ---- where the first run's log is clean
 

@@ -1,5 +1,5 @@
 -- Where the two runs of a joined run have no fault, it has none.
-use Rattle.std.proofs.Common.{◌≡◌, ◌≢◌, ℕ, ◌+◌, ◌<◌, ◌≤◌, ◌⊎◌, inl, inr, List, ◌++◌, length, take, slice_get, Option, Some, None, ap, sym, ◌∙◌, subst, arith}
+use Rattle.std.proofs.Common.{◌≡◌, ◌≢◌, ℕ, ◌+◌, ◌<◌, ◌≤◌, ◌⊎◌, inl, inr, List, length, take, slice_get, Some, ap, sym, ◌∙◌, subst, arith}
 use Rattle.std.specs.Prelude.{◌↔◌}
 use Rattle.std.proofs.lemmas.Option.{slice_get-map, slice_get_within}
 use Rattle.vs_types.specs.Config.{Layout}
@@ -8,14 +8,13 @@ use Rattle.vs_walk.specs.Differences.{HasMissingFrame, HasSharedFrame, HasReserv
 use Rattle.vs_walk.specs.Dump.{Image}
 use Rattle.nr_trace.specs.Recording.{Recording}
 use Rattle.nr_trace.specs.Calls.{Invocation, call_of, IsCall, IsUpdate, IsRead, Response, reply_of, reply_to, Answers}
-use Rattle.nr_trace.specs.Orders.{before, space_from, answer_in, recorded_order, known_by, floor}
+use Rattle.nr_trace.specs.Orders.{before, space_from, answer_in, recorded_order, known_by}
 use Rattle.nr_trace.specs.Faults.{HasFaultFrom, OpensTwice, IsWrongFrom, RestsOnMore, StandsAfter}
 use Rattle.nr_trace.specs.Laws.{HasCleanLog, IsFaultlessFrom}
 use Rattle.nr_trace.specs.declared.fault.Fault.{Fault}
 use Rattle.nr_trace.specs.declared.fault.Fault.TheVariants.{Format, ThreadOpen, NoSuchCall, AnsweredTwice, NotAnUpdate, PlacedTwice, NotPlaced, PastLog, Early}
 use Rattle.nr_trace.specs.declared.fault.Fault.TheVariants.{WrongAnswer, PrefixPastLog, PrefixShort, MissingFrame, SharedFrame, ReservedBit, StrayFrame}
 use Rattle.nr_trace.specs.declared.fault.Fault.TheVariants.{Differs}
-use Rattle.nr_trace.proofs.LawsOfLists.{In}
 use Rattle.nr_trace.proofs.LawsOfCalls.{call_within, is_some_from, reply_behind_call, reply_is_first, update_or_read, answered_stands, not_both}
 use Rattle.nr_trace.proofs.LawsOfDumps.{clean_if_faultless}
 use Rattle.nr_trace.proofs.LawsOfOrder.{standing_is_member}
@@ -24,14 +23,13 @@ use Rattle.nr_chain.specs.Cut.{IsClosed, without_dumps}
 use Rattle.nr_chain.specs.Joined.{calls_behind, dump_behind, joined_traces}
 use Rattle.nr_chain.proofs.Lists.{split_at, of_mapped, before_left}
 use Rattle.nr_chain.proofs.Orders.{space_left}
-use Rattle.nr_chain.proofs.Parts.{call_left, call_right, reply_left, reply_from_right, reply_behind, HasEarlierCalls, within_events, answered_left, answered_right}
+use Rattle.nr_chain.proofs.Parts.{call_left, call_right, reply_left, reply_from_right, reply_behind, HasEarlierCalls, answers_within, answered_left, answered_right}
 use Rattle.nr_chain.proofs.Parts.{answers_to_left, answers_to_right, reply_to_left, reply_to_right, is_call_from_left, is_call_from_right}
 use Rattle.nr_chain.proofs.Parts.{is_update_left, is_update_from_left, is_update_right, is_update_from_right, is_read_right}
 use Rattle.nr_chain.proofs.Places.{is_read_left, placed_left, placed_right, placed_in, PlacedRight, stood_left, stood_right, known_left, known_right}
 use Rattle.nr_chain.proofs.Places.{KnowsMore, floor_above, knows_more}
-use Rattle.nr_chain.proofs.Closed.{answering}
 use Rattle.nr_chain.proofs.Recorded.{recorded_both, places_of_both}
-use Rattle.nr_chain.proofs.CutFront.{stands_within, before_within, front_faultless, clean_front}
+use Rattle.nr_chain.proofs.CutFront.{before_within, front_faultless, clean_front}
 use Rattle.nr_chain.proofs.CutRest.{space_before_right, space_of_prefix, rest_faultless}
 
 -- the faults of a run without dumps are its own
@@ -124,7 +122,8 @@ module _ (start : Space) (first second : Recording) (same_layout : second.layout
       → ((reply : ℕ) → reply < length first.events + index → Answers whole reply k → ⊥) → ⊥
   no_call_open index k made l is none =
       let own = is_some_from (call_of first k) made (sym (call_left first second k l) ∙ is) in
-      let (reply, inside, answers) = answering first k (closed.answered k own) in
+      let (reply, answers) = closed.answered k own in
+      let inside = answers_within first reply k answers in
       none reply (omega arith) (answers_to_left first second reply k answers)
 
   opens_right : (index : ℕ) → OpensTwice whole (length first.events + index) → ⊥

@@ -1,5 +1,5 @@
 -- A thread whose call has no reply makes another.
-use Rattle.std.proofs.Common.{◌≡◌, ℕ, zero, suc, ◌<◌, Some, refl, arith}
+use Rattle.std.proofs.Common.{ℕ, zero, suc, ◌<◌, refl, arith}
 use Rattle.nr_trace.specs.Calls.{Answers, IsWellFormedHistory}
 use Rattle.nr_trace.specs.Examples.{map_it, resolve_it}
 use Rattle.nr_chain.specs.Examples.{maps_without_a_reply, resolves_it}

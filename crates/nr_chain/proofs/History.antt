@@ -5,7 +5,7 @@ use Rattle.nr_trace.specs.Calls.{Invocation, call_of, IsCall, Response, reply_of
 use Rattle.nr_chain.specs.Joined.{joined_traces}
 use Rattle.nr_chain.specs.Run.{IsHistory}
 use Rattle.nr_chain.proofs.Lists.{split_at}
-use Rattle.nr_chain.proofs.Parts.{call_left, call_right, reply_left, reply_from_right, reply_behind, HasEarlierCalls, answered_left, answered_right}
+use Rattle.nr_chain.proofs.Parts.{call_left, call_right, reply_left, reply_from_right, HasEarlierCalls, answered_left, answered_right}
 use Rattle.nr_chain.proofs.Parts.{is_call_from_left, is_call_from_right}
 
 pub earlier_calls : (trace : Recording) → IsHistory trace → HasEarlierCalls trace

@@ -11,4 +11,5 @@ pub mod Places
 pub mod CutFront
 pub mod CutRest
 pub mod CutWhole
+pub mod Cuts
 mod GoesOn

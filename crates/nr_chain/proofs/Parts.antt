@@ -1,5 +1,5 @@
 -- The calls and replies of a joined run: those of the first, and behind them those of the second.
-use Rattle.std.proofs.Common.{◌≡◌, ℕ, ◌+◌, ◌<◌, ◌⊎◌, inl, inr, Bool, ◌==◌, List, [], ◌++◌, length, map, slice_get, Option, Some, None, IsSome, option_and_then}
+use Rattle.std.proofs.Common.{◌≡◌, ℕ, ◌+◌, ◌<◌, ◌⊎◌, inl, inr, ◌==◌, List, [], ◌++◌, length, map, slice_get, Option, Some, None, IsSome, option_and_then}
 use Rattle.std.proofs.Common.{option_map, refl, ap, ap₂, sym, ◌∙◌, subst, arith, eq-eqb, ne_eqb, if◌then◌else◌}
 use Rattle.std.specs.Prelude.{filter_map}
 use Rattle.std.proofs.lemmas.Bool.{cases_eq}
@@ -13,7 +13,6 @@ use Rattle.nr_trace.specs.declared.event.Event.{Event}
 use Rattle.nr_trace.specs.declared.event.Event.TheVariants.{Reply}
 use Rattle.nr_trace.proofs.LawsOfCalls.{answers_from, reply_that_answers, reply_in_event}
 use Rattle.nr_chain.specs.Joined.{event_behind, joined_traces}
-use Rattle.nr_chain.specs.Run.{IsHistory}
 use Rattle.nr_chain.proofs.Lists.{get_left, get_right, split_at, of_mapped, some_of_mapped, mapped_some, filter_map-map, none_given, none_of_mapped}
 
 -- ---- calls
@@ -87,6 +86,11 @@ within_events trace index reply is =
     slice_get_within trace.events index event at
 
 -- ---- which event answers a call
+
+pub answers_within : (trace : Recording) (index call : ℕ) → Answers trace index call → index < length trace.events
+answers_within trace index call h =
+    let (reply, is, named) = reply_that_answers trace index call h in
+    within_events trace index reply is
 
 pub answers_left : (first second : Recording) (index call : ℕ) → index < length first.events → Answers (joined_traces first second) index call
     → Answers first index call

@@ -1,5 +1,5 @@
 -- The log of a joined run, what stands after so many of its entries, and what raises a floor.
-use Rattle.std.proofs.Common.{◌≡◌, ℕ, zero, suc, ◌+◌, ◌<◌, ◌≤◌, ◌⊎◌, inl, inr, max, List, [], ◌∷◌, ◌++◌, length, take, map, fold, slice_get, Option, Some, None}
+use Rattle.std.proofs.Common.{◌≡◌, ℕ, zero, suc, ◌+◌, ◌<◌, ◌≤◌, ◌⊎◌, inl, inr, max, List, [], ◌∷◌, length, take, map, fold, slice_get, Option, Some, None}
 use Rattle.std.proofs.Common.{IsSome, option_and_then, option_map, refl, ap, sym, ◌∙◌, subst, arith}
 use Rattle.std.specs.Prelude.{filter_map}
 use Rattle.std.specs.Option.{option_map_or}
@@ -8,7 +8,7 @@ use Rattle.std.proofs.lemmas.Bool.{cases_lt}
 use Rattle.std.proofs.lemmas.Option.{none-some, slice_get-map, slice_get_within}
 use Rattle.vs_types.specs.declared.op.Action.{Action}
 use Rattle.nr_trace.specs.Recording.{Recording}
-use Rattle.nr_trace.specs.Calls.{operation_of, IsUpdate, IsRead, Response, reply_in, reply_of, reply_to}
+use Rattle.nr_trace.specs.Calls.{operation_of, IsRead, Response, reply_in, reply_of, reply_to}
 use Rattle.nr_trace.specs.Orders.{known_by, floor}
 use Rattle.nr_trace.specs.Faults.{StandsAfter}
 use Rattle.nr_trace.proofs.LawsOfLists.{In}

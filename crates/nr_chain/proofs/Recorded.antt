@@ -1,5 +1,5 @@
 -- The order that a joined run records: that of the first, and behind it that of the second.
-use Rattle.std.proofs.Common.{◌≡◌, ℕ, zero, suc, ◌+◌, ◌<◌, ◌≤◌, ◌⊎◌, inl, inr, Bool, true, false, ◌&&◌, ◌==◌, List, [], ◌∷◌, ◌++◌, length, filter, map, slice_get}
+use Rattle.std.proofs.Common.{◌≡◌, ℕ, zero, suc, ◌+◌, ◌<◌, ◌≤◌, ◌⊎◌, inl, inr, Bool, true, false, ◌&&◌, ◌==◌, List, [], ◌++◌, length, filter, map, slice_get}
 use Rattle.std.proofs.Common.{Option, Some, None, is_some, option_to_list, option_map, refl, ap, ap₂, sym, ◌∙◌, arith, eq-eqb, ne_eqb}
 use Rattle.std.specs.Prelude.{flat_map}
 use Rattle.std.specs.Option.{option_map_or}
@@ -60,7 +60,7 @@ saw_before first second n call earlier l =
     ∙ ap (λ (b : Bool). is_some (address_of second call) && b) (at_before (length first.events) (length first.log) n (reply_to second call) l)
     ∙ and_false (is_some (address_of second call))
 
-events_of_both : (first second : Recording) → length (joined_traces first second).events ≡ length first.events + length second.events
+pub events_of_both : (first second : Recording) → length (joined_traces first second).events ≡ length first.events + length second.events
 events_of_both first second =
     length-append first.events (map (event_behind (length first.events) (length first.log)) second.events)
     ∙ ap (λ (k : ℕ). length first.events + k) (length-map second.events (event_behind (length first.events) (length first.log)))

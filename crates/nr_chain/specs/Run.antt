@@ -4,7 +4,7 @@ use Rattle.vs_types.specs.Config.{Layout}
 use Rattle.vs_types.specs.Space.{Space}
 use Rattle.vs_walk.specs.Dump.{Image}
 use Rattle.nr_trace.specs.Recording.{Recording}
-use Rattle.nr_trace.specs.Calls.{Invocation, call_of, IsCall, Response, reply_of, IsAnswered, Answers}
+use Rattle.nr_trace.specs.Calls.{Invocation, call_of, IsCall, Response, reply_of, Answers}
 use Rattle.nr_trace.specs.Orders.{updates, space_from, recorded_order, HasItsCalls, KeepsPrecedence, HasAnswersFrom, FitsFrom}
 use Rattle.nr_trace.specs.Laws.{IsFaultlessFrom}
 use Rattle.nr_chain.specs.Joined.{Segment, joined}

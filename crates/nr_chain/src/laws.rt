@@ -7,9 +7,9 @@ ghost use Rattle.nr_trace.specs.Calls.{IsAnswered, IsCall, IsWellFormedHistory};
 ghost use Rattle.nr_trace.specs.Laws.{HasCleanLog, IsFaultlessFrom};
 ghost use Rattle.nr_trace.specs.Orders.{recorded_order, space_from};
 ghost use Rattle.nr_trace.specs.Recording.{Recording};
-ghost use Rattle.nr_chain.specs.Cut.{without_dumps, IsClosed};
+ghost use Rattle.nr_chain.specs.Cut.{without_dumps, AreCut, AreRecorded, IsClosed};
 ghost use Rattle.nr_chain.specs.Joined.{calls_behind, joined, joined_traces, Segment};
-ghost use Rattle.nr_chain.specs.Run.{AreFaultlessFrom, AreRightFrom, IsHistory, IsRightFrom, IsRightRun};
+ghost use Rattle.nr_chain.specs.Run.{AreFaultlessFrom, AreRightFrom, IsHistory, IsRightRun};
 ghost use Rattle.nr_chain.specs.Run.{space_behind, space_behind_all};
 
 /// Where each segment is right from the space after those before it, the run of them all is right.
@@ -68,4 +68,18 @@ pub fn a_cut_makes_no_difference()
         → IsFaultlessFrom start (joined_traces first second)
         ↔ (IsFaultlessFrom start (without_dumps first)
         × IsFaultlessFrom (space_from start first first.log) second) }
+{}
+
+/// Nor do several cuts, where dumps are taken at the end of the last segment alone.
+pub fn cuts_make_no_difference()
+    ensures whole { (start : Space) (layout : Layout) (first : Segment) (more : List Segment)
+        → AreCut first more → AreFaultlessFrom start layout (first ∷ more)
+        → IsFaultlessFrom start (joined first more).trace }
+    ensures order { (start : Space) (layout : Layout) (first : Segment) (more : List Segment)
+        → AreCut first more → AreFaultlessFrom start layout (first ∷ more)
+        → (joined first more).order ≡ recorded_order (joined first more).trace }
+    ensures segments { (start : Space) (layout : Layout) (first : Segment) (more : List Segment)
+        → AreCut first more → AreRecorded layout (first ∷ more)
+        → IsFaultlessFrom start (joined first more).trace
+        → AreFaultlessFrom start layout (first ∷ more) }
 {}
