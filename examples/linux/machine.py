@@ -43,6 +43,7 @@ class Guest:
     code: tuple[Replaced | Silenced, ...] = ()      # what is overwritten when the guest says so
     package: str = ""               # of Debian, unpacked in the guest with all that it depends on
     nested: bool = False            # KVM is there, and the nested tables of a guest's guest are watched
+    options: str = ""               # of the kernel's command line, with one before them
 
 
 def pack(name: str, command: str, files: list[str], package: str = "") -> str:
@@ -151,7 +152,7 @@ def command(name: str, guest: Guest, kernel: Kernel, plugin: str, initrd: str) -
     words = plain_command(kernel.image, initrd)
     words += ["-m", f"{guest.memory}M", "-smp", str(guest.processors), "-cpu", PROCESSOR + (",la57=off" if guest.levels == 4 else "")]
     words += ["-object", f"memory-backend-file,id=memory,size={guest.memory}M,mem-path={memory},share=on", "-machine",
-              "pc,memory-backend=memory", "-append", COMMAND_LINE + (" pti=on" if guest.isolated else ""), "-serial",
+              "pc,memory-backend=memory", "-append", COMMAND_LINE + (" pti=on" if guest.isolated else "") + guest.options, "-serial",
               f"file:{OUT}/{name}.serial", "-plugin", ",".join(told), "-d", "int,plugin", "-D", f"{OUT}/{name}.raw"]
     if guest.code:
         words += ["-serial", f"unix:{OUT}/{name}.line,server,nowait", "-gdb", f"unix:{OUT}/{name}.debug,server,nowait"]

@@ -58,6 +58,7 @@ class Plant:
     rounds: int = 5
     processors: int = 1         # with one, nothing but the kernel's own flushes comes between a store and what the process does next
     tick: int = 0
+    nested: bool = False        # a monitor of KVM meets it
 
 
 PLANTS = {
@@ -77,5 +78,6 @@ PLANTS = {
     "no-protect": Plant("mprotect changes nothing", (Replaced("change_protection", RETURN_NOTHING),), "threads shootdown", 10, 3, 50),
     "all-rights": Plant("a page that is mapped may be written, whatever was asked",
                         (Replaced("vm_get_page_prot", RETURN_WRITABLE),), "threads"),
+    "kvm-flush": Plant("KVM doesn't flush what it made read-only", (Replaced("kvm_flush_remote_tlbs", RETURN),), "", 100, 2, nested=True),
     "no-unmap": Plant("munmap leaves the pages mapped", (Replaced("unmap_page_range", RETURN),), "threads", 5),
 }

@@ -4,6 +4,7 @@ from dataclasses import dataclass
 from machine import Guest
 from plants import Plant
 
+WITHOUT_TICKS = " tsc=reliable nohz_full=1"      # on processor 1, while one task runs there: each tick would end a machine's run
 PARTS = "threads shootdown cow huge moved files merged reclaimed emptied copied"
 
 
@@ -18,12 +19,13 @@ class Workload:
     isolated: bool = False
     package: str = ""
     nested: bool = False
+    options: str = ""
 
     def guest(self, seed: int, plant: Plant | None = None) -> Guest:
         command = f"/bin/workload {self.command.replace('SEED', str(seed))}"
         ticking = f"/bin/workload tick {self.tick} &\n" if self.tick else ""
         return Guest(ticking + command, self.processors, self.levels, self.isolated, self.rest, code=plant.code if plant else (),
-                     package=self.package, nested=self.nested)
+                     package=self.package, nested=self.nested, options=self.options)
 
 
 WORKLOADS = {
@@ -46,6 +48,8 @@ WORKLOADS = {
     "stress-tlb": Workload("stress-ng's process that has TLBs shot down (tlb-shootdown), from fork to exit, 3 processors",
                            "later 2 /usr/bin/stress-ng --tlb-shootdown 1 --tlb-shootdown-ops 4 --seed SEED", 3, 50, package="stress-ng"),
     "kvm": Workload("the nested tables of KVM's guest in the guest, 1 processor", "monitor SEED 100", nested=True),
+    "kvm-log": Workload("the same of a guest whose writes KVM logs, 2 processors", "logged SEED 100", 2, nested=True,
+                        options=WITHOUT_TICKS),
     "race": Workload("rests between stores and their flushes, so that other processors' accesses fall there, 3 processors",
                      "live SEED 12 shootdown", 3, 50, rest=25),
 }
@@ -53,4 +57,6 @@ WORKLOADS = {
 
 def planted(plant: Plant) -> Workload:
     """The process that meets a planted bug; it waits for it when it runs already."""
-    return Workload(plant.what, f"live SEED {plant.rounds} planted {plant.parts}", plant.processors, plant.tick)
+    how = "logged" if plant.nested else "live"
+    return Workload(plant.what, f"{how} SEED {plant.rounds} planted {plant.parts}", plant.processors, plant.tick, nested=plant.nested,
+                    options=WITHOUT_TICKS if plant.nested else "")

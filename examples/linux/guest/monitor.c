@@ -5,10 +5,12 @@
 #include <errno.h>
 #include <fcntl.h>
 #include <linux/kvm.h>
+#include <pthread.h>
 #include <stdio.h>
 #include <stdlib.h>
 #include <string.h>
 #include <sys/ioctl.h>
+#include <unistd.h>
 
 #define MIB (1024ul * 1024)
 #define BYTES (8 * MIB) /* of the machine's memory: small pages below the half, large ones above */
@@ -16,11 +18,15 @@
 #define LARGE (2 * MIB)
 #define RUN (16 * PAGE) /* what one run of the machine accesses */
 #define CODE 0x800u
+#define ENOUGH 0x700u /* a byte of the machine's memory: 1 where the endless writing ends */
 #define COLLAPSE 25 /* MADV_COLLAPSE */
 
 /* In real mode, from DS:0 on, a byte of each of 16 pages: xor %bx,%bx; then incb (%bx), or mov (%bx),%al; add $4096,%bx; jnz; hlt. */
 static const uint8_t writing[] = { 0x31, 0xdb, 0xfe, 0x07, 0x81, 0xc3, 0x00, 0x10, 0x75, 0xf8, 0xf4 };
 static const uint8_t reading[] = { 0x31, 0xdb, 0x8a, 0x07, 0x81, 0xc3, 0x00, 0x10, 0x75, 0xf8, 0xf4 };
+/* As the first, and before hlt: cmpb $0,%cs:ENOUGH; je to its begin. */
+static const uint8_t writing_on[] = { 0x31, 0xdb, 0xfe, 0x07, 0x81, 0xc3, 0x00, 0x10, 0x75, 0xf8, 0x2e, 0x80, 0x3e, 0x00, 0x07, 0x00, 0x74,
+	0xee, 0xf4 };
 
 static struct {
 	int file, processor;
@@ -57,13 +63,12 @@ static void begin_machine(void)
 		exit(1);
 }
 
-/* The machine runs until it halts; 1 where it ends otherwise. */
-static int access_pages(uint64_t base, int is_store)
+/* The machine runs from its code on, with so much before the addresses of its pages, until it halts; 1 where it ends otherwise. */
+static int run_machine(uint64_t base)
 {
 	struct kvm_regs registers = { .rip = CODE, .rflags = 2 };
 	struct kvm_sregs segments;
 
-	memcpy(machine.memory + CODE, is_store ? writing : reading, sizeof writing);
 	ask(machine.processor, KVM_GET_SREGS, &segments);
 	segments.cs.base = 0;
 	segments.cs.selector = 0;
@@ -72,6 +77,12 @@ static int access_pages(uint64_t base, int is_store)
 	ask(machine.processor, KVM_SET_REGS, &registers);
 	ask(machine.processor, KVM_RUN, NULL);
 	return machine.run->exit_reason != KVM_EXIT_HLT;
+}
+
+static int access_pages(uint64_t base, int is_store)
+{
+	memcpy(machine.memory + CODE, is_store ? writing : reading, sizeof writing);
+	return run_machine(base);
 }
 
 static void log_writes(void)
@@ -103,6 +114,33 @@ static void change_memory(uint64_t base, uint64_t how)
 		madvise(at, RUN, MADV_PAGEOUT);
 	else if (how < 6 && base >= HALF)
 		madvise(machine.memory + (base & -LARGE), LARGE, COLLAPSE);
+}
+
+static void *write_on(void *others)
+{
+	stay_on(1);
+	*(int *)others = run_machine(HALF / 2);
+	return NULL;
+}
+
+int run_logged(unsigned rounds)
+{
+	int others = 0;
+	pthread_t writer;
+
+	stay_on(0);
+	begin_machine();
+	memcpy(machine.memory + CODE, writing_on, sizeof writing_on);
+	log_writes();
+	if (pthread_create(&writer, NULL, write_on, &others))
+		return 1;
+	for (unsigned round = 0; round < rounds; round++) {
+		usleep(1000);
+		take_log();
+	}
+	machine.memory[ENOUGH] = 1;
+	pthread_join(writer, NULL);
+	return others;
 }
 
 int run_monitor(uint64_t random, unsigned rounds)

@@ -8,4 +8,8 @@
  * as they have to. */
 int run_monitor(uint64_t random, unsigned rounds);
 
+/* The same of a machine with a processor that writes the same pages all the time, while, so many times, the log of its writes is taken:
+ * after each, a page may be written only when the processor has asked again. */
+int run_logged(unsigned rounds);
+
 #endif

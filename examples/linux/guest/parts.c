@@ -144,7 +144,7 @@ static struct {
 	pthread_t threads[READERS];
 } shared;
 
-static void stay_on(long processor)
+void stay_on(long processor)
 {
 	long count = sysconf(_SC_NPROCESSORS_ONLN);
 	cpu_set_t set;

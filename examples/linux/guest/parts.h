@@ -20,6 +20,9 @@ void run_part(const char *name);
 
 char *map_at(uint64_t address, uint64_t bytes, int protection, int flags, int file);
 
+/* The thread runs on this processor alone, or, below 0, on any. */
+void stay_on(long processor);
+
 /* A drawn number below a bound. */
 uint64_t draw(uint64_t *state, uint64_t below);
 

@@ -7,6 +7,7 @@
  *     workload exec PROGRAM WORD..         has another program's watched, from exec to exit
  *     workload later N PROGRAM WORD..      .. the one that is made when N others were made from that exec on, to its end
  *     workload monitor SEED ROUNDS         has the nested tables watched of a virtual machine, whose monitor it is
+ *     workload logged SEED ROUNDS PART..   .. of one that writes all the time, while the log of its writes is taken; after these parts
  *     workload tick MICROSECONDS           sleeps and wakes for ever: at each of these interrupts QEMU goes to the next processor
  *
  * A store to the page of marks is a word to the plugin (plugin/watch.c). A line WRONG says that the process saw something
@@ -70,12 +71,14 @@ static int fork_watched(uint64_t pages)
 	return 0;
 }
 
-static int monitor_watched(void)
+static int monitor_watched(int is_logged, char **names)
 {
 	int others;
 
+	for (; *names; names++)
+		run_part(*names);
 	*MARKS = MARK_NEXT;
-	others = run_monitor(seed, rounds);
+	others = is_logged ? run_logged(rounds) : run_monitor(seed, rounds);
 	printf("DONE, %d wrong\n", others);
 	*MARKS = MARK_END;
 	return others != 0;
@@ -107,8 +110,8 @@ int main(int count, char **words)
 		return exec_watched(1, MARK_NEXT, words + 2);
 	if (!strcmp(what, "later") && count > 3)
 		return exec_watched(1, MARK_LATER + seed, words + 3);
-	if (!strcmp(what, "monitor") && count > 3)
-		return monitor_watched();
+	if ((!strcmp(what, "monitor") || !strcmp(what, "logged")) && count > 3)
+		return monitor_watched(!strcmp(what, "logged"), words + 4);
 	if (!strcmp(what, "fork") && count > 3)
 		return fork_watched(rounds);
 	if (!strncmp(what, "watched-", 8) && count > 3)
