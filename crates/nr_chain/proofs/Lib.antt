@@ -12,4 +12,5 @@ pub mod CutFront
 pub mod CutRest
 pub mod CutWhole
 pub mod Cuts
+pub mod Meeting
 mod GoesOn

@@ -35,6 +35,14 @@ pub fn parts_are_right_as_one()
         → AreFaultlessFrom start layout (front ++ rest) }
 {}
 
+/// Two runs in segments that are right, of which the second begins with the space after the first, are right as one.
+pub fn right_runs_are_right_as_one()
+    ensures { (start : Space) (first next : Segment) (more rest : List Segment)
+        → next.trace.layout ≡ first.trace.layout → IsRightRun start first more
+        → IsRightRun (space_behind start (joined first more)) next rest
+        → IsRightRun start first (more ++ next ∷ rest) }
+{}
+
 /// The space after a run is the one after its segments, one after another.
 pub fn spaces_go_on_by_segments()
     ensures { (start : Space) (first : Segment) (more : List Segment)
