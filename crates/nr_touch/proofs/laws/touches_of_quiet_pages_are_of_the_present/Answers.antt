@@ -1,0 +1,8 @@
+use Rattle.nr_touch.proofs.QuietPages.{quiet_answers, quiet_looks}
+use Rattle.nr_touch.proofs.laws.touches_of_quiet_pages_are_of_the_present.Goals as goal
+
+pub returns-clause-looks : goal.returns-clause-looks
+returns-clause-looks c = λ start trace touch m n quiet first then. quiet_looks start trace touch quiet m n first then
+
+pub returns-clause-answers : goal.returns-clause-answers
+returns-clause-answers c = quiet_answers

@@ -1,0 +1,11 @@
+//! Touches: accesses that processors make through their TLBs, each compared with the moments that are still allowed.
+//!
+//! A TLB may keep how an address looked until the update that changed it is answered, which is when its flush is over; and it may
+//! lag for one page and not for another. So a touch is no linearizable read: it is right where it was answered as its address
+//! was at some moment that no flush had ended before it began.
+#![tactic(auto)]
+
+pub mod laws;
+mod touch;
+
+pub use touch::Touch;
