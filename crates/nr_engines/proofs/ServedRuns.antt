@@ -1,19 +1,16 @@
 -- What is told of a run is told of what it has to show.
-use Rattle.std.proofs.Common.{◌≡◌, ℕ, Bool, true, false, List, Option, Result, Ok, length, inl, inr, refl}
+use Rattle.std.proofs.Common.{◌≡◌, ℕ, Bool, true, false, List, Option, length, inl, inr, refl}
 use Rattle.vs_types.specs.Config.{Layout}
 use Rattle.vs_types.specs.declared.depth.Depth.{Depth}
-use Rattle.vs_types.specs.declared.refusal.Fail.{Fail}
 use Rattle.vs_types.specs.declared.request.Query.{Query}
 use Rattle.nr_trace.specs.Faults.{IsFirstOf}
 use Rattle.nr_trace.specs.Laws.{IsFaultless}
 use Rattle.nr_trace.specs.Orders.{recorded_order}
 use Rattle.nr_audit.specs.Headline.{AreRightWith, IsSpelledWith}
 use Rattle.nr_serve.specs.Run.{AreAllCallsOf, HaveSeenAnswers, IfRunRefused, IfVerified, IsLogOf, IsTraceOf}
-use Rattle.nr_serve.specs.declared.no_thread.NoThread.{NoThread as NoThreadOfRun}
 use Rattle.nr_serve.specs.declared.outcome.Outcome.{Outcome}
 use Rattle.nr_serve.specs.declared.outcome.Outcome.TheVariants.{Verified, Refused}
-use Rattle.nr_engines.specs.ServedRun.{HasRunnable, IsRefusedRun, IsRunEnd, IsRunFault, IsServeFault, IsTextFault, IsVerifiedRun, TellsRun}
-use Rattle.nr_engines.specs.ServedRun.{outcome_status, told_of}
+use Rattle.nr_engines.specs.ServedRun.{HasRunnable, IsRefusedRun, IsRunEnd, IsRunFault, IsVerifiedRun, TellsRun, outcome_status, told_of}
 use Rattle.nr_engines.specs.declared.fault.ProgFault.{ProgFault}
 use Rattle.nr_engines.specs.declared.fault.ProgFault.TheVariants.{BadAddress, NotCanonical, NoSuchReplica, InputTooLong, BadLine, NoThread, CannotRead, CannotWrite, Memory}
 
@@ -69,19 +66,6 @@ tells_run layout scripts as_trace (Refused trace fault) status shown refused sam
   text_is = refl;
   status_is = same;
 })
-
--- what was given was not written
-pub serve_fault : {T : Type 0} (gives : Result T (Fail NoThreadOfRun) → Type 0) (what : T) → gives (Ok what) → (fault : ProgFault) → IsTextFault fault
-    → IsServeFault gives fault
-serve_fault gives what given CannotWrite end = (what, given)
-serve_fault gives what given Memory end = tt
-serve_fault gives what given NoThread end = absurd end
-serve_fault gives what given BadAddress end = absurd end
-serve_fault gives what given NotCanonical end = absurd end
-serve_fault gives what given NoSuchReplica end = absurd end
-serve_fault gives what given InputTooLong end = absurd end
-serve_fault gives what given (BadLine number) end = absurd end
-serve_fault gives what given CannotRead end = absurd end
 
 -- why a run of a script with no steps is not told
 pub fault_of_end : (depth : Depth) (known : Option (List ℕ)) (fault : ProgFault) → HasRunnable depth known → IsRunEnd fault → IsRunFault depth known fault

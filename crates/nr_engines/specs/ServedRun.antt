@@ -1,10 +1,7 @@
 -- What `run` answers to a script: what came of each call of its threads, where the run is verified; else the first fault of its trace.
-use Rattle.std.specs.Prelude.{◌≡◌, ◌≤◌, ◌⊎◌, ℕ, Bool, true, false, List, length, map, Option, Some, None, Result, Ok, Err, ⊤}
-use Rattle.std.specs.Io.KnownBytes.{Appends}
+use Rattle.std.specs.Prelude.{◌≡◌, ◌≤◌, ◌⊎◌, ℕ, Bool, true, false, List, length, map, Option, Some, None, ⊤}
 use Rattle.vs_types.specs.Config.{Layout}
 use Rattle.vs_types.specs.declared.depth.Depth.{Depth}
-use Rattle.vs_types.specs.declared.refusal.Fail.{Fail}
-use Rattle.vs_types.specs.declared.refusal.Fail.TheVariants as fails
 use Rattle.vs_types.specs.declared.request.Query.{Query}
 use Rattle.nr_ring.specs.Pass.{Known}
 use Rattle.nr_trace.specs.Faults.{IsFirstOf}
@@ -13,7 +10,6 @@ use Rattle.nr_trace.specs.Orders.{recorded_order}
 use Rattle.nr_trace.specs.declared.fault.Fault.{Fault}
 use Rattle.nr_audit.specs.Headline.{AreRightWith, IsSpelledWith}
 use Rattle.nr_serve.specs.Run.{AreAllCallsOf, HaveSeenAnswers, IsLogOf, IsTraceOf}
-use Rattle.nr_serve.specs.declared.no_thread.NoThread.{NoThread as NoThreadOfRun}
 use Rattle.nr_serve.specs.declared.outcome.Outcome.{Outcome}
 use Rattle.nr_serve.specs.declared.outcome.Outcome.TheVariants.{Verified, Refused}
 use Rattle.nr_serve.specs.declared.said.Said.{Said}
@@ -81,32 +77,6 @@ told_of as_trace (Refused trace fault) = asked_for as_trace trace (refused_text 
 abbrev pub outcome_status : {J : Type 0} → Outcome J → ℕ
 outcome_status (Verified answers trace order passes) = 0
 outcome_status (Refused trace fault) = 1
-
--- what the program says of a run that gave no outcome
-abbrev pub run_fault : Fail NoThreadOfRun → ProgFault
-run_fault fails.Memory = Memory
-run_fault (fails.Refused why) = NoThread
-
--- what is told of that which a call gave was written after what was there, and nothing else
-pub record WritesTold {T : Type 0} (told : T → List ℕ) (ends_with : T → ℕ) (gives : Result T (Fail NoThreadOfRun) → Type 0)
-    (old new : Option (List ℕ)) (status : ℕ) : Type 0 where
-  pub what : T
-  pub given : gives (Ok what)
-  pub written : Appends old new (told what)
-  pub status_is : status ≡ ends_with what
-
--- why what is told was not written: the output gave an error or memory ran out, of which no contract says when
-abbrev pub IsTextFault : ProgFault → Type 0
-IsTextFault CannotWrite = ⊤
-IsTextFault Memory = ⊤
-IsTextFault _ = ⊥
-
--- or the call gave nothing to tell
-abbrev pub IsServeFault : {T : Type 0} → (Result T (Fail NoThreadOfRun) → Type 0) → ProgFault → Type 0
-IsServeFault gives NoThread = (why : NoThreadOfRun) × gives (Err (fails.Refused why))
-IsServeFault {T} gives CannotWrite = (what : T) × gives (Ok what)
-IsServeFault gives Memory = ⊤
-IsServeFault gives _ = ⊥
 
 -- what each thread asks
 abbrev pub scripts_of : Script → List (List Query)

@@ -32,7 +32,7 @@ pub use fault::ProgFault;
 pub use report::Report;
 pub use resolve::{resolve_io, resolve_read};
 pub use script_input::input_script;
-pub use served_run::{Told, run_io, write_served};
+pub use served_run::run_io;
 pub use setup::Setup;
 pub use simulate::simulate_io;
 pub use unit_input::read_units;

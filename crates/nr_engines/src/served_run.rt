@@ -4,8 +4,7 @@ ghost use Rattle.std.specs.Io.KnownBytes.{Appends};
 ghost use Rattle.vs_types.specs.Query.{AreScripts};
 ghost use Rattle.nr_engines.specs.Answers.{WritesReport};
 ghost use Rattle.nr_engines.specs.Refusals.{WritesAnswersAlone};
-ghost use Rattle.nr_engines.specs.ServedRun.{IsRunEnd, IsRunFault, IsServeFault, IsServedRun, IsTextFault, TellsRun, WritesTold};
-ghost use Rattle.nr_engines.specs.ServedRun.{outcome_status, run_fault, told_of};
+ghost use Rattle.nr_engines.specs.ServedRun.{IsRunEnd, IsRunFault, IsServedRun, TellsRun, outcome_status, told_of};
 ghost use Rattle.nr_engines.specs.Simulation.{HasReadAtMost};
 
 use crate::ends::write_text;
@@ -63,7 +62,7 @@ fn write_outcome<J: LogName, W: Write>(
 ) -> Result<u8, ProgFault>
     ensures ok { IfOk result (λ status. (status ≡ outcome_status outcome.now)
         × Appends (W.contents writer.old) (W.contents writer.new) (told_of as_trace outcome.now)) }
-    ensures err { IfErr result IsTextFault }
+    ensures err { IfErr result IsRunEnd }
     ensures alone { WritesAnswersAlone writer.old writer.new result }
 {
     if as_trace {
@@ -75,84 +74,13 @@ fn write_outcome<J: LogName, W: Write>(
     Ok(outcome_status(outcome))
 }
 
-/// What comes of a run, as it is told.
-pub trait Told {
-    ghost use Rattle.std.specs.Prelude.{ℕ, Bool, List};
-
-    /// What is told, as a trace or as text.
-    ghost told: { Bool → Self → List ℕ };
-
-    /// The exit status.
-    ghost ends_with: { Self → ℕ };
-
-    /// Writes what is told and nothing else, and gives the status. Takes memory for a text.
-    ///
-    /// # Errors
-    ///
-    /// `CannotWrite` where the writer gave an error, `Memory` where there was none for the text.
-    fn write_to<W: Write>(
-        &self,
-        alloc: Global,
-        writer: &mut W,
-        as_trace: bool,
-    ) -> Result<u8, ProgFault>
-        ensures ok { IfOk result (λ status. (status ≡ ends_with self.now)
-            × Appends (W.contents writer.old) (W.contents writer.new) (told as_trace self.now)) }
-        ensures err { IfErr result IsTextFault }
-        ensures alone { WritesAnswersAlone writer.old writer.new result };
-}
-
-impl<J: LogName> Told for Outcome<J> {
-    ghost told = { told_of };
-
-    ghost ends_with = { outcome_status };
-
-    fn write_to<W: Write>(
-        &self,
-        alloc: Global,
-        writer: &mut W,
-        as_trace: bool,
-    ) -> Result<u8, ProgFault> {
-        write_outcome(alloc, writer, self, as_trace)
-    }
-}
-
 /// Why there is no outcome.
 fn run_fault(fail: Fail<NoThread>) -> ProgFault
-    ensures { result ≡ run_fault fail }
+    ensures { IsRunEnd result }
 {
     match fail {
         Fail::Memory => ProgFault::Memory,
         Fail::Refused(NoThread) => ProgFault::NoThread,
-    }
-}
-
-/// Has the scripts served, once, and writes what is told of that which this call gave, and nothing else. Waits as the call does.
-///
-/// # Errors
-///
-/// `NoThread` and `Memory` where the call gave these, and those of `Told::write_to`.
-pub fn write_served<
-    T: Told + Drop,
-    F: FnOnce(Config, Vec<Vec<Request>>) -> Result<T, Fail<NoThread>>,
-    W: Write,
->(
-    alloc: Global,
-    writer: &mut W,
-    config: Config,
-    scripts: Vec<Vec<Request>>,
-    as_trace: bool,
-    serve: F,
-) -> Result<u8, ProgFault>
-    requires { F.pre serve config scripts }
-    ensures ok { IfOk result (WritesTold (T.told as_trace) T.ends_with
-        (F.post serve config scripts) (W.contents writer.old) (W.contents writer.new)) }
-    ensures err { IfErr result (IsServeFault (F.post serve config scripts)) }
-    ensures alone { WritesAnswersAlone writer.old writer.new result }
-{
-    match serve(config, scripts) {
-        Ok(told) => told.write_to(alloc, writer, as_trace),
-        Err(fail) => Err(run_fault(fail)),
     }
 }
 
@@ -176,13 +104,10 @@ fn run_named<J: LogName + Send + Sync, W: Write, T: Threads + Wait + Sync>(
     ensures err { IfErr result IsRunEnd }
     ensures alone { WritesAnswersAlone writer.old writer.new result }
 {
-    let serve = |config: Config, scripts: Vec<Vec<Request>>| -> Result<Outcome<J>, Fail<NoThread>>
-        requires depth { config.depth ≡ J.depth }
-        requires replicas { config.replicas ≡ J.replicas }
-        requires passes { J.passes ≡ config.replicas + config.threads }
-        requires scripts { AreScripts config (map (λ script. script.items) scripts.items) }
-    { run::<J, AlwaysGo, T>(rt, alloc, config, scripts, turns, &AlwaysGo) };
-    write_served(alloc, writer, config, scripts, as_trace, serve)
+    match run::<J, AlwaysGo, T>(rt, alloc, config, scripts, turns, &AlwaysGo) {
+        Ok(outcome) => write_outcome(alloc, writer, &outcome, as_trace),
+        Err(fail) => Err(run_fault(fail)),
+    }
 }
 
 /// Reads a script that lists no steps, runs it, a thread for each of its threads and each call up to so many turns, and writes what

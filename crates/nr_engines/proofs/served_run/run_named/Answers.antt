@@ -4,15 +4,14 @@ use Rattle.nr_engines.specs.ServedRun.{told_of}
 use Rattle.nr_engines.proofs.ServedRuns.{all_refused, all_shown, tells_run}
 use Rattle.nr_engines.proofs.served_run.run_named.Goals as goal
 
-pub returns-clause-ok : goal.returns-clause-ok
-returns-clause-ok g c =
+pub returns-in-Ok-clause-ok : goal.returns-in-Ok-clause-ok
+returns-in-Ok-clause-ok g c =
+    let outcome = c.in-Ok.outcome in
     let config = c.args.config in
     let scripts = map (λ script. script.items) c.args.scripts.items in
-    IfOk-weaker c.write_served.result _ _
-    (λ status h.
-    let outcome = h.what in
-    let e = h.given in
+    let e = c.in-Ok.ensures in
     let shown = all_shown config scripts outcome e.spelled e.answers e.calls e.passes e.log e.seen e.faultless e.order e.right in
     let refused = all_refused config scripts outcome e.refused_run e.refused in
-    (told_of c.args.as_trace outcome, tells_run config scripts c.args.as_trace outcome status shown refused h.status_is, h.written))
-    c.write_served.ensures.ok
+    IfOk-weaker c.write_outcome.result _ _
+    (λ status h. (told_of c.args.as_trace outcome, tells_run config scripts c.args.as_trace outcome status shown refused h.0, h.1))
+    c.write_outcome.ensures.ok
