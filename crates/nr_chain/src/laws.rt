@@ -69,8 +69,9 @@ pub fn histories_follow()
         → IsWellFormedHistory (joined_traces first second) }
 {}
 
-/// Where a run is cut in two, no call being open there, makes no difference: it has no fault exactly where the two have
-/// none, the second from the space after the first. Dumps are taken at its end.
+/// A run that is cut in two, where each call made before the cut has its reply there, has no fault exactly where the two have
+/// none, the second from the space after the first. Dumps are of the second alone, and each has applied the whole log of the
+/// first: of a run with a dump of fewer entries nothing is said.
 pub fn a_cut_makes_no_difference()
     ensures { (start : Space) (first second : Recording) → second.layout ≡ first.layout → IsClosed first
         → IsFaultlessFrom start (joined_traces first second)
@@ -78,7 +79,7 @@ pub fn a_cut_makes_no_difference()
         × IsFaultlessFrom (space_from start first first.log) second) }
 {}
 
-/// Nor do several cuts, where dumps are taken at the end of the last segment alone.
+/// So it is with several cuts, where each segment but the last is closed and has no dump.
 pub fn cuts_make_no_difference()
     ensures whole { (start : Space) (layout : Layout) (first : Segment) (more : List Segment)
         → AreCut first more → AreFaultlessFrom start layout (first ∷ more)
