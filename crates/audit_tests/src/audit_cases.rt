@@ -12,7 +12,7 @@ pub struct Table {
     pub words: &'static [(u64, u64)],
 }
 
-/// A trace of 3 threads, and the order or the fault that an audit tells.
+/// A trace of 3 threads, and the order or the fault that an audit finds.
 #[derive(Clone, Copy)]
 pub struct Case {
     pub name: &'static str,
@@ -462,7 +462,7 @@ pub static DUMPS: [Case; 14] = [
         verdict: Err(Fault::MissingFrame(0, 5)),
         ..NO_CALLS
     },
-    // of two faulty dumps the one of the lower replica is told, whichever has applied more
+    // of two faulty dumps the one of the lower replica is reported, whichever has applied more
     Case {
         name: "a page before the map, none after it",
         events: MAP_UNANSWERED,

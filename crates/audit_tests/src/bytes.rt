@@ -65,7 +65,7 @@ pub fn push_dump(
     Ok(())
 }
 
-/// The bytes of a trace: what stands before its one dump, and the dump.
+/// The bytes of a trace: what comes before its one dump, and the dump.
 pub fn bytes_of(
     alloc: Global,
     front: &[u8],

@@ -71,7 +71,7 @@ fn map(rt: &impl Abort, space: &mut PlainSpace, base: u64, size: Size, phys: u64
     panic!(rt; "memory")
 }
 
-/// The check tells this; where memory is refused, at a second try.
+/// The check answers this; where memory is refused, at a second try.
 fn assert_told(
     rt: &impl Abort,
     alloc: Global,
@@ -90,7 +90,7 @@ fn assert_told(
     panic!(rt; "memory")
 }
 
-/// Checks the dump of a case against its space, and holds what is told against what is expected.
+/// Checks the dump of a case against its space, and compares what is answered with what is expected.
 fn run(rt: &impl Abort, alloc: Global, depth: Depth, case: &Case) {
     let dump = dump_of(rt, alloc, case.root, case.frames);
     let mut space = PlainSpace::new(alloc, 4096, depth);

@@ -5,7 +5,7 @@ use vs_types::{Depth, Size};
 /// before, so that tables or pages of 4 KiB come one after another.
 pub type Frame = &'static [(usize, usize, u64)];
 
-/// A dump of frames 1, 2, 3 and so on, pages of a space, each with all rights, and what a check of the two tells.
+/// A dump of frames 1, 2, 3 and so on, pages of a space, each with all rights, and what a check of the two answers.
 #[derive(Clone, Copy)]
 pub struct Case {
     pub name: &'static str,

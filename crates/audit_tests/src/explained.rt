@@ -1,4 +1,4 @@
-//! What shows each fault, by numbers that stand in the trace.
+//! What shows each fault, by numbers that are in the trace.
 
 use crate::audit::trace_of;
 use crate::audit_cases::{CALLS, Case, DUMPS, FORMATS, ORDERS};

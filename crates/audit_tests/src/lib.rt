@@ -1,5 +1,5 @@
 //! Worked examples of the public calls of traces, dumps and the auditor, with values from elsewhere: each call once with ample
-//! memory. No crate stands on this one, so that each library is proved once.
+//! memory. No crate depends on this one, so that each library is proved once.
 #![tactic(auto)]
 
 #[cfg(test)]

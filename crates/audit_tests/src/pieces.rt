@@ -31,24 +31,24 @@ fn pieces_of_every_kind_give_one_trace(rt: HostRuntime) -> Result<(), Fail> {
     Ok(())
 }
 
-/// A piece, or the bytes of a whole trace; and what is told.
+/// A piece, or the bytes of a whole trace; and what is answered.
 type Piece = (Option<&'static [u8]>, Result<(), vs_types::Fail<Format>>);
 
 const MAGIC: vs_types::Fail<Format> = vs_types::Fail::Refused(Format::BadMagic);
 
 const TRAILING: vs_types::Fail<Format> = vs_types::Fail::Refused(Format::Trailing);
 
-/// A fault is told again.
+/// A fault is reported again.
 static OTHER_MAGIC: [Piece; 3] = [
     (Some(b"NRV"), Ok(())),
     (Some(b"X"), Err(MAGIC)),
     (None, Err(MAGIC)),
 ];
 
-/// A byte behind the trace is told at once.
+/// A byte after the trace is reported at once.
 static BYTE_BEHIND: [Piece; 2] = [(None, Ok(())), (Some(&[0]), Err(TRAILING))];
 
-/// The pieces one after another, and then the end, which is told this.
+/// The pieces one after another, and then the end, which answers this.
 fn feed_all(
     rt: &impl Abort,
     alloc: Global,

@@ -19,7 +19,7 @@ enum Dumps {
     Root,
 }
 
-/// The parts of a trace of version 1, of one replica and one thread; and what stands before its dump, or why there is no such trace.
+/// The parts of a trace of version 1, of one replica and one thread; and what comes before its dump, or why there is no such trace.
 #[derive(Clone, Copy)]
 struct Case {
     depth: Depth,
@@ -130,7 +130,7 @@ fn written(alloc: Global, case: &Case) -> Result<Result<Vec<u8>, Format>, Fail> 
     }
 }
 
-/// What is told of the case.
+/// What comes of the case.
 fn told(alloc: Global, case: &Case) -> Result<Result<Vec<u8>, Format>, Fail> {
     match case.told {
         Ok(front) => Ok(Ok(bytes_of(alloc, front, case.applied, ROOT)?)),

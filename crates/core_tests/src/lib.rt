@@ -1,5 +1,5 @@
 //! What the auditor says of the protocol's recordings: the law that it says yes, and worked examples of the public calls of the
-//! core. No crate stands on this one, so that the core does not stand on the auditor.
+//! core. No crate depends on this one, so that the core does not depend on the auditor.
 #![tactic(auto)]
 
 #[cfg(test)]

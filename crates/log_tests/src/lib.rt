@@ -1,5 +1,5 @@
 //! Worked examples of the public calls of the shared log and the slots, with values from elsewhere: each call once with ample
-//! memory, and threads that share one log. No crate stands on this one, so that each library is proved once.
+//! memory, and threads that share one log. No crate depends on this one, so that each library is proved once.
 #![tactic(auto)]
 
 #[cfg(test)]

@@ -250,7 +250,7 @@ impl<'a, N: LogName, K: OfLog> Party<'a, N, K> {
         self.log.advance(rt, &mut self.pass, to)
     }
 
-    /// Tells another party what this one has seen.
+    /// Hands another party what this one has seen.
     pub fn tell(&mut self, told: &mut Party<'a, N, K>) {
         self.log.meet(&mut self.pass, &mut told.pass);
     }

@@ -1,4 +1,4 @@
-//! Worked examples: what each call on a log is told. The logs have two replicas, which the parties 0 and 1 own, and party 2 owns none.
+//! Worked examples: what each call on a log answers. The logs have two replicas, which the parties 0 and 1 own, and party 2 owns none.
 
 use crate::scene::{Layout, Test, run};
 use crate::steps::{Does, Step};
@@ -99,7 +99,7 @@ fn advance_meets_another_event(rt: HostRuntime) -> Result<(), Fail> {
     )
 }
 
-/// No clause says that a look tells what other passes have done before it. Each look here follows an event.
+/// No clause says that a look shows what other passes have done before it. Each look here follows an event.
 #[test]
 fn looks_see_other_passes(rt: HostRuntime) -> Result<(), Fail> {
     let layout = Layout::new(Depth::Four, 2, 1);

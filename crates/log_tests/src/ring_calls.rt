@@ -1,4 +1,4 @@
-//! Each call on a log of four replicas at five levels, by each party, after an event of each other: a call that tells what its
+//! Each call on a log of four replicas at five levels, by each party, after an event of each other: a call that answers what its
 //! pass saw before meets every clause.
 
 use crate::party::{OfLog, Party};

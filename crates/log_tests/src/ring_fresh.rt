@@ -1,4 +1,4 @@
-//! No look is older than what had returned before it began. No clause says so: a pass that tells what it saw before meets them all.
+//! No look is older than what had returned before it began. No clause says so: a pass that answers what it saw before meets them all.
 
 use crate::pair::{Pair, pairs};
 use crate::party::{OfLog, Party, is_later};
@@ -18,7 +18,7 @@ const LOGS: u32 = 1;
 /// How many rounds each of four threads makes on each. Each round appends an entry at most, and a log has 65,536 at most.
 const ROUNDS: u32 = 10_000;
 
-/// The tails that some call has told: each is raised after the call returns.
+/// The tails that some call has answered: each is raised after the call returns.
 #[derive(Drop)]
 struct Told {
     tail: AtomicU32,
@@ -48,7 +48,7 @@ impl Told {
         }
     }
 
-    /// What calls have told up to now.
+    /// What calls have answered up to now.
     fn now(&self) -> Tails {
         Tails {
             tail: self.tail.load(Ordering::SeqCst),
@@ -62,7 +62,7 @@ impl Told {
         }
     }
 
-    /// Looks, and sees at least what was told before.
+    /// Looks, and sees at least what was answered before.
     fn look<N: LogName, K: OfLog, R: Wait + Abort>(&self, rt: &R, party: &mut Party<N, K>) {
         let before = self.now();
         let tails = party.look();

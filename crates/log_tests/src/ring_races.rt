@@ -1,5 +1,5 @@
 //! Short rounds in which four threads make calls at the same time. After each round all of them look, while nobody makes an event:
-//! a pass that took the words of before for those of the version that an exchange under way was to bring then tells old tails.
+//! a pass that took the words of before for those of the version that an exchange under way was to bring then answers old tails.
 ghost use Rattle.std.specs.Prelude.{◌≤◌};
 
 use crate::pair::{Pair, pairs};
@@ -28,7 +28,7 @@ impl<'a, N: LogName, K: OfLog> Pair<'a, N, K> {
     }
 
     /// One thread appends an entry, so that what the others know is old. Then, at the same time, it appends another, and one
-    /// thread advances, one looks, and one tells its other party.
+    /// thread advances, one looks, and one hands its other party what it has seen.
     fn race<R: Wait + Abort>(&mut self, rt: &R, start: &Start, round: u32)
         requires { round ≤ 65536 }
     {

@@ -28,7 +28,7 @@ pub enum Test<'s> {
     Fill,
     /// They append batches of each size, and take them.
     Batches,
-    /// Each makes each call after each event of another, where so many batches of 16 entries stand in the log.
+    /// Each makes each call after each event of another, where so many batches of 16 entries are in the log.
     EachCall(u32),
     /// They make calls at the same time, and no look is old.
     Rounds,

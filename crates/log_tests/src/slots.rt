@@ -9,7 +9,7 @@ use std::sync::Wait;
 use std::test::Fail;
 use vs_types::{Answer, CALLS, Depth, Op, Rights, Size};
 
-/// What a thread does with its slot, and what it is told.
+/// What a thread does with its slot, and what that answers.
 #[derive(Clone, Copy)]
 enum Does {
     /// It posts its update.
@@ -175,7 +175,7 @@ fn is_not_taken<R: Wait>(rt: &R, slots: &Slots, answered: Answered) -> bool {
     slots.answer(rt, answered) == Err(NotTaken)
 }
 
-/// What a thread does with its slot of so many: whether it is told so.
+/// What a thread does with its slot of so many: whether that answers so.
 fn take<R: Wait + Abort>(rt: &R, slots: &Slots, count: u16, thread: u16, does: Does) -> bool
     requires { slots.now ≡ count }
 {

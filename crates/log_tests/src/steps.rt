@@ -1,4 +1,4 @@
-//! Calls of a log's parties one after another, each with what it is to be told.
+//! Calls of a log's parties one after another, each with what it has to answer.
 
 use crate::party::{OfLog, Party};
 use nr_ring::{AppendFault, LogName, Moved, Tails};
@@ -6,7 +6,7 @@ use std::process::Abort;
 use std::sync::Wait;
 use std::test::Fail;
 
-/// What a party does, and what it is told.
+/// What a party does, and what that answers.
 #[derive(Clone, Copy)]
 pub enum Does {
     /// It appends an entry of this call, which gets this place.
@@ -28,7 +28,7 @@ pub enum Does {
     /// It looks, and then one of the parties after it, counted from 0, appends an entry of this call. An advance to the tail that it
     /// saw is refused.
     AdvancesLate(usize, u32),
-    /// One of the parties after it tells it what that has seen.
+    /// One of the parties after it hands it what that has seen.
     IsTold(usize),
 }
 
@@ -61,7 +61,7 @@ pub fn take_all<N: LogName, K: OfLog, R: Wait + Abort>(
     Ok(())
 }
 
-/// One step of a party, with those after it: whether it is told so.
+/// One step of a party, with those after it: whether it answers so.
 fn take<'a, N: LogName, K: OfLog, R: Wait + Abort>(
     rt: &R,
     party: &mut Party<'a, N, K>,

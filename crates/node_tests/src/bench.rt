@@ -52,7 +52,7 @@ impl Update {
 #[derive(Clone, Copy)]
 pub struct Given(pub u16, pub u32, pub Update, pub u32, pub Answer);
 
-/// What a node does, and what it is told.
+/// What a node does, and what it answers.
 #[derive(Clone, Copy)]
 pub enum Does {
     /// It holds so much.
@@ -123,7 +123,7 @@ impl<'a, S: FrameStore, J: LogName> Bench<'a, S, J> {
         }
     }
 
-    /// One step: whether the node is told so.
+    /// One step: whether the node answers so.
     fn take<R: Wait + Abort>(&mut self, rt: &R, does: Does) -> bool {
         match does {
             Does::Has(held) => self.node.held() == held,

@@ -1,4 +1,4 @@
--- When two answers are the same, as `==` tells.
+-- When two answers are the same, as `==` says.
 use Rattle.std.proofs.Common.{◌≡◌, ℕ, Bool, true, false, ◌&&◌, ◌↔◌, eqb, refl, sym, ap, subst, ◌∙◌}
 use Rattle.std.proofs.lemmas.Bool.{false≢true, eq-eqb, eqb-true, and_parts, and_from}
 use Rattle.vs_types.specs.declared.page.Size.{Size}
@@ -51,7 +51,7 @@ same_rights p q e = same_bits p.write p.user p.exec q.write q.user q.exec e
 rights_itself : (p : Rights) → rights.ghosts.eq p p ≡ true
 rights_itself p = bits_itself p.write p.user p.exec
 
--- a number, a size and rights are told apart one after another
+-- a number, a size and rights are compared one after another
 parts : (x y : ℕ) (s t : Size) (p q : Rights) → (eqb x y && (sizes.ghosts.eq s t && rights.ghosts.eq p q)) ≡ true → (x ≡ y) × (s ≡ t) × (p ≡ q)
 parts x y s t p q e =
     let first = and_parts (eqb x y) _ e in

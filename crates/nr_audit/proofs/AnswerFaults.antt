@@ -1,4 +1,4 @@
--- The answers of a trace, against the space after the calls that stand before in the recorded order.
+-- The answers of a trace, against the space after the calls that come before in the recorded order.
 use Rattle.std.proofs.Common.{◌≡◌, ℕ, zero, suc, ◌+◌, ◌<◌, ◌≤◌, false, List, [], ◌∷◌, ◌++◌, length, take, get_or, Some, None, Option, refl, sym, ap, subst, ◌∙◌}
 use Rattle.std.proofs.Common.{inl, inr, arith}
 use Rattle.std.specs.Prelude.{is_some, option_and_then, option_map, Contains, IfSome, ◌==◌, nat_eq}
@@ -32,7 +32,7 @@ use Rattle.nr_audit.specs.Verdict.{space_of}
 use Rattle.nr_audit.specs.inside.Replies.{answer_to}
 use Rattle.nr_audit.proofs.Ranks.{earlier_cases}
 
--- ---- where a call stands among distinct ones
+-- ---- where a call is among distinct ones
 
 apart_at : (x : ℕ) (xs : List ℕ) (k d : ℕ) → AllByRecursion (λ y. nat_eq x y ≡ false) xs → k < length xs → get_or xs k d ≡ x → ⊥
 apart_at x [] k d h lt e = absurd (omega arith)
@@ -57,7 +57,7 @@ place_of xs k d distinct within = position_or_len_is (λ other. other == get_or 
 pub before_at : (xs : List ℕ) (k d : ℕ) → IsDistinct nat_eq xs → k < length xs → before (get_or xs k d) xs ≡ take k xs
 before_at xs k d distinct within = ap (λ n. take n xs) (place_of xs k d distinct within)
 
--- a call with fewer calls before it stands at that place
+-- a call with fewer calls before it is at that place
 pub stands_there : (xs : List ℕ) (call k d : ℕ) → length (before call xs) < k → k ≤ length xs → (j : ℕ) × (j < k) × (get_or xs j d ≡ call)
 stands_there xs call k d lt within =
     let p = position_or_len (λ other. other == call) xs in
@@ -105,7 +105,7 @@ asked : (o : Option Invocation)
 asked None = refl
 asked (Some made) = refl
 
--- what a request tells of its call
+-- what a request says of its call
 pub operation_by : (trace : Recording) (call : ℕ) (query : Option Query) → query ≡ option_map (λ (made : Invocation). made.request) (call_of trace call)
     → operation_of trace call ≡ option_and_then operation_in query
 operation_by trace call query e = asked (call_of trace call) ∙ ap (λ q. option_and_then operation_in q) (sym e)
@@ -178,7 +178,7 @@ module _ (start : Space) (trace : Recording) (order : List ℕ) (listed : order 
   before_here : (k : ℕ) → k < length order → before (get_or order k 0) (recorded_order trace) ≡ take k order
   before_here k within = subst (λ xs. before (get_or order k 0) xs ≡ take k order) listed (before_at order k 0 distinct within)
 
-  -- an answer that is told and is not the space's is wrong
+  -- an answer that is given and is not the space's is wrong
   pub wrong_here : (k : ℕ) (query : Query) (answer : Answer) (told : Option Answer) → k < length order
       → Some query ≡ option_map (λ (made : Invocation). made.request) (call_of trace (get_or order k 0))
       → answer ≡ answer_in trace.layout (space_from start trace (take k order)) query → told ≡ answer_to trace (get_or order k 0)
@@ -197,7 +197,7 @@ module _ (start : Space) (trace : Recording) (order : List ℕ) (listed : order 
             ∙ ap (λ q. answer_in trace.layout (space_from start trace (take k order)) q) made.2 ∙ sym gives);
       }
 
-  -- one that is told, if any is, and is the space's is not
+  -- one that is given, if any is, and is the space's is not
   pub right_here : (k : ℕ) (query : Query) (answer : Answer) (told : Option Answer) → k < length order
       → Some query ≡ option_map (λ (made : Invocation). made.request) (call_of trace (get_or order k 0))
       → answer ≡ answer_in trace.layout (space_from start trace (take k order)) query → told ≡ answer_to trace (get_or order k 0)

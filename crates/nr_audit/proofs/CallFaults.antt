@@ -1,4 +1,4 @@
--- The faults of calls and replies, and what the first events of a trace tell: the reply to each call, and the last call of
+-- The faults of calls and replies, and what the first events of a trace say: the reply to each call, and the last call of
 -- each thread.
 use Rattle.std.proofs.Common.{◌≡◌, ◌≢◌, ℕ, ◌+◌, ◌<◌, ◌≤◌, ◌⊎◌, List, [], ◌∷◌, length, replicate, set, get_or, Some, None, Option, refl, sym, ap, subst, ◌∙◌}
 use Rattle.std.proofs.Common.{inl, inr, arith, get_or-set_other, get_or-set_same}

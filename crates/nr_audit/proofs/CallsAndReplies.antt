@@ -54,7 +54,7 @@ reply_by trace i call h =
       ]
     ] h
 
--- where no reply stands there is none of any kind
+-- where no reply is there is none of any kind
 pub no_reply_with : (trace : Recording) (i : ℕ) (P : Response → Type 0) → reply_of trace i ≡ None → IsReplyWith trace i P → ⊥
 no_reply_with trace i P none h = let there = h.1 in cc
 
@@ -102,7 +102,7 @@ thread_in_layout trace events i event replica thread request ranged same lt read
     let each = All-get_or (IsEvent trace.version trace.layout) trace.events i event (omega (arith, ap length same)) ranged.events in
     (subst (λ (e : Event). IsEvent trace.version trace.layout e) (sym (read ∙ ap (λ (xs : List Event). get_or xs i event) same) ∙ is) each).1
 
--- whether the event at an index is a call, as it is told
+-- whether the event at an index is a call, as it is given
 pub told_call : (trace : Recording) (events : List Event) (i : ℕ) (event : Event) (told : Bool) → events ≡ trace.events → i < length events
     → event ≡ get_or events i event → told ≡ is_some (made_by event) → told ≡ is_some (call_of trace i)
 told_call trace events i event told same lt read is =
@@ -112,7 +112,7 @@ pub if_some : (read : Option ℕ) (P : ℕ → Type 0) → ((call : ℕ) → rea
 if_some None P h = tt
 if_some (Some call) P h = h call refl
 
--- the call that a thread has open, as it is told
+-- the call that a thread has open, as it is given
 pub open_call : (read real : Option ℕ) (seen table : List (Option ℕ)) → read ≡ real → seen ≡ table → IsSomeAnd read (λ call. get_or seen call None ≡ None)
     → (call : ℕ) × (real ≡ Some call) × (get_or table call None ≡ None)
 open_call None real seen table e s h = absurd h

@@ -40,7 +40,7 @@ pass_of (ReservedBit replica number index) = 7
 pass_of (StrayFrame replica number) = 7
 pass_of (Differs replica address) = 7
 
--- a fault stands by its pass first
+-- a fault is by its pass first
 record Ranked (trace : Recording) (fault : Fault) : Type 0 where
   at : ℕ
   number : ℕ

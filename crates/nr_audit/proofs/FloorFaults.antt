@@ -1,4 +1,4 @@
--- The calls that stand before one that was answered before they were made.
+-- The calls that come before one that was answered before they were made.
 use Rattle.std.proofs.Common.{◌≡◌, ℕ, ◌+◌, ◌<◌, ◌≤◌, true, false, [], ◌∷◌, inl, inr, length, Some, None, Option, refl, sym, ap, subst, ◌∙◌, arith}
 use Rattle.std.specs.Prelude.{is_some}
 use Rattle.std.proofs.lemmas.Bool.{cases_lt, false≢true}
@@ -26,14 +26,14 @@ stands_as_call : (trace : Recording) (call entries : ℕ) → StandsAfter trace 
 stands_as_call trace call entries (inl h) = update_is_call trace call h.0
 stands_as_call trace call entries (inr h) = read_is_call trace call h.0
 
--- what is no call stands nowhere
+-- what is no call is nowhere
 pub no_call_stands : (trace : Recording) (call entries : ℕ) → call_of trace call ≡ None → StandsAfter trace call entries → ⊥
 no_call_stands trace call entries none stands = false≢true (sym (ap is_some none) ∙ stands_as_call trace call entries stands)
 
 pub none_at_other : (trace : Recording) (index : ℕ) → call_of trace index ≡ None → HasNone (IsFloorFaultAt index) trace
 none_at_other trace index none = none_at trace index (λ held. no_call_stands trace index held.0 none held.1)
 
--- a call that stands after at least as many entries as its floor, or nowhere
+-- a call that comes after at least as many entries as its floor, or nowhere
 pub none_at_call : (trace : Recording) (index : ℕ) (found : Option ℕ) → HasCleanLog trace → Finds (StandsAfter trace index) found
     → ((entries : ℕ) → found ≡ Some entries → floor trace index ≤ entries) → HasNone (IsFloorFaultAt index) trace
 none_at_call trace index None clean none kept = none_at trace index (λ held. none held.0 held.1)

@@ -1,4 +1,4 @@
--- The faults of the log, and what its first places tell: the place of each call.
+-- The faults of the log, and what its first places say: the place of each call.
 use Rattle.std.proofs.Common.{◌≡◌, ◌≢◌, ℕ, ◌+◌, ◌<◌, ◌≤◌, List, [], ◌∷◌, length, replicate, set, get_or, Some, None, Option, refl, sym, ap, subst, ◌∙◌, inl}
 use Rattle.std.proofs.Common.{inr, arith, get_or-set_other, get_or-set_same}
 use Rattle.std.specs.Prelude.{slice_get, is_some, option_and_then}

@@ -66,12 +66,12 @@ update_comes trace order k within some =
     updates_more trace order k within
     ∙ ap (λ xs. updates trace (take k order) ++ xs) (cond-true (is_some (operation_of trace (get_or order k 0))) (get_or order k 0 ∷ []) [] some)
 
--- what stands behind the first places stands at the next
+-- what comes after the first places is at the next
 at_seam : (xs ys : List ℕ) (call : ℕ) → slice_get (xs ++ (call ∷ ys)) (length xs) ≡ Some call
 at_seam [] ys call = refl
 at_seam (x ∷ xs) ys call = at_seam xs ys call
 
--- an update among the first calls stands at the next place of the log
+-- an update among the first calls is at the next place of the log
 update_is_next : (trace : Recording) (k place : ℕ) → HasCleanLog trace → k < length (recorded_order trace) → place ≤ length trace.log
     → updates trace (take k (recorded_order trace)) ≡ take place trace.log
     → is_some (operation_of trace (get_or (recorded_order trace) k 0)) ≡ true

@@ -1,4 +1,4 @@
--- Which of some faults is the first: by the pass, then by where the fault stands in the pass, then by its number.
+-- Which of some faults is the first: by the pass, then by where the fault is in the pass, then by its number.
 use Rattle.std.proofs.Common.{◌≡◌, ℕ, ◌+◌, ◌<◌, [], ◌∷◌, ◌⊎◌, inl, inr, refl, sym, subst, arith}
 use Rattle.std.specs.Ordering.{nat_cmp, ordering_then}
 use Rattle.std.specs.Cmp.Lexicographic.{slice_cmp}
@@ -40,7 +40,7 @@ earlier_cases p i m q j n e =
       ]
     ]
 
--- the faults of each index stand by it in one pass
+-- the faults of each index are by it in one pass
 abbrev pub IsRanked : (ℕ → Fault → Type 0) → ℕ → Recording → Type 0
 IsRanked At pass trace = (index : ℕ) (fault : Fault) → At index fault → (number : ℕ) × (rank trace fault ≡ pass ∷ index ∷ number ∷ [])
 

@@ -1,4 +1,4 @@
--- After how many entries of the log a call stands: an update by its place, and a read by its reply.
+-- After how many entries of the log a call is: an update by its place, and a read by its reply.
 use Rattle.std.proofs.Common.{◌≡◌, ℕ, inl, inr, Some, None, Option, refl}
 use Rattle.std.specs.Prelude.{length, option_map, option_and_then, IsSome}
 use Rattle.std.proofs.lemmas.Bool.{false≢true}
@@ -30,7 +30,7 @@ from_reply (Some a) None (Some n) e = absurd cc
 from_reply (Some a) (Some r) None e = absurd cc
 from_reply (Some a) (Some r) (Some n) e = (refl, r, refl, cc)
 
--- what is no update stands after what it saw
+-- what is no update comes after what it saw
 pub by_reply : (trace : Recording) (call : ℕ) (seen : Option ℕ) → (IsUpdate trace call → ⊥) → seen ≡ entries_seen trace call
     → Finds (StandsAfter trace call) seen
 by_reply trace call None no_update told = λ entries stands. elim stands [

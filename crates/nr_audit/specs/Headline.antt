@@ -24,7 +24,7 @@ abbrev pub IsSpelledWith : List ℕ → (Recording → Type 0) → Type 0
 IsSpelledWith bytes P = (trace : Recording) × SpellsAlone bytes trace × P trace
 
 -- the bytes are right with the order: they spell one trace; its events are a well-formed history; all its answered calls and some
--- unanswered updates stand in the order, each once; a call answered before another was made comes first; each answer is that of one
+-- unanswered updates are in the order, each once; a call answered before another was made comes first; each answer is that of one
 -- sequential address space; and each dump translates every address as that space does after some of the updates
 pub record AreRightWith (bytes : List ℕ) (order : List ℕ) : Type 0 where
   pub trace : Recording

@@ -42,7 +42,7 @@ fn is_same(recorded: Answer, given: Answer) -> bool
     recorded == given
 }
 
-/// Whether what a call is told, if anything is, is this answer.
+/// Whether what a call is answered, if anything is, is this answer.
 fn agrees(told: Option<Answer>, answer: Answer) -> bool
     ensures { IsTrue result ↔ IfSome told (λ told. told ≡ answer) }
 {

@@ -30,7 +30,7 @@ fn is_open(last: MaybeIndex, replies: &[MaybeIndex]) -> bool
 }
 
 /// Looks for a call of a thread whose earlier call has no reply yet, a reply to what is no earlier call, and a second
-/// reply to a call. Gives the history, and takes memory for it: four bytes for each event, and for each thread.
+/// reply to a call. Gives the history, and allocates memory for it: four bytes for each event, and for each thread.
 pub(crate) fn check_calls<'a>(alloc: Global, trace: &'a Trace) -> Result<History<'a>, Fail<Fault>>
     ensures history { IfOk result (λ history. history ≡ trace.now) }
     ensures clean { OnOk result (HasNone IsCallFault trace.now) }

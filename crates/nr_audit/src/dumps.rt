@@ -28,7 +28,7 @@ fn fault_at(replica: u8, fault: DumpFault) -> Fault
     }
 }
 
-/// What is wrong with the tables of a dump beside a space, or `None`. Takes the memory of the check.
+/// What is wrong with the tables of a dump beside a space, or `None`. Allocates the memory of the check.
 fn table_fault(alloc: Global, dump: &Dump, space: &PlainSpace) -> Result<Option<DumpFault>, Memory>
     ensures { IfOk result (IsFoundBeside dump.now space.now) }
 {
@@ -90,7 +90,7 @@ fn check_dump(
 }
 
 /// Looks for what is wrong with the dumps, in the order of the replicas: from what each replica needs, what was found in the
-/// dumps that have not applied the whole log, and the space after it, with which the others are compared. Takes memory for
+/// dumps that have not applied the whole log, and the space after it, with which the others are compared. Allocates memory for
 /// what the check of a dump takes.
 pub(crate) fn check_dumps(
     alloc: Global,

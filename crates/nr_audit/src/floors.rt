@@ -1,4 +1,4 @@
-//! The pass of the replies: their places, and the calls that stand too early.
+//! The pass of the replies: their places, and the calls that come too early.
 
 ghost use Rattle.std.specs.Prelude.{◌≡◌, ◌+◌, ◌<◌, OnOk, IfOk, IfErr, IfSome, length};
 ghost use Rattle.vs_types.specs.Refusal.{IfRefused};
@@ -21,14 +21,14 @@ use nr_trace::{Event, Fault};
 use std::alloc::Global;
 use vs_types::{Fail, REPLICAS};
 
-/// Where the calls of a trace stand in the recorded order, and what is known by its replies.
+/// Where the calls of a trace are in the recorded order, and what is known by its replies.
 #[derive(Drop)]
 pub(crate) struct Standing {
     /// By number of entries the last of the answered reads that saw as many.
     pub(crate) lasts: Vec<MaybeIndex>,
     /// By call: of a read the one before it that saw as many entries.
     pub(crate) rows: Vec<MaybeIndex>,
-    /// How many calls stand in the order.
+    /// How many calls are in the order.
     pub(crate) count: usize,
     /// For each replica the most entries of the log that are known by a reply to a call made there.
     pub(crate) needed: [u64; REPLICAS as usize],
@@ -57,7 +57,7 @@ fn raise_need(history: &History, needed: &mut [u64; REPLICAS as usize], call: u3
     }
 }
 
-/// The first call that stands too early, as far as known: one that was found before, or else the next call, where it stands
+/// The first call that comes too early, as far as known: one that was found before, or else the next call, where it is
 /// after fewer entries than are known before it.
 fn early_call(
     history: &History,
@@ -81,8 +81,8 @@ fn early_call(
 }
 
 /// Looks for a reply that gives an update another place than its own, and one that gives a read more entries than the log
-/// has, and then for a call that stands before one that was answered before it was made: by one pass over the events, with
-/// the most entries that are known so far by a reply. Gives where the calls stand, in the table of the places, and takes
+/// has, and then for a call that comes before one that was answered before it was made: by one pass over the events, with
+/// the most entries that are known so far by a reply. Gives where the calls are, in the table of the places, and allocates
 /// memory for it: four bytes for each place.
 pub(crate) fn check_replies(
     alloc: Global,

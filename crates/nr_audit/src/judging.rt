@@ -61,7 +61,7 @@ pub fn judge_from(alloc: Global, trace: &Trace, start: PlainSpace) -> Result<Jud
 /// space. And that each dump translates every canonical address as that space does after so many updates as the replica had
 /// applied. `No` does not say that no other order explains the trace.
 ///
-/// Takes memory beside the trace: at most 16 bytes for each event and 4 for each thread; and, when these are given back but
+/// Allocates memory beside the trace: at most 16 bytes for each event and 4 for each thread; and, when these are freed but
 /// for 4 bytes for each call of the order, for one space and what the check of a dump takes.
 ///
 /// # Errors
@@ -109,7 +109,7 @@ pub fn judge_read(alloc: Global, read: Result<Trace, Fail<Format>>) -> Result<Ve
 /// Whether bytes are those of a right trace: they are read, and what they spell is judged. `No` with a fault of the format
 /// where they spell none.
 ///
-/// Takes memory for the trace, and what `judge` takes.
+/// Allocates memory for the trace, and what `judge` takes.
 ///
 /// # Errors
 ///

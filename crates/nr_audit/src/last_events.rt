@@ -11,7 +11,7 @@ use std::marker::Model;
 use vs_types::Answer;
 
 /// The calls of an order by the index of the last event of each: the reply to it, or the call itself where it has none. Such an
-/// event tells its call, and what that is answered. Contracts see the list of the events.
+/// event names its call, and what that is answered. Contracts see the list of the events.
 #[derive(Drop)]
 pub(crate) struct LastEvents {
     events: Vec<u32>,
@@ -31,7 +31,7 @@ impl Model for LastEvents {
 impl LastEvents {
     ghost use Rattle.std.specs.Prelude.{◌≡◌};
 
-    /// Those of an order, in the memory of it. The history is given back.
+    /// Those of an order, in the memory of it. The history is freed.
     pub(crate) fn of(history: History, order: Order) -> LastEvents
         requires { All (IsCall history) order }
         ensures { AreLastEvents history.entry order result }
@@ -83,7 +83,7 @@ pub(crate) fn answer_at(trace: &Trace, event: u32) -> Option<Answer>
     }
 }
 
-/// The position that is told at an event, or `None` where it is no reply.
+/// The position in a reply, or `None` where it is no reply.
 #[inline(always)]
 pub(crate) fn position_at(trace: &Trace, event: u32) -> Option<u32>
     requires { event < length trace.now.events }

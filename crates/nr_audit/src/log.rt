@@ -1,4 +1,4 @@
-//! The pass of the log: each place has an update, and no call stands at two.
+//! The pass of the log: each place has an update, and no call is at two.
 
 ghost use Rattle.std.specs.Prelude.{OnOk, IfOk, IfErr};
 ghost use Rattle.vs_types.specs.Refusal.{IfRefused};
@@ -13,7 +13,7 @@ use std::alloc::Global;
 use vs_types::Fail;
 
 /// Looks for a place that has what is no update, and one that has an update of an earlier place. Gives the place of each
-/// call, and takes memory for these: four bytes for each event.
+/// call, and allocates memory for these: four bytes for each event.
 pub(crate) fn check_log(alloc: Global, history: &History) -> Result<Vec<MaybeIndex>, Fail<Fault>>
     ensures table { IfOk result (λ places. ArePlaces history.now places.items) }
     ensures clean { OnOk result (HasNone IsLogFault history.now) }

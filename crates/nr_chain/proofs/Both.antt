@@ -302,7 +302,7 @@ module _ (start : Space) (first second : Segment) (same_layout : second.trace.la
           (has_applied k (fits.own_updates k made own_made here (is_update_right first.trace second.trace k (subst (λ (c : ℕ). IsUpdate whole c) e u))
           (is_answered_right first.trace second.trace k earlier (subst (λ (c : ℕ). IsAnswered whole c) e a))))
 
-    -- an update that stands before a read, as one of the second run
+    -- an update that comes before a read, as one of the second run
     before_right_read : (k other : ℕ) → Contains (before (length first.trace.events + k) order) (length first.trace.events + other)
         → Contains (before k second.order) other
     before_right_read k other h =

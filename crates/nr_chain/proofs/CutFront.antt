@@ -25,12 +25,12 @@ use Rattle.nr_chain.proofs.Parts.{is_update_left, is_update_from_left}
 use Rattle.nr_chain.proofs.Places.{is_read_from_left, placed_left, placed_in, placed_before, PlacedRight, stands_left, known_left, floor_above, knows_more}
 use Rattle.nr_chain.proofs.Recorded.{recorded_both}
 
--- a call that stands after some entries is one of the run
+-- a call that comes after some entries is one of the run
 pub stands_within : (trace : Recording) (call entries : ℕ) → StandsAfter trace call entries → call < length trace.events
 stands_within trace call entries (inl (u, e)) = call_within trace call (update_is_call trace call u)
 stands_within trace call entries (inr h) = call_within trace call (read_is_call trace call h.0)
 
--- so is what stands before it in the recorded order
+-- so is what comes before it in the recorded order
 pub before_within : (trace : Recording) → HasCleanLog trace → (call other : ℕ) → In other (before call (recorded_order trace)) → other < length trace.events
 before_within trace clean call other i =
     let (n, l, h) = member_stands trace other clean (before_in other call (recorded_order trace) i) in

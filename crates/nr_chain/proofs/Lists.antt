@@ -26,7 +26,7 @@ get_right (x ∷ xs) ys k =
     let next : suc (length xs) + k ≡ suc (length xs + k) = omega arith in
     ap (slice_get ((x ∷ xs) ++ ys)) next ∙ get_right xs ys k
 
--- ---- what stands in a list
+-- ---- what is in a list
 
 pub in_map : {X Y : Type 0} (f : X → Y) (x : X) (xs : List X) → In x xs → In (f x) (map f xs)
 in_map f x [] i = i
@@ -52,7 +52,7 @@ unfolding IsDistinct
 behind_distinct n [] h = tt
 behind_distinct n (x ∷ xs) h = (absent_from (n + x) (calls_behind n xs) (λ i. absent_not_in x xs h.0 (in_behind n x xs i)), behind_distinct n xs h.1)
 
--- ---- what stands before a member
+-- ---- what comes before a member
 
 before_here : (x y : ℕ) (xs : List ℕ) → y ≡ x → before x (y ∷ xs) ≡ []
 before_here x y xs e =

@@ -1,4 +1,4 @@
--- The log of a joined run, what stands after so many of its entries, and what raises a floor.
+-- The log of a joined run, what comes after so many of its entries, and what raises a floor.
 use Rattle.std.proofs.Common.{◌≡◌, ℕ, zero, suc, ◌+◌, ◌<◌, ◌≤◌, ◌⊎◌, inl, inr, max, List, [], ◌∷◌, length, take, map, fold, slice_get, Option, Some, None}
 use Rattle.std.proofs.Common.{IsSome, option_and_then, option_map, refl, ap, sym, ◌∙◌, subst, arith}
 use Rattle.std.specs.Prelude.{filter_map}
@@ -70,7 +70,7 @@ placed_before first second place call l is = by_side (placed_in first second pla
 abbrev pub HasOwnPlaces : Recording → Type 0
 HasOwnPlaces trace = (place call : ℕ) → slice_get trace.log place ≡ Some call → call < length trace.events
 
--- ---- what stands after so many entries
+-- ---- what comes after so many entries
 
 pub stands_left : (first second : Recording) (call entries : ℕ) → call < length first.events → StandsAfter first call entries
     → StandsAfter (joined_traces first second) call entries

@@ -10,7 +10,7 @@ use Rattle.nr_trace.specs.Laws.{IsFaultlessFrom}
 use Rattle.nr_chain.specs.Joined.{Segment, joined}
 
 -- the events are those of threads that wait for each reply that comes: every reply answers an earlier call, a call has one reply at
--- most, and of two calls of one thread a reply to the first stands before the second. A thread whose call has none may make others
+-- most, and of two calls of one thread a reply to the first comes before the second. A thread whose call has none may make others
 pub record IsHistory (trace : Recording) : Type 0 where
   pub of_calls : (index : ℕ) (reply : Response) → reply_of trace index ≡ Some reply → (reply.call < index) × IsCall trace reply.call
   pub once : (first second call : ℕ) → Answers trace first call → Answers trace second call → first ≡ second
@@ -54,8 +54,8 @@ AreFaultlessFrom start layout (segment ∷ more) =
     × AreFaultlessFrom (space_behind start segment) layout more
 
 -- the run of some segments is right from a space on: of all segments as one run, the events are a history; all its answered calls and
--- some unanswered updates stand in the order, each once; a call answered before another was made comes first, in whichever segments
--- they stand; each answer is that of one sequential address space; the updates of the order are the log; and each dump translates
+-- some unanswered updates are in the order, each once; a call answered before another was made comes first, in whichever segments
+-- they are; each answer is that of one sequential address space; the updates of the order are the log; and each dump translates
 -- every address as that space does after all updates of the segments before its own and some of its own
 pub record IsRightRun (start : Space) (first : Segment) (more : List Segment) : Type 0 where
   pub events : IsHistory (joined first more).trace

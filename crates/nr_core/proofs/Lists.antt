@@ -26,7 +26,7 @@ mapped_more f xs i d within =
     subst (λ n. set (map f (take i xs) ++ drop i xs) i (f (get_or (map f (take i xs) ++ drop i xs) i d)) ≡ map f (take n xs) ++ drop n xs) (more i)
     (mapped_next f xs i d within)
 
--- the first element that passes stands here
+-- the first element that passes is here
 pub found_at : {A : Type 0} (p : A → Bool) (xs : List A) (i : ℕ) (d : A) → find p (take i xs) ≡ None → i < length xs → p (get_or xs i d) ≡ true
     → find p xs ≡ Some (get_or xs i d)
 found_at p [] i d none within passes = absurd (omega (arith, within))
@@ -37,7 +37,7 @@ found_at p (x ∷ xs) (suc i) d none within passes =
       | false ↦ λ e rest. found_at p xs i d rest (omega (arith, within)) passes
     ] refl none
 
--- and none stands before
+-- and none comes before
 none_next : {A : Type 0} (p : A → Bool) (xs : List A) (i : ℕ) (d : A) → find p (take i xs) ≡ None → i < length xs → p (get_or xs i d) ≡ false
     → find p (take (suc i) xs) ≡ None
 none_next p [] i d none within fails = absurd (omega (arith, within))

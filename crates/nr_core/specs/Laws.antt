@@ -8,7 +8,7 @@ use Rattle.nr_core.specs.declared.stage.Stage.TheVariants.{Taken}
 abbrev pub IsTaken : List Thread → ℕ → ℕ → Type 0
 IsTaken threads t call = (thread : Thread) × (slice_get threads t ≡ Some thread) × (thread.stage ≡ Taken call)
 
--- Answer s, where it asks for the note alone: where an answer is noted for s, it stands in the slot of s, and the update leaves the batch
+-- Answer s, where it asks for the note alone: where an answer is noted for s, it is in the slot of s, and the update leaves the batch
 abbrev pub answer_noted : State → ℕ → ℕ → Option State
 answer_noted state t s =
     by_holder state t (λ thread r replica. by_thread state s (λ other. option_map (with_ready state r replica s other) (noted_for s replica)))

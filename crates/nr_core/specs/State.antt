@@ -16,7 +16,7 @@ pub record Thread : Type 0 where
   pub stage : Stage
   pub holds : Option ℕ
 
--- a replica: the thread that holds its lock; its batch, and whether that stands in the log; how many entries of the log it has
+-- a replica: the thread that holds its lock; its batch, and whether that is in the log; how many entries of the log it has
 -- fetched, which is its local tail, and how many of these it has applied; and its space after them
 pub record Replica : Type 0 where
   pub holder : Option ℕ
@@ -52,7 +52,7 @@ start layout scripts = record {
   threads = map new_thread scripts;
 }
 
--- the place at which the next entry of the log will stand
+-- the place at which the next entry of the log will be
 abbrev pub tail : State → ℕ
 tail state = length state.log
 

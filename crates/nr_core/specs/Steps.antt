@@ -44,7 +44,7 @@ with_call state t thread script stage = None
 abbrev pub call : State → ℕ → Option State
 call state t = by_thread state t (λ thread. with_call state t thread thread.script thread.stage)
 
--- Post: where the open call is an update that is not yet posted, it stands in the slot
+-- Post: where the open call is an update that is not yet posted, it is in the slot
 abbrev pub with_post : State → ℕ → Thread → Stage → Option State
 with_post state t thread (Called call (Update action)) = Some (with_thread state t (record thread { stage = Posted call action }))
 with_post state t thread stage = None
@@ -84,7 +84,7 @@ has_room state n = nat_le (tail state + n) LOG_PLACES && list_all (λ other. nat
 abbrev pub may_append : State → Replica → Bool
 may_append state replica = nat_lt 0 (length replica.batch) && not replica.placed && has_room state (length replica.batch)
 
--- Append: where the batch is not empty nor placed, and there is room, it stands at the log's end
+-- Append: where the batch is not empty nor placed, and there is room, it is at the log's end
 abbrev pub append : State → ℕ → Option State
 append state t =
     by_holder state t (λ thread r replica.
@@ -134,7 +134,7 @@ without s replica =
 abbrev pub noted_for : ℕ → Replica → Option Answered
 noted_for s replica = option_and_then (λ update. update.noted) (find (λ update. update.thread == s) replica.batch)
 
--- Answer s: where an answer is noted for s, whose update is taken, it stands in the slot of s, and the update leaves the batch. In
+-- Answer s: where an answer is noted for s, whose update is taken, it is in the slot of s, and the update leaves the batch. In
 -- every state that steps reach, an answer is noted only for updates that are taken: so the step is the same as one that asks for the
 -- note alone (the law `noted_answers_are_of_taken_updates`)
 abbrev pub with_ready : State → ℕ → Replica → ℕ → Thread → Answered → State
@@ -175,7 +175,7 @@ with_read state t thread replica stage = None
 abbrev pub read : State → ℕ → Option State
 read state t = by_thread state t (λ thread. at_replica state (home state t) (λ replica. with_read state t thread replica thread.stage))
 
--- Reply: where the answer stands in the slot, or the thread has read, the reply is recorded, and no call is open
+-- Reply: where the answer is in the slot, or the thread has read, the reply is recorded, and no call is open
 abbrev pub with_reply : State → ℕ → Thread → Answered → Option State
 with_reply state t thread answered =
     Some (record (with_thread state t (record thread { stage = Idle }))

@@ -51,7 +51,7 @@ pub(crate) fn keep_others(batch: &mut Vec<Collected>, thread: u16)
     batch.retain(|update| update.thread != thread);
 }
 
-/// The entries of the batch stand at the log's end.
+/// The entries of the batch are at the log's end.
 pub(crate) fn push_entries(log: &mut Vec<LogEntry>, batch: &[Collected]) -> Result<(), Memory>
     ensures ok { OnOk result
         (log.new.items ≡ log.old.items ++ map (λ update. update.entry) batch.now) }

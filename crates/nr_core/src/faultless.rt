@@ -16,13 +16,13 @@ ghost use Rattle.nr_trace.specs.declared.fault.Fault.TheVariants.{ReservedBit, S
 ghost use Rattle.nr_core.specs.Faultless.{IsRecordingOfSteps};
 
 /// No thread makes a call while one is open, each reply answers a call before it, no call is answered twice, the log has nothing
-/// but updates and none twice, each answered update stands at the place that its reply names, and no read saw more entries than the
+/// but updates and none twice, each answered update is at the place that its reply names, and no read saw more entries than the
 /// log has.
 pub fn recorded_calls_are_well_formed()
     ensures { (trace : Recording) → IsRecordingOfSteps trace → HasCleanLog trace }
 {}
 
-/// Each dump is that of the space after the first entries of the log, as many as it says, and no answer given at its replica rests on
+/// Each dump is that of the space after the first entries of the log, as many as it says, and no answer given at its replica depends on
 /// more. Its table has no fault.
 pub fn dumps_are_of_the_log()
     ensures within { (trace : Recording) (replica : ℕ) → IsRecordingOfSteps trace
@@ -47,7 +47,7 @@ pub fn answers_are_of_the_log()
         → HasFault trace (WrongAnswer call) → ⊥ }
 {}
 
-/// No call stands before an entry that was known by a reply before the call was made.
+/// No call comes before an entry that was known by a reply before the call was made.
 pub fn no_call_is_early()
     ensures { (trace : Recording) (call : ℕ) → IsRecordingOfSteps trace
         → HasFault trace (Early call) → ⊥ }

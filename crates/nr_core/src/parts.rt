@@ -27,7 +27,7 @@ pub(crate) struct ReplicaState {
 pub(crate) struct Marks {
     /// The thread that holds its lock.
     pub(crate) holder: Option<u16>,
-    /// Whether its batch stands in the log.
+    /// Whether its batch is in the log.
     pub(crate) placed: bool,
     /// Its local tail: how many entries of the log it has fetched.
     pub(crate) local: u32,

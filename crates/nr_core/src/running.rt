@@ -19,7 +19,7 @@ use std::alloc::Global;
 use vs_types::{Config, Memory, Request};
 
 /// A recording of the state after the steps in turn, from the start, with a script for each thread; steps that are not enabled are
-/// passed over. Whatever the steps, it is within the format's ranges and has no fault. It takes the memory of `Core::new`, of each step
+/// passed over. Whatever the steps, it is within the format's ranges and has no fault. It allocates the memory of `Core::new`, of each step
 /// and of `Core::trace`. There is one script for each thread, with at most 65,536 requests in all, each well formed at the depth.
 ///
 /// # Errors

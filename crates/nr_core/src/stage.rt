@@ -41,7 +41,7 @@ pub(crate) enum Stage {
         call: u32,
         request: Request,
     },
-    /// The update stands in the slot.
+    /// The update is in the slot.
     Posted {
         call: u32,
         op: Op,
@@ -50,7 +50,7 @@ pub(crate) enum Stage {
     Taken {
         call: u32,
     },
-    /// The update's answer stands in the slot.
+    /// The update's answer is in the slot.
     Ready {
         answered: Answered,
     },

@@ -8,7 +8,7 @@ use crate::step::{Act, Step};
 use vs_types::Memory;
 
 impl Core {
-    /// Takes a step where it is enabled, and says whether it was; else nothing is changed. It takes memory where a call, a reply
+    /// Takes a step where it is enabled, and says whether it was; else nothing is changed. It allocates memory where a call, a reply
     /// or an entry of the log is recorded, and where an update comes into a batch.
     ///
     /// # Errors

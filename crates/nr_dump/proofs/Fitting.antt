@@ -63,7 +63,7 @@ first_difference depth memory root space base whole is none (common, left, right
 
 -- ---- a dump that fits has no fault, and one with a fault does not fit
 
--- no number stands twice among distinct ones
+-- no number is twice among distinct ones
 once_only : (number : ℕ) (xs before after : List ℕ) → IsDistinct nat_eq xs → xs ≡ before ++ number ∷ after → Contains before number → ⊥
 once_only number xs before after distinct parts (k, within, is) =
     let apart : AllPairs (λ x y. x ≢ y) (before ++ number ∷ after) =

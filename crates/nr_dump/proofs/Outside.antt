@@ -40,7 +40,7 @@ keys_rise memory i j less within =
     let right = get_or-map (λ (e : ℕ × List ℕ). e.0) (finite.entries memory) j (0, []) in
     omega arith
 
--- where a frame stands among them
+-- where a frame is among them
 place_of : (memory : Memory) (number : ℕ) → IsSome (finite.get memory number)
     → (j : ℕ) × (j < finite.len memory) × (slice_index (finite.keys memory) j ≡ number)
 place_of memory number held =

@@ -27,7 +27,7 @@ known_stays pages left base taken page (common, rest, right, first, is, parts, h
   heads_stay first rest (page ∷ []) right base h,
 )
 
--- ---- what a comparison was told, and one page more
+-- ---- what a comparison was given, and one page more
 
 pub keeps_known : (left : List Page) (difference : Option ℕ) (told : List Page) (page : Page) → is_some difference ≡ true
     → HasCompared left difference told → HasCompared left difference (told ++ page ∷ [])
@@ -53,7 +53,7 @@ meets_beyond after None told page none (pages, taken, is, unmarked, are) =
     (pages, taken ++ page ∷ [], told_more pages taken told page is, unmarked, (taken, [], [], page, refl, are, refl))
 meets_beyond after (Some base) told page none has = cc
 
--- ---- what a comparison tells in the end
+-- ---- what a comparison says in the end
 
 pub ends_known : (pages left : List Page) (base : ℕ) (taken : List Page) → AreTaken pages left (Some base) taken → IsCompared taken pages (Some base)
 ends_known pages left base taken (common, rest, right, first, is, parts, h) = (common, first ∷ rest, right, is, parts, h)
@@ -66,9 +66,9 @@ ends_equal pages taken are = sym (are ∙ append-nil taken)
 pub ends_before : (pages left taken : List Page) (next : Page) → AreTaken pages (next ∷ left) None taken → IsCompared taken pages (Some next.base)
 ends_before pages left taken next are = (taken, [], next ∷ left, sym (append-nil taken), are, refl)
 
--- ---- where the mark stands
+-- ---- where the mark is
 
--- lists without the mark are equal where they stand before one
+-- lists without the mark are equal where they come before one
 same_before_mark : (ps qs xs ys : List Page) → (Contains ps mark → ⊥) → (Contains qs mark → ⊥) → ps ++ mark ∷ xs ≡ qs ++ mark ∷ ys → (ps ≡ qs) × (xs ≡ ys)
 same_before_mark [] [] xs ys left right same = (refl, cc)
 same_before_mark [] (q ∷ qs) xs ys left right same = let first : mark ≡ q = cc in
@@ -84,7 +84,7 @@ same_before_mark (p ∷ ps) (q ∷ qs) xs ys left right same =
 starts : (pages : List Page) → (Contains pages mark → ⊥) → HasCompared pages None (pages ++ mark ∷ [])
 starts pages unmarked = (pages, [], refl, unmarked, refl)
 
--- a comparison that began with these pages has taken what it was told since
+-- a comparison that began with these pages has taken what it was given since
 has_taken : (pages left : List Page) (difference : Option ℕ) (taken : List Page) → (Contains pages mark → ⊥)
     → HasCompared left difference ((pages ++ mark ∷ []) ++ taken)
     → AreTaken pages left difference taken
@@ -92,7 +92,7 @@ has_taken pages left difference taken unmarked (others, other, is, others_unmark
     let same = same_before_mark pages others taken other unmarked others_unmarked (sym (append_assoc pages (mark ∷ []) taken) ∙ is) in
     subst (λ ps. AreTaken ps left difference taken) (sym same.0) (subst (λ ts. AreTaken others left difference ts) (sym same.1) are)
 
--- a comparison that has taken all pages tells how they compare with those with which it began
+-- a comparison that has taken all pages says how they compare with those with which it began
 pub compared : (pages first left : List Page) (nothing difference : Option ℕ) (taken : List Page) (answer : Option ℕ) → (Contains pages mark → ⊥)
     → first ≡ pages → nothing ≡ None
     → ((told : List Page) → HasCompared first nothing told → HasCompared left difference (told ++ taken))

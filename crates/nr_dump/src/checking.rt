@@ -37,7 +37,7 @@ fn least_outside(dump: &Dump, numbers: &Reached) -> Option<u64>
 /// that its tables lead to no frame twice, and that they lead to each of its frames.
 ///
 /// It goes once through the tables, by index, and compares each page as it is found with the next page of the space. It
-/// takes memory for the numbers of the frames that are reached, and none for pages.
+/// allocates memory for the numbers of the frames that are reached, and none for pages.
 ///
 /// # Errors
 ///

@@ -47,7 +47,7 @@ impl<'a> Comparison<'a> {
 impl<'a> PageVisitor for Comparison<'a> {
     ghost HasTaken = { λ comparison told. HasCompared comparison.pages comparison.difference told };
 
-    /// It takes no memory.
+    /// It allocates no memory.
     fn take(&mut self, page: Page) -> Result<(), Memory>
         ensures taken { IfOk result
             (λ _. (told : List Page) → HasCompared self.old.pages self.old.difference told

@@ -1,4 +1,4 @@
--- No float stands in the JSON of an explanation.
+-- No float is in the JSON of an explanation.
 use Rattle.std.proofs.Common.{◌≡◌, ℕ, Bool, false, ◌||◌, List, [], ◌∷◌, Option, Some, None, ap, ap₂, map, refl}
 use Rattle.serde_json.specs.View.{items_of}
 use Rattle.serde_json.specs.Written.{has_float, items_have_float}

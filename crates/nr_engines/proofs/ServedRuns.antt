@@ -1,4 +1,4 @@
--- What is told of a run is told of what it has to show.
+-- What is written of a run is written of what it has to show.
 use Rattle.std.proofs.Common.{◌≡◌, ℕ, Bool, true, false, List, Option, length, inl, inr, refl}
 use Rattle.vs_types.specs.Config.{Layout}
 use Rattle.vs_types.specs.declared.depth.Depth.{Depth}
@@ -46,7 +46,7 @@ pub all_refused : {J : Type 0} (layout : Layout) (scripts : List (List Query)) (
 all_refused layout scripts (Verified answers trace order passes) trace_of first = tt
 all_refused layout scripts (Refused trace fault) trace_of first = record { trace_of = trace_of; first = first }
 
--- what is told of an outcome is told of the run
+-- what is written of an outcome is written of the run
 pub tells_run : {J : Type 0} (layout : Layout) (scripts : List (List Query)) (as_trace : Bool) (outcome : Outcome J) (status : ℕ)
     → IfVerified (IsVerifiedRun layout scripts) outcome → IfRunRefused (IsRefusedRun layout scripts) outcome → status ≡ outcome_status outcome
     → TellsRun layout scripts as_trace (told_of as_trace outcome) status
@@ -67,7 +67,7 @@ tells_run layout scripts as_trace (Refused trace fault) status shown refused sam
   status_is = same;
 })
 
--- why a run of a script with no steps is not told
+-- why a run of a script with no steps is not written
 pub fault_of_end : (depth : Depth) (known : Option (List ℕ)) (fault : ProgFault) → HasRunnable depth known → IsRunEnd fault → IsRunFault depth known fault
 fault_of_end depth known NoThread has end = has
 fault_of_end depth known CannotWrite has end = has

@@ -1,4 +1,4 @@
--- What is known of a recording of the core that is told.
+-- What is known of a recording of the core that is written.
 use Rattle.std.proofs.Common.{◌≡◌, ℕ, Bool, true, false, List, Option, refl, ap, subst, sym, ◌∙◌}
 use Rattle.std.specs.Io.KnownBytes.{Appends}
 use Rattle.nr_trace.specs.Laws.{IsFaultless}

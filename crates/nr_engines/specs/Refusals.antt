@@ -1,4 +1,4 @@
--- The program ends with no answer: why, its exit status, and what it tells standard error.
+-- The program ends with no answer: why, its exit status, and what it writes to standard error.
 use Rattle.std.specs.Prelude.{◌≡◌, ◌≢◌, ◌++◌, ℕ, List, codes, decimal, Option, Result, Ok, Err, IfErr, ⊤}
 use Rattle.vs_text.specs.Words.{SpellsAddress}
 use Rattle.nr_engines.specs.Text.{line_end}
@@ -34,7 +34,7 @@ abbrev pub refusal_text : ProgFault → List ℕ
 refusal_text (BadLine number) = refusal_words (BadLine number) ++ decimal number
 refusal_text fault = refusal_words fault
 
--- what standard error is told
+-- what is written to standard error
 abbrev pub refusal_line : ProgFault → List ℕ
 refusal_line fault = refusal_text fault ++ line_end
 

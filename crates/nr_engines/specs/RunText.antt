@@ -9,7 +9,7 @@ use Rattle.nr_serve.specs.declared.said.Said.{Said}
 use Rattle.nr_serve.specs.declared.said.Said.TheVariants.{Answer as Answered, Stopped}
 use Rattle.nr_engines.specs.Text.{fault_text, line_end}
 
--- the name of an answer, and what it tells
+-- the name of an answer, and what it says
 unfoldable pub answer_text : Answer → List ℕ
 answer_text answers.Done = codes "done"
 answer_text (answers.Overlap base) = codes "overlap " ++ hexadecimal base

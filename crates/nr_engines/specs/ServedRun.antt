@@ -47,7 +47,7 @@ abbrev pub asked_for : Bool → List ℕ → List ℕ → List ℕ
 asked_for true trace text = trace
 asked_for false trace text = text
 
--- a verified run of these scripts is told
+-- a verified run of these scripts is written
 pub record TellsVerified (layout : Layout) (scripts : List (List Query)) (as_trace : Bool) (text : List ℕ) (status : ℕ) : Type 0 where
   pub answers : List (List Said)
   pub trace : List ℕ
@@ -57,7 +57,7 @@ pub record TellsVerified (layout : Layout) (scripts : List (List Query)) (as_tra
   pub text_is : text ≡ asked_for as_trace trace (verified_text answers)
   pub status_is : status ≡ 0
 
--- a refused run of these scripts is told, by the first fault of its trace
+-- a refused run of these scripts is written, by the first fault of its trace
 pub record TellsRefused (layout : Layout) (scripts : List (List Query)) (as_trace : Bool) (text : List ℕ) (status : ℕ) : Type 0 where
   pub trace : List ℕ
   pub fault : Fault
@@ -65,11 +65,11 @@ pub record TellsRefused (layout : Layout) (scripts : List (List Query)) (as_trac
   pub text_is : text ≡ asked_for as_trace trace (refused_text fault)
   pub status_is : status ≡ 1
 
--- what came of a run of these scripts is told
+-- what came of a run of these scripts is written
 abbrev pub TellsRun : Layout → List (List Query) → Bool → List ℕ → ℕ → Type 0
 TellsRun layout scripts as_trace text status = TellsVerified layout scripts as_trace text status ⊎ TellsRefused layout scripts as_trace text status
 
--- what is told of an outcome, and its status
+-- what is written of an outcome, and its status
 abbrev pub told_of : {J : Type 0} → Bool → Outcome J → List ℕ
 told_of as_trace (Verified answers trace order passes) = asked_for as_trace trace (verified_text answers)
 told_of as_trace (Refused trace fault) = asked_for as_trace trace (refused_text fault)
@@ -88,7 +88,7 @@ pub record IsRunnable (depth : Depth) (bytes : List ℕ) (script : Script) : Typ
   pub is_script : IsScript depth bytes script
   pub no_step : script.first_step ≡ None
 
--- of `run`: the bytes are a script with no steps, and what came of a run of it is told
+-- of `run`: the bytes are a script with no steps, and what came of a run of it is written
 pub record IsServedRun (setup : Setup) (as_trace : Bool) (bytes text : List ℕ) (status : ℕ) : Type 0 where
   pub script : Script
   pub runnable : IsRunnable setup.depth bytes script
@@ -101,7 +101,7 @@ pub record HasRunnable (depth : Depth) (known : Option (List ℕ)) : Type 0 wher
   pub script : Script
   pub runnable : IsRunnable depth input script
 
--- the input of the reader, which is not too long, is a script whose first step stands in this line
+-- the input of the reader, which is not too long, is a script whose first step is in this line
 pub record HasStepLine (depth : Depth) (known : Option (List ℕ)) (number : ℕ) : Type 0 where
   pub input : List ℕ
   pub is_read : IsReadOf known input
@@ -110,7 +110,7 @@ pub record HasStepLine (depth : Depth) (known : Option (List ℕ)) (number : ℕ
   pub is_script : IsScript depth input script
   pub first : script.first_step ≡ Some number
 
--- why a run is not told: no thread could be started, the output gave an error, or memory ran out, of which no contract says when
+-- why a run is not written: no thread could be started, the output gave an error, or memory ran out, of which no contract says when
 abbrev pub IsRunEnd : ProgFault → Type 0
 IsRunEnd NoThread = ⊤
 IsRunEnd CannotWrite = ⊤

@@ -27,12 +27,12 @@ abbrev pub IsRecordingOfScript : Setup → Script → Recording → Type 0
 IsRecordingOfScript setup script trace = IsRecordingOf
     (after_steps (start (layout_of setup script.threads) (map (λ list. list.items) script.requests.items)) script.steps.items) trace
 
--- what is told of a trace: its bytes, where these are asked for; else what `audit` says of them
+-- what is written of a trace: its bytes, where these are asked for; else what `audit` says of them
 abbrev pub IsTold : Bool → Recording → List ℕ → ℕ → Type 0
 IsTold true trace text status = (text ≡ spelling trace) × (status ≡ 0)
 IsTold false trace text status = IsAudit (spelling trace) text status
 
--- of `simulate`: the bytes, not too many, are a script, and a recording of the core after its steps is told
+-- of `simulate`: the bytes, not too many, are a script, and a recording of the core after its steps is written
 pub record IsSimulation (setup : Setup) (as_trace : Bool) (bytes text : List ℕ) (status : ℕ) : Type 0 where
   pub script : Script
   pub short : length bytes ≤ 16777216
@@ -84,7 +84,7 @@ abbrev pub IsSimulationFault : Depth → Option (List ℕ) → ProgFault → Typ
 IsSimulationFault depth known CannotWrite = (script : Script) × HasReadScript depth known script
 IsSimulationFault depth known fault = IsScriptFault depth known fault
 
--- what is told of bytes that are no script
+-- what is written of bytes that are no script
 abbrev pub script_fault : Fail BadLineOfScript → ProgFault
 script_fault fails.Memory = Memory
 script_fault (fails.Refused bad) = BadLine bad.0

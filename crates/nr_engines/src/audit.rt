@@ -24,7 +24,7 @@ fn status_of(verdict: &Verdict) -> u8
 }
 
 /// What `audit` answers to what was read of an input: the text of its verdict, and 0 where it is a right trace, else 1.
-/// Takes memory for the judgement and the text.
+/// Allocates memory for the judgement and the text.
 ///
 /// # Errors
 ///
@@ -42,7 +42,7 @@ pub fn audit_read(alloc: Global, read: Result<Trace, Fail<Format>>) -> Result<Re
 }
 
 /// Reads a trace in blocks, judges it, and writes the verdict; the status is 0 where it is right, else 1. It stops reading
-/// as soon as a whole unit has a fault, or a byte stands after the last unit. Where it gives no answer some input may have been
+/// as soon as a whole unit has a fault, or a byte comes after the last unit. Where it gives no answer some input may have been
 /// read, and nothing was written but where that failed.
 ///
 /// # Errors

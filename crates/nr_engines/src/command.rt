@@ -15,7 +15,7 @@ use std::thread::Threads;
 pub enum Command<'a> {
     /// Judge the trace.
     Audit,
-    /// Judge the trace, and tell what shows its fault; and as JSON.
+    /// Judge the trace, and show the evidence of its fault; and as JSON.
     Explain(bool),
     /// Walk at this address, as the command line spells it, in the dump of this replica.
     Resolve(&'a str, u8),

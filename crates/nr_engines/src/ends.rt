@@ -70,11 +70,11 @@ fn feed_blocks<R: Read>(
 
 /// Reads the input in blocks of at most 4,096 bytes and feeds each to the reader of traces: the trace that the input
 /// spells, or why it spells none. It reads nothing after the first refusal, and never more than 70,647,893 bytes, one more than
-/// the greatest trace has. Takes memory for the trace, and keeps no other bytes than one block.
+/// the greatest trace has. Allocates memory for the trace, and keeps no other bytes than one block.
 ///
 /// # Errors
 ///
-/// `CannotRead` where the reader gave an error that is no interruption. That memory ran out stands inside the answer.
+/// `CannotRead` where the reader gave an error that is no interruption. That memory ran out is inside the answer.
 pub fn read_trace<R: Read>(
     alloc: Global,
     reader: &mut R,

@@ -32,7 +32,7 @@ fn status_of(explanation: &Explanation) -> u8
     }
 }
 
-/// The lines that `explain` prints. Takes memory for the text.
+/// The lines that `explain` prints. Allocates memory for the text.
 fn explanation_text(alloc: Global, explanation: &Explanation) -> Result<String, AllocError>
     ensures { IfOk result (λ text. string_bytes text ≡ explanation_text explanation.now) }
 {
@@ -80,7 +80,7 @@ fn explanation_value(alloc: Global, explanation: &Explanation) -> Result<Value, 
     }
 }
 
-/// The line that `explain --json` prints. Takes memory for the object and for the line.
+/// The line that `explain --json` prints. Allocates memory for the object and for the line.
 #[tactic(auto, using(crate::proofs::NoFloats::explanation_has_no_float))]
 fn explanation_json(alloc: Global, explanation: &Explanation) -> Result<String, AllocError>
     ensures { IfOk result (λ text. string_bytes text ≡ explanation_json explanation.now) }
@@ -106,7 +106,7 @@ fn told_explanation(
 }
 
 /// What `explain` answers to what was read of an input: the lines of its explanation, or the JSON object of it, and 0 where it
-/// is a right trace, else 1. Takes memory for the judgement, the evidence and the text.
+/// is a right trace, else 1. Allocates memory for the judgement, the evidence and the text.
 ///
 /// # Errors
 ///
@@ -128,7 +128,7 @@ pub fn explained_read(
 }
 
 /// Reads a trace in blocks, judges it, and writes the verdict and, for a no, what shows the fault, as lines or as one JSON
-/// object; the status is 0 where it is right, else 1. It stops reading as soon as a whole unit has a fault, or a byte stands
+/// object; the status is 0 where it is right, else 1. It stops reading as soon as a whole unit has a fault, or a byte is
 /// after the last unit. Where it gives no answer some input may have been read, and nothing was written but where that failed.
 ///
 /// # Errors

@@ -61,7 +61,7 @@ impl ProgFault {
         }
     }
 
-    /// The words of the text, and for a bad line what stands before its number.
+    /// The words of the text, and for a bad line what comes before its number.
     fn words(&self) -> &'static str
         ensures { result.now ≡ refusal_words self.now }
     {
@@ -78,7 +78,7 @@ impl ProgFault {
         }
     }
 
-    /// Writes the line that standard error is told, and nothing else. It takes no memory.
+    /// Writes the line that goes to standard error, and nothing else. It allocates no memory.
     ///
     /// # Errors
     ///

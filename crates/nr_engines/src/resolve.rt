@@ -24,7 +24,7 @@ fn spelled_address(word: &str) -> Option<u64>
 }
 
 /// What `resolve` answers to what was read of an input: where the walk of the address ends in a replica's dump, with status 0;
-/// or the line of the format fault, with status 1. Takes memory for the text.
+/// or the line of the format fault, with status 1. Allocates memory for the text.
 ///
 /// # Errors
 ///
@@ -63,7 +63,7 @@ pub fn resolve_read(
 
 /// Reads a trace, and writes where the walk of an address ends in a replica's dump. It tests the spelling of the
 /// address, then reads, then tests whether the address is canonical at the trace's depth, then the replica. The status is 0,
-/// or 1 where the input spells no trace. It reads in blocks, and stops as soon as a whole unit has a fault, or a byte stands
+/// or 1 where the input spells no trace. It reads in blocks, and stops as soon as a whole unit has a fault, or a byte is
 /// after the last unit. Where it gives no answer some input may have been read, and nothing was written but where that failed.
 ///
 /// # Errors

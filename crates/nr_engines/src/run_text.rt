@@ -30,7 +30,7 @@ fn push_number(text: &mut String, word: &str, number: u64) -> Result<(), AllocEr
     text.push_str(Buffer::new().format(number))
 }
 
-/// Adds the name of an answer, and what it tells.
+/// Adds the name of an answer, and what it says.
 #[tactic(auto, unfolding(crate::specs::RunText::answer_text))]
 fn push_answer(text: &mut String, answer: Answer) -> Result<(), AllocError>
     ensures { OnOk result
@@ -59,7 +59,7 @@ fn push_answer(text: &mut String, answer: Answer) -> Result<(), AllocError>
     }
 }
 
-/// The name of an answer, and what it tells.
+/// The name of an answer, and what it says.
 pub(crate) fn answer_text(alloc: Global, answer: Answer) -> Result<String, AllocError>
     ensures { IfOk result (λ text. string_bytes text ≡ answer_text answer) }
 {
@@ -99,7 +99,7 @@ fn push_thread(text: &mut String, thread: usize, said: &[Said]) -> Result<(), Al
     Ok(())
 }
 
-/// The lines of a verified run. Takes memory for the text.
+/// The lines of a verified run. Allocates memory for the text.
 pub(crate) fn verified_text(alloc: Global, threads: &[Vec<Said>]) -> Result<String, AllocError>
     ensures { IfOk result (λ text.
         string_bytes text ≡ verified_text (map (λ said. said.items) threads.now)) }
@@ -112,7 +112,7 @@ pub(crate) fn verified_text(alloc: Global, threads: &[Vec<Said>]) -> Result<Stri
     Ok(text)
 }
 
-/// The line of a refused run. Takes memory for the text.
+/// The line of a refused run. Allocates memory for the text.
 pub(crate) fn refused_text(alloc: Global, fault: Fault) -> Result<String, AllocError>
     ensures { IfOk result (λ text. string_bytes text ≡ refused_text fault) }
 {

@@ -52,7 +52,7 @@ fn script_fault(fail: Fail<BadLine>) -> ProgFault
 }
 
 /// Reads an input to its end in blocks of at most 4,096 bytes: the script that it is, whose requests are well formed at the depth.
-/// It reads at most 16,777,217 bytes, one more than a script has. Takes memory for the bytes, and for the requests and steps.
+/// It reads at most 16,777,217 bytes, one more than a script has. Allocates memory for the bytes, and for the requests and steps.
 ///
 /// # Errors
 ///

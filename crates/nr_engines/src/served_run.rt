@@ -53,7 +53,7 @@ fn outcome_status<J: LogName>(outcome: &Outcome<J>) -> u8
     }
 }
 
-/// Writes what is told of an outcome and nothing else, and gives its status.
+/// Writes the text of an outcome and nothing else, and gives its status.
 fn write_outcome<J: LogName, W: Write>(
     alloc: Global,
     writer: &mut W,
@@ -119,7 +119,7 @@ fn run_named<J: LogName + Send + Sync, W: Write, T: Threads + Wait + Sync>(
 ///
 /// # Errors
 ///
-/// In this order: `CannotRead`, `InputTooLong`, `BadLine` as `input_script` tells them, or with the first line that is a step, where
+/// In this order: `CannotRead`, `InputTooLong`, `BadLine` as `input_script` gives them, or with the first line that is a step, where
 /// no line is bad; `NoThread` where a thread could not be started; `CannotWrite` where the writer gave an error. `Memory` where a
 /// growth of memory was refused; it may come before any of them.
 pub fn run_io<T: Threads + Wait + Sync, R: Read, W: Write>(

@@ -2,7 +2,7 @@ ghost use Rattle.std.specs.Prelude.{◌≤◌};
 
 use vs_types::Depth;
 
-/// How a run is laid out, but for its threads, which its script tells.
+/// How a run is laid out, but for its threads, which its script says.
 #[derive(Clone, Copy, Debug)]
 pub struct Setup {
     /// The depth of each page table.

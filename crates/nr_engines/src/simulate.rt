@@ -40,7 +40,7 @@ fn simulate(alloc: Global, setup: Setup, script: Script) -> Result<Trace, Memory
 ///
 /// # Errors
 ///
-/// In this order: `CannotRead`, `InputTooLong`, `BadLine` as `input_script` tells them; `CannotWrite` where the writer gave an error.
+/// In this order: `CannotRead`, `InputTooLong`, `BadLine` as `input_script` gives them; `CannotWrite` where the writer gave an error.
 /// `Memory` where a growth of memory was refused; it may come before any of them.
 pub fn simulate_io<R: Read, W: Write>(
     alloc: Global,

@@ -88,7 +88,7 @@ pub(crate) fn yes_text(alloc: Global, order: &[u32]) -> Result<String, AllocErro
     Ok(text)
 }
 
-/// The lines that `audit` prints of a verdict. Takes memory for the text.
+/// The lines that `audit` prints of a verdict. Allocates memory for the text.
 pub(crate) fn verdict_text(alloc: Global, verdict: &Verdict) -> Result<String, AllocError>
     ensures { IfOk result (λ text. string_bytes text ≡ verdict_text verdict.now) }
 {

@@ -41,12 +41,12 @@ fn feed_units<R: Read>(
 }
 
 /// Reads the input in blocks of at most 4,096 bytes and feeds each to the reader of units: the trace that the input spells, or
-/// the unit that shows why it spells none. It reads as much as `read_trace` does, and takes the memory of that, and for the beginning
+/// the unit that shows why it spells none. It reads as much as `read_trace` does, and allocates the memory of that, and for the beginning
 /// of one unit.
 ///
 /// # Errors
 ///
-/// `CannotRead` where the reader gave an error that is no interruption. That memory ran out stands inside the answer.
+/// `CannotRead` where the reader gave an error that is no interruption. That memory ran out is inside the answer.
 pub fn read_units<R: Read>(
     alloc: Global,
     reader: &mut R,

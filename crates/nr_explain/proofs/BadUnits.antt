@@ -68,7 +68,7 @@ goes_on Behind lengths front at =
 
 -- ---- a unit that is cut off
 
--- it is, or it is what stands behind the last unit
+-- it is, or it is what comes after the last unit
 pub cut : (unit : TraceUnit) (lengths : Lengths) (front begun : List ℕ) → IsAt unit lengths front → length begun < size unit
     → HasFormatFault (front ++ begun) Truncated ⊎ (unit ≡ Behind)
 cut Magic lengths front begun at short =

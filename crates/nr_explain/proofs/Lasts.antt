@@ -12,7 +12,7 @@ use Rattle.nr_explain.specs.declared.evidence.RecordedCall.{RecordedCall}
 abbrev pub made_in : RecordedCall → Invocation
 made_in call = record { replica = call.replica; thread = call.thread; request = call.request }
 
--- it is made by the thread that it tells
+-- it is made by the thread that it names
 pub thread_told : (trace : Recording) (index : ℕ) (call : RecordedCall) → IsCallOf trace call → call.event ≡ index
     → (made : Invocation) → call_of trace index ≡ Some made → made.thread ≡ call.thread
 thread_told trace index call is at made e =

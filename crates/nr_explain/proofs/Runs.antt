@@ -24,7 +24,7 @@ pub place_ahead : (version : Version) (layout : Layout) (left events : ℕ) (fro
 unfolding AtLog
 place_ahead version layout left events front ahead = λ rest fault h. ahead rest fault h
 
--- a run and what stands before it, cut behind the first unit
+-- a run and what comes before it, cut behind the first unit
 pub cut_run : (front run : List ℕ) (n : ℕ) → (front ++ take n run) ++ drop n run ≡ front ++ run
 cut_run front run n = append_assoc front (take n run) (drop n run) ∙ ap (λ (l : List ℕ). front ++ l) (take-append-drop n run)
 

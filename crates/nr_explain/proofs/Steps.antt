@@ -1,4 +1,4 @@
--- When two ways are the same, as `==` tells.
+-- When two ways are the same, as `==` says.
 use Rattle.std.proofs.Common.{◌≡◌, Bool, true, List, ◌↔◌, eqb, refl, sym, subst, ◌∙◌}
 use Rattle.std.proofs.lemmas.Bool.{eq-eqb, eqb-true, and_parts, and_from}
 use lib.Pointwise.{pointwise, pointwise_decides}

@@ -66,7 +66,7 @@ IsPart room more = ((more ≡ []) × (room ≤ 16)) ⊎ HasPart room more
 long_dump : (dump : List ℕ) (h : SpellsDump dump) → length dump ≡ 16 + 4104 * h.many
 long_dump dump h = omega (arith, ap length h.parts, length-append h.head h.frames, ap length h.is_head.spelled, h.all_frames)
 
--- after a whole dump the same stands
+-- after a whole dump the same is
 whole_dump : (dump other us vs : List ℕ) → SpellsDump dump → SpellsDump other → dump ++ us ≡ other ++ vs → us ≡ vs
 whole_dump dump other us vs h k e =
     let same = heads_same h.many k.many h.head k.head (h.frames ++ us) (k.frames ++ vs) h.is_head k.is_head
@@ -89,7 +89,7 @@ no_whole room dump rest more some h part e =
     let few : room ≤ 0 = in_part room dump rest more [] h part (append-nil more ∙ sym e) in
     omega (arith, few, some)
 
--- as many dumps stand before both; or fewer before the first, and a dump more behind it
+-- as many dumps come before both; or fewer before the first, and a dump more behind it
 abbrev LiesBefore : List (List ℕ) → List (List ℕ) → List ℕ → List ℕ → Type 0
 LiesBefore dumps others us later = ((length dumps ≡ length others) × (us ≡ later))
     ⊎ ((dump : List ℕ) × (rest : List ℕ) × SpellsDump dump × (us ≡ dump ++ rest))

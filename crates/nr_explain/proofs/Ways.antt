@@ -1,4 +1,4 @@
--- Ways through tables: all that the traversal visits stands at the end of one.
+-- Ways through tables: all that the traversal visits is at the end of one.
 use Rattle.std.proofs.Common.{◌≡◌, ℕ, zero, suc, ◌+◌, ◌-◌, ◌*◌, ◌<◌, ◌≤◌, List, [], ◌∷◌, Some, None, length, get_or, flat_map, refl, sym, subst, ⊎_elim}
 use Rattle.std.proofs.Common.{arith, Contains}
 use Rattle.std.specs.Prelude.{⊤}
@@ -114,7 +114,7 @@ table_way depth memory (suc level) table visit met =
           (subst (λ ms. Contains ms visit) (table_met depth memory level table words is) met))
     ] refl
 
--- a frame that is visited stands at the end of a way from the root
+-- a frame that is visited is at the end of a way from the root
 pub way_to_frame : (depth : Depth) (memory : Memory) (root number : ℕ) → Contains (traversal depth memory root) (OfFrame number)
     → (way : List Step) × ((end : ℕ) × IsPath memory (levels depth) root end number way)
 way_to_frame depth memory root number met =

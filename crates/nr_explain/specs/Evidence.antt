@@ -32,7 +32,7 @@ use Rattle.nr_explain.specs.declared.evidence.Difference.{Difference}
 use Rattle.nr_explain.specs.declared.evidence.Evidence.{Evidence}
 use Rattle.nr_explain.specs.declared.evidence.Evidence.TheVariants as evidence
 
--- two calls of one thread, and no reply to the first stands before the second
+-- two calls of one thread, and no reply to the first comes before the second
 pub record AreOpen (trace : Recording) (calls : OpenCalls) : Type 0 where
   pub first : IsCallOf trace calls.first
   pub second : IsCallOf trace calls.second
@@ -94,7 +94,7 @@ pub record IsPastEnd (trace : Recording) (wrong : PastEnd) : Type 0 where
   pub places : wrong.places ≡ length trace.log
   pub past : wrong.places < wrong.reply.at
 
--- the call stands after fewer entries than its floor, which a reply before it tells, the first that does: fewer were known before that
+-- the call comes after fewer entries than its floor, which a reply before it makes known, the first that does: fewer were known before that
 pub record IsEarly (trace : Recording) (early : EarlyCall) : Type 0 where
   pub call : IsCallOf trace early.call
   pub stands : StandsAfter trace early.call.event early.entries
@@ -107,7 +107,7 @@ pub record IsEarly (trace : Recording) (early : EarlyCall) : Type 0 where
   pub answered : IsCallOf trace early.answered
   pub names : early.reply.call ≡ early.answered.event
 
--- the call is answered otherwise than the space answers it after the updates that stand before it
+-- the call is answered otherwise than the space answers it after the updates that come before it
 pub record IsOtherAnswer (trace : Recording) (wrong : OtherAnswer) : Type 0 where
   pub call : IsCallOf trace wrong.call
   pub reply : IsReplyOf trace wrong.reply

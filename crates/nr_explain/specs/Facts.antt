@@ -60,7 +60,7 @@ address_about request (answers.Overlap base) = base
 address_about request (answers.Inside base) = base
 address_about request _ = asked_address request
 
--- the word of the step stands in its frame, and leads as an entry of its level to the other frame
+-- the word of the step is in its frame, and leads as an entry of its level to the other frame
 pub record LeadsOn (memory : Memory) (step : Step) (next : ℕ) : Type 0 where
   pub words : List ℕ
   pub own : Rights
@@ -76,7 +76,7 @@ IsPath memory level number end target [] = (level ≡ end) × (number ≡ target
 IsPath memory level number end target (step ∷ steps) =
     (step.level ≡ level) × (step.frame ≡ number) × ((next : ℕ) × LeadsOn memory step next × IsPath memory (level - 1) next end target steps)
 
--- the word of the step stands in its frame, and has a reserved bit set as an entry of its level
+-- the word of the step is in its frame, and has a reserved bit set as an entry of its level
 pub record HasReservedWord (memory : Memory) (step : Step) : Type 0 where
   pub words : List ℕ
   pub there : finite.get memory step.frame ≡ Some words

@@ -32,7 +32,7 @@ pub record Numbers : Type 0 where
   pub places : ℕ
   pub events : ℕ
 
--- the bytes begin with a header of these counts, and this stands behind it
+-- the bytes begin with a header of these counts, and this comes after it
 pub record HasHeader (version : Version) (numbers : Numbers) (bytes behind : List ℕ) : Type 0 where
   pub in_range : IsCounts version (record { layout = numbers.layout; places = numbers.places; events = numbers.events })
   pub spelled : bytes ≡ magic ++ (version_word version
@@ -54,7 +54,7 @@ pub record SpellsDump (bytes : List ℕ) : Type 0 where
   pub parts : bytes ≡ head ++ frames
   pub all_frames : length frames ≡ 4104 * many
 
--- behind the header stand all places and events, and then this many dumps and no more than this
+-- behind the header are all places and events, and then this many dumps and no more than this
 pub record HasDumps (numbers : Numbers) (behind : List ℕ) (replicas : ℕ) (more : List ℕ) : Type 0 where
   pub log_and_events : List ℕ
   pub dumps : List (List ℕ)
@@ -98,7 +98,7 @@ Shows bad front behind =
     ((length bad.read.items < size bad.unit) × (behind ≡ []) × (bad.fault ≡ Truncated))
     ⊎ ((length bad.read.items ≡ size bad.unit) × HasLastingFault (front ++ bad.read.items) bad.fault)
 
--- the bytes have the fault, nothing is wrong with what stands before the unit, and the unit shows the fault
+-- the bytes have the fault, nothing is wrong with what comes before the unit, and the unit shows the fault
 pub record IsBadUnit (bytes : List ℕ) (bad : BadUnit) : Type 0 where
   pub fault : HasFormatFault bytes bad.fault
   pub front : List ℕ

@@ -37,8 +37,8 @@ fn address_about(request: Request, answer: Answer) -> u64
     }
 }
 
-/// The call that is answered otherwise than the space answers it, that answer, and the last update that made it so. Takes
-/// memory for a space, and for another when that one is given back.
+/// The call that is answered otherwise than the space answers it, that answer, and the last update that made it so. Allocates
+/// memory for a space, and for another when that one is freed.
 pub(crate) fn other_answer(alloc: Global, trace: &Trace, index: u32) -> Result<OtherAnswer, Memory>
     requires { IsFirst trace.now (WrongAnswer index) }
     ensures event { IfOk result (λ wrong. wrong.call.event ≡ index) }

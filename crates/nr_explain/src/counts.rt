@@ -21,7 +21,7 @@ pub struct Counts {
     pub pages: u64,
 }
 
-/// Counts a right trace, of which this is the order. Takes memory for a space and a list of its pages.
+/// Counts a right trace, of which this is the order. Allocates memory for a space and a list of its pages.
 pub(crate) fn count(alloc: Global, trace: &Trace, order: &Order) -> Result<Counts, Memory>
     requires { order.now ≡ recorded_order trace.now }
     ensures { IfOk result (IsCountOf trace.now) }

@@ -29,7 +29,7 @@ pub(crate) fn long_prefix(trace: &Trace, replica: u8) -> LongPrefix
     }
 }
 
-/// The entries that lead to a frame that the dump of a replica lacks. Takes memory for them.
+/// The entries that lead to a frame that the dump of a replica lacks. Allocates memory for them.
 pub(crate) fn missing_table(
     alloc: Global,
     trace: &Trace,
@@ -57,7 +57,7 @@ pub(crate) fn missing_table(
     }
 }
 
-/// The entries that lead to a frame, and others that lead there too. Takes memory for them.
+/// The entries that lead to a frame, and others that lead there too. Allocates memory for them.
 pub(crate) fn shared_table(
     alloc: Global,
     trace: &Trace,
@@ -88,7 +88,7 @@ pub(crate) fn shared_table(
     })
 }
 
-/// The entries that lead to a table which has a word with a reserved bit set, and that word. Takes memory for them.
+/// The entries that lead to a table which has a word with a reserved bit set, and that word. Allocates memory for them.
 pub(crate) fn reserved_entry(
     alloc: Global,
     trace: &Trace,
@@ -132,7 +132,7 @@ pub(crate) fn stray_table(trace: &Trace, replica: u8, frame: u64) -> StrayTable
 }
 
 /// How the dump of a replica translates an address, how the address looks in the space, and the last update that made it
-/// so. Takes memory for a space.
+/// so. Allocates memory for a space.
 pub(crate) fn difference(
     alloc: Global,
     trace: &Trace,

@@ -103,11 +103,11 @@ pub struct PastEnd {
     pub places: u32,
 }
 
-/// A call that stands after fewer entries than were known before it was made.
+/// A call that comes after fewer entries than were known before it was made.
 #[derive(Clone, Copy, Debug, PartialEq, Eq)]
 pub struct EarlyCall {
     pub call: RecordedCall,
-    /// After how many entries it stands: the place of an update; of a read how many it saw.
+    /// After how many entries it is: the place of an update; of a read how many it saw.
     pub entries: u32,
     /// The most entries that were known when it was made.
     pub floor: u64,

@@ -32,7 +32,7 @@ pub enum Explanation {
 
 /// What shows the first fault of a trace: each fact of it is one of the trace.
 ///
-/// Takes memory for a space at a time, where an answer is wrong or a translation differs, and for the entries that lead to
+/// Allocates memory for a space at a time, where an answer is wrong or a translation differs, and for the entries that lead to
 /// a table.
 ///
 /// # Errors

@@ -1,4 +1,4 @@
-//! What shows that a call stands too early, or that a dump has applied too little.
+//! What shows that a call comes too early, or that a dump has applied too little.
 
 ghost use Rattle.std.specs.Prelude.{◌≡◌, ◌<◌, ℕ};
 ghost use Rattle.nr_trace.specs.Faults.{IsFirst, StandsAfter};
@@ -12,7 +12,7 @@ use crate::lookup::{call_at, is_update};
 use crate::searching::{binding_reply, first_place, first_reply, first_resting};
 use nr_trace::Trace;
 
-/// After how many entries a call stands in the recorded order.
+/// After how many entries a call is in the recorded order.
 fn entries_before(trace: &Trace, call: u32) -> u32
     requires clean { HasCleanLog trace.now }
     requires stands { (entries : ℕ) × StandsAfter trace.now call entries }
@@ -31,7 +31,7 @@ fn entries_before(trace: &Trace, call: u32) -> u32
     }
 }
 
-/// The call that stands too early, and the reply before it by which its floor is known.
+/// The call that comes too early, and the reply before it by which its floor is known.
 pub(crate) fn early_call(trace: &Trace, index: u32) -> EarlyCall
     requires { IsFirst trace.now (Early index) }
     ensures event { result.call.event ≡ index }

@@ -4,7 +4,7 @@ ghost use Rattle.std.specs.Prelude.{◌≡◌, ℕ, List};
 ghost use Rattle.nr_explain.specs.Units.{IsBadUnit};
 ghost use Rattle.nr_explain.specs.declared.units.BadUnit.{BadUnit};
 
-/// Bytes have at most one bad unit: what it is, where it begins, what was read of it and which fault it shows are told by them.
+/// Bytes have at most one bad unit: what it is, where it begins, what was read of it and which fault it shows are determined by them.
 pub fn one_bad_unit()
     ensures fault { (bytes : List ℕ) (first second : BadUnit) → IsBadUnit bytes first
         → IsBadUnit bytes second → first.fault ≡ second.fault }

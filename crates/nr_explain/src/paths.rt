@@ -64,7 +64,7 @@ fn is_met(dump: &Dump, target: &Target, level: u8, way: &[Step]) -> bool
     has_word && is_new
 }
 
-/// Goes on with a way from a table, each entry in turn, until it is one that is looked for. Takes memory for the way.
+/// Goes on with a way from a table, each entry in turn, until it is one that is looked for. Allocates memory for the way.
 fn go_on(
     dump: &Dump,
     target: &Target,
@@ -100,7 +100,7 @@ fn go_on(
     Ok(false)
 }
 
-/// The first way from the root of a dump to what is looked for. Takes memory for the way.
+/// The first way from the root of a dump to what is looked for. Allocates memory for the way.
 pub(crate) fn find_way(
     alloc: Global,
     dump: &Dump,
@@ -117,7 +117,7 @@ pub(crate) fn find_way(
     Ok(None)
 }
 
-/// A way to a frame, and another one that leads there. Takes memory for the other way.
+/// A way to a frame, and another one that leads there. Allocates memory for the other way.
 pub(crate) fn another_way(
     alloc: Global,
     dump: &Dump,

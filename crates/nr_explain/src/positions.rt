@@ -116,7 +116,7 @@ pub(crate) fn after(unit: TraceUnit, lengths: Lengths, run: &[u8]) -> (TraceUnit
     }
 }
 
-/// How many events of a run that begins at an event stand before the bad one.
+/// How many events of a run that begins at an event come before the bad one.
 fn events_before(index: u32, fault: Format, events: u32) -> u32
     requires { 1 ≤ events }
     ensures within { result < events }
@@ -132,7 +132,7 @@ fn events_before(index: u32, fault: Format, events: u32) -> u32
     }
 }
 
-/// The bad unit of a run that was refused, and how many bytes of the run stand before it.
+/// The bad unit of a run that was refused, and how many bytes of the run come before it.
 pub(crate) fn bad_unit(
     unit: TraceUnit,
     lengths: Lengths,

@@ -56,7 +56,7 @@ pub(crate) fn space_at(alloc: Global, trace: &Trace, end: u32) -> Result<PlainSp
     Ok(space)
 }
 
-/// What a request is answered in the space after this many places. Takes memory for a space.
+/// What a request is answered in the space after this many places. Allocates memory for a space.
 pub(crate) fn answer_after(
     alloc: Global,
     trace: &Trace,
@@ -93,7 +93,7 @@ fn update_at(trace: &Trace, place: u32) -> PlacedUpdate
 }
 
 /// How an address looks in the space after the first places, this many, and the last of these whose update changed that.
-/// Takes memory for a space.
+/// Allocates memory for a space.
 pub(crate) fn last_look(
     alloc: Global,
     trace: &Trace,

@@ -109,7 +109,7 @@ impl Model for UnitFeed {
 }
 
 impl UnitFeed {
-    /// A feed that nothing was given yet. It takes no memory.
+    /// A feed that nothing was given yet. It allocates no memory.
     pub fn new(alloc: Global) -> UnitFeed
         ensures { result ≡ [] }
     {
@@ -125,7 +125,7 @@ impl UnitFeed {
         }
     }
 
-    /// Takes the next piece. It takes the memory that `nr_trace::Feed` takes, and for the beginning of one unit, fewer than 4,096
+    /// Takes the next piece. It allocates the memory that `nr_trace::Feed` takes, and for the beginning of one unit, fewer than 4,096
     /// bytes.
     ///
     /// # Errors
@@ -152,7 +152,7 @@ impl UnitFeed {
         take_bytes(units, begun, behind)
     }
 
-    /// The trace that the pieces spell one after the other. It takes no memory.
+    /// The trace that the pieces spell one after the other. It allocates no memory.
     ///
     /// # Errors
     ///

@@ -21,7 +21,7 @@ pub enum TraceUnit {
     FrameNumber(u8, u32),
     /// The words of a frame in the dump of a replica.
     FrameWords(u8, u32),
-    /// What stands behind the last unit.
+    /// What comes after the last unit.
     Behind,
 }
 
@@ -48,7 +48,7 @@ impl TraceUnit {
 pub struct BadUnit {
     pub fault: Format,
     pub unit: TraceUnit,
-    /// How many bytes stand before it.
+    /// How many bytes come before it.
     pub offset: u64,
     /// Its bytes, or as many of them as there are.
     pub read: Vec<u8>,

@@ -44,7 +44,7 @@ slice_after {X} (x ∷ xs) ys i =
 stand_still : (entries more : List LogEntry) (place : ℕ) (batch : List Waiting) → StandFrom entries place batch → StandFrom (entries ++ more) place batch
 stand_still entries more place batch stand i waiting e = slice_more entries more (place + i) (entry_of waiting) (stand i waiting e)
 
--- a batch that stands among entries ends among them
+-- a batch that is among entries ends among them
 ends_within : (entries : List LogEntry) (place : ℕ) (batch : List Waiting) → 1 ≤ length batch → StandFrom entries place batch → place + length batch ≤ length entries
 ends_within entries place (w ∷ ws) some stand =
     let last = get_or (w ∷ ws) (length ws) w in

@@ -34,7 +34,7 @@ earlier told t u place lt e =
     slice_get-get_or told place u lt
     ∙ ap Some (sym (get_or-append told (t ∷ []) u place lt) ∙ get_or_from_slice_get (told ++ t ∷ []) place u u e)
 
--- the last one stands at the end
+-- the last one is at the end
 last : (told : List ToldState) (t u : ToldState) (place : ℕ) → length told ≤ place → slice_get (told ++ t ∷ []) place ≡ Some u → (place ≡ length told) × (t ≡ u)
 last [] t u zero le e = (refl, cc)
 last [] t u (suc place) le e = absurd (omega (arith, slice_get_within (t ∷ []) (suc place) u e))
@@ -80,7 +80,7 @@ one_more old new told t room more is steps lt same_room =
           let P : ToldState → Type 0 = λ v. v.answer ≡ answer_at old.depth old.limit (entries_told (told ++ t ∷ [])) place v.entry.op in
           subst P here.1 (answered ∙ ap (λ es. (step old.depth old.limit (space_of old.depth old.limit es) t.entry.op).answer) (sym all))
 
--- an update with its place and its answer, as it is told from the entry that stands there
+-- an update with its place and its answer, as it is answered from the entry that is there
 pub answered_one : (depth : Depth) (tables : ℕ) (entries : List LogEntry) (place : ℕ) (waiting : Waiting) (entry : LogEntry) (answer : Answer)
     → entry ≡ entry_of waiting → answer ≡ answer_at depth tables entries place entry.op
     → answered depth tables entries place waiting

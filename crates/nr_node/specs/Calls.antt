@@ -1,4 +1,4 @@
--- What the calls of a node tell.
+-- What the calls of a node answer.
 use Rattle.std.specs.Prelude.{◌≡◌, ℕ, ◌+◌, ◌≤◌, List, [], ◌∷◌, Option, Some, None, length, map}
 use Rattle.vs_types.specs.declared.depth.Depth.{Depth}
 use Rattle.vs_types.specs.declared.log_entry.LogEntry.{LogEntry}
@@ -18,7 +18,7 @@ entry_of waiting = record { call = waiting.call; op = waiting.op }
 abbrev pub entries_of : List Waiting → List LogEntry
 entries_of batch = map entry_of batch
 
--- a call that stands at a place, with what it is answered there
+-- a call that is at a place, with what it is answered there
 abbrev pub answered : Depth → ℕ → List LogEntry → ℕ → Waiting → Answered
 answered depth tables entries place waiting = record {
   thread = waiting.thread;
@@ -28,7 +28,7 @@ answered depth tables entries place waiting = record {
   answer = answer_at depth tables entries place waiting.op;
 }
 
--- calls that stand one after another from a place on
+-- calls that are one after another from a place on
 abbrev pub answered_from : Depth → ℕ → List LogEntry → ℕ → List Waiting → List Answered
 answered_from depth tables entries place [] = []
 answered_from depth tables entries place (waiting ∷ batch) = answered depth tables entries place waiting ∷ answered_from depth tables entries (place + 1) batch
@@ -43,7 +43,7 @@ abbrev pub left_of : Option ℕ → List Waiting → List Waiting
 left_of None batch = batch
 left_of (Some first) batch = []
 
--- the batch lies among the entries from one place up to another, and stands in the log there
+-- the batch lies among the entries from one place up to another, and is in the log there
 pub record LiesWithin (log : Log) (from to first : ℕ) (batch : List Waiting) : Type 0 where
   pub above : from ≤ first
   pub below : first + length batch ≤ to

@@ -41,19 +41,19 @@ applied_of replicas node = taken_by replicas node.known.view
 abbrev pub node_space : Depth → ℕ → NodeState → Space
 node_space depth replicas node = space_at depth node.tables (log_of replicas node).entries (applied_of replicas node)
 
--- the calls of a batch stand among entries one after another, from a place on
+-- the calls of a batch are among entries one after another, from a place on
 abbrev pub StandFrom : List LogEntry → ℕ → List Waiting → Type 0
 StandFrom entries place batch = (i : ℕ) (waiting : Waiting) → slice_get batch i ≡ Some waiting
     → slice_get entries (place + i) ≡ Some (record { call = waiting.call; op = waiting.op })
 
--- a batch has places: its calls, of which there is one at least, stand in the log from the first on, which is not below what is applied
+-- a batch has places: its calls, of which there is one at least, are in the log from the first on, which is not below what is applied
 pub record IsPlaced (log : Log) (applied first : ℕ) (batch : List Waiting) : Type 0 where
   pub some : 1 ≤ length batch
   pub above : applied ≤ first
   pub stand : StandFrom log.entries first batch
 
 -- what each node is: its pass owns a replica, which has taken no entry that is not there; the calls of its batch are well formed at
--- the log's depth, at most 16, and where they have places they stand there
+-- the log's depth, at most 16, and where they have places they are there
 pub record IsNode (depth : Depth) (replicas : ℕ) (node : NodeState) : Type 0 where
   pub owner : node.known.view.owns ≡ replica_of node.known.view ∷ []
   pub written : applied_of replicas node ≤ tail (log_of replicas node)
@@ -65,7 +65,7 @@ pub record IsNode (depth : Depth) (replicas : ℕ) (node : NodeState) : Type 0 w
 abbrev pub new_node : Known → ℕ → NodeState
 new_node known tables = record { known = known; tables = tables; batch = []; first = None }
 
--- what a batch is to its node: how many calls are not yet answered, and where the first stands
+-- what a batch is to its node: how many calls are not yet answered, and where the first is
 abbrev pub held_of : List Waiting → Option ℕ → Held
 held_of [] first = Nothing
 held_of (call ∷ calls) None = Unplaced (length (call ∷ calls))

@@ -5,6 +5,6 @@ pub enum Held {
     Nothing,
     /// So many updates, which have no place yet.
     Unplaced(usize),
-    /// The place of the first, and how many there are: they stand one after another.
+    /// The place of the first, and how many there are: they are one after another.
     Placed(u32, usize),
 }

@@ -60,7 +60,7 @@ impl<S: FrameStore, J: LogName> Model for Node<S, J> {
 
 impl<S: FrameStore + Drop, J: LogName> Node<S, J> {
     /// A node that has applied nothing and holds nothing. Its tables lie in the store, of which no frame is in use; its pass owns
-    /// a replica that has taken nothing; and the depth is that of the log. It takes all memory that the node ever needs, but for
+    /// a replica that has taken nothing; and the depth is that of the log. It allocates all memory that the node ever needs, but for
     /// its dumps.
     ///
     /// # Errors
@@ -240,7 +240,7 @@ impl<S: FrameStore, J: LogName> Node<S, J> {
         self.replica.told(place)
     }
 
-    /// Its page table, and how many entries it has applied. It takes memory.
+    /// Its page table, and how many entries it has applied. It allocates memory.
     ///
     /// # Errors
     ///
@@ -256,7 +256,7 @@ impl<S: FrameStore, J: LogName> Node<S, J> {
         self.replica.dump()
     }
 
-    /// Tells another pass of its log what it has seen. It waits for nobody.
+    /// Hands another pass of its log what it has seen. It waits for nobody.
     pub fn tell(&mut self, log: &RingLog<J>, told: &mut LogPass<J>)
         requires log { (self.old.known.log ≡ log.now) × (told.old.log ≡ log.now) }
         ensures same { self.new ≡ self.old }

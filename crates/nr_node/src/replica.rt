@@ -45,7 +45,7 @@ impl<S: FrameStore> Model for Replica<S> {
 }
 
 impl<S: FrameStore + Drop> Replica<S> {
-    /// A replica without entries, whose tables lie in a store of which no frame is in use. It takes all memory that the replica
+    /// A replica without entries, whose tables lie in a store of which no frame is in use. It allocates all memory that the replica
     /// ever needs, but for dumps.
     pub(crate) fn new(alloc: Global, store: S, depth: Depth) -> Result<Replica<S>, Fail<NoRoot>>
         requires { S.frames store ≡ finite.empty }
@@ -92,7 +92,7 @@ impl<S: FrameStore> Replica<S> {
         }
     }
 
-    /// Adds the answers of a batch that has places, of which this is the first: it stands among the entries.
+    /// Adds the answers of a batch that has places, of which this is the first: it is among the entries.
     pub(crate) fn answer(
         &self,
         first: Option<u32>,
@@ -110,7 +110,7 @@ impl<S: FrameStore> Replica<S> {
         }
     }
 
-    /// Adds the answers of calls that stand one after another among the entries, from this place on.
+    /// Adds the answers of calls that are one after another among the entries, from this place on.
     fn answer_from(
         &self,
         first: u32,
@@ -167,7 +167,7 @@ impl<S: FrameStore> Replica<S> {
         Some((told.entry(), told.answer()))
     }
 
-    /// Its page table as it is. It takes memory.
+    /// Its page table as it is. It allocates memory.
     pub(crate) fn dump(&self) -> Result<Dump, Memory>
         ensures applied { IfOk result (λ dump. dump.applied ≡ length self.now.entries) }
         ensures translates { IfOk result (λ dump. TranslatesAs self.now.depth dump.frames dump.root

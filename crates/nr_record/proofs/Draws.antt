@@ -36,7 +36,7 @@ times_snoc stamp n stamps = omega (arith, times_append stamp stamps (n ∷ []), 
 pub once_here : (stamp : ℕ) → cond (eqb stamp stamp) 1 0 ≡ suc zero
 once_here stamp = ap (λ b. cond b 1 0) (eq-eqb stamp stamp refl)
 
--- a stamp that stands in a list is there at least once
+-- a stamp that is in a list is there at least once
 pub times_item : (stamps : List ℕ) (k d : ℕ) → k < length stamps → 1 ≤ times (get_or stamps k d) stamps
 times_item [] k d lt = absurd (omega arith)
 times_item (s ∷ ss) zero d lt = omega (arith, times_cons s s ss, once_here s)

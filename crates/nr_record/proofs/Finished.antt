@@ -99,7 +99,7 @@ pen_of_stamp (p ∷ ps) stamp there =
     (λ here. (p, contains_first p ps, note_of p.made stamp here))
     (λ gone. let r = pen_of_stamp ps stamp (omega (arith, both, there, gone)) in (r.0, contains_rest p r.0 ps r.1, r.2))
 
--- an item of a list that rises from k on: where its event stands in the rest of the events, which begin at k
+-- an item of a list that rises from k on: where its event is in the rest of the events, which begin at k
 abbrev Fits : (Event → Bool) → ℕ → List Event → Stamped → Type 0
 Fits P k events item = (k ≤ item.stamp) × (slice_get events (item.stamp - k) ≡ Some item.event) × (P item.event ≡ true)
 

@@ -2,7 +2,7 @@
 use Rattle.std.specs.Prelude.{◌≡◌, ℕ, ◌<◌, ◌==◌, nat_lt, if◌then◌else◌, List, [], ◌∷◌, All, ⊤}
 use Rattle.std.specs.List.{count_by}
 
--- how often a stamp stands in a list
+-- how often a stamp is in a list
 abbrev pub times : ℕ → List ℕ → ℕ
 times stamp stamps = count_by (λ other. other == stamp) stamps
 

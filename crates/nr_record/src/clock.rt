@@ -95,7 +95,7 @@ impl Clock {
 /// A clock, and a pen for each thread: pen t records thread t at replica `t % replicas`, and has room for its quota of calls. The
 /// quotas are at most 65,536 calls in all.
 ///
-/// It takes all memory that the pens ever need: 64 bytes for each call.
+/// It allocates all memory that the pens ever need: 64 bytes for each call.
 ///
 /// # Errors
 ///

@@ -95,7 +95,7 @@ impl Pen {
     /// The stamp of a call that the thread makes now, which is the call's number. The thread has had its replies, may make one call
     /// more, and the request is well formed at the depth of the service.
     ///
-    /// It takes no memory.
+    /// It allocates no memory.
     pub fn call(&mut self, clock: &Clock, request: Request) -> u32
         requires clock { self.old.clock ≡ clock.now }
         requires none_waiting { self.old.waiting ≡ None }
@@ -118,7 +118,7 @@ impl Pen {
 
     /// The stamp of the reply to the call that waits for it: where the answer was reached, and the answer.
     ///
-    /// It takes no memory.
+    /// It allocates no memory.
     pub fn reply(&mut self, clock: &Clock, at: u32, answer: Answer) -> u32
         requires clock { self.old.clock ≡ clock.now }
         requires waiting { IsSome self.old.waiting }

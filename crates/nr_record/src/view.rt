@@ -1,7 +1,7 @@
 use std::collections::LinkedList;
 use vs_types::Config;
 
-/// What a clock is told when it is made: how the service is laid out, and how many calls its pens may make in all.
+/// What a clock is made for: how the service is laid out, and how many calls its pens may make in all.
 #[derive(Clone, Copy)]
 pub struct Plan {
     pub config: Config,
@@ -10,7 +10,7 @@ pub struct Plan {
 
 /// What a seat at the word of a clock knows. Contracts speak of views; no value of the type is made.
 pub struct View {
-    /// What the clock was told.
+    /// What the clock was made for.
     pub plan: Plan,
     /// For how many calls it may draw stamps, two for each.
     pub quota: u64,

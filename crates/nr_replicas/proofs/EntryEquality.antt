@@ -1,4 +1,4 @@
--- When two entries of the log are the same, as `==` tells.
+-- When two entries of the log are the same, as `==` says.
 use Rattle.std.proofs.Common.{◌≡◌, Bool, true, false, not, eqb, refl, ap, sym, ◌∙◌}
 use Rattle.std.proofs.lemmas.Bool.{false≢true, eqb-true, and_parts}
 use Rattle.vs_types.specs.declared.page.Size.{Size}

@@ -1,4 +1,4 @@
--- What was answered in a log is so in each later one; and what a pass hears that is told.
+-- What was answered in a log is so in each later one; and what a pass hears of another.
 use Rattle.std.proofs.Common.{ℕ, ◌≤◌, List, length, ap, sym, ◌∙◌, arith}
 use Rattle.std.proofs.Math.ListN.{length-append}
 use Rattle.std.proofs.lemmas.Option.{slice_get_within}
@@ -34,7 +34,7 @@ read_stays depth tables from p q answer_in at answer on is = record {
   answered = is.answered ∙ ap answer_in (sym (same_space depth tables at p q on is.known));
 }
 
--- a pass that was told what another had seen, and then looked, has heard of more
+-- a pass that was given what another had seen, and then looked, has heard of more
 pub told_heard : (depth : Depth) (replicas : ℕ) (before other after : View) → HasLooked depth replicas (joint_view before (copy_of other)) after
     → HasHeard depth replicas before after
 told_heard depth replicas before other after is = record {

@@ -1,4 +1,4 @@
--- What the calls of the replicas tell.
+-- What the calls of the replicas answer.
 use Rattle.std.specs.Prelude.{◌≡◌, ℕ, ◌-◌, ◌<◌, ◌≤◌, [], All, Some, slice_get, ⊤}
 use Rattle.vs_types.specs.declared.answer.Answer.{Answer}
 use Rattle.vs_types.specs.declared.depth.Depth.{Depth}
@@ -28,7 +28,7 @@ pub record HasHeard (depth : Depth) (replicas : ℕ) (before after : View) : Typ
   pub owns : after.owns ≡ before.owns
   pub rights : after.rights ≡ before.rights
 
--- an update was answered: its entry stands in the log at this place, which is not below that one, and the answer is its operation's there
+-- an update was answered: its entry is in the log at this place, which is not below that one, and the answer is its operation's there
 pub record IsAnsweredAt (depth : Depth) (tables from : ℕ) (log : Log) (entry : LogEntry) (place : ℕ) (answer : Answer) : Type 0 where
   pub fresh : from ≤ place
   pub stands : slice_get log.entries place ≡ Some entry

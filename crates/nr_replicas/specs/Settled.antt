@@ -12,8 +12,8 @@ use Rattle.nr_ring.specs.View.{StartsWith}
 use Rattle.nr_ring.specs.declared.log_event.LogEvent.{LogEvent}
 use Rattle.nr_node.specs.Spaces.{space_at}
 
--- a dump of a replica: a page table that translates as the space after the entries that it has applied, with a frame for each table, of
--- which there are at most 4,096
+-- a dump of a replica: a page table that translates as the space after the entries that it has applied, with as many frames as that space
+-- has tables, at most 4,096
 pub record IsDumpOf (depth : Depth) (tables : ℕ) (log : Log) (dump : Image) : Type 0 where
   pub applied : dump.applied ≤ tail log
   pub translates : TranslatesAs depth dump.frames dump.root (space_at depth tables log.entries dump.applied)

@@ -125,7 +125,7 @@ impl<J: LogName, K: ReplicasName> Local<J, K> {
         }
     }
 
-    /// The answer of an update, where the log has it at the place that was told, which is not below that one, and answers it so.
+    /// The answer of an update, where the log has it at the place that was answered, which is not below that one, and answers it so.
     fn recall(&self, from: u32, answered: Answered) -> Option<Answer>
         ensures { IfSome result (λ answer.
             IsAnsweredAt J.depth K.tables from (log_of J.replicas self.now)
@@ -142,8 +142,8 @@ impl<J: LogName, K: ReplicasName> Local<J, K> {
         Some(answer)
     }
 
-    /// The place and the answer of an update, where the log has it at the place that was told, which is not below that one, and
-    /// answers it so. The pass is told then what the node has seen.
+    /// The place and the answer of an update, where the log has it at the place that was answered, which is not below that one, and
+    /// answers it so. The pass then gets what the node has seen.
     pub(crate) fn confirm(
         &mut self,
         log: &RingLog<J>,
@@ -166,7 +166,7 @@ impl<J: LogName, K: ReplicasName> Local<J, K> {
         Some((place, answer))
     }
 
-    /// Reads, where the node has applied so many entries, and tells the pass what the node has seen; else it catches up.
+    /// Reads, where the node has applied so many entries, and hands the pass what the node has seen; else it catches up.
     pub(crate) fn read<R: Wait>(
         &mut self,
         rt: &R,
@@ -210,7 +210,7 @@ impl<J: LogName, K: ReplicasName> Local<J, K> {
         }
     }
 
-    /// Tells a pass what the node has seen.
+    /// Hands a pass what the node has seen.
     pub(crate) fn tell(&mut self, log: &RingLog<J>, pass: &mut LogPass<J>)
         requires log { (log.now ≡ K.log) × (pass.old.log ≡ K.log) }
         ensures same { self.new ≡ self.old }

@@ -41,7 +41,7 @@ impl<J: LogName> Model for OpenReplicas<J> {
 
 impl<J: LogName> OpenReplicas<J> {
     /// The replicas of a configuration with a new log, and a pass for each thread. The log's name has the depth, the replicas
-    /// and as many passes as there are replicas and threads. It takes the memory of all replicas, but for their slots.
+    /// and as many passes as there are replicas and threads. It allocates the memory of all replicas, but for their slots.
     ///
     /// # Errors
     ///
@@ -72,7 +72,7 @@ impl<J: LogName> OpenReplicas<J> {
         Ok((opened, others))
     }
 
-    /// The replicas, when their log has its name. It takes the memory of the slots.
+    /// The replicas, when their log has its name. It allocates the memory of the slots.
     ///
     /// # Errors
     ///

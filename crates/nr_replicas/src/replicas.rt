@@ -91,7 +91,7 @@ impl<J: LogName, K: ReplicasName> Replicas<J, K> {
     /// itself where no other does. It takes at most so many turns, and then holds its replica's lock once more, which confirms
     /// the answer. The gate is asked after each batch that this thread appends.
     ///
-    /// Waits for locks and for the log's cell. Takes no memory.
+    /// Waits for locks and for the log's cell. Allocates no memory.
     ///
     /// # Errors
     ///
@@ -139,7 +139,7 @@ impl<J: LogName, K: ReplicasName> Replicas<J, K> {
         }
     }
 
-    /// Takes turns until the thread's slot has an answer: the place that it was told, and the answer.
+    /// Takes turns until the thread's slot has an answer: the place that it has, and the answer.
     fn wait<G: Gate, R: Wait>(
         &self,
         rt: &R,
@@ -189,7 +189,7 @@ impl<J: LogName, K: ReplicasName> Replicas<J, K> {
         Err(UpdateFault::Stopped(call))
     }
 
-    /// One attempt at a replica's lock, with at most one append and one catch-up. Where the log has ended the pass is told so.
+    /// One attempt at a replica's lock, with at most one append and one catch-up. Where the log has ended the pass has seen so.
     fn combine<R: Wait>(
         &self,
         rt: &R,
@@ -237,7 +237,7 @@ impl<J: LogName, K: ReplicasName> Replicas<J, K> {
     /// or `NotMapped`. They are all that was completed when the call began, or more. The number of the call is not used: a read
     /// leaves nothing behind.
     ///
-    /// Waits for locks and for the log's cell. Takes no memory.
+    /// Waits for locks and for the log's cell. Allocates no memory.
     ///
     /// # Errors
     ///
@@ -266,7 +266,7 @@ impl<J: LogName, K: ReplicasName> Replicas<J, K> {
     /// Whether an access of a canonical address is allowed: how many entries of the log the thread's replica had applied, and
     /// `Allowed` with the physical address, or `Fault` with the page fault's error code. Else as `read`.
     ///
-    /// Waits for locks and for the log's cell. Takes no memory.
+    /// Waits for locks and for the log's cell. Allocates no memory.
     ///
     /// # Errors
     ///

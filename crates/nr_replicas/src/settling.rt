@@ -22,11 +22,11 @@ use vs_types::Memory;
 use vs_walk::Dump;
 
 impl<J: LogName, K: ReplicasName> Replicas<J, K> {
-    /// What is left when all is done: the call numbers of all entries of the log, by place, and a dump of each replica, by number,
-    /// after just the entries that it has taken. The log begins with all that each of these passes has seen; they are left as
+    /// What is left when all is done: the call numbers of the entries of a log, by place, and a dump of each replica, by number,
+    /// after just the entries that it has applied. That log begins with all that each of these passes has seen; they are left as
     /// they were.
     ///
-    /// Waits for the log's cell. It takes memory for the nodes, passes, calls and dumps.
+    /// Waits for the log's cell. It allocates memory for the nodes, passes, calls and dumps.
     ///
     /// # Errors
     ///
@@ -145,7 +145,7 @@ fn dump_of<J: LogName>(node: &Node<RawArena, J>) -> Result<Dump, Memory>
     node.dump()
 }
 
-/// Tells a pass what all these have seen.
+/// Hands a pass what all these have seen.
 fn hear_all<J: LogName>(log: &RingLog<J>, first: &mut LogPass<J>, passes: &mut [LogPass<J>])
     requires log { (first.old.log ≡ log.now) × All (λ pass. pass.log ≡ log.now) passes.old }
     ensures log { first.new.log ≡ first.old.log }
@@ -182,7 +182,7 @@ fn add_rest<J: LogName, R: Wait>(
     Ok(())
 }
 
-/// Tells passes what the first has seen. Each of them then sees no advance of its own replica there that it had not seen before.
+/// Hands passes what the first has seen. Each of them then sees no advance of its own replica there that it had not seen before.
 fn tell_all<J: LogName>(log: &RingLog<J>, first: &mut LogPass<J>, others: &mut [LogPass<J>])
     requires log { (first.old.log ≡ log.now) × All (λ pass. pass.log ≡ log.now) others.old }
     requires begins { All (λ pass. StartsWith first.old.view.seen pass.view.seen) others.old }
@@ -198,7 +198,7 @@ fn tell_all<J: LogName>(log: &RingLog<J>, first: &mut LogPass<J>, others: &mut [
     }
 }
 
-/// Tells passes what the first has seen, and gathers what they own. Each of them then sees no advance of its own replica there that it
+/// Hands passes what the first has seen, and gathers what they own. Each of them then sees no advance of its own replica there that it
 /// had not seen before, and no two own the same replica.
 fn gather_all<J: LogName>(log: &RingLog<J>, first: LogPass<J>, others: Vec<LogPass<J>>)
     requires log { (first.log ≡ log.now) × All (λ pass. pass.log ≡ log.now) others.items }

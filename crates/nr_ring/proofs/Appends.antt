@@ -1,4 +1,4 @@
--- The room for a batch, and what an append tells.
+-- The room for a batch, and what an append answers.
 use Rattle.std.proofs.Common.{◌≡◌, ℕ, ◌+◌, ◌-◌, ◌*◌, ◌<◌, ◌≤◌, List, [], ◌∷◌, ◌++◌, All, Contains, Option, Some, length, length-append, ap, sym, subst, ◌∙◌, le_trans}
 use Rattle.std.proofs.Common.{arith}
 use Rattle.std.specs.Prelude.{slice_index, slice_index_or}

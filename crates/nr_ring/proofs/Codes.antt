@@ -1,4 +1,4 @@
--- The code of the words of the cell tells their first ones, and each event raises it.
+-- The code of the words of the cell determines their first ones, and each event raises it.
 use Rattle.std.proofs.Common.{◌≡◌, ℕ, zero, suc, ◌+◌, ◌-◌, ◌*◌, ◌/◌, ◌%◌, ◌^◌, ◌<◌, ◌≤◌, max, Bool, true, false, nat_le, if◌then◌else◌, List, [], ◌∷◌, length, get_or, set, refl, ap, sym, ◌∙◌, subst, arith}
 use Rattle.std.proofs.Common.{length-append, length-set, get_or-set_other, get_or-set_same}
 use Rattle.std.proofs.lemmas.Bool.{leb-false, leb-true}
@@ -48,7 +48,7 @@ room_is : (log : Log) → FitsTheRing log → (r : ℕ)
     → Room (tail log) (local_of log r) (room_of (tail log) (local_of log r) (nat_le (r + 1) (length log.locals))) (length log.locals) r
 room_is log fits r = room_at log fits r (nat_le (r + 1) (length log.locals)) refl
 
--- what a code of a tail, four rooms and a number of replicas tells
+-- what a code of a tail, four rooms and a number of replicas determines
 abbrev packed : ℕ → ℕ → ℕ → ℕ → ℕ → ℕ → ℕ
 packed t a b c d n = ((((t * 32 + a) * 32 + b) * 32 + c) * 32 + d) * 8 + n
 
@@ -119,7 +119,7 @@ module _ (log : Log) (fits : FitsTheRing log) (few : length log.locals ≤ 4) wh
   told words is (suc (suc (suc (suc (suc (suc zero)))))) lt = is.replicas_are ∙ sym tells_count
   told words is (suc (suc (suc (suc (suc (suc (suc place))))))) lt = absurd (omega arith)
 
-  -- the code of the words of a log tells their first ones
+  -- the code of the words of a log determines their first ones
   pub words_are_coded : (words : List ℕ) → IsWordsOf log words → IsCoded code_in word_in 7 words
   words_are_coded words is place lt = told words is place lt ∙ ap (λ (z : ℕ). word_in z place) (sym (code_is log words is))
 

@@ -1,4 +1,4 @@
--- An exchange of the words that a pass knows keeps the rule, and what it tells.
+-- An exchange of the words that a pass knows keeps the rule, and what it shows.
 use Rattle.std.proofs.Common.{◌≡◌, ℕ, zero, suc, ◌+◌, ◌^◌, ◌<◌, ◌≤◌, Bool, true, false, List, [], ◌∷◌, ◌++◌, All, Contains, Option, length}
 use Rattle.std.proofs.Common.{length-append, refl, ap, sym, subst, ◌∙◌, arith}
 use Rattle.std.specs.Prelude.{MatchBool, slice_index_or}
@@ -30,7 +30,7 @@ pub event_turns : (depth : Depth) (replicas passes pass : ℕ) (v : View) (event
 event_turns depth replicas passes pass v event words next few is may own now views kept at =
     (with_event v event, event_kept depth replicas passes pass v event words next views few kept at is may own now, refl)
 
--- each event raises the code of the words, which tells the first of the words after it
+-- each event raises the code of the words, which determines the first of the words after it
 pub event_coded : (depth : Depth) (replicas : ℕ) (seen : List LogEvent) (event : LogEvent) (words next : List ℕ) (code : ℕ) → replicas ≤ 4 → IsLogHistory depth replicas seen
     → IsWordsOf (log_after replicas seen) words → MayFollow depth (log_after replicas seen) event → IsWordsOf (log_after_event (log_after replicas seen) event) next
     → code ≡ code_of_log (log_after_event (log_after replicas seen) event)
@@ -99,7 +99,7 @@ later_moved depth replicas found words replica v w is more looks =
     has_moved depth replicas found v w looks
     (λ here. absurd (omega (arith, more, ap code_in (words_same (log_after replicas v.seen) found words here is.words_are)))) is.mine
 
--- what an exchange tells: the event was made, or another pass's has come
+-- what an exchange shows: the event was made, or another pass's has come
 pub exchange_tells : (depth : Depth) (replicas : ℕ) (words words' next : List ℕ) (replica : Option ℕ) (v w : View) (event : LogEvent) (made : Bool)
     → Remembers depth replicas words replica v → MayFollow depth (log_after replicas v.seen) event
     → IsWordsOf (log_after_event (log_after replicas v.seen) event) next

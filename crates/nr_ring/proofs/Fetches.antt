@@ -31,7 +31,7 @@ item_holds P [] i x e all = absurd (cc)
 item_holds P (y ∷ ys) zero x e all = let Q : Option LogEntry → Type 0 = λ o. Rattle.std.specs.Prelude.IfSome o P in subst Q e (all 0 y (omega arith))
 item_holds P (y ∷ ys) (suc i) x e all = item_holds P ys i x e (λ k d lt. all (suc k) d (omega arith))
 
--- the two words of a place spell the entry that stands there
+-- the two words of a place spell the entry that is there
 pub spelled_at : (depth : Depth) (log : Log) (from : ℕ) (words : List ℕ) (place : ℕ) (entry : LogEntry) → HaveEntries log from words → All (IsLogEntry depth) log.entries
     → slice_get log.entries place ≡ Some entry → from ≤ place
     → SpellsEntry depth (slice_index words (word_of place) ∷ slice_index words (word_of place + 1) ∷ []) entry

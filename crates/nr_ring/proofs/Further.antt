@@ -1,4 +1,4 @@
--- Of what two passes have seen of one history, one begins with the other; and the codes of their words tell which.
+-- Of what two passes have seen of one history, one begins with the other; and the codes of their words say which.
 use Rattle.std.proofs.Common.{◌≡◌, ℕ, zero, suc, ◌+◌, ◌<◌, ◌≤◌, ◌⊎◌, List, [], ◌∷◌, ◌++◌, All, Option, drop, length, get_or, ⊎_elim, inl, inr, refl, ap, sym, subst, ◌∙◌, arith}
 use Rattle.std.specs.Prelude.{slice_index_or}
 use Rattle.std.proofs.lemmas.List.{append-nil, append_assoc, append_cancel_left}
@@ -78,7 +78,7 @@ between replica whole middle seen all last first =
       (first.0, first.1, all_of_first (IsElse replica) first.0 last.0 each),
     )
 
--- a pass that was told of another's sees as much as one of the two, of which both were a beginning, and the words are those of then
+-- a pass that was given another's sees as much as one of the two, of which both were a beginning, and the words are those of then
 sees : (depth : Depth) (replicas passes pass : ℕ) (told other : View) (seen : List LogEvent) (words x : List ℕ) (views : List View) → replicas ≤ 4
     → (kept : IsKept depth replicas passes x views) → get_elem? views pass ≡ some (joint_view told other)
     → StartsWith kept.history seen → StartsWith seen told.seen → StartsWith seen other.seen → All (StartsWith told.seen) told.told

@@ -56,7 +56,7 @@ one_each depth replicas passes words views pass other v w z p q replica is at th
 one_each depth replicas passes words views pass other v w z p q replica is at there from (inr a) (inr b) =
     is.one_owner p q a.2.0 b.2.0 replica a.2.1 b.2.1 a.2.2 b.2.2
 
--- where the other stood before the join
+-- what the other had seen before the join
 pub other_at : (views : List View) (pass other : ℕ) (z w : View) → (other ≡ pass → ⊥) → get_elem? (set views pass z) other ≡ some w
     → get_elem? views other ≡ some w
 other_at views pass other z w differ there =

@@ -43,7 +43,7 @@ tails_are log words are = λ i. record {
 pub longer : (after before : List LogEvent) → StartsWith after before → length before ≤ length after
 longer after before begins = omega (arith, ap (λ (l : List LogEvent). length l) begins.1, Rattle.std.proofs.Common.length-append before begins.0)
 
--- what a pass was told stays what it was
+-- what a pass was given stays what it was
 pub told_before : (after before : View) → after.told ≡ before.told → All (StartsWith after.seen) before.told → All (StartsWith after.seen) after.told
 told_before after before same told = let P : List (List LogEvent) → Type 0 = λ l. All (StartsWith after.seen) l in subst P (sym same) told
 

@@ -12,7 +12,7 @@ item_of [] i lt = absurd (omega arith)
 item_of (x ∷ xs) zero lt = (x, refl)
 item_of (x ∷ xs) (suc i) lt = item_of xs i (omega arith)
 
--- a word of the ring is 0, or one of those of the last place that stands there
+-- a word of the ring is 0, or one of those of the last place that is there
 pub record StandsAt (end word : ℕ) : Type 0 where
   pub place : ℕ
   pub k : ℕ

@@ -1,4 +1,4 @@
--- What the calls on a log tell the pass that makes them.
+-- What the calls on a log show the pass that makes them.
 use Rattle.std.specs.Prelude.{◌≡◌, ◌≢◌, ℕ, ◌+◌, ◌<◌, ◌≤◌, List, [], ◌∷◌, ◌++◌, All, Contains, length}
 use Rattle.vs_types.specs.declared.depth.Depth.{Depth}
 use Rattle.nr_ring.specs.LogHistory.{IsLogHistory, local_of, log_after, tail}
@@ -8,7 +8,7 @@ use Rattle.nr_ring.specs.declared.log_event.LogEvent.{LogEvent}
 use Rattle.nr_ring.specs.declared.log_event.LogEvent.TheVariants.{Append, Advance}
 use Rattle.nr_ring.specs.declared.view.View.{View}
 
--- after a look: the pass has seen a history that begins with all that it had seen and was told; it made no event, and nobody advanced a
+-- after a look: the pass has seen a history that begins with all that it had seen and was given; it made no event, and nobody advanced a
 -- replica that it owns
 pub record HasLooked (depth : Depth) (replicas : ℕ) (before after : View) : Type 0 where
   pub is_history : IsLogHistory depth replicas after.seen
@@ -63,7 +63,7 @@ offshoot view given rights = record { seen = view.seen; mine = []; owns = given;
 abbrev pub copy_of : View → View
 copy_of view = offshoot view [] 0
 
--- the view of a pass that another was joined to: it was told what the other had seen, and has its rights. What it has seen
+-- the view of a pass that another was joined to: it was given what the other had seen, and has its rights. What it has seen
 -- itself stays
 abbrev pub joint_view : View → View → View
 joint_view view other = record {

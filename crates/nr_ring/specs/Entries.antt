@@ -22,7 +22,7 @@ pub record HasTakenAll (depth : Depth) (replicas : ℕ) (before : View) (entries
   pub entries_are : (replica : ℕ) → before.owns ≡ replica ∷ [] → entries ≡ to_take (log_after replicas between.seen) replica
   pub history : IsLogHistory depth replicas after.seen
 
--- the pass looked, and then appended the batch and nothing else: the batch stands at the end of the log, from this place on
+-- the pass looked, and then appended the batch and nothing else: the batch is at the end of the log, from this place on
 pub record HasAppended (depth : Depth) (replicas : ℕ) (before : View) (batch : List LogEntry) (place : ℕ) (after : View) : Type 0 where
   pub seen_before : View
   pub looked : HasLooked depth replicas before seen_before
@@ -30,7 +30,7 @@ pub record HasAppended (depth : Depth) (replicas : ℕ) (before : View) (batch :
   pub place_is : place ≡ tail (log_after replicas seen_before.seen)
 
 -- why a batch of so many entries was not appended to the log that the pass has then seen: the log would go past its end; it is full; or
--- it is neither, but another pass's event came. The tails that are told are the log's
+-- it is neither, but another pass's event came. The tails in the answer are the log's
 abbrev pub IsReason : Log → ℕ → View → View → AppendFault → Type 0
 IsReason log n before after LogEnded = IsEnded log n
 IsReason log n before after (Full tails) = (tails ≡ tails_of log) × HasRoom log n × IsFull log n

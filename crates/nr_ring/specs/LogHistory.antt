@@ -17,7 +17,7 @@ pub record Log : Type 0 where
 abbrev pub new_log : ℕ → Log
 new_log replicas = record { entries = []; locals = replicate replicas 0 }
 
--- the place at which the next entry will stand
+-- the place at which the next entry will be
 abbrev pub tail : Log → ℕ
 tail log = length log.entries
 

@@ -7,7 +7,7 @@ use Rattle.vs_types.specs.declared.limits.TheConstants.{RING}
 use Rattle.nr_ring.specs.declared.words.TheConstants.{CELL_WORDS, TAIL_WORD, COMPLETED_WORD, LOCAL_WORDS, COUNT_WORD, RING_WORDS}
 use Rattle.nr_ring.specs.LogHistory.{Log, tail, local_of, completed}
 
--- where the first of the two words of a place stands
+-- where the first of the two words of a place is
 abbrev pub word_of : ℕ → ℕ
 word_of place = RING_WORDS + 2 * (place % RING)
 
@@ -27,7 +27,7 @@ pub record IsWordsOf (log : Log) (words : List ℕ) : Type 0 where
 abbrev pub advanced_words : ℕ → ℕ → List ℕ → List ℕ
 advanced_words replica to words = slice_set (slice_set words COMPLETED_WORD (max (slice_index words COMPLETED_WORD) to)) (LOCAL_WORDS + replica) to
 
--- the words after a batch was appended: its entries stand at their places, the tail has risen, and all else is as before
+-- the words after a batch was appended: its entries are at their places, the tail has risen, and all else is as before
 pub record IsAppended (log : Log) (batch : List LogEntry) (before after : List ℕ) : Type 0 where
   pub long : length after ≡ CELL_WORDS
   pub tail_is : slice_index after TAIL_WORD ≡ tail log + length batch

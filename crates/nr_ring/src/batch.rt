@@ -48,14 +48,14 @@ pub(crate) fn why_not(head: &[u64; RING_WORDS], count: u64) -> AppendFault
     }
 }
 
-/// Where the first of the two words of a place stands.
+/// Where the first of the two words of a place is.
 fn first_word(place: u64) -> usize
     ensures { result ≡ word_of place }
 {
     RING_WORDS + 2 * (place % RING as u64) as usize
 }
 
-/// Adds the changes of the words that an append makes to a log with this tail: each entry stands at its place in the ring, and the
+/// Adds the changes of the words that an append makes to a log with this tail: each entry is at its place in the ring, and the
 /// tail rises.
 pub(crate) fn list_changes(
     tail: u64,

@@ -1,4 +1,4 @@
-//! The code of the words of the cell, which tells the tails: one number, which each event raises.
+//! The code of the words of the cell, which determines the tails: one number, which each event raises.
 ghost use Rattle.std.specs.Prelude.{◌≡◌, ◌≤◌, All};
 ghost use Rattle.vs_types.specs.declared.limits.TheConstants.{LOG_PLACES, REPLICAS};
 ghost use Rattle.nr_ring.specs.inside.Codes.{code_of, local_in, locals_in, room_of, word_in};
@@ -47,7 +47,7 @@ fn local_in(code: u64, replica: u64, unit: u64) -> u64
     }
 }
 
-/// What a code tells of the word at a place.
+/// What a code says of the word at a place.
 #[inline(always)]
 pub(crate) fn head_word(code: u64, place: usize) -> u64
     ensures { result ≡ word_in code place }

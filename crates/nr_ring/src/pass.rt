@@ -69,7 +69,7 @@ impl<J: LogName> LogPass<J> {
     }
 
     /// Does nothing: its clauses say what holds of every pass. What it has seen is a history, which begins with all that it was
-    /// told. Each replica that it owns is one of the log's, and it has one right to make events.
+    /// given. Each replica that it owns is one of the log's, and it has one right to make events.
     pub fn has_seen_a_history(&self)
         ensures history { IsLogHistory J.depth J.replicas self.now.view.seen }
         ensures told { All (StartsWith self.now.view.seen) self.now.view.told }

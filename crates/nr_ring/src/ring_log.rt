@@ -50,7 +50,7 @@ impl<J: LogName> Model for RingLog<J> {
 
 impl<J: LogName> RingLog<J> {
     /// A log without entries, of 1 to 4 replicas, and its passes: pass r owns replica r, and `others` further passes own none,
-    /// of which there may be 64. Each has one of the rights to make events. It takes all memory that the log ever needs, and
+    /// of which there may be 64. Each has one of the rights to make events. It allocates all memory that the log ever needs, and
     /// never waits.
     ///
     /// # Errors
@@ -441,7 +441,7 @@ impl<J: LogName> RingLog<J> {
             .exchange_as::<Making<E>, Looking<J>, R>(rt, pass, places, loaded, code, changes)
     }
 
-    /// Tells one pass what another has seen: what `told` has then seen begins with all that either had seen, and nobody has
+    /// Hands one pass what another has seen: what `told` has then seen begins with all that either had seen, and nobody has
     /// advanced the replica that it owns since it last saw the log itself. It looks at nothing, and waits for nobody.
     pub fn meet(&self, pass: &mut LogPass<J>, told: &mut LogPass<J>)
         requires log { (pass.old.log ≡ self.now) × (told.old.log ≡ self.now) }

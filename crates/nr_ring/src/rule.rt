@@ -1,4 +1,4 @@
-//! The rule of the cell, and what each kind of step tells its pass.
+//! The rule of the cell, and what each kind of step shows its pass.
 use crate::code::head_word;
 use crate::name::LogName;
 use crate::view::View;

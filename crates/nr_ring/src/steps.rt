@@ -51,8 +51,8 @@ pub fn splits_keep_the_rule()
         (left_view v kept left) (offshoot v given right) }
 {}
 
-/// Joining a pass that has made nothing keeps the rule. It tells nothing of how the two lists that were seen compare; the next
-/// look tells that both are beginnings of what it sees.
+/// Joining a pass that has made nothing keeps the rule. It says nothing of how the two lists that were seen compare; the next
+/// look shows that both are beginnings of what it sees.
 pub fn joins_keep_the_rule()
     ensures { (depth : Depth) (replicas passes pass other : ℕ) (v w : View) → w.mine ≡ []
         → Merges (IsKept depth replicas passes) pass v other w (joint_view v w) empty_view }

@@ -6,7 +6,7 @@ use crate::words::{COMPLETED_WORD, COUNT_WORD, LOCAL_WORDS, RING_WORDS, TAIL_WOR
 /// The tails of a log: how many entries it has, and how many of them have been taken. All are at most 65,536.
 #[derive(Clone, Copy, Debug, PartialEq, Eq)]
 pub struct Tails {
-    /// The place at which the next entry will stand.
+    /// The place at which the next entry will be.
     pub tail: u32,
     /// The greatest local tail.
     pub completed: u32,

@@ -1,4 +1,4 @@
-//! How much the ring holds, and where each thing stands in the words of the cell. Clauses cite these.
+//! How much the ring holds, and where each thing is in the words of the cell. Clauses cite these.
 use vs_types::{REPLICAS, RING};
 
 /// The most passes of a log that own no replica.
@@ -25,5 +25,5 @@ pub const LOCAL_WORDS: usize = 2;
 /// The word of the number of replicas.
 pub const COUNT_WORD: usize = LOCAL_WORDS + REPLICAS as usize;
 
-/// The first of the words of the ring: two for each entry. The words before them are told by their code.
+/// The first of the words of the ring: two for each entry. The words before them are determined by their code.
 pub const RING_WORDS: usize = COUNT_WORD + 1;

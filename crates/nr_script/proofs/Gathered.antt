@@ -90,7 +90,7 @@ share_more them thread other query b is =
     ∙ map-append (λ (it : ℕ × Query). it.1) (filter test them) (filter test last)
     ∙ ap (λ (b : Bool). share them other ++ map {A = ℕ × Query} (λ it. it.1) (cond b last [])) is
 
--- a request more stands last in its thread's list, and the others are as before
+-- a request more comes last in its thread's list, and the others are as before
 share_at : (them : List (ℕ × Query)) (thread k : ℕ) (query : Query) (b : Bool) → thread < 64 → k < 64 → (thread == k) ≡ b
     → get_or (with_request thread query (shares them)) k [] ≡ share (them ++ (thread, query) ∷ []) k
 share_at them thread k query true within below is =

@@ -15,7 +15,7 @@ use Rattle.nr_script.specs.declared.line.Line.TheVariants as says
 use Rattle.vs_text.proofs.OneRequest.{one_request, word_number}
 use Rattle.nr_script.proofs.OneReading.{not_both, not_request, not_step}
 
--- the letters of its first word tell acts apart
+-- the letters of its first word say acts apart
 abbrev act_at : ℕ → ℕ → Act
 act_at word number =
     if word == 0x63616c6c then Call

@@ -9,7 +9,7 @@ use memchr::memchr;
 /// The most words that are kept of a line: one more than any line has that says something.
 pub(crate) const MOST_WORDS: usize = 7;
 
-/// The first part of a text, and what stands after its separator, if there is one.
+/// The first part of a text, and what comes after its separator, if there is one.
 pub(crate) fn cut(text: &[u8], separator: u8) -> (&[u8], Option<&[u8]>)
     ensures { parts separator text.now ≡ result.0.now ∷ parts_left separator result.1 }
 {

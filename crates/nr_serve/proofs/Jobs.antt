@@ -27,13 +27,13 @@ zipped_length R (a ∷ xs) (b ∷ ys) each = omega (arith, zipped_length R xs ys
 zipped_length R [] (b ∷ ys) each = absurd each
 zipped_length R (a ∷ xs) [] each = absurd each
 
--- one handle is taken from the front, and what it stands for put at the end
+-- one handle is taken from the front, and what it represents put at the end
 pub one_joined : {H : Type 0} (f : H → JobState) (joined : List JobState) (before rest all : List H) (h : H) → before ≡ h ∷ rest
     → joined ++ map f before ≡ map f all → (joined ++ f h ∷ []) ++ map f rest ≡ map f all
 one_joined {H} f joined before rest all h steps split =
     append_assoc joined (f h ∷ []) (map f rest) ∙ ap (λ (l : List H). joined ++ map f l) (sym steps) ∙ split
 
--- a job is taken from the front, and a handle that stands for it put at the end
+-- a job is taken from the front, and a handle that represents it put at the end
 pub one_started : {H : Type 0} (f : H → JobState) (handles more : List H) (h : H) (job : JobState) (jobs rest all : List JobState)
     → more ≡ handles ++ h ∷ [] → f h ≡ job → jobs ≡ job ∷ rest → map f handles ++ jobs ≡ all → map f more ++ rest ≡ all
 one_started {H} f handles more h job jobs rest all items kept steps split =

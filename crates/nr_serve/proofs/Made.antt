@@ -47,7 +47,7 @@ mapped f [] k x at = absurd cc
 mapped f (y ∷ ys) zero x at = let same : y ≡ x = cc in ap (λ z. Some (f z)) same
 mapped f (y ∷ ys) (suc k) x at = mapped f ys k x at
 
--- a thread's calls stand in the events as its notes say
+-- a thread's calls are in the events as its notes say
 noted_of : (clock : ClockId) (log : TableId) (thread : ℕ) (script : List Query) (worker : WorkerState) (workers : List WorkerState) (events : List Event)
     → AreRecorded events (pens_of workers) → slice_get workers thread ≡ Some worker → (served : IsServed clock log thread script worker)
     → AreNoted events clock.layout thread served.calls
@@ -208,7 +208,7 @@ call_of_number (c ∷ cs) n has = at has.0 has.1 has.2 (λ rest. call_of_number 
   at (suc k) lt is more =
       let rest = more (k, omega arith, is) in (rest.0, (suc rest.1.0, omega (arith, rest.1.1), rest.1.2), rest.2)
 
--- where what came of a call is true of a log, an answered update stands at its place
+-- where what came of a call is true of a log, an answered update is at its place
 stands : (layout : Layout) (log : Log) (number : ℕ) (request : Query) (said : Said) → IsTrueOf layout log number request said
     → (action : Action) (reply : Response) → operation_in request ≡ Some action → response number said ≡ Some reply
     → slice_get log.entries reply.at ≡ Some (record { call = number; op = action })
@@ -272,7 +272,7 @@ known_call clock log scripts workers trace all are thread worker at call made is
           calls c served.true_calls found.1);
     }
 
--- each thread's pass has seen all on which its answers rest
+-- each thread's pass has seen all on which its answers depend
 pub have_seen : (clock : ClockId) (log : TableId) (scripts : List (List Query)) (workers : List WorkerState) (trace : Recording)
     → AreServed clock log scripts workers → AreRecorded trace.events (pens_of workers) → trace.layout ≡ clock.layout
     → (thread : ℕ) (pass : Known) → slice_get (map (λ w. w.pass) workers) thread ≡ Some pass → HasSeenAnswers trace thread pass

@@ -1,4 +1,4 @@
--- What the notes of a thread's calls tell of the events in which they stand.
+-- What the notes of a thread's calls say of the events in which they are.
 use Rattle.std.proofs.Common.{◌≡◌, ℕ, zero, suc, ◌<◌, Bool, true, false, List, [], ◌∷◌, ◌++◌, All, Contains, length, get_or, map, cond, eqb, eq-eqb, refl, ap, sym, ◌∙◌, subst, arith, ⊎_elim}
 use Rattle.std.specs.Prelude.{Option, None, Some, slice_get, option_and_then, filter, filter_map, ◌==◌, if◌then◌else◌}
 use Rattle.std.specs.Option.{option_map_or}
@@ -213,7 +213,7 @@ first_answers layout thread (x ∷ xs) rise =
     ap (λ (rs : List Response). slice_get rs 0) (skip_call c.number layout thread x xs (λ same. omega arith))
     ∙ first_answers layout thread xs rise.1 k d lt)
 
--- a thread's calls stand in the events as its notes say
+-- a thread's calls are in the events as its notes say
 pub record AreNoted (events : List Event) (layout : Layout) (thread : ℕ) (calls : List MadeCall) : Type 0 where
   pub rising : Rise (stamps (notes layout thread calls))
   pub noted : All (λ item. slice_get events item.stamp ≡ Some item.event) (notes layout thread calls)

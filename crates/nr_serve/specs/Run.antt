@@ -48,7 +48,7 @@ pub record AreCallsOf (trace : Recording) (thread : ℕ) (script : List Query) (
   pub stops_last : StopsLast items
   pub to_the_end : HasAllOrStopped script items
 
--- a thread's pass has seen all on which the thread's answers rest: of each answered update its place, where that call stands with its
+-- a thread's pass has seen all on which the thread's answers depend: of each answered update its place, where that call is with its
 -- operation; and as many entries as each answered read saw
 pub record HasSeenAnswers (trace : Recording) (thread : ℕ) (pass : Known) : Type 0 where
   pub updates : (call : ℕ) (made : Invocation) (action : Action) (reply : Response) → call_of trace call ≡ Some made → made.thread ≡ thread
@@ -71,12 +71,12 @@ abbrev pub AreAllCallsOf : Recording → List (List Query) → List (List Said) 
 AreAllCallsOf trace scripts answers = (thread : ℕ) (script : List Query) (items : List Said) → slice_get scripts thread ≡ Some script
     → slice_get answers thread ≡ Some items → AreCallsOf trace thread script items
 
--- each thread's pass has seen all on which its answers rest
+-- each thread's pass has seen all on which its answers depend
 abbrev pub HaveSeenAnswers : Recording → List Known → Type 0
 HaveSeenAnswers trace passes = (thread : ℕ) (pass : Known) → slice_get passes thread ≡ Some pass → HasSeenAnswers trace thread pass
 
 -- the bytes spell one trace, of this layout, in which the threads' calls are those of their scripts; its log is one log, of which each
--- thread's pass has seen all on which the thread's answers rest
+-- thread's pass has seen all on which the thread's answers depend
 pub record IsTraceOf (layout : Layout) (scripts : List (List Query)) (bytes : List ℕ) : Type 0 where
   pub layout_is : IsSpelledWith bytes (λ trace. trace.layout ≡ layout)
   pub answers : List (List Said)

@@ -109,7 +109,7 @@ fn judged<J: LogName>(
 /// What came of a run whose threads have ended: their passes, pens and answers are settled with the replicas and the clock, the
 /// trace is written, and its bytes are audited.
 ///
-/// Waits for the log's cell. It takes memory.
+/// Waits for the log's cell. It allocates memory.
 ///
 /// # Errors
 ///

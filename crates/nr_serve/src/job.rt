@@ -36,7 +36,7 @@ impl<J: LogName> Model for Job<J> {
 }
 
 impl<J: LogName> Job<J> {
-    /// Works through the script, and hands back the pen, the pass and what came of each call. It takes no memory.
+    /// Works through the script, and hands back the pen, the pass and what came of each call. It allocates no memory.
     pub(crate) fn work<K: ReplicasName, G: Gate, R: Wait>(
         self,
         rt: &R,

@@ -23,7 +23,7 @@ use std::thread;
 use std::thread::{PromisedHandle, Scope, Threads};
 use vs_types::{Fail, Memory, Request};
 
-/// The stack of a thread: many times what a call needs, and so little that 64 threads take 16 MiB of addresses.
+/// The stack of a thread in bytes; 64 threads reserve 16 MiB of addresses.
 const STACK_BYTES: usize = 262_144;
 
 /// A thread that was started, and what it promises.
@@ -31,7 +31,7 @@ type Started<J, K> = PromisedHandle<Worker<J>, Finished<J, K>>;
 
 /// Works through all scripts, each in a thread of its own: the workers, by thread. All threads have ended.
 ///
-/// Waits for the threads. It takes all memory that they need: for what comes of each request, and for a handle of each thread.
+/// Waits for the threads. It allocates all memory that they need: for what comes of each request, and for a handle of each thread.
 ///
 /// # Errors
 ///

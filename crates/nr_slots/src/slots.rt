@@ -29,7 +29,7 @@ impl<P: SlotRule> Model for Slots<P> {
 impl<P: SlotRule> Slots<P> {
     ghost use Rattle.nr_slots.specs.Batch.{Rises};
 
-    /// Empty slots for threads 0 to n - 1. It takes all memory that the slots ever need.
+    /// Empty slots for threads 0 to n - 1. It allocates all memory that the slots ever need.
     ///
     /// # Errors
     ///

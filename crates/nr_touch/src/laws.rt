@@ -15,7 +15,7 @@ pub fn touches_of_the_present_are_right()
 {}
 
 /// A right touch of a page that no update changes while it is open, and none of whose updates is open when it is made, is answered
-/// as an access of the present. So where flushes are in order, a TLB can't be told from none.
+/// as an access of the present. So where flushes are in order, a TLB can't be distinguished from none.
 pub fn touches_of_quiet_pages_are_of_the_present()
     ensures looks { (start : Space) (trace : Recording) (touch : Touch) (m n : ℕ)
         → IsOfQuietPage start trace touch → IsAllowedPrefix start trace touch m

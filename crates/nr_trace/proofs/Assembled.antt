@@ -22,7 +22,7 @@ use Rattle.nr_trace.specs.declared.fields.DumpHead.{DumpHead}
 use Rattle.nr_trace.proofs.LawsOfSpelling.{Frame, FrameFits, frame}
 use Rattle.nr_trace.proofs.LawsOfFormat.{RisesFrom}
 
--- the units of so many values stand at the front, and what comes after has the property
+-- the units of so many values are at the front, and what comes after has the property
 pub record HasUnits {A : Type 0} (Fit : List A → Type 0) (spelled : A → List ℕ) (many : ℕ) (Then : List ℕ → Type 0) (rest : List ℕ) : Type 0 where
   pub values : List A
   pub fit : Fit values
@@ -119,7 +119,7 @@ dump_is head frames fit count =
     ap₂ (λ (n : ℕ) (es : List Frame). dump_head (record { applied = head.applied; frames = n; root = head.root }) ++ flat_map frame es)
     (as_many head frames fit count) (held head frames fit)
 
--- this many dumps stand at the front
+-- this many dumps are at the front
 abbrev pub HasDumps : ℕ → List ℕ → Type 0
 HasDumps many = HasUnits (AllByRecursion IsImage) dump many (λ _. ⊤)
 

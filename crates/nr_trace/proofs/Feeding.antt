@@ -18,7 +18,7 @@ use Rattle.nr_trace.specs.declared.reading.feed.State.TheVariants.{Open, Stopped
 use Rattle.nr_trace.proofs.LawsOfFormat.{no_fault, one_fault}
 use Rattle.nr_trace.proofs.Whole.{too_short, too_long, some_bytes, ready_to_end}
 
--- of these bytes the reader has read what stands before the rest
+-- of these bytes the reader has read what comes before the rest
 pub record IsBetween (bytes : List ℕ) (reader : Reader) (rest : List ℕ) : Type 0 where
   pub sound : IsSound reader
   pub parts : bytes ≡ said reader ++ rest

@@ -1,4 +1,4 @@
--- What can be told of every value: it is in range, or it is not.
+-- What can be decided of every value: it is in range, or it is not.
 use Rattle.std.proofs.Common.{◌≡◌, ℕ, suc, ◌+◌, ◌%◌, ◌^◌, ◌<◌, ◌≤◌, ◌⊎◌, inl, inr, Bool, true, false, ltb, List, refl, arith, Option, Some, None}
 use Rattle.std.specs.Prelude.{IsTrue, IfSome, ⊤}
 use Rattle.std.specs.Bool.{Decides}

@@ -44,7 +44,7 @@ judged : {A : Type 0} {bytes : ℕ} {fault : Format} {Fits : A → Type 0} {spel
     → IsJudged bytes (Some fault) Fits spelled
 judged {fault = fault} told unit all long = elim (told unit) [ inl some ↦ inl some | inr none ↦ inr (fault, refl, none) ]
 
--- the unit stands at the front, and what comes after has the property
+-- the unit is at the front, and what comes after has the property
 abbrev HasUnit : {A : Type 0} → (A → Type 0) → (A → List ℕ) → (A → List ℕ → Type 0) → List ℕ → Type 0
 HasUnit {A} Fits spelled Then rest = (value : A) × (more : List ℕ) × Fits value × (rest ≡ spelled value ++ more) × Then value more
 

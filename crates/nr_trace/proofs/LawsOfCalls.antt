@@ -1,4 +1,4 @@
--- Calls, their first replies, and the entries that they stand after, where no fault holds of the events, the log or a
+-- Calls, their first replies, and the entries that they come after, where no fault holds of the events, the log or a
 -- reply's place.
 use Rattle.std.proofs.Common.{◌≡◌, ◌≢◌, ℕ, ◌<◌, ◌≤◌, ◌⊎◌, inl, inr, Bool, true, false, ◌==◌, length, slice_get, Option, Some, None, is_some, IsSome}
 use Rattle.std.proofs.Common.{option_and_then, refl, ap, sym, ◌∙◌, subst, arith, eq-eqb, eqb-true, if◌then◌else◌}
@@ -164,7 +164,7 @@ same_option (Some m) n h = by_order (cases_eq m n) where
   by_order (inl e) = ap Some e
   by_order (inr k) = absurd (h (λ e. k (same_Some m n e)))
 
--- an answered call stands after as many entries as its reply says
+-- an answered call comes after as many entries as its reply says
 pub answered_stands : (trace : Recording) (call : ℕ) (reply : Response) → HasCleanLog trace → reply_to trace call ≡ Some reply
     → StandsAfter trace call reply.at × (reply.at ≤ length trace.log)
 answered_stands trace call reply clean e = by_kind (update_or_read trace call is_call) where
@@ -191,7 +191,7 @@ answered_stands trace call reply clean e = by_kind (update_or_read trace call is
 pub placed_is_update : (trace : Recording) (place call : ℕ) → HasCleanLog trace → slice_get trace.log place ≡ Some call → IsUpdate trace call
 placed_is_update trace place call clean e = update_from_not_not trace call (λ h. clean.updates_alone place (call, e, h))
 
--- a call stands after one number of entries at most
+-- a call comes after one number of entries at most
 pub stands_once : (trace : Recording) (call m n : ℕ) → HasCleanLog trace → StandsAfter trace call m → StandsAfter trace call n → m ≡ n
 stands_once trace call m n clean (inl (u, e)) (inl (v, f)) = by_order (cases_order m n) where
   by_order : (m ≡ n) ⊎ ((m < n) ⊎ (n < m)) → m ≡ n

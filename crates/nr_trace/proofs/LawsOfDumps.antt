@@ -98,7 +98,7 @@ pub legal_if_faultless : (start : Space) (trace : Recording) → IsFaultlessFrom
 legal_if_faultless start trace faultless =
     legal start trace (clean_if_faultless start trace faultless) (λ call h. faultless (Early call) h) (λ call h. faultless (WrongAnswer call) h)
 
--- the dump has applied what an answer given at its replica rests on
+-- the dump has applied what an answer given at its replica depends on
 known_applied : (trace : Recording) (replica : ℕ) (dump : Image) (call : ℕ) (made : Invocation) (reply : Response) → (RestsOnMore trace replica dump → ⊥)
     → call_of trace call ≡ Some made → made.replica ≡ replica → reply_to trace call ≡ Some reply → (known_by trace reply ≤ dump.applied) × (reply.call ≡ call)
 known_applied trace replica dump call made reply no_more is_made here is_reply = (by_order (cases_lt dump.applied (known_by trace reply)), event.2) where

@@ -1,4 +1,4 @@
--- Faults are told apart by where they stand, and one is first.
+-- Faults are distinguished by where they are, and one is first.
 use Rattle.std.proofs.Common.{◌≡◌, ℕ, ◌<◌, ◌⊎◌, inl, inr, Some, List, length, get_or, take, slice_get, Contains, refl, ap, ap₂, sym, ◌∙◌, subst, arith, ◌∷◌, []}
 use Rattle.std.specs.FinMap as finite
 use Rattle.std.specs.Ordering.{nat_cmp, ordering_reverse}
@@ -180,7 +180,7 @@ wrong_is_member start trace call clean wrong =
     let both = answered_stands trace call wrong.reply clean wrong.is_reply in
     Contains-from_in call (recorded_order trace) (standing_is_member trace wrong.reply.at call both.1 both.0)
 
--- a wrong answer that is earlier than another one is of a call that stands before the other's
+-- a wrong answer that is earlier than another one is of a call that comes before the other's
 pub earlier_answer : (start : Space) (trace : Recording) (i j : ℕ) → HasCleanLog trace → HasFaultFrom start trace (WrongAnswer i)
     → HasFaultFrom start trace (WrongAnswer j)
     → Earlier trace (WrongAnswer i) (WrongAnswer j) → In i (before j (recorded_order trace))

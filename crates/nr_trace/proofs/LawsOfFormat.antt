@@ -29,7 +29,7 @@ use Rattle.nr_trace.proofs.LawsOfUnits.{length-frame_words, log_words_apart, eve
 
 -- ---- one unit
 
--- a unit whose spelling tells values apart and has this length has one fault at most, if what stands after has
+-- a unit whose spelling distinguishes values and has this length has one fault at most, if what comes after has
 pub unit_one : {A : Type 0} (bytes : ℕ) (own : Option Format) (Fits : A → Type 0) (spelled : A → List ℕ) (Behind : A → List ℕ → Format → Type 0)
     → ToldApart Fits spelled → ((a : A) → Fits a → length (spelled a) ≡ bytes)
     → ((a : A) (rest : List ℕ) (f g : Format) → Fits a → Behind a rest f → Behind a rest g → f ≡ g)
@@ -62,7 +62,7 @@ unit_one bytes own Fits spelled Behind apart long one rest f g (inr (inr (v, mor
     let r = apart w v less more also fits (sym same ∙ is) in
     one v more f g fits behind (subst₂ (λ (a : _) (ys : List ℕ). Behind a ys g) r.0 r.1 further)
 
--- a unit that spells a value that fits has no fault, if what stands after has none
+-- a unit that spells a value that fits has no fault, if what comes after has none
 pub unit_none : {A : Type 0} (bytes : ℕ) (own : Option Format) (Fits : A → Type 0) (spelled : A → List ℕ) (Behind : A → List ℕ → Format → Type 0)
     → ToldApart Fits spelled → (v : A) (more : List ℕ) (fault : Format) → length (spelled v) ≡ bytes → Fits v
     → (Behind v more fault → ⊥) → (rest : List ℕ) → rest ≡ spelled v ++ more → AtUnit bytes own Fits spelled Behind rest fault → ⊥

@@ -1,4 +1,4 @@
--- Lists of numbers: what stands in one, that it is distinct, and what stands before a member.
+-- Lists of numbers: what is in one, that it is distinct, and what comes before a member.
 use Rattle.std.proofs.Common.{◌≡◌, ℕ, zero, suc, ◌<◌, ◌⊎◌, inl, inr, Bool, true, false, cond, nat_eq, List, [], ◌∷◌, ◌++◌, length, take, slice_get}
 use Rattle.std.proofs.Common.{slice_index_or, filter, Contains, Option, Some, None, option_to_list, option_and_then, refl, ap, sym, ◌∙◌, subst, arith, one-add}
 use Rattle.std.proofs.Common.{eq-eqb, ne_eqb}
@@ -160,7 +160,7 @@ flat_map_distinct f (suc n) each apart =
       between : (x : ℕ) → In x (flat_map f (below n)) → In x (f n) → ⊥
       between x i h = let (j, k, l) = in_flat_map f x (below n) i in apart x j n (in_below j n k) (omega arith) l h
 
--- ---- what stands before a member
+-- ---- what comes before a member
 
 before_here : (call x : ℕ) (xs : List ℕ) → x ≡ call → before call (x ∷ xs) ≡ []
 before_here call x xs h =
@@ -192,7 +192,7 @@ same_place i j (x ∷ xs) a b e = by_cases (λ c d f. same_place i j xs c d f) (
       let f = sym (ap length (before_there i x xs n)) ∙ e ∙ ap length (before_there j x xs m) in
       more (further i n a) (further j m b) (omega arith)
 
--- a member with fewer before it stands before the other, and the other way round
+-- a member with fewer before it comes before the other, and the other way round
 pub earlier_member : (i j : ℕ) (xs : List ℕ) → In i xs → In j xs → length (before i xs) < length (before j xs) → In i (before j xs)
 earlier_member i j [] a b l = absurd a
 earlier_member i j (x ∷ xs) a b l = by_cases (λ c d m. earlier_member i j xs c d m) (cases_eq x i) (cases_eq x j) where

@@ -76,7 +76,7 @@ block_in trace n call (inr h) = in_left call (reads_at trace n) (option_to_list 
 
 -- ---- the members of the order
 
--- what stands after fewer than n entries, or places an entry before n
+-- what comes after fewer than n entries, or places an entry before n
 abbrev pub blocks : Recording → ℕ → List ℕ
 blocks trace n = flat_map (block trace) (below n)
 
@@ -88,14 +88,14 @@ in_blocks trace n call clean i =
 pub blocks_in : (trace : Recording) (m n call : ℕ) → m < n → StandsAfter trace call m → In call (blocks trace n)
 blocks_in trace m n call l h = in_flat_mapped (block trace) call m (below n) (below_in m n l) (block_in trace m call h)
 
--- a member of the order stands after some entries
+-- a member of the order comes after some entries
 pub member_stands : (trace : Recording) (call : ℕ) → HasCleanLog trace → In call (recorded_order trace)
     → (n : ℕ) × (n ≤ length trace.log) × StandsAfter trace call n
 member_stands trace call clean i =
     let (n, l, h) = in_blocks trace (length trace.log + 1) call clean i in
     (n, omega arith, h)
 
--- and what stands after some entries is a member
+-- and what comes after some entries is a member
 pub standing_is_member : (trace : Recording) (n call : ℕ) → n ≤ length trace.log → StandsAfter trace call n → In call (recorded_order trace)
 standing_is_member trace n call l h = blocks_in trace n (length trace.log + 1) call (omega arith) h
 
@@ -120,7 +120,7 @@ order_distinct trace clean =
       apart : (call m n : ℕ) → m < n → m ≡ n → ⊥
       apart call m n l e = omega arith
 
--- ---- what stands before a member
+-- ---- what comes before a member
 
 order_split : (trace : Recording) (n : ℕ) → n ≤ length trace.log → (rest : List ℕ) × (recorded_order trace ≡ blocks trace n ++ (block trace n ++ rest))
 order_split trace n l =
@@ -215,7 +215,7 @@ with_reads trace n reads h =
     ∙ ap₂ ◌++◌ (operations_of_blocks trace n) (no_operations trace reads h)
     ∙ append-nil (operations trace (take n trace.log))
 
--- before a call that stands after n entries come the operations of the first n places
+-- before a call that comes after n entries come the operations of the first n places
 pub operations_before : (trace : Recording) (n call : ℕ) → HasCleanLog trace → n ≤ length trace.log → StandsAfter trace call n
     → operations trace (before call (recorded_order trace)) ≡ operations trace (take n trace.log)
 operations_before trace n call clean l (inl (u, e)) =

@@ -1,4 +1,4 @@
--- Where no call stands too early, the recorded order keeps precedence.
+-- Where no call comes too early, the recorded order keeps precedence.
 use Rattle.std.proofs.Common.{◌≡◌, ℕ, zero, suc, ◌+◌, ◌<◌, ◌≤◌, ◌⊎◌, inl, inr, max, List, [], ◌∷◌, length, take, map, fold, slice_get, Contains, Option, Some}
 use Rattle.std.proofs.Common.{None, refl, ap, sym, ◌∙◌, subst, arith}
 use Rattle.std.specs.Prelude.{filter_map}
@@ -88,7 +88,7 @@ read_in_front trace n first second reply clean k l r f g (inr s) =
     (in_right first (blocks trace n) (earlier_reads trace n second)
     (in_filtered (saw trace n) first (below second) (below_in first second l) (saw_from_read trace n first (r, reply, f, g))))
 
--- a reply known before the second call was made, to a first call that stands after `reply.at` entries
+-- a reply known before the second call was made, to a first call that comes after `reply.at` entries
 first_in_front : (trace : Recording) (first second n : ℕ) (reply : Response) → HasCleanLog trace → n ≤ length trace.log
     → StandsAfter trace second n → first < second
     → reply_to trace first ≡ Some reply → reply.call ≡ first → known_by trace reply ≤ n → IsUpdate trace first ⊎ IsRead trace first

@@ -1,4 +1,4 @@
--- Each unit's spelling has a fixed length, and what fits is told apart by its spelling, whatever stands after it.
+-- Each unit's spelling has a fixed length, and what fits is distinguished by its spelling, whatever comes after it.
 use Rattle.std.proofs.Common.{◌≡◌, ℕ, zero, suc, ◌*◌, ◌<◌, ◌^◌, ◌%◌, Bool, true, false, List, [], ◌∷◌, ◌++◌, length, refl, ap, ap₂, sym, ◌∙◌, arith}
 use Rattle.std.specs.Prelude.{flat_map, ⊤}
 use Rattle.std.specs.List.{AllByRecursion}
@@ -40,7 +40,7 @@ use Rattle.nr_trace.specs.declared.version.Version.TheVariants.{V1, V2}
 use Rattle.nr_trace.specs.declared.event.Event.{Event}
 use Rattle.nr_trace.specs.declared.event.Event.TheVariants.{Call, Reply}
 
--- two values that fit are one if their spellings begin one list, and then what stands after is one too
+-- two values that fit are one if their spellings begin one list, and then what comes after is one too
 abbrev pub ToldApart : {A : Type 0} → (A → Type 0) → (A → List ℕ) → Type 0
 ToldApart {A} Fits spelled = (a b : A) (us vs : List ℕ) → Fits a → Fits b → spelled a ++ us ≡ spelled b ++ vs → (a ≡ b) × (us ≡ vs)
 
@@ -259,7 +259,7 @@ answer_fits (Fault code) h = record { code = omega arith; size = omega arith; ri
 
 -- ---- events
 
--- what stands after the tag of a call, and of a reply; the unused field of each has this number
+-- what comes after the tag of a call, and of a reply; the unused field of each has this number
 abbrev pub call_bytes : ℕ → ℕ → RequestFields → ℕ → List ℕ
 call_bytes replica thread fields unused =
     to_be_bytes w8 replica ++ (to_be_bytes w16 thread ++ (to_be_bytes w8 fields.kind ++ (to_be_bytes w8 fields.size

@@ -26,7 +26,7 @@ use Rattle.nr_trace.proofs.LawsOfUnits.{length-event, length_of_units}
 use Rattle.nr_trace.proofs.Spelled.{spelling_of, more_places, more_events}
 use Rattle.nr_trace.proofs.Units.{goes_on, place_passed, event_passed, event_refused}
 
--- nothing stands after a front that is as long as the unit
+-- nothing comes after a front that is as long as the unit
 pub only_front : (unit front rest : List ℕ) → unit ≡ front ++ rest → length unit ≡ length front → unit ≡ front
 only_front unit front rest e whole =
     let none : rest ≡ [] = nil_from_length rest (omega (arith, ap length e, whole, length-append front rest)) in

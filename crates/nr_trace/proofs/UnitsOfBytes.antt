@@ -1,4 +1,4 @@
--- What the bytes of a unit spell: there is one value that they may spell, and it can be told whether they do.
+-- What the bytes of a unit spell: there is one value that they may spell, and it can be decided whether they do.
 use Rattle.std.proofs.Common.{◌≡◌, ◌≢◌, ℕ, zero, suc, ◌==◌, ◌*◌, ◌%◌, ◌^◌, ◌<◌, ◌⊎◌, inl, inr, List, [], ◌∷◌, ◌++◌, length, take, drop, get_or, All}
 use Rattle.std.proofs.Common.{Option, refl, ap, sym, ◌∙◌, subst, arith}
 use Rattle.std.specs.Prelude.{flat_map, if◌then◌else◌, ⊤}

@@ -1,4 +1,4 @@
--- A reader where bytes are missing, or stand after the end.
+-- A reader where bytes are missing, or come after the end.
 use Rattle.std.proofs.Common.{◌≡◌, ◌≢◌, ℕ, zero, suc, ◌+◌, ◌*◌, ◌-◌, ◌<◌, ◌≤◌, Bool, true, false, List, [], length, Option, Some, None, refl, sym}
 use Rattle.std.proofs.Common.{subst, arith, inl}
 use Rattle.std.specs.Prelude.{nat_lt, if◌then◌else◌, MatchOption}

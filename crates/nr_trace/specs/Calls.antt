@@ -76,12 +76,12 @@ IsAnswered trace call = IsSome (reply_to trace call)
 abbrev pub Answers : Recording → ℕ → ℕ → Type 0
 Answers trace index call = IsSome (option_and_then (names call) (reply_of trace index))
 
--- a reply to the first call stands before the second call is made
+-- a reply to the first call comes before the second call is made
 abbrev pub Precedes : Recording → ℕ → ℕ → Type 0
 Precedes trace first second = IsCall trace second × (index : ℕ) × (index < second) × Answers trace index first
 
 -- the events are those of threads that wait for each reply: every reply answers an earlier call, a call has one reply at most, and of
--- two calls of one thread a reply to the first stands before the second
+-- two calls of one thread a reply to the first comes before the second
 pub record IsWellFormedHistory (trace : Recording) : Type 0 where
   pub of_calls : (index : ℕ) (reply : Response) → reply_of trace index ≡ Some reply → (reply.call < index) × IsCall trace reply.call
   pub once : (first second call : ℕ) → Answers trace first call → Answers trace second call → first ≡ second

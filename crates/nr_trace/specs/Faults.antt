@@ -35,7 +35,7 @@ IsReplyWith trace index P = (reply : Response) × (reply_of trace index ≡ Some
 abbrev pub HasPlaced : Recording → ℕ → (ℕ → Type 0) → Type 0
 HasPlaced trace place P = (call : ℕ) × (slice_get trace.log place ≡ Some call) × P call
 
--- the call stands in the recorded order after this many entries: an update, answered or not, or an answered read
+-- the call is in the recorded order after this many entries: an update, answered or not, or an answered read
 abbrev pub StandsAfter : Recording → ℕ → ℕ → Type 0
 StandsAfter trace call entries =
     (IsUpdate trace call × (slice_get trace.log entries ≡ Some call))
@@ -88,7 +88,7 @@ HasFaultFrom start trace (Differs replica address) =
 abbrev pub HasFault : Recording → Fault → Type 0
 HasFault trace fault = HasFaultFrom no_pages trace fault
 
--- where a fault stands: its pass, then its index in that pass, then its number. Answers are compared in the recorded order
+-- where a fault is: its pass, then its index in that pass, then its number. Answers are compared in the recorded order
 abbrev pub rank : Recording → Fault → List ℕ
 rank trace (Format fault) = 1 ∷ 0 ∷ 1 ∷ []
 rank trace (ThreadOpen index) = 2 ∷ index ∷ 2 ∷ []

@@ -34,7 +34,7 @@ pub record IsDumpHead (head : DumpHead) : Type 0 where
   pub few_frames : head.frames ≤ TABLES
   pub root : head.root < 2 ^ 64
 
--- nothing may stand at the end
+-- nothing may be at the end
 abbrev pub AtEnd : List ℕ → Format → Type 0
 AtEnd rest fault = (rest ≢ []) × (fault ≡ Trailing)
 

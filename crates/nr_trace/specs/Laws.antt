@@ -17,7 +17,7 @@ pub record HasCleanLog (trace : Recording) : Type 0 where
   pub all_placed : (index : ℕ) → HasFault trace (NotPlaced index) → ⊥
   pub none_past_log : (index : ℕ) → HasFault trace (PastLog index) → ⊥
 
--- the call stands after some entries of the log
+-- the call comes after some entries of the log
 abbrev pub Stands : Recording → ℕ → Type 0
 Stands trace call = (entries : ℕ) × (entries ≤ length trace.log) × StandsAfter trace call entries
 
@@ -26,7 +26,7 @@ pub record IsSerialFrom (start : Space) (trace : Recording) (order : List ℕ) :
   pub members : HasItsCalls trace order
   pub answers : HasAnswersFrom start trace order
 
--- wrong answers are compared in the recorded order, so that the call has to stand there
+-- wrong answers are compared in the recorded order, so that the call has to be there
 abbrev pub HasRank : Recording → Fault → Type 0
 HasRank trace (WrongAnswer call) = Contains (recorded_order trace) call
 HasRank trace fault = ⊤

@@ -15,7 +15,7 @@ use Rattle.vs_walk.specs.Dump.{Image}
 use Rattle.nr_trace.specs.Recording.{Recording}
 use Rattle.nr_trace.specs.Calls.{Invocation, call_of, operation_of, address_of, IsCall, IsUpdate, IsRead, Response, reply_in, reply_to, IsAnswered, Precedes}
 
--- the members of an order that stand before a call
+-- the members of an order that come before a call
 abbrev pub before : ℕ → List ℕ → List ℕ
 before call order = before_first (λ other. other == call) order
 
@@ -52,7 +52,7 @@ abbrev pub KeepsPrecedence : Recording → List ℕ → Type 0
 KeepsPrecedence trace order = (first second : ℕ) → Contains order first → Contains order second → Precedes trace first second
     → Contains (before second order) first
 
--- each answer is what the space gives after the updates that stand before
+-- each answer is what the space gives after the updates that come before
 abbrev pub HasAnswersFrom : Space → Recording → List ℕ → Type 0
 HasAnswersFrom start trace order = (call : ℕ) (made : Invocation) (reply : Response) → call_of trace call ≡ Some made → reply_to trace call ≡ Some reply
     → reply.answer ≡ answer_in trace.layout (space_from start trace (before call order)) made.request

@@ -22,12 +22,12 @@ ghost use Rattle.nr_trace.specs.declared.fault.Fault.TheVariants.{AnsweredTwice,
 ghost use Rattle.nr_trace.specs.declared.fault.Fault.TheVariants.{PrefixPastLog, PrefixShort, ThreadOpen, WrongAnswer};
 ghost use Rattle.nr_trace.specs.declared.fault.Fault.TheVariants.{Differs, MissingFrame, ReservedBit, SharedFrame, StrayFrame};
 
-/// The update stands first, and then the read that saw it.
+/// The update comes first, and then the read that saw it.
 pub fn map_then_resolve_order()
     ensures { recorded_order map_then_resolve ≡ 0 ∷ 2 ∷ [] }
 {}
 
-/// The read that did not see the update stands before it, and the one that saw it stands after.
+/// The read that did not see the update comes before it, and the one that saw it comes after.
 pub fn read_before_and_after_order()
     ensures { recorded_order read_before_and_after ≡ 2 ∷ 0 ∷ 1 ∷ [] }
 {}
@@ -69,7 +69,7 @@ pub fn map_then_resolve_is_a_recording()
     ensures { Spells (spelling map_then_resolve) map_then_resolve }
 {}
 
-/// An update that was never answered nor placed does not stand in the order.
+/// An update that was never answered nor placed is not in the order.
 pub fn unanswered_update_left_out()
     ensures { recorded_order unanswered_left_out ≡ 0 ∷ 1 ∷ [] }
 {}
@@ -97,7 +97,7 @@ pub fn answered_again_is_no_history()
     ensures spelled { Spells (spelling answered_again) answered_again }
 {}
 
-/// A read that asks for rights stands in the order like one that resolves, and is allowed what the page allows.
+/// A read that asks for rights is in the order like one that resolves, and is allowed what the page allows.
 pub fn map_then_access_answers()
     ensures order { recorded_order map_then_access ≡ 0 ∷ 2 ∷ [] }
     ensures access { answer_in map_then_access.layout
@@ -106,7 +106,7 @@ pub fn map_then_access_answers()
     ensures refused { HasFault access_refused (WrongAnswer 2) }
 {}
 
-/// The version is one number of the spelling, and an access stands in traces of version 2 alone, as do five levels.
+/// The version is one number of the spelling, and an access is in traces of version 2 alone, as are five levels.
 pub fn versions_apart()
     ensures spelling { drop 6 (spelling as_version_2) ≡ drop 6 (spelling map_then_resolve) }
     ensures second { IsEvent V2 map_then_resolve.layout (Call 0 0 access_it) }

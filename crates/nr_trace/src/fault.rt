@@ -13,7 +13,7 @@ pub enum Format {
     BadEvent(u32),
     /// In the dump of this replica the number of the frame of this index does not rise, or is out of its range.
     BadFrame(u8, u32),
-    /// Bytes stand after the trace.
+    /// Bytes come after the trace.
     Trailing,
 }
 
@@ -30,19 +30,19 @@ pub enum Fault {
     AnsweredTwice(u32),
     /// The log has at this place what is no update.
     NotAnUpdate(u32),
-    /// The log has at this place an update that stands at an earlier one.
+    /// The log has at this place an update that is at an earlier one.
     PlacedTwice(u32),
     /// The event is a reply that gives an update another place than its own.
     NotPlaced(u32),
     /// The event is a reply to a read that gives more entries than the log has.
     PastLog(u32),
-    /// The call stands in the order before one that was answered before it was made.
+    /// The call is in the order before one that was answered before it was made.
     Early(u32),
     /// The call's answer is not that of the space there.
     WrongAnswer(u32),
     /// The replica's dump has taken more entries than the log has.
     PrefixPastLog(u8),
-    /// The replica's dump has taken fewer entries than an answer given there rests on.
+    /// The replica's dump has taken fewer entries than an answer given there depends on.
     PrefixShort(u8),
     /// The replica's dump lacks this frame.
     MissingFrame(u8, u64),

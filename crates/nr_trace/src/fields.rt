@@ -80,7 +80,7 @@ impl AnswerFields {
         }
     }
 
-    /// The answer that has the fields. `None` where a code stands for nothing, or a field that the answer does not use is not 0.
+    /// The answer that has the fields. `None` where a code means nothing, or a field that the answer does not use is not 0.
     pub(crate) fn answer(self) -> Option<Answer>
         ensures { Finds (HasAnswerFields self) result }
     {

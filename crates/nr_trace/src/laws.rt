@@ -74,7 +74,7 @@ pub fn recorded_order_is_serial()
         → IsSerialFrom start trace (recorded_order trace) }
 {}
 
-/// Where moreover no call stands too early, the recorded order is legal.
+/// Where moreover no call comes too early, the recorded order is legal.
 pub fn recorded_order_is_legal()
     ensures { (start : Space) (trace : Recording) → HasCleanLog trace
         → ((call : ℕ) → HasFault trace (Early call) → ⊥)
@@ -113,7 +113,7 @@ pub fn faultless_recordings_have_an_order()
         → FitsFrom start trace (recorded_order trace) replica dump }
 {}
 
-/// The members of the recorded order are the calls that stand after some entries, each after one number of them. Before a
+/// The members of the recorded order are the calls that come after some entries, each after one number of them. Before a
 /// member come the operations of so many places of the log, and the updates in all are the log.
 pub fn recorded_order_by_entries()
     ensures members { (trace : Recording) (call : ℕ) → HasCleanLog trace
@@ -134,7 +134,7 @@ pub fn recorded_order_by_entries()
         ≡ space_from start trace (take n trace.log) }
 {}
 
-/// Of two wrong answers the one whose call stands before the other's is earlier.
+/// Of two wrong answers the one whose call comes before the other's is earlier.
 pub fn earlier_wrong_answer()
     ensures { (start : Space) (trace : Recording) (i j : ℕ) → HasCleanLog trace
         → HasFaultFrom start trace (WrongAnswer i) → HasFaultFrom start trace (WrongAnswer j)

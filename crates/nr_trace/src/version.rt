@@ -18,7 +18,7 @@ pub enum Version {
 }
 
 impl Version {
-    /// The number that stands for the version: 1 or 2.
+    /// The number that represents the version: 1 or 2.
     pub(crate) fn code(self) -> u16
         ensures { result ≡ version_code self }
     {

@@ -17,7 +17,7 @@ use crate::writing::lists::{put_events, put_log};
 use std::alloc::Global;
 use vs_types::Memory;
 
-/// The one spelling of the trace, which takes memory.
+/// The one spelling of the trace, which allocates memory.
 ///
 /// # Errors
 ///

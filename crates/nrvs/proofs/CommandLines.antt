@@ -1,4 +1,4 @@
--- What a parse by clap tells of the command that is asked for.
+-- What a parse by clap says of the command that is asked for.
 use Rattle.std.proofs.Common.{◌≡◌, ℕ, Bool, true, false, List, [], ◌∷◌, Option, Some, None, Result, Ok, Err, ap, inl, inr, sym, ◌∙◌, refl, subst, codes, option_map, unwrap_or}
 use Rattle.std.proofs.Common.{Bor, Box, IfErr}
 use Rattle.std.specs.Prelude.{⊤}

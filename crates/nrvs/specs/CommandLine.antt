@@ -102,7 +102,7 @@ IsTurns None number = number ≡ 100000
 IsTurns (Some text) number = ParsesUnsigned {E = Unit {0}} 32 10 text (Ok number)
     ⊎ ((number ≡ 100000) × ((given : ℕ) → ParsesUnsigned {E = Unit {0}} 32 10 text (Ok given) → 1 ≤ given → ⊥))
 
--- whether a flag was given, as clap tells it: it has the value `true`, else `false`
+-- whether a flag was given, as clap says it: it has the value `true`, else `false`
 pub record IsFlag (given : Option Text) (flag : Bool) : Type 0 where
   pub none : given ≡ None → flag ≡ false
   pub yes : given ≡ Some (codes "true") → flag ≡ true

@@ -28,13 +28,13 @@ pub record RunsCommand {W : Type 0} (command : Command) (known : Option (List �
   pub ends : MatchResult outcome (WritesReport (IsCommandAnswer command) known (contents old) (contents new)) (IsRefusal command known)
   pub alone : WritesAnswersAlone old new outcome
 
--- why what clap answers was not told: it couldn't be written, or memory ran out
+-- why what clap answers was not written: it couldn't be written, or memory ran out
 abbrev pub IsTellFault : ProgFault → Type 0
 IsTellFault CannotWrite = ⊤
 IsTellFault Memory = ⊤
 IsTellFault _ = ⊥
 
--- what clap answers was told, or that failed; only help and the version go to the output
+-- what clap answers was written, or that failed; only help and the version go to the output
 pub record TellsRefusal {W : Type 0} (answer : ErrorKind) (old new : W) (outcome : Result ℕ ProgFault) : Type 0 where
   pub ends : MatchResult outcome (λ status. status ≡ shown_status (is_shown answer)) IsTellFault
   pub memory : answer ≡ kind.OutOfMemory → outcome ≡ Err Memory

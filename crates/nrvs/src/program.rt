@@ -18,7 +18,7 @@ fn is_shown(kind: ErrorKind) -> bool
     matches!(kind, ErrorKind::DisplayHelp | ErrorKind::DisplayVersion)
 }
 
-/// Tells what clap answers to the words: help on the output, a fault of the command line on the errors.
+/// Writes what clap answers to the words: help on the output, a fault of the command line on the errors.
 fn tell_refusal<W: Write, E: Write>(
     alloc: Global,
     refusal: Error,
@@ -58,7 +58,7 @@ fn try_run<T: Threads + Wait + Sync, R: Read + Drop, W: Write, E: Write>(
     }
 }
 
-/// The exit status; why there is no answer is told to the errors.
+/// The exit status; why there is no answer is written to the errors.
 fn end<E: Write>(outcome: Result<u8, ProgFault>, errors: &mut E) -> u8
     ensures { result ≡ exit_status outcome }
 {

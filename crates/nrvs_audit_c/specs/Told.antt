@@ -1,4 +1,4 @@
--- What a call tells of bytes.
+-- What a call answers of bytes.
 use Rattle.std.specs.Prelude.{◌≡◌, ◌++◌, ℕ, nat_le, List, length, drop, if◌then◌else◌}
 use Rattle.nr_audit.specs.Headline.{AreRightWith}
 use Rattle.nr_audit.specs.Verdict.{IfYes, IsVerdictOf, verdict_status}

@@ -37,7 +37,7 @@ fn write_calls(calls: &[u32], order: &mut [u32])
     }
 }
 
-/// Whether bytes are those of a right trace: `audit` of `nr_audit`. Its verdict is told in numbers, and where it is yes and the array
+/// Whether bytes are those of a right trace: `audit` of `nr_audit`. Its verdict is given in numbers, and where it is yes and the array
 /// has room for the order, the calls are written there.
 #[unsafe(no_mangle)]
 pub extern "C" fn nrvs_audit(

@@ -1,6 +1,6 @@
-//! The audit for C: bytes are judged, and the verdict is told in numbers.
+//! The audit for C: bytes are judged, and the verdict is given in numbers.
 //!
-//! A call takes memory of the C library's, and gives all of it back before it returns.
+//! A call allocates on the C library's heap, and frees all of it before it returns.
 #![tactic(auto)]
 
 mod export;

@@ -35,7 +35,7 @@ module _ (handle : Table) (words : List (List ℕ)) (marks : List FrameMark) (is
       let root = named handle.base (frames_in handle.taken marks words) handle.root in_use in
       (root.0, root.1, was_taken is_open.laid_out (IsMarked-from_use (uses_of_first handle.taken marks) (take handle.taken words) root.0 root.2))
 
-  -- so was the frame that was given back last
+  -- so was the frame that was freed last
   last_in_range : (nat_eq handle.given 0 || nat_lt handle.last handle.taken) ≡ true
   last_in_range = ⊎_elim
       (λ (none : handle.given ≡ 0). ap (λ n. nat_eq n 0 || nat_lt handle.last handle.taken) none)

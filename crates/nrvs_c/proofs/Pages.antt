@@ -1,4 +1,4 @@
--- A code stands for one size, and for one set of rights.
+-- A code represents one size, and one set of rights.
 use Rattle.std.proofs.Common.{◌≡◌, ℕ, zero, suc, ◌/◌, ◌%◌, Bool, true, false, refl, ap, sym, ◌∙◌}
 use Rattle.vs_types.specs.Codes.{size_code, rights_code}
 use Rattle.vs_types.specs.declared.page.Page.{Page}

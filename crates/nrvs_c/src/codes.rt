@@ -1,4 +1,4 @@
-//! What the numbers stand for that C passes: they have 32 bits, so that none is cut.
+//! What the numbers mean that C passes: they have 32 bits, so that none is cut.
 ghost use Rattle.std.specs.Prelude.{◌≡◌};
 ghost use Rattle.vs_types.specs.Codes.{access_code, mode_code, rights_code, size_code};
 ghost use Rattle.vs_types.specs.Finds.{Finds};

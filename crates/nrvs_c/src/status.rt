@@ -21,16 +21,16 @@ pub(crate) const BAD_MARKS: u32 = 4;
 /// The last frame's number isn't below 2^40.
 pub(crate) const BAD_BASE: u32 = 5;
 
-/// The code stands for no size.
+/// The code means no size.
 pub(crate) const BAD_SIZE: u32 = 6;
 
-/// The code stands for no rights.
+/// The code means no rights.
 pub(crate) const BAD_RIGHTS: u32 = 7;
 
-/// The code stands for no mode.
+/// The code means no mode.
 pub(crate) const BAD_MODE: u32 = 8;
 
-/// The code stands for no access.
+/// The code means no access.
 pub(crate) const BAD_ACCESS: u32 = 9;
 
 /// The address isn't canonical.

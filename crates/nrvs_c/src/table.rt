@@ -28,9 +28,9 @@ pub struct Table {
     pub frames: usize,
     /// How many frames were ever taken.
     pub taken: usize,
-    /// How many of them were given back.
+    /// How many of them were freed.
     pub given: usize,
-    /// The index of the one that was given back last, where one was.
+    /// The index of the one that was freed last, where one was.
     pub last: u64,
 }
 

@@ -1,4 +1,4 @@
-//! Calls of a pen take no memory: `tests/programs` refuses each growth of a pen that makes none, and counts as many with two calls.
+//! Calls of a pen allocate no memory: `tests/programs` refuses each growth of a pen that makes none, and counts as many with two calls.
 ghost use Rattle.std.specs.Prelude.{◌≡◌, ◌+◌, ◌<◌, None};
 ghost use Rattle.vs_types.specs.Query.{IsQuery};
 ghost use Rattle.nr_record.specs.Pen.{calls_in};

@@ -8,7 +8,7 @@ use std::process::Abort;
 use std::sync::Wait;
 use vs_types::{Access, Answer, CALLS, Depth, Mode, Op, Query};
 
-/// What a call is told.
+/// What a call is answered.
 #[derive(Clone, Copy, Debug, PartialEq, Eq)]
 pub enum Said {
     /// The place of an update, or how many entries a read saw; and the answer.
@@ -19,7 +19,7 @@ pub enum Said {
     Stopped,
 }
 
-/// A call that was made, and what it was told.
+/// A call that was made, and what it was answered.
 #[derive(Clone, Copy)]
 pub struct Made {
     pub call: u32,

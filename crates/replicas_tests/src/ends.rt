@@ -40,7 +40,7 @@ fn settle_empty<R: Wait + Abort + Threads + Sync>(
     Ok(())
 }
 
-/// A thread makes as many updates as a log takes, and then calls at the end of the log: the next update is told that it has ended, and
+/// A thread makes as many updates as a log takes, and then calls at the end of the log: the next update is answered that it has ended, and
 /// those after it that the slot is occupied. Then come the steps of others.
 fn go_to_the_end<R: Wait + Abort + Threads + Sync>(
     rt: &R,

@@ -70,7 +70,7 @@ fn work<'a, J: LogName, K: ReplicasName, R: Wait + Abort>(
     Part { caller, made }
 }
 
-/// The first thread fills the log but for some places, and then all threads at once update to its end. What their calls were told.
+/// The first thread fills the log but for some places, and then all threads at once update to its end. What their calls were answered.
 pub fn make_to_the_end<
     'a,
     J: LogName + Send + Sync,
@@ -100,7 +100,7 @@ pub fn make_to_the_end<
     Ok((callers, made))
 }
 
-/// Whether a call was answered, and then stands at the place that it was told. One that wasn't was told that the log has ended.
+/// Whether a call was answered, and then is at the place that it was answered. One that wasn't was answered that the log has ended.
 fn is_answered(rt: &impl Abort, settled: &Settled, made: Made) -> bool {
     match made.said {
         Said::Answer(place, _) => {

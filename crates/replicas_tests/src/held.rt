@@ -127,7 +127,7 @@ fn no_lock_is_held_at_the_gate(rt: HostRuntime) -> Result<(), Fail> {
     Ok(())
 }
 
-/// A call that is told to stop makes no further step: it appends no update that has come to a slot of its replica meanwhile, has its
+/// A call that is stopped makes no further step: it appends no update that has come to a slot of its replica meanwhile, has its
 /// replica take no entry that has come to the log, and does not take its answer, so that its slot is occupied.
 #[test]
 fn no_step_after_the_stop(rt: HostRuntime) -> Result<(), Fail> {

@@ -1,4 +1,4 @@
-//! What threads were told, held against the log that their replicas have left.
+//! What threads were answered, compared with the log that their replicas have left.
 
 use crate::caller::{Made, Said};
 use crate::dumps::assert_dumps;
@@ -10,7 +10,7 @@ use std::test::Fail;
 use vs_plain::PlainSpace;
 use vs_types::{Config, Op, Query};
 
-/// Whether a call of this number may be told so, which stands at that place of the log, or nowhere in it.
+/// Whether a call of this number may be answered so, which is at that place of the log, or nowhere in it.
 fn may_be_told(made: Made, call: u32, place: Option<u32>) -> bool {
     match (made.query, made.said) {
         (Query::Update(_), Said::Answer(at, _)) => place == Some(at),
@@ -22,7 +22,7 @@ fn may_be_told(made: Made, call: u32, place: Option<u32>) -> bool {
     }
 }
 
-/// Each call stands in the log once at most, and was told what fits to where it stands.
+/// Each call is in the log once at most, and was answered what fits to where it is.
 fn judge_places(rt: &impl Abort, alloc: Global, settled: &Settled) -> Result<(), Fail> {
     let made = settled.made.as_slice();
     let mut places = vec![in alloc; None::<u32>; made.len()]?;
@@ -98,7 +98,7 @@ fn judge_answers(
     Ok(updates)
 }
 
-/// Each answer is that of a plain space at its place of the log, in which each call stands once at most: those that were answered do,
+/// Each answer is that of a plain space at its place of the log, in which each call is there once at most: those that were answered do,
 /// and of the others those that were stopped may; and each dump is that of a plain space after as many entries as it says. The calls
 /// are numbered from 0.
 pub fn judge(

@@ -1,5 +1,5 @@
 //! Worked examples of the public calls of the replicas, with values from elsewhere: each call with ample memory, at both depths, and
-//! threads that share replicas. No crate stands on this one, so that each library is proved once.
+//! threads that share replicas. No crate depends on this one, so that each library is proved once.
 #![tactic(auto)]
 
 #[cfg(test)]

@@ -39,12 +39,12 @@ pub struct Settled {
     pub calls: Vec<u32>,
     /// By replica.
     pub dumps: Vec<Dump>,
-    /// What the calls of scripts were told, by their numbers.
+    /// What the calls of scripts were answered, by their numbers.
     pub made: Vec<Made>,
 }
 
 impl Settled {
-    /// These calls stand in the log, and the dumps have applied as many entries as these.
+    /// These calls are in the log, and the dumps have applied as many entries as these.
     pub fn assert(&self, rt: &impl Abort, calls: &[u32], applied: &[u32]) {
         assert_eq!(rt; self.calls.as_slice(), calls);
         for (dump, count) in self.dumps.iter().zip(applied.iter()) {
@@ -103,7 +103,7 @@ fn run_named<
     Ok(Settled { calls, dumps, made })
 }
 
-/// Makes the calls of a test. The callers whose passes the settling is handed, and what the calls of scripts were told.
+/// Makes the calls of a test. The callers whose passes the settling is handed, and what the calls of scripts were answered.
 fn make_calls<
     'a,
     J: LogName + Send + Sync,

@@ -86,7 +86,7 @@ fn as_many_tables_as_can_be(rt: HostRuntime) -> Result<(), Fail> {
     Ok(())
 }
 
-/// Where there is a table too few a map is told how many it takes, at each replica.
+/// Where there is a table too few a map is answered how many it takes, at each replica.
 fn map_with_too_few<R: Wait + Abort + Threads + Sync>(
     rt: &R,
     alloc: Global,

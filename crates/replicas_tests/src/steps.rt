@@ -1,4 +1,4 @@
-//! Calls one after another, each with what it is to be told.
+//! Calls one after another, each with what it has to answer.
 
 use crate::caller::{Caller, Said};
 use nr_replicas::{Gate, ReplicasName, UpdateFault};
@@ -42,7 +42,7 @@ impl Asks {
 /// The page at 0x400000 is mapped.
 pub const MAP: Asks = Asks::Map(0);
 
-/// A call of a thread, and what it is to be told.
+/// A call of a thread, and what it has to be answered.
 #[derive(Clone, Copy)]
 pub struct Step {
     pub thread: u16,

@@ -155,7 +155,7 @@ fn stop_the_thread<R: Wait + Abort + Threads + Sync>(
     .assert(rt, alloc)
 }
 
-/// The gate is told the number of the thread that appends: not its replica's, and not that of another whose update is in its batch.
+/// The gate gets the number of the thread that appends: not its replica's, and not that of another whose update is in its batch.
 #[test]
 fn gate_is_asked_for_the_thread(rt: HostRuntime) -> Result<(), Fail> {
     for stops in 0..7 {

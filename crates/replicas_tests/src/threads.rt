@@ -32,7 +32,7 @@ pub struct Shared {
     threads: u64,
     /// How many threads have come to the start.
     come: AtomicU64,
-    /// How many entries of the log some answered call has told of.
+    /// How many entries of the log some answered call has made known.
     known: AtomicU64,
 }
 
@@ -83,7 +83,7 @@ struct Part<'a, J: LogName, K: ReplicasName> {
     made: Vec<Made>,
 }
 
-/// Makes one call. It knows of all entries that calls had told of before it.
+/// Makes one call. It knows of all entries that calls had made known before it.
 pub fn make<J: LogName, K: ReplicasName, R: Wait + Abort>(
     rt: &R,
     caller: &mut Caller<J, K>,
@@ -116,7 +116,7 @@ pub fn make<J: LogName, K: ReplicasName, R: Wait + Abort>(
     }
 }
 
-/// Whether a call may be told so: where an update of the thread was stopped the later ones are refused, and no other is; a call that
+/// Whether a call may be answered so: where an update of the thread was stopped the later ones are refused, and no other is; a call that
 /// has turns enough is answered.
 fn may_be_told(drawn: Drawn, said: Said, was_stopped: bool) -> bool {
     match (drawn.query, said) {
@@ -159,7 +159,7 @@ fn work<'a, J: LogName, K: ReplicasName, R: Wait + Abort>(
     }
 }
 
-/// All threads at once, each with its script. What their calls were told.
+/// All threads at once, each with its script. What their calls were answered.
 pub fn make_at_once<
     'a,
     J: LogName + Send + Sync,

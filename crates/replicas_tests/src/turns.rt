@@ -53,7 +53,7 @@ fn batch_takes_a_turn(rt: HostRuntime) -> Result<(), Fail> {
 }
 
 /// The first of four threads makes 16 updates, which fill the ring, and one more, which has so many turns; the other replicas have made no
-/// call. What it is told, how many were placed, and what was applied.
+/// call. What it is answered, how many were placed, and what was applied.
 fn meet_a_full_ring<R: Wait + Abort + Threads + Sync>(
     rt: &R,
     alloc: Global,

@@ -5,7 +5,7 @@ use Rattle.std.proofs.lemmas.List.{get_or_append_left}
 use Rattle.std.proofs.lemmas.List.FromFn.{get_or-map-range_with_len, length-map-range_with_len}
 use Rattle.std.proofs.Math.ListN.{length-append}
 
--- of a list of owners, one of each number, and one more, of which the last was taken out: each stands at its number
+-- of a list of owners, one of each number, and one more, of which the last was taken out: each is at its number
 pub owner_of : {X : Type 0} (owner : ℕ → X) (count i : ℕ) (all rest : List X) (more last d : X)
     → all ≡ map owner (range_with_len 0 count) ++ more ∷ [] → all ≡ rest ++ last ∷ []
     → i < length rest → slice_index_or rest i d ≡ owner i

@@ -1,6 +1,6 @@
 //! Worked examples of runs, with values from elsewhere: a run of four lines, an empty one, two threads that really run at once, reads at
 //! their own replica, the points at which a gate is asked, holds a thread or stops it, how many turns a call has, and a run each of whose
-//! growths of memory `tests/programs` refuses in turn. No crate stands on this one.
+//! growths of memory `tests/programs` refuses in turn. No crate depends on this one.
 #![tactic(auto)]
 
 #[cfg(test)]

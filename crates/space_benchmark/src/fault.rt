@@ -19,7 +19,7 @@ pub enum ProgFault {
 }
 
 impl ProgFault {
-    /// What is told on standard error.
+    /// What is written to standard error.
     pub fn text(self) -> &'static str {
         match self {
             ProgFault::BadRounds =>

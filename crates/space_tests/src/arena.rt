@@ -25,7 +25,7 @@ fn take_number<S: FrameStore>(rt: &impl Abort, store: &mut S) -> u64 {
     store.number(frame)
 }
 
-// The number of a frame that was taken, and given back while all its words were 0.
+// The number of a frame that was taken, and freed while all its words were 0.
 #[tactic(auto, using(vs_arena::proofs::Stores::in_use))]
 fn take_and_give_zeroed<S: FrameStore>(rt: &impl Abort, store: &mut S) -> u64 {
     let frame = take_cleared(rt, store);
@@ -88,7 +88,7 @@ fn use_two<S: FrameStore>(rt: &impl Abort, store: &mut S) {
     use_again(rt, store, first, second);
 }
 
-// The first of two frames was given back, and is taken and given back again. The second stays as it is.
+// The first of two frames was freed, and is taken and freed again. The second stays as it is.
 fn use_again<S: FrameStore>(rt: &impl Abort, store: &mut S, first: u64, second: u64) {
     assert!(rt; take_number(rt, store) == first);
     assert!(rt; has(store, first, 0, 0) && has(store, second, 0, 3));
@@ -99,7 +99,7 @@ fn use_again<S: FrameStore>(rt: &impl Abort, store: &mut S, first: u64, second: 
     assert!(rt; has(store, first, 0, 0) && has(store, second, 0, 3));
 }
 
-// All frames of a new store are taken, given back in that order, and taken again.
+// All frames of a new store are taken, freed in that order, and taken again.
 fn use_all<S: FrameStore>(rt: &impl Abort, alloc: Global, store: &mut S) -> Result<(), Fail> {
     let mut order = Vec::new(alloc);
     for _ in 0..store.capacity() {

@@ -8,7 +8,7 @@ use vs_space::{Space, SpaceParts};
 use vs_types::Depth;
 use vs_walk::Frames;
 
-/// What stands in the memory before it is lent.
+/// What is in the memory before it is lent.
 const DIRT: u64 = 0xABAB_ABAB_ABAB_ABAB;
 
 // The same page table, after it and its store were taken apart and opened again.

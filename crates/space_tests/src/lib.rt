@@ -1,5 +1,5 @@
 //! Worked examples of the page table's public calls, with values from elsewhere: each call once with ample memory, and each generic
-//! at a concrete type. No crate stands on this one, so that each library is proved once.
+//! at a concrete type. No crate depends on this one, so that each library is proved once.
 #![tactic(auto)]
 
 #[cfg(test)]

@@ -1,4 +1,4 @@
--- Words whose first ones a code tells.
+-- Words whose first ones a code determines.
 use Rattle.std.proofs.Common.{◌≡◌, ℕ, zero, suc, ◌+◌, ◌<◌, ◌≤◌, ◌⊎◌, List, [], ◌∷◌, All, length, get_or, set, sym, refl, ap, ◌∙◌, ⊎_elim, inl, inr, arith}
 use Rattle.std.proofs.Common.{get_or-set_other, get_or-set_same, length-set}
 use mathlib.Core.Logic.{dite}

@@ -244,7 +244,7 @@ module _ {V : Type 0} (wide h : ℕ) (holds : List ℕ → List V → Type 0) (c
           },
         )
 
-    -- a step that looks at nothing, and tells of words that were seen
+    -- a step that looks at nothing, and speaks of words that were seen
     pub recalls : (slots id : ℕ) (me : M) → Recalls holds id me.0.client (words_of me.0.stage) tells
         → Allows Rule slots id me 0 (λ x. x) (recalled tells (step slots 0 0 0 none) me)
     recalls slots id me asked s r _ at _ =
@@ -313,7 +313,7 @@ module _ {V : Type 0} (wide h : ℕ) (holds : List ℕ → List V → Type 0) (c
           (λ before. omega (arith, g.4 (omega arith), rises)),
     )
 
-    -- the value becomes one of which the version tells all that is new
+    -- the value becomes one of which the version determines all that is new
     swapped_at : (s : St) (r : Rule s) (id at last v : ℕ) (x y : List ℕ) (cs : List (ℕ × Unit {0})) (w : D) → version s ≡ at → Knows h code s.words r.value r.writer id (Seen at last x)
         → HasHead head (v / 2) h x y → v ≡ 2 * code y → code x < code y → w.stage ≡ Seen v v y → holds y (map client (set s.views id w)) → Rule (stepped s 16 v id cs w keeps)
     swapped_at s r id at last v x y cs w here k head_is twice more is kept =

@@ -46,11 +46,11 @@ module _ {V : Type 0} (code : List ℕ → ℕ) (head : ℕ → ℕ → ℕ) (h 
   words_after : (look : Looked) → words_of after ≡ look.words
   words_after look = ap words_of look.seen
 
-  -- a look tells of the words that it saw
+  -- a look speaks of the words that it saw
   pub told_now : Looked → tells v (words_of after) (words_of after) w
   told_now look = subst (λ (ws : List ℕ). tells v ws ws w) (sym (words_after look)) look.told
 
-  -- and has seen them, with the first ones as the version tells
+  -- and has seen them, with the first ones as the version determines
   pub seen_now : Looked → (first : List ℕ) → IsHead head (found / 2) h first → HasSeen h n (resting found) first after
   seen_now look first is = let same = words_after look in record {
     last = found;

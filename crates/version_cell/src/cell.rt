@@ -18,7 +18,7 @@ use std::alloc::{AllocError, Global};
 use std::marker::Model;
 use std::sync::Wait;
 
-/// A cell of `N` words, which threads read and exchange as one. Its version tells the first `H` of them. Contracts see which cell it
+/// A cell of `N` words, which threads read and exchange as one. Its version determines the first `H` of them. Contracts see which cell it
 /// is.
 #[derive(Drop)]
 pub struct VersionCell<V, P: CellRule<V>, const H: usize, const N: usize> {
@@ -39,7 +39,7 @@ impl<V, P: CellRule<V>, const H: usize, const N: usize> Model for VersionCell<V,
 }
 
 impl<V, P: CellRule<V>, const H: usize, const N: usize> VersionCell<V, P, H, N> {
-    /// A cell with these words, whose code tells the first ones, and its first pass.
+    /// A cell with these words, whose code determines the first ones, and its first pass.
     ///
     /// # Errors
     ///
@@ -92,7 +92,7 @@ impl<V, P: CellRule<V>, const H: usize, const N: usize> VersionCell<V, P, H, N> 
         }
     }
 
-    /// Has the words of the pass be those of the cell. This is one load, of the version, which tells the first of them.
+    /// Has the words of the pass be those of the cell. This is one load, of the version, which determines the first of them.
     pub fn look_as<M: CellOutcome<V>>(&self, pass: &mut Pass<V, H, N>)
         requires cell { pass.old.cell ≡ self.now }
         requires rule { Turns P.holds pass.old.number pass.old.view (λ x. x) M.then }
@@ -108,7 +108,7 @@ impl<V, P: CellRule<V>, const H: usize, const N: usize> VersionCell<V, P, H, N> 
         }
     }
 
-    /// Loads the words at these places, which the version doesn't tell, and then looks. Whether the look found the very version of the
+    /// Loads the words at these places, which the version doesn't determine, and then looks. Whether the look found the very version of the
     /// words that the pass saw before: the words that were loaded are these then. Else another pass has changed the words, or is
     /// changing them, and what was loaded counts for nothing.
     pub fn load_as<M: CellOutcome<V>>(
@@ -157,10 +157,10 @@ impl<V, P: CellRule<V>, const H: usize, const N: usize> VersionCell<V, P, H, N> 
     /// Changes the words, each change putting a word at a place, where those of the pass are still those of the cell. Else it
     /// looks, and the words that it finds have come further. The code is that of the words after the changes.
     ///
-    /// Before that it loads the words at these places, which the version doesn't tell. Where the exchange is made, they are those
-    /// that stood there before it; else they count for nothing.
+    /// Before that it loads the words at these places, which the version doesn't determine. Where the exchange is made, they are those
+    /// that were there before it; else they count for nothing.
     ///
-    /// An exchange that is made waits for nobody, and is one step where the code tells all that is new. One that isn't may wait for a
+    /// An exchange that is made waits for nobody, and is one step where the code determines all that is new. One that isn't may wait for a
     /// pass that is changing the cell.
     pub fn exchange_as<E: CellOutcome<V>, M: CellOutcome<V>, R: Wait>(
         &self,
@@ -207,7 +207,7 @@ impl<V, P: CellRule<V>, const H: usize, const N: usize> VersionCell<V, P, H, N> 
         false
     }
 
-    /// Tells one pass what another has seen: it takes in a part that is cut off the other's view. Where the other's words have come
+    /// Hands one pass what another has seen: it takes in a part that is cut off the other's view. Where the other's words have come
     /// further, they are then its own. It looks at nothing, and waits for nobody.
     pub fn meet_as<S: Split<V> + Join<V>, M: CellOutcome<V>>(
         &self,

@@ -1,6 +1,6 @@
 //! A cell of words with a version: threads read the words as one and exchange them as one, under a rule of the caller's.
 //!
-//! A pass keeps the version of the words that it saw last, and the first of them, which that tells. So a look is one load. The other
+//! A pass keeps the version of the words that it saw last, and the first of them, which it determines. So a look is one load. The other
 //! words are loaded when they are needed.
 #![tactic(auto)]
 

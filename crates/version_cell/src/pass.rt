@@ -5,7 +5,7 @@ use crate::stage::Doing;
 use atomic_table::Seat;
 use std::marker::Model;
 
-/// What one thread knows of a cell of `N` words: the version of those that it saw last, and the first `H` of them, which that tells.
+/// What one thread knows of a cell of `N` words: the version of those that it saw last, and the first `H` of them, which it determines.
 /// Contracts see a `CellPass`, which has all the words.
 #[derive(Drop)]
 pub struct Pass<V, const H: usize, const N: usize> {

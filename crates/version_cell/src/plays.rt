@@ -1,4 +1,4 @@
-//! The rule of the table that a cell lies in, and what each step on it tells.
+//! The rule of the table that a cell lies in, and what each step on it shows.
 ghost use Rattle.version_cell.specs.inside.Steps.{later, looked, peeked, published, put, recalled, swapped, taken, tallied, watched};
 ghost use Rattle.version_cell.specs.inside.Versions.{doing};
 
@@ -42,14 +42,14 @@ impl<V> Play<(), Doing<V>> for Watch {
     ghost then = { watched };
 }
 
-/// A load of one of the words that the version doesn't tell.
+/// A load of one of the words that the version doesn't determine.
 pub(crate) struct Peek;
 
 impl<V> Play<(), Doing<V>> for Peek {
     ghost then = { peeked };
 }
 
-/// A load of nothing that counts: the caller's view is told something of the words that the seat saw last.
+/// A load of nothing that counts: the caller's view learns something of the words that the seat saw last.
 pub(crate) struct Recall<M> {
     of: PhantomData<M>,
 }
@@ -81,7 +81,7 @@ impl<V> Play<(), Doing<V>> for Put {
     ghost then = { put };
 }
 
-/// The version goes from the one that the seat has seen to that of other words, of which it tells all that are new.
+/// The version goes from the one that the seat has seen to that of other words, of which it determines all that are new.
 pub(crate) struct Swap<P, M, const H: usize> {
     of: PhantomData<(P, M)>,
 }

@@ -9,18 +9,18 @@ pub trait CellRule<V> {
     // The view of the first pass.
     ghost first: { V };
 
-    // The code of words. It tells the first of them, and each exchange raises it, so that words never come back.
+    // The code of words. It determines the first of them, and each exchange raises it, so that words never come back.
     ghost code: { List ℕ → ℕ };
 
-    // What a code tells of the word at a place.
+    // What a code says of the word at a place.
     ghost head: { ℕ → ℕ → ℕ };
 
-    /// What a code tells of the word at a place.
+    /// What a code says of the word at a place.
     fn word(told_by: u64, place: usize) -> u64
         ensures { result ≡ head told_by place };
 }
 
-/// What a call tells its pass: of its view before, the words before and after, and its view after.
+/// What a call shows its pass: of its view before, the words before and after, and its view after.
 pub trait CellOutcome<V> {
     ghost use Rattle.std.specs.Prelude.{ℕ, List};
 

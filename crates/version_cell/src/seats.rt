@@ -16,7 +16,7 @@ use atomic_table::{Seat, Shared};
 use crossbeam_utils::Backoff;
 use std::sync::Wait;
 
-/// Puts the words that a code tells.
+/// Puts the words that a code determines.
 pub(crate) fn put_head<V, P: CellRule<V>, const H: usize>(code: u64, head: &mut [u64; H])
     ensures { IsHead P.head code H head.new }
 {
@@ -25,7 +25,7 @@ pub(crate) fn put_head<V, P: CellRule<V>, const H: usize>(code: u64, head: &mut 
     }
 }
 
-/// Puts the version of the words that stand where this one was found, and the first of those words.
+/// Puts the version of the words that are where this one was found, and the first of those words.
 pub(crate) fn turn_to<V, P: CellRule<V>, const H: usize>(
     found: u64,
     version: &mut u64,
@@ -97,7 +97,7 @@ pub(crate) fn tally<V, P: CellRule<V>, const H: usize, const N: usize>(
     table.load::<Tally<P>>(seat, STILL);
 }
 
-/// Loads the words at these places, which the version doesn't tell.
+/// Loads the words at these places, which the version doesn't determine.
 pub(crate) fn load_each<V, P: CellRule<V>, const H: usize, const N: usize>(
     table: &Shared<(), Doing<V>, Vec<u64>, Versions<P, H>>,
     seat: &mut Seat<(), Doing<V>>,
@@ -115,7 +115,7 @@ pub(crate) fn load_each<V, P: CellRule<V>, const H: usize, const N: usize>(
     }
 }
 
-/// Loads the words at these places, which the version doesn't tell, and then makes the changes. Where they are made, nothing was changed
+/// Loads the words at these places, which the version doesn't determine, and makes the changes. Where they are made, nothing was changed
 /// since the seat saw the words, and those that were loaded are among them.
 pub(crate) fn load_and_exchange<
     M: CellOutcome<V>,
@@ -193,7 +193,7 @@ fn take<V, P: CellRule<V>, const H: usize, const N: usize>(
     table.compare_exchange::<Take>(seat, VERSION, version, version + 1) == version
 }
 
-/// Has the version go from that of the words that the seat has seen to the next, which tells all words that the changes make new.
+/// Has the version go from that of the words that the seat has seen to the next, which determines all words that the changes make new.
 fn swap<M: CellOutcome<V>, V, P: CellRule<V>, const H: usize, const N: usize>(
     table: &Shared<(), Doing<V>, Vec<u64>, Versions<P, H>>,
     seat: &mut Seat<(), Doing<V>>,
@@ -225,7 +225,7 @@ fn swap<M: CellOutcome<V>, V, P: CellRule<V>, const H: usize, const N: usize>(
     table.compare_exchange::<Swap<P, M, H>>(seat, VERSION, version, next) == version
 }
 
-/// Stores, in turn, the words of the changes that the version doesn't tell.
+/// Stores, in turn, the words of the changes that the version doesn't determine.
 fn write<V, P: CellRule<V>, const H: usize, const N: usize>(
     table: &Shared<(), Doing<V>, Vec<u64>, Versions<P, H>>,
     seat: &mut Seat<(), Doing<V>>,
@@ -246,7 +246,7 @@ fn write<V, P: CellRule<V>, const H: usize, const N: usize>(
     }
 }
 
-/// Stores a word in a cell that the seat has taken, where the version doesn't tell the word at that place.
+/// Stores a word in a cell that the seat has taken, where the version doesn't determine the word at that place.
 fn store_word<V, P: CellRule<V>, const H: usize, const N: usize>(
     table: &Shared<(), Doing<V>, Vec<u64>, Versions<P, H>>,
     seat: &mut Seat<(), Doing<V>>,

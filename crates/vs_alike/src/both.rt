@@ -128,7 +128,7 @@ impl<S: FrameStore> Both<S> {
         }
     }
 
-    /// Does an operation that is well formed at their depth on each: their answers are the same. Takes memory where it maps a
+    /// Does an operation that is well formed at their depth on each: their answers are the same. Allocates memory where it maps a
     /// page.
     ///
     /// # Errors

@@ -117,7 +117,7 @@ module _ {base taken given last : ℕ} {words : List (List ℕ)} {marks : List F
   pub length-given : length (given_back taken given last marks) ≡ given
   length-given = length-chain given last befores
 
-  -- a frame that was given back, by its place
+  -- a frame that was freed, by its place
   pub given_one : (k : ℕ) → k < given → IsGivenBack (take taken words) (uses_of_first taken marks) (get_or (given_back taken given last marks) k 0)
   given_one k below = lent.arena.given_back k (omega (arith, below, length-given))
 
@@ -162,7 +162,7 @@ module _ {base taken given last : ℕ} {words : List (List ℕ)} {marks : List F
   pub notes-noted : (index note : ℕ) → notes_of_first taken (set marks index (noted_mark marks index note)) ≡ set (notes_of_first taken marks) index note
   notes-noted index note = column-set note_in taken marks index (noted_mark marks index note)
 
-  -- as many frames are in use as were taken and not given back
+  -- as many frames are in use as were taken and not freed
   pub used_count : finite.len (marked_frames (uses_of_first taken marks) (take taken words)) + given ≡ taken
   used_count = omega (arith, lent.arena.counted, length-uses, length-given)
 
@@ -178,7 +178,7 @@ module _ {base taken given last : ℕ} {words : List (List ℕ)} {marks : List F
         last_below = lent.last_below;
       }
 
-  -- ---- a frame is given back
+  -- ---- a frame is freed
 
   pub room_to_give : {index : ℕ} → IsMarked (uses_of_first taken marks) (take taken words) index → given < taken
   room_to_give is_marked = omega (arith, room_for_one lent.arena is_marked, length-uses, length-given)
@@ -234,7 +234,7 @@ module _ {base taken given last : ℕ} {words : List (List ℕ)} {marks : List F
     pub notes-again : notes_of_first taken marked_again ≡ set (notes_of_first taken marks) index 0
     notes-again = column-set note_in taken marks index used_mark
 
-  -- one that was given back last
+  -- one that was freed last
   module _ (fewer : ℕ) (more : given ≡ fewer + 1) where
     abbrev pub rest : List ℕ
     rest = chain fewer (get_or befores last 0) befores

@@ -113,7 +113,7 @@ module _ {X : Type 0} where
     unfolding all_below
     marked-none xs = refl
 
--- the note of a frame in use stands at its index
+-- the note of a frame in use is at its index
 pub note_of-marked : (marks : List Bool) (notes : List ℕ) (index : ℕ) → get_or marks index false ≡ true
     → note_of (marked_notes marks notes) index ≡ get_or notes index 0
 note_of-marked marks notes index is_marked =

@@ -43,7 +43,7 @@ marked_within marks index is_marked = elim (cases_lt index (length marks)) as (�
   | inr le ↦ absurd (true≢false (sym is_marked ∙ get_or_past marks index false le))
 ]
 
--- a frame in use is marked, and its words stand at its index
+-- a frame in use is marked, and its words are at its index
 pub record IsMarked (marks : List Bool) (words : List (List ℕ)) (index : ℕ) : Type 0 where
   pub mark : get_or marks index false ≡ true
   pub in_marks : index < length marks
@@ -81,7 +81,7 @@ pub IsFree-past : (marks : List Bool) (words : List (List ℕ)) → IsFree (mark
 IsFree-past marks words = IsFree-from_mark marks words (length marks) (get_or_past marks (length marks) false (omega arith))
 
 module _ {base size : ℕ} {words : List (List ℕ)} {marks : List Bool} {notes free : List ℕ} (arena : IsArena base size words marks notes free) where
-  -- the frames that were given back aren't in use
+  -- the frames that were freed aren't in use
   pub apart : (index : ℕ) → get_or marks index false ≡ true → (k : ℕ) → k < length free → get_or free k 0 ≢ index
   apart index is_marked k below same =
       true≢false (sym is_marked ∙ sym (ap (λ i. get_or marks i false) same) ∙ (arena.given_back k below).unmarked)
@@ -89,7 +89,7 @@ module _ {base size : ℕ} {words : List (List ℕ)} {marks : List Bool} {notes 
   pub in_words : {index : ℕ} → IsMarked marks words index → index < length words
   in_words is_marked = omega (arith, is_marked.in_marks, arena.words_for_each)
 
-  -- there is room for one more that is given back
+  -- there is room for one more that is freed
   pub room_for_one : {index : ℕ} → IsMarked marks words index → length free < length marks
   room_for_one {index} is_marked = omega (arith, len-remove_used (marked_frames marks words) index _ is_marked.got, arena.counted)
 
@@ -127,7 +127,7 @@ module _ {base size : ℕ} {words : List (List ℕ)} {marks : List Bool} {notes 
     counted = arena.counted;
   }
 
-  -- ---- a frame is given back
+  -- ---- a frame is freed
 
   still_unmarked : (index i : ℕ) → index < length marks → get_or marks i false ≡ false → get_or (set marks index false) i false ≡ false
   still_unmarked index i in_marks unmarked = elim (cases_eq i index) as (λ _. get_or (set marks index false) i false ≡ false) [
@@ -183,7 +183,7 @@ module _ {base size : ℕ} {words : List (List ℕ)} {marks : List Bool} {notes 
             (omega (arith, one_less, one_more, arena.counted));
       }
 
-  -- ---- a frame is taken that was given back
+  -- ---- a frame is taken that was freed
 
   module _ (rest : List ℕ) (index : ℕ) (popped : free ≡ rest ++ index ∷ []) where
     one_more : length free ≡ length rest + 1

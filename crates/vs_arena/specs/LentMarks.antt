@@ -21,11 +21,11 @@ unfoldable pub chain : ℕ → ℕ → List ℕ → List ℕ
 chain zero last before = []
 chain (suc n) last before = chain n (slice_index before last) before ++ last ∷ []
 
--- the frames that were given back, so many, and this one last, by the marks of those that were ever taken
+-- the frames that were freed, so many, and this one last, by the marks of those that were ever taken
 abbrev pub given_back : ℕ → ℕ → ℕ → List FrameMark → List ℕ
 given_back taken given last marks = chain given last (column (λ mark. mark.before) taken marks)
 
--- lent words and marks, where so many frames, which come first, were ever taken, so many of these given back, and this one last, or any
+-- lent words and marks, where so many frames, which come first, were ever taken, so many of these freed, and this one last, or any
 -- where none was
 pub record IsLentArena (base taken given last : ℕ) (words : List (List ℕ)) (marks : List FrameMark) : Type 0 where
   pub arena : IsArena base (length words) (take taken words) (uses_of_first taken marks) (notes_of_first taken marks) (given_back taken given last marks)

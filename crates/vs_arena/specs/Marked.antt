@@ -36,14 +36,14 @@ marked_frames marks words = all_below (length marks) (marked [] marks words)
 abbrev pub marked_notes : List Bool → List ℕ → Notes
 marked_notes marks notes = all_below (length marks) (marked 0 marks notes)
 
--- a frame that was given back: it isn't in use, and its words are 0
+-- a frame that was freed: it isn't in use, and its words are 0
 pub record IsGivenBack (words : List (List ℕ)) (marks : List Bool) (index : ℕ) : Type 0 where
   pub within : index < length marks
   pub unmarked : slice_index_or marks index false ≡ false
   pub clear : slice_index_or words index [] ≡ zeros
 
 -- how an arena is laid out: of the frames that were ever taken, which come first, the words, a mark and the note of each,
--- and a list of those that were given back
+-- and a list of those that were freed
 pub record IsArena (base size : ℕ) (words : List (List ℕ)) (marks : List Bool) (notes free : List ℕ) : Type 0 where
   pub few_frames : size ≤ TABLES
   pub numbers_fit : base + size ≤ 2 ^ 40

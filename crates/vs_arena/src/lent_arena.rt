@@ -10,11 +10,11 @@ use crate::store::FrameStore;
 use std::marker::Model;
 use vs_types::FRAME_WORDS;
 
-/// A store of frames in memory that its caller lends. It takes no memory of its own, and gives all of it back as it ends, with the
-/// words that then stand there.
+/// A store of frames in memory that its caller lends. It allocates nothing, and returns all of it as it ends, with the
+/// words that then are there.
 ///
 /// Frame i is the i-th array of words: where the first lies at the physical address `base * 4096`, a processor reads what is
-/// written here. A frame is cleared as it is first taken, and after that as it is given back.
+/// written here. A frame is cleared as it is first taken, and after that as it is freed.
 #[derive(Debug, Drop)]
 pub struct LentArena<'a, 'b> {
     base: u64,
@@ -24,9 +24,9 @@ pub struct LentArena<'a, 'b> {
     marks: &'b mut [FrameMark],
     /// How many frames were ever taken. They have the first places.
     taken: usize,
-    /// How many of them were given back.
+    /// How many of them were freed.
     given: usize,
-    /// The index of the one that was given back last, where one was: it is taken next. Its mark names the one before it.
+    /// The index of the one that was freed last, where one was: it is taken next. Its mark names the one before it.
     last: u16,
 }
 
@@ -62,9 +62,9 @@ pub struct LentParts<'a, 'b> {
     pub marks: &'b mut [FrameMark],
     /// How many frames were ever taken.
     pub taken: usize,
-    /// How many of them were given back.
+    /// How many of them were freed.
     pub given: usize,
-    /// The index of the one that was given back last, where one was.
+    /// The index of the one that was freed last, where one was.
     pub last: u16,
 }
 

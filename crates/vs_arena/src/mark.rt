@@ -2,7 +2,7 @@
 #[repr(C)]
 #[derive(Clone, Copy, Debug, Default)]
 pub struct FrameMark {
-    /// `IN_USE`, or of a frame that was given back the one that was given back before it.
+    /// `IN_USE`, or of a frame that was freed the one that was freed before it.
     pub(crate) before: u16,
     /// The note of a frame that is in use.
     pub(crate) note: u16,

@@ -9,10 +9,10 @@ use std::alloc::Global;
 use std::marker::Model;
 use vs_types::{FRAME_WORDS, Memory};
 
-/// A store of frames that lie in one block of memory. `new` takes all its memory, 4,101 bytes a frame, and writes none of it.
+/// A store of frames that lie in one block of memory. `new` allocates all its memory, 4,101 bytes a frame, and writes none of it.
 ///
-/// The block is aligned to 8 bytes, as its words are. A frame is cleared as it is first taken, and after that as it is given
-/// back, when its words have often just been read.
+/// The block is aligned to 8 bytes, as its words are. A frame is cleared as it is first taken, and after that as it is freed,
+/// when its words have often just been read.
 pub struct RawArena {
     base: u64,
     /// How many frames there can be.
@@ -25,7 +25,7 @@ pub struct RawArena {
     marks: Vec<bool>,
     /// The note of each of them that is in use.
     notes: Vec<u16>,
-    /// Those that were given back. The last one is taken next.
+    /// Those that were freed. The last one is taken next.
     free: Vec<u16>,
 }
 

@@ -6,9 +6,9 @@ ghost use Rattle.vs_arena.specs.Store.{Store, Notes, Lenders, IsInUse, IsFree, w
 use crate::frame::Frame;
 use vs_types::FRAME_WORDS;
 
-/// Frames to be taken and given back. A store has up to 4,096 frames; frame i has the number `base + i`, below 2^40.
+/// Frames to be taken and freed. A store has up to 4,096 frames; frame i has the number `base + i`, below 2^40.
 ///
-/// No call takes memory or waits. Frames that a call doesn't name keep their words and their notes.
+/// No call allocates memory or waits. Frames that a call doesn't name keep their words and their notes.
 pub trait FrameStore {
     /// The frames in use, by index.
     ghost frames: { Self → Store };

@@ -10,7 +10,7 @@ use vs_types::{FRAME_WORDS, Memory};
 
 /// A store of frames that lie in one vector. `new` takes all its memory, 4,101 bytes a frame, and writes none of it.
 ///
-/// A frame is cleared as it is first taken, and after that as it is given back, when its words have often just been read.
+/// A frame is cleared as it is first taken, and after that as it is freed, when its words have often just been read.
 #[derive(Debug, Drop)]
 pub struct VecArena {
     base: u64,
@@ -22,7 +22,7 @@ pub struct VecArena {
     marks: Vec<bool>,
     /// The note of each of them that is in use.
     notes: Vec<u16>,
-    /// Those that were given back. The last one is taken next.
+    /// Those that were freed. The last one is taken next.
     free: Vec<u16>,
 }
 

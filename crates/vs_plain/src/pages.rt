@@ -9,7 +9,7 @@ use std::collections::btree_map::Iter;
 use std::marker::Model;
 use vs_types::Page;
 
-/// The pages of a space by rising base. It takes no memory. Contracts see the list of those that are left.
+/// The pages of a space by rising base. It allocates no memory. Contracts see the list of those that are left.
 #[derive(Drop)]
 pub struct Pages<'a> {
     entries: Iter<'a, u64, Mapping>,

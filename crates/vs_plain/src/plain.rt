@@ -44,7 +44,7 @@ impl Model for PlainSpace {
 }
 
 impl PlainSpace {
-    /// The space with no pages, under a limit of tables. It takes no memory.
+    /// The space with no pages, under a limit of tables. It allocates no memory.
     pub fn new(alloc: Global, tables: u16, depth: Depth) -> PlainSpace
         ensures { let empty : BoundedSpace =
             record { depth = depth; limit = tables; space = no_pages } in result ≡ empty }
@@ -71,7 +71,7 @@ impl PlainSpace {
         self.tables
     }
 
-    /// The pages, by rising base, one after another. Takes no memory.
+    /// The pages, by rising base, one after another. Allocates no memory.
     pub fn iter(&self) -> Pages<'_>
         ensures lists { result ≡ pages self.now.space }
         ensures rising { IsStrictlyIncreasing (map (λ page. page.base) result) }
@@ -80,7 +80,7 @@ impl PlainSpace {
         self.page_map.iter()
     }
 
-    /// A list of the pages, by rising base. Takes memory.
+    /// A list of the pages, by rising base. Allocates memory.
     ///
     /// # Errors
     ///
@@ -107,7 +107,7 @@ impl PlainSpace {
         }
     }
 
-    /// The translation of an address, or `NotMapped`. Takes no memory.
+    /// The translation of an address, or `NotMapped`. Allocates no memory.
     pub fn resolve(&self, address: u64) -> Answer
         ensures { result ≡ look self.now.space address }
     {
@@ -119,7 +119,7 @@ impl PlainSpace {
         }
     }
 
-    /// What an access of an address is answered: `Allowed` or `Fault`. Takes no memory.
+    /// What an access of an address is answered: `Allowed` or `Fault`. Allocates no memory.
     pub fn access(&self, address: u64, mode: Mode, access: Access) -> Answer
         ensures { result ≡ allow self.now.space address mode access }
     {
@@ -200,7 +200,7 @@ impl PlainSpace {
         }
     }
 
-    /// Does an operation that is well formed at the space's depth. Takes memory where it maps a page.
+    /// Does an operation that is well formed at the space's depth. Allocates memory where it maps a page.
     ///
     /// # Errors
     ///

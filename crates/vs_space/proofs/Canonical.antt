@@ -75,7 +75,7 @@ pub half_same : (depth : Depth) (a b : ℕ) → IsCanonical depth a → a / half
 half_same depth a b is same = (canonical_halves depth b).1
     (⊎_elim (λ low. inl (sym same ∙ low)) (λ high. inr (sym same ∙ high)) ((canonical_halves depth a).0 is))
 
--- the highest index of a canonical address tells all above
+-- the highest index of a canonical address determines all above
 pub top_same : (depth : Depth) (a b : ℕ) → IsCanonical depth a → IsCanonical depth b → index_at (levels depth) a ≡ index_at (levels depth) b
     → a / 2 ^ (12 + 9 * (levels depth - 1)) ≡ b / 2 ^ (12 + 9 * (levels depth - 1))
 top_same depth a b is_a is_b same =

@@ -164,7 +164,7 @@ module _ (depth : Depth) {m : Memory} {root level a n : ℕ} (here : IsTreeAt (l
         (place_or_not q j n (index_at level a));
   }
 
-  -- a frame of zeros on the path, below that entry, is given back too
+  -- a frame of zeros on the path, below that entry, is freed too
   module _ (below : ℕ) {f : ℕ} (down : table_at (levels depth) m root below a ≡ Some f) (clear : finite.get m f ≡ Some zeros) where
     unlinked_as : (q j : ℕ) → q ≢ f → word_at (finite.remove (after_write here 0) f) q j ≡ word_at (after_write here 0) q j
     unlinked_as q j other = word_alike (after_write here 0) _ q j (get-remove_other (after_write here 0) f q other)

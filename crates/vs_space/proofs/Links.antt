@@ -163,7 +163,7 @@ module _ {top : ℕ} {m : Memory} {root : ℕ} (tree : IsTree top m root) (f : �
   pub found_take : (j b q : ℕ) → table_at top m root j b ≡ Some q → found_at j with_frame q b ≡ found_at j m q b
   found_take j b q r = found_alike j m with_frame q b (taken_alike j b q r)
 
--- ---- the entry that leads to a table is cleared, and the frame given back
+-- ---- the entry that leads to a table is cleared, and the frame freed
 
 module _ {top : ℕ} {m : Memory} {root level a n : ℕ} (here : IsTreeAt top m root level a n) {below f : ℕ} (one : level ≡ suc below)
     (down : table_at top m root below a ≡ Some f) where

@@ -61,7 +61,7 @@ adds_taken m f = record {
       (cases_eq q f);
 }
 
--- a frame is given back
+-- a frame is freed
 pub adds_given : (m : Memory) (f : ℕ) → AddsNoFlags m (finite.remove m f)
 adds_given m f = record {
   stood = λ q j word got flagged. ⊎_elim

@@ -1,4 +1,4 @@
--- Tables under which nothing is mapped are given back, one by one.
+-- Tables under which nothing is mapped are freed, one by one.
 use Rattle.std.proofs.Common.{◌≡◌, ◌≢◌, ℕ, suc, ◌+◌, ◌-◌, ◌*◌, ◌/◌, ◌%◌, ◌^◌, ◌<◌, ◌≤◌, List, Option, Some, None, ⊎_elim, refl, sym, ap, subst, ◌∙◌, arith}
 use lib.Pow.{shr-shr, shl-shr}
 use Rattle.std.proofs.lemmas.Nat.{div-mul-add, mod-mul-add}
@@ -105,7 +105,7 @@ absent_under depth {m} {root} tree base level n some at absent = λ b canonical 
 under_longer : (depth : Depth) (m : Memory) (root base j level : ℕ) → level ≤ j → NothingUnder depth m root j base → NothingUnder depth m root level base
 under_longer depth m root base j level le nothing = λ b canonical same. nothing b canonical (λ i from to. same i (omega arith) to)
 
--- the tables on the path of the address, while they are given back
+-- the tables on the path of the address, while they are freed
 pub record IsPruning (depth : Depth) (old m : Memory) (root base from level : ℕ) (path : List ℕ) : Type 0 where
   pub cut : IsCut depth m root base level path
   pub walks : (b : ℕ) → IsCanonical depth b → walk depth m root b ≡ walk depth old root b
@@ -205,7 +205,7 @@ module _ {depth : Depth} {m : Memory} {root base level : ℕ} {path : List ℕ} 
         let one : level ≡ level + 1 = (cut.tree.once level (level + 1) base base (slice_index path level) here.at (above_here ∙ ap Some (sym same))).0 in
         omega (arith, one)
 
-  -- ---- a table whose entries are all absent is given back
+  -- ---- a table whose entries are all absent is freed
 
   module _ (below : level < levels depth) (clear : finite.get m (slice_index path level) ≡ Some zeros) where
     one : level + 1 ≡ suc level

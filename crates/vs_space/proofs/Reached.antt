@@ -32,7 +32,7 @@ used_before m n i w q used now = ⊎_elim
     (λ (other : q ≢ n). subst IsSome (get_written_other m n i w q other) now)
     (cases_eq q n)
 
--- what is in use once a frame is given back isn't that frame
+-- what is in use once a frame is freed isn't that frame
 not_given : (m : Memory) (f q : ℕ) → IsSome (finite.get (finite.remove m f) q) → q ≢ f
 not_given m f q now same =
     let none : IsSome {T = List ℕ} None = subst IsSome (ap (finite.get (finite.remove m f)) same ∙ get-remove_same m f) now in
@@ -47,7 +47,7 @@ module _ {top : ℕ} {m : Memory} {root level a n : ℕ} (here : IsTreeAt top m 
   pub whole_write : AreWhole (after_write here w)
   whole_write = whole_written m n (index_at level a) w (used_at here) here.whole
 
-  -- a path that doesn't go on past the entry stands
+  -- a path that doesn't go on past the entry is
   stands_off : (j b q : ℕ) → (SamePath top level a b → j < level → ⊥) → table_at top m root j b ≡ Some q
       → table_at top (after_write here w) root j b ≡ Some q
   stands_off j b q off reached = ⊎_elim
@@ -58,7 +58,7 @@ module _ {top : ℕ} {m : Memory} {root level a n : ℕ} (here : IsTreeAt top m 
       (λ apart. table_off_path here w b j apart ∙ reached)
       (same_or_not top level a b)
 
-  -- where the entry led to no table, each path stands
+  -- where the entry led to no table, each path is
   module _ (ended : table_in (found_at level m n a) ≡ None) where
     ended_at : (b j : ℕ) → SamePath top level a b → j < level → table_at top m root j b ≡ None
     ended_at b j same past =
@@ -102,7 +102,7 @@ reached_link {top} {m} {root} {level} {a} {n} {w} {f} {below} tree free link wri
       (cases_eq q f);
 }
 
--- ---- the entry that leads to a table that leads to none is cleared, and the frame given back
+-- ---- the entry that leads to a table that leads to none is cleared, and the frame freed
 
 pub reached_unlink : {top : ℕ} {m : Memory} {root level a n below f : ℕ} (here : IsTreeAt top m root level a n) (one : level ≡ suc below)
     (down : table_at top m root below a ≡ Some f) → ((b j : ℕ) → SamePath top level a b → j < below → table_at top m root j b ≡ None)

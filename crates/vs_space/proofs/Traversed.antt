@@ -57,7 +57,7 @@ not_twice n (x ∷ before) after once is = ⊎_elim
     (λ later. not_twice n before after once.1 later)
     (Contains-cases x before n is)
 
--- what is met at each word reaches no frame twice, and a frame tells at which word it is reached
+-- what is met at each word reaches no frame twice, and a frame determines at which word it is reached
 words_once : (f : ℕ × ℕ → List Visit) (IsAt : ℕ → ℕ → Type 0) (words : List ℕ) (from : ℕ)
     → ((i j n : ℕ) → IsAt i n → IsAt j n → i ≡ j)
     → ((k : ℕ) → k < length words → Once (reached (f (from + k, get_or words k 0))))
@@ -115,7 +115,7 @@ found_in level m n a index words means is at says =
     ap (λ (o : Option (List ℕ)). option_map (meaning level) (option_map (λ words. slice_index words (index_at level a)) o)) is
     ∙ ap (λ i. Some (meaning level (slice_index words i))) at ∙ ap Some says
 
--- the table to which an entry leads stands above level 0
+-- the table to which an entry leads is above level 0
 above_zero : (level word number : ℕ) (own : Rights) → meaning (suc level) word ≡ entry.Table number own → 0 < level
 above_zero zero word number own says = absurd (no_table_below word number own says)
 above_zero (suc level) word number own says = omega arith

@@ -93,7 +93,7 @@ module _ {t : PageTable} (table : IsPageTable t) {base level phys : ℕ} {path :
   pruned_here {before} {m'} {index} {top} {up} is at top_is pruned = subst (λ r. IsPruned t.depth cut.memory m' r base level up) top_is
       (subst (λ (n : Memory). IsPruned t.depth n m' top base level up) (is ∙ ap (λ i. with_word t.memory (slice_index path level) i 0) at) pruned)
 
-  -- ---- the tables after what is left empty was given back
+  -- ---- the tables after what is left empty was freed
 
   module _ {m' : Memory} {up : ℕ} (pruned : IsPruned t.depth cut.memory m' t.root base level up) (aligned : base % 4096 ≡ 0)
       {size : Size} (size_is : size ≡ size_at level) {bytes : ℕ} (are : bytes ≡ bytes_of size) (begins : base % bytes ≡ 0) where

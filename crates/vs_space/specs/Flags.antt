@@ -8,7 +8,7 @@ use Rattle.vs_arena.specs.Store.{Store}
 use Rattle.vs_walk.specs.Memory.{Memory}
 use Rattle.vs_space.specs.Held.{word_at}
 
--- the two flags of a word, as they stand in it
+-- the two flags of a word, as they are in it
 abbrev pub flags_in : ℕ → ℕ
 flags_in word = bit_at word 5 * 2 ^ 5 + bit_at word 6 * 2 ^ 6
 
@@ -23,6 +23,6 @@ pub record AreSameButFlags (old new : Store) : Type 0 where
   pub words : (frame : ℕ) (before after : List ℕ) → finite.get old frame ≡ Some before → finite.get new frame ≡ Some after
       → AllZip IsSameButFlags before after
 
--- each word that has one of the two flags stood so before: none was given a flag
+-- each word that has one of the two flags had it before: none was given a flag
 pub record AddsNoFlags (old new : Memory) : Type 0 where
   pub stood : (number index word : ℕ) → word_at new number index ≡ Some word → flags_in word ≢ 0 → word_at old number index ≡ Some word

@@ -219,7 +219,7 @@ impl<S: FrameStore> Space<S> {
         }
     }
 
-    /// Does what `resolve` does, where the descent ended at this level. Its code stands once for each level that has pages, so
+    /// Does what `resolve` does, where the descent ended at this level. Its code is there once for each level that has pages, so
     /// that their size is a constant there.
     #[inline(always)]
     fn resolve_at(&self, level: u8, descent: &Descent, address: u64) -> Answer

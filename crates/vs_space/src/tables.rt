@@ -220,7 +220,7 @@ impl<S: FrameStore> Tables<S> {
         }
     }
 
-    /// Does what `descend` does. Its code stands once for each depth, so that the level of each step is a constant there.
+    /// Does what `descend` does. Its code is there once for each depth, so that the level of each step is a constant there.
     #[inline(always)]
     fn descend_all(&self, depth: Depth, root: u64, address: u64, lowest: u8) -> Descent
         requires tree { IsTree (levels depth) self.now.memory root }
@@ -289,7 +289,7 @@ impl<S: FrameStore> Tables<S> {
         self.store.note(frame_of(&self.store, number)) == 0
     }
 
-    /// Gives back the tables on the path of an address, from this level up, that have no entry that is present, and
+    /// Frees the tables on the path of an address, from this level up, that have no entry that is present, and
     /// clears what led to them. Answers the level at which it stops.
     #[inline(always)]
     pub(crate) fn prune(

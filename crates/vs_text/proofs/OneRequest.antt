@@ -11,7 +11,7 @@ use Rattle.vs_text.specs.declared.name.Name.{Name}
 use Rattle.vs_text.specs.declared.name.Name.TheVariants as names
 use Rattle.vs_text.proofs.ByName.{access_kind, map_kind, protect_kind, resolve_kind, unmap_kind, Kind}
 
--- the number that the letters of a word make, which tells words apart
+-- the number that the letters of a word make, which says words apart
 abbrev pub word_number : List ℕ → ℕ
 word_number word = fold (λ number letter. number * 256 + letter) 0 word
 

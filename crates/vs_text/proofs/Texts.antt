@@ -20,7 +20,7 @@ only_text [] d one = absurd (omega arith)
 only_text (word ∷ []) d one = refl
 only_text (word ∷ next ∷ words) d one = absurd (omega arith)
 
--- an address that stands alone
+-- an address that is alone
 pub found_alone : (words : List (Bor (List ℕ))) (d : Bor (List ℕ)) (found : Option ℕ) → length words ≡ 1
     → Finds (SpellsAddress (get_or words 0 d).now) found → Finds (SpellsOne (texts words)) found
 found_alone words d None one none = λ address spelled.

@@ -6,7 +6,7 @@ use crate::page::{mark, size_text};
 use std::alloc::{AllocError, Global};
 use vs_types::{Action, Query, Request};
 
-/// A request as `parse_request` reads it, with one space between its words. Takes memory for the text.
+/// A request as `parse_request` reads it, with one space between its words. Allocates memory for the text.
 #[tactic(auto, unfolding(crate::specs::Requests::request_text))]
 pub fn request_text(alloc: Global, request: Request) -> Result<String, AllocError>
     ensures { IfOk result (λ text. string_bytes text ≡ request_text request) }

@@ -1,4 +1,4 @@
--- Which accesses are allowed by what two sets of rights have in common, and what a fault's code tells.
+-- Which accesses are allowed by what two sets of rights have in common, and what a fault's code says.
 use Rattle.std.proofs.Common.{◌≡◌, ℕ, ◌/◌, ◌%◌, zero, suc, Bool, true, false, ◌&&◌, IsTrue, ◌↔◌, refl, ap, sym, ◌∙◌}
 use Rattle.vs_types.specs.Access.{allows, fault_code}
 use Rattle.vs_types.specs.Page.{intersection}
@@ -24,7 +24,7 @@ both_allow a b User Read = pairs a.user b.user true true
 both_allow a b User Write = pairs a.user b.user a.write b.write
 both_allow a b User Fetch = pairs a.user b.user a.exec b.exec
 
--- what a code tells, bit by bit
+-- what a code says, bit by bit
 is_one : ℕ → Bool
 is_one zero = false
 is_one (suc n) = true

@@ -16,7 +16,7 @@ use Rattle.vs_types.proofs.Pages.{same_page, covers_base}
 use Rattle.vs_types.proofs.Spaces.{page_at_means, page_at_after_insert, page_at_after_remove, get_inserted, get_insert_other, look_of_none}
 use Rattle.vs_types.proofs.Steps.{map_cases, unmap_cases, protect_cases, alone, protect_space, step_space}
 
--- what the new space has at an address tells how it looks
+-- what the new space has at an address determines how it looks
 looks_changed : (page : Page) (inside : ℕ → Answer) (there : Option Page) (before after : Space)
     → ((address : ℕ) → page_at after address ≡ cond (covers page address) there (page_at before address))
     → ((address : ℕ) → page_at after address ≡ there → look after address ≡ inside address) → LooksChanged page inside before after

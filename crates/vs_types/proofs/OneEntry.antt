@@ -1,4 +1,4 @@
--- Words tell the entry that they spell; so they spell one entry at most.
+-- Words determine the entry that they spell; so they spell one entry at most.
 use Rattle.std.proofs.Common.{◌≡◌, ℕ, ◌/◌, ◌^◌, Bool, true, false, List, get_or, refl, ap, subst, sym, ◌∙◌}
 use Rattle.vs_types.specs.Codes.{size_code, rights_code}
 use Rattle.vs_types.specs.Fields.{request_fields}
@@ -48,19 +48,19 @@ entry_at : (words : List ℕ) → entry_in words ≡ record { call = get_or word
 unfolding entry_in
 entry_at words = refl
 
--- the operation that words tell is that of the entry that they spell
+-- the operation that words determine is that of the entry that they spell
 pub told_op : (depth : Depth) (words : List ℕ) (entry : LogEntry) → SpellsEntry depth words entry
     → action_of (fields_at (get_or words 0 0) (get_or words 1 0)) ≡ entry.op
 told_op depth words entry is = ap action_of (finds_again depth words entry is).fields.fields_are ∙ action_back entry.op
 
--- words tell the entry that they spell
+-- words determine the entry that they spell
 pub tells_it : (depth : Depth) (words : List ℕ) (entry : LogEntry) → SpellsEntry depth words entry → entry_in words ≡ entry
 tells_it depth words entry is =
     let call = (finds_again depth words entry is).call in
     let op = told_op depth words entry is in
     entry_at words ∙ (λ i. record { call = call i; op = op i })
 
--- the words of an entry spell what they tell
+-- the words of an entry spell what they determine
 pub spells_told : (depth : Depth) (words : List ℕ) (entry : LogEntry) → IsLogEntry depth entry → words ≡ log_words entry
     → SpellsEntry depth words (entry_in words)
 spells_told depth words entry is are =

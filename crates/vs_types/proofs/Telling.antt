@@ -1,4 +1,4 @@
--- What words tell, as it is computed.
+-- What words determine, as it is computed.
 use Rattle.std.proofs.Common.{◌≡◌, ◌≤◌, ℕ, zero, suc, nat_eq, not, ap, refl, arith}
 use Rattle.std.proofs.Math.Dec.{eqb-suc-zero}
 use Rattle.vs_types.specs.inside.Telling.{action_in, is_one, rights_in, size_in}

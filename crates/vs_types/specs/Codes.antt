@@ -1,4 +1,4 @@
--- The number that stands for each kind of request, size, set of rights, mode, access and answer.
+-- The number that represents each kind of request, size, set of rights, mode, access and answer.
 use Rattle.std.specs.Prelude.{ℕ, ◌+◌, if◌then◌else◌}
 use Rattle.vs_types.specs.declared.page.Size.{Size}
 use Rattle.vs_types.specs.declared.page.Size.TheVariants.{K4, M2, G1}

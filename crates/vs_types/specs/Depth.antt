@@ -9,7 +9,7 @@ abbrev pub levels : Depth → ℕ
 levels Four = 4
 levels Five = 5
 
--- what one entry of a table of this level stands for, in bytes
+-- what one entry of a table of this level represents, in bytes
 abbrev pub entry_bytes : ℕ → ℕ
 entry_bytes level = 2 ^ (3 + 9 * level)
 

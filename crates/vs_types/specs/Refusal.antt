@@ -1,4 +1,4 @@
--- Why a call that takes memory gave no answer.
+-- Why a call that allocates gave no answer.
 use Rattle.std.specs.Prelude.{⊤}
 use Rattle.vs_types.specs.declared.refusal.Fail.{Fail}
 use Rattle.vs_types.specs.declared.refusal.Fail.TheVariants.{Memory, Refused}

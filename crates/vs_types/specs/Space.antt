@@ -1,4 +1,4 @@
--- Spaces: finite sets of pages, no two of which cover one address. Each page stands under its base, so a space is a
+-- Spaces: finite sets of pages, no two of which cover one address. Each page is under its base, so a space is a
 -- finite map, and two spaces with the same pages are equal.
 use Rattle.std.specs.Prelude.{◌≡◌, ℕ, suc, zero, ◌+◌, ◌-◌, ◌/◌, nat_eq, nat_lt, List, [], ◌∷◌, map, filter, find, Option, Some, None, IsTrue, min}
 use Rattle.std.specs.Set.{distinct_count}

@@ -1,4 +1,4 @@
-//! The numbers that stand for sizes, rights, modes, accesses and answers, and what a number stands for.
+//! The numbers that represent sizes, rights, modes, accesses and answers, and what a number means.
 
 ghost use Rattle.std.specs.Prelude.{◌≡◌, ◌<◌};
 ghost use Rattle.vs_types.specs.Codes.{access_code, answer_code, mode_code, rights_code, size_code};

@@ -60,7 +60,7 @@ pub fn gigabyte_page()
         → look_after depth 4096 one_gigabyte 0x40001234 ≡ Mapped 0x40001234 G1 write_only }
 {}
 
-/// With a limit of three tables, a map that needs a fourth names four; one that overlaps is told so first.
+/// With a limit of three tables, a map that needs a fourth names four; one that overlaps is answered so first.
 pub fn full_names_its_need()
     ensures answers { answers Four 3 past_three_tables ≡ Done ∷ Full 4 ∷ Overlap 0x200000 ∷ [] }
     ensures tables { tables_after Four 3 past_three_tables ≡ 3 }
@@ -84,7 +84,7 @@ pub fn protect_changes_rights()
         → look_after depth 4096 other_rights 0x1000 ≡ Mapped 0x5000 K4 user_and_exec }
 {}
 
-/// An access needs the right that it asks for, and in user mode the user right; a supervisor's read needs none. A fault's code tells
+/// An access needs the right that it asks for, and in user mode the user right; a supervisor's read needs none. A fault's code says
 /// whether a page covers the address, and what the access was. After a protect the new rights hold.
 pub fn accesses_ask_for_rights()
     ensures answers { (depth : Depth)

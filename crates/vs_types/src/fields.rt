@@ -80,7 +80,7 @@ impl Request {
         }
     }
 
-    /// The request at this depth that has the fields. `None` where the kind is above 4, a code stands for nothing, a field that the
+    /// The request at this depth that has the fields. `None` where the kind is above 4, a code means nothing, a field that the
     /// kind does not use is not 0, or the request is not well formed.
     pub fn of_fields(depth: Depth, fields: RequestFields) -> Option<Request>
         ensures { Finds (HasFields depth fields) result }

@@ -1,6 +1,6 @@
 //! The words of an address space: pages, operations, requests and answers, and what a page-table entry means.
 //!
-//! Numbers are bytes unless a name says otherwise. No call of this crate takes memory or waits.
+//! Numbers are bytes unless a name says otherwise. No call of this crate allocates memory or waits.
 #![tactic(auto)]
 
 mod access;

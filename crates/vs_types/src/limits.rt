@@ -21,5 +21,5 @@ pub const LOG_PLACES: u32 = 65_536;
 /// The events of a run. A call is numbered by its event, so its number is below it.
 pub const CALLS: u32 = 131_072;
 
-/// The places of the ring in which the log's entries stand, and so the most updates of a batch.
+/// The places of the ring in which the log's entries are, and so the most updates of a batch.
 pub const RING: usize = 16;

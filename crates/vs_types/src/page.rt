@@ -29,7 +29,7 @@ pub struct Page {
     pub base: u64,
     pub size: Size,
     pub rights: Rights,
-    /// The physical address to which the first address is translated. It stands last: the small fields of the other cases of
+    /// The physical address to which the first address is translated. It comes last: the small fields of the other cases of
     /// an `Action` then share no bytes with it, and it is copied as one word.
     pub phys: u64,
 }

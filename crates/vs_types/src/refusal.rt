@@ -29,7 +29,7 @@ impl<T: Drop> From<AllocFailed<T>> for Memory {
     }
 }
 
-/// Why a call that takes memory gave no answer.
+/// Why a call that allocates gave no answer.
 #[derive(Clone, Copy, Debug, PartialEq, Eq)]
 pub enum Fail<E> {
     /// A growth of memory was refused. It may come before any other refusal.

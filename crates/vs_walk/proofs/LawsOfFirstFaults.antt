@@ -15,7 +15,7 @@ use Rattle.vs_walk.specs.declared.walk.WalkFault.TheVariants.{Missing, Shared, R
 
 -- ---- no fault
 
--- what a visit is that nothing is wrong with, wherever it stands
+-- what a visit is that nothing is wrong with, wherever it is
 abbrev pub IsFine : Memory → Visit → Type 0
 IsFine memory (OfFrame number) = IsTrue (finite.contains_key memory number)
 IsFine memory (OfLeaf page) = ⊤

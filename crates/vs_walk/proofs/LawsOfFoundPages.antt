@@ -62,7 +62,7 @@ place_below level table index number own placed = record {
     regroup : (start times whole bytes index : ℕ) → start ≡ times * whole → whole ≡ 512 * bytes → start + index * bytes ≡ (times * 512 + index) * bytes
     regroup start times whole bytes index at is = let here : start ≡ times * (512 * bytes) = at ∙ ap (λ n. times * n) is in omega arith
 
--- what is found at an entry lies in what the entry stands for
+-- what is found at an entry lies in what the entry represents
 abbrev pub EntryLies : Depth → ℕ → ReachedTable → ℕ → Visit → Type 0
 EntryLies depth level table index = OfFound (LiesIn depth (table.start + index * entry_bytes (suc level))
     (table.start + index * entry_bytes (suc level) + entry_bytes (suc level)))
@@ -160,7 +160,7 @@ table_in depth memory whole (suc level) table placed =
           (λ next. table_in depth memory whole level next) refl))))
     ] refl
 
--- what is found at an entry lies in what it stands for
+-- what is found at an entry lies in what it represents
 pub word_in : (depth : Depth) (memory : Memory) → AreWhole memory → (level : ℕ) (table : ReachedTable) (index word : ℕ) → IsPlaced (suc level) table
     → All (EntryLies depth level table index) (at_word_met depth memory level table (index, word))
 word_in depth memory whole level table index word placed =

@@ -86,7 +86,7 @@ module _ {X : Type 0} (f : ℕ × ℕ → List X) where
       (Contains-append_cases (f (from, word)) (flat_map f (enumerate_from (from + 1) words)) x is)
 
 module _ {X Y : Type 0} (f : ℕ × ℕ → List X) (g : X → Option Y) (test : Y → Bool) where
-  -- where nothing that passes stands at any word
+  -- where nothing that passes is at any word
   pub find_nowhere : (words : List ℕ) (from : ℕ) → ((k word : ℕ) → from ≤ k → find test (filter_map g (f (k, word))) ≡ None)
       → find test (filter_map g (flat_map f (enumerate_from from words))) ≡ None
   find_nowhere [] from none = refl
@@ -95,7 +95,7 @@ module _ {X Y : Type 0} (f : ℕ × ℕ → List X) (g : X → Option Y) (test :
       ∙ find_right test (filter_map g (f (from, word))) (filter_map g (flat_map f (enumerate_from (from + 1) words))) (none from word (omega arith))
       ∙ find_nowhere words (from + 1) (λ k word low. none k word (omega arith))
 
-  -- where what passes can stand at one word alone
+  -- where what passes can be at one word alone
   pub find_at_word : (words : List ℕ) (from index : ℕ) → ((k word : ℕ) → k ≢ from + index → find test (filter_map g (f (k, word))) ≡ None)
       → find test (filter_map g (f (from + index, 0))) ≡ None → find test (filter_map g (flat_map f (enumerate_from from words))) ≡ find test
       (filter_map g (f (from + index, get_or words index 0)))

@@ -147,7 +147,7 @@ all_at_keys (e ∷ es) s =
     ap (λ b. cond b (Some e.1) (entries.find nat_cmp (get_or es k d).0 es))
     (same_key (get_or es k d).0 e.0 ∙ ne_eqb (get_or es k d).0 e.0 (λ same. omega arith)) ∙ at)
 
--- pages that stand under their bases rise where their keys do
+-- pages that are under their bases rise where their keys do
 rise_by_keys : (es : List (ℕ × Page)) → T (entries.is_sorted nat_cmp es) → All (λ e. e.1.base ≡ e.0) es → Rise (map (λ e. e.1) es)
 rise_by_keys [] s keyed = all_pairs_nil (λ p q. p.base < q.base)
 rise_by_keys (e ∷ es) s keyed =

@@ -128,7 +128,7 @@ leaf_walk depth level table index rest word phys address own placed means small 
     offset : (base rest address : ℕ) → address ≡ base + rest → rest ≡ address - base
     offset base rest address at = omega arith
 
--- that the walk from each table of a level is what is found in it, at the addresses whose bits stand in the table
+-- that the walk from each table of a level is what is found in it, at the addresses whose bits are in the table
 abbrev pub WalkIsFound : Depth → Memory → ℕ → Type 0
 WalkIsFound depth memory level = (table : ReachedTable) (address offset above : ℕ) → IsPlaced level table → offset < table_bytes level
     → address ≡ above * table_bytes level + offset → address ≡ canonical_from depth (table.start + offset)

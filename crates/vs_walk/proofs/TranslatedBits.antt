@@ -174,7 +174,7 @@ table_is_entries level = ap (λ e. 2 ^ e) (parts level) ∙ pow-add 2 9 (3 + 9 *
 pub entry_some : (level : ℕ) → 0 < entry_bytes level
 entry_some level = pow_pos (3 + 9 * level)
 
--- where an offset into a table stands: the entry's index, and the offset into what the entry stands for
+-- where an offset into a table is: the entry's index, and the offset into what the entry represents
 pub record StandsAt (bytes address offset : ℕ) : Type 0 where
   pub index : ℕ
   pub rest : ℕ
@@ -208,7 +208,7 @@ stands bytes address offset above some lt is =
 
 -- ---- leaves
 
--- the bytes of a leaf's page are those that its entry stands for
+-- the bytes of a leaf's page are those that its entry represents
 pub leaf_bytes : (level word phys : ℕ) (own : Rights) → meaning (suc level) word ≡ entry.Leaf phys own
     → bytes_of (size_at (suc level)) ≡ entry_bytes (suc level)
 leaf_bytes level word phys own is = small level (leaf_level (suc level) word phys own is).0 where

@@ -1,4 +1,4 @@
--- Where the entries of a table stand.
+-- Where the entries of a table are.
 use Rattle.std.proofs.Common.{◌≡◌, ℕ, zero, suc, ◌+◌, ◌-◌, ◌*◌, ◌^◌, ◌<◌, ◌≤◌, ◌%◌, sym, ap, subst, ◌∙◌, arith, w64, Fits as Fits-word}
 use lib.Pow.{pow_mono}
 use Rattle.vs_types.specs.Depth.{levels, entry_bytes, table_bytes, half_bytes}

@@ -158,7 +158,7 @@ pub refused_at : {E : Type 0} {P Q : E → Type 0} (fail : Fail E) → ((fault :
 refused_at fails.Memory to is = tt
 refused_at (fails.Refused fault) to is = to fault is
 
--- what is met up to a word and then at it, where only zeros stand between it and the next one
+-- what is met up to a word and then at it, where only zeros are between it and the next one
 pub goes_to_next : (depth : Depth) (memory : Memory) (level : ℕ) (table : ReachedTable) (words : List ℕ) (index next : ℕ) (a b c : List ℕ) (ms : List Visit)
     → index < length words → met_up_to depth memory level table words next ≡ met_up_to depth memory level table words (index + 1)
     → met_at depth memory level table (index, get_or words index 0) ≡ ms → GoesOn memory a b (met_up_to depth memory level table words index)

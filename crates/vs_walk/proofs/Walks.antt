@@ -65,11 +65,11 @@ pub entry_met : (memory : Memory) (level number index word : ℕ) (rights : Righ
 entry_met memory level number index word rights address words found some is place read means =
     stands_at memory level number rights address words found some is (sym (means ∙ ap (meaning level) (read ∙ ap (slice_index words) place)))
 
--- where a leaf can stand, and where its page lies
+-- where a leaf can be, and where its page lies
 pub leaf_level : (level word phys : ℕ) (own : Rights) → meaning level word ≡ entry.Leaf phys own → (level ≤ 3) × (phys < 2 ^ 52)
 leaf_level level word phys own is = grind arith
 
--- no entry of a level where a leaf can stand is above 2^30 bytes
+-- no entry of a level where a leaf can be is above 2^30 bytes
 small_entries : (level : ℕ) → level ≤ 3 → (0 < entry_bytes level) × (entry_bytes level ≤ 2 ^ 30)
 small_entries zero few = (omega arith, omega arith)
 small_entries (suc zero) few = (omega arith, omega arith)

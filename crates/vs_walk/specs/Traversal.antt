@@ -30,7 +30,7 @@ pub data Visit : Type 0 where
 abbrev pub canonical_from : Depth → ℕ → ℕ
 canonical_from depth bits = if nat_lt bits (half_bytes depth) then bits else bits + (2 ^ 64 - 2 * half_bytes depth)
 
--- where a table stands: its frame, the translated bits at which it begins, and what the entries above it allow
+-- where a table is: its frame, the translated bits at which it begins, and what the entries above it allow
 pub record ReachedTable : Type 0 where
   pub number : ℕ
   pub start : ℕ

@@ -11,7 +11,7 @@ use std::alloc::Global;
 use std::marker::Model;
 use vs_types::{FRAME_WORDS, Memory};
 
-/// That words of this type are below 2^64. It does nothing: a call that reads the words tells it.
+/// That words of this type are below 2^64. It does nothing: a call that reads the words shows it.
 fn are_words(words: &[u64])
     ensures { All (λ word. word < 2 ^ 64) words.now }
 {
@@ -56,7 +56,7 @@ impl Model for Dump {
 
 impl Dump {
     /// A dump with no frames yet, of a table whose root is the frame of this number, after `applied` entries of the
-    /// log. It takes no memory.
+    /// log. It allocates no memory.
     pub fn new(alloc: Global, applied: u32, root: u64) -> Dump
         ensures made { result ≡ record { applied = applied; root = root; frames = finite.empty } }
         ensures numbers { finite.keys result.frames ≡ [] }
@@ -71,7 +71,7 @@ impl Dump {
         }
     }
 
-    /// Adds a frame, whose number is above those of all that are held and below 2^40. It takes memory where there is no
+    /// Adds a frame, whose number is above those of all that are held and below 2^40. It allocates memory where there is no
     /// room for a frame more.
     ///
     /// # Errors
@@ -120,7 +120,7 @@ impl Dump {
         Ok(())
     }
 
-    /// Makes room for exactly so many more frames, where it has no room for one. It takes memory for them: 4,128 bytes
+    /// Makes room for exactly so many more frames, where it has no room for one. It allocates memory for them: 4,128 bytes
     /// for each.
     ///
     /// # Errors
@@ -139,7 +139,7 @@ impl Dump {
     }
 
     /// The dump with one frame more coming, of which there is no word yet. The number is above those of all that are held
-    /// and below 2^40. It takes memory where there is no room for a frame more, and gives the dump up where that is refused;
+    /// and below 2^40. It allocates memory where there is no room for a frame more, and gives the dump up where that is refused;
     /// after `make_room` there is room.
     ///
     /// # Errors
@@ -222,7 +222,7 @@ impl Frames for Dump {
     }
 }
 
-/// Adds so many zeros and a word. It takes no memory.
+/// Adds so many zeros and a word. It allocates no memory.
 fn push_after_zeros(words: &mut Vec<u64>, zeros: usize, word: u64)
     requires { vec_len words.old + zeros < vec_capacity words.old }
     ensures items { words.new.items ≡ words.old.items ++ (replicate zeros 0 ++ word ∷ []) }
@@ -286,7 +286,7 @@ impl OpenDump {
         self.before + (self.words.len() - self.start) + self.zeros
     }
 
-    /// Adds the next word of the frame. It takes no memory.
+    /// Adds the next word of the frame. It allocates no memory.
     pub fn push(&mut self, word: u64)
         requires { length self.old.coming < FRAME_WORDS }
         ensures { self.new ≡ record self.old { coming = self.old.coming ++ word ∷ [] } }
@@ -305,7 +305,7 @@ impl OpenDump {
         self.zeros = 0;
     }
 
-    /// The dump with the frame, whose words have all come. It takes no memory and copies no word.
+    /// The dump with the frame, whose words have all come. It allocates no memory and copies no word.
     pub fn end_frame(self) -> Dump
         requires { length self.coming ≡ FRAME_WORDS }
         ensures made { result

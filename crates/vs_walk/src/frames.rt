@@ -9,7 +9,7 @@ pub trait Frames {
     /// The frames that there are.
     ghost memory: { Self → Memory };
 
-    /// The words of a frame, or `None` where there is no such frame. It takes no memory.
+    /// The words of a frame, or `None` where there is no such frame. It allocates no memory.
     fn words(&self, number: u64) -> Option<FrameWords<'_>>
         ensures { result ≡ finite.get (memory self.now) number };
 }

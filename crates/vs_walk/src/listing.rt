@@ -16,7 +16,7 @@ use crate::walk::WalkFault;
 use std::alloc::Global;
 use vs_types::{Depth, Fail};
 
-/// All pages that the table in the frame of number `root` maps, and the frames that are reached from there. Takes
+/// All pages that the table in the frame of number `root` maps, and the frames that are reached from there. Allocates
 /// memory for both.
 ///
 /// # Errors

@@ -27,7 +27,7 @@ impl Model for Pages {
 }
 
 impl Pages {
-    /// No pages. It takes no memory.
+    /// No pages. It allocates no memory.
     pub(crate) fn new(alloc: Global) -> Pages
         ensures { result ≡ [] }
     {

@@ -78,7 +78,7 @@ impl Marks {
         }
     }
 
-    /// Adds a frame, and answers whether it is new. Takes memory.
+    /// Adds a frame, and answers whether it is new. Allocates memory.
     pub(crate) fn add(&mut self, number: u64) -> Result<bool, Memory>
         ensures new { IfOk result (λ new. IsTrue (not new) ↔ Contains self.old number) }
         ensures added { IfOk result (λ _. AreJust self.new (number ∷ self.old)) }
@@ -86,7 +86,7 @@ impl Marks {
         Ok(self.numbers.insert(number)?)
     }
 
-    /// All of them, by rising number. Takes memory.
+    /// All of them, by rising number. Allocates memory.
     pub(crate) fn list(self) -> Result<Reached, Memory>
         ensures { IfOk result (λ reached. reached ≡ self) }
     {

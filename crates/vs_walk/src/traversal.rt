@@ -20,14 +20,14 @@ pub trait PageVisitor {
     /// It has taken these pages, in this order.
     ghost HasTaken: { Self → List Page → Type 0 };
 
-    /// Takes the next page. It may take memory.
+    /// Takes the next page. It may allocate memory.
     fn take(&mut self, page: Page) -> Result<(), Memory>
         ensures { IfOk result
             (λ _. (pages : List Page) → HasTaken self.old pages
             → HasTaken self.new (pages ++ page ∷ [])) };
 }
 
-/// Where a table stands: its level, its frame, the translated bits at which it begins, and what the entries above it
+/// Where a table is: its level, its frame, the translated bits at which it begins, and what the entries above it
 /// allow.
 #[derive(Clone, Copy)]
 struct TablePosition {
@@ -140,7 +140,7 @@ fn go_through<F: Frames, V: PageVisitor>(
 
 /// Goes once through all tables from the root on: each table's words by index, the table below an entry before the next
 /// entry. The visitor takes each page as it is found, by rising base, with the rights that all levels allow; its answer
-/// on memory ends the traversal. Takes memory for the numbers of the frames that are reached.
+/// on memory ends the traversal. Allocates memory for the numbers of the frames that are reached.
 ///
 /// # Errors
 ///

@@ -29,7 +29,7 @@ pub enum WalkFault {
     Reserved(u64, u16),
 }
 
-/// Where the walk of a canonical address ends that begins at the table in the frame of number `root`. It takes no
+/// Where the walk of a canonical address ends that begins at the table in the frame of number `root`. It allocates no
 /// memory.
 pub fn translate<F: Frames>(frames: &F, root: u64, depth: Depth, address: u64) -> Walk
     requires { IsCanonical depth address }

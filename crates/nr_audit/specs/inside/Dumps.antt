@@ -12,7 +12,7 @@ use Rattle.nr_trace.specs.declared.fault.Fault.{Fault}
 use Rattle.nr_trace.specs.declared.fault.Fault.TheVariants.{MissingFrame, SharedFrame, ReservedBit, StrayFrame, Differs}
 use Rattle.nr_audit.specs.Verdict.{space_of}
 
--- the fault of a dump, told of its replica
+-- the fault of a dump, with its replica
 abbrev pub at_replica : ℕ → DumpFault → Fault
 at_replica replica (dumps.MissingFrame number) = MissingFrame replica number
 at_replica replica (dumps.SharedFrame number) = SharedFrame replica number
@@ -43,7 +43,7 @@ pub record AreCompared (trace : Recording) (space : BoundedSpace) (applied end :
   pub kept : (replica : ℕ) (dump : Image) → slice_get trace.dumps replica ≡ Some dump → (end ≤ replica) ⊎ (dump.applied ≢ applied)
       → slice_index_or new replica None ≡ slice_index_or old replica None
 
--- a call that stands at a place of the log passes it, with the dumps that have applied so much compared; another call passes none
+-- a call that is at a place of the log passes it, with the dumps that have applied so much compared; another call passes none
 pub record HasPassed (trace : Recording) (space : BoundedSpace) (place call next : ℕ) (old new : List (Option DumpFault)) : Type 0 where
   pub placed : slice_get trace.log place ≡ Some call → (next ≡ place + 1) × AreCompared trace space place (length trace.dumps) old new
   pub other : (slice_get trace.log place ≢ Some call) → (next ≡ place) × (new ≡ old)

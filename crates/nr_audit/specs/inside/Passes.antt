@@ -1,4 +1,4 @@
--- The faults by the pass that looks for them, and where in that pass they stand. No public clause cites this file.
+-- The faults by the pass that looks for them, and where in that pass they are. No public clause cites this file.
 use Rattle.std.specs.Prelude.{◌≡◌, ℕ, ⊤}
 use Rattle.nr_trace.specs.declared.fault.Fault.{Fault}
 use Rattle.nr_trace.specs.declared.fault.Fault.TheVariants.{ThreadOpen, NoSuchCall, AnsweredTwice, NotAnUpdate, PlacedTwice, NotPlaced, PastLog, Early}

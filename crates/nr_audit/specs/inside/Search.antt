@@ -32,7 +32,7 @@ abbrev pub Finds : (ℕ → Type 0) → Option ℕ → Type 0
 Finds P None = (number : ℕ) → P number → ⊥
 Finds P (Some number) = P number
 
--- the first call that stands too early, or none below an index
+-- the first call that comes too early, or none below an index
 abbrev pub FindsEarly : Recording → ℕ → Option ℕ → Type 0
 FindsEarly trace index None = (lower : ℕ) → lower < index → HasNone (IsFloorFaultAt lower) trace
 FindsEarly trace index (Some call) = IsFirstAmong IsFloorFault trace (Early call)

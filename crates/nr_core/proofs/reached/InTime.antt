@@ -1,4 +1,4 @@
--- No call stands too early.
+-- No call comes too early.
 use Rattle.std.proofs.Common.{◌≡◌, ℕ, zero, suc, ◌≤◌, inl, inr, List, Option, Some, None, refl, ap, sym, ◌∙◌, subst, arith, add-one}
 use Rattle.vs_types.specs.declared.log_entry.LogEntry.{LogEntry}
 use Rattle.vs_walk.specs.Dump.{Image}

@@ -45,7 +45,7 @@ record KeepsLocks (before after : State) : Type 0 where
   of_threads : (t : ℕ) → lock_at after.threads t ≡ lock_at before.threads t
   of_replicas : (r : ℕ) → holder_at after.replicas r ≡ holder_at before.replicas r
 
--- an element that has the same lock as the one in whose place it stands
+-- an element that has the same lock as the one in whose place it is
 same_lock : {X : Type 0} (f : X → Option ℕ) (xs : List X) (i : ℕ) (x y : X) → At xs i x → f y ≡ f x → (j : ℕ)
     → option_and_then f (slice_get (slice_set xs i y) j) ≡ option_and_then f (slice_get xs j)
 same_lock f xs i x y at same j = by_index (cases_eq j i) where

@@ -48,7 +48,7 @@ at_in [] x e = absurd e
 at_in (z ∷ xs) x (inl e) = (0, ap Some e)
 at_in (z ∷ xs) x (inr h) = let (i, e) = at_in xs x h in (suc i, e)
 
--- an element of a longer list stands in its front, or is one of those appended
+-- an element of a longer list is in its front, or is one of those appended
 pub at_either : {X : Type 0} (xs ys : List X) (i : ℕ) (x : X) → At (xs ++ ys) i x → At xs i x ⊎ ((length xs ≤ i) × In x ys)
 at_either [] ys i x e = inr (omega arith, in_at ys i x e)
 at_either (z ∷ xs) ys zero x e = inl e

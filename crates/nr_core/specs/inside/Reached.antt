@@ -40,7 +40,7 @@ RepliesTo events index call = (reply : Response) × (reply_at events index ≡ S
 abbrev pub made_of : Layout → ℕ → Query → Invocation
 made_of layout t request = record { replica = t % layout.replicas; thread = t; request = request }
 
--- how many entries are known by an answer that stands at a place: up to the update's own, or those that the read saw
+-- how many entries are known by an answer that is at a place: up to the update's own, or those that the read saw
 abbrev pub reach : Query → ℕ → ℕ
 reach request at = option_map_or (λ action. at + 1) (operation_in request) at
 
@@ -106,11 +106,11 @@ IsUnanswered events t call = (made : Invocation) × (call_at events call ≡ Som
 abbrev pub HasOpen : List Thread → ℕ → ℕ → Type 0
 HasOpen threads t call = (thread : Thread) × At threads t thread × (open_in thread.stage ≡ Some call)
 
--- the call does not stand in the log
+-- the call isn't in the log
 abbrev pub IsFresh : List LogEntry → ℕ → Type 0
 IsFresh log call = In call (calls_of log) → ⊥
 
--- an update in the batch of replica r: of a thread of r, whose call is taken; its answer, if one is noted, is right; and it stands
+-- an update in the batch of replica r: of a thread of r, whose call is taken; its answer, if one is noted, is right; and it is
 -- in the log only if the batch does
 pub record IsCollected (layout : Layout) (events : List Event) (log : List LogEntry) (completed : ℕ) (replicas : List Replica) (threads : List Thread) (r : ℕ)
     (placed : Bool) (update : Collected) : Type 0 where
@@ -159,11 +159,11 @@ pub record IsReached (state : State) : Type 0 where
   -- what the stage of a thread says of its open call is so
   pub threads : (t : ℕ) (thread : Thread) → At state.threads t thread
       → FitsStage state.layout state.events state.log state.completed state.replicas t thread.stage
-  -- a call that no combiner has taken does not stand in the log
+  -- a call that no combiner has taken isn't in the log
   pub waiting : (t : ℕ) (thread : Thread) (call : ℕ) → At state.threads t thread → waiting_in thread.stage ≡ Some call → IsFresh state.log call
-  -- each entry of the log is the call of an update, and stands behind all that was known when that was made
+  -- each entry of the log is the call of an update, and comes after all that was known when that was made
   pub entries : AreEntries state.events state.log
-  -- no call stands at two places of the log
+  -- no call is at two places of the log
   pub distinct : IsDistinct nat_eq (calls_of state.log)
   -- the log has all that is completed
   pub completed : state.completed ≤ length state.log
@@ -171,5 +171,5 @@ pub record IsReached (state : State) : Type 0 where
   pub replicas : (r : ℕ) (replica : Replica) → At state.replicas r replica → IsReplicaOf state.layout state.log state.completed replica
   -- each update of a batch is taken from a thread of that replica, and the answer that is noted for it is right
   pub collected : AreCollected state.layout state.events state.log state.completed state.replicas state.threads
-  -- no call stands twice in a batch
+  -- no call is twice in a batch
   pub batches : (r : ℕ) (replica : Replica) → At state.replicas r replica → IsDistinct nat_eq (map (λ update. update.entry.call) replica.batch)

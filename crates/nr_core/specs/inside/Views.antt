@@ -62,6 +62,6 @@ pub record MayApply (state : State) (r : ℕ) (entry : LogEntry) : Type 0 where
   pub fits : IsAction state.layout.depth entry.op
   pub in_range : replica.applied < LOG_PLACES
 
--- the entry stands at this place
+-- the entry is at this place
 abbrev pub IsEntry : State → ℕ → LogEntry → Type 0
 IsEntry state place entry = (slice_get state.log place ≡ Some entry) × IsAction state.layout.depth entry.op × (place < LOG_PLACES)

@@ -46,7 +46,7 @@ impl Core {
         true
     }
 
-    /// The answer stands in the slot, or the thread has read: the reply is recorded, and no call is open.
+    /// The answer is in the slot, or the thread has read: the reply is recorded, and no call is open.
     pub(crate) fn reply(&mut self, thread: u16) -> Result<bool, Memory>
         ensures { MatchResult result
             (λ done. IsStepped self.old (steps.reply self.old thread) done self.new)

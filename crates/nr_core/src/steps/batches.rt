@@ -72,7 +72,7 @@ impl Core {
         }
     }
 
-    /// The batch, which is not empty nor placed, stands at the log's end, where there is room.
+    /// The batch, which is not empty nor placed, is at the log's end, where there is room.
     pub(crate) fn append(&mut self, thread: u16) -> Result<bool, Memory>
         ensures { MatchResult result
             (λ done. IsStepped self.old (steps.append self.old thread) done self.new)
@@ -115,7 +115,7 @@ impl Core {
         n <= LOG_PLACES as usize - tail && keep_up(&self.replicas, tail + n)
     }
 
-    /// The entries of a replica's batch stand at the log's end.
+    /// The entries of a replica's batch are at the log's end.
     fn extend_log(&mut self, replica: u8) -> Result<(), Memory>
         requires there { IsSome (slice_get self.old.replicas replica) }
         requires room { (there : states.Replica) → slice_get self.old.replicas replica ≡ Some there
@@ -162,7 +162,7 @@ impl Core {
         }
     }
 
-    /// An answer that is noted for the update of `to` stands in its slot, and the update leaves the batch.
+    /// An answer that is noted for the update of `to` is in its slot, and the update leaves the batch.
     pub(crate) fn answer(&mut self, thread: u16, to: u16) -> bool
         ensures { IsStepped self.old (steps.answer self.old thread to) result self.new }
     {

@@ -66,7 +66,7 @@ impl Core {
         Ok(())
     }
 
-    /// The update of the open call stands in the slot.
+    /// The update of the open call is in the slot.
     pub(crate) fn post(&mut self, thread: u16) -> bool
         ensures { IsStepped self.old (steps.post self.old thread) result self.new }
     {

@@ -26,8 +26,8 @@ AreTaken pages left (Some base) taken =
 abbrev pub mark : Page
 mark = record { base = 1; size = K4; phys = 0; rights = all_rights }
 
--- a visitor is told what it has taken, and not with which space it compares: so the list begins with the pages of the
--- space, up to the mark, and those that were taken stand after it
+-- a visitor knows what it has taken, and not with which space it compares: so the list begins with the pages of the
+-- space, up to the mark, and those that were taken come after it
 abbrev pub HasCompared : List Page → Option ℕ → List Page → Type 0
 HasCompared left difference told =
     (pages taken : List Page) × (told ≡ pages ++ mark ∷ taken) × (Contains pages mark → ⊥) × AreTaken pages left difference taken

@@ -145,12 +145,12 @@ IsRun (Place place) lengths bytes = AreUnits 4 place lengths.places bytes
 IsRun (Event index) lengths bytes = AreUnits 24 index lengths.events bytes
 IsRun unit lengths bytes = bytes ≡ size unit
 
--- this many events stand before the one of the fault, where it is one of the run, and else before the last
+-- this many events come before the one of the fault, where it is one of the run, and else before the last
 abbrev pub IsWhich : Format → ℕ → ℕ → ℕ → Type 0
 IsWhich fault index count before =
     ((bad : ℕ) → bad < count → fault ≡ BadEvent (index + bad) → before ≡ bad) × (fault ≡ Truncated → before + 1 ≡ count)
 
--- in the refused run the unit stands after so many bytes, and shows the fault
+-- in the refused run the unit comes after so many bytes, and shows the fault
 pub record IsBadIn (front run : List ℕ) (fault : Format) (unit : TraceUnit) (before : ℕ) : Type 0 where
   pub goes_on : GoesOn (front ++ take before run) unit
   pub no_fault_yet : HasNoFaultYet (front ++ take before run)

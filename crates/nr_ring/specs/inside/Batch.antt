@@ -24,7 +24,7 @@ Explains log n LogEnded = IsEnded log n
 Explains log n (Full tails) = (tails ≡ tails_of log) × HasRoom log n × IsFull log n
 Explains log n (Moved tails) = (tails ≡ tails_of log) × HasRoom log n × AllKeepUp log n
 
--- the first n entries of a batch stand in the words, at their places from one on, and all else is as before
+-- the first n entries of a batch are in the words, at their places from one on, and all else is as before
 pub record IsWritten (place n : ℕ) (batch : List LogEntry) (before after : List ℕ) : Type 0 where
   pub long : length after ≡ CELL_WORDS
   pub head_stays : (word : ℕ) → word < RING_WORDS → slice_index after word ≡ slice_index before word

@@ -1,4 +1,4 @@
--- The code of the words of the cell: one number that tells the tails, and that each event raises.
+-- The code of the words of the cell: one number that determines the tails, and that each event raises.
 use Rattle.std.specs.Prelude.{ℕ, zero, suc, ◌+◌, ◌-◌, ◌*◌, ◌/◌, ◌%◌, ◌^◌, max, Bool, nat_le, if◌then◌else◌, List, [], ◌∷◌, length, slice_index}
 use Rattle.nr_ring.specs.LogHistory.{Log, tail, local_of}
 use Rattle.vs_types.specs.declared.limits.TheConstants.{RING}
@@ -25,11 +25,11 @@ code_in words = code_of (slice_index words TAIL_WORD) (locals_in words) (slice_i
 abbrev pub code_of_log : Log → ℕ
 code_of_log log = code_of (tail log) (local_of log 0 ∷ local_of log 1 ∷ local_of log 2 ∷ local_of log 3 ∷ []) (length log.locals)
 
--- the local tail of a replica that a code tells, of which the room stands at this unit
+-- the local tail of a replica that a code determines, of which the room is at this unit
 abbrev pub local_in : ℕ → ℕ → ℕ → ℕ
 local_in code replica unit = if nat_le (replica + 1) (code % 8) then code / 2 ^ 23 + code / unit % 32 - RING else 0
 
--- the word at a place that a code tells: the tail, the completed tail, the local tails, and the number of replicas
+-- the word at a place that a code determines: the tail, the completed tail, the local tails, and the number of replicas
 abbrev pub word_in : ℕ → ℕ → ℕ
 word_in code zero = code / 2 ^ 23
 word_in code (suc zero) = max (local_in code 0 (2 ^ 18)) (max (local_in code 1 (2 ^ 13)) (max (local_in code 2 (2 ^ 8)) (local_in code 3 (2 ^ 3))))

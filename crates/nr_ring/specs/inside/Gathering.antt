@@ -8,7 +8,7 @@ abbrev pub lacks : List ℕ → ℕ → Bool
 lacks [] number = true
 lacks (other ∷ others) number = not (other == number) && lacks others number
 
--- no replica stands in both lists
+-- no replica is in both lists
 abbrev pub are_apart : List ℕ → List ℕ → Bool
 are_apart owned [] = true
 are_apart owned (replica ∷ given) = lacks owned replica && are_apart owned given

@@ -29,7 +29,7 @@ pub record IsHeadOf (log : Log) (words : List ℕ) : Type 0 where
   pub replicas_are : slice_index words COUNT_WORD ≡ length log.locals
 
 -- the words are those of the log after all that the pass has seen, among which are the events that it made; it begins with all that it
--- was told; and the pass has one right to make events
+-- was given; and the pass has one right to make events
 pub record Remembers (depth : Depth) (replicas : ℕ) (words : List ℕ) (replica : Option ℕ) (view : View) : Type 0 where
   pub few : replicas ≤ REPLICAS
   pub is_history : IsLogHistory depth replicas view.seen
@@ -61,7 +61,7 @@ abbrev pub rest_of : ℕ → Option ℕ → List ℕ
 rest_of replicas None = []
 rest_of replicas (Some replica) = range_with_len (replica + 1) (replicas - (replica + 1))
 
--- what a try to make an event tells: the pass made it, or it looked and another pass's event has come
+-- what a try to make an event shows: the pass made it, or it looked and another pass's event has come
 abbrev pub MadeOrMoved : Depth → ℕ → LogEvent → View → View → Bool → Type 0
 MadeOrMoved depth replicas event before after made =
     MatchBool made (after ≡ with_event before event) (HasLooked depth replicas before after × HasMoved before after)

@@ -37,7 +37,7 @@ abbrev pub notes_of : Layout → ℕ → MadeCall → List Stamped
 notes_of layout thread call =
     stamped call.number (call_by layout thread call.request) ∷ reply_notes call.number call.replied call.said
 
--- what came of a call is true of a log: an update stands at its place, with its call's number; a read saw no more entries than there
+-- what came of a call is true of a log: an update is at its place, with its call's number; a read saw no more entries than there
 -- are; and the answer is what the address space gives there
 abbrev pub IsTrueOf : Layout → Log → ℕ → Query → Said → Type 0
 IsTrueOf layout log number request Stopped = ⊤

@@ -43,7 +43,7 @@ fn is_next(last: Option<u64>, number: u64) -> bool
     }
 }
 
-/// The dump with a frame of this number coming, where so many frames are left. It takes memory for its frames.
+/// The dump with a frame of this number coming, where so many frames are left. It allocates memory for its frames.
 fn begin_frame(opened: Opened, number: u64) -> Result<OpenFrame, Memory>
     requires above { AreBelow opened number }
     requires in_range { number < 2 ^ 40 }
@@ -76,7 +76,7 @@ pub(crate) fn take_frame_number(
     Err(Fail::Refused(Format::BadFrame(replica, index)))
 }
 
-/// The frame is whole, and so is its dump where it was the last one, which then goes to the others. It takes memory for
+/// The frame is whole, and so is its dump where it was the last one, which then goes to the others. It allocates memory for
 /// the list of dumps.
 fn end_frame(mut parts: Parts, frame: OpenFrame) -> Result<Reader, Memory>
     requires opened { IsOpened parts (opened_of frame) }

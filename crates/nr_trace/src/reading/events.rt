@@ -96,7 +96,7 @@ pub(crate) fn take_header(
     }
 }
 
-/// Adds the calls that the bytes spell to the log. It takes memory where there is no room for them.
+/// Adds the calls that the bytes spell to the log. It allocates memory where there is no room for them.
 fn push_places(log: &mut Vec<u32>, bytes: &[u8]) -> Result<(), Memory>
     requires { (n : ℕ) × (length bytes.now ≡ 4 * n) }
     ensures { OnOk result (ArePlaced log.old.items bytes.now log.new.items) }
@@ -126,7 +126,7 @@ pub(crate) fn take_places(
     Ok(at_log(parts, places - count as u32, events))
 }
 
-/// Adds the events that the bytes spell, up to the first 24 bytes that spell none. It takes memory where there is no room
+/// Adds the events that the bytes spell, up to the first 24 bytes that spell none. It allocates memory where there is no room
 /// for them.
 fn push_events(
     version: Version,

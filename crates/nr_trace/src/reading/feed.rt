@@ -101,7 +101,7 @@ impl Model for Feed {
 }
 
 impl Feed {
-    /// A feed that nothing was given yet. It takes no memory.
+    /// A feed that nothing was given yet. It allocates no memory.
     pub fn new(alloc: Global) -> Feed
         ensures { result ≡ Taken [] }
     {
@@ -110,12 +110,12 @@ impl Feed {
         }
     }
 
-    /// Takes the next piece. A feed that has refused answers the same from then on. It takes memory for what the whole
+    /// Takes the next piece. A feed that has refused answers the same from then on. It allocates memory for what the whole
     /// units say, 4,096 bytes for the words of a dump's next frame, and for the beginning of one unit, fewer than 24 bytes.
     ///
     /// # Errors
     ///
-    /// The first fault of the bytes so far, as soon as a whole unit has one, or a byte stands after the last unit: no later
+    /// The first fault of the bytes so far, as soon as a whole unit has one, or a byte comes after the last unit: no later
     /// piece can mend it. A unit that has only begun is not looked into. And `Memory` where a growth of memory was refused.
     pub fn feed(&mut self, piece: &[u8]) -> Result<(), Fail<Format>>
         ensures { Feeds self.old piece.now self.new result }
@@ -137,7 +137,7 @@ impl Feed {
         }
     }
 
-    /// The trace that the pieces spell one after the other. It takes no memory.
+    /// The trace that the pieces spell one after the other. It allocates no memory.
     ///
     /// # Errors
     ///

@@ -72,7 +72,7 @@ impl Reader {
     ghost use Rattle.nr_trace.specs.FirstFault.{HasFormatFault};
     ghost use Rattle.nr_trace.specs.inside.Progress.{unit_bytes, said, HasRead, IsReady, IsRun, Takes};
 
-    /// A reader at the beginning of a trace. It takes no memory.
+    /// A reader at the beginning of a trace. It allocates no memory.
     pub(crate) fn new(alloc: Global) -> Reader
         ensures { HasRead [] HasFormatFault result }
     {
@@ -119,7 +119,7 @@ impl Reader {
         }
     }
 
-    /// Takes the next run. It takes memory for what it says. A refusal is the fault of any bytes that begin with what
+    /// Takes the next run. It allocates memory for what it says. A refusal is the fault of any bytes that begin with what
     /// was taken so far and this run.
     pub(crate) fn take_run(self, run: &[u8]) -> Result<Reader, Fail<Format>>
         requires ready { IsReady self }

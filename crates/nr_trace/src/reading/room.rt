@@ -14,7 +14,7 @@ pub(crate) fn room_step(held: usize, needed: usize, promised: usize) -> usize
     max(needed, min(max(held, 64), promised))
 }
 
-/// Makes room for so many more elements, and for no more than are promised. It takes memory where there is no room.
+/// Makes room for so many more elements, and for no more than are promised. It allocates memory where there is no room.
 pub(crate) fn make_room<T>(items: &mut Vec<T>, needed: usize, promised: usize) -> Result<(), Memory>
     ensures same { items.new.items ≡ items.old.items }
     ensures enough { OnOk result (vec_len items.new + needed ≤ vec_capacity items.new) }

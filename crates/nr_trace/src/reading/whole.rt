@@ -12,7 +12,7 @@ use crate::trace::Trace;
 use std::alloc::Global;
 use vs_types::Fail;
 
-/// The trace that the bytes spell. It takes memory for the trace, at most about the length of the bytes.
+/// The trace that the bytes spell. It allocates memory for the trace, at most about the length of the bytes.
 ///
 /// # Errors
 ///

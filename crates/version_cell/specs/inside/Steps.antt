@@ -1,4 +1,4 @@
--- What each step on the table of a cell tells its seat.
+-- What each step on the table of a cell shows its seat.
 use Rattle.std.specs.Prelude.{◌≡◌, ◌≢◌, ◌⊎◌, ℕ, ◌+◌, ◌-◌, ◌*◌, ◌/◌, ◌<◌, ◌≤◌, if◌then◌else◌, nat_le, List, length, slice_index, slice_set}
 use Rattle.atomic_table.specs.Seated.{TableId}
 use Rattle.atomic_table.specs.Table.{Me, Step}
@@ -11,7 +11,7 @@ use Rattle.version_cell.specs.declared.stage.Doing.{Doing}
 use Rattle.version_cell.specs.declared.stage.Stage.{Stage}
 use Rattle.version_cell.specs.declared.stage.Stage.TheVariants.{Seen, Writing}
 
--- the version of the words while this one stands: at an odd one, while a seat writes, they are still those of before
+-- the version of the words while this one is: at an odd one, while a seat writes, they are still those of before
 abbrev pub resting : ℕ → ℕ
 resting found = 2 * (found / 2)
 
@@ -24,7 +24,7 @@ abbrev pub GrewTo : (List ℕ → ℕ) → Stage → ℕ → List ℕ → Type 0
 GrewTo code (Seen at last x) found x' = (last ≤ found) × IsLater code at x (resting found) x'
 GrewTo code _ found x' = Unit {0}
 
--- the version was loaded: the seat has seen the words, of which the version tells the first
+-- the version was loaded: the seat has seen the words, of which the version determines the first
 pub record IsLook {V : Type 0} (code : List ℕ → ℕ) (head : ℕ → ℕ → ℕ) (h n : ℕ) (tells : V → List ℕ → List ℕ → V → Type 0)
     (found : ℕ) (v w : V) (before after : Stage) : Type 0 where
   pub words : List ℕ
@@ -77,7 +77,7 @@ abbrev pub Taken : ℕ → ℕ → Stage → Stage → Type 0
 Taken next found (Seen at last x) after = (found ≡ at → (after ≡ Writing next x x) × (last ≤ at)) × (found ≢ at → after ≡ Seen at last x)
 Taken next found before after = Unit {0}
 
--- the version was to go from the one seen to that of words of which it tells all that are new
+-- the version was to go from the one seen to that of words of which it determines all that are new
 abbrev pub Swapped : {V : Type 0} → (ℕ → ℕ → ℕ) → ℕ → (V → List ℕ → List ℕ → V → Type 0) → ℕ → ℕ → V → V → Stage → Stage → Type 0
 Swapped head h tells next found v w (Seen at last x) after =
     (found ≡ at → (y : List ℕ) × HasHead head (next / 2) h x y × (after ≡ Seen next next y) × tells v x y w × (last ≤ at))
@@ -88,7 +88,7 @@ abbrev pub Written : ℕ → ℕ → Stage → Stage → Type 0
 Written i word (Writing at old now) after = after ≡ Writing at old (slice_set now i word)
 Written i word before after = Unit {0}
 
--- the version became that of words that were written, of which it tells the first
+-- the version became that of words that were written, of which it determines the first
 abbrev pub Published : {V : Type 0} → (ℕ → ℕ → ℕ) → ℕ → (V → List ℕ → List ℕ → V → Type 0) → ℕ → V → V → Stage → Stage → Type 0
 Published head h tells version v w (Writing at old now) after =
     (y : List ℕ) × HasHead head (version / 2) h now y × (after ≡ Seen version version y) × tells v old y w
@@ -133,7 +133,7 @@ module _ {V : Type 0} where
   abbrev pub peeked : Step (Unit {0}) → Sat V → ℕ → Sat V → Type 0
   peeked st m found m' = IsSameView m m' × Peeked (st.word - WORDS) found m.0.stage m'.0.stage
 
-  -- nothing was looked at: the caller's view is told something of the words that the seat saw last
+  -- nothing was looked at: the caller's view learns something of the words that the seat saw last
   abbrev pub recalled : (V → List ℕ → List ℕ → V → Type 0) → Step (Unit {0}) → Sat V → ℕ → Sat V → Type 0
   recalled tells st m found m' = (m'.0.stage ≡ m.0.stage) × tells m.0.client (words_of m.0.stage) (words_of m.0.stage) m'.0.client
 

@@ -1,5 +1,5 @@
 -- The rule of the table: one word is the version, and the words of the cell follow from a place on. The others are not used.
--- The version is twice the code of the value, which tells its first words: those of the table are not used. While the version is even
+-- The version is twice the code of the value, which determines its first words: those of the table are not used. While the version is even
 -- the others are those of the value. While it is odd, one more, one seat writes, and the value is still that of before.
 use Rattle.std.specs.Prelude.{◌≡◌, ℕ, ◌+◌, ◌*◌, ◌%◌, ◌<◌, ◌≤◌, List, [], map, length, slice_index}
 use mathlib.Core.Option.{some}

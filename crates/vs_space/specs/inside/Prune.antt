@@ -1,4 +1,4 @@
--- What is left when tables under which nothing is mapped are given back. No public clause cites it.
+-- What is left when tables under which nothing is mapped are freed. No public clause cites it.
 use Rattle.std.specs.Prelude.{◌≡◌, ℕ, suc, ◌+◌, ◌-◌, ◌<◌, ◌≤◌, List, Some, slice_index}
 use Rattle.std.specs.FinMap as finite
 use Rattle.vs_types.specs.Depth.{levels, IsCanonical}
@@ -27,7 +27,7 @@ pub record IsCut (depth : Depth) (memory : Memory) (root base level : ℕ) (path
   pub reached : (j : ℕ) → level ≤ j → j ≤ levels depth → table_at (levels depth) memory root j base ≡ Some (slice_index path j)
   pub absent : found_at level memory (slice_index path level) base ≡ Some entry.Absent
 
--- a table for each level from one up to another was given back, and addresses are walked as before
+-- a table for each level from one up to another was freed, and addresses are walked as before
 pub record IsPruned (depth : Depth) (old new : Memory) (root base from level : ℕ) : Type 0 where
   pub tree : IsTree (levels depth) new root
   pub filled : IsFilled depth new root

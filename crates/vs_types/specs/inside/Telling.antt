@@ -1,4 +1,4 @@
--- The entry of the log that two words tell.
+-- The entry of the log that two words determine.
 use Rattle.std.specs.Prelude.{ℕ, zero, suc, ◌-◌, ◌*◌, ◌/◌, ◌%◌, ◌^◌, Bool, true, false, List, slice_index}
 use Rattle.vs_types.specs.declared.log_entry.LogEntry.{LogEntry}
 use Rattle.vs_types.specs.declared.op.Action.{Action}
@@ -25,7 +25,7 @@ action_in zero size rights address physical = Map (record { base = address; size
 action_in (suc zero) size rights address physical = Unmap address
 action_in (suc (suc kind)) size rights address physical = Protect address (rights_in rights)
 
--- the entry that two words tell: the one that they spell, if they spell one
+-- the entry that two words determine: the one that they spell, if they spell one
 unfoldable pub entry_in : List ℕ → LogEntry
 entry_in words =
     let operation = slice_index words 0 in

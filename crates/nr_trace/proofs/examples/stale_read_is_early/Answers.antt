@@ -1,4 +1,4 @@
--- The read of call 3 stands after no entry.
+-- The read of call 3 comes after no entry.
 use Rattle.std.proofs.Common.{refl, inr, lit<}
 use Rattle.vs_types.specs.declared.answer.Answer.TheVariants.{NotMapped}
 use Rattle.nr_trace.proofs.examples.stale_read_is_early.Goals as goal

@@ -10,7 +10,7 @@ use Rattle.vs_types.specs.declared.limits.TheConstants.{TABLES}
 use Rattle.vs_arena.proofs.LentArenas.{blank, length-uses, taken_marks, used_count, marked_again, uses-again, notes-again, rest, popped, last_taken, IsLentArena-again, is_past, uses-first, notes-first, words-first, IsLentArena-first}
 use Rattle.vs_arena.proofs.lent_arena.LentArenaFrameStore.take.Goals as goal
 
--- ---- a frame that was given back
+-- ---- a frame that was freed
 
 pub bounds-self-inside-index : goal.bounds-self-inside-index
 bounds-self-inside-index c =

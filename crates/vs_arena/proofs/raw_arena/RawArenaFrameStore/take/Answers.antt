@@ -11,7 +11,7 @@ use Rattle.vs_arena.proofs.MarkedFrames.{IsFree-from_mark, IsFree-past, last_giv
 use Rattle.vs_arena.proofs.RawArenas.{IsRawArena-kept, IsRawArena-first, next_empty, values-push}
 use Rattle.vs_arena.proofs.raw_arena.RawArenaFrameStore.take.Goals as goal
 
--- ---- a frame that was given back
+-- ---- a frame that was freed
 
 pub invariant_of-self : goal.invariant_of-self
 invariant_of-self c = (

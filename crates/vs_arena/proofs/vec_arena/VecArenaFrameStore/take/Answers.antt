@@ -7,7 +7,7 @@ use Rattle.vs_arena.proofs.Marked.{marked-mark, marked-push}
 use Rattle.vs_arena.proofs.MarkedFrames.{IsFree-from_mark, IsFree-past, last_given, marked_frames-again, marked_frames-push, IsArena-again, IsArena-first}
 use Rattle.vs_arena.proofs.vec_arena.VecArenaFrameStore.take.Goals as goal
 
--- ---- a frame that was given back
+-- ---- a frame that was freed
 
 pub invariant_of-self : goal.invariant_of-self
 invariant_of-self c = (
