@@ -132,6 +132,16 @@ class Space:
         self.pages = {}                             # base: size code, physical address, rights
         self.users = collections.Counter()          # table below the root: how many pages are below it
 
+    def copy(self):
+        other = Space(self.levels, self.limit)
+        other.bases, other.pages, other.users = list(self.bases), dict(self.pages), self.users.copy()
+        return other
+
+    def add(self, base, size, phys, rights):
+        bisect.insort(self.bases, base)
+        self.pages[base] = size, phys, rights
+        self.users.update(self.tables_of(base, size))
+
     def tables_of(self, base, size):
         """The tables below the root that a page needs: at each level whose table covers more than the page."""
         return [(level, base >> (12 + 9 * level)) for level in range(1, self.levels) if SIZES[size] < 1 << (12 + 9 * level)]
@@ -155,9 +165,7 @@ class Space:
         need = 1 + len(self.users) + sum(table not in self.users for table in tables)
         if need > self.limit:
             return Answer(FULL, value=need)
-        bisect.insort(self.bases, call.address)
-        self.pages[call.address] = call.size, call.phys, call.rights
-        self.users.update(tables)
+        self.add(call.address, call.size, call.phys, call.rights)
         return Answer(DONE)
 
     def unmap(self, base):
@@ -242,23 +250,27 @@ def mapped(size, phys, rights):
     return f"mapped {phys:#x} {SIZE_NAMES[size]} {letters}"
 
 
-def found_pages(trace, r):
+class DumpFault(Exception):
+    """What is wrong with the tables of a dump: missing, shared, reserved or stray, and what that names."""
+
+
+def found_pages(trace, dump):
     """All pages of a dump, by rising base; raises the first fault on the way through its tables, then a stray frame."""
-    dump, reached, pages = trace.dumps[r], set(), []
+    reached, pages = set(), []
     high = (1 << 64) - (1 << (12 + 9 * trace.levels))
 
     def visit(number, level, base, rights):
         if number not in dump.frames:
-            raise Fault("MissingFrame", r, number)
+            raise DumpFault("Missing", number)
         if number in reached:
-            raise Fault("SharedFrame", r, number)
+            raise DumpFault("Shared", number)
         reached.add(number)
         for k, word in enumerate(dump.frames[number]):
             if not word & 1:
                 continue
             said = entry(word, level)
             if said == "reserved":
-                raise Fault("ReservedBit", r, number, k)
+                raise DumpFault("Reserved", number, k)
             leaf, where, here = said
             start = base + (k << (3 + 9 * level))
             if leaf:
@@ -270,18 +282,30 @@ def found_pages(trace, r):
     visit(dump.root, trace.levels, 0, 7)
     stray = set(dump.frames) - reached
     if stray:
-        raise Fault("StrayFrame", r, min(stray))
+        raise DumpFault("Stray", min(stray))
     return pages
 
 
-def check_dump(trace, r, space):
-    """The dump translates as the space: sizes divide bases, so equal translations are equal lists of pages."""
-    found, wanted = found_pages(trace, r), space.listed()
+DUMP_FAULTS = {"Missing": "MissingFrame", "Shared": "SharedFrame", "Reserved": "ReservedBit", "Stray": "StrayFrame"}
+
+
+def least_difference(found, wanted):
+    """The least address at which two lists of pages translate otherwise, or None: sizes divide bases, so equal translations are equal
+    lists."""
     for here, there in zip(found + [None], wanted + [None]):
         if here != there:
-            raise Fault("Differs", r, hex(min(page[0] for page in (here, there) if page)))
-        if here is None:
-            return
+            return min(page[0] for page in (here, there) if page)
+
+
+def check_dump(trace, r, space):
+    """The dump translates as the space."""
+    try:
+        differs = least_difference(found_pages(trace, trace.dumps[r]), space.listed())
+    except DumpFault as fault:
+        name, *what = fault.args
+        raise Fault(DUMP_FAULTS[name], r, *what)
+    if differs is not None:
+        raise Fault("Differs", r, hex(differs))
 
 
 # ---- the faults of calls, log and answers, pass by pass ----
@@ -350,8 +374,8 @@ def recorded_order(trace, replies):
     return order
 
 
-def check_answers(trace, order, replies):
-    space = Space(trace.levels, trace.tables)
+def check_answers(trace, order, replies, start):
+    space = start.copy()
     for number in order:
         call = trace.events[number]
         answer = space.apply(call) if call.kind <= PROTECT else space.look(call)
@@ -359,31 +383,38 @@ def check_answers(trace, order, replies):
             raise Fault("WrongAnswer", number)
 
 
-def check_replica(trace, r, replies):
+def check_replica(trace, r, replies, start):
     applied = trace.dumps[r].applied
     if applied > len(trace.log):
         raise Fault("PrefixPastLog", r)
     for number, reply in replies.items():
         if trace.events[number].replica == r and applied < reply.at + is_update(trace, number):
             raise Fault("PrefixShort", r)
-    space = Space(trace.levels, trace.tables)
+    space = start.copy()
     for number in trace.log[:applied]:
         space.apply(trace.events[number])
     check_dump(trace, r, space)
 
 
-def audit(data):
-    """The order; raises the first fault."""
-    trace = read(data)
-    check_calls(trace)
+def check_history(trace, start):
+    """The order, and the replies by call: of what was asked and answered, from the space with which the calls begin."""
     place_of = check_log(trace)
     check_places(trace)
     replies = {each.call: each for each in trace.events if isinstance(each, Reply)}
     check_precedence(trace, place_of, replies)
     order = recorded_order(trace, replies)
-    check_answers(trace, order, replies)
+    check_answers(trace, order, replies, start)
+    return order, replies
+
+
+def audit(data):
+    """The order; raises the first fault."""
+    trace = read(data)
+    start = Space(trace.levels, trace.tables)
+    check_calls(trace)
+    order, replies = check_history(trace, start)
     for r in range(trace.replicas):
-        check_replica(trace, r, replies)
+        check_replica(trace, r, replies, start)
     return order
 
 

@@ -20,6 +20,8 @@ FORMAT_LINES = {
     "BadFrame": "replica {}, frame {}: its number is above the one before it, and below 0x10000000000",
     "Trailing": "nothing stands after the last unit",
 }
+RESERVED = {2: "bits 13 to 20 are reserved in an entry that maps 2M", 3: "bits 13 to 29 are reserved in an entry that maps 1G",
+            4: "bit 7 is reserved in an entry of level {}"}
 
 
 # ---- words ----
@@ -66,7 +68,7 @@ def event_line(fact, number=None):
 
 
 def step_line(step):
-    return f"level {step['level']}, frame {step['frame']}, index {step['index']}: {step['word']}"
+    return f"level {step['level']}, frame {step['frame']:#x}, index {step['index']}: {step['word']}"
 
 
 def way_lines(way):
@@ -102,6 +104,22 @@ def look(trace, address, places):
         if space.look(asked) != looks:
             looks, changed = space.look(asked), {"place": place, "call": event_fact(trace, trace.log[place])}
     return looks, changed
+
+
+def entries_read(trace, dump, address):
+    """The entries that the walk of an address reads."""
+    number, steps = dump.root, []
+    for level in range(trace.levels, 0, -1):
+        if number not in dump.frames:
+            break
+        index = address >> 3 + 9 * level & 511
+        word = dump.frames[number][index]
+        steps.append({"level": level, "frame": number, "index": index, "word": f"{word:#x}"})
+        entry = model.entry(word, level) if word & 1 else "absent"
+        if not isinstance(entry, tuple) or entry[0]:
+            break
+        number = entry[1] >> 12
+    return steps
 
 
 def ways_to(trace, dump, fits):
@@ -158,11 +176,10 @@ def of_early(trace, number):
     told = {i: known_by(trace, reply) for i, reply in replies_of(trace).items() if i < number}
     floor = max(told.values())
     index = min(i for i in told if told[i] == floor)
-    entries = place_of(trace, number)
-    if not model.is_update(trace, number):
-        entries = next(reply.at for reply in replies_of(trace).values() if reply.call == number)
+    own = next((i for i, reply in replies_of(trace).items() if reply.call == number), None)
+    entries = place_of(trace, number) if model.is_update(trace, number) else trace.events[own].at
     return {"call": event_fact(trace, number), "entries": entries, "floor": floor, "reply": event_fact(trace, index),
-            "answered": event_fact(trace, trace.events[index].call)}
+            "answered": event_fact(trace, trace.events[index].call), "own": None if own is None else event_fact(trace, own)}
 
 
 def of_wrong_answer(trace, number):
@@ -202,7 +219,8 @@ def of_reserved_bit(trace, r, frame, index):
     word = dump.frames[frame][index]
     path = next(ways_to(trace, dump, lambda number, level: number == frame and model.entry(word, level) == "reserved"))
     entry = {"level": trace.levels - len(path), "frame": frame, "index": index, "word": f"{word:#x}"}
-    return {"replica": r, "path": path, "entry": entry}
+    reserved = range(13, 3 + 9 * entry["level"]) if entry["level"] < 4 else (7,)
+    return {"replica": r, "path": path, "entry": entry, "bit": next(bit for bit in reserved if word >> bit & 1)}
 
 
 def of_stray_frame(trace, r, frame):
@@ -213,7 +231,7 @@ def of_differs(trace, r, address):
     dump = trace.dumps[r]
     wanted, changed = look(trace, address, dump.applied)
     return {"replica": r, "applied": dump.applied, "address": f"{address:#x}", "found": model.walk(trace, dump, address),
-            "wanted": answer_words(wanted), "changed": changed}
+            "path": entries_read(trace, dump, address), "wanted": answer_words(wanted), "changed": changed}
 
 
 OF_FAULT = dict(zip(model.FAULTS[1:], (of_thread_open, of_no_such_call, of_answered_twice, of_not_an_update, of_placed_twice,
@@ -239,17 +257,88 @@ def lines_of(fault, shown):
         "NotPlaced": lambda: both + [f"{words}: {'none' if place is None else place}"
                                      for words, place in (("its place", shown["own"]), ("the call there", shown["there"]))],
         "PastLog": lambda: both + [f"entries of the log: {shown['places']}"],
-        "Early": lambda: [both[0], f"entries before it: {shown['entries']}", f"known when it was made: {shown['floor']}", both[1],
+        "Early": lambda: [both[0], event_line(shown["own"]) if shown["own"] else "no reply to it",
+                          f"entries before it: {shown['entries']}", f"known when it was made: {shown['floor']}", both[1],
                           event_line(shown["answered"])],
         "WrongAnswer": lambda: both + [f"the space answers: {shown['wanted']}", last],
         "PrefixPastLog": lambda: [f"applied: {shown['applied']}", f"entries of the log: {shown['places']}"],
         "PrefixShort": lambda: [f"applied: {shown['applied']}", f"known there: {shown['known']}", both[1], both[0]],
-        "MissingFrame": lambda: way_lines(shown["path"]),
+        "MissingFrame": lambda: way_lines(shown["path"]) + [f"frame {shown['frame']:#x}, which the dump doesn't have"],
         "SharedFrame": lambda: ["one way:"] + way_lines(shown["first"]) + ["another:"] + way_lines(shown["second"]),
-        "ReservedBit": lambda: [step_line(step) for step in shown["path"] + [shown["entry"]]],
-        "StrayFrame": lambda: [f"no table leads to frame {shown['frame']}"],
-        "Differs": lambda: [f"applied: {shown['applied']}", f"the dump: {shown['found']}", f"the space: {shown['wanted']}", last],
+        "ReservedBit": lambda: [step_line(step) for step in shown["path"] + [shown["entry"]]] + [
+            f"bit {shown['bit']} is set: {RESERVED.get(shown['entry']['level'], RESERVED[4]).format(shown['entry']['level'])}"],
+        "StrayFrame": lambda: [f"no table leads to frame {shown['frame']:#x}"],
+        "Differs": lambda: [f"applied: {shown['applied']}", f"the dump: {shown['found']}", *map(step_line, shown["path"]),
+                            f"the space: {shown['wanted']}", last],
     }[fault]()
+
+
+# ---- the sentences ----
+
+def many(count, word):
+    return f"{count} {word if count == 1 else word[:-1] + 'ies' if word[-1] == 'y' else word + 's'}"
+
+
+def named_words(named, of_call):
+    """What an event is that a number names, where it isn't what it should be."""
+    return "there is no such event" if named is None else of_call if "request" in named else "that event is a reply"
+
+
+def sentence_of(fault, shown):
+    """What is wrong, with its numbers. The facts are named as in the JSON."""
+    of = {name: fact["event"] for name, fact in shown.items() if isinstance(fact, dict) and "event" in fact}
+    told = {name: fact["answer"] for name, fact in shown.items() if isinstance(fact, dict) and "answer" in fact}
+    reply, named = shown.get("reply") or {}, shown.get("named")
+    wanted, replica = shown.get("wanted"), f"replica {shown.get('replica')}"
+    dump, frame = f"The dump of {replica}", f"frame {shown.get('frame', 0):#x}"
+    return {
+        "ThreadOpen": lambda: f"Thread {shown['second']['thread']} makes call {of['second']} while its call {of['first']} has no reply "
+                              "yet.",
+        "NoSuchCall": lambda: f"Event {of['reply']} replies to call {reply['call']}, which is no call before it: "
+                              f"{named_words(named, 'that call is made later')}.",
+        "AnsweredTwice": lambda: f"Event {of['second']} answers call {of['call']} again: event {of['first']} had answered it.",
+        "NotAnUpdate": lambda: f"Place {shown['place']} of the log has the number {shown['call']}, which is no update: "
+                               f"{named_words(named, 'that call only reads, ' + (named or {}).get('request', ''))}.",
+        "PlacedTwice": lambda: f"Call {of['call']} is in the log twice: at place {shown['first']}, and again at place {shown['second']}.",
+        "NotPlaced": lambda: f"Event {of['reply']} says that call {of['call']} is at place {reply['at']} of the log, but the log has "
+                             f"{'no such place' if shown['there'] is None else 'call %d there' % shown['there']}.",
+        "PastLog": lambda: f"Event {of['reply']} says that call {of['call']} saw {many(reply['at'], 'entry')} of the log, which has "
+                           f"{shown['places']}.",
+        "Early": lambda: f"Call {of['call']} {stands_words(shown)} of the log, but before it was made a reply had shown {shown['floor']}.",
+        "WrongAnswer": lambda: f"Call {of['call']} was answered `{told['reply']}`, but after the "
+                               f"{many(reply['at'], 'update')} before it the address space answers `{wanted}`.",
+        "PrefixPastLog": lambda: f"{dump} says that it has applied {many(shown['applied'], 'entry')}, but the log has {shown['places']}.",
+        "PrefixShort": lambda: f"{dump} has applied {many(shown['applied'], 'entry')}, but a reply given there shows {shown['known']}.",
+        "MissingFrame": lambda: (f"An entry of the tables of {replica} leads to" if shown["path"] else f"The root of {replica} is")
+                                + f" {frame}, which the dump doesn't have.",
+        "SharedFrame": lambda: f"The tables of {replica} reach {frame} twice: a change on one way is seen on the other.",
+        "ReservedBit": lambda: f"Entry {shown['entry']['index']} of frame {shown['entry']['frame']:#x} of {replica} has the reserved bit "
+                               f"{shown['bit']} set: a processor faults there.",
+        "StrayFrame": lambda: f"{dump} holds {frame} as a table, and no table leads to it.",
+        "Differs": lambda: f"At {shown['address']} the tables of {replica} say `{shown['found']}`, but after "
+                           f"{many(shown['applied'], 'update')} the address space says `{wanted}`.",
+        "Format": lambda: f"These bytes are no trace: {reason_words(shown)}.",
+    }[fault]()
+
+
+def stands_words(shown):
+    """Where a call is that is too early."""
+    reads = shown["call"]["request"].split()[0] in ("resolve", "access")
+    return f"was answered from {many(shown['entries'], 'entry')}" if reads else f"is at place {shown['entries']}"
+
+
+def reason_words(shown):
+    """Why bytes are no trace."""
+    name, *numbers = shown["format"].split()
+    return {
+        "Truncated": "they end in {unit}, of whose {size} bytes there are {there}",
+        "BadMagic": "they don't begin with NRVT",
+        "BadVersion": "their version is 0x{read}, and not 1 or 2",
+        "BadCount": "a number in {unit} is out of range",
+        "BadEvent": "event {0} is no call and no reply",
+        "BadFrame": "frame {1} of dump {0} has a number that is not above the one before it, or too great",
+        "Trailing": "more bytes follow the last unit",
+    }[name].format(*numbers, **shown)
 
 
 # ---- the unit that shows a fault of the format ----
@@ -317,10 +406,11 @@ def explained(data):
     _, _, fault, *numbers = text.split()
     if fault == "Format":
         shown, lines = of_format(data, numbers[0], numbers[1:])
-        return text, {"verdict": text.strip(), "evidence": {"fault": fault, **shown}}, lines
-    trace = model.read(data)
-    shown = OF_FAULT[fault](trace, *(int(number, 0) for number in numbers))
-    return text, {"verdict": text.strip(), "evidence": {"fault": fault, **shown}}, lines_of(fault, shown)
+    else:
+        shown = OF_FAULT[fault](model.read(data), *(int(number, 0) for number in numbers))
+        lines = lines_of(fault, shown)
+    said = sentence_of(fault, shown)
+    return text, {"verdict": text.strip(), "sentence": said, "evidence": {"fault": fault, **shown}}, [said, *lines]
 
 
 def explain(data):

@@ -192,7 +192,8 @@ def first_part():
         yield f"part 1 ends after {lines} lines, of {MOST_LINES} at most"
 
 
-AUDIT = {"vs_types", "vs_walk", "vs_plain", "vs_text", "nr_trace", "nr_dump", "nr_audit", "nr_explain", "nrvs_audit_c"}
+AUDIT = {"vs_types", "vs_walk", "vs_plain", "vs_text", "nr_trace", "nr_dump", "nr_audit", "nr_explain", "nr_engines",
+         "nr_commands", "nrvs_audit", "nrvs_audit_c"}
 
 
 def audit_alone():

@@ -16,7 +16,7 @@ ROOT = Path(__file__).resolve().parent.parent
 TABLE = "## Words to avoid"
 SHORT = ("README.md", "docs/RECORDING.md")
 MOST_WORDS = 30
-DATA = re.compile(r"^(tests/cases|examples/linux/kept|HANDLES)|\.(xz|png|trace|script|expected|edit)$|/(stdin|stdout|args)$|^LICENSE")
+DATA = re.compile(r"^(tests/cases|tests/chains|examples/linux/kept|HANDLES)|\.(xz|png|trace|chain|script|expected|edit)$|/(stdin|stdout|args)$|^LICENSE")
 
 
 def words_to_avoid():
@@ -54,6 +54,12 @@ def of_python(text):
     return "\n".join(lines[1:])
 
 
+def of_html(text):
+    """What a page says: without its scripts, its styles and its tags."""
+    text = re.sub(r"<(script|style)\b.*?</\1>", blank, text, flags=re.S)
+    return re.sub(r"<[^>]*>", blank, text)
+
+
 def comments(text, begins):
     """The comments that begin so and end with their line; and, where they are of C, those between two signs."""
     found = []
@@ -70,6 +76,8 @@ def read(name, text):
     first = text.partition("\n")[0]
     if name.endswith(".md"):
         return prose(text)
+    if name.endswith(".html"):
+        return of_html(text)
     if name.endswith(".py") or "python" in first:
         said = of_python(text)
     elif name.endswith(".antt"):

@@ -184,7 +184,7 @@ class Trace:
     def call_text(self, number):
         """A call in one line: who asks what where, and what it is answered."""
         call, (_, reply) = self.events[number], self.first_replies.get(number, (None, None))
-        said = f"told {answer_words(reply.answer)}" if reply else "unanswered"
+        said = f"answered {answer_words(reply.answer)}" if reply else "unanswered"
         return f"call {number} (thread {call.thread}, replica {call.replica}: {call_words(call)}, {said})"
 
 

@@ -19,18 +19,6 @@ def meaning(word, level):
     return ("page", address & -(1 << 3 + 9 * level), rights) if level == 1 or large else ("table", address >> 12, rights)
 
 
-def walked(trace, dump, address):
-    """The entries that the walk of an address reads."""
-    frame, path = dump.root, []
-    for level in range(trace.levels, 0, -1):
-        index = address >> (3 + 9 * level) & 511
-        path.append(Step(level, frame, index, trace.words(dump, frame)[index]))
-        what, frame, _ = meaning(path[-1].word, level)
-        if what != "table":
-            break
-    return path
-
-
 def step_words(step):
     what, where, rights = meaning(step.word, step.level)
     leads = {"page": f"a page at {where:#x}, {rights_words(rights)}", "reserved": "a reserved bit is set",

@@ -1,9 +1,10 @@
 #!/usr/bin/env python3
 """Makes a trace of a recorder's log: each change of a translation is an update, each access and each page fault an access.
 
-    convert.py [--no-intent] [--every-access] [--most N] [--calls FILE] LOG >TRACE
+    convert.py [--no-intent] [--every-access | --chain N] [--most N] [--calls FILE] LOG >TRACE
 
 --no-intent: what mprotect and munmap promised is left to the tables.   --every-access: also those between a store and its flush.
+--chain: a chain of segments of some N updates each, with all accesses as touches; it may begin with tables that have pages.
 --most: stop after so many updates.   --calls: where each call comes from, a line each, parted by tabs: its number, the processor or
 the task, and the instructions, each an address and its place in the kernel: that of the store or the access, and those to which
 the calls return that led there.   A log that ends with .xz is unpacked.
@@ -14,6 +15,7 @@ import argparse
 import collections
 import lzma
 import sys
+from collections.abc import Callable, Iterable
 from dataclasses import dataclass, field
 from typing import NamedTuple
 
@@ -21,7 +23,8 @@ sys.dont_write_bytecode = True
 import log_lines
 from log_lines import Access, Born, Dumped, End, Entered, Entry, Fault, Flushed, InUser, Line, Note, Returned, Store, Symbol, Table, Word
 from page_tables import BYTES, EXEC, USER, WRITE, Change, Page, PageTables
-from trace_bytes import ACCESS, ALLOWED, CHANGED, DONE, FAULT, MAP, PROTECT, REMOVED, THREADS, UNMAP, Trace
+from chain_bytes import Segment
+from trace_bytes import ACCESS, ALLOWED, CHANGED, DONE, FAULT, MAP, PROTECT, REMOVED, UNMAP, Frames, Trace
 
 PROCESSORS = 8                  # threads 0 to 7 are the processors' accesses, the others updates under way
 MPROTECT, MUNMAP = 10, 11
@@ -37,6 +40,7 @@ class Options:
     intent: bool = True
     every_access: bool = False
     most: int = 0
+    chain: int = 0
 
 
 class Answer(NamedTuple):
@@ -47,7 +51,7 @@ class Answer(NamedTuple):
 
 class Source(NamedTuple):
     """Who made a call, and by which instructions, the innermost first."""
-    call: int
+    call: str               # its number; of a chain with the segment's before it
     who: str
     instructions: tuple[int, ...]
 
@@ -72,13 +76,24 @@ class Converter:
     windows: dict[Window, dict[int, list[Update]]] = field(default_factory=dict)    # by task that owes the flush
     owed: dict[int, set[Window]] = field(default_factory=lambda: collections.defaultdict(set))      # by task
     entered: dict[int, int] = field(default_factory=dict)                   # by task: places when its system call began
-    free: list[int] = field(default_factory=lambda: list(range(THREADS - 1, PROCESSORS - 1, -1)))
-    dump: dict[int, dict[int, int]] = field(default_factory=dict)
+    free: list[int] = field(default_factory=list)                           # threads for updates that aren't answered yet
+    start: Frames = field(default_factory=dict)
+    dump: Frames = field(default_factory=dict)
+    put_segment: Callable[[bytes], object] | None = None                    # of a chain: where segments go that are over,
+    put_calls: Callable[[str], object] | None = None                        # .. and their calls; else they are kept here:
+    segments: list[bytes] = field(default_factory=list)
+    ended: int = 0
+    placed: int = 0                                                         # updates in those that are over
     sources: list[Source] = field(default_factory=list)
     symbols: dict[int, str] = field(default_factory=dict)
     notes: list[str] = field(default_factory=list)
     counts: collections.Counter[str] = field(default_factory=collections.Counter)
     is_over: bool = False
+
+    def __post_init__(self) -> None:
+        if self.options.chain:
+            self.trace = Segment()
+        self.free = list(range(self.trace.threads - 1, PROCESSORS - 1, -1))
 
     # ---- updates ----
 
@@ -98,8 +113,8 @@ class Converter:
         thread = self.free.pop() if waits else self.free[-1]
         call = self.trace.call(thread, kind, change.base, size, after.rights if kind == PROTECT else rights, physical)
         update = Update(call, self.trace.place(call), thread, change)
-        self.sources.append(Source(call, f"task {task:x}", pcs))
-        self.latest[change.base] = (update.place, task)
+        self.sources.append(Source(self.name(call), f"task {task:x}", pcs))
+        self.latest[change.base] = (self.placed + update.place, task)
         if takes_away:
             self.windows.setdefault(window, {}).setdefault(task, [])
             self.owed[task].add(window)
@@ -179,12 +194,15 @@ class Converter:
     def access(self, processor: int, is_user: bool, access: int, address: int, answer: Answer, pc: int) -> None:
         if address >> (11 + 9 * self.tables.levels):
             return
-        if self.is_between(address) and not self.options.every_access:
+        if isinstance(self.trace, Segment):
+            call = self.trace.touch(processor % PROCESSORS, address, access, is_user, *answer)
+        elif self.is_between(address) and not self.options.every_access:
             self.counts["left out: accesses between a store and its flush"] += 1
             return
-        call = self.trace.call(processor % PROCESSORS, ACCESS, address, access, int(is_user))
-        self.trace.reply(call, len(self.trace.log), answer.kind, value=answer.value)
-        self.sources.append(Source(call, f"processor {processor}", (pc,) if pc else ()))
+        else:
+            call = self.trace.call(processor % PROCESSORS, ACCESS, address, access, int(is_user))
+            self.trace.reply(call, len(self.trace.log), answer.kind, value=answer.value)
+        self.sources.append(Source(self.name(call), f"processor {processor}", (pc,) if pc else ()))
         self.counts["accesses" if answer.kind == ALLOWED else "page faults"] += 1
 
     def fault(self, line: Fault) -> None:
@@ -202,7 +220,7 @@ class Converter:
         allowed = USER | (WRITE if protection & PROT_WRITE else 0) | (EXEC if protection & PROT_EXEC else 0)
         end, entered = begin + (length + 4095 & -4096), self.entered.get(line.task, 0)
         for base in sorted(each for each in self.pages if begin <= each < end):
-            page, (place, task) = self.pages[base], self.latest[base]
+            page, (place, task) = self.pages[base], self.latest.get(base, (-1, line.task))     # none: of the start
             is_of_another = task != line.task and place >= entered
             if base + BYTES[page.size] > end or is_of_another or (protection and not page.rights & ~allowed):
                 continue
@@ -228,7 +246,7 @@ class Converter:
             case InUser(task):
                 self.close(task, 0, EVERYTHING)
             case Entered(task):
-                self.entered[task] = len(self.trace.log)
+                self.entered[task] = self.placed + len(self.trace.log)
             case Returned():
                 self.returned(line)
             case _:
@@ -254,15 +272,45 @@ class Converter:
                 self.is_over = True
 
     def is_enough(self) -> bool:
-        return self.trace.is_full() or 0 < self.options.most <= len(self.trace.log)
+        return self.trace.is_full() or 0 < self.options.most <= self.placed + len(self.trace.log)
 
-    def read(self, lines: list[str]) -> None:
+    # ---- chains ----
+
+    def name(self, call: int) -> str:
+        return f"{self.ended}.{call}" if self.options.chain else str(call)
+
+    def begin(self) -> None:
+        """The tables that are there at first, where they have pages, are the start."""
+        self.pages = self.tables.begin()
+        self.start = self.tables.frames() if self.pages else {}
+        self.start = {frame: dict(words) for frame, words in self.start.items()}
+
+    def end_segment(self) -> None:
+        assert isinstance(self.trace, Segment)
+        self.trace.levels = self.tables.levels
+        (self.put_segment or self.segments.append)(self.trace.spell_segment(self.tables.root, self.start, self.dump))
+        if self.put_calls:
+            self.put_calls(self.calls())
+            self.sources = []
+        self.ended += 1
+        self.placed += len(self.trace.log)
+        self.start, self.trace = {}, Segment()
+
+    def is_cut_here(self) -> bool:
+        """A segment is long enough, and no update is under way."""
+        return 0 < self.options.chain <= max(len(self.trace.log), len(self.trace.events) // 2) and not self.windows
+
+    def read(self, lines: Iterable[str]) -> None:
         """Takes a whole log; of one that is too long, or ends in between, the tables as the stores made them are the dump."""
         is_cut = False
         for line in log_lines.parse(lines):
             is_cut = is_cut or self.is_enough()
+            if self.options.chain and not self.tables.linked and isinstance(line, Store | Access | Fault):
+                self.begin()
             if not is_cut or isinstance(line, Symbol):
                 self.take(line)
+            if self.is_cut_here():
+                self.end_segment()
         for task in list(self.owed):
             self.close(task, 0, EVERYTHING)
         if is_cut or not self.is_over:
@@ -270,6 +318,9 @@ class Converter:
             self.dump = self.tables.frames()
 
     def spell(self) -> bytes:
+        if self.options.chain:
+            self.end_segment()
+            return b"".join(self.segments)
         self.trace.levels = self.tables.levels
         return self.trace.spell(self.tables.root, self.dump)
 
@@ -282,8 +333,8 @@ class Converter:
 
     def calls(self) -> str:
         rows = []
-        for call, who, instructions in self.sources:
-            rows.append("\t".join([str(call), who, *(f"{pc:#x} {self.symbols.get(pc, '')}".rstrip() for pc in instructions)]) + "\n")
+        for call, who, pcs in self.sources:
+            rows.append("\t".join([call, who, *(f"{pc:#x} {self.symbols.get(pc, '')}".rstrip() for pc in pcs)]) + "\n")
         return "".join(rows)
 
 
@@ -299,14 +350,15 @@ def convert(lines: list[str], options: Options = Options()) -> Converter:
 
 
 def main() -> int:
-    parser = argparse.ArgumentParser(usage="convert.py [--no-intent] [--every-access] [--most N] [--calls FILE] LOG >TRACE")
+    parser = argparse.ArgumentParser(usage="convert.py [--no-intent] [--every-access | --chain N] [--most N] [--calls FILE] LOG >TRACE")
     parser.add_argument("--no-intent", action="store_true")
     parser.add_argument("--every-access", action="store_true")
+    parser.add_argument("--chain", type=int, default=0)
     parser.add_argument("--most", type=int, default=0)
     parser.add_argument("--calls")
     parser.add_argument("log")
     words = parser.parse_args()
-    converter = convert(read_lines(words.log), Options(not words.no_intent, words.every_access, words.most))
+    converter = convert(read_lines(words.log), Options(not words.no_intent, words.every_access, words.most, words.chain))
     sys.stdout.buffer.write(converter.spell())
     if words.calls:
         with open(words.calls, "w") as file:

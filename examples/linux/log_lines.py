@@ -181,17 +181,25 @@ class Slimmer:
             self.callers = [(back, int(called, 16)) for back, called in (each.split(":") for each in words[1:])]
         elif words[0] == "@store":
             pcs = [words[4], *self.calls_to(int(words[4], 16))]
-            self.named.update(pcs)
+            yield from self.names(pcs)
             self.callers = []
             yield " ".join(words + pcs[1:]) + "\n"
         else:
             if words[0] == "@access":
-                self.named.add(words[7])
+                yield from self.names(words[7:8])
             if words[0] == "@born":
                 self.roots = number(words[2]), number(words[3])
             if words[0] == "@end":
                 self.roots = ()
             yield line
+
+    def names(self, pcs: list[str]) -> Iterator[str]:
+        """Places of the kernel, each before the first line that has it."""
+        for pc in pcs:
+            if pc not in self.named and int(pc, 16) >> 63:
+                name, offset = self.place(int(pc, 16))
+                yield f"@symbol {pc} {name}+{offset:#x}\n"
+            self.named.add(pc)
 
     def of_qemu(self, line: str) -> Iterator[str]:
         """An exception, and the registers behind it: they say in which address space it was, and on which processor."""
@@ -214,7 +222,3 @@ class Slimmer:
                 yield from self.of_plugin(line)
             else:
                 yield from self.of_qemu(line)
-        for pc in sorted(self.named):
-            if int(pc, 16) >> 63:
-                name, offset = self.place(int(pc, 16))
-                yield f"@symbol {pc} {name}+{offset:#x}\n"

@@ -3,7 +3,9 @@ import os
 import shutil
 import socket
 import subprocess
+import threading
 import time
+from collections.abc import Callable, Iterable
 from dataclasses import dataclass
 
 import debian
@@ -159,18 +161,34 @@ def command(name: str, guest: Guest, kernel: Kernel, plugin: str, initrd: str) -
     return words
 
 
-def record(name: str, guest: Guest, kernel: Kernel, limit: int = LIMIT) -> Recording:
-    """Boots a guest, and waits until it is over."""
+def hand_over(name: str, guest: Guest, kernel: Kernel, limit: int, qemu: subprocess.Popen[bytes],
+              take: Callable[[Iterable[str]], None]) -> None:
+    """The log, line by line, while the guest runs."""
+    if guest.code:
+        threading.Thread(target=plant, args=(name, guest, kernel, qemu), daemon=True).start()
+    timer = threading.Timer(limit, qemu.kill)
+    timer.start()
+    with open(f"{OUT}/{name}.raw", errors="replace") as lines:
+        take(lines)
+    timer.cancel()
+
+
+def record(name: str, guest: Guest, kernel: Kernel, limit: int = LIMIT, take: Callable[[Iterable[str]], None] | None = None) -> Recording:
+    """Boots a guest, and waits until it is over; its log stays, or is taken while it runs."""
     plugin, workload = compile_parts()
     files = [workload, f"{HERE}/guest/script.py"] + (kernel.modules if guest.nested else [])
     initrd = pack(name, (INSERT if guest.nested else "") + guest.command, files, guest.package)
     for ending in ("raw", "serial", "memory", "line", "debug"):
         remove(f"{OUT}/{name}.{ending}")
+    if take:
+        os.mkfifo(f"{OUT}/{name}.raw")
     qemu = subprocess.Popen(command(name, guest, kernel, plugin, initrd))
     try:
-        if guest.code:
+        if take:
+            hand_over(name, guest, kernel, limit, qemu, take)
+        elif guest.code:
             plant(name, guest, kernel, qemu)
-        qemu.wait(limit)
+        qemu.wait(1 if take else limit)
     except subprocess.TimeoutExpired:
         pass
     finally:

@@ -112,10 +112,18 @@ class PageTables:
             self.pages_below(word, table.level, base + self.reach(index, table.level), self.rights_above(base, table.level), found)
         return found
 
-    def store(self, frame: int, index: int, old: int, new: int) -> list[Change]:
-        """Stores a word of a table; which pages are others then, by base."""
+    def begin(self) -> dict[int, Page]:
+        """The pages, by base, of the tables that were there at first."""
+        found: dict[int, Page] = {}
         if self.root in self.told:
             self.link(self.root, self.levels, 0)
+            for index, word in self.linked[self.root].words.items():
+                self.pages_below(word, self.levels, self.reach(index, self.levels), ALL, found)
+        return found
+
+    def store(self, frame: int, index: int, old: int, new: int) -> list[Change]:
+        """Stores a word of a table; which pages are others then, by base."""
+        self.begin()
         table = self.linked.get(frame)
         if not table:
             return []

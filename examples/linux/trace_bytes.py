@@ -3,12 +3,26 @@ import struct
 
 MAP, UNMAP, PROTECT, RESOLVE, ACCESS = range(5)
 DONE, REMOVED, CHANGED, ALLOWED, FAULT = 0, 3, 6, 8, 9
-THREADS, TABLES = 64, 4096
+TABLES = 4096
 PLACES, EVENTS = 65536, 131072
 ROOM = 4096                     # updates that may come of one store, and then some
 
+Frames = dict[int, dict[int, int]]      # words that aren't 0, by frame and index
+
+
+def spell_frames(frames: Frames) -> bytes:
+    parts = []
+    for frame in sorted(frames):
+        words = [0] * 512
+        for index, word in frames[frame].items():
+            words[index] = word
+        parts.append(struct.pack(">Q512Q", frame, *words))
+    return b"".join(parts)
+
 
 class Trace:
+    threads = 64
+
     def __init__(self) -> None:
         self.events: list[bytes] = []
         self.log: list[int] = []
@@ -28,14 +42,9 @@ class Trace:
     def reply(self, call: int, at: int, answer: int, size: int = 0, rights: int = 0, value: int = 0) -> None:
         self.events.append(struct.pack(">BBBBIIIQ", 1, answer, size, rights, call, at, 0, value))
 
-    def spell(self, root: int, frames: dict[int, dict[int, int]]) -> bytes:
+    def spell(self, root: int, frames: Frames) -> bytes:
         """The bytes of the trace, with a dump of these frames after the whole log."""
-        head = struct.pack(">HBBHHII", 2, self.levels, 1, THREADS, TABLES, len(self.log), len(self.events))
+        head = struct.pack(">HBBHHII", 2, self.levels, 1, self.threads, TABLES, len(self.log), len(self.events))
         parts = [b"NRVT", head, struct.pack(f">{len(self.log)}I", *self.log), *self.events]
         parts.append(struct.pack(">IIQ", len(self.log), len(frames), root))
-        for frame in sorted(frames):
-            words = [0] * 512
-            for index, word in frames[frame].items():
-                words[index] = word
-            parts.append(struct.pack(">Q512Q", frame, *words))
-        return b"".join(parts)
+        return b"".join([*parts, spell_frames(frames)])

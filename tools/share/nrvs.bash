@@ -17,6 +17,9 @@ _nrvs() {
     run) options='--levels --replicas --tables --turns --trace' ;;
     help) COMPREPLY=($(compgen -W 'audit explain resolve simulate run' -- "$word")); return ;;
   esac
-  COMPREPLY=($(compgen -W "$options --help" -- "$word"))
+  # a word that begins no option is a file's name, which bash completes itself
+  case $word in
+    -*) COMPREPLY=($(compgen -W "$options --help" -- "$word")) ;;
+  esac
 }
 complete -o default -F _nrvs nrvs

@@ -7,6 +7,7 @@ complete -c nrvs -n __fish_use_subcommand -f -a run -d 'Runs the threads of a sc
 complete -c nrvs -n __fish_use_subcommand -f -a help -d 'Prints help, or that of a command'
 complete -c nrvs -n __fish_use_subcommand -l version -d 'Prints the version'
 complete -c nrvs -l help -d 'Prints help'
+complete -c nrvs -n '__fish_seen_subcommand_from audit explain resolve' -F
 complete -c nrvs -n '__fish_seen_subcommand_from explain' -l json -d 'Prints one JSON object'
 complete -c nrvs -n '__fish_seen_subcommand_from resolve' -l address -x -d 'A canonical address'
 complete -c nrvs -n '__fish_seen_subcommand_from resolve' -l replica -x -d 'The number of the replica'

@@ -19,11 +19,12 @@ fn after(number: Option<u32>) -> u64 {
     }
 }
 
-/// 1 for a call, 2 for a reply, or 0 for none.
+/// 1 for a call, 2 for a reply, 3 for a touch, or 0 for none.
 fn kind_of(event: Option<Event>) -> u64 {
     match event {
         Some(Event::Call { .. }) => 1,
         Some(Event::Reply { .. }) => 2,
+        Some(Event::Touch { .. }) => 3,
         None => 0,
     }
 }

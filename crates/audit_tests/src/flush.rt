@@ -1,9 +1,10 @@
-use nr_engines::{Command, ProgFault};
+use nr_commands::Task;
+use nr_engines::ProgFault;
 use std::io::{Error, ErrorKind, Read, Write};
 use std::test::Fail;
 
 // The trace of one replica and one thread with nothing recorded, up to its root: what follows is the root's 4,096 bytes, all 0.
-const HEAD: [u8; 44] = [
+pub static HEAD: [u8; 44] = [
     0x4e, 0x52, 0x56, 0x54, 0, 1, 4, 1, 0, 1, 0, 1, 0, 0, 0, 0, 0, 0, 0, 0, // counts
     0, 0, 0, 0, 0, 0, 0, 1, 0, 0, 0, 0, 0, 0, 0, 1, // head of the dump
     0, 0, 0, 0, 0, 0, 0, 1, // number of the root
@@ -27,14 +28,14 @@ impl Write for FailsAtFlush {
 #[test]
 fn flush_that_fails(rt: HostRuntime) -> Result<(), Fail> {
     let root = [0; 4096];
-    let commands = [
-        (Command::Audit, "yes\norder\n"),
-        (Command::Resolve("0x400123", 0), "not mapped\n"),
+    let tasks = [
+        (Task::Audit, "yes\norder\n"),
+        (Task::Resolve("0x400123", 0), "not mapped\n"),
     ];
-    for (command, answer) in commands {
+    for (task, answer) in tasks {
         let mut output = FailsAtFlush(Vec::new(rt.alloc()));
         let mut input = HEAD.as_slice().chain(root.as_slice());
-        let told = command.run(&rt, rt.alloc(), &mut input, &mut output);
+        let told = task.run(rt.alloc(), &mut input, &mut output);
         assert_eq!(rt; output.0.as_slice(), answer.as_bytes());
         assert!(rt; matches!(told, Err(ProgFault::CannotWrite)));
     }

@@ -21,9 +21,13 @@ mod flush;
 #[cfg(test)]
 mod large;
 #[cfg(test)]
+mod named_files;
+#[cfg(test)]
 mod pieces;
 #[cfg(test)]
 mod recorded;
+#[cfg(test)]
+mod segments;
 #[cfg(test)]
 mod starts;
 #[cfg(test)]

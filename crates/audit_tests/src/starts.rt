@@ -87,9 +87,9 @@ fn space_with_page(rt: &impl Abort, alloc: Global, trace: &Trace) -> Result<Plai
     ensures depth { IfOk result (λ space. space.depth ≡ trace.now.layout.depth) }
     ensures limit { IfOk result (λ space. space.limit ≡ trace.now.layout.tables) }
 {
-    let config = trace.config();
-    let mut space = PlainSpace::new(alloc, config.tables(), config.depth());
-    let op = Op::map(config.depth(), 0x400000, Size::K4, 0x1000, Rights::ALL)?;
+    let layout = trace.layout();
+    let mut space = PlainSpace::new(alloc, layout.tables(), layout.depth());
+    let op = Op::map(layout.depth(), 0x400000, Size::K4, 0x1000, Rights::ALL)?;
     assert!(rt; op.fits(space.depth()));
     space.apply(op)?;
     Ok(space)
@@ -128,9 +128,9 @@ fn one_after_another(rt: HostRuntime) -> Result<(), Fail> {
     let alloc = rt.alloc();
     let first = read(alloc, &trace_of(alloc, &RIGHT)?)?;
     let second = read(alloc, &trace_of(alloc, &UNMAPPED)?)?;
-    let config = first.config();
-    assert_eq!(&rt; second.config(), config);
-    let empty = PlainSpace::new(alloc, config.tables(), config.depth());
+    let layout = first.layout();
+    assert_eq!(&rt; second.layout(), layout);
+    let empty = PlainSpace::new(alloc, layout.tables(), layout.depth());
     let Judged::Right(_, space) = judge_from(alloc, &first, empty)? else {
         panic!(&rt; "the first is right")
     };

@@ -2,7 +2,7 @@
 
 use crate::bytes::{EMPTY, MAPPED, ROOT, TABLES, Words, bytes_of, changed, map_then_resolve};
 use crate::events::{ACCESS_EVENTS, Item, RESOLVE_EVENTS, events_of};
-use nr_trace::{Format, Trace, Version, read, write};
+use nr_trace::{Format, Trace, TraceLayout, Version, read, write};
 use std::alloc::Global;
 use std::process::Abort;
 use std::test::Fail;
@@ -118,7 +118,7 @@ fn assert_trace(
 ) -> Result<(), Fail> {
     let config = Config::new(example.depth, 1, 1, example.tables);
     assert!(rt; trace.version() == example.version);
-    assert!(rt; Ok(trace.config()) == config);
+    assert!(rt; Ok(trace.layout()) == config.map(TraceLayout::of));
     assert!(rt; trace.log() == example.log);
     assert!(rt; trace.events() == events_of(alloc, example.events)?.as_slice());
     assert_eq!(rt; trace.dumps().len(), 1);

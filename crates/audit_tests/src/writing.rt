@@ -2,7 +2,7 @@
 
 use crate::bytes::{EMPTY, MAPPED, ROOT, bytes_of};
 use crate::events::{Asks, DONE, Item, MAP, RESOLVE, RESOLVE_EVENTS, RESOLVED, events_of};
-use nr_trace::{Format, Trace, Version, write};
+use nr_trace::{Format, Trace, TraceLayout, Version, write};
 use std::alloc::Global;
 use std::process::Abort;
 use std::test::Fail;
@@ -124,7 +124,14 @@ fn written(alloc: Global, case: &Case) -> Result<Result<Vec<u8>, Format>, Fail> 
     log.extend_from_slice(case.log)?;
     let events = events_of(alloc, case.events)?;
     let dumps = dumps_of(alloc, case.dumps, case.applied)?;
-    match Trace::new(Version::V1, config, log, events, dumps) {
+    match Trace::new(
+        Version::V1,
+        TraceLayout::of(config),
+        None,
+        log,
+        events,
+        dumps,
+    ) {
         Ok(trace) => Ok(Ok(write(alloc, &trace)?)),
         Err(fault) => Ok(Err(fault)),
     }

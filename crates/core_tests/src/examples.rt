@@ -3,7 +3,7 @@
 use crate::cases::{Asks, CASES, Case, Item};
 use crate::scripts::{Tries, assert_alike, order_at_once, run_at_once, run_one_by_one};
 use nr_core::Step;
-use nr_trace::{Event, Trace};
+use nr_trace::{Event, Trace, TraceLayout};
 use std::alloc::Global;
 use std::process::Abort;
 use std::test::Fail;
@@ -86,7 +86,7 @@ fn assert_dumps(rt: &impl Abort, trace: &Trace, dumps: &[(u32, usize)]) {
 pub fn assert_recorded(rt: &impl Abort, trace: &Trace, case: &Case) -> Result<(), Fail> {
     let config = case.config()?;
     assert!(rt; trace.version() == case.version);
-    assert!(rt; trace.config() == config);
+    assert!(rt; trace.layout() == TraceLayout::of(config));
     assert_eq!(rt; trace.log(), case.log);
     if let Some(events) = case.events {
         assert_events(rt, trace, case.depth, events)?;

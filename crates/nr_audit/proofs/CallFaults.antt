@@ -10,14 +10,13 @@ use Rattle.nr_trace.specs.Calls.{Invocation, call_of, Response, reply_of, Answer
 use Rattle.nr_trace.specs.Faults.{HasFault, Earlier, OpensTwice, IsReplyWith}
 use Rattle.nr_trace.specs.declared.fault.Fault.{Fault}
 use Rattle.nr_trace.specs.declared.fault.Fault.TheVariants.{ThreadOpen, NoSuchCall, AnsweredTwice}
-use Rattle.nr_trace.specs.declared.event.Event.TheVariants.{Call, Reply}
-use Rattle.vs_types.specs.declared.request.Query.{Query}
+use Rattle.nr_trace.specs.declared.event.Event.TheVariants.{Reply}
 use Rattle.vs_types.specs.declared.answer.Answer.{Answer}
 use Rattle.nr_audit.specs.inside.Search.{HasNone, IsFirstAmong}
 use Rattle.nr_audit.specs.inside.Passes.{IsCallFaultAt, IsCallFault}
 use Rattle.nr_audit.specs.inside.Tables.{IsReplyBelow, AreReplies}
 use Rattle.nr_audit.proofs.Ranks.{IsRanked, none_of_all, first_of_all, lower_number}
-use Rattle.nr_audit.proofs.CallsAndReplies.{made_here, no_reply_at_call, reply_here, no_call_at_reply, no_call_past, no_reply_past, answers_by, reply_by}
+use Rattle.nr_audit.proofs.CallsAndReplies.{reply_here, no_call_at_reply, no_call_past, no_reply_past, answers_by, reply_by}
 use Rattle.nr_audit.proofs.CallsAndReplies.{no_reply_with, no_answer, answers_only}
 
 pub record HasFound (trace : Recording) (end : ℕ) (last table : List (Option ℕ)) : Type 0 where
@@ -154,25 +153,25 @@ module _ (trace : Recording) (end : ℕ) (last table : List (Option ℕ)) (known
   below_table : (call : ℕ) → call < end → call < length table
   below_table call lt = omega (arith, known.one_each)
 
-  module _ (replica thread : ℕ) (request : Query) (is : slice_get trace.events end ≡ Some (Call replica thread request)) where
+  -- the event is a call or a touch, and no reply
+  module _ (own : Invocation) (thread : ℕ) (on : own.thread ≡ thread) (is : call_of trace end ≡ Some own) (no_reply : reply_of trace end ≡ None) where
     -- what a call adds to what is known
     pub known_after_call : thread < trace.layout.threads → IsIdle last table thread → HasFound trace (end + 1) (set last thread (Some end)) table
     known_after_call few idle = record {
       threads = length-set last thread (Some end) ∙ known.threads;
       one_each = known.one_each;
       replies = λ call lt. reply_stays trace end call (get_or table call None)
-          (no_answer trace end call (no_reply_at_call trace end replica thread request is)) (known.replies call lt);
+          (no_answer trace end call no_reply) (known.replies call lt);
       last_made = λ other call e. elim (cases_eq other thread) [
         | inl same ↦
             let here : get_or (set last thread (Some end)) other None ≡ Some end =
             subst (λ t. get_or (set last thread (Some end)) t None ≡ Some end) (sym same)
             (get_or-set_same last thread (Some end) None (omega (arith, known.threads))) in
             let it : end ≡ call = cc in (
-              record { replica = replica; thread = thread; request = request },
+              own,
               omega arith,
-              subst (λ i. call_of trace i ≡ Some (record { replica = replica; thread = thread; request = request })) it
-                  (made_here trace end replica thread request is),
-              sym same,
+              subst (λ i. call_of trace i ≡ Some own) it is,
+              on ∙ sym same,
             )
         | inr apart ↦
             let old = known.last_made other call (sym (get_or-set_other last thread other (Some end) None apart) ∙ e) in
@@ -191,10 +190,9 @@ module _ (trace : Recording) (end : ℕ) (last table : List (Option ℕ)) (known
         ]
         | inr here ↦
             let it : call ≡ end = omega arith in
-            let mine = made_here trace end replica thread request is in
             let told = subst (λ i. call_of trace i ≡ Some made) it e in
-            let same : made ≡ record { replica = replica; thread = thread; request = request } = cc in
-            inl (subst (λ (m : Invocation). get_or (set last thread (Some end)) m.thread None ≡ Some call) (sym same)
+            let same : made ≡ own = cc in
+            inl (subst (λ t. get_or (set last thread (Some end)) t None ≡ Some call) (sym (ap (λ (m : Invocation). m.thread) same ∙ on))
             (get_or-set_same last thread (Some end) None (omega (arith, known.threads)) ∙ ap (λ i. Some i) (sym it)))
       ];
     }
@@ -203,10 +201,9 @@ module _ (trace : Recording) (end : ℕ) (last table : List (Option ℕ)) (known
     pub none_at_call : IsIdle last table thread → HasNone (IsCallFaultAt end) trace
     none_at_call idle = none_at trace end
         (λ twice.
-        let mine = made_here trace end replica thread request is in
         let told = twice.is_made in
-        let same : twice.made ≡ record { replica = replica; thread = thread; request = request } = cc in
-        let threads : twice.earlier_made.thread ≡ thread = twice.same_thread ∙ ap (λ (m : Invocation). m.thread) same in
+        let same : twice.made ≡ own = cc in
+        let threads : twice.earlier_made.thread ≡ thread = twice.same_thread ∙ ap (λ (m : Invocation). m.thread) same ∙ on in
         elim (known.others_answered twice.earlier twice.earlier_made twice.is_earlier twice.is_earlier_made) [
           | inl at_last ↦
               let reply = answered trace end twice.earlier (get_or table twice.earlier None)
@@ -215,8 +212,8 @@ module _ (trace : Recording) (end : ℕ) (last table : List (Option ℕ)) (known
               twice.not_answered reply.0 reply.1 reply.2
           | inr reply ↦ twice.not_answered reply.0 reply.1 reply.2
         ])
-        (no_reply_with trace end _ (no_reply_at_call trace end replica thread request is))
-        (no_reply_with trace end _ (no_reply_at_call trace end replica thread request is))
+        (no_reply_with trace end _ no_reply)
+        (no_reply_with trace end _ no_reply)
 
     -- a call of a thread whose last call has no reply
     pub first_open : (call : ℕ) → get_or last thread None ≡ Some call → get_or table call None ≡ None → IsFirstAmong (IsCallFaultAt end) trace (ThreadOpen end)
@@ -225,13 +222,13 @@ module _ (trace : Recording) (end : ℕ) (last table : List (Option ℕ)) (known
       holds =
           let earlier = known.last_made thread call at_last in
           record {
-            made = record { replica = replica; thread = thread; request = request };
-            is_made = made_here trace end replica thread request is;
+            made = own;
+            is_made = is;
             earlier = call;
             earlier_made = earlier.0;
             is_earlier = earlier.1;
             is_earlier_made = earlier.2;
-            same_thread = earlier.3;
+            same_thread = earlier.3 ∙ sym on;
             not_answered = unanswered trace end call (get_or table call None) none (known.replies call (below_table call earlier.1));
           };
       none_earlier = λ other among holds earlier. open_is_first trace end other among earlier;

@@ -1,6 +1,6 @@
 -- What an event is: a call or a reply.
 use Rattle.std.proofs.Common.{◌≡◌, ◌≢◌, Bool, true, false, List, ℕ, ◌<◌, ◌≤◌, Some, None, Option, length, refl, sym, ap, subst, ◌∙◌, inl, inr, arith, get_or}
-use Rattle.std.specs.Prelude.{slice_get, IsSome, is_some, option_and_then, IfSome, IsSomeAnd, ◌==◌, if◌then◌else◌}
+use Rattle.std.specs.Prelude.{slice_get, IsSome, is_some, option_and_then, option_map, IfSome, IsSomeAnd, ◌==◌, if◌then◌else◌}
 use Rattle.std.proofs.lemmas.Bool.{false≢true, eqb-true, eq-eqb, cond-true, cond-false, cases_Bool}
 use Rattle.std.proofs.lemmas.Option.{slice_get_past, slice_get-get_or}
 use Rattle.std.proofs.lemmas.List.Elements.{All-get_or}
@@ -8,17 +8,20 @@ use Rattle.nr_trace.specs.Recording.{Recording, IsRecording, IsEvent}
 use Rattle.nr_trace.specs.Calls.{Invocation, made_by, call_of, Response, reply_in, reply_of, Answers, IsCall}
 use Rattle.nr_trace.specs.Faults.{IsReplyWith}
 use Rattle.nr_trace.specs.declared.event.Event.{Event}
-use Rattle.nr_trace.specs.declared.event.Event.TheVariants.{Call, Reply}
-use Rattle.vs_types.specs.declared.request.Query.{Query}
+use Rattle.nr_trace.specs.declared.event.Event.TheVariants.{Call, Reply, Touch}
+use Rattle.vs_types.specs.Config.{Layout}
+use Rattle.vs_types.specs.declared.request.Query.TheVariants.{Access}
+use Rattle.nr_trace.specs.declared.version.Version.{Version}
 use Rattle.vs_types.specs.declared.answer.Answer.{Answer}
 
-pub made_here : (trace : Recording) (i replica thread : ℕ) (request : Query) → slice_get trace.events i ≡ Some (Call replica thread request)
-    → call_of trace i ≡ Some (record { replica = replica; thread = thread; request = request })
-made_here trace i replica thread request e = ap (λ o. option_and_then made_by o) e
+-- an event that is no reply
+pub no_reply_unless : (event : Event) → ((call at : ℕ) (answer : Answer) → event ≢ Reply call at answer) → reply_in event ≡ None
+no_reply_unless (Call replica thread request) none = refl
+no_reply_unless (Touch replica thread address mode access) none = refl
+no_reply_unless (Reply call at answer) none = absurd (none call at answer refl)
 
-pub no_reply_at_call : (trace : Recording) (i replica thread : ℕ) (request : Query) → slice_get trace.events i ≡ Some (Call replica thread request)
-    → reply_of trace i ≡ None
-no_reply_at_call trace i replica thread request e = ap (λ o. option_and_then reply_in o) e
+pub no_reply_there : (trace : Recording) (i : ℕ) (event : Event) → slice_get trace.events i ≡ Some event → reply_in event ≡ None → reply_of trace i ≡ None
+no_reply_there trace i event is none = ap (λ o. option_and_then reply_in o) is ∙ none
 
 pub reply_here : (trace : Recording) (i call at : ℕ) (answer : Answer) → slice_get trace.events i ≡ Some (Reply call at answer)
     → reply_of trace i ≡ Some (record { call = call; at = at; answer = answer })
@@ -95,12 +98,51 @@ read_gone (Some x) p told e f t = absurd (false≢true (sym t ∙ sym f ∙ ap i
 pub read_some : (o p : Option ℕ) (told : Bool) → p ≡ o → is_some p ≡ told → told ≡ true → o ≢ None
 read_some o p told e f t none = false≢true (sym (ap is_some (e ∙ none)) ∙ f ∙ t)
 
--- the thread of a call that is read is one of the layout
-pub thread_in_layout : (trace : Recording) (events : List Event) (i : ℕ) (event : Event) (replica thread : ℕ) (request : Query) → IsRecording trace
-    → events ≡ trace.events → i < length events → event ≡ get_or events i event → event ≡ Call replica thread request → thread < trace.layout.threads
-thread_in_layout trace events i event replica thread request ranged same lt read is =
+-- the call or touch that an event is, where it is read that this is its thread
+made_on : (event : Event) (thread : ℕ) → Some thread ≡ option_map (λ (made : Invocation). made.thread) (made_by event)
+    → (made : Invocation) × (made_by event ≡ Some made) × (made.thread ≡ thread)
+made_on (Call replica own request) thread e = (record { replica = replica; thread = own; request = request; touch = false }, refl, cc)
+made_on (Touch replica own address mode access) thread e =
+    (record { replica = replica; thread = own; request = Access address mode access; touch = true }, refl, cc)
+made_on (Reply call at answer) thread e = absurd (cc)
+
+-- it is one of the layout
+thread_in_layout : (version : Version) (layout : Layout) (event : Event) (thread : ℕ) → Some thread ≡ option_map (λ (made : Invocation). made.thread) (made_by event)
+    → IsEvent version layout event → thread < layout.threads
+thread_in_layout version layout (Call replica own request) thread e is = let same : thread ≡ own = cc in omega (arith, is.1)
+thread_in_layout version layout (Touch replica own address mode access) thread e is = let same : thread ≡ own = cc in omega (arith, is.1)
+thread_in_layout version layout (Reply call at answer) thread e is = absurd (cc)
+
+-- an event is a call, a touch or a reply
+pub no_event : (event : Event) (thread : Option ℕ) → ((call at : ℕ) (answer : Answer) → event ≢ Reply call at answer)
+    → thread ≡ option_map (λ (made : Invocation). made.thread) (made_by event) → ((own : ℕ) → thread ≢ Some own) → ⊥
+no_event (Call replica own request) thread none told gone = gone own told
+no_event (Touch replica own address mode access) thread none told gone = gone own told
+no_event (Reply call at answer) thread none told gone = none call at answer refl
+
+-- the event of an index is a call or a touch on a thread
+pub record IsCallOn (trace : Recording) (index thread : ℕ) : Type 0 where
+  pub made : Invocation
+  pub on : made.thread ≡ thread
+  pub is : call_of trace index ≡ Some made
+  pub no_reply : reply_of trace index ≡ None
+  pub few : thread < trace.layout.threads
+
+pub call_on : (trace : Recording) (events : List Event) (i : ℕ) (event shape : Event) (thread : ℕ) → IsRecording trace → events ≡ trace.events
+    → i < length events → event ≡ get_or events i event → shape ≡ event → ((call at : ℕ) (answer : Answer) → shape ≢ Reply call at answer)
+    → Some thread ≡ option_map (λ (made : Invocation). made.thread) (made_by shape) → IsCallOn trace i thread
+call_on trace events i event shape thread ranged same lt read is none told =
+    let own = made_on shape thread told in
+    let there = read_event trace events i event shape same lt read (sym is) in
     let each = All-get_or (IsEvent trace.version trace.layout) trace.events i event (omega (arith, ap length same)) ranged.events in
-    (subst (λ (e : Event). IsEvent trace.version trace.layout e) (sym (read ∙ ap (λ (xs : List Event). get_or xs i event) same) ∙ is) each).1
+    record {
+      made = own.0;
+      on = own.2;
+      is = ap (λ o. option_and_then made_by o) there ∙ own.1;
+      no_reply = no_reply_there trace i shape there (no_reply_unless shape none);
+      few = thread_in_layout trace.version trace.layout shape thread told
+          (subst (λ (e : Event). IsEvent trace.version trace.layout e) (sym (is ∙ read ∙ ap (λ (xs : List Event). get_or xs i event) same)) each);
+    }
 
 -- whether the event at an index is a call, as it is given
 pub told_call : (trace : Recording) (events : List Event) (i : ℕ) (event : Event) (told : Bool) → events ≡ trace.events → i < length events

@@ -7,7 +7,7 @@ use Rattle.std.proofs.lemmas.Bool.{cases_lt}
 use Rattle.std.proofs.lemmas.Option.{slice_get_within, slice_get_past, slice_get-get_or, same_Some}
 use Rattle.vs_types.specs.Space.{Space}
 use Rattle.vs_walk.specs.Dump.{Image}
-use Rattle.nr_trace.specs.Recording.{Recording}
+use Rattle.nr_trace.specs.Recording.{Recording, IsThere}
 use Rattle.nr_trace.specs.Calls.{Response, reply_of}
 use Rattle.nr_trace.specs.Orders.{space_from}
 use Rattle.nr_trace.specs.Faults.{HasFaultFrom, Earlier, rank, RestsOnMore, HasDump}
@@ -57,6 +57,27 @@ none_past start trace replica past (ReservedBit at frame index) among holds = no
 none_past start trace replica past (StrayFrame at frame) among holds = no_dump_past trace at _ (subst (λ r. length trace.dumps ≤ r) (sym among) past) holds
 none_past start trace replica past (Differs at address) among holds = no_dump_past trace at _ (subst (λ r. length trace.dumps ≤ r) (sym among) past) holds
 none_past start trace replica past other among holds = among
+
+-- nor with a dump that is not there
+not_there : (trace : Recording) (replica : ℕ) (dump : Image) (P : Image → Type 0) → (IsThere dump → ⊥) → slice_get trace.dumps replica ≡ Some dump
+    → HasDump trace replica P → ⊥
+not_there trace replica dump P absent is has = absent (subst IsThere (same_Some has.0 dump (sym has.1 ∙ is)) has.2)
+
+pub none_absent : (start : Space) (trace : Recording) (replica : ℕ) (dump : Image) → slice_get trace.dumps replica ≡ Some dump → (IsThere dump → ⊥)
+    → HasNoneFrom start (IsDumpFaultAt replica) trace
+none_absent start trace replica dump is absent other among holds = by_fault other among holds where
+  at_other : (at : ℕ) → at ≡ replica → slice_get trace.dumps at ≡ Some dump
+  at_other at same = ap (slice_get trace.dumps) same ∙ is
+
+  by_fault : (fault : Fault) → IsDumpFaultAt replica fault → HasFaultFrom start trace fault → ⊥
+  by_fault (PrefixPastLog at) among holds = not_there trace at dump _ absent (at_other at among) holds
+  by_fault (PrefixShort at) among holds = not_there trace at dump _ absent (at_other at among) holds
+  by_fault (MissingFrame at frame) among holds = not_there trace at dump _ absent (at_other at among) holds
+  by_fault (SharedFrame at frame) among holds = not_there trace at dump _ absent (at_other at among) holds
+  by_fault (ReservedBit at frame index) among holds = not_there trace at dump _ absent (at_other at among) holds
+  by_fault (StrayFrame at frame) among holds = not_there trace at dump _ absent (at_other at among) holds
+  by_fault (Differs at address) among holds = not_there trace at dump _ absent (at_other at among) holds
+  by_fault fault among holds = among
 
 pub no_dump_fault : (start : Space) (trace : Recording) → ((lower : ℕ) → lower < length trace.dumps → HasNoneFrom start (IsDumpFaultAt lower) trace)
     → HasNoneFrom start IsDumpFault trace
@@ -141,15 +162,15 @@ is_of_replica replica (of_dump.Differs address) = refl
 reply_below : (trace : Recording) (index : ℕ) (reply : Response) → reply_of trace index ≡ Some reply → index < length trace.events
 reply_below trace index reply is = let (event, at, own) = reply_in_event (slice_get trace.events index) reply is in slice_get_within trace.events index event at
 
-module _ (start : Space) (trace : Recording) (replica : ℕ) (dump : Image) (is : slice_get trace.dumps replica ≡ Some dump) where
+module _ (start : Space) (trace : Recording) (replica : ℕ) (dump : Image) (is : slice_get trace.dumps replica ≡ Some dump) (there : IsThere dump) where
   -- what holds of the dump holds of the trace
   told : (fault : DumpFault) → dumps.HoldsOfDump trace.layout.depth dump (space_from start trace (take dump.applied trace.log)) fault
       → HasFaultFrom start trace (at_replica replica fault)
-  told (of_dump.MissingFrame frame) holds = (dump, is, holds)
-  told (of_dump.SharedFrame frame) holds = (dump, is, holds)
-  told (of_dump.ReservedBit frame index) holds = (dump, is, holds)
-  told (of_dump.StrayFrame frame) holds = (dump, is, holds)
-  told (of_dump.Differs address) holds = (dump, is, holds)
+  told (of_dump.MissingFrame frame) holds = (dump, is, there, holds)
+  told (of_dump.SharedFrame frame) holds = (dump, is, there, holds)
+  told (of_dump.ReservedBit frame index) holds = (dump, is, there, holds)
+  told (of_dump.StrayFrame frame) holds = (dump, is, there, holds)
+  told (of_dump.Differs address) holds = (dump, is, there, holds)
 
   own_dump : (at : ℕ) (other : Image) → at ≡ replica → slice_get trace.dumps at ≡ Some other → other ≡ dump
   own_dump at other same there = same_Some other dump (sym there ∙ ap (slice_get trace.dumps) same ∙ is)
@@ -164,44 +185,44 @@ module _ (start : Space) (trace : Recording) (replica : ℕ) (dump : Image) (is 
       inr (
         of_dump.MissingFrame frame,
         subst (λ d. dumps.HoldsOfDump trace.layout.depth d (space_from start trace (take d.applied trace.log)) (of_dump.MissingFrame frame))
-            (own_dump at holds.0 among holds.1) holds.2,
+            (own_dump at holds.0 among holds.1) holds.3,
         refl,
       )
   back (SharedFrame at frame) among holds =
       inr (
         of_dump.SharedFrame frame,
         subst (λ d. dumps.HoldsOfDump trace.layout.depth d (space_from start trace (take d.applied trace.log)) (of_dump.SharedFrame frame))
-            (own_dump at holds.0 among holds.1) holds.2,
+            (own_dump at holds.0 among holds.1) holds.3,
         refl,
       )
   back (ReservedBit at frame index) among holds =
       inr (
         of_dump.ReservedBit frame index,
         subst (λ d. dumps.HoldsOfDump trace.layout.depth d (space_from start trace (take d.applied trace.log)) (of_dump.ReservedBit frame index))
-            (own_dump at holds.0 among holds.1) holds.2,
+            (own_dump at holds.0 among holds.1) holds.3,
         refl,
       )
   back (StrayFrame at frame) among holds =
       inr (
         of_dump.StrayFrame frame,
         subst (λ d. dumps.HoldsOfDump trace.layout.depth d (space_from start trace (take d.applied trace.log)) (of_dump.StrayFrame frame))
-            (own_dump at holds.0 among holds.1) holds.2,
+            (own_dump at holds.0 among holds.1) holds.3,
         refl,
       )
   back (Differs at address) among holds =
       inr (
         of_dump.Differs address,
         subst (λ d. dumps.HoldsOfDump trace.layout.depth d (space_from start trace (take d.applied trace.log)) (of_dump.Differs address))
-            (own_dump at holds.0 among holds.1) holds.2,
+            (own_dump at holds.0 among holds.1) holds.3,
         refl,
       )
   back other among holds = absurd among
 
   past_log : HasFaultFrom start trace (PrefixPastLog replica) → length trace.log < dump.applied
-  past_log holds = subst (λ (d : Image). length trace.log < d.applied) (own_dump replica holds.0 refl holds.1) holds.2
+  past_log holds = subst (λ (d : Image). length trace.log < d.applied) (own_dump replica holds.0 refl holds.1) holds.3
 
   rests_on_more : HasFaultFrom start trace (PrefixShort replica) → RestsOnMore trace replica dump
-  rests_on_more holds = subst (λ (d : Image). RestsOnMore trace replica d) (own_dump replica holds.0 refl holds.1) holds.2
+  rests_on_more holds = subst (λ (d : Image). RestsOnMore trace replica d) (own_dump replica holds.0 refl holds.1) holds.3
 
   -- a fault of a lower number comes earlier
   comes_earlier : (other fault : DumpFault) → number_in other < number_in fault
@@ -238,7 +259,7 @@ module _ (start : Space) (trace : Recording) (replica : ℕ) (dump : Image) (is 
   pub first_past_log : length trace.log < dump.applied → IsFirstAmongFrom start (IsDumpFaultAt replica) trace (PrefixPastLog replica)
   first_past_log past = record {
     is_among = refl;
-    holds = (dump, is, past);
+    holds = (dump, is, there, past);
     none_earlier = λ other among holds earlier. none_lower replica other among (lower trace replica 11 (PrefixPastLog replica) refl other among earlier);
   }
 
@@ -255,6 +276,7 @@ module _ (start : Space) (trace : Recording) (replica : ℕ) (dump : Image) (is 
           holds = (
             dump,
             is,
+            there,
             record {
               index = known.index;
               reply = known.reply;

@@ -21,13 +21,14 @@ use Rattle.nr_trace.proofs.LawsOfSpelling.{one_trace}
 use Rattle.nr_trace.proofs.LawsOfFormat.{no_fault}
 use Rattle.nr_trace.proofs.LawsOfFaults.{one_first, one_first_of}
 use Rattle.nr_trace.proofs.LawsOfHistories.{history_if_faultless}
-use Rattle.nr_trace.proofs.LawsOfDumps.{legal_if_faultless, fits_if_faultless}
+use Rattle.nr_trace.proofs.LawsOfDumps.{dump_is_there, legal_if_faultless, fits_if_faultless}
 use Rattle.nr_audit.specs.Verdict.{IsJudgedFrom, IsVerdictOn, IsVerdictOf, IfRight, IfYes, space_of}
 use Rattle.nr_audit.specs.Headline.{SpellsAlone, HasDumpsFrom, HasFittingDumps, IsSpelledWith, AreRightWith}
 use Rattle.nr_audit.specs.declared.verdict.Judged.{Judged}
 use Rattle.nr_audit.specs.declared.verdict.Judged.TheVariants.{Right, Wrong}
 use Rattle.nr_audit.specs.declared.verdict.Verdict.{Verdict}
 use Rattle.nr_audit.specs.declared.verdict.Verdict.TheVariants.{Yes, No}
+use Rattle.nr_trace.specs.declared.version.Form.TheVariants as forms
 
 -- ---- what holds of a trace without faults from a start on, with its recorded order
 
@@ -36,7 +37,7 @@ module _ (start : Space) (trace : Recording) (order : List ℕ) (faultless : IsF
   legal_order = subst (IsLegalFrom start trace) (sym is) (legal_if_faultless start trace faultless)
 
   dumps_of_order : HasDumpsFrom start trace order
-  dumps_of_order = subst (HasDumpsFrom start trace) (sym is) (λ replica dump there. fits_if_faultless start trace replica dump faultless there)
+  dumps_of_order = subst (HasDumpsFrom start trace) (sym is) (λ replica dump at there. fits_if_faultless start trace replica dump faultless at there)
 
 -- ---- what is judged from a start on
 
@@ -119,7 +120,7 @@ pub answers_on : (trace : Recording) (verdict : Verdict) → IsVerdictOn trace v
 answers_on trace (Yes order) is = (legal_order no_pages trace order is.0 is.1).answers
 answers_on trace (No fault) is = tt
 
-pub dumps_on : (trace : Recording) (verdict : Verdict) → IsVerdictOn trace verdict → IfYes (HasFittingDumps trace) verdict
+pub dumps_on : (trace : Recording) (verdict : Verdict) → IsVerdictOn trace verdict → IfYes (HasDumpsFrom no_pages trace) verdict
 dumps_on trace (Yes order) is = dumps_of_order no_pages trace order is.0 is.1
 dumps_on trace (No fault) is = tt
 
@@ -156,7 +157,7 @@ sides bytes fault h = inr h
 
 none_of_faultless : (bytes : List ℕ) (trace : Recording) (fault : Fault) → Spells bytes trace → IsFaultless trace → IsFirstOf bytes fault → ⊥
 none_of_faultless bytes trace fault spelled faultless first = elim (sides bytes fault first) [
-  | inl format ↦ no_fault bytes trace format.0 spelled format.1
+  | inl format ↦ no_fault forms.Trace bytes trace format.0 spelled format.1
   | inr other ↦ faultless fault (subst (λ t. HasFault t fault) (one_trace bytes other.0 trace other.1 spelled) other.2.holds)
 ]
 
@@ -188,7 +189,7 @@ right_of bytes (Yes order) (trace, spelled, faultless, is) =
       members = members_on trace (Yes order) verdict;
       precedence = precedence_on trace (Yes order) verdict;
       answers = answers_on trace (Yes order) verdict;
-      dumps = dumps_on trace (Yes order) verdict;
+      dumps = λ replica dump at. dumps_on trace (Yes order) verdict replica dump at (dump_is_there trace replica dump spelled.of_form spelled.in_range at);
     }
 
 -- what is right of the whole is right of each part

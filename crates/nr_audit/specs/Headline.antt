@@ -2,7 +2,7 @@
 use Rattle.std.specs.Prelude.{◌≡◌, ℕ, List, slice_get, Some}
 use Rattle.vs_types.specs.Space.{Space, no_pages}
 use Rattle.vs_walk.specs.Dump.{Image}
-use Rattle.nr_trace.specs.Recording.{Recording}
+use Rattle.nr_trace.specs.Recording.{Recording, IsThere}
 use Rattle.nr_trace.specs.Spelling.{Spells}
 use Rattle.nr_trace.specs.Calls.{IsWellFormedHistory}
 use Rattle.nr_trace.specs.Orders.{HasItsCalls, KeepsPrecedence, HasTheAnswers, FitsFrom}
@@ -12,12 +12,14 @@ pub record SpellsAlone (bytes : List ℕ) (trace : Recording) : Type 0 where
   pub spelled : Spells bytes trace
   pub no_other : (other : Recording) → Spells bytes other → other ≡ trace
 
--- every dump fits the order, from a start on
+-- every dump that is there fits the order, from a start on
 abbrev pub HasDumpsFrom : Space → Recording → List ℕ → Type 0
-HasDumpsFrom start trace order = (replica : ℕ) (dump : Image) → slice_get trace.dumps replica ≡ Some dump → FitsFrom start trace order replica dump
+HasDumpsFrom start trace order = (replica : ℕ) (dump : Image) → slice_get trace.dumps replica ≡ Some dump → IsThere dump
+    → FitsFrom start trace order replica dump
 
+-- every dump fits it
 abbrev pub HasFittingDumps : Recording → List ℕ → Type 0
-HasFittingDumps trace order = HasDumpsFrom no_pages trace order
+HasFittingDumps trace order = (replica : ℕ) (dump : Image) → slice_get trace.dumps replica ≡ Some dump → FitsFrom no_pages trace order replica dump
 
 -- what the bytes spell has the property
 abbrev pub IsSpelledWith : List ℕ → (Recording → Type 0) → Type 0

@@ -1,6 +1,6 @@
 //! The first pass: calls and replies, each by itself.
 
-ghost use Rattle.std.specs.Prelude.{◌≡◌, ◌<◌, ◌↔◌, OnOk, IfOk, IfErr, IfSome, IsSomeAnd, IsTrue, is_some, length, slice_index_or};
+ghost use Rattle.std.specs.Prelude.{◌≡◌, ◌<◌, ◌↔◌, OnOk, IfOk, IfErr, IfSome, IsSomeAnd, IsTrue, is_some, length, option_map, slice_index_or};
 ghost use Rattle.vs_types.specs.Refusal.{IfRefused};
 ghost use Rattle.nr_trace.specs.Calls.{made_by};
 ghost use Rattle.nr_audit.specs.inside.Search.{HasNone, IsFirstAmong};
@@ -12,10 +12,20 @@ use nr_trace::{Event, Fault, Recorded, Trace};
 use std::alloc::Global;
 use vs_types::Fail;
 
+/// The thread of the call or touch that an event is, or `None` where it is neither.
+fn thread_of(event: Event) -> Option<u16>
+    ensures { result ≡ option_map (λ made. made.thread) (made_by event) }
+{
+    match event {
+        Event::Call { thread, .. } | Event::Touch { thread, .. } => Some(thread),
+        Event::Reply { .. } => None,
+    }
+}
+
 fn is_call(event: Recorded) -> bool
     ensures { result ≡ is_some (made_by event) }
 {
-    matches!(event.event(), Event::Call { .. })
+    thread_of(event.event()).is_some()
 }
 
 /// Whether the last call of a thread has no reply.
@@ -30,32 +40,30 @@ fn is_open(last: MaybeIndex, replies: &[MaybeIndex]) -> bool
 }
 
 /// Looks for a call of a thread whose earlier call has no reply yet, a reply to what is no earlier call, and a second
-/// reply to a call. Gives the history, and allocates memory for it: four bytes for each event, and for each thread.
+/// reply to a call; a touch is a call here. Gives the history, and allocates memory for it: four bytes for each event, and for each thread.
 pub(crate) fn check_calls<'a>(alloc: Global, trace: &'a Trace) -> Result<History<'a>, Fail<Fault>>
     ensures history { IfOk result (λ history. history ≡ trace.now) }
     ensures clean { OnOk result (HasNone IsCallFault trace.now) }
     ensures first { IfErr result (IfRefused (IsFirstAmong IsCallFault trace.now)) }
 {
     let events = trace.events();
-    let mut last = empty_table(alloc, trace.config().threads() as usize)?;
+    let mut last = empty_table(alloc, trace.layout().threads() as usize)?;
     let mut replies = empty_table(alloc, events.len())?;
     for (index, event) in events.iter().enumerate() {
-        match event.event() {
-            Event::Call { thread, .. } => {
-                if is_open(last[thread as usize], &replies) {
-                    return Err(Fail::Refused(Fault::ThreadOpen(index as u32)));
-                }
-                last[thread as usize] = MaybeIndex::of(index as u32);
+        let event = event.event();
+        if let Event::Reply { call, .. } = event {
+            if call as usize >= index || !is_call(events[call as usize]) {
+                return Err(Fail::Refused(Fault::NoSuchCall(index as u32)));
             }
-            Event::Reply { call, .. } => {
-                if call as usize >= index || !is_call(events[call as usize]) {
-                    return Err(Fail::Refused(Fault::NoSuchCall(index as u32)));
-                }
-                if replies[call as usize].get().is_some() {
-                    return Err(Fail::Refused(Fault::AnsweredTwice(index as u32)));
-                }
-                replies[call as usize] = MaybeIndex::of(index as u32);
+            if replies[call as usize].get().is_some() {
+                return Err(Fail::Refused(Fault::AnsweredTwice(index as u32)));
             }
+            replies[call as usize] = MaybeIndex::of(index as u32);
+        } else if let Some(thread) = thread_of(event) {
+            if is_open(last[thread as usize], &replies) {
+                return Err(Fail::Refused(Fault::ThreadOpen(index as u32)));
+            }
+            last[thread as usize] = MaybeIndex::of(index as u32);
         }
     }
     Ok(History::of(trace, replies))

@@ -61,7 +61,7 @@ pub(crate) fn compare_dumps(
     Ok(())
 }
 
-/// Looks for what is wrong with a replica's dump: with how many entries it has applied, and then with its tables.
+/// Looks for what is wrong with a replica's dump, where one is there: with how many entries it has applied, and then with its tables.
 fn check_dump(
     trace: &Trace,
     replica: usize,
@@ -76,6 +76,9 @@ fn check_dump(
         → IfErr result (IfRefused (IsFirstAmongFrom start (IsDumpFaultAt replica) trace.now)) }
 {
     let dump = &trace.dumps()[replica];
+    if dump.count() == 0 {
+        return Ok(());
+    }
     let applied = dump.applied() as usize;
     if applied > trace.log().len() {
         return Err(Fail::Refused(Fault::PrefixPastLog(replica as u8)));

@@ -34,7 +34,8 @@ pub(crate) struct Standing {
     pub(crate) needed: [u64; REPLICAS as usize],
 }
 
-/// How many entries of the log are known by a reply: those up to the update's own, or those that the read saw.
+/// How many entries of the log are known by a reply: those up to the update's own, or those that the read saw; by one to a
+/// touch none.
 fn entries_known(history: &History, call: u32, at: u32) -> u64
     ensures { (answer : Answer)
         → let reply : Response = record { call = call; at = at; answer = answer } in
@@ -42,6 +43,8 @@ fn entries_known(history: &History, call: u32, at: u32) -> u64
 {
     if history.is_update(call) {
         at as u64 + 1
+    } else if history.is_touch(call) {
+        0
     } else {
         at as u64
     }
@@ -104,21 +107,16 @@ pub(crate) fn check_replies(
     let mut rows = places;
     let (mut count, mut early, mut floor, mut needed) = (0, None, 0, [0; REPLICAS as usize]);
     for (index, event) in history.events().iter().enumerate() {
-        match event.event() {
-            Event::Call { .. } => {
-                if let Some(entries) = pass_call(history, &mut lasts, &mut rows, index as u32) {
-                    early = early_call(history, early, index as u32, entries, floor);
-                    count += 1;
-                }
+        if let Event::Reply { call, at, .. } = event.event() {
+            if let Some(fault) = position_fault(history, index as u32, call, at) {
+                return Err(Fail::Refused(fault));
             }
-            Event::Reply { call, at, .. } => {
-                if let Some(fault) = position_fault(history, index as u32, call, at) {
-                    return Err(Fail::Refused(fault));
-                }
-                let known = entries_known(history, call, at);
-                floor = floor.max(known);
-                raise_need(history, &mut needed, call, known);
-            }
+            let known = entries_known(history, call, at);
+            floor = floor.max(known);
+            raise_need(history, &mut needed, call, known);
+        } else if let Some(entries) = pass_call(history, &mut lasts, &mut rows, index as u32) {
+            early = early_call(history, early, index as u32, entries, floor);
+            count += 1;
         }
     }
     if let Some(call) = early {

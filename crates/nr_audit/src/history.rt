@@ -1,7 +1,7 @@
 //! A trace with the reply to each of its calls.
 
 ghost use Rattle.std.specs.Prelude.{◌≡◌, ◌<◌, IfSome, option_map, is_some};
-ghost use Rattle.nr_trace.specs.Calls.{address_of, call_of, operation_of, IsCall};
+ghost use Rattle.nr_trace.specs.Calls.{address_of, call_of, operation_of, touch_of, IsCall};
 ghost use Rattle.nr_trace.specs.Recording.{IsRecording};
 ghost use Rattle.nr_audit.specs.inside.LastEvents.{IsLastEvent};
 ghost use Rattle.nr_audit.specs.inside.Replies.{position_of};
@@ -81,13 +81,23 @@ impl<'a> History<'a> {
         }
     }
 
+    /// Whether a touch has this number.
+    pub(crate) fn is_touch(&self, call: u32) -> bool
+        ensures { result ≡ is_some (touch_of self.now call) }
+    {
+        match self.trace.events().get(call as usize) {
+            Some(event) => matches!(event.event(), Event::Touch { .. }),
+            None => false,
+        }
+    }
+
     /// The replica at which a call was made, or `None` where no call has this number.
     pub(crate) fn replica(&self, call: u32) -> Option<u8>
         ensures made { result ≡ option_map (λ made. made.replica) (call_of self.now call) }
         ensures in_range { IfSome result (λ replica. replica < 4) }
     {
         match self.trace.events().get(call as usize)?.event() {
-            Event::Call { replica, .. } => Some(replica),
+            Event::Call { replica, .. } | Event::Touch { replica, .. } => Some(replica),
             Event::Reply { .. } => None,
         }
     }

@@ -1,6 +1,7 @@
 //! The audit: of a trace, of what was read, and of bytes.
 
 ghost use Rattle.std.specs.Prelude.{◌≡◌, ℕ, IfOk, List};
+ghost use Rattle.vs_types.specs.Space.{no_pages};
 ghost use Rattle.nr_trace.specs.Calls.{IsWellFormedHistory};
 ghost use Rattle.nr_trace.specs.Feed.{Reads};
 ghost use Rattle.nr_trace.specs.Faults.{IsFirst, IsFirstFrom, IsFirstOf};
@@ -58,8 +59,8 @@ pub fn judge_from(alloc: Global, trace: &Trace, start: PlainSpace) -> Result<Jud
 /// `Yes` says that the events are a well-formed history: each reply answers an earlier call, a call has one reply at most, and a
 /// thread has one call open at a time. And that it is linearizable, by this order, which has all answered calls and some unanswered
 /// updates, each once: a call answered before another was made comes first, and each answer is that of one sequential address
-/// space. And that each dump translates every canonical address as that space does after so many updates as the replica had
-/// applied. `No` does not say that no other order explains the trace.
+/// space. And that each dump that is there, as all of a trace are, translates every canonical address as that space does after so
+/// many updates as the replica had applied. `No` does not say that no other order explains the trace.
 ///
 /// Allocates memory beside the trace: at most 16 bytes for each event and 4 for each thread; and, when these are freed but
 /// for 4 bytes for each call of the order, for one space and what the check of a dump takes.
@@ -77,10 +78,10 @@ pub fn judge(alloc: Global, trace: &Trace) -> Result<Verdict, Memory>
     ensures members { IfOk result (IfYes (HasItsCalls trace.now)) }
     ensures precedence { IfOk result (IfYes (KeepsPrecedence trace.now)) }
     ensures answers { IfOk result (IfYes (HasTheAnswers trace.now)) }
-    ensures dumps { IfOk result (IfYes (HasFittingDumps trace.now)) }
+    ensures dumps { IfOk result (IfYes (HasDumpsFrom no_pages trace.now)) }
 {
-    let config = trace.config();
-    let empty = PlainSpace::new(alloc, config.tables(), config.depth());
+    let layout = trace.layout();
+    let empty = PlainSpace::new(alloc, layout.tables(), layout.depth());
     let judged = judge_from(alloc, trace, empty)?;
     match judged {
         Judged::Right(order, _) => Ok(Verdict::Yes(order)),

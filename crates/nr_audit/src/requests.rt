@@ -1,19 +1,19 @@
-//! What a call asks.
+//! What an update or a read asks.
 
-ghost use Rattle.std.specs.Prelude.{◌≡◌, IfSome, option_map};
+ghost use Rattle.std.specs.Prelude.{◌≡◌, IfSome};
 ghost use Rattle.vs_types.specs.Query.{IsQuery};
-ghost use Rattle.nr_trace.specs.Calls.{call_of};
+ghost use Rattle.nr_audit.specs.inside.Replies.{asked_by};
 
 use nr_trace::{Event, Trace};
 use vs_types::Request;
 
-/// What the call of this number asks, or `None` where there is no such call.
+/// What the update or the read of this number asks, or `None` where there is none.
 pub(crate) fn request_of(trace: &Trace, call: u32) -> Option<Request>
-    ensures asks { result ≡ option_map (λ made. made.request) (call_of trace.now call) }
+    ensures asks { result ≡ asked_by trace.now call }
     ensures well_formed { IfSome result (IsQuery trace.now.layout.depth) }
 {
     match trace.events().get(call as usize)?.event() {
         Event::Call { request, .. } => Some(request),
-        Event::Reply { .. } => None,
+        Event::Touch { .. } | Event::Reply { .. } => None,
     }
 }

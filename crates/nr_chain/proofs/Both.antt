@@ -1,5 +1,5 @@
 -- Two runs, of which the second is right from the space after the first, are one right run.
-use Rattle.std.proofs.Common.{◌≡◌, ℕ, ◌+◌, ◌<◌, ◌≤◌, ◌⊎◌, inl, inr, List, ◌++◌, length, take, slice_get, Contains, Some, is_some, ap, sym, ◌∙◌, subst}
+use Rattle.std.proofs.Common.{◌≡◌, ℕ, ◌+◌, ◌<◌, ◌≤◌, ◌⊎◌, inl, inr, List, ◌++◌, length, take, slice_get, Contains, Some, is_some, false, ap, sym, ◌∙◌, subst}
 use Rattle.std.proofs.Common.{arith}
 use Rattle.std.proofs.lemmas.List.{length-append, length-map}
 use Rattle.std.proofs.lemmas.Option.{slice_get-map}
@@ -7,16 +7,17 @@ use Rattle.vs_types.specs.Config.{Layout}
 use Rattle.vs_types.specs.Space.{Space}
 use Rattle.vs_walk.specs.Walk.{TranslatesAs}
 use Rattle.vs_walk.specs.Dump.{Image}
-use Rattle.nr_trace.specs.Recording.{Recording}
-use Rattle.nr_trace.specs.Calls.{Invocation, call_of, operation_of, IsCall, IsUpdate, IsRead, Response, reply_to, IsAnswered, Precedes}
+use Rattle.nr_trace.specs.Recording.{IsThere, Recording}
+use Rattle.nr_trace.specs.Calls.{Invocation, call_of, operation_of, IsOrdered, IsUpdate, IsRead, Response, reply_to, IsAnswered, Precedes}
 use Rattle.nr_trace.specs.Orders.{before, updates, space_from, answer_in, HasItsCalls, KeepsPrecedence, HasAnswersFrom, FitsFrom}
 use Rattle.nr_trace.proofs.LawsOfLists.{In, Contains-from_in, in_from_Contains, in_left, in_right, in_either, in_filter, in_filtered, distinct_append}
-use Rattle.nr_trace.proofs.LawsOfCalls.{call_within, is_some_from}
+use Rattle.nr_trace.proofs.LawsOfCalls.{call_within, is_some_from, ordered_from_made, ordered_is_call}
 use Rattle.nr_chain.specs.Joined.{Segment, dump_behind, calls_behind, joined_traces, both}
 use Rattle.nr_chain.specs.Run.{IsRightFrom, HasFittingDumpsFrom, space_behind}
 use Rattle.nr_chain.proofs.Lists.{in_map, not_in_behind, in_behind, behind_distinct, before_left, before_right, before_behind, before_in, split_at, of_mapped}
 use Rattle.nr_chain.proofs.Parts.{call_left, call_right, reply_behind, reply_to_left, reply_to_right, HasEarlierCalls, answered_left, answered_right}
-use Rattle.nr_chain.proofs.Parts.{is_call_left, is_call_from_left, is_call_right, is_call_from_right, is_update_left, is_update_from_left, is_update_right}
+use Rattle.nr_chain.proofs.Places.{is_ordered_left, is_ordered_from_left, is_ordered_right, is_ordered_from_right, is_read_left}
+use Rattle.nr_chain.proofs.Parts.{is_call_left, is_call_right, is_update_left, is_update_from_left, is_update_right}
 use Rattle.nr_chain.proofs.Parts.{is_update_from_right, is_read_right, is_answered_left, is_answered_from_left, is_answered_right, is_answered_from_right}
 use Rattle.nr_chain.proofs.Orders.{AreOf, updates_both, space_left, space_both, space_of_updates, taken_both}
 use Rattle.nr_chain.proofs.History.{earlier_calls, history_both}
@@ -32,7 +33,7 @@ module _ (start : Space) (first second : Segment) (same_layout : second.trace.la
   earlier = earlier_calls first.trace is_before.events
 
   of_first : AreOf first.trace first.order
-  of_first call i = call_within first.trace call (is_before.members.calls call (Contains-from_in call first.order i))
+  of_first call i = call_within first.trace call (ordered_is_call first.trace call (is_before.members.calls call (Contains-from_in call first.order i)))
 
   not_in_first : (k : ℕ) → In (length first.trace.events + k) first.order → ⊥
   not_in_first k i = let l = of_first (length first.trace.events + k) i in omega arith
@@ -77,24 +78,24 @@ module _ (start : Space) (first second : Segment) (same_layout : second.trace.la
     apart : (call : ℕ) → In call first.order → In call (calls_behind (length first.trace.events) second.order) → ⊥
     apart call i j = not_in_behind (length first.trace.events) call second.order (of_first call i) j
 
-    calls : (call : ℕ) → Contains order call → IsCall whole call
+    calls : (call : ℕ) → Contains order call → IsOrdered whole call
     calls call m = by_side (split_at (length first.trace.events) call) where
-      by_side : (call < length first.trace.events) ⊎ ((k : ℕ) × (call ≡ length first.trace.events + k)) → IsCall whole call
+      by_side : (call < length first.trace.events) ⊎ ((k : ℕ) × (call ≡ length first.trace.events + k)) → IsOrdered whole call
       by_side (inl l) =
-          is_call_from_left first.trace second.trace call l (is_before.members.calls call (Contains-from_in call first.order (member_left call l m)))
+          is_ordered_from_left first.trace second.trace call l (is_before.members.calls call (Contains-from_in call first.order (member_left call l m)))
       by_side (inr (k, e)) =
           let own = member_right k (subst (λ (c : ℕ). Contains order c) e m) in
-          subst (λ (c : ℕ). IsCall whole c) (sym e)
-          (is_call_from_right first.trace second.trace k (behind.calls k (Contains-from_in k second.order own)))
+          subst (λ (c : ℕ). IsOrdered whole c) (sym e)
+          (is_ordered_from_right first.trace second.trace k (behind.calls k (Contains-from_in k second.order own)))
 
-    answered : (call : ℕ) → IsCall whole call → IsAnswered whole call → Contains order call
+    answered : (call : ℕ) → IsOrdered whole call → IsAnswered whole call → Contains order call
     answered call c a = by_side (split_at (length first.trace.events) call) where
       by_side : (call < length first.trace.events) ⊎ ((k : ℕ) × (call ≡ length first.trace.events + k)) → Contains order call
       by_side (inl l) =
-          from_left call (in_from_Contains call first.order (is_before.members.answered call (is_call_left first.trace second.trace call l c)
+          from_left call (in_from_Contains call first.order (is_before.members.answered call (is_ordered_left first.trace second.trace call l c)
           (is_answered_left first.trace second.trace call l a)))
       by_side (inr (k, e)) =
-          let own_call = is_call_right first.trace second.trace k (subst (λ (n : ℕ). IsCall whole n) e c) in
+          let own_call = is_ordered_right first.trace second.trace k (subst (λ (n : ℕ). IsOrdered whole n) e c) in
           let own_answer = is_answered_right first.trace second.trace k earlier (subst (λ (n : ℕ). IsAnswered whole n) e a) in
           subst (λ (n : ℕ). Contains order n) (sym e)
           (from_right k (in_from_Contains k second.order (behind.answered k own_call own_answer)))
@@ -203,25 +204,25 @@ module _ (start : Space) (first second : Segment) (same_layout : second.trace.la
     Right call reply made = reply.answer ≡ answer_in first.trace.layout (space_from start whole (before call order)) made.request
 
     right_left : (call : ℕ) (made : Invocation) (reply : Response) → call < length first.trace.events → call_of whole call ≡ Some made
-        → reply_to whole call ≡ Some reply → Right call reply made
-    right_left call made reply l is_made is_reply =
+        → made.touch ≡ false → reply_to whole call ≡ Some reply → Right call reply made
+    right_left call made reply l is_made no_touch is_reply =
         let own_made : call_of first.trace call ≡ Some made = sym (call_left first.trace second.trace call l) ∙ is_made in
         let own_reply : reply_to first.trace call ≡ Some reply = sym (reply_to_left first.trace second.trace call l) ∙ is_reply in
-        let i = in_from_Contains call first.order (is_before.members.answered call (is_some_from (call_of first.trace call) made own_made)
+        let i = in_from_Contains call first.order (is_before.members.answered call (ordered_from_made first.trace call made own_made no_touch)
         (is_some_from (reply_to first.trace call) reply own_reply)) in
-        is_before.answers call made reply own_made own_reply
+        is_before.answers call made reply own_made no_touch own_reply
         ∙ ap (λ (space : Space). answer_in first.trace.layout space made.request)
         (sym (ap (λ (calls : List ℕ). space_from start whole calls) (before_first_member call i)
         ∙ space_left start first.trace second.trace (before call first.order) (λ other j. of_first other (before_in other call first.order j))))
 
     right_right : (k : ℕ) (made : Invocation) (reply : Response) → call_of whole (length first.trace.events + k) ≡ Some made
-        → reply_to whole (length first.trace.events + k) ≡ Some reply → Right (length first.trace.events + k) reply made
-    right_right k made reply is_made is_reply =
+        → made.touch ≡ false → reply_to whole (length first.trace.events + k) ≡ Some reply → Right (length first.trace.events + k) reply made
+    right_right k made reply is_made no_touch is_reply =
         let own_made : call_of second.trace k ≡ Some made = sym (call_right first.trace second.trace k) ∙ is_made in
         let (own, own_reply, same) = of_mapped (reply_behind (length first.trace.events) (length first.trace.log)) (reply_to second.trace k) reply
         (sym (reply_to_right first.trace second.trace k earlier) ∙ is_reply) in
         let answer : own.answer ≡ reply.answer = ap (λ (r : Response). r.answer) same in
-        sym answer ∙ behind k made own own_made own_reply
+        sym answer ∙ behind k made own own_made no_touch own_reply
         ∙ ap (λ (layout : Layout). answer_in layout (space_from (space_behind start first) second.trace (before k second.order)) made.request) same_layout
         ∙ ap (λ (space : Space). answer_in first.trace.layout (space_from space second.trace (before k second.order)) made.request) logged_space
         ∙ ap (λ (space : Space). answer_in first.trace.layout space made.request)
@@ -229,12 +230,12 @@ module _ (start : Space) (first second : Segment) (same_layout : second.trace.la
         ∙ space_both start first.trace second.trace first.order (before k second.order) same_layout of_first))
 
     answers_both : HasAnswersFrom start whole order
-    answers_both call made reply is_made is_reply = by_side (split_at (length first.trace.events) call) where
+    answers_both call made reply is_made no_touch is_reply = by_side (split_at (length first.trace.events) call) where
       by_side : (call < length first.trace.events) ⊎ ((k : ℕ) × (call ≡ length first.trace.events + k)) → Right call reply made
-      by_side (inl l) = right_left call made reply l is_made is_reply
+      by_side (inl l) = right_left call made reply l is_made no_touch is_reply
       by_side (inr (k, e)) =
           subst (λ (c : ℕ). Right c reply made) (sym e)
-          (right_right k made reply (subst (λ (c : ℕ). call_of whole c ≡ Some made) e is_made)
+          (right_right k made reply (subst (λ (c : ℕ). call_of whole c ≡ Some made) e is_made) no_touch
           (subst (λ (c : ℕ). reply_to whole c ≡ Some reply) e is_reply))
 
   -- ---- the log
@@ -294,8 +295,9 @@ module _ (start : Space) (first second : Segment) (same_layout : second.trace.la
       by_side : (call < length first.trace.events) ⊎ ((k : ℕ) × (call ≡ length first.trace.events + k)) → Contains all_applied call
       by_side (inl l) =
           let own_made : call_of first.trace call ≡ Some made = sym (call_left first.trace second.trace call l) ∙ is_made in
-          has_logged call (in_from_Contains call first.order (is_before.members.answered call (is_some_from (call_of first.trace call) made own_made)
-          (is_answered_left first.trace second.trace call l a))) (is_update_left first.trace second.trace call l u)
+          let own_update = is_update_left first.trace second.trace call l u in
+          has_logged call (in_from_Contains call first.order (is_before.members.answered call (inl own_update)
+          (is_answered_left first.trace second.trace call l a))) own_update
       by_side (inr (k, e)) =
           let own_made = sym (call_right first.trace second.trace k) ∙ subst (λ (c : ℕ). call_of whole c ≡ Some made) e is_made in
           subst (λ (c : ℕ). Contains all_applied c) (sym e)
@@ -331,7 +333,7 @@ module _ (start : Space) (first second : Segment) (same_layout : second.trace.la
       by_side (inl l) =
           let own_made : call_of first.trace call ≡ Some made = sym (call_left first.trace second.trace call l) ∙ is_made in
           absurd (not_before_left call other (in_from_Contains call first.order (is_before.members.answered call
-          (is_some_from (call_of first.trace call) made own_made) (is_answered_left first.trace second.trace call l a))) h)
+          (inr (is_read_left first.trace second.trace call l r)) (is_answered_left first.trace second.trace call l a))) h)
       by_side (inr (k, e)) =
           let own_made = sym (call_right first.trace second.trace k) ∙ subst (λ (c : ℕ). call_of whole c ≡ Some made) e is_made in
           fits.own_reads k other made own_made here (is_read_right first.trace second.trace k (subst (λ (c : ℕ). IsRead whole c) e r))
@@ -353,10 +355,10 @@ module _ (start : Space) (first second : Segment) (same_layout : second.trace.la
     fits_both = record { enough = enough; translates = translates; own_updates = own_updates; own_reads = own_reads }
 
   pub dumps_both : HasFittingDumpsFrom (space_behind start first) second → HasFittingDumpsFrom start (both first second)
-  dumps_both behind replica dump is =
+  dumps_both behind replica dump is there =
       let (own, own_is, same) = of_mapped (dump_behind (length first.trace.log)) (slice_get second.trace.dumps replica) dump
       (sym (slice_get-map (dump_behind (length first.trace.log)) second.trace.dumps replica) ∙ is) in
-      subst (λ (d : Image). FitsFrom start whole order replica d) same (fits_both replica own (behind replica own own_is))
+      subst (λ (d : Image). FitsFrom start whole order replica d) same (fits_both replica own (behind replica own own_is (subst IsThere (sym same) there)))
 
   pub right_both : IsRightFrom (space_behind start first) second → IsRightFrom start (both first second)
   right_both behind = record {

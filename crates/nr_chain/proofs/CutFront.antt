@@ -13,7 +13,7 @@ use Rattle.nr_trace.specs.declared.fault.Fault.TheVariants.{Format, ThreadOpen, 
 use Rattle.nr_trace.specs.declared.fault.Fault.TheVariants.{WrongAnswer, PrefixPastLog, PrefixShort, MissingFrame, SharedFrame, ReservedBit, StrayFrame}
 use Rattle.nr_trace.specs.declared.fault.Fault.TheVariants.{Differs}
 use Rattle.nr_trace.proofs.LawsOfLists.{In}
-use Rattle.nr_trace.proofs.LawsOfCalls.{call_within, is_some_from, update_is_call, read_is_call, update_from_not_not, behind_its_call, answered_stands}
+use Rattle.nr_trace.proofs.LawsOfCalls.{call_within, is_some_from, update_is_call, read_is_call, update_from_not_not, behind_its_call, answered_stands, ordered_from_made}
 use Rattle.nr_trace.proofs.LawsOfOrder.{member_stands, standing_is_member}
 use Rattle.nr_trace.proofs.LawsOfPrecedence.{known_of_read}
 use Rattle.nr_chain.specs.Cut.{IsClosed, without_dumps}
@@ -147,7 +147,7 @@ module _ (start : Space) (first second : Recording) (closed : IsClosed first) (f
   right : (call : ℕ) → IsWrongFrom start first call → ⊥
   right call h =
       let own : call < length first.events = call_within first call (is_some_from (call_of first call) h.made h.is_made) in
-      let (stands, most) = answered_stands first call h.reply clean_front h.is_reply in
+      let (stands, most) = answered_stands first call h.reply clean_front (ordered_from_made first call h.made h.is_made h.no_touch) h.is_reply in
       let member = standing_is_member first h.reply.at call most stands in
       let space : space_from start whole (before call (recorded_order whole)) ≡ space_from start first (before call (recorded_order first)) =
       ap (λ (calls : List ℕ). space_from start whole calls) (same_before call member)
@@ -155,6 +155,7 @@ module _ (start : Space) (first second : Recording) (closed : IsClosed first) (f
       faultless (WrongAnswer call) (record {
         made = h.made;
         is_made = call_left first second call own ∙ h.is_made;
+        no_touch = h.no_touch;
         reply = h.reply;
         is_reply = reply_to_left first second call own ∙ h.is_reply;
         differs = λ e. h.differs (e ∙ ap (λ (s : Space). answer_in first.layout s h.made.request) space);
@@ -183,7 +184,7 @@ module _ (start : Space) (first second : Recording) (closed : IsClosed first) (f
   front_faultless (PastLog index) h = clean_front.none_past_log index h
   front_faultless (Early call) h = in_time call h.0 h.1 h.2
   front_faultless (WrongAnswer call) h =
-      right call (record { made = h.made; is_made = h.is_made; reply = h.reply; is_reply = h.is_reply; differs = h.differs })
+      right call (record { made = h.made; is_made = h.is_made; no_touch = h.no_touch; reply = h.reply; is_reply = h.is_reply; differs = h.differs })
   front_faultless (PrefixPastLog replica) h = none_there replica h.0 h.1
   front_faultless (PrefixShort replica) h = none_there replica h.0 h.1
   front_faultless (MissingFrame replica number) h = none_there replica h.0 h.1

@@ -6,7 +6,7 @@ use Rattle.vs_types.specs.Config.{Layout}
 use Rattle.vs_types.specs.Space.{Space}
 use Rattle.vs_walk.specs.Differences.{HasMissingFrame, HasSharedFrame, HasReservedBit, HasStrayFrame, HasDifference}
 use Rattle.vs_walk.specs.Dump.{Image}
-use Rattle.nr_trace.specs.Recording.{Recording}
+use Rattle.nr_trace.specs.Recording.{IsThere, Recording}
 use Rattle.nr_trace.specs.Calls.{operation_of, IsCall, IsUpdate, IsRead, Response, reply_of, Answers}
 use Rattle.nr_trace.specs.Orders.{before, space_from, answer_in, recorded_order, known_by, floor}
 use Rattle.nr_trace.specs.Faults.{OpensTwice, IsWrongFrom, RestsOnMore, StandsAfter}
@@ -169,7 +169,7 @@ module _ (start : Space) (first second : Recording) (same_layout : second.layout
   in_time : (call entries : ℕ) → StandsAfter second call entries → entries < floor second call → ⊥
   in_time call entries h l =
       let (index, reply, lower, is, more) = knows_more second call entries l in
-      let known = known_right first second reply in
+      let known = (known_right first second reply).1 (omega arith) in
       let more_there : length first.log + entries < known_by whole (behind reply) = omega arith in
       let lower_there : length first.events + index < length first.events + call = omega arith in
       faultless (Early (length first.events + call)) (
@@ -183,6 +183,7 @@ module _ (start : Space) (first second : Recording) (same_layout : second.layout
   right call h = faultless (WrongAnswer (length first.events + call)) (record {
     made = h.made;
     is_made = call_right first second call ∙ h.is_made;
+    no_touch = h.no_touch;
     reply = behind h.reply;
     is_reply = reply_to_right first second call earlier ∙ ap (option_map behind) h.is_reply;
     differs = λ e. h.differs (e ∙ ap (λ (s : Space). answer_in first.layout s h.made.request) (space_before_right start first second same_layout clean call)
@@ -194,20 +195,21 @@ module _ (start : Space) (first second : Recording) (same_layout : second.layout
   dump_there replica dump is =
       slice_get-map (dump_behind (length first.log)) second.dumps replica ∙ ap (option_map (dump_behind (length first.log))) is
 
-  within_log : (replica : ℕ) (dump : Image) → slice_get second.dumps replica ≡ Some dump → length second.log < dump.applied → ⊥
-  within_log replica dump is l =
+  within_log : (replica : ℕ) (dump : Image) → slice_get second.dumps replica ≡ Some dump → IsThere dump → length second.log < dump.applied → ⊥
+  within_log replica dump is is_there l =
       let places = places_of_both first second in
       let past : length whole.log < length first.log + dump.applied = omega arith in
-      faultless (PrefixPastLog replica) (dump_behind (length first.log) dump, dump_there replica dump is, past)
+      faultless (PrefixPastLog replica) (dump_behind (length first.log) dump, dump_there replica dump is, is_there, past)
 
-  enough : (replica : ℕ) (dump : Image) → slice_get second.dumps replica ≡ Some dump → RestsOnMore second replica dump → ⊥
-  enough replica dump is h =
-      let known = known_right first second h.reply in
+  enough : (replica : ℕ) (dump : Image) → slice_get second.dumps replica ≡ Some dump → IsThere dump → RestsOnMore second replica dump → ⊥
+  enough replica dump is is_there h =
       let own_more : dump.applied < known_by second h.reply = h.more in
+      let known = (known_right first second h.reply).1 (omega arith) in
       let more : length first.log + dump.applied < known_by whole (behind h.reply) = omega arith in
       faultless (PrefixShort replica) (
         dump_behind (length first.log) dump,
         dump_there replica dump is,
+        is_there,
         record {
           index = length first.events + h.index;
           reply = behind h.reply;
@@ -219,12 +221,13 @@ module _ (start : Space) (first second : Recording) (same_layout : second.layout
         },
       )
 
-  none_differs : (replica : ℕ) (dump : Image) (address : ℕ) → slice_get second.dumps replica ≡ Some dump
+  none_differs : (replica : ℕ) (dump : Image) (address : ℕ) → slice_get second.dumps replica ≡ Some dump → IsThere dump
       → HasDifference second.layout.depth dump (space_from space second (take dump.applied second.log)) address → ⊥
-  none_differs replica dump address is h =
+  none_differs replica dump address is is_there h =
       faultless (Differs replica address) (
         dump_behind (length first.log) dump,
         dump_there replica dump is,
+        is_there,
         subst (λ (s : Space). HasDifference first.layout.depth dump s address) (sym (space_of_prefix start first second same_layout clean dump.applied))
             (subst (λ (layout : Layout). HasDifference layout.depth dump (space_from space second (take dump.applied second.log)) address) same_layout h),
       )
@@ -240,30 +243,34 @@ module _ (start : Space) (first second : Recording) (same_layout : second.layout
   rest_faultless (PastLog index) h = none_past index h.0 h.1 h.2.0 h.2.1
   rest_faultless (Early call) h = in_time call h.0 h.1 h.2
   rest_faultless (WrongAnswer call) h = right call h
-  rest_faultless (PrefixPastLog replica) h = within_log replica h.0 h.1 h.2
-  rest_faultless (PrefixShort replica) h = enough replica h.0 h.1 h.2
+  rest_faultless (PrefixPastLog replica) h = within_log replica h.0 h.1 h.2 h.3
+  rest_faultless (PrefixShort replica) h = enough replica h.0 h.1 h.2 h.3
   rest_faultless (MissingFrame replica number) h =
       faultless (MissingFrame replica number) (
         dump_behind (length first.log) h.0,
         dump_there replica h.0 h.1,
-        subst (λ (layout : Layout). HasMissingFrame layout.depth h.0 number) same_layout h.2,
+        h.2,
+        subst (λ (layout : Layout). HasMissingFrame layout.depth h.0 number) same_layout h.3,
       )
   rest_faultless (SharedFrame replica number) h =
       faultless (SharedFrame replica number) (
         dump_behind (length first.log) h.0,
         dump_there replica h.0 h.1,
-        subst (λ (layout : Layout). HasSharedFrame layout.depth h.0 number) same_layout h.2,
+        h.2,
+        subst (λ (layout : Layout). HasSharedFrame layout.depth h.0 number) same_layout h.3,
       )
   rest_faultless (ReservedBit replica number index) h =
       faultless (ReservedBit replica number index) (
         dump_behind (length first.log) h.0,
         dump_there replica h.0 h.1,
-        subst (λ (layout : Layout). HasReservedBit layout.depth h.0 number index) same_layout h.2,
+        h.2,
+        subst (λ (layout : Layout). HasReservedBit layout.depth h.0 number index) same_layout h.3,
       )
   rest_faultless (StrayFrame replica number) h =
       faultless (StrayFrame replica number) (
         dump_behind (length first.log) h.0,
         dump_there replica h.0 h.1,
-        subst (λ (layout : Layout). HasStrayFrame layout.depth h.0 number) same_layout h.2,
+        h.2,
+        subst (λ (layout : Layout). HasStrayFrame layout.depth h.0 number) same_layout h.3,
       )
-  rest_faultless (Differs replica address) h = none_differs replica h.0 address h.1 h.2
+  rest_faultless (Differs replica address) h = none_differs replica h.0 address h.1 h.2 h.3

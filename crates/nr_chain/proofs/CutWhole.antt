@@ -1,13 +1,14 @@
 -- Where the two runs of a joined run have no fault, it has none.
-use Rattle.std.proofs.Common.{◌≡◌, ◌≢◌, ℕ, ◌+◌, ◌<◌, ◌≤◌, ◌⊎◌, inl, inr, List, length, take, slice_get, Some, ap, sym, ◌∙◌, subst, arith}
+use Rattle.std.proofs.Common.{◌≡◌, ◌≢◌, ℕ, ◌+◌, ◌<◌, ◌≤◌, ◌⊎◌, inl, inr, List, length, take, slice_get, Option, None, Some, is_some, refl, ap, sym, ◌∙◌, subst, arith}
 use Rattle.std.specs.Prelude.{◌↔◌}
 use Rattle.std.proofs.lemmas.Option.{slice_get-map, slice_get_within}
 use Rattle.vs_types.specs.Config.{Layout}
 use Rattle.vs_types.specs.Space.{Space}
+use Rattle.vs_types.specs.declared.op.Action.{Action}
 use Rattle.vs_walk.specs.Differences.{HasMissingFrame, HasSharedFrame, HasReservedBit, HasStrayFrame, HasDifference}
 use Rattle.vs_walk.specs.Dump.{Image}
-use Rattle.nr_trace.specs.Recording.{Recording}
-use Rattle.nr_trace.specs.Calls.{Invocation, call_of, IsCall, IsUpdate, IsRead, Response, reply_of, reply_to, Answers}
+use Rattle.nr_trace.specs.Recording.{IsThere, Recording}
+use Rattle.nr_trace.specs.Calls.{Invocation, call_of, operation_of, touch_of, IsCall, IsOrdered, IsTouch, IsUpdate, IsRead, Response, reply_of, reply_to, Answers}
 use Rattle.nr_trace.specs.Orders.{before, space_from, answer_in, recorded_order, known_by}
 use Rattle.nr_trace.specs.Faults.{HasFaultFrom, OpensTwice, IsWrongFrom, RestsOnMore, StandsAfter}
 use Rattle.nr_trace.specs.Laws.{HasCleanLog, IsFaultlessFrom}
@@ -15,7 +16,7 @@ use Rattle.nr_trace.specs.declared.fault.Fault.{Fault}
 use Rattle.nr_trace.specs.declared.fault.Fault.TheVariants.{Format, ThreadOpen, NoSuchCall, AnsweredTwice, NotAnUpdate, PlacedTwice, NotPlaced, PastLog, Early}
 use Rattle.nr_trace.specs.declared.fault.Fault.TheVariants.{WrongAnswer, PrefixPastLog, PrefixShort, MissingFrame, SharedFrame, ReservedBit, StrayFrame}
 use Rattle.nr_trace.specs.declared.fault.Fault.TheVariants.{Differs}
-use Rattle.nr_trace.proofs.LawsOfCalls.{call_within, is_some_from, reply_behind_call, reply_is_first, update_or_read, answered_stands, not_both}
+use Rattle.nr_trace.proofs.LawsOfCalls.{call_within, is_some_from, reply_behind_call, reply_is_first, ordered_from_made, ordered_or_touch, the_some, answered_stands, not_both}
 use Rattle.nr_trace.proofs.LawsOfDumps.{clean_if_faultless}
 use Rattle.nr_trace.proofs.LawsOfOrder.{standing_is_member}
 use Rattle.nr_trace.proofs.LawsOfPrecedence.{known_of_update, known_of_read}
@@ -55,9 +56,9 @@ clean_without_dumps start trace faultless = record {
 
 -- no reply makes more known than the log has
 known_within : (trace : Recording) (index : ℕ) (reply : Response) → HasCleanLog trace → reply_of trace index ≡ Some reply → known_by trace reply ≤ length trace.log
-known_within trace index reply clean is = by_kind (update_or_read trace reply.call (reply_behind_call trace index reply clean is).1) where
-  stands : StandsAfter trace reply.call reply.at × (reply.at ≤ length trace.log)
-  stands = answered_stands trace reply.call reply clean (reply_is_first trace index reply clean is)
+known_within trace index reply clean is = by_kind (ordered_or_touch trace reply.call (reply_behind_call trace index reply clean is).1) where
+  stands : IsOrdered trace reply.call → StandsAfter trace reply.call reply.at × (reply.at ≤ length trace.log)
+  stands ordered = answered_stands trace reply.call reply clean ordered (reply_is_first trace index reply clean is)
 
   of_update : IsUpdate trace reply.call → StandsAfter trace reply.call reply.at → known_by trace reply ≤ length trace.log
   of_update u (inl (v, e)) =
@@ -66,12 +67,20 @@ known_within trace index reply clean is = by_kind (update_or_read trace reply.ca
       omega arith
   of_update u (inr r) = absurd (not_both trace reply.call u r.0)
 
-  by_kind : IsUpdate trace reply.call ⊎ IsRead trace reply.call → known_by trace reply ≤ length trace.log
-  by_kind (inl u) = of_update u stands.0
-  by_kind (inr r) =
-      let known = known_of_read trace reply r in
-      let most = stands.1 in
+  of_touch : (operation : Option Action) → operation_of trace reply.call ≡ operation → IsTouch trace reply.call → known_by trace reply ≤ length trace.log
+  of_touch (Some action) e t = let u : IsUpdate trace reply.call = ap is_some e in of_update u (stands (inl u)).0
+  of_touch None e t =
+      let (request, f) = the_some (touch_of trace reply.call) t in
+      let none : known_by trace reply ≡ 0 = rw (e, f) refl in
       omega arith
+
+  by_kind : IsOrdered trace reply.call ⊎ IsTouch trace reply.call → known_by trace reply ≤ length trace.log
+  by_kind (inl (inl u)) = of_update u (stands (inl u)).0
+  by_kind (inl (inr r)) =
+      let known = known_of_read trace reply r in
+      let most = (stands (inr r)).1 in
+      omega arith
+  by_kind (inr t) = of_touch (operation_of trace reply.call) refl t
 
 module _ (start : Space) (first second : Recording) (same_layout : second.layout ≡ first.layout) (closed : IsClosed first) (clean : HasCleanLog first)
     (clean_rest : HasCleanLog second) where
@@ -266,7 +275,7 @@ module _ (start : Space) (first second : Recording) (same_layout : second.layout
         → entries < known_by whole reply → ⊥
     known_late call k entries index reply lower is e h more =
         let (own, own_is, same) = reply_from_right first second index reply is in
-        let known = known_right first second own in
+        let known = (known_right first second own).0 in
         let there : entries < known_by whole (behind own) = subst (λ (r : Response). entries < known_by whole r) (sym same) more in
         let own_more : k < known_by second own = omega arith in
         let own_lower : index < call = omega arith in
@@ -297,7 +306,7 @@ module _ (start : Space) (first second : Recording) (same_layout : second.layout
     wrong_left call l h =
         let own_made : call_of first call ≡ Some h.made = sym (call_left first second call l) ∙ h.is_made in
         let own_reply : reply_to first call ≡ Some h.reply = sym (reply_to_left first second call l) ∙ h.is_reply in
-        let (stands, most) = answered_stands first call h.reply clean own_reply in
+        let (stands, most) = answered_stands first call h.reply clean (ordered_from_made first call h.made own_made h.no_touch) own_reply in
         let member = standing_is_member first h.reply.at call most stands in
         let same : space_from start whole (before call (recorded_order whole)) ≡ space_from start first (before call (recorded_order first)) =
         ap (λ (calls : List ℕ). space_from start whole calls)
@@ -307,6 +316,7 @@ module _ (start : Space) (first second : Recording) (same_layout : second.layout
         right call (record {
           made = h.made;
           is_made = own_made;
+          no_touch = h.no_touch;
           reply = h.reply;
           is_reply = own_reply;
           differs = λ e. h.differs (e ∙ ap (λ (s : Space). answer_in first.layout s h.made.request) (sym same));
@@ -319,6 +329,7 @@ module _ (start : Space) (first second : Recording) (same_layout : second.layout
         right_behind call (record {
           made = h.made;
           is_made = sym (call_right first second call) ∙ h.is_made;
+          no_touch = h.no_touch;
           reply = own;
           is_reply = own_is;
           differs = λ e. h.differs (sym answer ∙ e
@@ -329,14 +340,14 @@ module _ (start : Space) (first second : Recording) (same_layout : second.layout
   -- ---- dumps
 
   abbrev HasOwnDump : ℕ → (Image → Type 0) → Type 0
-  HasOwnDump replica P = (own : Image) × (slice_get second.dumps replica ≡ Some own) × P own
+  HasOwnDump replica P = (own : Image) × (slice_get second.dumps replica ≡ Some own) × IsThere own × P own
 
-  own_dump : (P : Image → Type 0) (replica : ℕ) (dump : Image) → slice_get whole.dumps replica ≡ Some dump → P dump
-      → HasOwnDump replica (λ (own : Image). P (dump_behind (length first.log) own))
-  own_dump P replica dump is h =
+  own_dump : (P : Image → Type 0) (replica : ℕ) (dump : Image) → slice_get whole.dumps replica ≡ Some dump → IsThere dump
+      → P dump → HasOwnDump replica (λ (own : Image). P (dump_behind (length first.log) own))
+  own_dump P replica dump is there h =
       let (own, own_is, same) = of_mapped (dump_behind (length first.log)) (slice_get second.dumps replica) dump
       (sym (slice_get-map (dump_behind (length first.log)) second.dumps replica) ∙ is) in
-      (own, own_is, subst P (sym same) h)
+      (own, own_is, subst IsThere (sym same) there, subst P (sym same) h)
 
   short_left : (replica index : ℕ) (dump : Image) (reply : Response) → index < length first.events → reply_of whole index ≡ Some reply
       → length first.log + dump.applied < known_by whole reply → ⊥
@@ -350,7 +361,7 @@ module _ (start : Space) (first second : Recording) (same_layout : second.layout
       → call_of whole reply.call ≡ Some made → made.replica ≡ replica → length first.log + dump.applied < known_by whole reply → RestsOnMore second replica dump
   short_right replica index dump reply made is is_made at_it more =
       let (own, own_is, same) = reply_from_right first second index reply is in
-      let known = known_right first second own in
+      let known = (known_right first second own).0 in
       let there : length first.log + dump.applied < known_by whole (behind own) =
       subst (λ (r : Response). length first.log + dump.applied < known_by whole r) (sym same) more in
       let own_more : dump.applied < known_by second own = omega arith in
@@ -373,35 +384,36 @@ module _ (start : Space) (first second : Recording) (same_layout : second.layout
 
   module _ (faultless : IsFaultlessFrom space second) where
     dumps_past : (replica : ℕ) → HasFaultFrom start whole (PrefixPastLog replica) → ⊥
-    dumps_past replica (dump, is, past) =
-        let (own, own_is, h) = own_dump (λ (d : Image). length whole.log < d.applied) replica dump is past in
+    dumps_past replica (dump, is, is_there, past) =
+        let (own, own_is, own_there, h) = own_dump (λ (d : Image). length whole.log < d.applied) replica dump is is_there past in
         let places = places_of_both first second in
         let there : length whole.log < length first.log + own.applied = h in
         let own_past : length second.log < own.applied = omega arith in
-        faultless (PrefixPastLog replica) (own, own_is, own_past)
+        faultless (PrefixPastLog replica) (own, own_is, own_there, own_past)
 
     dumps_short : (replica : ℕ) → HasFaultFrom start whole (PrefixShort replica) → ⊥
-    dumps_short replica (dump, is, more) =
-        let (own, own_is, h) = own_dump (RestsOnMore whole replica) replica dump is more in
-        faultless (PrefixShort replica) (own, own_is, short replica own h)
+    dumps_short replica (dump, is, is_there, more) =
+        let (own, own_is, own_there, h) = own_dump (RestsOnMore whole replica) replica dump is is_there more in
+        faultless (PrefixShort replica) (own, own_is, own_there, short replica own h)
 
     dumps_differ : (replica address : ℕ) → HasFaultFrom start whole (Differs replica address) → ⊥
-    dumps_differ replica address (dump, is, differs) =
-        let (own, own_is, h) =
-        own_dump (λ (d : Image). HasDifference first.layout.depth d (space_from start whole (take d.applied whole.log)) address) replica dump is differs in
+    dumps_differ replica address (dump, is, is_there, differs) =
+        let (own, own_is, own_there, h) =
+        own_dump (λ (d : Image). HasDifference first.layout.depth d (space_from start whole (take d.applied whole.log)) address) replica dump is is_there differs in
         faultless (Differs replica address) (
           own,
           own_is,
+          own_there,
           subst (λ (layout : Layout). HasDifference layout.depth own (space_from space second (take own.applied second.log)) address) (sym same_layout)
               (subst (λ (s : Space). HasDifference first.layout.depth own s address) (space_of_prefix start first second same_layout clean own.applied) h),
         )
 
     -- a fault of the frames alone
-    of_frames : (P : Layout → Image → Type 0) (replica : ℕ) (dump : Image) → slice_get whole.dumps replica ≡ Some dump → P first.layout dump
-        → HasOwnDump replica (λ (own : Image). P second.layout (dump_behind (length first.log) own))
-    of_frames P replica dump is h =
-        let (own, own_is, there) = own_dump (λ (d : Image). P first.layout d) replica dump is h in
-        (own, own_is, subst (λ (layout : Layout). P layout (dump_behind (length first.log) own)) (sym same_layout) there)
+    of_frames : (P : Layout → Image → Type 0) (replica : ℕ) (dump : Image) → slice_get whole.dumps replica ≡ Some dump → IsThere dump
+        → P first.layout dump → HasOwnDump replica (λ (own : Image). P second.layout (dump_behind (length first.log) own))
+    of_frames P replica dump is is_there h =
+        let (own, own_is, own_there, there) = own_dump (λ (d : Image). P first.layout d) replica dump is is_there h in
+        (own, own_is, own_there, subst (λ (layout : Layout). P layout (dump_behind (length first.log) own)) (sym same_layout) there)
 
 pub whole_faultless : (start : Space) (first second : Recording) → second.layout ≡ first.layout → IsClosed first
     → IsFaultlessFrom start (without_dumps first) → IsFaultlessFrom (space_from start first first.log) second
@@ -446,16 +458,16 @@ whole_faultless start first second same_layout closed front rest = none where
   none (PrefixShort replica) h = dumps_short start first second same_layout closed clean clean_rest rest replica h
   none (MissingFrame replica number) h =
       rest (MissingFrame replica number) (of_frames start first second same_layout closed clean clean_rest rest
-      (λ (layout : Layout) (dump : Image). HasMissingFrame layout.depth dump number) replica h.0 h.1 h.2)
+      (λ (layout : Layout) (dump : Image). HasMissingFrame layout.depth dump number) replica h.0 h.1 h.2 h.3)
   none (SharedFrame replica number) h =
       rest (SharedFrame replica number) (of_frames start first second same_layout closed clean clean_rest rest
-      (λ (layout : Layout) (dump : Image). HasSharedFrame layout.depth dump number) replica h.0 h.1 h.2)
+      (λ (layout : Layout) (dump : Image). HasSharedFrame layout.depth dump number) replica h.0 h.1 h.2 h.3)
   none (ReservedBit replica number index) h =
       rest (ReservedBit replica number index) (of_frames start first second same_layout closed clean clean_rest rest
-      (λ (layout : Layout) (dump : Image). HasReservedBit layout.depth dump number index) replica h.0 h.1 h.2)
+      (λ (layout : Layout) (dump : Image). HasReservedBit layout.depth dump number index) replica h.0 h.1 h.2 h.3)
   none (StrayFrame replica number) h =
       rest (StrayFrame replica number) (of_frames start first second same_layout closed clean clean_rest rest
-      (λ (layout : Layout) (dump : Image). HasStrayFrame layout.depth dump number) replica h.0 h.1 h.2)
+      (λ (layout : Layout) (dump : Image). HasStrayFrame layout.depth dump number) replica h.0 h.1 h.2 h.3)
   none (Differs replica address) h = dumps_differ start first second same_layout closed clean clean_rest rest replica address h
 
 pub cut : (start : Space) (first second : Recording) → second.layout ≡ first.layout → IsClosed first

@@ -22,7 +22,7 @@ right_if_recorded start trace faultless =
       precedence = legal.precedence;
       answers = legal.answers;
       log = updates_of_order trace (clean_if_faultless start trace faultless);
-      dumps = λ replica dump is. fits_if_faultless start trace replica dump faultless is;
+      dumps = λ replica dump is there. fits_if_faultless start trace replica dump faultless is there;
     }
 
 pub right_if_faultless : (start : Space) (segment : Segment) → IsFaultlessFrom start segment.trace → segment.order ≡ recorded_order segment.trace

@@ -62,6 +62,7 @@ traces_of_three : (a b c : Recording) → joined_traces (joined_traces a b) c �
 traces_of_three a b c = λ i. record {
   version = a.version;
   layout = a.layout;
+  start = a.start;
   log = calls_of_three (length a.events) (length b.events) (length (joined_traces a b).events) a.log b.log c.log (events_of_both a b) i;
   events = events_of_three a b c i;
   dumps = dumps_of_three a b c i;

@@ -7,7 +7,7 @@ use Rattle.std.proofs.lemmas.List.{append-nil}
 use Rattle.std.proofs.lemmas.List.Elements.{filter_map-append}
 use Rattle.std.proofs.lemmas.Option.{slice_get-map, slice_get_within}
 use Rattle.nr_trace.specs.Recording.{Recording}
-use Rattle.nr_trace.specs.Calls.{Invocation, made_by, call_of, operation_in, read_address, operation_of, address_of, IsCall, IsUpdate, IsRead, Response}
+use Rattle.nr_trace.specs.Calls.{Invocation, made_by, call_of, operation_in, read_address, operation_of, address_of, touch_of, IsCall, IsUpdate, IsRead, Response}
 use Rattle.nr_trace.specs.Calls.{reply_in, reply_of, reply_to, IsAnswered, Answers}
 use Rattle.nr_trace.specs.declared.event.Event.{Event}
 use Rattle.nr_trace.specs.declared.event.Event.TheVariants.{Reply}
@@ -40,10 +40,18 @@ pub operation_right : (first second : Recording) (call : ℕ)
 operation_right first second call = ap (option_and_then (λ (made : Invocation). operation_in made.request)) (call_right first second call)
 
 pub address_left : (first second : Recording) (call : ℕ) → call < length first.events → address_of (joined_traces first second) call ≡ address_of first call
-address_left first second call l = ap (option_and_then (λ (made : Invocation). read_address made.request)) (call_left first second call l)
+address_left first second call l = ap (option_and_then (λ (made : Invocation). if made.touch then None else read_address made.request)) (call_left first second call l)
 
 pub address_right : (first second : Recording) (call : ℕ) → address_of (joined_traces first second) (length first.events + call) ≡ address_of second call
-address_right first second call = ap (option_and_then (λ (made : Invocation). read_address made.request)) (call_right first second call)
+address_right first second call = ap (option_and_then (λ (made : Invocation). if made.touch then None else read_address made.request)) (call_right first second call)
+
+pub touch_left : (first second : Recording) (call : ℕ) → call < length first.events → touch_of (joined_traces first second) call ≡ touch_of first call
+touch_left first second call l =
+    ap (option_and_then (λ (made : Invocation). if made.touch then Some made.request else None)) (call_left first second call l)
+
+pub touch_right : (first second : Recording) (call : ℕ) → touch_of (joined_traces first second) (length first.events + call) ≡ touch_of second call
+touch_right first second call =
+    ap (option_and_then (λ (made : Invocation). if made.touch then Some made.request else None)) (call_right first second call)
 
 -- ---- replies
 

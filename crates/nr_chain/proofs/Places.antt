@@ -1,21 +1,22 @@
 -- The log of a joined run, what comes after so many of its entries, and what raises a floor.
 use Rattle.std.proofs.Common.{◌≡◌, ℕ, zero, suc, ◌+◌, ◌<◌, ◌≤◌, ◌⊎◌, inl, inr, max, List, [], ◌∷◌, length, take, map, fold, slice_get, Option, Some, None}
-use Rattle.std.proofs.Common.{IsSome, option_and_then, option_map, refl, ap, sym, ◌∙◌, subst, arith}
+use Rattle.std.proofs.Common.{IsSome, option_and_then, option_map, refl, ap, ap₂, sym, ◌∙◌, subst, arith}
 use Rattle.std.specs.Prelude.{filter_map}
 use Rattle.std.specs.Option.{option_map_or}
 use Rattle.std.specs.List.{cons_option}
 use Rattle.std.proofs.lemmas.Bool.{cases_lt}
 use Rattle.std.proofs.lemmas.Option.{none-some, slice_get-map, slice_get_within}
 use Rattle.vs_types.specs.declared.op.Action.{Action}
+use Rattle.vs_types.specs.declared.request.Query.{Query}
 use Rattle.nr_trace.specs.Recording.{Recording}
-use Rattle.nr_trace.specs.Calls.{operation_of, IsRead, Response, reply_in, reply_of, reply_to}
+use Rattle.nr_trace.specs.Calls.{operation_of, touch_of, IsOrdered, IsRead, Response, reply_in, reply_of, reply_to}
 use Rattle.nr_trace.specs.Orders.{known_by, floor}
 use Rattle.nr_trace.specs.Faults.{StandsAfter}
 use Rattle.nr_trace.proofs.LawsOfLists.{In}
 use Rattle.nr_trace.proofs.LawsOfPrecedence.{known_below_floor}
 use Rattle.nr_chain.specs.Joined.{calls_behind, joined_traces}
 use Rattle.nr_chain.proofs.Lists.{get_left, get_right, split_at, of_mapped, in_mapped}
-use Rattle.nr_chain.proofs.Parts.{operation_left, operation_right, address_left, address_right, reply_behind, HasEarlierCalls, reply_to_left, reply_to_right}
+use Rattle.nr_chain.proofs.Parts.{operation_left, operation_right, address_left, address_right, touch_left, touch_right, reply_behind, HasEarlierCalls, reply_to_left, reply_to_right}
 use Rattle.nr_chain.proofs.Parts.{is_update_left, is_update_from_left, is_update_right, is_update_from_right, is_read_right}
 
 pub is_read_left : (first second : Recording) (call : ℕ) → call < length first.events → IsRead (joined_traces first second) call → IsRead first call
@@ -26,6 +27,24 @@ is_read_from_left first second call l h = subst IsSome (sym (address_left first 
 
 pub is_read_from_right : (first second : Recording) (call : ℕ) → IsRead second call → IsRead (joined_traces first second) (length first.events + call)
 is_read_from_right first second call h = subst IsSome (sym (address_right first second call)) h
+
+pub is_ordered_left : (first second : Recording) (call : ℕ) → call < length first.events → IsOrdered (joined_traces first second) call → IsOrdered first call
+is_ordered_left first second call l (inl u) = inl (is_update_left first second call l u)
+is_ordered_left first second call l (inr r) = inr (is_read_left first second call l r)
+
+pub is_ordered_from_left : (first second : Recording) (call : ℕ) → call < length first.events → IsOrdered first call
+    → IsOrdered (joined_traces first second) call
+is_ordered_from_left first second call l (inl u) = inl (is_update_from_left first second call l u)
+is_ordered_from_left first second call l (inr r) = inr (is_read_from_left first second call l r)
+
+pub is_ordered_right : (first second : Recording) (call : ℕ) → IsOrdered (joined_traces first second) (length first.events + call) → IsOrdered second call
+is_ordered_right first second call (inl u) = inl (is_update_right first second call u)
+is_ordered_right first second call (inr r) = inr (is_read_right first second call r)
+
+pub is_ordered_from_right : (first second : Recording) (call : ℕ) → IsOrdered second call
+    → IsOrdered (joined_traces first second) (length first.events + call)
+is_ordered_from_right first second call (inl u) = inl (is_update_from_right first second call u)
+is_ordered_from_right first second call (inr r) = inr (is_read_from_right first second call r)
 
 -- ---- the log
 
@@ -117,19 +136,29 @@ stood_right first second call entries earlier own_places (inr (r, reply, is, e))
 
 pub known_left : (first second : Recording) (reply : Response) → reply.call < length first.events
     → known_by (joined_traces first second) reply ≡ known_by first reply
-known_left first second reply l = ap (λ (o : Option Action). option_map_or (λ (action : Action). reply.at + 1) o reply.at) (operation_left first second reply.call l)
+known_left first second reply l =
+    ap₂ (λ (o : Option Action) (t : Option Query). option_map_or (λ (action : Action). reply.at + 1) o (option_map_or (λ (touch : Query). 0) t reply.at))
+    (operation_left first second reply.call l) (touch_left first second reply.call l)
 
-known_behind : (places at : ℕ) (o : Option Action)
-    → option_map_or (λ (action : Action). (places + at) + 1) o (places + at) ≡ places + option_map_or (λ (action : Action). at + 1) o at
-known_behind places at None = refl
-known_behind places at (Some action) = omega arith
+-- how many entries are known, behind so many places: as many more, but by a reply to a touch none
+abbrev pub KnowsBehind : ℕ → ℕ → ℕ → Type 0
+KnowsBehind places own known = (known ≤ places + own) × (0 < own → known ≡ places + own)
+
+abbrev known_from : ℕ → Option Action → Option Query → ℕ
+known_from at o t = option_map_or (λ (action : Action). at + 1) o (option_map_or (λ (touch : Query). 0) t at)
+
+known_behind : (places at : ℕ) (o : Option Action) (t : Option Query) → KnowsBehind places (known_from at o t) (known_from (places + at) o t)
+known_behind places at (Some action) t = (omega arith, λ some. omega arith)
+known_behind places at None (Some touch) = (omega arith, λ some. absurd (omega arith))
+known_behind places at None None = (omega arith, λ some. omega arith)
 
 pub known_right : (first second : Recording) (reply : Response)
-    → known_by (joined_traces first second) (reply_behind (length first.events) (length first.log) reply) ≡ length first.log + known_by second reply
+    → KnowsBehind (length first.log) (known_by second reply)
+    (known_by (joined_traces first second) (reply_behind (length first.events) (length first.log) reply))
 known_right first second reply =
-    ap (λ (o : Option Action). option_map_or (λ (action : Action). (length first.log + reply.at) + 1) o (length first.log + reply.at))
-    (operation_right first second reply.call)
-    ∙ known_behind (length first.log) reply.at (operation_of second reply.call)
+    subst (KnowsBehind (length first.log) (known_by second reply))
+    (sym (ap₂ (known_from (length first.log + reply.at)) (operation_right first second reply.call) (touch_right first second reply.call)))
+    (known_behind (length first.log) reply.at (operation_of second reply.call) (touch_of second reply.call))
 
 -- ---- floors
 

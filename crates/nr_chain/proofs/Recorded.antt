@@ -122,7 +122,7 @@ none_past trace n clean = nil_if_none (reads_at trace (length trace.log + suc n)
   past : (call : ℕ) → In call (reads_at trace (length trace.log + suc n)) → ⊥
   past call i =
       let (is_read, reply, is, at) = in_reads_at trace (length trace.log + suc n) call i in
-      let within : reply.at ≤ length trace.log = (answered_stands trace call reply clean is).1 in
+      let within : reply.at ≤ length trace.log = (answered_stands trace call reply clean (inr is_read) is).1 in
       omega arith
 
 blocks_behind : (first second : Recording) → HasCleanLog first → HasEarlierCalls first → (n : ℕ)

@@ -23,12 +23,13 @@ dump_behind places dump = record { applied = places + dump.applied; root = dump.
 abbrev pub calls_behind : ℕ → List ℕ → List ℕ
 calls_behind events calls = map (λ call. events + call) calls
 
--- two runs one after the other: the log, the events and the order of the second come behind those of the first, and the dumps
+-- two runs one after the other, from the start of the first: the log, the events and the order of the second come behind those of the first, and the dumps
 -- are those at the end
 abbrev pub joined_traces : Recording → Recording → Recording
 joined_traces first second = record {
   version = first.version;
   layout = first.layout;
+  start = first.start;
   log = first.log ++ calls_behind (length first.events) second.log;
   events = first.events ++ map (event_behind (length first.events) (length first.log)) second.events;
   dumps = map (dump_behind (length first.log)) second.dumps;

@@ -3,7 +3,7 @@ use Rattle.std.specs.Prelude.{◌≡◌, ℕ, ◌<◌, List, [], ◌∷◌, ◌+
 use Rattle.vs_types.specs.Config.{Layout}
 use Rattle.vs_types.specs.Space.{Space}
 use Rattle.vs_walk.specs.Dump.{Image}
-use Rattle.nr_trace.specs.Recording.{Recording}
+use Rattle.nr_trace.specs.Recording.{IsThere, Recording}
 use Rattle.nr_trace.specs.Calls.{Invocation, call_of, IsCall, Response, reply_of, Answers}
 use Rattle.nr_trace.specs.Orders.{updates, space_from, recorded_order, HasItsCalls, KeepsPrecedence, HasAnswersFrom, FitsFrom}
 use Rattle.nr_trace.specs.Laws.{IsFaultlessFrom}
@@ -17,10 +17,10 @@ pub record IsHistory (trace : Recording) : Type 0 where
   pub one_open : (first second index : ℕ) (made next : Invocation) → first < second → call_of trace first ≡ Some made → call_of trace second ≡ Some next
       → made.thread ≡ next.thread → Answers trace index first → index < second
 
--- every dump fits the order
+-- every dump that is there fits the order
 abbrev pub HasFittingDumpsFrom : Space → Segment → Type 0
 HasFittingDumpsFrom start segment = (replica : ℕ) (dump : Image) → slice_get segment.trace.dumps replica ≡ Some dump
-    → FitsFrom start segment.trace segment.order replica dump
+    → IsThere dump → FitsFrom start segment.trace segment.order replica dump
 
 -- a segment is right from the space with which it begins, in the words of a trace's headline, but that its events are such a history,
 -- which need not be a well-formed one; and the updates of its order are its log

@@ -13,6 +13,8 @@ use Rattle.vs_walk.specs.Traversal.{traversal, reached, walk_fault}
 use Rattle.vs_walk.specs.Walk.{TranslatesAs}
 use Rattle.vs_space.specs.Table.{PageTable, IsTableOf}
 use Rattle.nr_trace.specs.Parts.{HasFrames}
+use Rattle.nr_trace.specs.Recording.{IsThere}
+use Rattle.nr_trace.specs.declared.version.Version.TheVariants.{V1}
 use Rattle.nr_core.specs.State.{Replica}
 use Rattle.nr_core.specs.Run.{IsDumpOfReplica}
 
@@ -51,28 +53,30 @@ some_get : (memory : Memory) (number : ℕ) → IsSome (finite.get memory number
 some_get memory number some = some
 
 pub is_dump : (table : PageTable) (space : Space) (replica : Replica) (depth : Depth) (root : ℕ) (dump : Image) → IsTableOf table space
-    → replica.space ≡ space → dump.applied ≡ replica.applied → walk_fault table.depth table.memory table.root ≡ None
+    → replica.space ≡ space → IsThere dump → dump.applied ≡ replica.applied → walk_fault table.depth table.memory table.root ≡ None
     → IsGathered table depth root dump → IsDumpOfReplica table.depth replica dump
-is_dump table space replica depth root dump of space_is applied faultless is =
+is_dump table space replica depth root dump of space_is there applied faultless is =
     let frames = same_frames table depth root dump is in
     let root_is = is.dump_root ∙ is.root_is in
     let ByRoot : ℕ → Type 0 = λ r. TranslatesAs table.depth table.memory r replica.space in
     let ByFrames : Memory → Type 0 = λ m. TranslatesAs table.depth m dump.root replica.space in
     record {
+      there = there;
       applied = applied;
       translates = subst ByFrames (sym frames) (subst ByRoot (sym root_is) (subst (TranslatesAs table.depth table.memory table.root) (sym space_is) of.translates));
       faultless = ap (λ m. walk_fault table.depth m dump.root) frames ∙ ap (walk_fault table.depth table.memory) root_is ∙ faultless;
       none_stray = λ number stray.
           let in_table : IsTrue (finite.contains_key table.memory number) = subst (λ (m : Memory). IsTrue (finite.contains_key m number)) frames (some_get dump.frames number stray.0) in
-          let there : Contains (reached (traversal table.depth dump.frames dump.root)) number =
+          let reached_there : Contains (reached (traversal table.depth dump.frames dump.root)) number =
           subst (λ l. Contains l number) (sym (ap (λ m. reached (traversal table.depth m dump.root)) frames ∙ ap (λ r. reached (traversal table.depth table.memory r)) root_is))
           (is.each number in_table) in
-          stray.1 there;
+          stray.1 reached_there;
     }
 
 -- and has a frame, as each space has a table, and no more than tables
 pub has_frames : (table : PageTable) (space : Space) (depth : Depth) (root tables : ℕ) (dump : Image) → IsGathered table depth root dump
-    → tables ≡ finite.len table.memory → tables ≡ table_count table.depth space → tables ≤ TABLES → HasFrames dump
+    → tables ≡ finite.len table.memory → tables ≡ table_count table.depth space → tables ≤ TABLES → HasFrames V1 dump
 has_frames table space depth root tables dump is reads counts few =
     let frames = ap (λ (m : Memory). finite.len m) (same_frames table depth root dump is) in
-    (omega (arith, frames, reads, counts), omega (arith, frames, reads, few))
+    let some : 1 ≤ finite.len dump.frames = omega (arith, frames, reads, counts) in
+    (some, omega (arith, frames, reads, few), λ none. absurd (omega (arith, some, none)))

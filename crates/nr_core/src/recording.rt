@@ -3,12 +3,13 @@ ghost use Rattle.std.specs.Prelude.{◌≡◌, All, IfOk, map};
 ghost use Rattle.std.specs.List.{AllZip};
 ghost use Rattle.nr_trace.specs.Parts.{HasFrames};
 ghost use Rattle.nr_trace.specs.Recording.{IsRecording};
+ghost use Rattle.nr_trace.specs.declared.version.Version.TheVariants.{V1};
 ghost use Rattle.nr_core.specs.Run.{IsDumpOfReplica, IsRecordingOf};
 ghost use Rattle.nr_core.specs.inside.Parts.{replica_in, IsReplica};
 
 use crate::parts::ReplicaState;
 use crate::state::Core;
-use nr_trace::{Trace, Version};
+use nr_trace::{Trace, TraceLayout, Version};
 use std::alloc::Global;
 use vs_types::{Config, LogEntry, Memory};
 use vs_walk::Dump;
@@ -25,11 +26,19 @@ impl Core {
         ensures in_range { IfOk result IsRecording }
     {
         let version = Version::least(self.config.depth(), &self.events);
+        let _tables = self.config.tables();
         let log = calls_in(self.alloc, &self.log)?;
         let mut events = Vec::new(self.alloc);
         events.extend_from_slice(&self.events)?;
         let dumps = dumps_of(self.alloc, self.config, &self.replicas)?;
-        match Trace::new(version, self.config, log, events, dumps) {
+        match Trace::new(
+            version,
+            TraceLayout::of(self.config),
+            None,
+            log,
+            events,
+            dumps,
+        ) {
             Ok(trace) => Ok(trace),
             Err(_) => unreachable!(),
         }
@@ -52,7 +61,7 @@ fn dumps_of(alloc: Global, config: Config, replicas: &[ReplicaState]) -> Result<
     requires { All (IsReplica config) replicas.now }
     ensures each { IfOk result (λ dumps.
         AllZip (IsDumpOfReplica config.depth) (map replica_in replicas.now) dumps.items) }
-    ensures frames { IfOk result (λ dumps. All HasFrames dumps.items) }
+    ensures frames { IfOk result (λ dumps. All (HasFrames V1) dumps.items) }
 {
     let mut dumps = Vec::with_capacity(alloc, replicas.len())?;
     for replica in replicas {
@@ -65,7 +74,7 @@ fn dumps_of(alloc: Global, config: Config, replicas: &[ReplicaState]) -> Result<
 fn dump_of(alloc: Global, config: Config, replica: &ReplicaState) -> Result<Dump, Memory>
     requires { IsReplica config replica.now }
     ensures is { IfOk result (IsDumpOfReplica config.depth (replica_in replica.now)) }
-    ensures frames { IfOk result HasFrames }
+    ensures frames { IfOk result (HasFrames V1) }
 {
     let _tables = config.tables();
     replica.table.dump(alloc, replica.marks.applied)

@@ -8,6 +8,7 @@ ghost use Rattle.vs_types.specs.Step.{step, look, allow};
 ghost use Rattle.vs_types.specs.declared.limits.TheConstants.{TABLES};
 ghost use Rattle.vs_space.specs.Table.{IsTableOf};
 ghost use Rattle.nr_trace.specs.Parts.{HasFrames};
+ghost use Rattle.nr_trace.specs.declared.version.Version.TheVariants.{V1};
 ghost use Rattle.nr_core.specs.Run.{IsDumpOfReplica};
 ghost use Rattle.nr_core.specs.State.{Replica};
 ghost use Rattle.nr_core.specs.inside.OneSpace.{one_space};
@@ -79,7 +80,7 @@ impl Table {
         requires { self.now.pages.limit ≤ TABLES }
         ensures is { (replica : Replica) → replica.applied ≡ applied → replica.space ≡ self.now.of.0
             → IfOk result (IsDumpOfReplica self.now.pages.depth replica) }
-        ensures frames { IfOk result HasFrames }
+        ensures frames { IfOk result (HasFrames V1) }
     {
         let _tables = self.pages.tables();
         let root = self.pages.root();

@@ -15,6 +15,7 @@ use Rattle.nr_trace.specs.declared.fault.Format.{Format}
 use Rattle.nr_trace.specs.declared.fault.Format.TheVariants.{Truncated}
 use Rattle.nr_trace.proofs.LawsOfFormat.{one_fault}
 use Rattle.nr_engines.specs.Answers.{HasRead, HasReadFew}
+use Rattle.nr_trace.specs.declared.version.Form.TheVariants as forms
 
 -- the feed was given these bytes, which are what the reader has lost, and so many more may be read
 pub record IsFed (known left : Option (List ℕ)) (feed : Fed) (room : ℕ) : Type 0 where
@@ -25,7 +26,7 @@ pub record IsFed (known left : Option (List ℕ)) (feed : Fed) (room : ℕ) : Ty
   pub counted : length bytes + room ≡ 70647893
 
 pub nothing_yet : HasNoFaultYet []
-nothing_yet fault h = one_fault [] fault Truncated h (inl (omega arith, refl))
+nothing_yet fault h = one_fault forms.Trace [] fault Truncated h (inl (omega arith, refl))
 
 pub starts : (known : Option (List ℕ)) (feed : Fed) → feed ≡ Taken [] → IsFed known known feed 70647893
 starts known feed is = record { bytes = []; taken = is; consumed = Consumes-nil known; no_fault_yet = nothing_yet; counted = refl }

@@ -1,10 +1,6 @@
 pub mod Input
 pub mod Reports
-pub mod WholeInput
 pub mod UnitInput
 pub mod UnitTexts
-pub mod Simulations
-pub mod ServedRuns
-pub mod RunTexts
 pub mod NoFloats
 pub mod Joins

@@ -3,14 +3,15 @@ use Rattle.std.proofs.Common.{◌≡◌, ℕ, Bool, false, ◌||◌, List, [], �
 use Rattle.serde_json.specs.View.{items_of}
 use Rattle.serde_json.specs.Written.{has_float, items_have_float}
 use Rattle.nr_trace.specs.declared.event.Event.{Event}
-use Rattle.nr_trace.specs.declared.event.Event.TheVariants.{Call, Reply}
+use Rattle.nr_trace.specs.declared.event.Event.TheVariants.{Call, Reply, Touch}
+use Rattle.nr_explain.specs.declared.evidence.RecordedReply.{RecordedReply}
 use Rattle.nr_explain.specs.declared.evidence.PlacedUpdate.{PlacedUpdate}
 use Rattle.nr_explain.specs.declared.evidence.Step.{Step}
 use Rattle.nr_explain.specs.declared.evidence.Evidence.{Evidence}
 use Rattle.nr_explain.specs.declared.evidence.Evidence.TheVariants as evidence
 use Rattle.nr_explain.specs.declared.explaining.Explanation.{Explanation}
 use Rattle.nr_explain.specs.declared.explaining.Explanation.TheVariants.{Yes, No}
-use Rattle.nr_engines.specs.EvidenceJson.{changed_data, event_data, evidence_data, explanation_data, number_data, option_data, step_data, way_data}
+use Rattle.nr_engines.specs.EvidenceJson.{changed_data, event_data, evidence_data, explanation_data, number_data, option_data, own_data, step_data, way_data}
 
 numbers : (order : List ℕ) → items_have_float (items_of (map number_data order)) ≡ false
 numbers [] = refl
@@ -30,11 +31,16 @@ option (Some n) = refl
 event : (index : ℕ) (named : Option Event) → has_float (event_data index named) ≡ false
 event index None = refl
 event index (Some (Call replica thread request)) = refl
+event index (Some (Touch replica thread address mode access)) = refl
 event index (Some (Reply call at answer)) = refl
 
 changed : (update : Option PlacedUpdate) → has_float (changed_data update) ≡ false
 changed None = refl
 changed (Some update) = refl
+
+own : (reply : Option RecordedReply) → has_float (own_data reply) ≡ false
+own None = refl
+own (Some reply) = refl
 
 -- one of the members may be any of these, or two
 abbrev one : Bool → Bool
@@ -53,7 +59,7 @@ evidence_has_no_float (evidence.NotAnUpdate wrong) = ap one (event wrong.call wr
 evidence_has_no_float (evidence.PlacedTwice places) = refl
 evidence_has_no_float (evidence.NotPlaced wrong) = ap₂ two (option wrong.own) (option wrong.there)
 evidence_has_no_float (evidence.PastLog wrong) = refl
-evidence_has_no_float (evidence.Early early) = refl
+evidence_has_no_float (evidence.Early early) = ap one (own early.own)
 evidence_has_no_float (evidence.WrongAnswer wrong) = ap one (changed wrong.changed)
 evidence_has_no_float (evidence.PrefixPastLog wrong) = refl
 evidence_has_no_float (evidence.PrefixShort wrong) = refl
@@ -61,7 +67,7 @@ evidence_has_no_float (evidence.MissingFrame wrong) = ap one (way wrong.path.ite
 evidence_has_no_float (evidence.SharedFrame wrong) = ap₂ two (way wrong.first.items) (way wrong.second.items)
 evidence_has_no_float (evidence.ReservedBit wrong) = ap one (way wrong.path.items)
 evidence_has_no_float (evidence.StrayFrame wrong) = refl
-evidence_has_no_float (evidence.Differs wrong) = ap one (changed wrong.changed)
+evidence_has_no_float (evidence.Differs wrong) = ap₂ two (changed wrong.changed) (way wrong.path.items)
 
 pub explanation_has_no_float : (explanation : Explanation) → has_float (explanation_data explanation) ≡ false
 explanation_has_no_float (Yes order counts) = ap one (numbers order)

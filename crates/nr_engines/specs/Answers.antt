@@ -1,5 +1,5 @@
 -- What the commands answer to bytes: a text and a status.
-use Rattle.std.specs.Prelude.{◌≡◌, ◌≤◌, ◌+◌, ◌⊎◌, ◌++◌, ℕ, List, length, Option, Some, IfSome, Result, slice_get}
+use Rattle.std.specs.Prelude.{◌≡◌, ◌≤◌, ◌+◌, ◌⊎◌, ◌++◌, ℕ, List, codes, length, Option, Some, IfSome, Result, slice_get}
 use Rattle.std.specs.Io.KnownBytes.{Appends, Consumes}
 use Rattle.vs_types.specs.Depth.{IsCanonical}
 use Rattle.vs_types.specs.declared.refusal.Fail.{Fail}
@@ -16,7 +16,7 @@ use Rattle.nr_audit.specs.Verdict.{IfYes, IsVerdictOf, verdict_status}
 use Rattle.nr_audit.specs.declared.verdict.Verdict.{Verdict}
 use Rattle.nr_explain.specs.Units.{ReadsUnits}
 use Rattle.nr_explain.specs.declared.units.Unread.{Unread}
-use Rattle.nr_engines.specs.Text.{no_text, verdict_text, walk_text}
+use Rattle.nr_engines.specs.Text.{no_text, verdict_line, verdict_text, walk_text}
 use Rattle.vs_text.specs.Words.{SpellsAddress}
 
 -- of `audit`: the text and the status are those of the verdict of these bytes; where it is yes they are right with its order
@@ -25,6 +25,14 @@ pub record IsAudit (bytes text : List ℕ) (status : ℕ) : Type 0 where
   pub is_verdict : IsVerdictOf bytes verdict
   pub right : IfYes (AreRightWith bytes) verdict
   pub text_is : text ≡ verdict_text verdict
+  pub status_is : status ≡ verdict_status verdict
+
+-- of `audit` of one file of several: the file's name, a colon and the first line of the verdict of these bytes
+pub record IsNamedAudit (name bytes text : List ℕ) (status : ℕ) : Type 0 where
+  pub verdict : Verdict
+  pub is_verdict : IsVerdictOf bytes verdict
+  pub right : IfYes (AreRightWith bytes) verdict
+  pub text_is : text ≡ name ++ (codes ": " ++ verdict_line verdict)
   pub status_is : status ≡ verdict_status verdict
 
 -- the bytes spell a trace, at its depth the address is canonical, and the text is where its walk ends in the dump of the replica

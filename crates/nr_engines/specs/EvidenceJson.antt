@@ -1,10 +1,10 @@
 -- What `explain --json` prints: one JSON object, its members by their names in the order of the alphabet, with no space between.
-use Rattle.std.specs.Prelude.{ℕ, ◌++◌, List, length, codes, map, Option, Some, None}
+use Rattle.std.specs.Prelude.{ℕ, ◌++◌, false, List, length, codes, map, Option, Some, None}
 use Rattle.serde_json.specs.Data.{Data, Members, array, member, no_members, null, number, object, string, unsigned}
 use Rattle.serde_json.specs.View.{items_of}
 use Rattle.serde_json.specs.Written.{compact_text}
 use Rattle.nr_trace.specs.declared.event.Event.{Event}
-use Rattle.nr_trace.specs.declared.event.Event.TheVariants.{Call, Reply}
+use Rattle.nr_trace.specs.declared.event.Event.TheVariants.{Call, Reply, Touch}
 use Rattle.nr_explain.specs.Units.{size}
 use Rattle.nr_explain.specs.declared.counts.Counts.{Counts}
 use Rattle.nr_explain.specs.declared.evidence.RecordedCall.{RecordedCall}
@@ -17,9 +17,9 @@ use Rattle.nr_explain.specs.declared.explaining.Explanation.{Explanation}
 use Rattle.nr_explain.specs.declared.explaining.Explanation.TheVariants.{Yes, No}
 use Rattle.vs_text.specs.Requests.{request_text}
 use Rattle.vs_text.specs.Words.{hexadecimal}
-use Rattle.nr_engines.specs.Text.{fault_text, format_text, line_end, walk_words}
-use Rattle.nr_engines.specs.RunText.{answer_text}
+use Rattle.nr_engines.specs.Text.{answer_text, fault_text, format_text, line_end, walk_words}
 use Rattle.nr_engines.specs.EvidenceText.{bytes_text, unit_text}
+use Rattle.nr_engines.specs.Sentence.{sentence_text}
 
 abbrev pub number_data : ℕ → Data
 number_data n = number (unsigned n)
@@ -43,11 +43,19 @@ reply_data reply = object
     (member (codes "call") (number_data reply.call)
     (member (codes "event") (number_data reply.event) no_members))))
 
--- the event that a number names: a call, a reply, or null
+-- the reply to a call, or null
+abbrev pub own_data : Option RecordedReply → Data
+own_data None = null
+own_data (Some reply) = reply_data reply
+
+-- the event that a number names: a call, a touch, a reply, or null
 abbrev pub event_data : ℕ → Option Event → Data
 event_data index None = null
 event_data index (Some (Call replica thread request)) =
-    call_data record { event = index; replica = replica; thread = thread; request = request }
+    call_data record { event = index; replica = replica; thread = thread; request = request; touch = false }
+event_data index (Some (Touch replica thread address mode access)) = object
+    (member (codes "event") (number_data index)
+    (member (codes "touch") (number_data address) no_members))
 event_data index (Some (Reply call at answer)) = reply_data record { event = index; call = call; at = at; answer = answer }
 
 -- an update and its place, or null
@@ -120,7 +128,8 @@ evidence_data (evidence.Early early) = object
     (member (codes "entries") (number_data early.entries)
     (fault_member (codes "Early")
     (member (codes "floor") (number_data early.floor)
-    (member (codes "reply") (reply_data early.reply) no_members))))))
+    (member (codes "own") (own_data early.own)
+    (member (codes "reply") (reply_data early.reply) no_members)))))))
 evidence_data (evidence.WrongAnswer wrong) = object
     (member (codes "address") (string (hexadecimal wrong.address))
     (member (codes "call") (call_data wrong.call)
@@ -152,10 +161,11 @@ evidence_data (evidence.SharedFrame wrong) = object
     (member (codes "replica") (number_data wrong.replica)
     (member (codes "second") (way_data wrong.second.items) no_members)))))
 evidence_data (evidence.ReservedBit wrong) = object
+    (member (codes "bit") (number_data wrong.bit)
     (member (codes "entry") (step_data wrong.entry)
     (fault_member (codes "ReservedBit")
     (member (codes "path") (way_data wrong.path.items)
-    (member (codes "replica") (number_data wrong.replica) no_members))))
+    (member (codes "replica") (number_data wrong.replica) no_members)))))
 evidence_data (evidence.StrayFrame wrong) = object
     (fault_member (codes "StrayFrame")
     (member (codes "frame") (number_data wrong.frame)
@@ -166,8 +176,9 @@ evidence_data (evidence.Differs wrong) = object
     (member (codes "changed") (changed_data wrong.changed)
     (fault_member (codes "Differs")
     (member (codes "found") (string (walk_words wrong.found))
+    (member (codes "path") (way_data wrong.path.items)
     (member (codes "replica") (number_data wrong.replica)
-    (member (codes "wanted") (string (answer_text wrong.wanted)) no_members)))))))
+    (member (codes "wanted") (string (answer_text wrong.wanted)) no_members))))))))
 
 -- how much a right trace has
 abbrev pub counts_data : Counts → Data
@@ -178,7 +189,7 @@ counts_data counts = object
     (member (codes "replicas") (number_data counts.replicas)
     (member (codes "updates") (number_data counts.updates) no_members)))))
 
--- the verdict's first line, with how much a yes has and its order, or the evidence of a no
+-- the verdict's first line, with how much a yes has and its order, or the sentence and the evidence of a no
 abbrev pub explanation_data : Explanation → Data
 explanation_data (Yes order counts) = object
     (member (codes "counts") (counts_data counts)
@@ -186,7 +197,8 @@ explanation_data (Yes order counts) = object
     (member (codes "verdict") (string (codes "yes")) no_members)))
 explanation_data (No fault shown) = object
     (member (codes "evidence") (evidence_data shown)
-    (member (codes "verdict") (string (codes "no " ++ fault_text fault)) no_members))
+    (member (codes "sentence") (string (sentence_text shown))
+    (member (codes "verdict") (string (codes "no " ++ fault_text fault)) no_members)))
 
 -- the object on one line
 abbrev pub explanation_json : Explanation → List ℕ

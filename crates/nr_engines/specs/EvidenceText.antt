@@ -1,11 +1,11 @@
--- What `explain` prints: the lines of the verdict, and for a no a line for each fact that shows the fault, for a yes how much there is.
-use Rattle.std.specs.Prelude.{ℕ, ◌/◌, ◌%◌, ◌++◌, false, List, [], ◌∷◌, length, take, codes, decimal, flat_map, Option, Some, None}
+-- The lines of `explain`: of a no for each fact that shows the fault, of a yes how much there is.
+use Rattle.std.specs.Prelude.{ℕ, ◌/◌, ◌%◌, ◌==◌, ◌++◌, false, List, [], ◌∷◌, length, take, codes, decimal, flat_map, if◌then◌else◌, Option, Some, None}
 use Rattle.std.specs.Fmt.{digits}
 use Rattle.vs_types.specs.declared.answer.Answer.{Answer}
 use Rattle.vs_text.specs.Requests.{request_text}
 use Rattle.vs_text.specs.Words.{hexadecimal}
 use Rattle.nr_trace.specs.declared.event.Event.{Event}
-use Rattle.nr_trace.specs.declared.event.Event.TheVariants.{Call, Reply}
+use Rattle.nr_trace.specs.declared.event.Event.TheVariants.{Call, Reply, Touch}
 use Rattle.nr_trace.specs.declared.fault.Format.{Format}
 use Rattle.nr_trace.specs.declared.fault.Format.TheVariants as formats
 use Rattle.nr_explain.specs.Units.{size}
@@ -28,16 +28,14 @@ use Rattle.nr_explain.specs.declared.evidence.EarlyCall.{EarlyCall}
 use Rattle.nr_explain.specs.declared.evidence.OtherAnswer.{OtherAnswer}
 use Rattle.nr_explain.specs.declared.evidence.LongPrefix.{LongPrefix}
 use Rattle.nr_explain.specs.declared.evidence.ShortPrefix.{ShortPrefix}
+use Rattle.nr_explain.specs.declared.evidence.MissingTable.{MissingTable}
 use Rattle.nr_explain.specs.declared.evidence.SharedTable.{SharedTable}
 use Rattle.nr_explain.specs.declared.evidence.ReservedEntry.{ReservedEntry}
 use Rattle.nr_explain.specs.declared.evidence.StrayTable.{StrayTable}
 use Rattle.nr_explain.specs.declared.evidence.Difference.{Difference}
 use Rattle.nr_explain.specs.declared.evidence.Evidence.{Evidence}
 use Rattle.nr_explain.specs.declared.evidence.Evidence.TheVariants as evidence
-use Rattle.nr_explain.specs.declared.explaining.Explanation.{Explanation}
-use Rattle.nr_explain.specs.declared.explaining.Explanation.TheVariants.{Yes, No}
-use Rattle.nr_engines.specs.Text.{line_end, no_text, walk_text, yes_text}
-use Rattle.nr_engines.specs.RunText.{answer_text}
+use Rattle.nr_engines.specs.Text.{answer_text, line_end, no_text, walk_text, yes_text}
 
 -- the line of a call: its number, its thread, its replica and what it asks
 unfoldable pub call_line : RecordedCall → List ℕ
@@ -53,7 +51,8 @@ reply_line reply = codes "reply " ++ (decimal reply.event ++ (codes " to call " 
 unfoldable pub event_line : ℕ → Option Event → List ℕ
 event_line number None = codes "event " ++ (decimal number ++ codes ": none\n")
 event_line number (Some (Call replica thread request)) =
-    call_line record { event = number; replica = replica; thread = thread; request = request }
+    call_line record { event = number; replica = replica; thread = thread; request = request; touch = false }
+event_line number (Some (Touch replica thread address mode access)) = codes "event " ++ (decimal number ++ codes ": a touch\n")
 event_line number (Some (Reply call at answer)) = reply_line record { event = number; call = call; at = at; answer = answer }
 
 -- the line of a number, behind words
@@ -80,7 +79,7 @@ address_line address changed = codes "address " ++ (hexadecimal address ++ (code
 
 -- the line of an entry of a table
 unfoldable pub step_line : Step → List ℕ
-step_line step = codes "level " ++ (decimal step.level ++ (codes ", frame " ++ (decimal step.frame ++ (codes ", index " ++ (decimal step.index
+step_line step = codes "level " ++ (decimal step.level ++ (codes ", frame " ++ (hexadecimal step.frame ++ (codes ", index " ++ (decimal step.index
     ++ (codes ": " ++ (hexadecimal step.word ++ line_end)))))))
 
 -- the lines of the entries on a way from the root; the way to the root itself has none
@@ -95,6 +94,9 @@ format_lines formats.BadMagic = codes "bytes 0 to 3 are NRVT\n"
 format_lines formats.BadVersion = codes "bytes 4 and 5 are the version, 1 or 2\n"
 format_lines formats.BadCount =
     codes "levels 4 (version 2: or 5), replicas 1 to 4, threads 1 to 64, tables 1 to 4096, places to 65536, events to 131072, frames 1 to 4096\n"
+format_lines formats.BadChain = codes "levels, replicas, threads and tables are those of the segment before\n"
+format_lines (formats.BadStart index) =
+    codes "start, frame " ++ (decimal index ++ codes ": its number is above the one before it, and below 0x10000000000\n")
 format_lines (formats.BadEvent index) = codes "event " ++ (decimal index ++ codes ": 24 bytes that spell no call and no reply here\n")
 format_lines (formats.BadFrame replica index) =
     codes "replica " ++ (decimal replica ++ (codes ", frame " ++ (decimal index
@@ -155,10 +157,15 @@ misplaced_lines wrong =
 abbrev pub past_end_lines : PastEnd → List ℕ
 past_end_lines wrong = call_line wrong.call ++ (reply_line wrong.reply ++ number_line (codes "entries of the log: ") wrong.places)
 
+-- the line of the reply to a call, if there is one
+unfoldable pub own_line : Option RecordedReply → List ℕ
+own_line None = codes "no reply to it\n"
+own_line (Some reply) = reply_line reply
+
 abbrev pub early_lines : EarlyCall → List ℕ
 early_lines early =
-    call_line early.call ++ (number_line (codes "entries before it: ") early.entries ++ (number_line (codes "known when it was made: ") early.floor
-    ++ (reply_line early.reply ++ call_line early.answered)))
+    call_line early.call ++ (own_line early.own ++ (number_line (codes "entries before it: ") early.entries
+    ++ (number_line (codes "known when it was made: ") early.floor ++ (reply_line early.reply ++ call_line early.answered))))
 
 abbrev pub other_answer_lines : OtherAnswer → List ℕ
 other_answer_lines wrong =
@@ -171,19 +178,30 @@ abbrev pub short_prefix_lines : ShortPrefix → List ℕ
 short_prefix_lines wrong =
     number_line (codes "applied: ") wrong.applied ++ (number_line (codes "known there: ") wrong.known ++ (reply_line wrong.reply ++ call_line wrong.call))
 
+abbrev pub missing_lines : MissingTable → List ℕ
+missing_lines wrong = way_lines wrong.path.items ++ (codes "frame " ++ (hexadecimal wrong.frame ++ codes ", which the dump doesn't have\n"))
+
 abbrev pub shared_lines : SharedTable → List ℕ
 shared_lines wrong = codes "one way:\n" ++ (way_lines wrong.first.items ++ (codes "another:\n" ++ way_lines wrong.second.items))
 
+-- what is reserved in an entry of this level that has a reserved bit set
+unfoldable pub reserved_text : ℕ → List ℕ
+reserved_text level =
+    if level == 2 then codes "bits 13 to 20 are reserved in an entry that maps 2M"
+    else if level == 3 then codes "bits 13 to 29 are reserved in an entry that maps 1G"
+    else codes "bit 7 is reserved in an entry of level " ++ decimal level
+
 abbrev pub reserved_lines : ReservedEntry → List ℕ
-reserved_lines wrong = flat_map step_line wrong.path.items ++ step_line wrong.entry
+reserved_lines wrong = flat_map step_line wrong.path.items ++ (step_line wrong.entry
+    ++ (codes "bit " ++ (decimal wrong.bit ++ (codes " is set: " ++ (reserved_text wrong.entry.level ++ line_end)))))
 
 abbrev pub stray_lines : StrayTable → List ℕ
-stray_lines wrong = codes "no table leads to frame " ++ (decimal wrong.frame ++ line_end)
+stray_lines wrong = codes "no table leads to frame " ++ (hexadecimal wrong.frame ++ line_end)
 
 abbrev pub difference_lines : Difference → List ℕ
 difference_lines wrong =
-    number_line (codes "applied: ") wrong.applied ++ ((codes "the dump: " ++ walk_text wrong.found)
-    ++ (answer_line (codes "the space: ") wrong.wanted ++ address_line wrong.address wrong.changed))
+    number_line (codes "applied: ") wrong.applied ++ ((codes "the dump: " ++ walk_text wrong.found) ++ (flat_map step_line wrong.path.items
+    ++ (answer_line (codes "the space: ") wrong.wanted ++ address_line wrong.address wrong.changed)))
 
 -- the lines of the evidence
 unfoldable pub evidence_text : Evidence → List ℕ
@@ -199,7 +217,7 @@ evidence_text (evidence.Early early) = early_lines early
 evidence_text (evidence.WrongAnswer wrong) = other_answer_lines wrong
 evidence_text (evidence.PrefixPastLog wrong) = long_prefix_lines wrong
 evidence_text (evidence.PrefixShort wrong) = short_prefix_lines wrong
-evidence_text (evidence.MissingFrame wrong) = way_lines wrong.path.items
+evidence_text (evidence.MissingFrame wrong) = missing_lines wrong
 evidence_text (evidence.SharedFrame wrong) = shared_lines wrong
 evidence_text (evidence.ReservedBit wrong) = reserved_lines wrong
 evidence_text (evidence.StrayFrame wrong) = stray_lines wrong
@@ -210,8 +228,3 @@ abbrev pub counts_lines : Counts → List ℕ
 counts_lines counts =
     number_line (codes "calls: ") counts.calls ++ (number_line (codes "updates: ") counts.updates ++ (number_line (codes "reads: ") counts.reads
     ++ (number_line (codes "replicas: ") counts.replicas ++ number_line (codes "pages: ") counts.pages)))
-
--- the lines of an explanation
-abbrev pub explanation_text : Explanation → List ℕ
-explanation_text (Yes order counts) = yes_text order ++ counts_lines counts
-explanation_text (No fault shown) = no_text fault ++ evidence_text shown

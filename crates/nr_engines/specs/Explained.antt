@@ -3,7 +3,7 @@ use Rattle.std.specs.Prelude.{◌≡◌, ℕ, Bool, true, false, List}
 use Rattle.nr_explain.specs.Explanation.{IsExplanationOf}
 use Rattle.nr_explain.specs.declared.explaining.Explanation.{Explanation}
 use Rattle.nr_explain.specs.declared.explaining.Explanation.TheVariants.{Yes, No}
-use Rattle.nr_engines.specs.EvidenceText.{explanation_text}
+use Rattle.nr_engines.specs.Sentence.{explanation_text}
 use Rattle.nr_engines.specs.EvidenceJson.{explanation_json}
 
 -- as JSON, or as lines

@@ -1,13 +1,10 @@
 pub mod Text
-pub mod RunText
 pub mod EvidenceText
+pub mod Sentence
 pub mod EvidenceJson
 pub mod Explained
 pub mod Answers
 pub mod Refusals
-pub mod Simulation
-pub mod ServedRun
-pub mod Commands
 pub use Rattle.vs_types.specs.Config
 pub use Rattle.vs_types.specs.Depth
 pub use Rattle.vs_types.specs.Refusal
@@ -23,6 +20,3 @@ pub use Rattle.nr_audit.specs.Verdict
 pub use Rattle.nr_audit.specs.Headline
 pub use Rattle.nr_explain.specs.Explanation
 pub use Rattle.serde_json.specs.Written
-pub use Rattle.nr_core.specs.State
-pub use Rattle.nr_core.specs.Run
-pub use Rattle.nr_script.specs.Script

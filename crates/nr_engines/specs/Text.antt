@@ -1,6 +1,8 @@
 -- What the program prints of a fault and of a verdict: numbers in decimal, addresses in hexadecimal.
 use Rattle.std.specs.Prelude.{ℕ, ◌++◌, List, codes, decimal, flat_map}
-use Rattle.vs_text.specs.Words.{hexadecimal, page_text, space}
+use Rattle.vs_types.specs.declared.answer.Answer.{Answer}
+use Rattle.vs_types.specs.declared.answer.Answer.TheVariants as answers
+use Rattle.vs_text.specs.Words.{hexadecimal, page_text, rights_text, space}
 use Rattle.vs_walk.specs.declared.walk.Walk.{Walk}
 use Rattle.vs_walk.specs.declared.walk.Walk.TheVariants.{NotMapped, Reserved, Missing, Mapped}
 use Rattle.nr_audit.specs.declared.verdict.Verdict.{Verdict}
@@ -19,6 +21,8 @@ format_text formats.Truncated = codes "Truncated"
 format_text formats.BadMagic = codes "BadMagic"
 format_text formats.BadVersion = codes "BadVersion"
 format_text formats.BadCount = codes "BadCount"
+format_text formats.BadChain = codes "BadChain"
+format_text (formats.BadStart index) = codes "BadStart " ++ decimal index
 format_text (formats.BadEvent index) = codes "BadEvent " ++ decimal index
 format_text (formats.BadFrame replica index) = codes "BadFrame " ++ (decimal replica ++ (space ++ decimal index))
 format_text formats.Trailing = codes "Trailing"
@@ -60,6 +64,11 @@ abbrev pub verdict_text : Verdict → List ℕ
 verdict_text (Yes order) = yes_text order
 verdict_text (No fault) = no_text fault
 
+-- the first of them
+abbrev pub verdict_line : Verdict → List ℕ
+verdict_line (Yes order) = codes "yes\n"
+verdict_line (No fault) = no_text fault
+
 -- where a walk ends
 unfoldable pub walk_words : Walk → List ℕ
 walk_words NotMapped = codes "not mapped"
@@ -70,3 +79,16 @@ walk_words (Mapped phys size rights) = codes "mapped " ++ page_text phys size ri
 -- its line
 abbrev pub walk_text : Walk → List ℕ
 walk_text ends = walk_words ends ++ line_end
+
+-- the name of an answer, and what it says
+unfoldable pub answer_text : Answer → List ℕ
+answer_text answers.Done = codes "done"
+answer_text (answers.Overlap base) = codes "overlap " ++ hexadecimal base
+answer_text (answers.Full need) = codes "full " ++ decimal need
+answer_text (answers.Removed phys size rights) = codes "removed " ++ page_text phys size rights
+answer_text answers.NotMapped = codes "not mapped"
+answer_text (answers.Inside base) = codes "inside " ++ hexadecimal base
+answer_text (answers.Changed rights) = codes "changed " ++ rights_text rights
+answer_text (answers.Mapped phys size rights) = codes "mapped " ++ page_text phys size rights
+answer_text (answers.Allowed phys) = codes "allowed " ++ hexadecimal phys
+answer_text (answers.Fault code) = codes "fault " ++ decimal code

@@ -1,16 +1,17 @@
-ghost use Rattle.std.specs.Prelude.{◌≡◌, ℕ, IfOk, IfErr, List, string_bytes};
+ghost use Rattle.std.specs.Prelude.{◌≡◌, ◌++◌, ℕ, IfOk, IfErr, List, codes, string_bytes};
 ghost use Rattle.nr_trace.specs.Feed.{Reads};
 ghost use Rattle.nr_audit.specs.Verdict.{verdict_status};
+ghost use Rattle.nr_engines.specs.Text.{verdict_line};
 ghost use Rattle.nr_engines.specs.Refusals.{IsEndFault, WritesAnswersAlone};
-ghost use Rattle.nr_engines.specs.Answers.{HasReadFew, IsAudit, WritesReport};
+ghost use Rattle.nr_engines.specs.Answers.{HasReadFew, IsAudit, IsNamedAudit, WritesReport};
 
 use crate::ends::{read_trace, write_report};
 use crate::fault::ProgFault;
 use crate::report::Report;
-use crate::text::verdict_text;
+use crate::text::{verdict_line, verdict_text};
 use nr_audit::{Verdict, judge_read};
 use nr_trace::{Format, Trace};
-use std::alloc::Global;
+use std::alloc::{AllocError, Global};
 use std::io::{Read, Write};
 use vs_types::{Fail, Memory};
 
@@ -61,5 +62,58 @@ pub fn audit_io<R: Read, W: Write>(
 {
     let read = read_trace(alloc, reader)?;
     let report = audit_read(alloc, read)?;
+    write_report(writer, &report)
+}
+
+/// The line of a file: its name, a colon and the first line of the verdict.
+fn named_line(alloc: Global, name: &str, verdict: &Verdict) -> Result<String, AllocError>
+    ensures { IfOk result (λ text.
+        string_bytes text ≡ name.now ++ (codes ": " ++ verdict_line verdict.now)) }
+{
+    let line = verdict_line(alloc, verdict)?;
+    format!(in alloc; "{name}: {line}")
+}
+
+/// What `audit` answers to what was read of one of several files: its line, and the status of its verdict. Allocates what
+/// `audit_read` does.
+///
+/// # Errors
+///
+/// `Memory` where a growth of memory was refused, here or as the input was read.
+pub fn named_audit_read(
+    alloc: Global,
+    name: &str,
+    read: Result<Trace, Fail<Format>>,
+) -> Result<Report, Memory>
+    ensures { (bytes : List ℕ) → Reads bytes read → IfOk result (λ report.
+        IsNamedAudit name.now bytes (string_bytes report.text) report.status) }
+{
+    let verdict = judge_read(alloc, read)?;
+    let text = named_line(alloc, name, &verdict)?;
+    Ok(Report {
+        text,
+        status: status_of(&verdict),
+    })
+}
+
+/// Reads a trace as `audit_io` does, judges it, and writes a line: this name, a colon and the first line of the verdict.
+///
+/// # Errors
+///
+/// Those of `audit_io`.
+pub fn named_audit_io<R: Read, W: Write>(
+    alloc: Global,
+    reader: &mut R,
+    writer: &mut W,
+    name: &str,
+) -> Result<u8, ProgFault>
+    ensures ok { IfOk result (WritesReport (IsNamedAudit name.now) (R.remaining reader.old)
+        (W.contents writer.old) (W.contents writer.new)) }
+    ensures err { IfErr result IsEndFault }
+    ensures alone { WritesAnswersAlone writer.old writer.new result }
+    ensures few { HasReadFew (R.remaining reader.old) (R.remaining reader.new) }
+{
+    let read = read_trace(alloc, reader)?;
+    let report = named_audit_read(alloc, name, read)?;
     write_report(writer, &report)
 }

@@ -12,13 +12,13 @@ use std::io::{ErrorKind, Read, Write};
 use vs_types::Fail;
 
 /// The most bytes that are read at a time.
-pub(crate) const BLOCK: usize = 4096;
+pub const BLOCK: usize = 4096;
 
 /// The most bytes that are read of an input: one more than any trace has, so that the last of them is refused.
 pub(crate) const MOST_BYTES: usize = 70_647_893;
 
 /// Reads into the block: how many bytes, none at the end of the input. A read that was interrupted is tried again.
-pub(crate) fn read_block<R: Read>(reader: &mut R, block: &mut [u8]) -> Result<usize, ProgFault>
+pub fn read_block<R: Read>(reader: &mut R, block: &mut [u8]) -> Result<usize, ProgFault>
     ensures bound { ReadsAtMost result block.new }
     ensures ok { IfOk result (λ count.
         Consumes (R.remaining reader.old) (R.remaining reader.new) (take count block.new)) }
@@ -100,7 +100,7 @@ pub fn write_text<W: Write>(writer: &mut W, text: &[u8]) -> Result<(), ProgFault
 }
 
 /// Writes a report's lines and nothing else, and gives its status.
-pub(crate) fn write_report<W: Write>(writer: &mut W, report: &Report) -> Result<u8, ProgFault>
+pub fn write_report<W: Write>(writer: &mut W, report: &Report) -> Result<u8, ProgFault>
     ensures ok { IfOk result (λ status. (status ≡ report.now.status)
         × Appends (W.contents writer.old) (W.contents writer.new) (string_bytes report.now.text)) }
     ensures err { IfErr result (λ fault. fault ≡ ProgFault.CannotWrite) }

@@ -5,10 +5,11 @@ ghost use Rattle.serde_json.specs.View.{view};
 ghost use Rattle.nr_explain.specs.declared.evidence.Evidence.TheVariants as evidence;
 ghost use Rattle.nr_engines.specs.EvidenceJson.{counts_data, evidence_data};
 
+use crate::answer::answer_text;
 use crate::fact_json::{
-    call_value, changed_value, event_value, option_value, reply_value, step_value, way_value,
+    call_value, changed_value, event_value, option_value, own_value, reply_value, step_value,
+    way_value,
 };
-use crate::run_text::answer_text;
 use crate::text::{format_text, walk_words};
 use crate::unit_text::{bytes_text, unit_text};
 use nr_explain::{
@@ -123,6 +124,7 @@ fn early_value(alloc: Global, early: EarlyCall) -> Result<Value, AllocError>
 {
     let answered = call_value(alloc, early.answered)?;
     let call = call_value(alloc, early.call)?;
+    let own = own_value(alloc, early.own)?;
     let reply = reply_value(alloc, early.reply)?;
     json!(in alloc; {
         "answered": answered,
@@ -130,6 +132,7 @@ fn early_value(alloc: Global, early: EarlyCall) -> Result<Value, AllocError>
         "entries": early.entries,
         "fault": "Early",
         "floor": early.floor,
+        "own": own,
         "reply": reply
     })
 }
@@ -217,6 +220,7 @@ fn reserved_value(alloc: Global, wrong: &ReservedEntry) -> Result<Value, AllocEr
     let entry = step_value(alloc, wrong.entry)?;
     let path = way_value(alloc, wrong.path.as_slice())?;
     json!(in alloc; {
+        "bit": wrong.bit,
         "entry": entry,
         "fault": "ReservedBit",
         "path": path,
@@ -239,6 +243,7 @@ fn difference_value(alloc: Global, wrong: &Difference) -> Result<Value, AllocErr
     let address = format!(in alloc; "0x{address:x}")?;
     let changed = changed_value(alloc, wrong.changed)?;
     let found = walk_words(alloc, wrong.found)?;
+    let path = way_value(alloc, wrong.path.as_slice())?;
     let wanted = answer_text(alloc, wrong.wanted)?;
     json!(in alloc; {
         "address": address,
@@ -246,6 +251,7 @@ fn difference_value(alloc: Global, wrong: &Difference) -> Result<Value, AllocErr
         "changed": changed,
         "fault": "Differs",
         "found": found,
+        "path": path,
         "replica": wrong.replica,
         "wanted": wanted
     })

@@ -1,20 +1,20 @@
 //! The lines of the evidence of each fault.
 
 ghost use Rattle.std.specs.Prelude.{◌≡◌, IfOk, string_bytes};
-ghost use Rattle.nr_engines.specs.EvidenceText.{counts_lines, difference_lines, early_lines, evidence_text, long_prefix_lines, misplaced_lines};
+ghost use Rattle.nr_engines.specs.EvidenceText.{counts_lines, difference_lines, early_lines, evidence_text, long_prefix_lines, misplaced_lines, missing_lines};
 ghost use Rattle.nr_engines.specs.EvidenceText.{no_update_lines, open_lines, other_answer_lines, past_end_lines, reserved_lines};
 ghost use Rattle.nr_engines.specs.EvidenceText.{shared_lines, short_prefix_lines, stray_lines, stray_reply_lines, two_places_lines, two_replies_lines};
 
 use crate::fact_text::{
-    address_line, answer_line, call_line, event_line, number_line, option_line, push_steps,
-    reply_line, step_line, way_lines,
+    address_line, answer_line, call_line, event_line, number_line, option_line, own_line,
+    push_steps, reply_line, reserved_text, step_line, way_lines,
 };
 use crate::text::walk_text;
 use crate::unit_text::bad_unit_lines;
 use nr_explain::{
-    Counts, Difference, EarlyCall, Evidence, LongPrefix, Misplaced, NoUpdate, OpenCalls,
-    OtherAnswer, PastEnd, ReservedEntry, SharedTable, ShortPrefix, StrayReply, StrayTable,
-    TwoPlaces, TwoReplies,
+    Counts, Difference, EarlyCall, Evidence, LongPrefix, Misplaced, MissingTable, NoUpdate,
+    OpenCalls, OtherAnswer, PastEnd, ReservedEntry, SharedTable, ShortPrefix, StrayReply,
+    StrayTable, TwoPlaces, TwoReplies,
 };
 use std::alloc::{AllocError, Global};
 
@@ -84,11 +84,12 @@ fn early_lines(alloc: Global, early: EarlyCall) -> Result<String, AllocError>
     ensures { IfOk result (λ text. string_bytes text ≡ early_lines early) }
 {
     let call = call_line(alloc, early.call)?;
+    let own = own_line(alloc, early.own)?;
     let entries = number_line(alloc, "entries before it: ", u64::from(early.entries))?;
     let floor = number_line(alloc, "known when it was made: ", early.floor)?;
     let reply = reply_line(alloc, early.reply)?;
     let answered = call_line(alloc, early.answered)?;
-    format!(in alloc; "{call}{entries}{floor}{reply}{answered}")
+    format!(in alloc; "{call}{own}{entries}{floor}{reply}{answered}")
 }
 
 fn other_answer_lines(alloc: Global, wrong: OtherAnswer) -> Result<String, AllocError>
@@ -119,6 +120,14 @@ fn short_prefix_lines(alloc: Global, wrong: ShortPrefix) -> Result<String, Alloc
     format!(in alloc; "{applied}{known}{reply}{call}")
 }
 
+fn missing_lines(alloc: Global, wrong: &MissingTable) -> Result<String, AllocError>
+    ensures { IfOk result (λ text. string_bytes text ≡ missing_lines wrong.now) }
+{
+    let way = way_lines(alloc, wrong.path.as_slice())?;
+    let frame = wrong.frame;
+    format!(in alloc; "{way}frame 0x{frame:x}, which the dump doesn't have\n")
+}
+
 fn shared_lines(alloc: Global, wrong: &SharedTable) -> Result<String, AllocError>
     ensures { IfOk result (λ text. string_bytes text ≡ shared_lines wrong.now) }
 {
@@ -130,18 +139,19 @@ fn shared_lines(alloc: Global, wrong: &SharedTable) -> Result<String, AllocError
 fn reserved_lines(alloc: Global, wrong: &ReservedEntry) -> Result<String, AllocError>
     ensures { IfOk result (λ text. string_bytes text ≡ reserved_lines wrong.now) }
 {
-    let mut text = String::new(alloc);
-    push_steps(alloc, &mut text, wrong.path.as_slice())?;
+    let mut path = String::new(alloc);
+    push_steps(alloc, &mut path, wrong.path.as_slice())?;
     let entry = step_line(alloc, wrong.entry)?;
-    text.push_str(entry.as_str())?;
-    Ok(text)
+    let bit = wrong.bit;
+    let reserved = reserved_text(alloc, wrong.entry.level)?;
+    format!(in alloc; "{path}{entry}bit {bit} is set: {reserved}\n")
 }
 
 fn stray_lines(alloc: Global, wrong: StrayTable) -> Result<String, AllocError>
     ensures { IfOk result (λ text. string_bytes text ≡ stray_lines wrong) }
 {
     let frame = wrong.frame;
-    format!(in alloc; "no table leads to frame {frame}\n")
+    format!(in alloc; "no table leads to frame 0x{frame:x}\n")
 }
 
 fn difference_lines(alloc: Global, wrong: &Difference) -> Result<String, AllocError>
@@ -149,9 +159,11 @@ fn difference_lines(alloc: Global, wrong: &Difference) -> Result<String, AllocEr
 {
     let applied = number_line(alloc, "applied: ", u64::from(wrong.applied))?;
     let found = walk_text(alloc, wrong.found)?;
+    let mut path = String::new(alloc);
+    push_steps(alloc, &mut path, wrong.path.as_slice())?;
     let wanted = answer_line(alloc, "the space: ", wrong.wanted)?;
     let changed = address_line(alloc, wrong.address, wrong.changed)?;
-    format!(in alloc; "{applied}the dump: {found}{wanted}{changed}")
+    format!(in alloc; "{applied}the dump: {found}{path}{wanted}{changed}")
 }
 
 /// The lines of how much a right trace has.
@@ -184,7 +196,7 @@ pub(crate) fn evidence_text(alloc: Global, shown: &Evidence) -> Result<String, A
         Evidence::WrongAnswer(wrong) => other_answer_lines(alloc, *wrong),
         Evidence::PrefixPastLog(wrong) => long_prefix_lines(alloc, *wrong),
         Evidence::PrefixShort(wrong) => short_prefix_lines(alloc, *wrong),
-        Evidence::MissingFrame(wrong) => way_lines(alloc, wrong.path.as_slice()),
+        Evidence::MissingFrame(wrong) => missing_lines(alloc, wrong),
         Evidence::SharedFrame(wrong) => shared_lines(alloc, wrong),
         Evidence::ReservedBit(wrong) => reserved_lines(alloc, wrong),
         Evidence::StrayFrame(wrong) => stray_lines(alloc, *wrong),

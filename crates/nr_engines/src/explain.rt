@@ -3,7 +3,7 @@ ghost use Rattle.serde_json.specs.Data.{array};
 ghost use Rattle.nr_engines.specs.Text.{fault_text};
 ghost use Rattle.nr_explain.specs.Units.{ReadsUnits};
 ghost use Rattle.serde_json.specs.View.{items_of, view};
-ghost use Rattle.nr_engines.specs.EvidenceText.{explanation_text};
+ghost use Rattle.nr_engines.specs.Sentence.{explanation_text};
 ghost use Rattle.nr_engines.specs.EvidenceJson.{explanation_data, explanation_json, number_data};
 ghost use Rattle.nr_engines.specs.Explained.{explanation_status, told_explanation, IsExplained};
 ghost use Rattle.nr_engines.specs.Refusals.{IsEndFault, WritesAnswersAlone};
@@ -14,6 +14,7 @@ use crate::evidence_json::{counts_value, evidence_value};
 use crate::evidence_text::{counts_lines, evidence_text};
 use crate::fault::ProgFault;
 use crate::report::Report;
+use crate::sentence::sentence_text;
 use crate::text::{fault_text, no_text, yes_text};
 use crate::unit_input::read_units;
 use nr_explain::{Explanation, Unread, explain_read};
@@ -44,8 +45,9 @@ fn explanation_text(alloc: Global, explanation: &Explanation) -> Result<String, 
         }
         Explanation::No(fault, shown) => {
             let no = no_text(alloc, *fault)?;
+            let sentence = sentence_text(alloc, shown)?;
             let lines = evidence_text(alloc, shown)?;
-            format!(in alloc; "{no}{lines}")
+            format!(in alloc; "{no}{sentence}\n{lines}")
         }
     }
 }
@@ -75,7 +77,8 @@ fn explanation_value(alloc: Global, explanation: &Explanation) -> Result<Value, 
             let evidence = evidence_value(alloc, shown)?;
             let fault = fault_text(alloc, *fault)?;
             let verdict = format!(in alloc; "no {fault}")?;
-            json!(in alloc; {"evidence": evidence, "verdict": verdict})
+            let sentence = sentence_text(alloc, shown)?;
+            json!(in alloc; {"evidence": evidence, "sentence": sentence, "verdict": verdict})
         }
     }
 }
@@ -127,7 +130,7 @@ pub fn explained_read(
     })
 }
 
-/// Reads a trace in blocks, judges it, and writes the verdict and, for a no, what shows the fault, as lines or as one JSON
+/// Reads a trace in blocks, judges it, and writes the verdict and, for a no, a sentence and what shows the fault, as lines or as one JSON
 /// object; the status is 0 where it is right, else 1. It stops reading as soon as a whole unit has a fault, or a byte is
 /// after the last unit. Where it gives no answer some input may have been read, and nothing was written but where that failed.
 ///

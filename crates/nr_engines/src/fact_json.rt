@@ -2,9 +2,9 @@
 
 ghost use Rattle.std.specs.Prelude.{◌≡◌, IfOk, Some, map};
 ghost use Rattle.serde_json.specs.View.{view};
-ghost use Rattle.nr_engines.specs.EvidenceJson.{call_data, changed_data, event_data, option_data, reply_data, step_data, way_data};
+ghost use Rattle.nr_engines.specs.EvidenceJson.{call_data, changed_data, event_data, option_data, own_data, reply_data, step_data, way_data};
 
-use crate::run_text::answer_text;
+use crate::answer::answer_text;
 use nr_explain::{PlacedUpdate, RecordedCall, RecordedReply, Step};
 use nr_trace::Event;
 use serde_json::{Value, json};
@@ -40,6 +40,16 @@ pub(crate) fn reply_value(alloc: Global, reply: RecordedReply) -> Result<Value, 
     json!(in alloc; {"answer": answer, "at": reply.at, "call": reply.call, "event": reply.event})
 }
 
+/// The reply to a call, or null.
+pub(crate) fn own_value(alloc: Global, own: Option<RecordedReply>) -> Result<Value, AllocError>
+    ensures { IfOk result (λ value. view value ≡ own_data own) }
+{
+    match own {
+        None => Ok(Value::Null),
+        Some(reply) => reply_value(alloc, reply),
+    }
+}
+
 fn one_event_value(alloc: Global, index: u32, event: Event) -> Result<Value, AllocError>
     ensures { IfOk result (λ value. view value ≡ event_data index (Some event)) }
 {
@@ -54,9 +64,11 @@ fn one_event_value(alloc: Global, index: u32, event: Event) -> Result<Value, All
                 replica,
                 thread,
                 request,
+                touch: false,
             };
             call_value(alloc, call)
         }
+        Event::Touch { address, .. } => json!(in alloc; {"event": index, "touch": address}),
         Event::Reply { call, at, answer } => {
             let reply = RecordedReply {
                 event: index,

@@ -2,9 +2,9 @@
 
 ghost use Rattle.std.specs.Prelude.{◌≡◌, ◌++◌, IfOk, OnOk, Some, flat_map, string_bytes};
 ghost use Rattle.nr_engines.specs.EvidenceText.{address_line, answer_line, call_line, changed_line, event_line, format_lines};
-ghost use Rattle.nr_engines.specs.EvidenceText.{number_line, option_line, reply_line, step_line, way_lines};
+ghost use Rattle.nr_engines.specs.EvidenceText.{number_line, option_line, own_line, reply_line, reserved_text, step_line, way_lines};
 
-use crate::run_text::answer_text;
+use crate::answer::answer_text;
 use nr_explain::{PlacedUpdate, RecordedCall, RecordedReply, Step};
 use nr_trace::{Event, Format};
 use std::alloc::{AllocError, Global};
@@ -35,6 +35,17 @@ pub(crate) fn reply_line(alloc: Global, reply: RecordedReply) -> Result<String, 
     format!(in alloc; "reply {event} to call {call}, at {at}: {told}\n")
 }
 
+/// The line of the reply to a call.
+#[tactic(auto, unfolding(crate::specs::EvidenceText::own_line))]
+pub(crate) fn own_line(alloc: Global, own: Option<RecordedReply>) -> Result<String, AllocError>
+    ensures { IfOk result (λ text. string_bytes text ≡ own_line own) }
+{
+    match own {
+        None => String::from_str(alloc, "no reply to it\n"),
+        Some(reply) => reply_line(alloc, reply),
+    }
+}
+
 /// The line of an event.
 #[tactic(auto, unfolding(crate::specs::EvidenceText::event_line))]
 fn one_event_line(alloc: Global, index: u32, event: Event) -> Result<String, AllocError>
@@ -51,9 +62,11 @@ fn one_event_line(alloc: Global, index: u32, event: Event) -> Result<String, All
                 replica,
                 thread,
                 request,
+                touch: false,
             };
             call_line(alloc, call)
         }
+        Event::Touch { .. } => format!(in alloc; "event {index}: a touch\n"),
         Event::Reply { call, at, answer } => {
             let reply = RecordedReply {
                 event: index,
@@ -158,7 +171,7 @@ pub(crate) fn step_line(alloc: Global, step: Step) -> Result<String, AllocError>
     let frame = step.frame;
     let index = step.index;
     let word = step.word;
-    format!(in alloc; "level {level}, frame {frame}, index {index}: 0x{word:x}\n")
+    format!(in alloc; "level {level}, frame 0x{frame:x}, index {index}: 0x{word:x}\n")
 }
 
 /// Adds the lines of entries.
@@ -185,6 +198,20 @@ pub(crate) fn way_lines(alloc: Global, steps: &[Step]) -> Result<String, AllocEr
     Ok(text)
 }
 
+/// What is reserved in an entry of a level that has a reserved bit set.
+#[tactic(auto, unfolding(crate::specs::EvidenceText::reserved_text))]
+pub(crate) fn reserved_text(alloc: Global, level: u8) -> Result<String, AllocError>
+    ensures { IfOk result (λ text. string_bytes text ≡ reserved_text level) }
+{
+    if level == 2 {
+        return String::from_str(alloc, "bits 13 to 20 are reserved in an entry that maps 2M");
+    }
+    if level == 3 {
+        return String::from_str(alloc, "bits 13 to 29 are reserved in an entry that maps 1G");
+    }
+    format!(in alloc; "bit 7 is reserved in an entry of level {level}")
+}
+
 /// The unit that is wrong, and what is allowed there.
 #[tactic(auto, unfolding(crate::specs::EvidenceText::format_lines))]
 pub(crate) fn format_lines(alloc: Global, fault: Format) -> Result<String, AllocError>
@@ -198,6 +225,15 @@ pub(crate) fn format_lines(alloc: Global, fault: Format) -> Result<String, Alloc
             alloc,
             "levels 4 (version 2: or 5), replicas 1 to 4, threads 1 to 64, tables 1 to 4096, places to 65536, events to 131072, frames 1 to 4096\n",
         ),
+        Format::BadChain => String::from_str(
+            alloc,
+            "levels, replicas, threads and tables are those of the segment before\n",
+        ),
+        Format::BadStart(index) => {
+            format!(in alloc;
+                "start, frame {index}: its number is above the one before it, and below 0x10000000000\n"
+            )
+        }
         Format::BadEvent(index) => {
             format!(in alloc; "event {index}: 24 bytes that spell no call and no reply here\n")
         }

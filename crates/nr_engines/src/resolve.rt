@@ -42,7 +42,7 @@ pub fn resolve_read(
 {
     match read {
         Ok(trace) => {
-            let depth = trace.config().depth();
+            let depth = trace.layout().depth();
             if !depth.is_canonical(address) {
                 return Err(ProgFault::NotCanonical);
             }

@@ -1,5 +1,5 @@
 ghost use Rattle.std.specs.Prelude.{◌≡◌, ◌++◌, IfOk, OnOk, string_bytes};
-ghost use Rattle.nr_engines.specs.Text.{format_text, fault_text, no_text, call_text, yes_text, verdict_text, walk_text, walk_words};
+ghost use Rattle.nr_engines.specs.Text.{format_text, fault_text, no_text, call_text, yes_text, verdict_line, verdict_text, walk_text, walk_words};
 
 use itoa::Buffer;
 use nr_audit::Verdict;
@@ -17,6 +17,8 @@ pub(crate) fn format_text(alloc: Global, fault: Format) -> Result<String, AllocE
         Format::BadMagic => String::from_str(alloc, "BadMagic"),
         Format::BadVersion => String::from_str(alloc, "BadVersion"),
         Format::BadCount => String::from_str(alloc, "BadCount"),
+        Format::BadChain => String::from_str(alloc, "BadChain"),
+        Format::BadStart(index) => format!(in alloc; "BadStart {index}"),
         Format::BadEvent(index) => format!(in alloc; "BadEvent {index}"),
         Format::BadFrame(replica, index) => format!(in alloc; "BadFrame {replica} {index}"),
         Format::Trailing => String::from_str(alloc, "Trailing"),
@@ -24,7 +26,7 @@ pub(crate) fn format_text(alloc: Global, fault: Format) -> Result<String, AllocE
 }
 
 #[tactic(auto, unfolding(crate::specs::Text::fault_text))]
-pub(crate) fn fault_text(alloc: Global, fault: Fault) -> Result<String, AllocError>
+pub fn fault_text(alloc: Global, fault: Fault) -> Result<String, AllocError>
     ensures { IfOk result (λ text. string_bytes text ≡ fault_text fault) }
 {
     match fault {
@@ -94,6 +96,16 @@ pub(crate) fn verdict_text(alloc: Global, verdict: &Verdict) -> Result<String, A
 {
     match verdict {
         Verdict::Yes(order) => yes_text(alloc, order.calls()),
+        Verdict::No(fault) => no_text(alloc, *fault),
+    }
+}
+
+/// The first of these lines.
+pub(crate) fn verdict_line(alloc: Global, verdict: &Verdict) -> Result<String, AllocError>
+    ensures { IfOk result (λ text. string_bytes text ≡ verdict_line verdict.now) }
+{
+    match verdict {
+        Verdict::Yes(_) => String::from_str(alloc, "yes\n"),
         Verdict::No(fault) => no_text(alloc, *fault),
     }
 }

@@ -4,39 +4,44 @@ use Rattle.std.proofs.Common.{refl, ap, sym, ◌∙◌, subst, arith}
 use Rattle.std.specs.List.{concat}
 use Rattle.std.proofs.lemmas.List.{length-append}
 use Rattle.std.proofs.lemmas.List.Elements.{All-head, All-tail}
-use Rattle.nr_trace.specs.Spelling.{magic, version_word, counts}
-use Rattle.nr_trace.specs.FirstFault.{AtEnd, AtDumps}
+use Rattle.nr_trace.specs.Spelling.{version_word, counts}
+use Rattle.nr_trace.specs.FirstFault.{AtEnd, AtDumps, IsCounts}
+use Rattle.nr_trace.specs.Versions.{IsVersionOf}
 use Rattle.nr_trace.specs.Feed.{HasNoFaultYet}
+use Rattle.nr_trace.specs.declared.version.Form.TheVariants as forms
 use Rattle.nr_trace.specs.declared.version.Version.{Version}
+use Rattle.nr_trace.specs.declared.version.Version.TheVariants.{V1, V2, Segment}
 use Rattle.nr_trace.specs.declared.fault.Format.TheVariants.{Truncated, Trailing}
+use Rattle.nr_trace.proofs.LawsOfUnits.{length-counts, is_wide}
 use Rattle.nr_trace.proofs.UnitsOfBytes.{AreBytes}
-use Rattle.nr_explain.specs.Units.{size, Numbers, HasHeader, IsHeadOf, SpellsDump, HasDumps}
+use Rattle.nr_explain.specs.Units.{size, as_counts, Numbers, HasHeader, IsHeadOf, SpellsDump, HasDumps}
 use Rattle.nr_explain.specs.inside.Positions.{IsAhead, AreNumbers, AreUnits, OnLog, OnEvents, OnDumps, HasBegun, OnFrames, IsAt, IsRun}
 use Rattle.nr_explain.specs.declared.units.TraceUnit.{TraceUnit}
 use Rattle.nr_explain.specs.declared.units.TraceUnit.TheVariants.{Magic, Version as VersionWord, Counts, Place, Event, DumpHead, FrameNumber, FrameWords, Behind}
 use Rattle.nr_explain.specs.declared.positions.Lengths.{Lengths}
-use Rattle.nr_explain.proofs.NextUnits.{after_magic, after_version, after_counts, log_begins, after_head, more_counted}
+use Rattle.nr_explain.proofs.NextUnits.{trace_magic, front_of, after_magic, after_version, after_counts, same_counts, numbers_read, counts_of_trace, log_begins, after_head, more_counted}
 use Rattle.nr_explain.proofs.Runs.{pass_places, pass_events}
 
-pub magic_after : (front run : List ℕ) → front ≡ [] → length run ≡ 4 → HasNoFaultYet (front ++ run) → front ++ run ≡ magic
+pub magic_after : (front run : List ℕ) → front ≡ [] → length run ≡ 4 → HasNoFaultYet (front ++ run) → front ++ run ≡ trace_magic
 magic_after front run at whole not_yet =
     let same : front ++ run ≡ run = ap (λ (l : List ℕ). l ++ run) at in
     same ∙ after_magic run whole (subst HasNoFaultYet same not_yet)
 
-pub version_after : (front run : List ℕ) → front ≡ magic → length run ≡ 2 → HasNoFaultYet (front ++ run)
-    → (version : Version) × (front ++ run ≡ magic ++ version_word version)
+pub version_after : (front run : List ℕ) → front ≡ trace_magic → length run ≡ 2 → HasNoFaultYet (front ++ run)
+    → (version : Version) × IsVersionOf forms.Trace version × (front ++ run ≡ front_of version)
 version_after front run at whole not_yet =
-    let same : front ++ run ≡ magic ++ run = ap (λ (l : List ℕ). l ++ run) at in
+    let same : front ++ run ≡ trace_magic ++ run = ap (λ (l : List ℕ). l ++ run) at in
     let passed = after_version run whole (subst HasNoFaultYet same not_yet) in
-    (passed.0, same ∙ ap (λ (l : List ℕ). magic ++ l) passed.1)
+    (passed.0, passed.1, same ∙ ap (λ (l : List ℕ). trace_magic ++ l) passed.2)
 
-pub counts_after : (lengths : Lengths) (front run : List ℕ) (version : Version) → front ≡ magic ++ version_word version → length run ≡ 14
-    → HasNoFaultYet (front ++ run) → AreNumbers run lengths → OnLog lengths 0 (front ++ run)
-counts_after lengths front run version at whole not_yet are =
-    let same : front ++ run ≡ (magic ++ version_word version) ++ run = ap (λ (l : List ℕ). l ++ run) at in
-    let passed = after_counts version run whole (subst HasNoFaultYet same not_yet) in
-    let is = are version (record { layout = passed.value.layout; places = passed.value.places; events = passed.value.events }) passed.fits passed.is in
-    subst (OnLog lengths 0) (sym same) (log_begins version run lengths passed is)
+pub counts_after : (lengths : Lengths) (front run : List ℕ) (version : Version) → IsVersionOf forms.Trace version → front ≡ front_of version
+    → length run ≡ 14 → HasNoFaultYet (front ++ run) → AreNumbers run lengths → OnLog lengths 0 (front ++ run)
+counts_after lengths front run version of at whole not_yet are =
+    let same : front ++ run ≡ front_of version ++ run = ap (λ (l : List ℕ). l ++ run) at in
+    let passed = after_counts version run of whole (subst HasNoFaultYet same not_yet) in
+    let told = same_counts version passed.value of passed.fits in
+    let is = are version (numbers_read passed.value) of (subst (IsCounts version) told passed.fits) (passed.is ∙ ap (counts version) told) in
+    subst (OnLog lengths 0) (sym same) (log_begins version run lengths of passed is)
 
 pub places_after : (lengths : Lengths) (place : ℕ) (front run : List ℕ) → OnLog lengths place front → AreUnits 4 place lengths.places (length run)
     → AreBytes run → OnLog lengths (place + length run / 4) (front ++ run)
@@ -59,7 +64,7 @@ pub events_after : (lengths : Lengths) (index : ℕ) (front run : List ℕ) → 
     → HasNoFaultYet (front ++ run) → OnEvents lengths (index + length run / 24) (front ++ run)
 events_after lengths index front run on units not_yet =
     let many : length run / 24 ≡ units.count = omega (arith, units.bytes_are) in
-    let passed = pass_events on.version on.numbers.layout on.counted.header.in_range.layout index on.left units.count front run on.ahead
+    let passed = pass_events on.version on.numbers.layout (is_wide on.version on.numbers.layout on.counted.header.in_range.layout) index on.left units.count front run on.ahead
     (omega (arith, units.few, on.count, on.counted.events)) units.bytes_are not_yet in
     subst (λ (n : ℕ). OnEvents lengths (index + n) (front ++ run)) (sym many) (record {
       version = on.version;
@@ -81,17 +86,24 @@ head_after lengths replica frames front run below on whole not_yet are =
     read.on (record { places = lengths.places; events = lengths.events; replicas = lengths.replicas; frames = frames })
     (λ i. record { places = lengths.places; events = lengths.events; replicas = lengths.replicas; frames = same i })
 
-all_dumps : (replica : ℕ) (front : List ℕ) → IsAhead (AtDumps replica 0) front → IsAhead AtEnd front
+-- behind a trace comes nothing
+trailing : (version : Version) (run : List ℕ) → IsVersionOf forms.Trace version → run ≢ [] → AtEnd version run Trailing
+trailing V1 run of some = (some, refl)
+trailing V2 run of some = (some, refl)
+trailing Segment run of some = absurd of
+
+all_dumps : (version : Version) (replica : ℕ) (front : List ℕ) → IsAhead (AtDumps version replica 0) front → IsAhead (AtEnd version) front
 unfolding AtDumps
-all_dumps replica front ahead = λ rest fault h. ahead rest fault h
+all_dumps version replica front ahead = λ rest fault h. ahead rest fault h
 
 -- a byte behind the last unit is refused
 pub none_behind_end : (lengths : Lengths) (front run : List ℕ) → OnDumps lengths lengths.replicas front → length run ≡ 1 → HasNoFaultYet (front ++ run) → ⊥
 none_behind_end lengths front run on whole not_yet =
     let none : on.left ≡ 0 = omega (arith, on.count, on.counted.replicas) in
-    let ahead = all_dumps lengths.replicas front (subst (λ (n : ℕ). IsAhead (AtDumps lengths.replicas n) front) none on.ahead) in
+    let ahead = all_dumps on.version lengths.replicas front
+    (subst (λ (n : ℕ). IsAhead (AtDumps on.version lengths.replicas n) front) none on.ahead) in
     let some : run ≢ [] = λ e. let long = ap length e in omega arith in
-    let same : Trailing ≡ Truncated = not_yet Trailing (ahead run Trailing (some, refl)) in
+    let same : Trailing ≡ Truncated = not_yet Trailing (ahead run Trailing (trailing on.version run on.counted.header.of_trace some)) in
     absurd cc
 
 -- ---- runs
@@ -137,13 +149,15 @@ length_dumps (dump ∷ dumps) all =
 
 pub length_header : (version : Version) (numbers : Numbers) (front behind : List ℕ) → HasHeader version numbers front behind → length front ≡ 20 + length behind
 length_header version numbers front behind h =
-    let spelled = counts (record { layout = numbers.layout; places = numbers.places; events = numbers.events }) in
+    let spelled = counts version (as_counts numbers) in
+    let long : length spelled ≡ 14 = length-counts version (as_counts numbers) ∙ counts_of_trace version h.of_trace in
     omega (
       arith,
       ap length h.spelled,
-      length-append magic (version_word version ++ (spelled ++ behind)),
+      length-append trace_magic (version_word version ++ (spelled ++ behind)),
       length-append (version_word version) (spelled ++ behind),
       length-append spelled behind,
+      long,
     )
 
 few_behind : (numbers : Numbers) (behind : List ℕ) (replicas : ℕ) (more : List ℕ) → HasDumps numbers behind replicas more
@@ -193,7 +207,7 @@ few_dumps lengths replica front on =
 pub few_bytes : (unit : TraceUnit) (lengths : Lengths) (front : List ℕ) → IsAt unit lengths front → length front < 2 ^ 40
 few_bytes Magic lengths front at = omega (arith, ap length at)
 few_bytes VersionWord lengths front at = omega (arith, ap length at)
-few_bytes Counts lengths front at = omega (arith, ap length at.1)
+few_bytes Counts lengths front at = omega (arith, ap length at.2)
 few_bytes (Place place) lengths front at =
     let on = at.1 in
     omega (arith, length_header on.version on.numbers front on.behind on.counted.header, on.come, on.count, on.counted.header.in_range.few_places)

@@ -7,12 +7,15 @@ use Rattle.std.proofs.lemmas.List.{append-nil, nil_from_length, length-append, l
 use Rattle.std.proofs.lemmas.List.Elements.{All-take}
 use Rattle.vs_types.specs.Frame.{IsFrame}
 use Rattle.nr_trace.specs.Recording.{IsEvent}
-use Rattle.nr_trace.specs.Spelling.{magic, version_word, counts, log_word, event, dump_head, frame_number, frame_words}
-use Rattle.nr_trace.specs.FirstFault.{AtFrames, AtDumps, AtEvents, AtLog, HasFormatFault, IsCounts, IsDumpHead, IsNext}
+use Rattle.nr_trace.specs.Spelling.{version_word, counts, log_word, event, dump_head, frame_number, frame_words}
+use Rattle.nr_trace.specs.Versions.{IsVersionOf}
+use Rattle.nr_trace.specs.FirstFault.{counts_bytes, AtFrames, AtDumps, AtEvents, AtLog, HasFormatFault, IsCounts, IsDumpHead, IsNext}
 use Rattle.nr_trace.specs.Feed.{HasNoFaultYet, HasLastingFault}
+use Rattle.nr_trace.specs.declared.version.Form.TheVariants as forms
 use Rattle.nr_trace.specs.declared.fault.Format.{Format}
 use Rattle.nr_trace.specs.declared.fault.Format.TheVariants.{BadMagic, BadVersion, BadCount, BadEvent, BadFrame, Truncated}
 use Rattle.nr_trace.proofs.LawsOfFormat.{BehindCounts, BehindVersion, BehindMagic}
+use Rattle.nr_trace.proofs.LawsOfUnits.{is_wide}
 use Rattle.nr_trace.proofs.UnitsOfBytes.{AreBytes}
 use Rattle.nr_explain.specs.Units.{size, HasDumps, HasFrames, GoesOn}
 use Rattle.nr_explain.specs.inside.Positions.{IsAhead, IsAt, IsBadIn, IsWhich}
@@ -20,7 +23,7 @@ use Rattle.nr_explain.specs.declared.units.TraceUnit.{TraceUnit}
 use Rattle.nr_explain.specs.declared.units.TraceUnit.TheVariants.{Magic, Version as VersionWord, Counts, Place, Event, DumpHead, FrameNumber, FrameWords, Behind}
 use Rattle.nr_explain.specs.declared.positions.Lengths.{Lengths}
 use Rattle.nr_explain.proofs.Passing.{cut_off, not_yet_from}
-use Rattle.nr_explain.proofs.NextUnits.{at_start, at_version, at_counts, head_ahead, number_ahead, more_counted, BehindNumber}
+use Rattle.nr_explain.proofs.NextUnits.{trace_magic, at_start, at_version, at_counts, counts_of_trace, head_ahead, number_ahead, more_counted, BehindNumber, BehindWords}
 use Rattle.nr_explain.proofs.Runs.{place_ahead, event_ahead, pass_places, refused_events}
 
 -- ---- the unit that comes next
@@ -28,7 +31,7 @@ use Rattle.nr_explain.proofs.Runs.{place_ahead, event_ahead, pass_places, refuse
 pub goes_on : (unit : TraceUnit) (lengths : Lengths) (front : List ℕ) → IsAt unit lengths front → GoesOn front unit
 goes_on Magic lengths front at = at
 goes_on VersionWord lengths front at = ap length at
-goes_on Counts lengths front at = ap length at.1
+goes_on Counts lengths front at = ap length at.2
 goes_on (Place place) lengths front at =
     let on = at.1 in
     (on.version, on.numbers, on.behind, on.counted.header, (omega (arith, at.0, on.counted.places), on.come))
@@ -72,13 +75,14 @@ goes_on Behind lengths front at =
 pub cut : (unit : TraceUnit) (lengths : Lengths) (front begun : List ℕ) → IsAt unit lengths front → length begun < size unit
     → HasFormatFault (front ++ begun) Truncated ⊎ (unit ≡ Behind)
 cut Magic lengths front begun at short =
-    inl (cut_off {A = Unit {0}} 4 (Some BadMagic) (λ _. ⊤) (λ _. magic) (λ _. BehindMagic) front begun short
+    inl (cut_off {A = Unit {0}} 4 (Some BadMagic) (λ _. ⊤) (λ _. trace_magic) (λ _. BehindMagic forms.Trace) front begun short
     (subst (IsAhead HasFormatFault) (sym at) at_start))
 cut VersionWord lengths front begun at short =
-    inl (cut_off 2 (Some BadVersion) (λ version. ⊤) version_word BehindVersion front begun short (subst (IsAhead BehindMagic) (sym at) at_version))
+    inl (cut_off 2 (Some BadVersion) (IsVersionOf forms.Trace) version_word (BehindVersion forms.Trace) front begun short
+    (subst (IsAhead (BehindMagic forms.Trace)) (sym at) at_version))
 cut Counts lengths front begun at short =
-    inl (cut_off 14 (Some BadCount) (IsCounts at.0) counts (BehindCounts at.0) front begun short
-    (subst (IsAhead (BehindVersion at.0)) (sym at.1) (at_counts at.0)))
+    inl (cut_off (counts_bytes at.0) (Some BadCount) (IsCounts at.0) (counts at.0) (BehindCounts forms.Trace at.0) front begun
+    (omega (arith, short, counts_of_trace at.0 at.1)) (subst (IsAhead (BehindVersion forms.Trace at.0)) (sym at.2) (at_counts at.0 at.1)))
 cut (Place place) lengths front begun at short = by_left at.1.left at.1.count at.1.ahead where
   by_left : (left : ℕ) → place + left ≡ at.1.numbers.places → IsAhead (AtLog at.1.version at.1.numbers.layout left at.1.numbers.events) front
       → HasFormatFault (front ++ begun) Truncated ⊎ (Place place ≡ Behind)
@@ -95,22 +99,22 @@ cut (Event index) lengths front begun at short = by_left at.1.left at.1.count at
       (λ _. AtEvents at.1.version at.1.numbers.layout (index + 1) left) front begun short
       (event_ahead at.1.version at.1.numbers.layout index left front ahead))
 cut (DumpHead replica) lengths front begun at short = by_left at.1.left at.1.count at.1.ahead where
-  by_left : (left : ℕ) → replica + left ≡ at.1.numbers.layout.replicas → IsAhead (AtDumps replica left) front
+  by_left : (left : ℕ) → replica + left ≡ at.1.numbers.layout.replicas → IsAhead (AtDumps at.1.version replica left) front
       → HasFormatFault (front ++ begun) Truncated ⊎ (DumpHead replica ≡ Behind)
   by_left zero count ahead = absurd (omega (arith, count, at.0, at.1.counted.replicas))
   by_left (suc more) count ahead =
-      inl (cut_off 16 (Some BadCount) IsDumpHead dump_head (λ head. AtFrames replica 0 head.frames None (AtDumps (replica + 1) more)) front begun short
-      (head_ahead replica more front ahead))
+      inl (cut_off 16 (Some BadCount) (IsDumpHead at.1.version) dump_head (λ head. AtFrames (BadFrame replica) 0 head.frames None (AtDumps at.1.version (replica + 1) more)) front begun short
+      (head_ahead at.1.version replica more front ahead))
 cut (FrameNumber replica index) lengths front begun at short = by_left at.1.left at.1.count at.1.ahead where
-  by_left : (left : ℕ) → index + left ≡ lengths.frames → IsAhead (AtFrames replica index left at.1.before (AtDumps (replica + 1) at.1.more)) front
+  by_left : (left : ℕ) → index + left ≡ lengths.frames
+      → IsAhead (AtFrames (BadFrame replica) index left at.1.before (AtDumps at.1.version (replica + 1) at.1.more)) front
       → HasFormatFault (front ++ begun) Truncated ⊎ (FrameNumber replica index ≡ Behind)
   by_left zero count ahead = absurd (omega (arith, count, at.0))
   by_left (suc left) count ahead =
-      inl (cut_off 8 (Some (BadFrame replica index)) (IsNext at.1.before) frame_number (BehindNumber replica index left at.1.more) front begun short
-      (number_ahead replica index left at.1.more at.1.before front ahead))
+      inl (cut_off 8 (Some (BadFrame replica index)) (IsNext at.1.before) frame_number (BehindNumber at.1.version replica index left at.1.more) front begun
+      short (number_ahead at.1.version replica index left at.1.more at.1.before front ahead))
 cut (FrameWords replica index) lengths front begun at short =
-    inl (cut_off 4096 None IsFrame frame_words (λ words. AtFrames replica (index + 1) at.left (Some at.number) (AtDumps (replica + 1) at.more))
-    front begun short at.ahead)
+    inl (cut_off 4096 None IsFrame frame_words (BehindWords at.version replica index at.left at.more at.number) front begun short at.ahead)
 cut Behind lengths front begun at short = inr refl
 
 pub none_behind : (begun : List ℕ) (unit : TraceUnit) → unit ≡ Behind → length begun < size unit → begun ≡ []
@@ -181,7 +185,7 @@ pub bad_event : (index : ℕ) (lengths : Lengths) (front run : List ℕ) (fault 
     → IsBadIn front run fault (Event (index + before)) (24 * before)
 bad_event index lengths front run fault count before at long some few which settled =
     let on = at.1 in
-    let layout = on.counted.header.in_range.layout in
+    let layout = is_wide on.version on.numbers.layout on.counted.header.in_range.layout in
     let refused = refused_events on.version on.numbers.layout layout index on.left count front run fault on.ahead some
     (omega (arith, few, on.count, on.counted.events)) long settled in
     let same : before ≡ refused.before = elim refused.which [

@@ -20,6 +20,7 @@ use Rattle.nr_explain.specs.declared.units.Unread.TheVariants.{Memory, Bad}
 use Rattle.nr_explain.specs.declared.positions.Lengths.{Lengths}
 use Rattle.nr_explain.proofs.Runs.{cut_run}
 use Rattle.nr_explain.proofs.BadUnits.{goes_on, cut, none_behind}
+use Rattle.nr_trace.specs.declared.version.Form.TheVariants as forms
 
 -- ---- a run that is taken
 
@@ -113,7 +114,7 @@ ends_spelled feed offset unit lengths begun trace sound short ends =
     let here : Spells (taken feed) trace = subst (λ (f : Fed). Ends f (Ok trace)) sound.fed ends in
     let some : length {A = ℕ} [] < size unit = omega (arith, short) in
     elim (cut unit lengths (taken feed) [] sound.at some) [
-      | inl truncated ↦ absurd (no_fault (taken feed) trace Truncated here
+      | inl truncated ↦ absurd (no_fault forms.Trace (taken feed) trace Truncated here
           (subst (λ (l : List ℕ). HasFormatFault l Truncated) (append-nil (taken feed)) truncated))
       | inr is ↦ subst (λ (l : List ℕ). Spells l trace)
           (sym (ap (λ (l : List ℕ). taken feed ++ l) (none_behind begun unit is short) ∙ append-nil (taken feed))) here

@@ -2,8 +2,9 @@
 use Rattle.std.proofs.Common.{◌≡◌, ℕ, ◌+◌, ◌<◌, ◌≤◌, ◌⊎◌, inl, inr, Option, Some, None, is_some, length, slice_get, refl, sym, ap, subst, ◌∙◌, arith}
 use Rattle.std.specs.Prelude.{IsSome}
 use Rattle.std.proofs.lemmas.Bool.{both_ways, cases_order, cases_lt}
+use Rattle.std.proofs.lemmas.Option.{same_Some}
 use Rattle.vs_walk.specs.Dump.{Image}
-use Rattle.nr_trace.specs.Recording.{Recording}
+use Rattle.nr_trace.specs.Recording.{IsThere, Recording}
 use Rattle.nr_trace.specs.Calls.{Invocation, IsCall, IsUpdate, Response, call_of, reply_of}
 use Rattle.nr_trace.specs.Faults.{HasFault, IsFirst, OpensTwice}
 use Rattle.nr_trace.specs.Laws.{HasCleanLog}
@@ -38,7 +39,7 @@ last_is_open trace index thread last first own is = by_order (cases_order first.
   by_order (inl e) = subst (λ call. IsOpenBelow trace call index) e opens.not_answered
   by_order (inr (inl low)) = absurd (first.none_earlier (ThreadOpen last.event)
       (record {
-        made = record { replica = last.replica; thread = last.thread; request = last.request };
+        made = record { replica = last.replica; thread = last.thread; request = last.request; touch = last.touch };
         is_made = is.0;
         earlier = opens.earlier;
         earlier_made = opens.earlier_made;
@@ -120,7 +121,8 @@ calls_before_differs trace replica address first = only_calls trace (clean_befor
 pub few_before_differs : (trace : Recording) (replica address : ℕ) (dump : Image) → IsFirst trace (Differs replica address)
     → slice_get trace.dumps replica ≡ Some dump → dump.applied ≤ length trace.log
 few_before_differs trace replica address dump first there = elim (cases_lt (length trace.log) dump.applied) [
-  | inl past ↦ absurd (first.none_earlier (PrefixPastLog replica) (dump, there, past)
+  | inl past ↦ absurd (first.none_earlier (PrefixPastLog replica)
+      (dump, there, subst IsThere (same_Some first.holds.0 dump (sym first.holds.1 ∙ there)) first.holds.2, past)
       (less_from_below 7 replica 11 7 replica 17 (inr (inr (refl, refl, omega arith)))))
   | inr few ↦ few
 ]

@@ -10,7 +10,7 @@ use Rattle.nr_explain.specs.declared.evidence.RecordedCall.{RecordedCall}
 
 -- who makes a recorded call
 abbrev pub made_in : RecordedCall → Invocation
-made_in call = record { replica = call.replica; thread = call.thread; request = call.request }
+made_in call = record { replica = call.replica; thread = call.thread; request = call.request; touch = call.touch }
 
 -- it is made by the thread that it names
 pub thread_told : (trace : Recording) (index : ℕ) (call : RecordedCall) → IsCallOf trace call → call.event ≡ index

@@ -20,3 +20,5 @@ pub mod After
 pub mod Fed
 pub mod UnitsApart
 pub mod OneBadUnit
+pub mod Walked
+pub mod ReservedBits

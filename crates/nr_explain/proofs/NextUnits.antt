@@ -1,5 +1,5 @@
 -- Which unit comes next, and what is ahead of it.
-use Rattle.std.proofs.Common.{◌≡◌, ℕ, zero, suc, ◌+◌, ◌*◌, ◌<◌, ◌≤◌, Bool, true, false, List, [], ◌∷◌, ◌++◌, length}
+use Rattle.std.proofs.Common.{◌≡◌, ℕ, zero, suc, ◌+◌, ◌*◌, ◌<◌, ◌≤◌, inr, Bool, true, false, List, [], ◌∷◌, ◌++◌, length}
 use Rattle.std.proofs.Common.{Option, Some, None, refl, ap, sym, ◌∙◌, subst, arith, append_assoc}
 use Rattle.std.specs.Prelude.{nat_lt, if◌then◌else◌, ⊤}
 use Rattle.std.specs.List.{concat}
@@ -9,15 +9,19 @@ use Rattle.std.proofs.lemmas.List.Folds.{concat-append}
 use Rattle.std.proofs.lemmas.List.Elements.{All-nil, All-push}
 use Rattle.vs_types.specs.Config.{Layout}
 use Rattle.vs_types.specs.Frame.{IsFrame}
-use Rattle.nr_trace.specs.Spelling.{magic, version_word, counts, dump_head, frame_number, frame_words}
-use Rattle.nr_trace.specs.FirstFault.{AtUnit, AtFrames, AtDumps, AtEvents, AtLog, HasFormatFault, IsCounts, IsDumpHead, IsNext}
+use Rattle.nr_trace.specs.Spelling.{version_word, counts, dump_head, frame_number, frame_words}
+use Rattle.nr_trace.specs.Versions.{most_start, IsVersionOf}
+use Rattle.nr_trace.specs.FirstFault.{counts_bytes, magic_of, AtStart, AtUnit, AtFrames, AtDumps, AtEvents, AtLog, HasFormatFault, IsCounts, IsDumpHead, IsNext}
 use Rattle.nr_trace.specs.Feed.{HasNoFaultYet}
+use Rattle.nr_trace.specs.declared.fields.Counts.{Counts}
+use Rattle.nr_trace.specs.declared.version.Form.TheVariants as forms
 use Rattle.nr_trace.specs.declared.version.Version.{Version}
+use Rattle.nr_trace.specs.declared.version.Version.TheVariants.{V1, V2, Segment}
 use Rattle.nr_trace.specs.declared.fault.Format.{Format}
 use Rattle.nr_trace.specs.declared.fault.Format.TheVariants.{BadMagic, BadVersion, BadCount, BadFrame}
 use Rattle.nr_trace.proofs.LawsOfFormat.{BehindCounts, BehindVersion, BehindMagic}
 use Rattle.nr_trace.proofs.UnitsOfBytes.{AreBytes, magic_told, version_told, counts_told, head_told, number_told, words_told}
-use Rattle.nr_explain.specs.Units.{Numbers, HasHeader, IsHeadOf, SpellsDump, HasDumps}
+use Rattle.nr_explain.specs.Units.{as_counts, Numbers, HasHeader, IsHeadOf, SpellsDump, HasDumps}
 use Rattle.nr_explain.specs.inside.Positions.{dump_unit, event_unit, place_unit, frame_unit, IsAhead, IsCounted, OnLog, OnEvents, OnDumps, HasBegun, OnFrames, OnWords, IsAt}
 use Rattle.nr_explain.specs.declared.units.TraceUnit.TheVariants.{DumpHead, Behind, Event, Place, FrameNumber}
 use Rattle.nr_explain.specs.declared.positions.Lengths.{Lengths}
@@ -28,8 +32,10 @@ use Rattle.nr_explain.proofs.Passing.{IsPassed, ahead_after, unit_passed}
 pub more_header : (version : Version) (numbers : Numbers) (front behind unit : List ℕ) → HasHeader version numbers front behind
     → HasHeader version numbers (front ++ unit) (behind ++ unit)
 more_header version numbers front behind unit h =
-    let spelled = counts (record { layout = numbers.layout; places = numbers.places; events = numbers.events }) in
+    let spelled = counts version (as_counts numbers) in
+    let magic = magic_of forms.Trace in
     record {
+      of_trace = h.of_trace;
       in_range = h.in_range;
       spelled = ap (λ (l : List ℕ). l ++ unit) h.spelled ∙ append_assoc magic (version_word version ++ (spelled ++ behind)) unit
           ∙ ap (λ (l : List ℕ). magic ++ l) (append_assoc (version_word version) (spelled ++ behind) unit
@@ -69,7 +75,7 @@ at_dumps lengths replica front on = by_test (nat_lt replica lengths.replicas) re
       subst (λ (n : ℕ). OnDumps lengths n front) same on
 
 events_end : (version : Version) (layout : Layout) (index : ℕ) (front : List ℕ) → IsAhead (AtEvents version layout index 0) front
-    → IsAhead (AtDumps 0 layout.replicas) front
+    → IsAhead (AtDumps version 0 layout.replicas) front
 unfolding AtEvents
 events_end version layout index front ahead = λ rest fault h. ahead rest fault h
 
@@ -130,7 +136,7 @@ at_log lengths place front on = by_test (nat_lt place lengths.places) refl where
   by_test false e = at_events lengths 0 front (events_begin lengths place front on (ltb-false place lengths.places e))
 
 frames_end : (replica index : ℕ) (before : Option ℕ) (Rest : List ℕ → Format → Type 0) (front : List ℕ)
-    → IsAhead (AtFrames replica index 0 before Rest) front → IsAhead Rest front
+    → IsAhead (AtFrames (BadFrame replica) index 0 before Rest) front → IsAhead Rest front
 unfolding AtFrames
 frames_end replica index before Rest front ahead = λ rest fault h. ahead rest fault h
 
@@ -168,8 +174,8 @@ dump_ends lengths replica index front on past =
       };
       left = on.more;
       count = omega (arith, on.dumps_left);
-      ahead = frames_end replica index on.before (AtDumps (replica + 1) on.more) front
-          (subst (λ (n : ℕ). IsAhead (AtFrames replica index n on.before (AtDumps (replica + 1) on.more)) front) none on.ahead);
+      ahead = frames_end replica index on.before (AtDumps on.version (replica + 1) on.more) front
+          (subst (λ (n : ℕ). IsAhead (AtFrames (BadFrame replica) index n on.before (AtDumps on.version (replica + 1) on.more)) front) none on.ahead);
     }
 
 pub at_frames : (lengths : Lengths) (replica index : ℕ) (front : List ℕ) → OnFrames lengths replica index front
@@ -188,60 +194,115 @@ at_start = λ rest fault h. h
 only : (front unit : List ℕ) → HasNoFaultYet (front ++ unit) → HasNoFaultYet ((front ++ unit) ++ [])
 only front unit h = subst HasNoFaultYet (sym (append-nil (front ++ unit))) h
 
-pub after_magic : (unit : List ℕ) → length unit ≡ 4 → HasNoFaultYet unit → unit ≡ magic
+-- how the bytes of a trace begin
+abbrev pub trace_magic : List ℕ
+trace_magic = magic_of forms.Trace
+
+abbrev pub front_of : Version → List ℕ
+front_of version = trace_magic ++ version_word version
+
+pub after_magic : (unit : List ℕ) → length unit ≡ 4 → HasNoFaultYet unit → unit ≡ trace_magic
 after_magic unit whole not_yet =
-    let passed = unit_passed {A = Unit {0}} 4 BadMagic (λ _. ⊤) (λ _. magic) (λ _. BehindMagic) [] unit [] (λ e. absurd cc) whole (magic_told unit) at_start
-    (only [] unit not_yet) in
+    let passed = unit_passed {A = Unit {0}} 4 BadMagic (λ _. ⊤) (λ _. trace_magic) (λ _. BehindMagic forms.Trace) [] unit [] (λ e. absurd cc) whole
+    (magic_told forms.Trace unit) at_start (only [] unit not_yet) in
     passed.is
 
-pub at_version : IsAhead BehindMagic magic
-at_version = ahead_after {A = Unit {0}} 4 (Some BadMagic) (λ _. ⊤) (λ _. magic) (λ _. BehindMagic) [] magic tt tt refl at_start
+pub at_version : IsAhead (BehindMagic forms.Trace) trace_magic
+at_version = ahead_after {A =
+    Unit {0}} 4 (Some BadMagic) (λ _. ⊤) (λ _. trace_magic) (λ _. BehindMagic forms.Trace) [] trace_magic tt tt refl at_start
 
-pub after_version : (unit : List ℕ) → length unit ≡ 2 → HasNoFaultYet (magic ++ unit) → (version : Version) × (unit ≡ version_word version)
+pub after_version : (unit : List ℕ) → length unit ≡ 2 → HasNoFaultYet (trace_magic ++ unit)
+    → (version : Version) × IsVersionOf forms.Trace version × (unit ≡ version_word version)
 after_version unit whole not_yet =
-    let passed = unit_passed 2 BadVersion (λ version. ⊤) version_word BehindVersion magic unit [] (λ e. absurd cc) whole (version_told unit) at_version
-    (only magic unit not_yet) in
-    (passed.value, passed.is)
+    let passed = unit_passed 2 BadVersion (IsVersionOf forms.Trace) version_word (BehindVersion forms.Trace) trace_magic unit [] (λ e. absurd cc) whole
+    (version_told forms.Trace unit) at_version (only trace_magic unit not_yet) in
+    (passed.value, passed.fits, passed.is)
 
-pub at_counts : (version : Version) → IsAhead (BehindVersion version) (magic ++ version_word version)
-at_counts version = ahead_after 2 (Some BadVersion) (λ version. ⊤) version_word BehindVersion magic (version_word version) version tt refl at_version
+pub at_counts : (version : Version) → IsVersionOf forms.Trace version → IsAhead (BehindVersion forms.Trace version) (front_of version)
+at_counts version of = ahead_after 2 (Some BadVersion) (IsVersionOf forms.Trace) version_word (BehindVersion forms.Trace) trace_magic (version_word version)
+    version of refl at_version
 
-pub after_counts : (version : Version) (unit : List ℕ) → length unit ≡ 14 → HasNoFaultYet ((magic ++ version_word version) ++ unit)
-    → IsPassed (IsCounts version) counts (BehindCounts version) (magic ++ version_word version) unit
-after_counts version unit whole not_yet =
-    unit_passed 14 BadCount (IsCounts version) counts (BehindCounts version) (magic ++ version_word version) unit [] (λ e. absurd cc) whole
-    (counts_told version unit) (at_counts version) (only (magic ++ version_word version) unit not_yet)
+-- the counts of a trace have 14 bytes
+pub counts_of_trace : (version : Version) → IsVersionOf forms.Trace version → counts_bytes version ≡ 14
+counts_of_trace V1 of = refl
+counts_of_trace V2 of = refl
+counts_of_trace Segment of = absurd of
 
-pub log_begins : (version : Version) (unit : List ℕ) (lengths : Lengths)
-    (passed : IsPassed (IsCounts version) counts (BehindCounts version) (magic ++ version_word version) unit)
+-- and no start
+pub no_start : (version : Version) → IsVersionOf forms.Trace version → most_start version ≡ 0
+no_start V1 of = refl
+no_start V2 of = refl
+no_start Segment of = absurd of
+
+-- the counts are read
+abbrev pub IsCountsRead : Version → List ℕ → Type 0
+IsCountsRead version unit = IsPassed (IsCounts version) (counts version) (BehindCounts forms.Trace version) (front_of version) unit
+
+pub after_counts : (version : Version) (unit : List ℕ) → IsVersionOf forms.Trace version → length unit ≡ 14 → HasNoFaultYet (front_of version ++ unit)
+    → IsCountsRead version unit
+after_counts version unit of whole not_yet =
+    unit_passed (counts_bytes version) BadCount (IsCounts version) (counts version) (BehindCounts forms.Trace version) (front_of version) unit []
+    (λ e. absurd cc) (whole ∙ sym (counts_of_trace version of)) (counts_told version unit) (at_counts version of) (only (front_of version) unit not_yet)
+
+-- the numbers of the counts
+abbrev pub numbers_read : Counts → Numbers
+numbers_read value = record { layout = value.layout; places = value.places; events = value.events }
+
+pub same_counts : (version : Version) (value : Counts) → IsVersionOf forms.Trace version → IsCounts version value
+    → value ≡ as_counts (numbers_read value)
+same_counts version value of fits =
+    let none : value.start ≡ 0 = omega (arith, fits.few_start, no_start version of) in
+    λ i. record { layout = value.layout; places = value.places; events = value.events; start = none i }
+
+log_ahead : (version : Version) (value : Counts) (front : List ℕ) → value.start ≡ 0 → IsAhead (BehindCounts forms.Trace version value) front
+    → IsAhead (AtLog version value.layout value.places value.events) front
+log_ahead version value front none ahead = λ rest fault h.
+    ahead rest fault
+    (inr (tt, subst (λ (n : ℕ). AtStart n (AtLog version value.layout value.places value.events) rest fault) (sym none) h))
+
+pub log_begins : (version : Version) (unit : List ℕ) (lengths : Lengths) → IsVersionOf forms.Trace version → (passed : IsCountsRead version unit)
     → lengths ≡ record { places = passed.value.places; events = passed.value.events; replicas = passed.value.layout.replicas; frames = 0 }
-    → OnLog lengths 0 ((magic ++ version_word version) ++ unit)
-log_begins version unit lengths passed is = record {
-  version = version;
-  numbers = record { layout = passed.value.layout; places = passed.value.places; events = passed.value.events };
-  behind = [];
-  counted = record {
-    header = record {
-      in_range = passed.fits;
-      spelled = append_assoc magic (version_word version) unit
-          ∙ ap (λ (l : List ℕ). magic ++ (version_word version ++ l)) (passed.is ∙ sym (append-nil (counts passed.value)));
-    };
-    places = ap (λ (l : Lengths). l.places) is;
-    events = ap (λ (l : Lengths). l.events) is;
-    replicas = ap (λ (l : Lengths). l.replicas) is;
-  };
-  come = refl;
-  left = passed.value.places;
-  count = omega arith;
-  ahead = passed.ahead;
-}
+    → OnLog lengths 0 (front_of version ++ unit)
+log_begins version unit lengths of passed is =
+    let same = same_counts version passed.value of passed.fits in
+    let numbers = numbers_read passed.value in
+    record {
+      version = version;
+      numbers = numbers;
+      behind = [];
+      counted = record {
+        header = record {
+          of_trace = of;
+          in_range = subst (IsCounts version) same passed.fits;
+          spelled = append_assoc trace_magic (version_word version) unit
+              ∙ ap (λ (l : List ℕ). trace_magic ++ (version_word version ++ l))
+              (passed.is ∙ ap (counts version) same ∙ sym (append-nil (counts version (as_counts numbers))));
+        };
+        places = ap (λ (l : Lengths). l.places) is;
+        events = ap (λ (l : Lengths). l.events) is;
+        replicas = ap (λ (l : Lengths). l.replicas) is;
+      };
+      come = refl;
+      left = passed.value.places;
+      count = omega arith;
+      ahead = log_ahead version passed.value (front_of version ++ unit) (ap (λ (v : Counts). v.start) same) passed.ahead;
+    }
 
 -- ---- dumps
 
-pub head_ahead : (replica more : ℕ) (front : List ℕ) → IsAhead (AtDumps replica (suc more)) front
-    → IsAhead (AtUnit 16 (Some BadCount) IsDumpHead dump_head (λ head. AtFrames replica 0 head.frames None (AtDumps (replica + 1) more))) front
+pub head_ahead : (version : Version) (replica more : ℕ) (front : List ℕ) → IsAhead (AtDumps version replica (suc more)) front
+    → IsAhead (AtUnit 16 (Some BadCount) (IsDumpHead version) dump_head (λ head. AtFrames (BadFrame replica) 0 head.frames None (AtDumps version (replica + 1) more))) front
 unfolding AtDumps
-head_ahead replica more front ahead = λ rest fault h. ahead rest fault h
+head_ahead version replica more front ahead = λ rest fault h. ahead rest fault h
+
+-- the head of a dump is in the same range in both versions
+pub head_of_trace : (version : Version) (applied frames root : ℕ) → IsVersionOf forms.Trace version
+    → IsDumpHead version (record { applied = applied; frames = frames; root = root })
+    → IsDumpHead V1 (record { applied = applied; frames = frames; root = root })
+head_of_trace V1 applied frames root of h = h
+head_of_trace V2 applied frames root of h =
+    record { applied = h.applied; some_frame = h.some_frame; few_frames = h.few_frames; root = h.root; nothing = h.nothing }
+head_of_trace Segment applied frames root of h = absurd of
 
 -- the head of a dump is read
 pub record IsHeadRead (lengths : Lengths) (replica : ℕ) (front unit : List ℕ) : Type 0 where
@@ -253,16 +314,22 @@ pub record IsHeadRead (lengths : Lengths) (replica : ℕ) (front unit : List ℕ
 pub after_head : (lengths : Lengths) (replica : ℕ) (front unit : List ℕ) (on : OnDumps lengths replica front) → replica < lengths.replicas
     → length unit ≡ 16 → HasNoFaultYet (front ++ unit) → IsHeadRead lengths replica front unit
 after_head lengths replica front unit on below whole not_yet = by_left on.left on.count on.ahead where
-  by_left : (left : ℕ) → replica + left ≡ on.numbers.layout.replicas → IsAhead (AtDumps replica left) front → IsHeadRead lengths replica front unit
+  by_left : (left : ℕ) → replica + left ≡ on.numbers.layout.replicas → IsAhead (AtDumps on.version replica left) front
+      → IsHeadRead lengths replica front unit
   by_left zero count ahead = let same = on.counted.replicas in absurd (omega arith)
   by_left (suc more) count ahead =
-      let passed = unit_passed 16 BadCount IsDumpHead dump_head (λ head. AtFrames replica 0 head.frames None (AtDumps (replica + 1) more))
-      front unit [] (λ e. absurd cc) whole (head_told unit) (head_ahead replica more front ahead) (only front unit not_yet) in
+      let passed = unit_passed 16 BadCount (IsDumpHead on.version) dump_head (λ head. AtFrames (BadFrame replica) 0 head.frames None (AtDumps on.version (replica + 1) more))
+      front unit [] (λ e. absurd cc) whole (head_told on.version unit) (head_ahead on.version replica more front ahead) (only front unit not_yet) in
       let behind = on.behind ++ unit in
       let held = more_dumps on.numbers on.behind replica [] unit on.dumps in
       let counted = more_counted lengths on.version on.numbers front on.behind unit on.counted in
       let is_head : IsHeadOf passed.value.frames unit =
-      record { applied = passed.value.applied; root = passed.value.root; in_range = passed.fits; spelled = passed.is } in
+      record {
+        applied = passed.value.applied;
+        root = passed.value.root;
+        in_range = head_of_trace on.version passed.value.applied passed.value.frames passed.value.root on.counted.header.of_trace passed.fits;
+        spelled = passed.is;
+      } in
       record {
         many = passed.value.frames;
         is = is_head;
@@ -294,15 +361,18 @@ after_head lengths replica front unit on below whole not_yet = by_left on.left o
 
 -- ---- frames
 
-abbrev pub BehindNumber : (replica index left more : ℕ) → ℕ → List ℕ → Format → Type 0
-BehindNumber replica index left more number =
-    AtUnit 4096 None IsFrame frame_words (λ words. AtFrames replica (index + 1) left (Some number) (AtDumps (replica + 1) more))
+abbrev pub BehindWords : (version : Version) (replica index left more number : ℕ) → List ℕ → List ℕ → Format → Type 0
+BehindWords version replica index left more number words =
+    AtFrames (BadFrame replica) (index + 1) left (Some number) (AtDumps version (replica + 1) more)
 
-pub number_ahead : (replica index left more : ℕ) (before : Option ℕ) (front : List ℕ)
-    → IsAhead (AtFrames replica index (suc left) before (AtDumps (replica + 1) more)) front
-    → IsAhead (AtUnit 8 (Some (BadFrame replica index)) (IsNext before) frame_number (BehindNumber replica index left more)) front
+abbrev pub BehindNumber : (version : Version) (replica index left more : ℕ) → ℕ → List ℕ → Format → Type 0
+BehindNumber version replica index left more number = AtUnit 4096 None IsFrame frame_words (BehindWords version replica index left more number)
+
+pub number_ahead : (version : Version) (replica index left more : ℕ) (before : Option ℕ) (front : List ℕ)
+    → IsAhead (AtFrames (BadFrame replica) index (suc left) before (AtDumps version (replica + 1) more)) front
+    → IsAhead (AtUnit 8 (Some (BadFrame replica index)) (IsNext before) frame_number (BehindNumber version replica index left more)) front
 unfolding AtFrames
-number_ahead replica index left more before front ahead = λ rest fault h. ahead rest fault h
+number_ahead version replica index left more before front ahead = λ rest fault h. ahead rest fault h
 
 more_begun : (lengths : Lengths) (replica come later : ℕ) (version : Version) (numbers : Numbers) (front behind unit : List ℕ)
     → come + length unit ≡ later → HasBegun lengths replica come version numbers front behind
@@ -320,12 +390,14 @@ more_begun lengths replica come later version numbers front behind unit long h =
 pub after_number : (lengths : Lengths) (replica index : ℕ) (front unit : List ℕ) (on : OnFrames lengths replica index front) → index < lengths.frames
     → length unit ≡ 8 → HasNoFaultYet (front ++ unit) → OnWords lengths replica index (front ++ unit)
 after_number lengths replica index front unit on below whole not_yet = by_left on.left on.count on.ahead where
-  by_left : (left : ℕ) → index + left ≡ lengths.frames → IsAhead (AtFrames replica index left on.before (AtDumps (replica + 1) on.more)) front
+  by_left : (left : ℕ) → index + left ≡ lengths.frames
+      → IsAhead (AtFrames (BadFrame replica) index left on.before (AtDumps on.version (replica + 1) on.more)) front
       → OnWords lengths replica index (front ++ unit)
   by_left zero count ahead = absurd (omega arith)
   by_left (suc left) count ahead =
-      let passed = unit_passed 8 (BadFrame replica index) (IsNext on.before) frame_number (BehindNumber replica index left on.more)
-      front unit [] (λ e. absurd cc) whole (number_told on.before unit) (number_ahead replica index left on.more on.before front ahead) (only front unit not_yet) in
+      let passed = unit_passed 8 (BadFrame replica index) (IsNext on.before) frame_number (BehindNumber on.version replica index left on.more)
+      front unit [] (λ e. absurd cc) whole (number_told on.before unit) (number_ahead on.version replica index left on.more on.before front ahead)
+      (only front unit not_yet) in
       record {
         version = on.version;
         numbers = on.numbers;
@@ -355,6 +427,6 @@ after_words lengths replica index front unit on bytes whole =
       more = on.more;
       dumps_left = on.dumps_left;
       before = Some on.number;
-      ahead = ahead_after 4096 None IsFrame frame_words (λ words. AtFrames replica (index + 1) on.left (Some on.number) (AtDumps (replica + 1) on.more))
-          front unit told.0 told.1 told.2 on.ahead;
+      ahead = ahead_after 4096 None IsFrame frame_words (BehindWords on.version replica index on.left on.more on.number) front unit told.0 told.1 told.2
+          on.ahead;
     }

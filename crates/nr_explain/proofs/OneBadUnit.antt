@@ -8,17 +8,22 @@ use Rattle.std.proofs.lemmas.List.{append-nil, append_cancel_left, length-append
 use Rattle.vs_types.specs.Config.{Layout}
 use Rattle.vs_types.specs.Frame.{IsFrame}
 use Rattle.nr_trace.specs.Recording.{IsEvent}
-use Rattle.nr_trace.specs.Spelling.{magic, version_word, counts, log_word, event, dump_head, frame_number, frame_words}
-use Rattle.nr_trace.specs.FirstFault.{AtUnit, AtFrames, AtDumps, AtEvents, AtLog, HasFormatFault, IsCounts, IsDumpHead, IsNext}
+use Rattle.nr_trace.specs.Spelling.{version_word, counts, log_word, event, dump_head, frame_number, frame_words}
+use Rattle.nr_trace.specs.Versions.{most_frames, IsVersionOf}
+use Rattle.nr_trace.specs.FirstFault.{counts_bytes, magic_of, AtUnit, AtEnd, AtFrames, AtStart, AtDumps, AtEvents, AtLog, HasFormatFault, IsCounts, IsDumpHead, IsNext}
 use Rattle.nr_trace.specs.Feed.{HasLastingFault}
 use Rattle.nr_trace.specs.declared.version.Version.{Version}
+use Rattle.nr_trace.specs.declared.version.Version.TheVariants.{V1, V2, Segment}
+use Rattle.nr_trace.specs.declared.fields.Counts.{Counts}
 use Rattle.nr_trace.specs.declared.fault.Format.{Format}
 use Rattle.nr_trace.specs.declared.fault.Format.TheVariants.{BadMagic, BadVersion, BadCount, BadEvent, BadFrame, Truncated}
 use Rattle.nr_trace.proofs.LawsOfFormat.{one_fault, BehindCounts, BehindVersion, BehindMagic}
 use Rattle.nr_trace.proofs.LawsOfUnits.{length-counts, length-event, length-frame_words, length-head}
 use Rattle.nr_explain.specs.Units.{size, GoesOn, IsBadUnit, Shows}
 use Rattle.nr_explain.specs.declared.units.BadUnit.{BadUnit}
+use Rattle.nr_explain.proofs.NextUnits.{counts_of_trace, no_start}
 use Rattle.nr_explain.proofs.UnitsApart.{apart}
+use Rattle.nr_trace.specs.declared.version.Form.TheVariants as forms
 
 -- ---- bytes that are too few are not too few for ever
 
@@ -35,7 +40,7 @@ unit_cut bytes most own Fits spelled Behind other long behind rest (inr (inr (a,
     omega (arith, ap length is, length-append (spelled a) more, long a fits, behind a fits more h)
 
 frames_cut : (replica index frames : ℕ) (before : Option ℕ) (Behind : List ℕ → Format → Type 0) (most : ℕ) → IsCutBelow Behind most
-    → IsCutBelow (AtFrames replica index frames before Behind) (4104 * frames + most)
+    → IsCutBelow (AtFrames (BadFrame replica) index frames before Behind) (4104 * frames + most)
 unfolding AtFrames
 frames_cut replica index zero before Behind most cut rest h = omega (arith, cut rest h)
 frames_cut replica index (suc frames) before Behind most cut rest h =
@@ -43,56 +48,91 @@ frames_cut replica index (suc frames) before Behind most cut rest h =
     omega (
       arith,
       unit_cut 8 (4096 + left) (Some (BadFrame replica index)) (IsNext before) frame_number
-          (λ number. AtUnit 4096 None IsFrame frame_words (λ words. AtFrames replica (index + 1) frames (Some number) Behind)) (λ e. absurd cc) (λ n k. refl)
-          (λ number _. unit_cut 4096 left None IsFrame frame_words (λ words. AtFrames replica (index + 1) frames (Some number) Behind) (λ e. absurd cc)
+          (λ number. AtUnit 4096 None IsFrame frame_words (λ words. AtFrames (BadFrame replica) (index + 1) frames (Some number) Behind)) (λ e. absurd cc)
+          (λ n k. refl)
+          (λ number _. unit_cut 4096 left None IsFrame frame_words (λ words. AtFrames (BadFrame replica) (index + 1) frames (Some number) Behind) (λ e. absurd cc)
           length-frame_words (λ words _. frames_cut replica (index + 1) frames (Some number) Behind most cut)) rest h,
     )
 
-dumps_cut : (replica dumps : ℕ) → IsCutBelow (AtDumps replica dumps) (16810000 * dumps + 1)
+few_frames : (version : Version) → IsVersionOf forms.Trace version → most_frames version ≤ 4096
+few_frames V1 of = omega arith
+few_frames V2 of = omega arith
+few_frames Segment of = absurd of
+
+end_cut : (version : Version) (rest : List ℕ) → IsVersionOf forms.Trace version → AtEnd version rest Truncated → ⊥
+end_cut V1 rest of h = (let e = h.1 in absurd cc)
+end_cut V2 rest of h = (let e = h.1 in absurd cc)
+end_cut Segment rest of h = absurd of
+
+dumps_cut : (version : Version) → IsVersionOf forms.Trace version → (replica dumps : ℕ) → IsCutBelow (AtDumps version replica dumps) (16810000 * dumps + 1)
 unfolding AtDumps
-dumps_cut replica zero rest h = (let e = h.1 in absurd cc)
-dumps_cut replica (suc dumps) rest h =
+dumps_cut version of replica zero rest h = absurd (end_cut version rest of h)
+dumps_cut version of replica (suc dumps) rest h =
     let left = 16810000 * dumps + 1 in
+    let few = few_frames version of in
     omega (
       arith,
-      unit_cut 16 (16809984 + left) (Some BadCount) IsDumpHead dump_head (λ head. AtFrames replica 0 head.frames None (AtDumps (replica + 1) dumps))
+      unit_cut 16 (16809984 + left) (Some BadCount) (IsDumpHead version) dump_head (λ head. AtFrames (BadFrame replica) 0 head.frames None (AtDumps version (replica + 1) dumps))
           (λ e. absurd cc) (λ head k. length-head head)
-          (λ head k more g. omega (arith, k.few_frames, frames_cut replica 0 head.frames None (AtDumps (replica + 1) dumps) left (dumps_cut (replica + 1) dumps) more g))
-          rest h,
+          (λ head k more g. omega (
+            arith,
+            k.few_frames,
+            few,
+            frames_cut replica 0 head.frames None (AtDumps version (replica + 1) dumps) left (dumps_cut version of (replica + 1) dumps) more g,
+          )) rest h,
     )
 
-events_cut : (version : Version) (layout : Layout) (index events : ℕ)
+events_cut : (version : Version) (layout : Layout) → IsVersionOf forms.Trace version → (index events : ℕ)
     → IsCutBelow (AtEvents version layout index events) (24 * events + (16810000 * layout.replicas + 1))
 unfolding AtEvents
-events_cut version layout index zero rest h = omega (arith, dumps_cut 0 layout.replicas rest h)
-events_cut version layout index (suc events) rest h =
+events_cut version layout of index zero rest h = omega (arith, dumps_cut version of 0 layout.replicas rest h)
+events_cut version layout of index (suc events) rest h =
     omega (
       arith,
       unit_cut 24 (24 * events + (16810000 * layout.replicas + 1)) (Some (BadEvent index)) (IsEvent version layout) event
-          (λ _. AtEvents version layout (index + 1) events) (λ e. absurd cc) (λ e k. length-event e) (λ e k. events_cut version layout (index + 1) events) rest h,
+          (λ _. AtEvents version layout (index + 1) events) (λ e. absurd cc) (λ e k. length-event e) (λ e k. events_cut version layout of (index + 1) events) rest h,
     )
 
-log_cut : (version : Version) (layout : Layout) (places events : ℕ)
+log_cut : (version : Version) (layout : Layout) → IsVersionOf forms.Trace version → (places events : ℕ)
     → IsCutBelow (AtLog version layout places events) (4 * places + (24 * events + (16810000 * layout.replicas + 1)))
 unfolding AtLog
-log_cut version layout zero events rest h = omega (arith, events_cut version layout 0 events rest h)
-log_cut version layout (suc places) events rest h =
+log_cut version layout of zero events rest h = omega (arith, events_cut version layout of 0 events rest h)
+log_cut version layout of (suc places) events rest h =
     omega (
       arith,
       unit_cut 4 (4 * places + (24 * events + (16810000 * layout.replicas + 1))) None (λ call. call < 2 ^ 32) log_word
-          (λ _. AtLog version layout places events) (λ e. absurd cc) (λ call k. refl) (λ call k. log_cut version layout places events) rest h,
+          (λ _. AtLog version layout places events) (λ e. absurd cc) (λ call k. refl) (λ call k. log_cut version layout of places events) rest h,
     )
 
-version_cut : (version : Version) → IsCutBelow (BehindVersion version) (14 + 70647873)
-version_cut version =
-    unit_cut 14 70647873 (Some BadCount) (IsCounts version) counts (BehindCounts version) (λ e. absurd cc) (λ numbers k. length-counts numbers)
-    (λ numbers k rest h. omega (arith, k.few_places, k.few_events, k.layout.few_replicas, log_cut version numbers.layout numbers.places numbers.events rest h))
+start_cut : (version : Version) (numbers : Counts) (rest : List ℕ) → IsVersionOf forms.Trace version → IsCounts version numbers
+    → BehindCounts forms.Trace version numbers rest Truncated → AtLog version numbers.layout numbers.places numbers.events rest Truncated
+start_cut version numbers rest of k (inl h) = absurd (h.0 tt)
+start_cut version numbers rest of k (inr h) =
+    let none : numbers.start ≡ 0 = omega (arith, k.few_start, no_start version of) in
+    subst (λ (n : ℕ). AtStart n (AtLog version numbers.layout numbers.places numbers.events) rest Truncated) none h.1
+
+version_cut : (version : Version) → IsVersionOf forms.Trace version → IsCutBelow (BehindVersion forms.Trace version) (14 + 70647873)
+version_cut version of rest h =
+    omega (
+      arith,
+      counts_of_trace version of,
+      unit_cut (counts_bytes version) 70647873 (Some BadCount) (IsCounts version) (counts version) (BehindCounts forms.Trace version) (λ e. absurd cc)
+          (λ numbers k. length-counts version numbers)
+          (λ numbers k more g. omega (
+            arith,
+            k.few_places,
+            k.few_events,
+            k.layout.few_replicas,
+            log_cut version numbers.layout of numbers.places numbers.events more (start_cut version numbers more of k g),
+          )) rest h,
+    )
 
 bytes_cut : (bytes : List ℕ) → HasFormatFault bytes Truncated → length bytes < 4 + (2 + (14 + 70647873))
 bytes_cut bytes h =
-    unit_cut {A = Unit {0}} 4 (2 + (14 + 70647873)) (Some BadMagic) (λ _. ⊤) (λ _. magic) (λ _. BehindMagic) (λ e. absurd cc) (λ _ _. refl)
-    (λ _ _. unit_cut 2 (14 + 70647873) (Some BadVersion) (λ version. ⊤) version_word BehindVersion (λ e. absurd cc) (λ _ _. refl) (λ version _. version_cut version))
-    bytes h
+    unit_cut {A = Unit {0}} 4 (2 + (14 + 70647873)) (Some BadMagic) (λ _. ⊤) (λ _. magic_of forms.Trace) (λ _. BehindMagic forms.Trace) (λ e. absurd cc)
+    (λ _ _. refl)
+    (λ _ _. unit_cut 2 (14 + 70647873) (Some BadVersion) (IsVersionOf forms.Trace) version_word (BehindVersion forms.Trace) (λ e. absurd cc) (λ _ _. refl)
+    version_cut) bytes h
 
 never_cut : (bytes : List ℕ) (many : ℕ) → many ≡ 70647893 → HasLastingFault bytes Truncated → ⊥
 never_cut bytes many is settled =
@@ -162,7 +202,7 @@ pub one_unit : (bytes : List ℕ) (a b : BadUnit) → IsBadUnit bytes a → IsBa
 one_unit bytes a b g h = (one_place bytes a b g h).0
 
 pub one_format : (bytes : List ℕ) (a b : BadUnit) → IsBadUnit bytes a → IsBadUnit bytes b → a.fault ≡ b.fault
-one_format bytes a b g h = one_fault bytes a.fault b.fault g.fault h.fault
+one_format bytes a b g h = one_fault forms.Trace bytes a.fault b.fault g.fault h.fault
 
 pub one_offset : (bytes : List ℕ) (a b : BadUnit) → IsBadUnit bytes a → IsBadUnit bytes b → a.offset ≡ b.offset
 one_offset bytes a b g h = g.begins ∙ ap length (one_place bytes a b g h).1 ∙ sym h.begins

@@ -8,6 +8,7 @@ use Rattle.nr_trace.proofs.LawsOfFormat.{one_fault}
 use Rattle.nr_trace.proofs.Units.{refused, passed}
 use Rattle.nr_trace.proofs.UnitsOfBytes.{IsTold}
 use Rattle.nr_explain.specs.inside.Positions.{IsAhead}
+use Rattle.nr_trace.specs.declared.version.Form.TheVariants as forms
 
 -- the unit spells a value, and what is ahead of it is wrong with all bytes
 pub record IsPassed {A : Type 0} (Fits : A → Type 0) (spelled : A → List ℕ) (Behind : A → List ℕ → Format → Type 0) (front unit : List ℕ) : Type 0 where
@@ -53,4 +54,4 @@ pub cut_off : {A : Type 0} (bytes : ℕ) (own : Option Format) (Fits : A → Typ
 cut_off bytes own Fits spelled Behind front begun short ahead = ahead begun Truncated (inl (short, refl))
 
 pub not_yet_from : (bytes : List ℕ) → HasFormatFault bytes Truncated → HasNoFaultYet bytes
-not_yet_from bytes h = λ fault k. one_fault bytes fault Truncated k h
+not_yet_from bytes h = λ fault k. one_fault forms.Trace bytes fault Truncated k h

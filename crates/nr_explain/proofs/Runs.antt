@@ -4,7 +4,7 @@ use Rattle.std.proofs.Common.{Some, None, refl, ap, sym, ◌∙◌, subst, arith
 use Rattle.std.proofs.Math.Seq.{take-add}
 use Rattle.std.proofs.lemmas.List.{append-nil, nil_from_length, take-append-drop, length-take-le, length-drop}
 use Rattle.std.proofs.lemmas.List.Elements.{All-take, All-drop}
-use Rattle.vs_types.specs.Config.{Layout, IsLayout}
+use Rattle.vs_types.specs.Config.{Layout}
 use Rattle.nr_trace.specs.Recording.{IsEvent}
 use Rattle.nr_trace.specs.Spelling.{log_word, event}
 use Rattle.nr_trace.specs.FirstFault.{AtUnit, AtDumps, AtEvents, AtLog, HasFormatFault}
@@ -13,9 +13,11 @@ use Rattle.nr_trace.specs.declared.version.Version.{Version}
 use Rattle.nr_trace.specs.declared.fault.Format.{Format}
 use Rattle.nr_trace.specs.declared.fault.Format.TheVariants.{BadEvent, Truncated}
 use Rattle.nr_trace.proofs.LawsOfFormat.{one_fault}
+use Rattle.nr_trace.proofs.LawsOfUnits.{IsWide}
 use Rattle.nr_trace.proofs.UnitsOfBytes.{IsTold, AreBytes, event_told, place_told}
 use Rattle.nr_explain.specs.inside.Positions.{IsAhead}
 use Rattle.nr_explain.proofs.Passing.{ahead_after, unit_refused, unit_passed}
+use Rattle.nr_trace.specs.declared.version.Form.TheVariants as forms
 
 -- ---- places
 
@@ -64,7 +66,7 @@ event_ahead version layout index left front ahead = λ rest fault h. ahead rest 
 abbrev pub AreEventsPassed : Version → Layout → ℕ → ℕ → ℕ → List ℕ → Type 0
 AreEventsPassed version layout index count left front = ArePassed (AtEvents version layout (index + count)) count left front
 
-pub pass_events : (version : Version) (layout : Layout) → IsLayout layout → (index left count : ℕ) (front run : List ℕ)
+pub pass_events : (version : Version) (layout : Layout) → IsWide layout → (index left count : ℕ) (front run : List ℕ)
     → IsAhead (AtEvents version layout index left) front
     → count ≤ left → length run ≡ 24 * count → HasNoFaultYet (front ++ run) → AreEventsPassed version layout index count left (front ++ run)
 pass_events version layout l index left zero front [] ahead few long not_yet =
@@ -103,7 +105,7 @@ border version layout index left front some ahead = by_left left (layout.replica
   by_left (suc left) replicas is ahead = ahead [] Truncated (inl (omega arith, refl))
   by_left zero zero is ahead = absurd (omega arith)
   by_left zero (suc dumps) is ahead =
-      ahead [] Truncated (subst (λ (n : ℕ). AtDumps 0 n [] Truncated) (sym is) (inl (omega arith, refl)))
+      ahead [] Truncated (subst (λ (n : ℕ). AtDumps version 0 n [] Truncated) (sym is) (inl (omega arith, refl)))
 
 -- of the refused events this one is bad: those before it are not, and its bytes are; or all are right, but for the last
 pub record IsRefusedAt (version : Version) (layout : Layout) (index left count : ℕ) (front run : List ℕ) (fault : Format) : Type 0 where
@@ -137,7 +139,7 @@ whole_unit front run long =
     let none : drop 24 run ≡ [] = nil_from_length (drop 24 run) (omega (arith, long, length-drop 24 run)) in
     sym (append-nil (front ++ take 24 run)) ∙ ap (λ (l : List ℕ). (front ++ take 24 run) ++ l) (sym none) ∙ cut_run front run 24
 
-pub refused_events : (version : Version) (layout : Layout) → IsLayout layout → (index left count : ℕ) (front run : List ℕ) (fault : Format)
+pub refused_events : (version : Version) (layout : Layout) → IsWide layout → (index left count : ℕ) (front run : List ℕ) (fault : Format)
     → IsAhead (AtEvents version layout index left) front
     → 1 ≤ count → count ≤ left → length run ≡ 24 * count → HasLastingFault (front ++ run) fault → IsRefusedAt version layout index left count front run fault
 refused_events version layout l index left zero front run fault ahead some few long settled = absurd (omega arith)
@@ -161,7 +163,7 @@ refused_events version layout l index (suc left) (suc count) front run fault ahe
             before = 0;
             within = omega arith;
             which = inr (
-              one_fault (front ++ run) fault Truncated (settled_now (front ++ run) fault settled)
+              one_fault forms.Trace (front ++ run) fault Truncated (settled_now (front ++ run) fault settled)
                   (subst (λ (k : List ℕ). HasFormatFault k Truncated) (append-nil (front ++ take 24 run) ∙ same)
                   (border version layout (index + 1) left (front ++ take 24 run) l.some_replica next)),
               omega (arith, is),
@@ -197,7 +199,7 @@ refused_events version layout l index (suc left) (suc count) front run fault ahe
       by_unit (inr none) later =
           let bad = unit_refused 24 (BadEvent index) (IsEvent version layout) event (λ _. AtEvents version layout (index + 1) left) front (take 24 run) unit none
           (event_ahead version layout index left front ahead) in
-          let same : fault ≡ BadEvent index = one_fault (front ++ run) fault (BadEvent index) (settled_now (front ++ run) fault settled)
+          let same : fault ≡ BadEvent index = one_fault forms.Trace (front ++ run) fault (BadEvent index) (settled_now (front ++ run) fault settled)
           (subst (λ (k : List ℕ). HasFormatFault k (BadEvent index)) (cut_run front run 24) (bad (drop 24 run))) in
           let here : index ≡ index + 0 = omega arith in
           record {

@@ -4,11 +4,13 @@ use Rattle.std.specs.List.{concat}
 use Rattle.std.proofs.Math.Seq.{drop-append_seam}
 use Rattle.std.proofs.lemmas.List.{append-nil, append_cancel_left, length-append, nil_from_length}
 use Rattle.std.proofs.lemmas.List.Elements.{All-head, All-tail}
-use Rattle.nr_trace.specs.Spelling.{magic, version_word, counts}
-use Rattle.nr_trace.specs.FirstFault.{IsCounts}
+use Rattle.nr_trace.specs.Spelling.{version_word, counts}
+use Rattle.nr_trace.specs.FirstFault.{magic_of, IsCounts}
+use Rattle.nr_trace.specs.declared.version.Form.TheVariants as forms
 use Rattle.nr_trace.specs.declared.version.Version.{Version}
+use Rattle.nr_trace.specs.declared.version.Version.TheVariants.{V1}
 use Rattle.nr_trace.proofs.LawsOfUnits.{versions_apart, counts_apart, heads_apart}
-use Rattle.nr_explain.specs.Units.{size, Numbers, HasHeader, IsHeadOf, SpellsDump, HasDumps, GoesOnBehind, GoesOn}
+use Rattle.nr_explain.specs.Units.{size, as_counts, Numbers, HasHeader, IsHeadOf, SpellsDump, HasDumps, GoesOnBehind, GoesOn}
 use Rattle.nr_explain.specs.declared.units.TraceUnit.{TraceUnit}
 use Rattle.nr_explain.specs.declared.units.TraceUnit.TheVariants.{Magic, Version as VersionWord, Counts, Place, Event, DumpHead, FrameNumber, FrameWords, Behind}
 use Rattle.nr_explain.proofs.NextUnits.{more_header, more_dumps}
@@ -28,22 +30,22 @@ same_behind xs ys us vs long e =
 one_header : (version other : Version) (numbers others : Numbers) (bytes behind later : List ℕ) → HasHeader version numbers bytes behind
     → HasHeader other others bytes later → (numbers ≡ others) × (behind ≡ later)
 one_header version other numbers others bytes behind later h k =
-    let own = counts (record { layout = numbers.layout; places = numbers.places; events = numbers.events }) in
-    let its = counts (record { layout = others.layout; places = others.places; events = others.events }) in
+    let own = counts version (as_counts numbers) in
+    let its = counts other (as_counts others) in
     let all : version_word version ++ (own ++ behind) ≡ version_word other ++ (its ++ later) =
-    append_cancel_left magic (version_word version ++ (own ++ behind)) (version_word other ++ (its ++ later)) (sym h.spelled ∙ k.spelled) in
-    let versions = versions_apart version other (own ++ behind) (its ++ later) tt tt all in
-    let fits : IsCounts version (record { layout = others.layout; places = others.places; events = others.events }) =
-    subst (λ (v : Version). IsCounts v (record { layout = others.layout; places = others.places; events = others.events })) (sym versions.0) k.in_range in
-    let same = counts_apart version (record { layout = numbers.layout; places = numbers.places; events = numbers.events })
-    (record { layout = others.layout; places = others.places; events = others.events }) behind later h.in_range fits versions.1 in
+    append_cancel_left (magic_of forms.Trace) (version_word version ++ (own ++ behind)) (version_word other ++ (its ++ later)) (sym h.spelled ∙ k.spelled) in
+    let versions = versions_apart forms.Trace version other (own ++ behind) (its ++ later) h.of_trace k.of_trace all in
+    let fits : IsCounts version (as_counts others) = subst (λ (v : Version). IsCounts v (as_counts others)) (sym versions.0) k.in_range in
+    let alike : own ++ behind ≡ counts version (as_counts others) ++ later =
+    versions.1 ∙ ap (λ (v : Version). counts v (as_counts others) ++ later) (sym versions.0) in
+    let same = counts_apart version (as_counts numbers) (as_counts others) behind later h.in_range fits alike in
     let told = same.0 in
     ((λ i. record { layout = (told i).layout; places = (told i).places; events = (told i).events }), same.1)
 
 heads_same : (many others : ℕ) (head other us vs : List ℕ) → IsHeadOf many head → IsHeadOf others other → head ++ us ≡ other ++ vs
     → (many ≡ others) × (us ≡ vs)
 heads_same many others head other us vs h k e =
-    let same = heads_apart (record { applied = h.applied; frames = many; root = h.root }) (record { applied = k.applied; frames = others; root = k.root })
+    let same = heads_apart V1 (record { applied = h.applied; frames = many; root = h.root }) (record { applied = k.applied; frames = others; root = k.root })
     us vs h.in_range k.in_range (ap (λ (l : List ℕ). l ++ us) (sym h.spelled) ∙ e ∙ ap (λ (l : List ℕ). l ++ vs) k.spelled) in
     let told = same.0 in
     ((λ i. (told i).frames), same.1)

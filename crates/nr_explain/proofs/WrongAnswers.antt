@@ -8,7 +8,7 @@ use Rattle.nr_trace.specs.Calls.{Invocation, Response}
 use Rattle.nr_trace.specs.Faults.{IsFirst}
 use Rattle.nr_trace.specs.Orders.{answer_in, before, recorded_order, space_after}
 use Rattle.nr_trace.specs.declared.fault.Fault.TheVariants.{WrongAnswer}
-use Rattle.nr_trace.proofs.LawsOfCalls.{answered_stands}
+use Rattle.nr_trace.proofs.LawsOfCalls.{answered_stands, ordered_from_made}
 use Rattle.nr_trace.proofs.LawsOfFaults.{clean_before_answers}
 use Rattle.nr_trace.proofs.LawsOfOrder.{space_before}
 use Rattle.nr_explain.specs.Evidence.{IsOtherAnswer}
@@ -24,7 +24,9 @@ pub few_seen : (trace : Recording) (index : ℕ) (reply : RecordedReply) → IsF
     → reply.at ≤ length trace.log
 few_seen trace index reply first is names =
     let clean = clean_before_answers no_pages trace index first in
-    (answered_stands trace index (response reply) clean (first_to trace index reply clean is names)).1
+    let wrong = first.holds in
+    let ordered = ordered_from_made trace index wrong.made wrong.is_made wrong.no_touch in
+    (answered_stands trace index (response reply) clean ordered (first_to trace index reply clean is names)).1
 
 pub wrong_facts : (trace : Recording) (call : RecordedCall) (reply : RecordedReply) (wanted : Answer) (address : ℕ) (changed : Option PlacedUpdate)
     → IsFirst trace (WrongAnswer call.event) → IsCallOf trace call → IsReplyOf trace reply → reply.call ≡ call.event
@@ -34,9 +36,10 @@ pub wrong_facts : (trace : Recording) (call : RecordedCall) (reply : RecordedRep
 wrong_facts trace call reply wanted address changed first is_call is_reply names told about change =
     let clean = clean_before_answers no_pages trace call.event first in
     let to = first_to trace call.event reply clean is_reply names in
-    let stands = answered_stands trace call.event (response reply) clean to in
-    let space = space_before no_pages trace reply.at call.event clean stands.1 stands.0 in
     let wrong = first.holds in
+    let ordered = ordered_from_made trace call.event wrong.made wrong.is_made wrong.no_touch in
+    let stands = answered_stands trace call.event (response reply) clean ordered to in
+    let space = space_before no_pages trace reply.at call.event clean stands.1 stands.0 in
     let is = told ∙ ap (λ (s : Space). answer_in trace.layout s call.request) (sym space) in
     let one_reply = same_Some wrong.reply (response reply) (sym wrong.is_reply ∙ to) in
     let one_call = same_Some (made_in call) wrong.made (sym is_call ∙ wrong.is_made) in

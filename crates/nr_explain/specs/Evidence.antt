@@ -11,7 +11,7 @@ use Rattle.nr_trace.specs.Faults.{HasDump, StandsAfter}
 use Rattle.nr_trace.specs.Orders.{answer_in, before, floor, known_by, recorded_order, space_after}
 use Rattle.nr_trace.specs.declared.fault.Fault.{Fault}
 use Rattle.nr_trace.specs.declared.fault.Fault.TheVariants as faults
-use Rattle.nr_explain.specs.Facts.{IsCallOf, IsReplyOf, response, looks_after, IsLastChange, address_about, IsPath, HasReservedWord}
+use Rattle.nr_explain.specs.Facts.{IsCallOf, IsReplyOf, IsFirstReplyTo, response, entries_read, looks_after, IsLastChange, address_about, IsPath, HasReservedWord, IsReservedBit}
 use Rattle.nr_explain.specs.declared.evidence.Step.{Step}
 use Rattle.nr_explain.specs.declared.evidence.OpenCalls.{OpenCalls}
 use Rattle.nr_explain.specs.declared.evidence.StrayReply.{StrayReply}
@@ -94,7 +94,8 @@ pub record IsPastEnd (trace : Recording) (wrong : PastEnd) : Type 0 where
   pub places : wrong.places ≡ length trace.log
   pub past : wrong.places < wrong.reply.at
 
--- the call comes after fewer entries than its floor, which a reply before it makes known, the first that does: fewer were known before that
+-- the call comes after fewer entries than its floor, which a reply before it makes known, the first that does: fewer were known before that;
+-- and how it is answered itself
 pub record IsEarly (trace : Recording) (early : EarlyCall) : Type 0 where
   pub call : IsCallOf trace early.call
   pub stands : StandsAfter trace early.call.event early.entries
@@ -106,6 +107,7 @@ pub record IsEarly (trace : Recording) (early : EarlyCall) : Type 0 where
   pub none_before : (index : ℕ) (reply : Response) → index < early.reply.event → reply_of trace index ≡ Some reply → known_by trace reply < early.floor
   pub answered : IsCallOf trace early.answered
   pub names : early.reply.call ≡ early.answered.event
+  pub own : IsFirstReplyTo trace early.call.event early.own
 
 -- the call is answered otherwise than the space answers it after the updates that come before it
 pub record IsOtherAnswer (trace : Recording) (wrong : OtherAnswer) : Type 0 where
@@ -155,20 +157,22 @@ IsSharedTable trace wrong = HasDump trace wrong.replica (λ dump.
     StepsLeadTo trace dump wrong.frame wrong.first.items
     × StepsLeadTo trace dump wrong.frame wrong.second.items × (wrong.second.items ≢ wrong.first.items))
 
--- the entries lead to a table, and the word that it has at an index has a reserved bit set, at its level
+-- the entries lead to a table, and the word that it has at an index has a reserved bit set, at its level: this one
 abbrev pub IsReservedEntry : Recording → ReservedEntry → Type 0
 IsReservedEntry trace wrong = HasDump trace wrong.replica (λ dump.
-    IsRootPath trace dump wrong.entry.level wrong.entry.frame wrong.path.items × HasReservedWord dump.frames wrong.entry)
+    IsRootPath trace dump wrong.entry.level wrong.entry.frame wrong.path.items × HasReservedWord dump.frames wrong.entry
+    × IsReservedBit wrong.entry.level wrong.entry.word wrong.bit)
 
 -- the tables do not lead to the frame
 abbrev pub IsStrayTable : Recording → StrayTable → Type 0
 IsStrayTable trace wrong = HasDump trace wrong.replica (λ dump. IsStray trace.layout.depth dump.frames dump.root wrong.frame)
 
--- the dump translates the address so, and the space after the entries that it has applied otherwise
+-- the dump translates the address so, by these entries, and the space after the entries that it has applied otherwise
 pub record IsDifference (trace : Recording) (wrong : Difference) (dump : Image) : Type 0 where
   pub applied : wrong.applied ≡ dump.applied
   pub canonical : IsCanonical trace.layout.depth wrong.address
   pub found : wrong.found ≡ walk trace.layout.depth dump.frames dump.root wrong.address
+  pub path : wrong.path.items ≡ entries_read dump.frames (levels trace.layout.depth) dump.root wrong.address
   pub wanted : wrong.wanted ≡ looks_after trace wrong.address wrong.applied
   pub differs : wrong.found ≢ as_walk wrong.wanted
   pub changed : IsLastChange trace wrong.address wrong.applied wrong.changed

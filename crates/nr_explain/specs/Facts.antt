@@ -1,10 +1,13 @@
 -- Facts of a trace that evidence is made of.
-use Rattle.std.specs.Prelude.{◌≡◌, ◌≢◌, ℕ, ◌+◌, ◌-◌, ◌<◌, ◌≤◌, List, [], ◌∷◌, length, take, slice_get, slice_index, Option, Some, None}
+use Rattle.std.specs.Prelude.{◌≡◌, ◌≢◌, ℕ, zero, suc, ◌+◌, ◌-◌, ◌*◌, ◌<◌, ◌≤◌, List, [], ◌∷◌, length, take, slice_get, slice_index, MatchBool, Option, Some, None}
 use Rattle.std.specs.FinMap as finite
-use Rattle.vs_types.specs.Entry.{meaning}
+use Rattle.std.specs.Int.{bit_at}
+use Rattle.vs_types.specs.Depth.{index_at}
+use Rattle.vs_types.specs.Entry.{is_leaf, meaning}
 use Rattle.vs_types.specs.Step.{look}
 use Rattle.vs_types.specs.declared.answer.Answer.{Answer}
 use Rattle.vs_types.specs.declared.answer.Answer.TheVariants as answers
+use Rattle.vs_types.specs.declared.entry.Meaning.{Meaning}
 use Rattle.vs_types.specs.declared.entry.Meaning.TheVariants as entry
 use Rattle.vs_types.specs.declared.op.Action.TheVariants.{Map, Unmap, Protect}
 use Rattle.vs_types.specs.declared.page.Rights.{Rights}
@@ -12,7 +15,7 @@ use Rattle.vs_types.specs.declared.request.Query.{Query}
 use Rattle.vs_types.specs.declared.request.Query.TheVariants.{Update, Resolve, Access}
 use Rattle.vs_walk.specs.Memory.{Memory}
 use Rattle.nr_trace.specs.Recording.{Recording}
-use Rattle.nr_trace.specs.Calls.{call_of, Response, reply_of}
+use Rattle.nr_trace.specs.Calls.{Answers, call_of, Response, reply_of}
 use Rattle.nr_trace.specs.Orders.{space_after}
 use Rattle.nr_explain.specs.declared.evidence.RecordedCall.{RecordedCall}
 use Rattle.nr_explain.specs.declared.evidence.RecordedReply.{RecordedReply}
@@ -21,7 +24,7 @@ use Rattle.nr_explain.specs.declared.evidence.Step.{Step}
 
 -- the event is this call
 abbrev pub IsCallOf : Recording → RecordedCall → Type 0
-IsCallOf trace call = call_of trace call.event ≡ Some (record { replica = call.replica; thread = call.thread; request = call.request })
+IsCallOf trace call = call_of trace call.event ≡ Some (record { replica = call.replica; thread = call.thread; request = call.request; touch = call.touch })
 
 -- what a recorded reply says of its call
 abbrev pub response : RecordedReply → Response
@@ -30,6 +33,12 @@ response reply = record { call = reply.call; at = reply.at; answer = reply.answe
 -- the event is this reply
 abbrev pub IsReplyOf : Recording → RecordedReply → Type 0
 IsReplyOf trace reply = reply_of trace reply.event ≡ Some (response reply)
+
+-- the first reply to a call, or none where no event is one
+abbrev pub IsFirstReplyTo : Recording → ℕ → Option RecordedReply → Type 0
+IsFirstReplyTo trace call None = (index : ℕ) → Answers trace index call → ⊥
+IsFirstReplyTo trace call (Some reply) =
+    IsReplyOf trace reply × (reply.call ≡ call) × ((index : ℕ) → index < reply.event → Answers trace index call → ⊥)
 
 -- how an address looks in the space after the first places of the log, this many
 abbrev pub looks_after : Recording → ℕ → ℕ → Answer
@@ -76,6 +85,30 @@ IsPath memory level number end target [] = (level ≡ end) × (number ≡ target
 IsPath memory level number end target (step ∷ steps) =
     (step.level ≡ level) × (step.frame ≡ number) × ((next : ℕ) × LeadsOn memory step next × IsPath memory (level - 1) next end target steps)
 
+-- what is read behind an entry: more where it leads on to a table
+abbrev pub behind : (ℕ → List Step) → Meaning → List Step
+behind below (entry.Table next own) = below next
+behind below _ = []
+
+-- what is read of a frame: nothing where the memory lacks it
+abbrev pub of_frame : (List ℕ → List Step) → Option (List ℕ) → List Step
+of_frame read None = []
+of_frame read (Some words) = read words
+
+-- the entry for an address among the words of a table
+abbrev pub entry_for : ℕ → ℕ → ℕ → List ℕ → Step
+entry_for level number address words =
+    record { level = level; frame = number; index = index_at level address; word = slice_index words (index_at level address) }
+
+-- the entries that the walk of an address reads from the frame of this number on, the table of a level
+unfoldable pub entries_read : Memory → ℕ → ℕ → ℕ → List Step
+entries_read memory zero number address = []
+entries_read memory (suc level) number address =
+    of_frame (λ words.
+    entry_for (suc level) number address words
+    ∷ behind (λ next. entries_read memory level next address) (meaning (suc level) (slice_index words (index_at (suc level) address))))
+    (finite.get memory number)
+
 -- the word of the step is in its frame, and has a reserved bit set as an entry of its level
 pub record HasReservedWord (memory : Memory) (step : Step) : Type 0 where
   pub words : List ℕ
@@ -83,3 +116,9 @@ pub record HasReservedWord (memory : Memory) (step : Step) : Type 0 where
   pub within : step.index < length words
   pub read : slice_index words step.index ≡ step.word
   pub reserved : meaning step.level step.word ≡ entry.Reserved
+
+-- the bit is set in the word, and reserved in an entry of this level: of one that maps a page any from 13 to below the bits of an
+-- address in the page, of one that maps none bit 7
+pub record IsReservedBit (level word bit : ℕ) : Type 0 where
+  pub set : bit_at word bit ≡ 1
+  pub reserved : MatchBool (is_leaf level word) ((13 ≤ bit) × (bit < 3 + 9 * level)) (bit ≡ 7)

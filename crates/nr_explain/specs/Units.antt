@@ -3,10 +3,14 @@ use Rattle.std.specs.Prelude.{◌≡◌, ◌⊎◌, ℕ, ◌+◌, ◌*◌, ◌<�
 use Rattle.std.specs.List.{concat}
 use Rattle.vs_types.specs.Config.{Layout}
 use Rattle.nr_trace.specs.Recording.{Recording}
-use Rattle.nr_trace.specs.Spelling.{magic, version_word, counts, dump_head, Spells}
-use Rattle.nr_trace.specs.FirstFault.{HasFormatFault, IsCounts, IsDumpHead}
+use Rattle.nr_trace.specs.Spelling.{version_word, counts, dump_head, Spells}
+use Rattle.nr_trace.specs.FirstFault.{magic_of, HasFormatFault, IsCounts, IsDumpHead}
 use Rattle.nr_trace.specs.Feed.{HasNoFaultYet, HasLastingFault}
+use Rattle.nr_trace.specs.Versions.{IsVersionOf}
+use Rattle.nr_trace.specs.declared.fields.Counts.{Counts as TraceCounts}
+use Rattle.nr_trace.specs.declared.version.Form.TheVariants as forms
 use Rattle.nr_trace.specs.declared.version.Version.{Version}
+use Rattle.nr_trace.specs.declared.version.Version.TheVariants.{V1}
 use Rattle.nr_trace.specs.declared.fault.Format.TheVariants.{Truncated}
 use Rattle.nr_explain.specs.declared.units.TraceUnit.{TraceUnit}
 use Rattle.nr_explain.specs.declared.units.TraceUnit.TheVariants.{Magic, Version as VersionWord, Counts, Place, Event, DumpHead, FrameNumber, FrameWords, Behind}
@@ -32,17 +36,21 @@ pub record Numbers : Type 0 where
   pub places : ℕ
   pub events : ℕ
 
--- the bytes begin with a header of these counts, and this comes after it
-pub record HasHeader (version : Version) (numbers : Numbers) (bytes behind : List ℕ) : Type 0 where
-  pub in_range : IsCounts version (record { layout = numbers.layout; places = numbers.places; events = numbers.events })
-  pub spelled : bytes ≡ magic ++ (version_word version
-      ++ (counts (record { layout = numbers.layout; places = numbers.places; events = numbers.events }) ++ behind))
+-- the numbers of the counts unit of a trace, which has no start
+abbrev pub as_counts : Numbers → TraceCounts
+as_counts numbers = record { layout = numbers.layout; places = numbers.places; events = numbers.events; start = 0 }
 
--- the bytes are the head of a dump of this many frames
+-- the bytes begin with the header of a trace of these counts, and this comes after it
+pub record HasHeader (version : Version) (numbers : Numbers) (bytes behind : List ℕ) : Type 0 where
+  pub of_trace : IsVersionOf forms.Trace version
+  pub in_range : IsCounts version (as_counts numbers)
+  pub spelled : bytes ≡ magic_of forms.Trace ++ (version_word version ++ (counts version (as_counts numbers) ++ behind))
+
+-- the bytes are the head of a dump of this many frames, which are as many in both versions of traces
 pub record IsHeadOf (many : ℕ) (bytes : List ℕ) : Type 0 where
   pub applied : ℕ
   pub root : ℕ
-  pub in_range : IsDumpHead (record { applied = applied; frames = many; root = root })
+  pub in_range : IsDumpHead V1 (record { applied = applied; frames = many; root = root })
   pub spelled : bytes ≡ dump_head (record { applied = applied; frames = many; root = root })
 
 -- the bytes are a dump: a head, and as many frames as it says

@@ -35,7 +35,7 @@ pub(crate) fn count(alloc: Global, trace: &Trace, order: &Order) -> Result<Count
         calls: calls as u64,
         updates: updates as u64,
         reads: reads as u64,
-        replicas: trace.config().replicas(),
+        replicas: trace.layout().replicas(),
         pages: pages.len() as u64,
     })
 }

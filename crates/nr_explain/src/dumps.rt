@@ -9,7 +9,7 @@ use crate::evidence::{
     Difference, LongPrefix, MissingTable, ReservedEntry, SharedTable, StrayTable,
 };
 use crate::log::places;
-use crate::paths::{Target, another_way, entry_at, find_way};
+use crate::paths::{Target, another_way, entries_read, entry_at, find_way, reserved_bit};
 use crate::replay::last_look;
 use nr_trace::Trace;
 use std::alloc::Global;
@@ -47,7 +47,7 @@ pub(crate) fn missing_table(
         reserved: None,
         other: None,
     };
-    match find_way(alloc, dump, trace.config().depth(), &target)? {
+    match find_way(alloc, dump, trace.layout().depth(), &target)? {
         Some(path) => Ok(MissingTable {
             replica,
             frame,
@@ -70,7 +70,7 @@ pub(crate) fn shared_table(
     ensures is { IfOk result (IsSharedTable trace.now) }
 {
     let dump = &trace.dumps()[replica as usize];
-    let depth = trace.config().depth();
+    let depth = trace.layout().depth();
     let any = Target {
         frame,
         reserved: None,
@@ -88,7 +88,7 @@ pub(crate) fn shared_table(
     })
 }
 
-/// The entries that lead to a table which has a word with a reserved bit set, and that word. Allocates memory for them.
+/// The entries that lead to a table which has a word with a reserved bit set, that word, and such a bit. Allocates them.
 pub(crate) fn reserved_entry(
     alloc: Global,
     trace: &Trace,
@@ -103,7 +103,7 @@ pub(crate) fn reserved_entry(
     ensures is { IfOk result (IsReservedEntry trace.now) }
 {
     let dump = &trace.dumps()[replica as usize];
-    let depth = trace.config().depth();
+    let depth = trace.layout().depth();
     let target = Target {
         frame,
         reserved: Some(index),
@@ -117,6 +117,7 @@ pub(crate) fn reserved_entry(
         replica,
         path,
         entry,
+        bit: reserved_bit(entry.level, entry.word),
     })
 }
 
@@ -131,8 +132,8 @@ pub(crate) fn stray_table(trace: &Trace, replica: u8, frame: u64) -> StrayTable
     StrayTable { replica, frame }
 }
 
-/// How the dump of a replica translates an address, how the address looks in the space, and the last update that made it
-/// so. Allocates memory for a space.
+/// How the dump of a replica translates an address and by which entries, how the address looks in the space, and the last update
+/// that made it so. Allocates the entries, and a space.
 pub(crate) fn difference(
     alloc: Global,
     trace: &Trace,
@@ -146,14 +147,17 @@ pub(crate) fn difference(
         HasDump trace.now wrong.replica (IsDifference trace.now wrong)) }
 {
     let dump = &trace.dumps()[replica as usize];
+    let depth = trace.layout().depth();
     let applied = dump.applied();
-    let found = translate(dump, dump.root(), trace.config().depth(), address);
+    let found = translate(dump, dump.root(), depth, address);
+    let path = entries_read(alloc, dump, depth, address)?;
     let (wanted, changed) = last_look(alloc, trace, address, applied)?;
     Ok(Difference {
         replica,
         applied,
         address,
         found,
+        path,
         wanted,
         changed,
     })

@@ -10,6 +10,8 @@ pub struct RecordedCall {
     pub replica: u8,
     pub thread: u16,
     pub request: Request,
+    /// Whether it is a touch. A trace has none.
+    pub touch: bool,
 }
 
 /// A reply as a trace has it.
@@ -115,6 +117,8 @@ pub struct EarlyCall {
     pub reply: RecordedReply,
     /// The call that this reply answers.
     pub answered: RecordedCall,
+    /// The first reply to the call itself, if there is one.
+    pub own: Option<RecordedReply>,
 }
 
 /// A call whose answer is not that of the space.
@@ -179,6 +183,8 @@ pub struct ReservedEntry {
     /// The entries that lead to its table from the root.
     pub path: Vec<Step>,
     pub entry: Step,
+    /// A bit of its word that is set and reserved.
+    pub bit: u8,
 }
 
 /// A frame of a dump to which its tables do not lead.
@@ -196,6 +202,8 @@ pub struct Difference {
     pub address: u64,
     /// How the dump translates the address.
     pub found: Walk,
+    /// The entries that are read on the way.
+    pub path: Vec<Step>,
     /// How the address looks in the space after the entries that the dump has applied.
     pub wanted: Answer,
     /// The last of these updates that changed how the address looks, if one did.

@@ -9,7 +9,7 @@ ghost use Rattle.nr_explain.specs.Evidence.{IsEarly, IsShortPrefix};
 use crate::evidence::{EarlyCall, ShortPrefix};
 use crate::log::places;
 use crate::lookup::{call_at, is_update};
-use crate::searching::{binding_reply, first_place, first_reply, first_resting};
+use crate::searching::{binding_reply, first_place, first_reply, first_resting, reply_to};
 use nr_trace::Trace;
 
 /// After how many entries a call is in the recorded order.
@@ -46,6 +46,7 @@ pub(crate) fn early_call(trace: &Trace, index: u32) -> EarlyCall
             floor,
             reply,
             answered: call_at(trace, reply.call),
+            own: reply_to(trace, index),
         },
         None => unreachable!(),
     }

@@ -1,9 +1,10 @@
 //! Events of a trace by their indexes.
 
-ghost use Rattle.std.specs.Prelude.{◌≡◌, ◌<◌, ◌↔◌, ◌+◌, MatchOption, IfSome, IsTrue, None, slice_get, option_map, is_some};
+ghost use Rattle.std.specs.Prelude.{◌≡◌, ◌<◌, ◌↔◌, ◌+◌, MatchOption, IfSome, IsTrue, None, slice_get, is_some};
 ghost use Rattle.vs_types.specs.Query.{IsQuery};
-ghost use Rattle.nr_trace.specs.Calls.{call_of, operation_of, reply_of, IsCall};
+ghost use Rattle.nr_trace.specs.Calls.{call_of, operation_of, reply_of, touch_of, IsCall};
 ghost use Rattle.nr_trace.specs.Orders.{known_by};
+ghost use Rattle.nr_audit.specs.inside.Replies.{asked_by};
 ghost use Rattle.nr_explain.specs.Facts.{response, IsCallOf, IsReplyOf};
 ghost use Rattle.nr_explain.specs.inside.Searches.{IsReply};
 
@@ -34,6 +35,20 @@ pub(crate) fn find_call(trace: &Trace, index: u32) -> Option<RecordedCall>
             replica,
             thread,
             request,
+            touch: false,
+        }),
+        Event::Touch {
+            replica,
+            thread,
+            address,
+            mode,
+            access,
+        } => Some(RecordedCall {
+            event: index,
+            replica,
+            thread,
+            request: Request::of(Query::Access(address, mode, access)),
+            touch: true,
         }),
         Event::Reply { .. } => None,
     }
@@ -45,7 +60,7 @@ pub(crate) fn find_reply(trace: &Trace, index: u32) -> Option<RecordedReply>
         (λ reply. IsReplyOf trace.now reply × (reply.event ≡ index)) }
 {
     match event_at(trace, index)? {
-        Event::Call { .. } => None,
+        Event::Call { .. } | Event::Touch { .. } => None,
         Event::Reply { call, at, answer } => Some(RecordedReply {
             event: index,
             call,
@@ -80,14 +95,24 @@ pub(crate) fn reply_at(trace: &Trace, index: u32) -> RecordedReply
     }
 }
 
-/// What the call of this number asks, if there is one.
+/// What the update or the read of this number asks, if there is one.
 pub(crate) fn request_of(trace: &Trace, call: u32) -> Option<Request>
-    ensures asks { result ≡ option_map (λ made. made.request) (call_of trace.now call) }
+    ensures asks { result ≡ asked_by trace.now call }
     ensures well_formed { IfSome result (IsQuery trace.now.layout.depth) }
 {
     match trace.events().get(call as usize)?.event() {
         Event::Call { request, .. } => Some(request),
-        Event::Reply { .. } => None,
+        Event::Touch { .. } | Event::Reply { .. } => None,
+    }
+}
+
+/// Whether a touch has this number.
+fn is_touch(trace: &Trace, call: u32) -> bool
+    ensures { result ≡ is_some (touch_of trace.now call) }
+{
+    match event_at(trace, call) {
+        Some(event) => matches!(event, Event::Touch { .. }),
+        None => false,
     }
 }
 
@@ -101,12 +126,15 @@ pub(crate) fn is_update(trace: &Trace, call: u32) -> bool
     }
 }
 
-/// How many entries of the log are known by a reply: those up to the update's own, or those that the read saw.
+/// How many entries of the log are known by a reply: those up to the update's own, or those that the read saw; by one to a
+/// touch none.
 pub(crate) fn entries_known(trace: &Trace, reply: RecordedReply) -> u64
     ensures { result ≡ known_by trace.now (response reply) }
 {
     if is_update(trace, reply.call) {
         reply.at as u64 + 1
+    } else if is_touch(trace, reply.call) {
+        0
     } else {
         reply.at as u64
     }

@@ -1,14 +1,16 @@
 //! Ways through the tables of a dump.
 
-ghost use Rattle.std.specs.Prelude.{◌≡◌, ◌≤◌, ◌<◌, ◌↔◌, [], IfOk, IsTrue, MatchOption, length};
+ghost use Rattle.std.specs.Prelude.{◌≡◌, ◌≤◌, ◌<◌, ◌↔◌, ◌++◌, [], IfOk, IsTrue, MatchOption, OnOk, length};
 ghost use Rattle.vs_types.specs.declared.limits.TheConstants.{MOST_LEVELS};
 ghost use Rattle.vs_types.specs.Depth.{levels};
 ghost use Rattle.nr_explain.specs.inside.Ways.{GoesNowhere, GoesOnTo, HasTwoWays, IsAnotherWay, IsMet, IsReservedAt, IsSearched};
-ghost use Rattle.nr_explain.specs.Facts.{HasReservedWord};
+ghost use Rattle.vs_types.specs.Entry.{meaning};
+ghost use Rattle.vs_types.specs.declared.entry.Meaning.TheVariants.{Reserved};
+ghost use Rattle.nr_explain.specs.Facts.{entries_read, HasReservedWord, IsReservedBit};
 
 use crate::evidence::Step;
 use std::alloc::Global;
-use vs_types::{Depth, Entry, Meaning, Memory};
+use vs_types::{Depth, Entry, Meaning, Memory, index_at};
 use vs_walk::{Dump, Frames};
 
 /// What is looked for in the tables of a dump.
@@ -160,4 +162,64 @@ pub(crate) fn entry_at(dump: &Dump, level: u8, frame: u64, index: u16) -> Step
         },
         None => unreachable!(),
     }
+}
+
+/// A bit of a word that is set and reserved, as an entry of a level: the lowest.
+pub(crate) fn reserved_bit(level: u8, word: u64) -> u8
+    requires few_levels { level ≤ MOST_LEVELS }
+    requires reserved { meaning level word ≡ Reserved }
+    ensures { IsReservedBit level word result }
+{
+    if level > 3 {
+        return 7;
+    }
+    let reserved = (word % (1 << (3 + 9 * level))) >> 13;
+    13 + reserved.trailing_zeros() as u8
+}
+
+/// Adds the entries that the walk of an address reads from the frame of a number on, the table of a level. Allocates room for them.
+fn read_on(
+    dump: &Dump,
+    level: u8,
+    number: u64,
+    address: u64,
+    path: &mut Vec<Step>,
+) -> Result<(), Memory>
+    requires { level ≤ MOST_LEVELS }
+    ensures { OnOk result (path.new.items
+        ≡ path.old.items ++ entries_read dump.now.frames level number address) }
+{
+    if level == 0 {
+        return Ok(());
+    }
+    let Some(words) = dump.words(number) else {
+        return Ok(());
+    };
+    let index = index_at(level, address);
+    let word = words.word(index);
+    path.push(Step {
+        level,
+        frame: number,
+        index: index as u16,
+        word,
+    })?;
+    if let Meaning::Table(next, _) = Entry::new(word).read(level) {
+        return read_on(dump, level - 1, next, address, path);
+    }
+    Ok(())
+}
+
+/// The entries that the walk of an address reads from the root of a dump on. Allocates them.
+pub(crate) fn entries_read(
+    alloc: Global,
+    dump: &Dump,
+    depth: Depth,
+    address: u64,
+) -> Result<Vec<Step>, Memory>
+    ensures { IfOk result (λ path.
+        path.items ≡ entries_read dump.now.frames (levels depth) dump.now.root address) }
+{
+    let mut path = Vec::new(alloc);
+    read_on(dump, depth.levels(), dump.root(), address, &mut path)?;
+    Ok(path)
 }

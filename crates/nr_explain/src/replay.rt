@@ -48,8 +48,8 @@ pub(crate) fn space_at(alloc: Global, trace: &Trace, end: u32) -> Result<PlainSp
     ensures { IfOk result (λ space.
         space ≡ space_of trace.now.layout (space_after trace.now (take end trace.now.log))) }
 {
-    let config = trace.config();
-    let mut space = PlainSpace::new(alloc, config.tables(), config.depth());
+    let layout = trace.layout();
+    let mut space = PlainSpace::new(alloc, layout.tables(), layout.depth());
     for place in 0..end {
         apply_place(trace, &mut space, place)?;
     }
@@ -105,8 +105,8 @@ pub(crate) fn last_look(
     ensures looks { IfOk result (λ last. last.0 ≡ looks_after trace.now address end) }
     ensures changed { IfOk result (λ last. IsLastChange trace.now address end last.1) }
 {
-    let config = trace.config();
-    let mut space = PlainSpace::new(alloc, config.tables(), config.depth());
+    let layout = trace.layout();
+    let mut space = PlainSpace::new(alloc, layout.tables(), layout.depth());
     let mut looks = space.resolve(address);
     let mut changed = None;
     for place in 0..end {

@@ -2,6 +2,7 @@
 
 ghost use Rattle.std.specs.Prelude.{◌≡◌, ◌<◌, ◌≤◌, ℕ, MatchOption, Some, length, slice_get};
 ghost use Rattle.nr_trace.specs.Orders.{floor};
+ghost use Rattle.nr_explain.specs.Facts.{IsFirstReplyTo};
 ghost use Rattle.nr_explain.specs.inside.Searches.{IsBinding, IsFirstReply, IsLastCall, IsResting, IsUnplacedBelow, RestsAt, RestsNowhere};
 
 use crate::evidence::{RecordedCall, RecordedReply, ShortPrefix};
@@ -35,6 +36,13 @@ pub(crate) fn first_reply(trace: &Trace, call: u32, end: u32) -> Option<Recorded
         }
     }
     None
+}
+
+/// The first reply to a call.
+pub(crate) fn reply_to(trace: &Trace, call: u32) -> Option<RecordedReply>
+    ensures { IsFirstReplyTo trace.now call result }
+{
+    first_reply(trace, call, trace.events().len() as u32)
 }
 
 /// The first place of the log, of these, that has a call.

@@ -12,7 +12,7 @@ use Rattle.vs_types.specs.declared.answer.Answer.{Answer}
 use Rattle.vs_types.specs.declared.request.Query.{Query}
 use Rattle.nr_trace.specs.Recording.{IsEvent}
 use Rattle.nr_trace.specs.declared.event.Event.{Event}
-use Rattle.nr_trace.specs.declared.event.Event.TheVariants.{Call, Reply}
+use Rattle.nr_trace.specs.declared.event.Event.TheVariants.{Call, Reply, Touch}
 use Rattle.nr_trace.specs.declared.version.Version.TheVariants.{V2}
 use Rattle.nr_record.specs.Pen.{ClockId, PenState, call_by, calls_in, is_call, new_pen, new_pens, home_of, stamped}
 use Rattle.nr_record.specs.Rule.{HasDrawn, with_stamp}
@@ -32,6 +32,7 @@ rise_push (s ∷ ss) x rise below =
 own_more : (layout : Layout) (thread : ℕ) (made : List Stamped) (item : Stamped) (event : Event) → IsOwn layout thread made event
     → IsOwn layout thread (made ++ item ∷ []) event
 own_more layout thread made item (Call replica caller request) own = own
+own_more layout thread made item (Touch replica caller address mode access) own = own
 own_more layout thread made item (Reply call at answer) own = (own.0, Contains-append_left made (item ∷ []) (stamped call (call_by layout thread own.0)) own.1)
 
 calls_more : (made : List Stamped) (item : Stamped) → calls_in (made ++ item ∷ []) ≡ calls_in made + cond (is_call item.event) 1 0

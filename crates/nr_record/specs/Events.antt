@@ -2,7 +2,7 @@
 use Rattle.std.specs.Prelude.{◌≡◌, ℕ, ◌==◌, List, All, Bool, false, Option, None, Some, filter, option_and_then, slice_get}
 use Rattle.std.specs.Option.{option_map_or}
 use Rattle.nr_trace.specs.declared.event.Event.{Event}
-use Rattle.nr_trace.specs.declared.event.Event.TheVariants.{Call, Reply}
+use Rattle.nr_trace.specs.declared.event.Event.TheVariants.{Call, Reply, Touch}
 use Rattle.nr_record.specs.Pen.{PenState}
 
 -- the event of each stamp is what the pen was given with it
@@ -12,11 +12,13 @@ HasNotes events pen = All (λ item. slice_get events item.stamp ≡ Some item.ev
 -- who makes a call
 abbrev pub caller : Event → Option ℕ
 caller (Call replica thread request) = Some thread
+caller (Touch replica thread address mode access) = Some thread
 caller (Reply call at answer) = None
 
 -- the thread of an event: the one that makes the call, or that made the call which is answered
 abbrev pub thread_of : List Event → Event → Option ℕ
 thread_of events (Call replica thread request) = Some thread
+thread_of events (Touch replica thread address mode access) = Some thread
 thread_of events (Reply call at answer) = option_and_then caller (slice_get events call)
 
 abbrev pub is_of : ℕ → List Event → Event → Bool

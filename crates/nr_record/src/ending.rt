@@ -3,7 +3,7 @@ ghost use Rattle.std.specs.Prelude.{◌≡◌, ◌↔◌, ◌≤◌, All, IfOk, 
 ghost use Rattle.std.specs.List.{flat_map};
 ghost use Rattle.vs_types.specs.declared.limits.TheConstants.{CALLS, LOG_PLACES};
 ghost use Rattle.nr_trace.specs.Parts.{HasFrames};
-ghost use Rattle.nr_trace.specs.Versions.{FitsFirst};
+ghost use Rattle.nr_trace.specs.Versions.{FitsFirst, IsVersionOf};
 ghost use Rattle.nr_trace.specs.declared.version.Version.TheVariants.{V1};
 ghost use Rattle.nr_record.specs.Events.{HasNotes, events_of};
 ghost use Rattle.nr_record.specs.Pen.{AreAllPens, stamps_of};
@@ -14,7 +14,7 @@ use crate::clock::Clock;
 use crate::order::in_order;
 use crate::pen::Pen;
 use crate::stamped::Stamped;
-use nr_trace::{Trace, Version};
+use nr_trace::{Form, Trace, TraceLayout, Version};
 use std::alloc::Global;
 use vs_types::{Config, Memory};
 use vs_walk::Dump;
@@ -70,7 +70,7 @@ pub fn finish(
     requires pens { AreAllPens clock pens.items }
     requires log { length log.items ≤ LOG_PLACES }
     requires dumps { (length dumps.items ≡ config.replicas)
-        × All HasFrames dumps.items }
+        × All (HasFrames V1) dumps.items }
     ensures stamps { IfOk result
         (λ trace. AreBelow (length trace.events) (flat_map stamps_of pens.items)) }
     ensures rising { OnOk result (All (λ pen. Rise (stamps_of pen)) pens.items) }
@@ -81,13 +81,15 @@ pub fn finish(
         pens.items) }
     ensures handed_in { IfOk result
         (λ trace. (trace.layout ≡ config) × (trace.log ≡ log.items) × (trace.dumps ≡ dumps.items)) }
+    ensures of_trace { IfOk result (λ trace. IsVersionOf Form.Trace trace.version) }
     ensures version { IfOk result
         (λ trace. (trace.version ≡ V1) ↔ FitsFirst trace.layout.depth trace.events) }
 {
     let (count, notes) = gather(alloc, clock, pens)?;
     let events = in_order(alloc, count as usize, &notes)?;
     let version = Version::least(config.depth(), &events);
-    match Trace::new(version, config, log, events, dumps) {
+    let _tables = config.tables();
+    match Trace::new(version, TraceLayout::of(config), None, log, events, dumps) {
         Ok(trace) => Ok(trace),
         Err(_) => unreachable!(),
     }

@@ -1,6 +1,6 @@
 -- The calls of a trace are those of the threads whose pens it was made of.
 use Rattle.std.proofs.Common.{◌≡◌, ℕ, zero, suc, ◌<◌, ◌≤◌, Bool, true, false, List, [], ◌∷◌, All, Contains, length, get_or, map, eqb, eq-eqb, refl, ap, sym, ◌∙◌, subst, arith}
-use Rattle.std.specs.Prelude.{Option, None, Some, IsSome, slice_get, option_and_then, take}
+use Rattle.std.specs.Prelude.{Option, None, Some, IsSome, slice_get, option_and_then, take, if◌then◌else◌}
 use Rattle.std.specs.Option.{option_map_or}
 use Rattle.std.proofs.lemmas.List.{get_or-map, length-map}
 use Rattle.std.proofs.lemmas.List.Elements.{All-contains, All-head, All-map, All-tail}
@@ -15,8 +15,8 @@ use Rattle.nr_ring.specs.Pass.{Known, TableId}
 use Rattle.nr_trace.specs.Calls.{Invocation, Response, read_address, call_of, made_by, operation_in, reply_to}
 use Rattle.nr_trace.specs.Recording.{Recording}
 use Rattle.nr_trace.specs.declared.event.Event.{Event}
-use Rattle.nr_trace.specs.declared.event.Event.TheVariants.{Call, Reply}
-use Rattle.nr_record.specs.Events.{HasNotes, events_of}
+use Rattle.nr_trace.specs.declared.event.Event.TheVariants.{Call, Reply, Touch}
+use Rattle.nr_record.specs.Events.{HasNotes, caller, events_of}
 use Rattle.nr_record.specs.Pen.{ClockId, PenState, call_by, stamps_of}
 use Rattle.nr_record.specs.Stamps.{Rise, once_below}
 use Rattle.nr_record.specs.declared.stamped.Stamped.{Stamped}
@@ -75,9 +75,9 @@ false_true : false ≡ true → ⊥
 false_true e = cc
 
 record IsCallAt (events : List Event) (thread i : ℕ) : Type 0 where
-  replica : ℕ
-  request : Query
-  at : slice_get events i ≡ Some (Call replica thread request)
+  event : Event
+  at : slice_get events i ≡ Some event
+  made : caller event ≡ Some thread
 
 called_by : (events : List Event) (thread i : ℕ) → makes thread events i ≡ true → (o : Option Event) → slice_get events i ≡ o → IsCallAt events thread i
 called_by events thread i holds None at = absurd (false_true (sym (ap (tested thread) at) ∙ holds))
@@ -85,7 +85,11 @@ called_by events thread i holds (Some (Reply call place answer)) at = absurd (fa
 called_by events thread i holds (Some (Call replica who request)) at =
     let test : eqb who thread ≡ true = sym (ap (tested thread) at) ∙ holds in
     let same : who ≡ thread = (Decides-eqb who thread).0 test in
-    record { replica = replica; request = request; at = at ∙ ap (λ (t : ℕ). Some (Call replica t request)) same }
+    record { event = Call replica who request; at = at; made = ap (λ (t : ℕ). Some t) same }
+called_by events thread i holds (Some (Touch replica who address mode access)) at =
+    let test : eqb who thread ≡ true = sym (ap (tested thread) at) ∙ holds in
+    let same : who ≡ thread = (Decides-eqb who thread).0 test in
+    record { event = Touch replica who address mode access; at = at; made = ap (λ (t : ℕ). Some t) same }
 
 called : (events : List Event) (thread i : ℕ) → makes thread events i ≡ true → IsCallAt events thread i
 called events thread i holds = called_by events thread i holds (slice_get events i) refl
@@ -114,15 +118,15 @@ only_own : (clock : ClockId) (log : TableId) (scripts : List (List Query)) (work
 only_own clock log scripts workers events all are thread script worker at served i holds =
     let pens = pens_of workers in
     let call = called events thread i holds in
-    let lt = slice_get_within events i (Call call.replica thread call.request) call.at in
+    let lt = slice_get_within events i call.event call.at in
     let found = pen_of_stamp pens i (omega (arith, are.stamps i, once_in (length events) i lt)) in
     let pen = found.0 in
     let item = found.2.0 in
     let stands = All-contains (λ (other : Stamped). slice_get events other.stamp ≡ Some other.event) pen.made item
     (All-contains (HasNotes events) pens pen are.noted found.1) found.2.1 in
     let stands' : slice_get events i ≡ Some item.event = subst (λ (s : ℕ). slice_get events s ≡ Some item.event) found.2.2 stands in
-    let both : Some item.event ≡ Some (Call call.replica thread call.request) = sym stands' ∙ call.at in
-    let event : item.event ≡ Call call.replica thread call.request = cc in
+    let both : Some item.event ≡ Some call.event = sym stands' ∙ call.at in
+    let event : caller item.event ≡ Some thread = ap (λ o. option_and_then caller o) both ∙ call.made in
     let k : ℕ = found.1.0 in
     let long = length-map workers (λ (w : WorkerState). w.pen) in
     let within : k < length workers = omega (arith, found.1.1, long) in
@@ -132,13 +136,13 @@ only_own clock log scripts workers events all are thread script worker at served
     let its = present scripts k (omega (arith, within, all.one_each)) in
     let others = all.each k its.0 other its.1 other_at in
     let theirs = subst (λ (made : List Stamped). Contains made item) (ap (λ (p : PenState). p.made) pen_is ∙ others.notes) found.2.1 in
-    let one = note_is_call clock.layout k others.calls item call.replica thread call.request theirs event in
+    let one = note_is_call clock.layout k others.calls item thread theirs event in
     let same : Some other ≡ Some worker = sym other_at ∙ ap (λ (j : ℕ). slice_get workers j) (sym one.by_thread) ∙ at in
     let worker_is : other ≡ worker = cc in
     let mine = subst (λ (made : List Stamped). Contains made item)
     (ap (λ (p : PenState). p.made) (pen_is ∙ ap (λ (w : WorkerState). w.pen) worker_is) ∙ served.notes) found.2.1 in
     subst (λ (s : ℕ). Contains (numbers served.calls) s) found.2.2
-    (note_is_call clock.layout thread served.calls item call.replica thread call.request mine event).is_call
+    (note_is_call clock.layout thread served.calls item thread mine event).is_call
 
 calls_are : (clock : ClockId) (log : TableId) (scripts : List (List Query)) (workers : List WorkerState) (trace : Recording)
     → AreServed clock log scripts workers → AreRecorded trace.events (pens_of workers) → (thread : ℕ) (script : List Query) (worker : WorkerState)
@@ -293,7 +297,7 @@ have_seen clock log scripts workers trace all are layout thread pass at_pass =
       reads = λ call made reply is_made who read rep.
           let its = known_call clock log scripts workers trace all are thread worker there.1 call made is_made who in
           let read' : IsSome (read_address its.request) =
-          subst (λ o. IsSome (option_and_then (λ (m : Invocation). read_address m.request) (option_and_then made_by o))) its.asked read in
+          subst (λ o. IsSome (option_and_then (λ (m : Invocation). if m.touch then None else read_address m.request) (option_and_then made_by o))) its.asked read in
           subst (λ (l : Log). reply.at ≤ length l.entries) here
           (known clock.layout (log_after clock.layout.replicas worker.pass.view.seen) call its.request its.said its.is_true reply read'
           (sym its.replied ∙ rep));

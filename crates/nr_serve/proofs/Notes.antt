@@ -14,7 +14,7 @@ use Rattle.vs_types.specs.declared.answer.Answer as given
 use Rattle.vs_types.specs.declared.request.Query.{Query}
 use Rattle.nr_trace.specs.Calls.{Response, reply_in}
 use Rattle.nr_trace.specs.declared.event.Event.{Event}
-use Rattle.nr_trace.specs.declared.event.Event.TheVariants.{Call, Reply}
+use Rattle.nr_trace.specs.declared.event.Event.TheVariants.{Call, Reply, Touch}
 use Rattle.nr_record.specs.Events.{caller, events_of, is_of}
 use Rattle.nr_record.specs.Pen.{call_by, stamped}
 use Rattle.nr_record.specs.Stamps.{Rise}
@@ -84,32 +84,32 @@ pub record IsOneOf (thread who : ℕ) (calls : List MadeCall) (number : ℕ) : T
   pub by_thread : who ≡ thread
   pub is_call : Contains (numbers calls) number
 
-not_reply : (number at : ℕ) (answer : given.Answer) (replica who : ℕ) (request : Query) → Reply number at answer ≡ Call replica who request → ⊥
-not_reply number at answer replica who request e = cc
+not_reply : (number at : ℕ) (answer : given.Answer) (who : ℕ) → caller (Reply number at answer) ≡ Some who → ⊥
+not_reply number at answer who e = cc
 
-in_call : (layout : Layout) (thread : ℕ) (c : MadeCall) (item : Stamped) (replica who : ℕ) (request : Query) → Contains (notes_of layout thread c) item
-    → item.event ≡ Call replica who request → (who ≡ thread) × (c.number ≡ item.stamp)
-in_call layout thread c item replica who request has is = at has.0 has.1 has.2 where
+in_call : (layout : Layout) (thread : ℕ) (c : MadeCall) (item : Stamped) (who : ℕ) → Contains (notes_of layout thread c) item → caller item.event ≡ Some who
+    → (who ≡ thread) × (c.number ≡ item.stamp)
+in_call layout thread c item who has is = at has.0 has.1 has.2 where
   second : (said : Said) (k : ℕ) → k < length (reply_notes c.number c.replied said) → get_or (reply_notes c.number c.replied said) k item ≡ item → ⊥
   second (Answer at answer) zero lt same =
-      not_reply c.number at answer replica who request (ap (λ (s : Stamped). s.event) same ∙ is)
+      not_reply c.number at answer who (ap (λ (s : Stamped). caller s.event) same ∙ is)
   second (Answer at answer) (suc k) lt same = absurd (omega arith)
   second Stopped k lt same = absurd (omega arith)
 
   at : (k : ℕ) → k < length (notes_of layout thread c) → get_or (notes_of layout thread c) k item ≡ item → (who ≡ thread) × (c.number ≡ item.stamp)
   at zero lt same =
-      let event : call_by layout thread c.request ≡ Call replica who request = ap (λ (s : Stamped). s.event) same ∙ is in
+      let made : Some thread ≡ Some who = ap (λ (s : Stamped). caller s.event) same ∙ is in
       (cc, ap (λ (s : Stamped). s.stamp) same)
   at (suc k) lt same = absurd (second c.said k (omega arith) same)
 
-pub note_is_call : (layout : Layout) (thread : ℕ) (calls : List MadeCall) (item : Stamped) (replica who : ℕ) (request : Query)
-    → Contains (notes layout thread calls) item → item.event ≡ Call replica who request → IsOneOf thread who calls item.stamp
-note_is_call layout thread [] item replica who request has is = absurd (omega (arith, has.1))
-note_is_call layout thread (c ∷ cs) item replica who request has is =
+pub note_is_call : (layout : Layout) (thread : ℕ) (calls : List MadeCall) (item : Stamped) (who : ℕ) → Contains (notes layout thread calls) item
+    → caller item.event ≡ Some who → IsOneOf thread who calls item.stamp
+note_is_call layout thread [] item who has is = absurd (omega (arith, has.1))
+note_is_call layout thread (c ∷ cs) item who has is =
     ⊎_elim
-    (λ here. let both = in_call layout thread c item replica who request here is in
+    (λ here. let both = in_call layout thread c item who here is in
     record { by_thread = both.0; is_call = (zero, omega arith, both.1) })
-    (λ there. let rest = note_is_call layout thread cs item replica who request there is in
+    (λ there. let rest = note_is_call layout thread cs item who there is in
     record { by_thread = rest.by_thread; is_call = (suc rest.is_call.0, omega (arith, rest.is_call.1), rest.is_call.2) })
     (Contains-append_cases (notes_of layout thread c) (notes layout thread cs) item
     (subst (λ (xs : List Stamped). Contains xs item) (flat_map-cons (notes_of layout thread) c cs) has))
@@ -160,6 +160,7 @@ false_true e = cc
 others_silent : (events : List Event) (layout : Layout) (thread number : ℕ) (request : Query)
     → slice_get events number ≡ Some (call_by layout thread request) → (e : Event) → is_of thread events e ≡ false → answering number e ≡ None
 others_silent events layout thread number request at (Call replica who asked) fails = refl
+others_silent events layout thread number request at (Touch replica who address mode access) fails = refl
 others_silent events layout thread number request at (Reply call place answer) fails =
     dite (ℕ_discrete call number)
     (λ same.

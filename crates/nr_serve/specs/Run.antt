@@ -25,7 +25,7 @@ calls_of trace thread = filter (λ call. option_map_or (λ made. made.thread == 
 
 -- a thread asks something, at its replica
 abbrev pub asked_by : Layout → ℕ → Query → Invocation
-asked_by layout thread request = record { replica = home_of layout thread; thread = thread; request = request }
+asked_by layout thread request = record { replica = home_of layout thread; thread = thread; request = request; touch = false }
 
 -- what came of a call: its reply's answer, and where it was reached; or it has none
 abbrev pub said_of : Recording → ℕ → Said

@@ -1,1 +1,8 @@
+mod AnswerEquality
+pub mod Found
 pub mod QuietPages
+pub mod Raised
+pub mod Replayed
+pub mod Sizes
+pub mod StepChanges
+pub mod Walked

@@ -28,7 +28,7 @@ same_rights p q e = sym (rights_back p.rights) ∙ ap rights_from e ∙ rights_b
 one_page : (p q : Page) → p.base ≡ q.base → p.phys ≡ q.phys → p.size ≡ q.size → p.rights ≡ q.rights → p ≡ q
 one_page p q b f s r = λ i. record { base = b i; size = s i; phys = f i; rights = r i }
 
-page_or_not : (p q : Page) → (p ≡ q) ⊎ (p ≢ q)
+pub page_or_not : (p q : Page) → (p ≡ q) ⊎ (p ≢ q)
 page_or_not p q =
     by_parts (cases_eq p.base q.base) (cases_eq p.phys q.phys) (cases_eq (size_code p.size) (size_code q.size))
     (cases_eq (rights_code p.rights) (rights_code q.rights)) where
@@ -93,7 +93,7 @@ known_at trace place event call reply clean placed before answers =
     let update : IsUpdate trace call = placed_is_update trace place call clean placed in
     let known = known_of_update trace response (subst (IsUpdate trace) (sym names) update) in
     let first : reply_to trace call ≡ Some response = ap (reply_to trace) (sym names) ∙ reply_is_first trace reply response clean is in
-    let stands = answered_stands trace call response clean first in
+    let stands = answered_stands trace call response clean (inl update) first in
     let here : place ≡ response.at = stands_once trace call place response.at clean (inl (update, placed)) stands.0 in
     let most = known_below_floor trace reply event response before is in
     omega arith

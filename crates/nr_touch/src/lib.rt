@@ -5,7 +5,14 @@
 //! was at some moment that no flush had ended before it began.
 #![tactic(auto)]
 
+mod bounds;
+mod change;
+mod history;
 pub mod laws;
+mod replay;
+mod search;
+mod stale;
 mod touch;
 
+pub use stale::first_stale;
 pub use touch::Touch;

@@ -1,7 +1,7 @@
 -- A trace that is put together from the units at the front of bytes.
-use Rattle.std.proofs.Common.{◌≡◌, ℕ, suc, ◌^◌, ◌<◌, Bool, true, false, ◌&&◌, T, List, [], ◌∷◌, ◌++◌, length, map, All, Option, Some, None, refl, ap}
+use Rattle.std.proofs.Common.{◌≡◌, ℕ, zero, suc, ◌^◌, ◌<◌, ◌≤◌, Bool, true, false, ◌&&◌, T, List, [], ◌∷◌, ◌++◌, length, map, All, Option, Some, None, refl, ap}
 use Rattle.std.proofs.Common.{ap₂, sym, ◌∙◌, subst, arith}
-use Rattle.std.specs.Prelude.{flat_map, ⊤}
+use Rattle.std.specs.Prelude.{flat_map, IfSome, ⊤}
 use Rattle.std.specs.List.{AllByRecursion}
 use Rattle.std.specs.FinMap as finite
 use Rattle.std.specs.FinMap.Entries as kept
@@ -13,13 +13,18 @@ use Rattle.std.proofs.lemmas.List.Elements.{All-from_recursion}
 use Rattle.vs_types.specs.Config.{Layout}
 use Rattle.vs_types.specs.Frame.{IsFrame}
 use Rattle.vs_walk.specs.Dump.{Image}
-use Rattle.nr_trace.specs.Recording.{Recording, IsRecording, IsImage, IsEvent}
-use Rattle.nr_trace.specs.Spelling.{magic, version_word, counts, counts_of, dump_head, spelling, Spells, log_word, event, dump, frame_number, frame_words}
-use Rattle.nr_trace.specs.FirstFault.{IsCounts, IsDumpHead, IsNext}
+use Rattle.nr_trace.specs.Recording.{Recording, IsRecording, IsImage, IsStart, IsEvent, start_frames}
+use Rattle.nr_trace.specs.Versions.{Follows, IsVersionOf}
+use Rattle.vs_types.specs.declared.limits.TheConstants.{FRAMES}
+use Rattle.nr_trace.specs.Spelling.{magic, version_word, counts, counts_of, dump_head, spelling, start_units, SpellsAs, log_word, event, dump, frame_number, frame_words}
+use Rattle.nr_trace.specs.FirstFault.{IsCounts, IsDumpHead, IsNext, magic_of}
 use Rattle.nr_trace.specs.declared.version.Version.{Version}
+use Rattle.nr_trace.specs.declared.version.Version.TheVariants.{Segment}
+use Rattle.nr_trace.specs.declared.version.Form.{Form}
 use Rattle.nr_trace.specs.declared.fields.Counts.{Counts}
 use Rattle.nr_trace.specs.declared.fields.DumpHead.{DumpHead}
-use Rattle.nr_trace.proofs.LawsOfSpelling.{Frame, FrameFits, frame}
+use Rattle.nr_trace.proofs.LawsOfSpelling.{Frame, FrameFits, frame, magic_is}
+use Rattle.nr_trace.proofs.LawsOfUnits.{few_of_start}
 use Rattle.nr_trace.proofs.LawsOfFormat.{RisesFrom}
 
 -- the units of so many values are at the front, and what comes after has the property
@@ -99,9 +104,9 @@ as_many : (head : DumpHead) (frames : List Frame) → FramesFit None frames → 
     → finite.len (image_from head frames).frames ≡ head.frames
 as_many head frames fit count = finite.len-entries (image_from head frames).frames ∙ ap length (held head frames fit) ∙ count
 
-image_fits : (head : DumpHead) (frames : List Frame) → IsDumpHead head → FramesFit None frames → length frames ≡ head.frames
-    → IsImage (image_from head frames)
-image_fits head frames fits fit count =
+image_fits : (version : Version) (head : DumpHead) (frames : List Frame) → IsDumpHead version head → FramesFit None frames → length frames ≡ head.frames
+    → IsImage version (image_from head frames)
+image_fits version head frames fits fit count =
     let many = as_many head frames fit count in
     let all = sym (held head frames fit) in
     record {
@@ -109,6 +114,7 @@ image_fits head frames fits fit count =
       root = fits.root;
       some_frame = omega (arith, fits.some_frame);
       few_frames = omega (arith, fits.few_frames);
+      nothing = λ none. fits.nothing (omega (arith, none));
       numbers = subst (λ (es : List Frame). All (λ n. n < 2 ^ 40) (map (λ e. e.0) es)) all (All-from_recursion (λ n. n < 2 ^ 40) _ (numbers_fit frames fit.0));
       words = subst (λ (es : List Frame). All IsFrame (map (λ e. e.1) es)) all (All-from_recursion IsFrame _ (words_fit frames fit.0));
     }
@@ -120,69 +126,135 @@ dump_is head frames fit count =
     (as_many head frames fit count) (held head frames fit)
 
 -- this many dumps are at the front
-abbrev pub HasDumps : ℕ → List ℕ → Type 0
-HasDumps many = HasUnits (AllByRecursion IsImage) dump many (λ _. ⊤)
+abbrev pub HasDumps : Version → ℕ → List ℕ → Type 0
+HasDumps version many = HasUnits (AllByRecursion (IsImage version)) dump many (λ _. ⊤)
 
-pub one_dump : (many : ℕ) (head : DumpHead) (rest behind : List ℕ) → IsDumpHead head → rest ≡ dump_head head ++ behind
-    → HasUnits (FramesFit None) frame head.frames (HasDumps many) behind → HasDumps (suc many) rest
-one_dump many head rest behind fits is has =
-    one_unit (AllByRecursion IsImage) (AllByRecursion IsImage) dump many (λ _. ⊤) (image_from head has.values) rest has.more
-    (λ images all. (image_fits head has.values fits has.fit has.count, all))
+pub one_dump : (version : Version) (many : ℕ) (head : DumpHead) (rest behind : List ℕ) → IsDumpHead version head → rest ≡ dump_head head ++ behind
+    → HasUnits (FramesFit None) frame head.frames (HasDumps version many) behind → HasDumps version (suc many) rest
+one_dump version many head rest behind fits is has =
+    one_unit (AllByRecursion (IsImage version)) (AllByRecursion (IsImage version)) dump many (λ _. ⊤) (image_from head has.values) rest has.more
+    (λ images all. (image_fits version head has.values fits has.fit has.count, all))
     (is ∙ ap (λ (l : List ℕ). dump_head head ++ l) has.parts ∙ sym (append_assoc (dump_head head) (flat_map frame has.values) has.more)
     ∙ ap (λ (l : List ℕ). l ++ has.more) (sym (dump_is head has.values has.fit has.count))) has.then
 
 -- ---- a trace
 
 abbrev pub HasEvents : Version → Layout → ℕ → List ℕ → Type 0
-HasEvents version layout many = HasUnits (AllByRecursion (IsEvent version layout)) event many (HasDumps layout.replicas)
+HasEvents version layout many = HasUnits (AllByRecursion (IsEvent version layout)) event many (HasDumps version layout.replicas)
 
 abbrev pub HasLog : Version → Layout → ℕ → ℕ → List ℕ → Type 0
 HasLog version layout places many = HasUnits (AllByRecursion (λ call. call < 2 ^ 32)) log_word places (HasEvents version layout many)
 
--- a front of the bytes spells a trace
-abbrev pub HasTrace : List ℕ → Type 0
-HasTrace bytes = (front : List ℕ) × (more : List ℕ) × (trace : Recording) × (bytes ≡ front ++ more) × Spells front trace
+-- the start that is at the front, if it has frames, and then the log
+abbrev pub HasFrames : Version → Counts → List ℕ → Type 0
+HasFrames version numbers =
+    HasUnits (FramesFit None) frame numbers.start (HasLog version numbers.layout numbers.places numbers.events)
 
-four_parts : (front a b c more : List ℕ) → front ++ (a ++ (b ++ (c ++ more))) ≡ (front ++ a ++ b ++ c) ++ more
-four_parts front a b c more =
-    sym (append_assoc (front ++ a ++ b) c more ∙ append_assoc (front ++ a) b (c ++ more) ∙ append_assoc front a (b ++ (c ++ more)))
+pub record HasRoot (version : Version) (numbers : Counts) (rest : List ℕ) : Type 0 where
+  pub root : ℕ
+  pub fits : root < 2 ^ 64
+  pub behind : List ℕ
+  pub parts : rest ≡ frame_number root ++ behind
+  pub frames : HasFrames version numbers behind
 
-abbrev trace_of : (version : Version) (numbers : Counts) (rest : List ℕ)
-    → HasLog version numbers.layout numbers.places numbers.events rest
-    → Recording
-trace_of version numbers rest has =
-    record { version = version; layout = numbers.layout; log = has.values; events = has.then.values; dumps = has.then.then.values }
+abbrev pub HasStart : Version → Counts → ℕ → List ℕ → Type 0
+HasStart version numbers zero = HasLog version numbers.layout numbers.places numbers.events
+HasStart version numbers (suc n) = HasRoot version numbers
 
-trace_fits : (version : Version) (numbers : Counts) (rest : List ℕ) → IsCounts version numbers
-    → (has : HasLog version numbers.layout numbers.places numbers.events rest) → IsRecording (trace_of version numbers rest has)
+-- a front of the bytes spells what has the form
+abbrev pub HasFront : Form → List ℕ → Type 0
+HasFront form bytes = (front : List ℕ) × (more : List ℕ) × (trace : Recording) × (bytes ≡ front ++ more) × SpellsAs form front trace
+
+-- the same of bytes behind the counts: a start of this version and the units after it
+record HasRest (version : Version) (numbers : Counts) (rest : List ℕ) : Type 0 where
+  start : Option Image
+  is_start : IfSome start IsStart
+  as_many : start_frames start ≡ numbers.start
+  behind : List ℕ
+  parts : rest ≡ start_units start ++ behind
+  log : HasLog version numbers.layout numbers.places numbers.events behind
+
+rest_of : (version : Version) (numbers : Counts) (n : ℕ) (rest : List ℕ) → numbers.start ≡ n → numbers.start ≤ FRAMES → HasStart version numbers n rest
+    → HasRest version numbers rest
+rest_of version numbers zero rest none few has =
+    record { start = None; is_start = tt; as_many = sym none; behind = rest; parts = refl; log = has }
+rest_of version numbers (suc n) rest some few has =
+    let head : DumpHead = record { applied = 0; frames = numbers.start; root = has.root } in
+    let frames = has.frames in
+    let fits : IsDumpHead Segment head =
+    record { applied = omega arith; some_frame = omega arith; few_frames = few; root = has.fits; nothing = λ none. absurd (omega arith) } in
+    let image = image_from head frames.values in
+    let many = as_many head frames.values frames.fit frames.count in
+    record {
+      start = Some image;
+      is_start = record {
+        image = image_fits Segment head frames.values fits frames.fit frames.count;
+        some_frame = omega (arith, many, some);
+        applied = refl;
+      };
+      as_many = many;
+      behind = frames.more;
+      parts = has.parts ∙ ap (λ (l : List ℕ). frame_number has.root ++ l) frames.parts
+          ∙ sym (append_assoc (frame_number has.root) (flat_map frame frames.values) frames.more)
+          ∙ ap (λ (es : List Frame). (frame_number has.root ++ flat_map frame es) ++ frames.more) (sym (held head frames.values frames.fit));
+      log = frames.then;
+    }
+
+seven_parts : (m v n s a b c more : List ℕ)
+    → m ++ (v ++ (n ++ (s ++ (a ++ (b ++ (c ++ more)))))) ≡ (m ++ v ++ n ++ s ++ a ++ b ++ c) ++ more
+seven_parts m v n s a b c more = simp append_assoc
+
+trace_of : (version : Version) (numbers : Counts) (rest : List ℕ) → HasRest version numbers rest → Recording
+trace_of version numbers rest has = record {
+  version = version;
+  layout = numbers.layout;
+  start = has.start;
+  log = has.log.values;
+  events = has.log.then.values;
+  dumps = has.log.then.then.values;
+}
+
+trace_fits : (version : Version) (numbers : Counts) (rest : List ℕ) → IsCounts version numbers → (has : HasRest version numbers rest)
+    → IsRecording (trace_of version numbers rest has)
+unfolding trace_of
 trace_fits version numbers rest fits has = record {
   layout = fits.layout;
   depth = fits.depth;
-  few_places = omega (arith, has.count, fits.few_places);
-  log = All-from_recursion (λ call. call < 2 ^ 32) has.values has.fit;
-  few_events = omega (arith, has.then.count, fits.few_events);
-  events = All-from_recursion (IsEvent version numbers.layout) has.then.values has.then.fit;
-  one_dump_each = has.then.then.count;
-  dumps = All-from_recursion IsImage has.then.then.values has.then.then.fit;
+  start = has.is_start;
+  few_start = omega (arith, has.as_many, fits.few_start);
+  few_places = omega (arith, has.log.count, fits.few_places);
+  log = All-from_recursion (λ call. call < 2 ^ 32) has.log.values has.log.fit;
+  few_events = omega (arith, has.log.then.count, fits.few_events);
+  events = All-from_recursion (IsEvent version numbers.layout) has.log.then.values has.log.then.fit;
+  one_dump_each = has.log.then.then.count;
+  dumps = All-from_recursion (IsImage version) has.log.then.then.values has.log.then.then.fit;
 }
 
-pub one_trace : (version : Version) (numbers : Counts) (bytes middle behind rest : List ℕ) → IsCounts version numbers
-    → bytes ≡ magic ++ middle → middle ≡ version_word version ++ behind → behind ≡ counts numbers ++ rest
-    → HasLog version numbers.layout numbers.places numbers.events rest → HasTrace bytes
-one_trace version numbers bytes middle behind rest fits is_bytes is_middle is_behind has =
+pub one_front : (form : Form) (version : Version) (numbers : Counts) (bytes middle behind rest : List ℕ) → IsVersionOf form version
+    → Follows form numbers.layout → IsCounts version numbers
+    → bytes ≡ magic_of form ++ middle → middle ≡ version_word version ++ behind → behind ≡ counts version numbers ++ rest
+    → HasStart version numbers numbers.start rest → HasFront form bytes
+unfolding trace_of rest_of
+one_front form version numbers bytes middle behind rest of follows fits is_bytes is_middle is_behind stands =
+    let few = few_of_start version in
+    let has = rest_of version numbers numbers.start rest refl (omega (arith, few, fits.few_start)) stands in
     let trace = trace_of version numbers rest has in
-    let log = flat_map log_word has.values in
-    let calls = flat_map event has.then.values in
-    let images = flat_map dump has.then.then.values in
-    let more = has.then.then.more in
-    let same : numbers ≡ counts_of trace = λ i. record { layout = numbers.layout; places = sym has.count i; events = sym has.then.count i } in (
+    let start = start_units has.start in
+    let log = flat_map log_word has.log.values in
+    let calls = flat_map event has.log.then.values in
+    let images = flat_map dump has.log.then.then.values in
+    let more = has.log.then.then.more in
+    let front = magic version ++ version_word version ++ counts version numbers in
+    let same : numbers ≡ counts_of trace =
+    λ i. record { layout = numbers.layout; places = sym has.log.count i; events = sym has.log.then.count i; start = sym has.as_many i } in (
       spelling trace,
       more,
       trace,
-      is_bytes ∙ ap (λ (l : List ℕ). magic ++ l) (is_middle ∙ ap (λ (l : List ℕ). version_word version ++ l) (is_behind
-          ∙ ap (λ (l : List ℕ). counts numbers ++ l) (has.parts ∙ ap (λ (l : List ℕ). log ++ l) (has.then.parts
-          ∙ ap (λ (l : List ℕ). calls ++ l) has.then.then.parts))))
-          ∙ four_parts (magic ++ version_word version ++ counts numbers) log calls images more
-          ∙ ap (λ (c : Counts). (magic ++ version_word version ++ counts c ++ log ++ calls ++ images) ++ more) same,
-      record { in_range = trace_fits version numbers rest fits has; spelled = refl },
+      is_bytes ∙ ap (λ (l : List ℕ). l ++ middle) (sym (magic_is form version of))
+          ∙ ap (λ (l : List ℕ). magic version ++ l) (is_middle ∙ ap (λ (l : List ℕ). version_word version ++ l) (is_behind
+          ∙ ap (λ (l : List ℕ). counts version numbers ++ l) (has.parts ∙ ap (λ (l : List ℕ). start ++ l) (has.log.parts
+          ∙ ap (λ (l : List ℕ). log ++ l) (has.log.then.parts ∙ ap (λ (l : List ℕ). calls ++ l) has.log.then.then.parts)))))
+          ∙ seven_parts (magic version) (version_word version) (counts version numbers) start log calls images more
+          ∙ ap (λ (c : Counts). (magic version ++ version_word version ++ counts version c ++ start ++ log ++ calls ++ images) ++ more) same,
+      record { of_form = of; follows = follows; in_range = trace_fits version numbers rest fits has; spelled = refl },
     )

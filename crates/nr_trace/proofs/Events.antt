@@ -1,23 +1,27 @@
 -- What bytes that spell an event say of its fields.
 use Rattle.std.proofs.Common.{◌≡◌, ℕ, List, [], ◌∷◌, ◌++◌, get_or, drop, sym, ap, subst, ◌∙◌, arith}
-use Rattle.vs_types.specs.Config.{Layout, IsLayout}
+use Rattle.vs_types.specs.Config.{Layout}
 use Rattle.vs_types.specs.Fields.{request_fields, HasFields}
 use Rattle.vs_types.specs.declared.depth.Depth.{Depth}
 use Rattle.vs_types.specs.declared.request.Query.{Query}
 use Rattle.vs_types.specs.declared.fields.RequestFields.{RequestFields}
 use Rattle.vs_types.specs.declared.answer.Answer.{Answer}
 use Rattle.nr_trace.specs.Versions.{KnowsQuery, KnowsAnswer}
-use Rattle.nr_trace.specs.Spelling.{answer_fields}
-use Rattle.nr_trace.specs.inside.Reading.{HasAnswerFields, IsRequestIn, IsAnswerIn, SpellsEvent}
+use Rattle.nr_trace.specs.Spelling.{answer_fields, touch_fields}
+use Rattle.nr_trace.specs.inside.Reading.{HasAnswerFields, IsAskedIn, IsRequestIn, IsAnswerIn, SpellsEvent}
+use Rattle.nr_trace.specs.declared.reading.event.Asked.{Asked}
+use Rattle.nr_trace.specs.declared.reading.event.Asked.TheVariants as askeds
+use Rattle.vs_types.specs.declared.access.Mode.{Mode}
+use Rattle.vs_types.specs.declared.access.Access.{Access as AccessKind}
 use Rattle.nr_trace.specs.declared.fields.AnswerFields.{AnswerFields}
 use Rattle.nr_trace.specs.declared.version.Version.{Version}
 use Rattle.nr_trace.specs.declared.event.Event.{Event}
-use Rattle.nr_trace.specs.declared.event.Event.TheVariants.{Call, Reply}
+use Rattle.nr_trace.specs.declared.event.Event.TheVariants.{Call, Reply, Touch}
 use Rattle.nr_trace.proofs.LawsOfUnits.{call_bytes, CallFits, call_fits, calls_apart, request_apart, reply_bytes, ReplyFits, reply_fits, replies_apart}
-use Rattle.nr_trace.proofs.LawsOfUnits.{answer_apart}
+use Rattle.nr_trace.proofs.LawsOfUnits.{IsWide, answer_apart, touch_fits}
 
 -- a call that the bytes spell has those fields
-call_fields : (version : Version) (layout : Layout) (bytes : List ℕ) (replica thread unused : ℕ) (fields : RequestFields) (rest : List ℕ) → IsLayout layout
+call_fields : (version : Version) (layout : Layout) (bytes : List ℕ) (replica thread unused : ℕ) (fields : RequestFields) (rest : List ℕ) → IsWide layout
     → bytes ≡ call_bytes replica thread fields unused ++ rest → CallFits replica thread fields unused
     → (r t : ℕ) (request : Query) → SpellsEvent version layout (0 ∷ bytes) (Call r t request) → HasFields layout.depth fields request
 call_fields version layout bytes replica thread unused fields rest well parts fits r t request spells =
@@ -32,16 +36,28 @@ pub request_unknown : (version : Version) (depth : Depth) (fields : RequestField
 request_unknown version depth fields given is unknown request h =
     unknown (subst (KnowsQuery version) (request_apart request given (sym h.has.fields_are ∙ is.fields_are)) h.known)
 
--- no event has this tag, and these fields, of which the version knows no request
-pub no_call : (version : Version) (layout : Layout) (bytes : List ℕ) (replica thread unused : ℕ) (fields : RequestFields) (rest : List ℕ) → IsLayout layout
+-- a touch that the bytes spell has those fields
+touch_has : (version : Version) (layout : Layout) (bytes : List ℕ) (replica thread unused : ℕ) (fields : RequestFields) (rest : List ℕ) → IsWide layout
     → bytes ≡ call_bytes replica thread fields unused ++ rest → CallFits replica thread fields unused
-    → ((request : Query) → IsRequestIn version layout.depth fields request → ⊥)
+    → (r t address : ℕ) (mode : Mode) (access : AccessKind) → SpellsEvent version layout (0 ∷ bytes) (Touch r t address mode access)
+    → fields ≡ touch_fields address mode access
+touch_has version layout bytes replica thread unused fields rest well parts fits r t address mode access spells =
+    let same = calls_apart replica r thread t fields (touch_fields address mode access) unused 0 rest [] fits
+    (touch_fits version layout r t address mode access well spells.in_range) (sym parts ∙ ap (drop 1) spells.spelled) in
+    same.fields
+
+-- no event has this tag, and these fields, of which the version knows neither a request nor a touch
+pub no_call : (version : Version) (layout : Layout) (bytes : List ℕ) (replica thread unused : ℕ) (fields : RequestFields) (rest : List ℕ) → IsWide layout
+    → bytes ≡ call_bytes replica thread fields unused ++ rest → CallFits replica thread fields unused
+    → ((asked : Asked) → IsAskedIn version layout.depth fields asked → ⊥)
     → (recorded : Event) → SpellsEvent version layout (0 ∷ bytes) recorded → ⊥
 no_call version layout bytes replica thread unused fields rest well parts fits none (Call r t request) spells =
-    none request (record {
-      has = call_fields version layout bytes replica thread unused fields rest well parts fits r t request spells;
-      known =
-          spells.in_range.3;
+    let has = call_fields version layout bytes replica thread unused fields rest well parts fits r t request spells in
+    none (askeds.Request request) (record { in_range = (has.well_formed, spells.in_range.3); fields_are = has.fields_are })
+no_call version layout bytes replica thread unused fields rest well parts fits none (Touch r t address mode access) spells =
+    none (askeds.Touch address mode access) (record {
+      in_range = (spells.in_range.2, spells.in_range.3);
+      fields_are = touch_has version layout bytes replica thread unused fields rest well parts fits r t address mode access spells;
     })
 no_call version layout bytes replica thread unused fields rest well parts fits none (Reply call at answer) spells =
     absurd (omega (arith, ap (λ (l : List ℕ). get_or l 0 0) spells.spelled))
@@ -67,6 +83,8 @@ pub no_reply : (version : Version) (layout : Layout) (bytes : List ℕ) (call at
     → ((answer : Answer) → IsAnswerIn version fields answer → ⊥)
     → (recorded : Event) → SpellsEvent version layout (1 ∷ bytes) recorded → ⊥
 no_reply version layout bytes call at unused fields rest parts fits none (Call r t request) spells =
+    absurd (omega (arith, ap (λ (l : List ℕ). get_or l 0 0) spells.spelled))
+no_reply version layout bytes call at unused fields rest parts fits none (Touch r t address mode access) spells =
     absurd (omega (arith, ap (λ (l : List ℕ). get_or l 0 0) spells.spelled))
 no_reply version layout bytes call at unused fields rest parts fits none (Reply c a answer) spells =
     none answer (record { has = reply_has version layout bytes call at unused fields rest parts fits c a answer spells; known = spells.in_range.3 })

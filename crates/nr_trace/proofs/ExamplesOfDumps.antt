@@ -1,9 +1,10 @@
 -- Faults of a dump where nothing is recorded, and none where the page table is empty.
-use Rattle.std.proofs.Common.{◌≡◌, ◌≢◌, ℕ, zero, suc, ◌<◌, inl, inr, ⊎_elim, List, [], ◌∷◌, get_or, replicate, take, slice_index, Contains}
+use Rattle.std.proofs.Common.{◌≡◌, ◌≢◌, ℕ, zero, suc, ◌<◌, ◌≤◌, inl, inr, ⊎_elim, List, [], ◌∷◌, get_or, replicate, take, slice_index, Contains}
 use Rattle.std.proofs.Common.{Some, None, slice_get, cond, refl, ap, sym, subst, ◌∙◌, arith}
 use Rattle.std.specs.Option.{IsSome}
 use Rattle.std.specs.FinMap as finite
 use Rattle.std.specs.Cmp.{nat_cmp_total}
+use Rattle.std.specs.Ordering.{nat_cmp}
 use Rattle.std.proofs.lemmas.Bool.{cases_eq, ne_eqb, false≢true}
 use Rattle.std.proofs.lemmas.Option.{none-some, same_Some}
 use Rattle.vs_types.specs.Depth.{index_at}
@@ -19,6 +20,7 @@ use Rattle.vs_walk.specs.Walk.{all_rights, as_walk, walk, TranslatesAs}
 use Rattle.vs_walk.specs.Traversal.{OfFrame, traversal, reached, first_fault_after, walk_fault}
 use Rattle.vs_walk.specs.Differences.{IsStray, TranslatesOtherwise, HasMissingFrame, HasSharedFrame, HasReservedBit, HasStrayFrame}
 use Rattle.vs_walk.specs.Dump.{Image}
+use Rattle.vs_walk.specs.Memory.{Memory}
 use Rattle.vs_walk.specs.Examples.{one_word, no_words, one_empty_frame, two_empty_frames}
 use Rattle.vs_walk.specs.declared.walk.Walk.TheVariants.{NotMapped, Mapped}
 use Rattle.vs_walk.proofs.Walks.{walk_at}
@@ -33,14 +35,26 @@ use Rattle.nr_trace.specs.declared.fault.Fault.TheVariants.{Format, ThreadOpen, 
 use Rattle.nr_trace.specs.declared.fault.Fault.TheVariants.{WrongAnswer, PrefixPastLog, PrefixShort, MissingFrame, SharedFrame, ReservedBit, StrayFrame}
 use Rattle.nr_trace.specs.declared.fault.Fault.TheVariants.{Differs}
 
+-- what holds a frame is there
+there_by : (frames : Memory) (number : ℕ) (words : List ℕ) → finite.get frames number ≡ Some words → 1 ≤ finite.len frames
+there_by frames number words is = by_len (finite.len frames) refl where
+  by_len : (n : ℕ) → finite.len frames ≡ n → 1 ≤ n
+  by_len zero none = absurd
+      (none-some words (sym (finite.get-empty nat_cmp number) ∙ ap (λ (m : Memory). finite.get m number) (sym (finite.empty_of_len frames none)) ∙ is))
+  by_len (suc n) some = omega arith
+
+-- it has frame 1
+begins : (words : List ℕ) (more : List (ℕ × List ℕ)) → 1 ≤ finite.len (finite.from_entries {R = nat_cmp} ((1, words) ∷ more))
+begins words more = there_by (finite.from_entries ((1, words) ∷ more)) 1 words (finite.get-from_entries nat_cmp_total ((1, words) ∷ more) 1)
+
 pub missing : HasFault missing_frame (MissingFrame 0 2)
-missing = (_, refl, tables.missing_frame)
+missing = (_, refl, begins (one_word 0 0x2007) [], tables.missing_frame)
 
 pub shared : HasFault shared_frame (SharedFrame 0 1)
-shared = (_, refl, tables.shared_frame)
+shared = (_, refl, begins (one_word 0 0x1007) [], tables.shared_frame)
 
 pub reserved : HasFault reserved_bit (ReservedBit 0 3 1)
-reserved = (_, refl, tables.reserved_bit)
+reserved = (_, refl, begins (one_word 0 0x2007) ((2, one_word 0 0x3007) ∷ (3, one_word 1 0x202087) ∷ []), tables.reserved_bit)
 
 -- ---- a frame that isn't reached
 
@@ -62,7 +76,7 @@ least_stray (suc zero) l h = h.1 (subst (λ (ns : List ℕ). Contains ns 1) (sym
 least_stray (suc (suc n)) l h = omega arith
 
 pub stray : HasFault stray_frame (StrayFrame 0 2)
-stray = (_, refl, ((subst IsSome (sym second) refl, λ h. not_the_root (subst (λ (ns : List ℕ). Contains ns 2) only_root h)), least_stray))
+stray = (_, refl, begins no_words ((2, no_words) ∷ []), ((subst IsSome (sym second) refl, λ h. not_the_root (subst (λ (ns : List ℕ). Contains ns 2) only_root h)), least_stray))
 
 -- ---- a page that the space doesn't have
 
@@ -76,7 +90,7 @@ walked =
     ∙ at_word page_at_zero 1 3 all_rights 0 0 0x87 (entry.Leaf 0 all_rights) (finite.get-from_entries nat_cmp_total rows 3) (omega arith) refl refl
 
 pub differs : HasFault unmapped_page (Differs 0 0)
-differs = (_, refl, ((refl, other), λ o l h. omega arith)) where
+differs = (_, refl, begins (one_word 0 0x2007) ((2, one_word 0 0x3007) ∷ (3, one_word 0 0x87) ∷ []), ((refl, other), λ o l h. omega arith)) where
   other : walk Four page_at_zero 1 0 ≢ as_walk (look no_pages 0)
   other e = let same : Mapped 0 M2 all_rights ≡ NotMapped = sym walked ∙ e ∙ ap as_walk (look_of_nothing 0) in cc
 
@@ -118,7 +132,7 @@ only_dump zero dump is = same_Some dump empty_dump (sym is)
 only_dump (suc n) dump is = cc
 
 of_dump : (P : Image → Type 0) (replica : ℕ) → HasDump nothing_recorded replica P → P empty_dump
-of_dump P replica (dump, is, h) = subst P (only_dump replica dump is) h
+of_dump P replica (dump, is, there, h) = subst P (only_dump replica dump is) h
 
 no_reply : (index : ℕ) (reply : Response) → reply_of nothing_recorded index ≡ Some reply → ⊥
 no_reply index reply e = cc
@@ -146,12 +160,12 @@ faultless (Early call) (entries, inl stands, early) = no_place entries call stan
 faultless (Early call) (entries, inr (read, reply, is, at), early) = cc
 faultless (WrongAnswer call) h = no_call call h.made h.is_made
 faultless (PrefixPastLog replica) h = let less : 0 < 0 = of_dump (λ dump. 0 < dump.applied) replica h in omega arith
-faultless (PrefixShort replica) (dump, is, rests) = no_reply rests.index rests.reply rests.is_reply
+faultless (PrefixShort replica) (dump, is, there, rests) = no_reply rests.index rests.reply rests.is_reply
 faultless (MissingFrame replica number) h = let e = of_dump (λ dump. HasMissingFrame Four dump number) replica h in none-some _ (sym no_fault ∙ e)
 faultless (SharedFrame replica number) h = let e = of_dump (λ dump. HasSharedFrame Four dump number) replica h in none-some _ (sym no_fault ∙ e)
 faultless (ReservedBit replica number index) h = let e = of_dump (λ dump. HasReservedBit Four dump number index) replica h in none-some _ (sym no_fault ∙ e)
 faultless (StrayFrame replica number) h = no_stray number (of_dump (λ dump. HasStrayFrame Four dump number) replica h)
-faultless (Differs replica address) (dump, is, differs) = differs_not (only_dump replica dump is) differs.0 where
+faultless (Differs replica address) (dump, is, there, differs) = differs_not (only_dump replica dump is) differs.0 where
   differs_not : dump ≡ empty_dump → TranslatesOtherwise Four dump.frames dump.root (space_after nothing_recorded (take dump.applied [])) address → ⊥
   differs_not e h = let same = subst (λ (d : Image). TranslatesOtherwise Four d.frames d.root (space_after nothing_recorded (take d.applied [])) address) e h in
       same.1 (nowhere address same.0)

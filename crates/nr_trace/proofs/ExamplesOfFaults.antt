@@ -1,5 +1,5 @@
 -- One change to `map_then_resolve` makes one fault hold.
-use Rattle.std.proofs.Common.{◌≢◌, ℕ, zero, suc, ◌<◌, [], ◌∷◌, refl, ap, ◌∙◌, lit<, eqb, arith}
+use Rattle.std.proofs.Common.{◌≢◌, ℕ, zero, suc, ◌<◌, [], ◌∷◌, refl, ap, ◌∙◌, ◌≤◌, lit<, lit≤, subst, sym, eqb, arith, false}
 use Rattle.std.proofs.lemmas.Bool.{false≢true}
 use Rattle.std.proofs.lemmas.Option.{none-some}
 use Rattle.vs_types.specs.declared.answer.Answer.{Answer}
@@ -7,6 +7,8 @@ use Rattle.vs_types.specs.declared.answer.Answer.TheVariants.{Done, NotMapped, M
 use Rattle.vs_types.specs.declared.page.Size.TheVariants.{K4}
 use Rattle.nr_trace.specs.Calls.{Answers, IsCall, IsWellFormedHistory}
 use Rattle.nr_trace.specs.Faults.{HasFault}
+use Rattle.nr_trace.specs.Recording.{IsThere}
+use Rattle.nr_trace.proofs.ExamplesOfSpelling.{len_of_page}
 use Rattle.vs_walk.specs.Walk.{all_rights}
 use Rattle.nr_trace.specs.Examples.{map_it, resolve_it, access_it, access_refused, looks_mapped, dump_of_page, with_log, with_replies, without_first_reply}
 use Rattle.nr_trace.specs.Examples.{with_applied, answered_again}
@@ -47,10 +49,10 @@ not_answered (suc n) l h = omega arith
 
 pub thread_open : HasFault without_first_reply (ThreadOpen 1)
 thread_open = record {
-  made = record { replica = 0; thread = 0; request = resolve_it };
+  made = record { replica = 0; thread = 0; request = resolve_it; touch = false };
   is_made = refl;
   earlier = 0;
-  earlier_made = record { replica = 0; thread = 0; request = map_it };
+  earlier_made = record { replica = 0; thread = 0; request = map_it; touch = false };
   is_earlier = lit< tt;
   is_earlier_made = refl;
   same_thread = refl;
@@ -65,8 +67,9 @@ other_address e = false≢true (ap (λ answer. eqb (address_of answer) 0x1123) e
 
 pub wrong_answer : HasFault (with_replies 0 2 1 0x1124) (WrongAnswer 2)
 wrong_answer = record {
-  made = record { replica = 0; thread = 0; request = resolve_it };
+  made = record { replica = 0; thread = 0; request = resolve_it; touch = false };
   is_made = refl;
+  no_touch = refl;
   reply = record { call = 2; at = 1; answer = Mapped 0x1124 K4 all_rights };
   is_reply = refl;
   differs = λ e. other_address (e ∙ resolve_answer);
@@ -77,25 +80,30 @@ not_allowed e = cc
 
 pub refused_wrongly : HasFault access_refused (WrongAnswer 2)
 refused_wrongly = record {
-  made = record { replica = 0; thread = 0; request = access_it };
+  made = record { replica = 0; thread = 0; request = access_it; touch = false };
   is_made = refl;
+  no_touch = refl;
   reply = record { call = 2; at = 1; answer = Fault 7 };
   is_reply = refl;
   differs = λ e. not_allowed (e ∙ access_answer);
 }
 
+page_there : IsThere dump_of_page
+page_there = subst (λ n. 1 ≤ n) (sym len_of_page) (lit≤ tt)
+
 pub prefix_past_log : HasFault (with_applied 2) (PrefixPastLog 0)
-prefix_past_log = (record dump_of_page { applied = 2 }, refl, lit< tt)
+prefix_past_log = (record dump_of_page { applied = 2 }, refl, page_there, lit< tt)
 
 pub prefix_short : HasFault (with_applied 0) (PrefixShort 0)
 prefix_short = (
   record dump_of_page { applied = 0 },
   refl,
+  page_there,
   record {
     index = 1;
     reply = record { call = 0; at = 0; answer = Done };
     is_reply = refl;
-    made = record { replica = 0; thread = 0; request = map_it };
+    made = record { replica = 0; thread = 0; request = map_it; touch = false };
     is_made = refl;
     here = refl;
     more = lit< tt;

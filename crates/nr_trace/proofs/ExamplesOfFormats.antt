@@ -1,10 +1,11 @@
 -- Bytes that spell no trace.
 use Rattle.std.proofs.Common.{◌≡◌, ◌≢◌, ℕ, [], ◌∷◌, ◌++◌, List, get_or, take, drop, length, inl, inr, refl, ap, sym, subst, arith, take-append-drop}
 use Rattle.nr_trace.specs.Examples.{map_then_resolve}
-use Rattle.std.specs.Prelude.{⊤}
 use Rattle.std.proofs.lemmas.List.{length-drop}
 use Rattle.nr_trace.specs.declared.version.Version.{Version}
-use Rattle.nr_trace.specs.declared.version.Version.TheVariants.{V1, V2}
+use Rattle.nr_trace.specs.declared.version.Version.TheVariants.{V1, V2, Segment}
+use Rattle.nr_trace.specs.declared.version.Form.TheVariants as forms
+use Rattle.nr_trace.specs.Versions.{IsVersionOf}
 use Rattle.nr_trace.specs.Spelling.{spelling, version_word, Spells}
 use Rattle.nr_trace.specs.FirstFault.{HasFormatFault}
 use Rattle.nr_trace.specs.declared.fault.Format.TheVariants.{Truncated, BadMagic, BadVersion, Trailing}
@@ -18,9 +19,10 @@ nothing = inl (omega arith, refl)
 pub magic : HasFormatFault (0x4e ∷ 0x52 ∷ 0x56 ∷ 0x58 ∷ []) BadMagic
 magic = inr (inl (omega arith, refl, λ value fits e. let last : 88 ≡ 84 = ap (λ (bytes : List ℕ). get_or bytes 3 0) e in omega arith))
 
-no_version : (value : Version) → ⊤ → 0 ∷ 3 ∷ [] ≢ version_word value
+no_version : (value : Version) → IsVersionOf forms.Trace value → 0 ∷ 3 ∷ [] ≢ version_word value
 no_version V1 fits e = cc
 no_version V2 fits e = cc
+no_version Segment fits e = absurd fits
 
 pub version : HasFormatFault (0x4e ∷ 0x52 ∷ 0x56 ∷ 0x54 ∷ 0 ∷ 3 ∷ []) BadVersion
 version = inr (inr (tt, 0 ∷ 3 ∷ [], tt, refl, inr (inl (omega arith, refl, no_version))))

@@ -3,13 +3,14 @@ use Rattle.std.proofs.Common.{◌≡◌, ℕ, zero, suc, ◌<◌, List, [], ◌�
 use Rattle.std.specs.List.{IsDistinct}
 use Rattle.std.specs.Prelude.{nat_eq}
 use Rattle.std.proofs.lemmas.Option.{same_Some}
-use Rattle.nr_trace.specs.Calls.{Invocation, Response, IsCall, IsAnswered, Answers, Precedes, call_of, reply_to}
+use Rattle.nr_trace.specs.Calls.{Invocation, Response, IsCall, IsOrdered, IsAnswered, Answers, Precedes, call_of, reply_to}
 use Rattle.nr_trace.specs.Orders.{before, space_after, answer_in, IsLegalOrder}
 use Rattle.nr_trace.specs.Examples.{map_then_resolve, with_more, answered_again}
 use Rattle.nr_trace.specs.declared.event.Event.{Event}
 use Rattle.nr_trace.specs.declared.event.Event.TheVariants.{Reply}
 use Rattle.vs_types.specs.declared.answer.Answer.TheVariants.{NotMapped}
 use Rattle.nr_trace.proofs.ExamplesOfAnswers.{map_answer, resolve_answer}
+use Rattle.nr_trace.proofs.LawsOfCalls.{ordered_is_call}
 
 abbrev order : List ℕ
 order = 0 ∷ 2 ∷ []
@@ -80,12 +81,12 @@ module _ (more : List Event) (none_more : (n : ℕ) → IsCall (with_more more) 
   legal_with = record {
     members = record {
       once = distinct;
-      calls = λ call m. both (IsCall (with_more more)) refl refl call (members call m);
-      answered = λ call c a. both (Contains order) holds_first holds_second call (calls call c);
+      calls = λ call m. both (IsOrdered (with_more more)) (inl refl) (inr refl) call (members call m);
+      answered = λ call c a. both (Contains order) holds_first holds_second call (calls call (ordered_is_call (with_more more) call c));
       others = λ call m. inl (both (IsAnswered (with_more more)) refl refl call (members call m));
     };
     precedence = λ first second a b. precedes first second (members first a) (members second b);
-    answers = λ call made reply e f. both Right first_right second_right call (calls call (is_a_call call made e)) made reply e f;
+    answers = λ call made reply e no_touch f. both Right first_right second_right call (calls call (is_a_call call made e)) made reply e f;
   }
 
 pub legal : IsLegalOrder map_then_resolve order

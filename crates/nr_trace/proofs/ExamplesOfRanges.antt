@@ -1,5 +1,5 @@
 -- The recording of `map_then_resolve` keeps all ranges, also with a second reply.
-use Rattle.std.proofs.Common.{◌≡◌, ℕ, ◌-◌, ◌<◌, ◌≤◌, ◌^◌, List, [], ◌∷◌, ◌++◌, length, map, replicate, All, refl, sym, subst, lit<, lit≤}
+use Rattle.std.proofs.Common.{◌≡◌, ℕ, ◌-◌, ◌<◌, ◌≤◌, ◌^◌, List, [], ◌∷◌, ◌++◌, length, map, replicate, All, refl, sym, subst, ◌∙◌, arith, lit<, lit≤}
 use Rattle.std.specs.FinMap as finite
 use Rattle.std.specs.List.{AllByRecursion}
 use Rattle.std.proofs.lemmas.List.Elements.{All-from_recursion, All-cons, All-append, All-replicate}
@@ -42,12 +42,13 @@ words_fit = subst (λ (es : List (ℕ × List ℕ)). All IsFrame (map (λ e. e.1
       (frame_fits 0 0x3007 refl (lit< tt), (frame_fits 2 0x4007 refl (lit< tt), (frame_fits 0 0x1007 refl (lit< tt), tt))),
     ))
 
-dump_fits : IsImage dump_of_page
+dump_fits : IsImage V1 dump_of_page
 dump_fits = record {
   applied = lit< tt;
   root = lit< tt;
   some_frame = subst (λ n. 1 ≤ n) (sym len_of_page) (lit≤ tt);
   few_frames = subst (λ n. n ≤ 4096) (sym len_of_page) (lit≤ tt);
+  nothing = λ none. let four = sym len_of_page ∙ none in absurd (omega arith);
   numbers = keys_fit;
   words = words_fit;
 }
@@ -81,16 +82,18 @@ in_range : (more : List Event) → length (map_then_resolve.events ++ more) ≤ 
 in_range more few fit = record {
   layout = layout_fits;
   depth = tt;
+  start = tt;
+  few_start = lit≤ tt;
   few_places = lit≤ tt;
   log = All-from_recursion (λ call. call < 2 ^ 32) map_then_resolve.log (lit< tt, tt);
   few_events = few;
   events = All-from_recursion (IsEvent V1 layout) (map_then_resolve.events ++ more) (first_events_fit more fit);
   one_dump_each = refl;
-  dumps = All-from_recursion IsImage map_then_resolve.dumps (dump_fits, tt);
+  dumps = All-from_recursion (IsImage V1) map_then_resolve.dumps (dump_fits, tt);
 }
 
 pub spelled : Spells (spelling map_then_resolve) map_then_resolve
-spelled = record { in_range = in_range [] (lit≤ tt) tt; spelled = refl }
+spelled = record { of_form = tt; follows = tt; in_range = in_range [] (lit≤ tt) tt; spelled = refl }
 
 pub spelled_again : Spells (spelling answered_again) answered_again
-spelled_again = record { in_range = in_range (Reply 2 1 NotMapped ∷ []) (lit≤ tt) ((lit< tt, lit< tt, tt, tt), tt); spelled = refl }
+spelled_again = record { of_form = tt; follows = tt; in_range = in_range (Reply 2 1 NotMapped ∷ []) (lit≤ tt) ((lit< tt, lit< tt, tt, tt), tt); spelled = refl }

@@ -1,88 +1,220 @@
 -- A feed that takes whole units one after the other.
-use Rattle.std.proofs.Common.{◌≡◌, ◌≢◌, ℕ, ◌<◌, ◌≤◌, List, [], ◌∷◌, ◌++◌, length, Option, Some, None, Ok, Err, refl, sym, ap, subst, ◌∙◌, append_assoc}
+use Rattle.std.proofs.Common.{◌≡◌, ◌≢◌, ℕ, ◌+◌, ◌<◌, ◌≤◌, List, [], ◌∷◌, ◌++◌, length, take, drop, Option, Some, None, Result, Ok, Err, refl, sym, ap, subst}
+use Rattle.std.proofs.Common.{◌∙◌, append_assoc, arith, length-append, length-drop}
+use Rattle.std.specs.Prelude.{IsNone, IsSome, MatchResult}
 use Rattle.std.proofs.Common.{Vec, Global}
-use Rattle.std.proofs.lemmas.List.{append-nil}
+use Rattle.std.proofs.lemmas.List.{append-nil, take_all, take_at, take-append-drop}
+use Rattle.std.proofs.Math.Seq.{take-length, take-append-add}
 use Rattle.vs_types.specs.Refusal.{IfRefused}
 use Rattle.vs_types.specs.declared.refusal.Fail.{Fail}
 use Rattle.vs_types.specs.declared.refusal.Fail.TheVariants as fails
-use Rattle.nr_trace.specs.FirstFault.{HasFormatFault}
-use Rattle.nr_trace.specs.Feed.{Fed, HasLastingFault, HasNoFaultYet, Feeds, Ends}
+use Rattle.nr_trace.specs.Recording.{Recording}
+use Rattle.nr_trace.specs.Spelling.{SpellsAs}
+use Rattle.nr_trace.specs.FirstFault.{HasFaultAs}
+use Rattle.nr_trace.specs.Feed.{Fed, LastsAs, IsFaultlessYet, Feeds, Ends}
 use Rattle.nr_trace.specs.Feed.Fed.{Taken}
-use Rattle.nr_trace.specs.inside.Progress.{unit_bytes, said, Ahead, HasRead, IsFault}
-use Rattle.nr_trace.specs.inside.Feeding.{IsSound, AreFewer, IsCut, HasCome, IsFeeding, fed}
+use Rattle.nr_trace.specs.inside.Progress.{form_of, unit_bytes, said, Ahead, HasRead, IsFault}
+use Rattle.nr_trace.specs.inside.Feeding.{IsSound, AreFewer, IsLeft, IsCut, HasCome, HasTaken, IsFeeding, fed}
 use Rattle.nr_trace.specs.declared.fault.Format.{Format}
 use Rattle.nr_trace.specs.declared.fault.Format.TheVariants.{Truncated, Trailing}
 use Rattle.nr_trace.specs.declared.reading.reader.Reader.{Reader}
+use Rattle.nr_trace.specs.declared.version.Form.{Form}
+use Rattle.nr_trace.specs.declared.version.Form.TheVariants as forms
 use Rattle.nr_trace.specs.declared.reading.feed.State.{State}
 use Rattle.nr_trace.specs.declared.reading.feed.State.TheVariants.{Open, Stopped}
 use Rattle.nr_trace.proofs.LawsOfFormat.{no_fault, one_fault}
 use Rattle.nr_trace.proofs.Whole.{too_short, too_long, some_bytes, ready_to_end}
 
--- of these bytes the reader has read what comes before the rest
-pub record IsBetween (bytes : List ℕ) (reader : Reader) (rest : List ℕ) : Type 0 where
+-- of a piece that comes after these bytes, which are to have this form, the reader has read what comes before the rest
+pub record IsBetween (form : Form) (bytes piece : List ℕ) (reader : Reader) (rest : List ℕ) : Type 0 where
+  pub form_is : form_of reader ≡ form
   pub sound : IsSound reader
-  pub parts : bytes ≡ said reader ++ rest
+  pub front : List ℕ
+  pub cut : piece ≡ front ++ rest
+  pub read : said reader ≡ bytes ++ front
 
-pub sound_from : (reader : Reader) → HasRead [] HasFormatFault reader → IsSound reader
-sound_from reader has = record {
+pub starts : (reader : Reader) (piece : List ℕ) → IsSound reader → IsBetween (form_of reader) (said reader) piece reader piece
+starts reader piece sound = record { form_is = refl; sound = sound; front = []; cut = refl; read = sym (append-nil (said reader)) }
+
+-- the bytes and the piece are what is read, and the rest
+joined : (bytes piece front rest whole : List ℕ) → piece ≡ front ++ rest → whole ≡ bytes ++ front → bytes ++ piece ≡ whole ++ rest
+joined bytes piece front rest whole cut read =
+    ap (λ (l : List ℕ). bytes ++ l) cut ∙ sym (append_assoc bytes front rest) ∙ ap (λ (l : List ℕ). l ++ rest) (sym read)
+
+pub sound_from : (form : Form) (reader : Reader) → HasRead form [] (HasFaultAs form) reader → IsSound reader
+sound_from form reader has = record {
   ready = has.ready;
-  faults = λ rest fault h. subst (λ (l : List ℕ). HasFormatFault (l ++ rest) fault) (sym has.bytes_are) (has.faults rest fault h);
+  faults = λ rest fault h. subst (λ (f : Form). HasFaultAs f (said reader ++ rest) fault) (sym has.form_is)
+      (subst (λ (l : List ℕ). HasFaultAs form (l ++ rest) fault) (sym has.bytes_are) (has.faults rest fault h));
 }
 
 pub sound_after : (reader next : Reader) (unit : List ℕ) → IsSound reader
-    → HasRead (said reader ++ unit) (λ more fault. Ahead reader (unit ++ more) fault) next → IsSound next
+    → HasRead (form_of reader) (said reader ++ unit) (λ more fault. Ahead reader (unit ++ more) fault) next → IsSound next
 sound_after reader next unit sound has = record {
   ready = has.ready;
-  faults = λ rest fault h. subst (λ (l : List ℕ). HasFormatFault l fault)
-      (sym (ap (λ (l : List ℕ). l ++ rest) has.bytes_are ∙ append_assoc (said reader) unit rest)) (sound.faults (unit ++ rest) fault (has.faults rest fault h));
+  faults = λ rest fault h. subst (λ (f : Form). HasFaultAs f (said next ++ rest) fault) (sym has.form_is)
+      (subst (λ (l : List ℕ). HasFaultAs (form_of reader) l fault)
+      (sym (ap (λ (l : List ℕ). l ++ rest) has.bytes_are ∙ append_assoc (said reader) unit rest)) (sound.faults (unit ++ rest) fault (has.faults rest fault h)));
 }
 
-pub goes : (bytes : List ℕ) (reader next : Reader) (rest unit behind : List ℕ) → IsBetween bytes reader rest → rest ≡ unit ++ behind
-    → HasRead (said reader ++ unit) (λ more fault. Ahead reader (unit ++ more) fault) next → IsBetween bytes next behind
-goes bytes reader next rest unit behind way cut has = record {
+pub goes : (form : Form) (bytes piece : List ℕ) (reader next : Reader) (rest unit behind : List ℕ) → IsBetween form bytes piece reader rest
+    → rest ≡ unit ++ behind → HasRead (form_of reader) (said reader ++ unit) (λ more fault. Ahead reader (unit ++ more) fault) next
+    → IsBetween form bytes piece next behind
+goes form bytes piece reader next rest unit behind way cut has = record {
+  form_is = has.form_is ∙ way.form_is;
   sound = sound_after reader next unit way.sound has;
-  parts = way.parts ∙ ap (λ (l : List ℕ). said reader ++ l) cut ∙ sym (append_assoc (said reader) unit behind)
-      ∙ ap (λ (l : List ℕ). l ++ behind) (sym has.bytes_are);
+  front = way.front ++ unit;
+  cut = way.cut ∙ ap (λ (l : List ℕ). way.front ++ l) cut ∙ sym (append_assoc way.front unit behind);
+  read = has.bytes_are ∙ ap (λ (l : List ℕ). l ++ unit) way.read ∙ append_assoc bytes way.front unit;
 }
 
 -- a fault ahead of the reader, whatever comes, is settled
-settled : (bytes : List ℕ) (reader : Reader) (rest : List ℕ) (fault : Format) → IsBetween bytes reader rest
-    → ((more : List ℕ) → Ahead reader (rest ++ more) fault) → HasLastingFault bytes fault
-settled bytes reader rest fault way h = λ more.
-    subst (λ (l : List ℕ). HasFormatFault l fault) (sym (ap (λ (l : List ℕ). l ++ more) way.parts ∙ append_assoc (said reader) rest more))
-    (way.sound.faults (rest ++ more) fault (h more))
+settled : (form : Form) (bytes piece : List ℕ) (reader : Reader) (rest : List ℕ) (fault : Format) → IsBetween form bytes piece reader rest
+    → ((more : List ℕ) → Ahead reader (rest ++ more) fault) → LastsAs form (bytes ++ piece) fault
+settled form bytes piece reader rest fault way h = λ more.
+    let parts : bytes ++ piece ≡ said reader ++ rest = joined bytes piece way.front rest (said reader) way.cut way.read in
+    subst (λ (f : Form). HasFaultAs f ((bytes ++ piece) ++ more) fault) way.form_is
+    (subst (λ (l : List ℕ). HasFaultAs (form_of reader) l fault) (sym (ap (λ (l : List ℕ). l ++ more) parts ∙ append_assoc (said reader) rest more))
+    (way.sound.faults (rest ++ more) fault (h more)))
 
-pub refuses : (bytes : List ℕ) (reader : Reader) (rest unit behind : List ℕ) (fail : Fail Format) → IsBetween bytes reader rest → rest ≡ unit ++ behind
-    → IsFault (λ more fault. Ahead reader (unit ++ more) fault) fail → IfRefused (HasLastingFault bytes) fail
-refuses bytes reader rest unit behind fails.Memory way cut h = tt
-refuses bytes reader rest unit behind (fails.Refused fault) way cut h =
-    settled bytes reader rest fault way
+pub refuses : (form : Form) (bytes piece : List ℕ) (reader : Reader) (rest unit behind : List ℕ) (fail : Fail Format) → IsBetween form bytes piece reader rest
+    → rest ≡ unit ++ behind → IsFault (λ more fault. Ahead reader (unit ++ more) fault) fail → IfRefused (LastsAs form (bytes ++ piece)) fail
+refuses form bytes piece reader rest unit behind fails.Memory way cut h = tt
+refuses form bytes piece reader rest unit behind (fails.Refused fault) way cut h =
+    settled form bytes piece reader rest fault way
     (λ more. subst (λ (l : List ℕ). Ahead reader l fault) (sym (ap (λ (l : List ℕ). l ++ more) cut ∙ append_assoc unit behind more)) (h (behind ++ more)))
 
 more_than_none : (rest more : List ℕ) → rest ≢ [] → rest ++ more ≢ []
 more_than_none [] more some = absurd (some refl)
 more_than_none (x ∷ xs) more some = λ e. cc
 
-pub trailing : (bytes : List ℕ) (reader : Reader) (rest : List ℕ) → IsBetween bytes reader rest → unit_bytes reader ≡ None → rest ≢ []
-    → HasLastingFault bytes Trailing
-trailing bytes reader rest way is some = settled bytes reader rest Trailing way (λ more. too_long reader (rest ++ more) is (more_than_none rest more some))
+pub trailing : (bytes piece : List ℕ) (reader : Reader) (rest : List ℕ) → IsBetween forms.Trace bytes piece reader rest → unit_bytes reader ≡ None
+    → rest ≢ [] → LastsAs forms.Trace (bytes ++ piece) Trailing
+trailing bytes piece reader rest way is some =
+    settled forms.Trace bytes piece reader rest Trailing way
+    (λ more. too_long reader (rest ++ more) way.sound.ready way.form_is is (more_than_none rest more some))
 
-pub cut_short : (bytes : List ℕ) (reader : Reader) (rest : List ℕ) (len : ℕ) → IsBetween bytes reader rest → unit_bytes reader ≡ Some len → length rest < len
-    → IsCut bytes reader rest
-cut_short bytes reader rest len way is short = record { sound = way.sound; parts = way.parts; fewer = subst (λ o. AreFewer o rest) (sym is) short }
+pub cut_short : (form : Form) (bytes piece : List ℕ) (reader : Reader) (rest : List ℕ) (len : ℕ) → IsBetween form bytes piece reader rest
+    → unit_bytes reader ≡ Some len → length rest < len → IsCut form bytes piece reader rest
+cut_short form bytes piece reader rest len way is short = record {
+  form_is = way.form_is;
+  sound = way.sound;
+  front = way.front;
+  cut = way.cut;
+  read = way.read;
+  left = subst (λ o. IsLeft o rest) (sym is) short;
+}
 
-pub cut_at_end : (bytes : List ℕ) (reader : Reader) (rest : List ℕ) → IsBetween bytes reader rest → unit_bytes reader ≡ None → rest ≡ []
-    → IsCut bytes reader rest
-cut_at_end bytes reader rest way is none = record { sound = way.sound; parts = way.parts; fewer = subst (λ o. AreFewer o rest) (sym is) none }
+pub cut_at_end : (form : Form) (bytes piece : List ℕ) (reader : Reader) (rest : List ℕ) → IsBetween form bytes piece reader rest → unit_bytes reader ≡ None
+    → IsCut form bytes piece reader rest
+cut_at_end form bytes piece reader rest way is = record {
+  form_is = way.form_is;
+  sound = way.sound;
+  front = way.front;
+  cut = way.cut;
+  read = way.read;
+  left = subst (λ o. IsLeft o rest) (sym is) tt;
+}
 
 -- ---- between two pieces
 
-pub come : (bytes : List ℕ) (reader : Reader) (rest : List ℕ) (begun : Vec ℕ Global) → IsCut bytes reader rest → begun.items ≡ rest
-    → HasCome bytes (Open reader begun)
-come bytes reader rest begun cut is = record {
-  feeding = (cut.sound, subst (λ (l : List ℕ). AreFewer (unit_bytes reader) l) (sym is) cut.fewer);
-  bytes_are = ap (λ (l : List ℕ). Taken (said reader ++ l)) is ∙ ap Taken (sym cut.parts);
+-- a unit is left, which has begun
+pub come : (form : Form) (bytes piece : List ℕ) (reader : Reader) (rest : List ℕ) (begun : Vec ℕ Global) (len : ℕ) → IsCut form bytes piece reader rest
+    → unit_bytes reader ≡ Some len → begun.items ≡ rest → HasCome form (bytes ++ piece) (Open reader begun)
+come form bytes piece reader rest begun len cut more is =
+    let short : length rest < len = subst (λ o. IsLeft o rest) more cut.left in
+    record {
+      feeding = (
+        cut.form_is,
+        cut.sound,
+        subst (λ (l : List ℕ). AreFewer (unit_bytes reader) l) (sym is) (subst (λ o. AreFewer o rest) (sym more) short),
+      );
+      bytes_are = ap (λ (l : List ℕ). Taken (said reader ++ l)) is ∙ ap Taken (sym (joined bytes piece cut.front rest (said reader) cut.cut cut.read));
+    }
+
+-- all bytes of the piece are taken
+pub taken_all : (form : Form) (bytes piece : List ℕ) (state : State) (count : ℕ) → count ≡ length piece → HasCome form (bytes ++ piece) state
+    → HasTaken form bytes piece state count
+taken_all form bytes piece state count all has = record {
+  within = omega (arith, all);
+  come = subst (λ (l : List ℕ). HasCome form (bytes ++ l) state) (sym (ap (λ (n : ℕ). take n piece) all ∙ take-length piece)) has;
+  at_end = λ less. absurd (omega (arith, less, all));
 }
+
+-- no unit is left
+pub taken_at_end : (form : Form) (bytes piece : List ℕ) (reader : Reader) (rest : List ℕ) (begun : Vec ℕ Global) (count : ℕ)
+    → IsCut form bytes piece reader rest → unit_bytes reader ≡ None → begun.items ≡ [] → count + length rest ≡ length piece
+    → HasTaken form bytes piece (Open reader begun) count
+taken_at_end form bytes piece reader rest begun count cut is none all =
+    let long : length cut.front ≡ count = omega (arith, all, ap length cut.cut, length-append cut.front rest) in
+    let front : take count piece ≡ cut.front = ap (take count) cut.cut ∙ take_at cut.front rest count long in
+    record {
+      within = omega (arith, all);
+      come = record {
+        feeding = (cut.form_is, cut.sound, subst (λ o. AreFewer o begun.items) (sym is) none);
+        bytes_are = ap (λ (l : List ℕ). Taken (said reader ++ l)) none
+            ∙ ap Taken (append-nil (said reader) ∙ cut.read ∙ ap (λ (l : List ℕ). bytes ++ l) (sym front));
+      };
+      at_end = λ _. is;
+    }
+
+taken_after : (form : Form) (bytes begun piece front behind unit : List ℕ) (reader : Reader) (state : State) (count : ℕ) → form_of reader ≡ form
+    → said reader ≡ bytes ++ unit → unit ≡ begun ++ front → piece ≡ front ++ behind → HasTaken (form_of reader) (said reader) behind state count
+    → HasTaken form (bytes ++ begun) piece state (length front + count)
+taken_after form bytes begun piece front behind unit reader state count form_is read is cut has =
+    let long : length piece ≡ length front + length behind = ap length cut ∙ length-append front behind in
+    let part : take (length front + count) piece ≡ front ++ take count behind =
+    ap (take (length front + count)) cut ∙ take-append-add front behind count in
+    let all : said reader ++ take count behind ≡ (bytes ++ begun) ++ take (length front + count) piece =
+    ap (λ (l : List ℕ). l ++ take count behind) (read ∙ ap (λ (l : List ℕ). bytes ++ l) is ∙ sym (append_assoc bytes begun front))
+    ∙ append_assoc (bytes ++ begun) front (take count behind) ∙ ap (λ (l : List ℕ). (bytes ++ begun) ++ l) (sym part) in
+    record {
+      within = omega (arith, long, has.within);
+      come = subst (λ (l : List ℕ). HasCome form l state) all (subst (λ (f : Form). HasCome f (said reader ++ take count behind) state) form_is has.come);
+      at_end = λ less. has.at_end (omega (arith, less, long));
+    }
+
+-- what is taken after the unit that a piece completes is taken of the piece
+pub taken_behind : (form : Form) (bytes begun piece front behind unit : List ℕ) (reader : Reader) (state : State) (missing count : ℕ)
+    → form_of reader ≡ form → said reader ≡ bytes ++ unit → unit ≡ begun ++ front → piece ≡ front ++ behind → length front ≡ missing
+    → HasTaken (form_of reader) (said reader) behind state count → HasTaken form (bytes ++ begun) piece state (missing + count)
+taken_behind form bytes begun piece front behind unit reader state missing count form_is read is cut so has =
+    subst (λ (n : ℕ). HasTaken form (bytes ++ begun) piece state (n + count)) so
+    (taken_after form bytes begun piece front behind unit reader state count form_is read is cut has)
+
+pub refused_behind : (form : Form) (bytes begun piece front behind unit : List ℕ) (reader : Reader) (fail : Fail Format) → form_of reader ≡ form
+    → said reader ≡ bytes ++ unit → unit ≡ begun ++ front → piece ≡ front ++ behind → IfRefused (LastsAs (form_of reader) (said reader ++ behind)) fail
+    → IfRefused (LastsAs form (bytes ++ begun ++ piece)) fail
+refused_behind form bytes begun piece front behind unit reader fail form_is read is cut why =
+    let all : said reader ++ behind ≡ bytes ++ begun ++ piece =
+    ap (λ (l : List ℕ). l ++ behind) (read ∙ ap (λ (l : List ℕ). bytes ++ l) is ∙ sym (append_assoc bytes begun front))
+    ∙ append_assoc (bytes ++ begun) front behind ∙ ap (λ (l : List ℕ). (bytes ++ begun) ++ l) (sym cut) in
+    subst (λ (l : List ℕ). IfRefused (LastsAs form l) fail) all
+    (subst (λ (f : Form). IfRefused (LastsAs f (said reader ++ behind)) fail) form_is why)
+
+-- of a trace all has to be taken
+pub all_taken : (form : Form) (bytes piece : List ℕ) (state : State) (count : ℕ) → HasTaken form bytes piece state count → length piece ≤ count
+    → HasCome form (bytes ++ piece) state
+all_taken form bytes piece state count has all = subst (λ (l : List ℕ). HasCome form (bytes ++ l) state) (take_all count piece all) has.come
+
+pub some_left : (bytes piece : List ℕ) (state : State) (count : ℕ) → HasTaken forms.Trace bytes piece state count → count < length piece
+    → LastsAs forms.Trace (bytes ++ piece) Trailing
+some_left bytes piece (Open reader begun) count has less =
+    let is = has.at_end less in
+    let feeding = has.come.feeding in
+    let nothing : begun.items ≡ [] = subst (λ o. AreFewer o begun.items) is feeding.2 in
+    let same : Taken (said reader ++ begun.items) ≡ Taken (bytes ++ take count piece) = has.come.bytes_are in
+    let read : said reader ++ begun.items ≡ bytes ++ take count piece = cc in
+    trailing bytes piece reader (drop count piece)
+    (record {
+      form_is = feeding.0;
+      sound = feeding.1;
+      front = take count piece;
+      cut = sym (take-append-drop count piece);
+      read = sym (append-nil (said reader)) ∙ ap (λ (l : List ℕ). said reader ++ l) (sym nothing) ∙ read;
+    })
+    is (λ none. omega (arith, less, ap length none, length-drop count piece))
+some_left bytes piece (Stopped fail) count has less = absurd (has.at_end less)
 
 none_fewer : (o : Option ℕ) → ((len : ℕ) → o ≡ Some len → 1 ≤ len) → AreFewer o []
 none_fewer None some = refl
@@ -92,38 +224,42 @@ pub nothing_begun : (reader : Reader) → AreFewer (unit_bytes reader) []
 nothing_begun reader = none_fewer (unit_bytes reader) (some_bytes reader)
 
 -- nothing is wrong with bytes of which all whole units are read, but that there may be too few
-fault_ahead : (o : Option ℕ) (reader : Reader) (rest : List ℕ) → unit_bytes reader ≡ o → IsSound reader → AreFewer o rest → HasNoFaultYet (said reader ++ rest)
+fault_ahead : (o : Option ℕ) (reader : Reader) (rest : List ℕ) → unit_bytes reader ≡ o → IsSound reader → AreFewer o rest
+    → IsFaultlessYet (form_of reader) (said reader ++ rest)
 fault_ahead None reader rest is sound none =
     λ fault h. let end = ready_to_end reader sound.ready is in
-    absurd (no_fault (said reader) end.0 fault end.1
-    (subst (λ (l : List ℕ). HasFormatFault l fault) (ap (λ (l : List ℕ). said reader ++ l) none ∙ append-nil (said reader)) h))
+    absurd (no_fault (form_of reader) (said reader) end.0 fault end.1
+    (subst (λ (l : List ℕ). HasFaultAs (form_of reader) l fault) (ap (λ (l : List ℕ). said reader ++ l) none ∙ append-nil (said reader)) h))
 fault_ahead (Some len) reader rest is sound short =
-    λ fault h. one_fault (said reader ++ rest) fault Truncated h (sound.faults rest Truncated (too_short reader len rest sound.ready is short))
+    λ fault h. one_fault (form_of reader) (said reader ++ rest) fault Truncated h (sound.faults rest Truncated (too_short reader len rest sound.ready is short))
 
-pub may_go_on : (reader : Reader) (rest : List ℕ) → IsSound reader → AreFewer (unit_bytes reader) rest → HasNoFaultYet (said reader ++ rest)
+pub may_go_on : (reader : Reader) (rest : List ℕ) → IsSound reader → AreFewer (unit_bytes reader) rest
+    → IsFaultlessYet (form_of reader) (said reader ++ rest)
 may_go_on reader rest sound fewer = fault_ahead (unit_bytes reader) reader rest refl sound fewer
-
--- ---- pieces
 
 -- the bytes that complete a unit
 pub unit_completed : (begun piece front behind unit : List ℕ) → piece ≡ front ++ behind → unit ≡ begun ++ front → begun ++ piece ≡ unit ++ behind
 unit_completed begun piece front behind unit cut is =
     ap (λ (l : List ℕ). begun ++ l) cut ∙ sym (append_assoc begun front behind) ∙ ap (λ (l : List ℕ). l ++ behind) (sym is)
 
-goes_on : (bytes : List ℕ) (state : State) → IsFeeding state → fed state ≡ Taken bytes → HasNoFaultYet bytes
-goes_on bytes (Open reader begun) feeding is =
+pub goes_on : (form : Form) (bytes : List ℕ) (state : State) → IsFeeding form state → fed state ≡ Taken bytes → IsFaultlessYet form bytes
+goes_on form bytes (Open reader begun) feeding is =
     let same : said reader ++ begun.items ≡ bytes = cc in
-    subst HasNoFaultYet same (may_go_on reader begun.items feeding.0 feeding.1)
-goes_on bytes (Stopped fail) feeding is = absurd cc
+    subst (λ (f : Form). IsFaultlessYet f bytes) feeding.0
+    (subst (IsFaultlessYet (form_of reader)) same (may_go_on reader begun.items feeding.1 feeding.2))
+goes_on form bytes (Stopped fail) feeding is = absurd cc
+
+-- ---- pieces of a trace
 
 pub piece_taken : (self : Fed) (old next : State) (reader : Reader) (begun : Vec ℕ Global) (piece : List ℕ) → fed old ≡ self → old ≡ Open reader begun
-    → HasCome (said reader ++ begun.items ++ piece) next → Feeds self piece (fed next) (Ok tt)
+    → HasCome forms.Trace (said reader ++ begun.items ++ piece) next → Feeds self piece (fed next) (Ok tt)
 piece_taken self old next reader begun piece view is has =
     subst (λ f. Feeds f piece (fed next) (Ok tt)) (ap fed (sym is) ∙ view)
-    (has.bytes_are, goes_on (said reader ++ begun.items ++ piece) next has.feeding has.bytes_are)
+    (has.bytes_are, goes_on forms.Trace (said reader ++ begun.items ++ piece) next has.feeding has.bytes_are)
 
 pub piece_refused : (self : Fed) (old : State) (reader : Reader) (begun : Vec ℕ Global) (piece : List ℕ) (fail : Fail Format) → fed old ≡ self
-    → old ≡ Open reader begun → IfRefused (HasLastingFault (said reader ++ begun.items ++ piece)) fail → Feeds self piece (fed (Stopped fail)) (Err fail)
+    → old ≡ Open reader begun → IfRefused (LastsAs forms.Trace (said reader ++ begun.items ++ piece)) fail
+    → Feeds self piece (fed (Stopped fail)) (Err fail)
 piece_refused self old reader begun piece fail view is why =
     subst (λ f. Feeds f piece (fed (Stopped fail)) (Err fail)) (ap fed (sym is) ∙ view) (refl, why)
 
@@ -136,10 +272,33 @@ still_refused self old piece fail view is = subst (λ f. Feeds f piece (fed (Sto
 pub fewer_than : (o : Option ℕ) (len : ℕ) (bytes : List ℕ) → o ≡ Some len → AreFewer o bytes → length bytes < len
 fewer_than o len bytes is fewer = subst (λ p. AreFewer p bytes) is fewer
 
-pub ends_short : (self : Fed) (state : State) (reader : Reader) (begun : Vec ℕ Global) (len : ℕ) → fed state ≡ self → IsFeeding state
-    → state ≡ Open reader begun
-    → unit_bytes reader ≡ Some len → Ends self (Err (fails.Refused Truncated))
-ends_short self state reader begun len view feeding is more =
-    let here : IsFeeding (Open reader begun) = subst IsFeeding is feeding in
-    let short = too_short reader len begun.items here.0.ready more (fewer_than (unit_bytes reader) len begun.items more here.1) in
-    subst (λ f. Ends f (Err (fails.Refused Truncated))) (ap fed (sym is) ∙ view) (refl, here.0.faults begun.items Truncated short)
+some_of : (o : Option ℕ) → IsSome o → (len : ℕ) × (o ≡ Some len)
+some_of None some = absurd cc
+some_of (Some len) some = (len, refl)
+
+none_of : (o : Option ℕ) → IsNone o → o ≡ None
+none_of None none = refl
+none_of (Some len) none = absurd cc
+
+-- what was read at the end
+abbrev pub IsEnded : Reader → Result Recording (Fail Format) → Type 0
+IsEnded reader result = MatchResult result (λ trace. IsNone (unit_bytes reader) × SpellsAs (form_of reader) (said reader) trace)
+    (λ fail. (fail ≡ fails.Refused Truncated) × IsSome (unit_bytes reader))
+
+pub ends_as : (form : Form) (reader : Reader) (begun : Vec ℕ Global) (result : Result Recording (Fail Format)) → IsFeeding form (Open reader begun)
+    → IsEnded reader result
+    → MatchResult result (SpellsAs form (said reader ++ begun.items))
+    (λ fail. (fail ≡ fails.Refused Truncated) × HasFaultAs form (said reader ++ begun.items) Truncated)
+ends_as form reader begun (Ok trace) feeding h =
+    let nothing : begun.items ≡ [] = subst (λ o. AreFewer o begun.items) (none_of (unit_bytes reader) h.0) feeding.2 in
+    subst (λ (f : Form). SpellsAs f (said reader ++ begun.items) trace) feeding.0
+    (subst (λ (l : List ℕ). SpellsAs (form_of reader) l trace) (sym (append-nil (said reader)) ∙ ap (λ (l : List ℕ). said reader ++ l) (sym nothing)) h.1)
+ends_as form reader begun (Err fail) feeding h =
+    let more = some_of (unit_bytes reader) h.1 in
+    let short = too_short reader more.0 begun.items feeding.1.ready more.1 (fewer_than (unit_bytes reader) more.0 begun.items more.1 feeding.2) in
+    (h.0, subst (λ (f : Form). HasFaultAs f (said reader ++ begun.items) Truncated) feeding.0 (feeding.1.faults begun.items Truncated short))
+
+pub ends : (self : Fed) (state : State) (reader : Reader) (begun : Vec ℕ Global) (result : Result Recording (Fail Format)) → fed state ≡ self
+    → IsFeeding forms.Trace state → state ≡ Open reader begun → IsEnded reader result → Ends self result
+ends self state reader begun result view feeding is h =
+    subst (λ f. Ends f result) (ap fed (sym is) ∙ view) (ends_as forms.Trace reader begun result (subst (IsFeeding forms.Trace) is feeding) h)

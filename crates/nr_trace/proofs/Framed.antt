@@ -7,7 +7,7 @@ use Rattle.std.proofs.lemmas.List.{get_or-map, flat_map_more, take_more, take_al
 use Rattle.vs_walk.specs.Dump.{Image, IsDump}
 use Rattle.vs_walk.specs.Memory.{Memory}
 use Rattle.vs_walk.proofs.Dumps.{find_at}
-use Rattle.nr_trace.specs.Spelling.{frame_number, frame_words, dump_head, head_of, dump}
+use Rattle.nr_trace.specs.Spelling.{frame_number, frame_words, dump_head, head_of, dump, frames}
 use Rattle.nr_trace.specs.declared.fields.DumpHead.{DumpHead}
 use Rattle.nr_trace.proofs.Written.{then}
 
@@ -60,17 +60,20 @@ frame_put image k number words old before new parts lt is found so_far put =
     ∙ ap (λ (es : List (ℕ × List ℕ)). old ++ flat_map frame es)
     (sym (take_more (finite.entries image.frames) k nothing (omega (arith, lt, finite.len-entries image.frames))))
 
-pub dump_put : (image : Image) (applied count root k : ℕ) (old head new : List ℕ) → count ≡ finite.len image.frames → applied ≡ image.applied
-    → root ≡ image.root → count ≤ k
-    → head ≡ old ++ dump_head (record { applied = applied; frames = count; root = root }) → new ≡ head ++ flat_map frame (take k (finite.entries image.frames))
+-- all frames
+pub frames_put : (image : Image) (count k : ℕ) (old new : List ℕ) → count ≡ finite.len image.frames → count ≤ k
+    → new ≡ old ++ flat_map frame (take k (finite.entries image.frames)) → new ≡ old ++ frames image
+frames_put image count k old new all past is_new =
+    is_new ∙ ap (λ (es : List (ℕ × List ℕ)). old ++ flat_map frame es)
+    (take_all k (finite.entries image.frames) (omega (arith, past, all, finite.len-entries image.frames)))
+
+pub dump_put : (image : Image) (applied count root : ℕ) (old head new : List ℕ) → count ≡ finite.len image.frames → applied ≡ image.applied
+    → root ≡ image.root → head ≡ old ++ dump_head (record { applied = applied; frames = count; root = root }) → new ≡ head ++ frames image
     → new ≡ old ++ dump image
-dump_put image applied count root k old head new all is_applied is_root past is_head is_new =
+dump_put image applied count root old head new all is_applied is_root is_head is_new =
     let same : record { applied = applied; frames = count; root = root } ≡ head_of image =
     λ i. record { applied = is_applied i; frames = all i; root = is_root i } in
-    then old (dump_head (head_of image)) head (flat_map frame (finite.entries image.frames)) new
-    (is_head ∙ ap (λ (head : DumpHead). old ++ dump_head head) same)
-    (is_new ∙ ap (λ (es : List (ℕ × List ℕ)). head ++ flat_map frame es)
-    (take_all k (finite.entries image.frames) (omega (arith, past, all, finite.len-entries image.frames))))
+    then old (dump_head (head_of image)) head (frames image) new (is_head ∙ ap (λ (head : DumpHead). old ++ dump_head head) same) is_new
 
 pub few_fit : (image : Image) (count : ℕ) → IsDump image → count ≡ finite.len image.frames → count ≤ 65535
 few_fit image count parts all = omega (arith, parts.few, all, finite.len-entries image.frames)

@@ -15,21 +15,32 @@ use Rattle.std.proofs.lemmas.List.Elements.{All-head, All-tail, All-push, All-ni
 use Rattle.vs_walk.specs.Memory.{Memory}
 use Rattle.vs_walk.specs.Dump.{Image, OpenImage}
 use Rattle.vs_types.specs.Frame.{IsFrame}
-use Rattle.nr_trace.specs.Recording.{IsImage}
-use Rattle.nr_trace.specs.Spelling.{dump_head, frame_number, frame_words}
+use Rattle.nr_trace.specs.Versions.{least_frames, most_frames, most_start}
+use Rattle.nr_trace.specs.Recording.{IsImage, IsStart, start_frames}
+use Rattle.nr_trace.specs.Spelling.{dump, dump_head, event, frame_number, frame_words, frames, log_word, start_units}
 use Rattle.nr_trace.specs.inside.Reading.{SpellsHead, HasWords}
 use Rattle.nr_trace.specs.declared.fields.DumpHead.{DumpHead}
-use Rattle.nr_trace.specs.FirstFault.{AtUnit, AtFrames, AtDumps, IsNext, IsDumpHead}
-use Rattle.nr_trace.specs.inside.Progress.{HasRead, AreInRange, IsOpened, IsReady, AreBelow, BehindDumps, AtWords, Ahead, said, whole_spelling, opened_spelling}
+use Rattle.nr_trace.specs.FirstFault.{AtUnit, AtFrames, AtDumps, AtLog, AtStart, IsNext, IsDumpHead}
+use Rattle.vs_types.specs.Config.{Layout}
+use Rattle.nr_trace.specs.inside.Progress.{HasRead, AreInRange, IsEmpty, IsOpened, IsOwner, IsReady, AreBelow, BehindDumps, BehindFrames, Belongs, AtWords, Ahead}
+use Rattle.nr_trace.specs.inside.Progress.{front_with, header_units, numbers_of, opened_spelling, own_fault, parts_spelling, said, whole_of, whole_spelling}
 use Rattle.nr_trace.specs.inside.Progress.{begun, opened_of, frame_begun, words_begun}
 use Rattle.nr_trace.specs.declared.fault.Format.{Format}
-use Rattle.nr_trace.specs.declared.fault.Format.TheVariants.{BadCount, BadFrame}
+use Rattle.nr_trace.specs.declared.fault.Format.TheVariants.{BadCount, BadFrame, BadStart}
 use Rattle.nr_trace.specs.declared.reading.reader.Parts.{Parts}
 use Rattle.nr_trace.specs.declared.reading.reader.Opened.{Opened}
 use Rattle.nr_trace.specs.declared.reading.reader.OpenFrame.{OpenFrame}
 use Rattle.nr_trace.specs.declared.reading.reader.Reader.{Reader}
-use Rattle.nr_trace.specs.declared.reading.reader.Reader.TheVariants.{Dumps, Frame, Words}
-use Rattle.nr_trace.proofs.Spelled.{spelling_of, more_dump}
+use Rattle.nr_trace.specs.declared.reading.reader.Reader.TheVariants.{Dumps, Frame, Root, Words}
+use Rattle.nr_trace.specs.declared.reading.reader.Owner.{Owner}
+use Rattle.nr_trace.specs.declared.reading.reader.Owner.TheVariants as owners
+use Rattle.nr_trace.specs.declared.event.Event.{Event}
+use Rattle.nr_trace.specs.declared.fields.Counts.{Counts}
+use Rattle.nr_trace.specs.declared.version.Version.{Version}
+use Rattle.nr_trace.specs.declared.version.Version.TheVariants.{V1, V2, Segment}
+use Rattle.vs_types.specs.declared.limits.TheConstants.{FRAMES}
+use Rattle.nr_trace.proofs.LawsOfUnits.{few_of, few_of_start}
+use Rattle.nr_trace.proofs.Spelled.{front_of, spelling_of, more_dump}
 use Rattle.nr_trace.proofs.Units.{refused, passed, goes_on}
 
 -- ---- memories that grow by a frame above all others
@@ -63,37 +74,38 @@ values_more memory k v above =
 
 -- ---- the number of a frame
 
-pub number_passed : (replica index frames : ℕ) (last : Option ℕ) (Behind : List ℕ → Format → Type 0) (number : ℕ) (unit rest : List ℕ) (fault : Format)
+pub number_passed : (own : ℕ → Format) (index frames : ℕ) (last : Option ℕ) (Behind : List ℕ → Format → Type 0) (number : ℕ) (unit rest : List ℕ) (fault : Format)
     → 1 ≤ frames → IsNext last number → unit ≡ frame_number number
-    → AtUnit 4096 None IsFrame frame_words (λ words. AtFrames replica (index + 1) (frames - 1) (Some number) Behind) rest fault
-    → AtFrames replica index frames last Behind (unit ++ rest) fault
+    → AtUnit 4096 None IsFrame frame_words (λ words. AtFrames own (index + 1) (frames - 1) (Some number) Behind) rest fault
+    → AtFrames own index frames last Behind (unit ++ rest) fault
 unfolding AtFrames
-number_passed replica index zero last Behind number unit rest fault some next is h = absurd (omega arith)
-number_passed replica index (suc frames) last Behind number unit rest fault some next is h =
+number_passed own index zero last Behind number unit rest fault some next is h = absurd (omega arith)
+number_passed own index (suc frames) last Behind number unit rest fault some next is h =
     let down : suc frames - 1 ≡ frames = omega arith in
-    passed 8 (Some (BadFrame replica index)) (IsNext last) frame_number
-    (λ n. AtUnit 4096 None IsFrame frame_words (λ words. AtFrames replica (index + 1) frames (Some n) Behind)) fault unit rest number next is
-    (subst (λ (n : ℕ). AtUnit 4096 None IsFrame frame_words (λ words. AtFrames replica (index + 1) n (Some number) Behind) rest fault) down h)
+    passed 8 (Some (own index)) (IsNext last) frame_number
+    (λ n. AtUnit 4096 None IsFrame frame_words (λ words. AtFrames own (index + 1) frames (Some n) Behind)) fault unit rest number next is
+    (subst (λ (n : ℕ). AtUnit 4096 None IsFrame frame_words (λ words. AtFrames own (index + 1) n (Some number) Behind) rest fault) down h)
 
-pub number_refused : (replica index frames : ℕ) (last : Option ℕ) (Behind : List ℕ → Format → Type 0) (unit rest : List ℕ) → 1 ≤ frames → length unit ≡ 8
+pub number_refused : (own : ℕ → Format) (index frames : ℕ) (last : Option ℕ) (Behind : List ℕ → Format → Type 0) (unit rest : List ℕ) → 1 ≤ frames → length unit ≡ 8
     → ((number : ℕ) → IsNext last number → unit ≢ frame_number number)
-    → AtFrames replica index frames last Behind (unit ++ rest) (BadFrame replica index)
+    → AtFrames own index frames last Behind (unit ++ rest) (own index)
 unfolding AtFrames
-number_refused replica index zero last Behind unit rest some whole none = absurd (omega arith)
-number_refused replica index (suc frames) last Behind unit rest some whole none =
-    refused 8 (Some (BadFrame replica index)) (IsNext last) frame_number
-    (λ n. AtUnit 4096 None IsFrame frame_words (λ words. AtFrames replica (index + 1) frames (Some n) Behind))
-    (BadFrame replica index) unit rest whole refl none
+number_refused own index zero last Behind unit rest some whole none = absurd (omega arith)
+number_refused own index (suc frames) last Behind unit rest some whole none =
+    refused 8 (Some (own index)) (IsNext last) frame_number
+    (λ n. AtUnit 4096 None IsFrame frame_words (λ words. AtFrames own (index + 1) frames (Some n) Behind))
+    (own index) unit rest whole refl none
 
 pub number_taken : (parts : Parts) (opened : Opened) (last : Option ℕ) (number : ℕ) (unit : List ℕ) → IsOpened parts opened
     → ((n : ℕ) → IsNext last n → AreBelow opened n) → IsNext last number → unit ≡ frame_number number
-    → HasRead (said (Frame parts opened last) ++ unit) (λ rest fault. Ahead (Frame parts opened last) (unit ++ rest) fault)
+    → HasRead parts.form (said (Frame parts opened last) ++ unit) (λ rest fault. Ahead (Frame parts opened last) (unit ++ rest) fault)
     (Words parts (begun opened number))
 number_taken parts opened last number unit is_opened below next is = record {
+  form_is = refl;
   ready = (is_opened, next.in_range, below number next, All-nil (λ word. word < 2 ^ 64), omega arith);
   bytes_are = append-nil (frame_begun parts (begun opened number)) ∙ ap (λ (l : List ℕ). said (Frame parts opened last) ++ l) (sym is);
-  faults = λ rest fault h. number_passed (length parts.dumps.items) (finite.len opened.dump.frames) opened.left last
-      (BehindDumps parts 1) number unit rest fault is_opened.some_left next is h;
+  faults = λ rest fault h. number_passed (own_fault parts opened.owner) (finite.len opened.dump.frames) opened.left last
+      (BehindFrames parts opened.owner) number unit rest fault is_opened.some_left next is h;
 }
 
 -- ---- the words of a frame
@@ -106,6 +118,7 @@ abbrev pub grown : OpenFrame → Opened
 grown frame = record {
   dump = record frame.dump.dump { frames = finite.insert frame.dump.dump.frames frame.dump.number frame.dump.coming };
   left = frame.left - 1;
+  owner = frame.owner;
 }
 
 frames_spelled : (memory : Memory) (number : ℕ) (words : List ℕ) → All (λ held. held < number) (finite.keys memory)
@@ -117,33 +130,45 @@ frames_spelled memory number words above =
     ∙ ap (λ (l : List ℕ). flat_map frame_bytes (finite.entries memory) ++ l) (flat_map-cons frame_bytes (number, words) []
     ∙ append-nil (frame_bytes (number, words)))
 
-grown_spelled : (frame : OpenFrame) → 1 ≤ frame.left → AreBelow (opened_of frame) frame.dump.number
-    → opened_spelling (grown frame) ≡ opened_spelling (opened_of frame) ++ frame_number frame.dump.number ++ words_begun frame
-grown_spelled frame some above =
+-- as many frames in all
+grown_count : (frame : OpenFrame) → 1 ≤ frame.left → AreBelow (opened_of frame) frame.dump.number
+    → finite.len (grown frame).dump.frames + (frame.left - 1) ≡ finite.len frame.dump.dump.frames + frame.left
+grown_count frame some above = omega (arith, some, len_more frame.dump.dump.frames frame.dump.number frame.dump.coming above)
+
+-- what comes before the frames says nothing of them, but how many there are
+same_front : (parts : Parts) (owner : Owner) (image : Image) (memory : Memory) (all : ℕ)
+    → front_with parts owner (record { applied = image.applied; root = image.root; frames = memory }) all ≡ front_with parts owner image all
+same_front parts (owners.Start places events) image memory all = refl
+same_front parts owners.Replica image memory all = refl
+
+grown_spelled : (parts : Parts) (frame : OpenFrame) → 1 ≤ frame.left → AreBelow (opened_of frame) frame.dump.number
+    → opened_spelling parts (grown frame) ≡ frame_begun parts frame ++ words_begun frame
+grown_spelled parts frame some above =
     let image = frame.dump.dump in
     let memory = image.frames in
     let number = frame.dump.number in
     let words = frame.dump.coming in
-    let count : finite.len (finite.insert memory number words) + (frame.left - 1) ≡ finite.len memory + frame.left =
-    omega (arith, len_more memory number words above) in
-    let head : ℕ → List ℕ = λ n. dump_head (record { applied = image.applied; frames = n; root = image.root }) in
+    let front : ℕ → List ℕ = front_with parts frame.owner image in
     let all = finite.len memory + frame.left in
-    ap (λ (n : ℕ). head n ++ flat_map frame_bytes (finite.entries (finite.insert memory number words))) count
-    ∙ ap (λ (l : List ℕ). head all ++ l) (frames_spelled memory number words above)
-    ∙ sym (append_assoc (head all) (flat_map frame_bytes (finite.entries memory)) (frame_number number ++ frame_words words))
-    ∙ sym (append_assoc (opened_spelling (opened_of frame)) (frame_number number) (frame_words words))
+    ap (λ (l : List ℕ). l ++ flat_map frame_bytes (finite.entries (finite.insert memory number words)))
+    (same_front parts frame.owner image (finite.insert memory number words) (finite.len (grown frame).dump.frames + (frame.left - 1)))
+    ∙ ap (λ (n : ℕ). front n ++ flat_map frame_bytes (finite.entries (finite.insert memory number words))) (grown_count frame some above)
+    ∙ ap (λ (l : List ℕ). front all ++ l) (frames_spelled memory number words above)
+    ∙ sym (append_assoc (front all) (flat_map frame_bytes (finite.entries memory)) (frame_number number ++ frame_words words))
+    ∙ sym (append_assoc (opened_spelling parts (opened_of frame)) (frame_number number) (frame_words words))
 
 -- the frame goes after the others, whatever the reader does then
 words_faults : (parts : Parts) (frame : OpenFrame) (rest : List ℕ) (fault : Format) → AreBelow (opened_of frame) frame.dump.number
     → IsFrame frame.dump.coming
-    → AtFrames (length parts.dumps.items) (finite.len (grown frame).dump.frames) (frame.left - 1) (Some frame.dump.number) (BehindDumps parts 1) rest fault
+    → AtFrames (own_fault parts frame.owner) (finite.len (grown frame).dump.frames) (frame.left - 1) (Some frame.dump.number)
+    (BehindFrames parts frame.owner) rest fault
     → AtWords parts frame (words_begun frame ++ rest) fault
 words_faults parts frame rest fault above are h =
     let memory = frame.dump.dump.frames in
     passed 4096 None IsFrame frame_words
-    (λ _. AtFrames (length parts.dumps.items) (finite.len memory + 1) (frame.left - 1) (Some frame.dump.number) (BehindDumps parts 1)) fault
+    (λ _. AtFrames (own_fault parts frame.owner) (finite.len memory + 1) (frame.left - 1) (Some frame.dump.number) (BehindFrames parts frame.owner)) fault
     (words_begun frame) rest frame.dump.coming are refl
-    (subst (λ (n : ℕ). AtFrames (length parts.dumps.items) n (frame.left - 1) (Some frame.dump.number) (BehindDumps parts 1) rest fault)
+    (subst (λ (n : ℕ). AtFrames (own_fault parts frame.owner) n (frame.left - 1) (Some frame.dump.number) (BehindFrames parts frame.owner) rest fault)
     (len_more memory frame.dump.number frame.dump.coming above) h)
 
 grown_numbers : (frame : OpenFrame) → All (λ n. n < 2 ^ 40) (finite.keys frame.dump.dump.frames) → frame.dump.number < 2 ^ 40
@@ -169,24 +194,17 @@ grown_below frame above next is_next =
     (All-push (λ held. held < next) (finite.keys memory) number (λ k d within. let one = above k d within in
     omega (arith, one, is_next.rises)) is_next.rises)
 
-at_front : (parts : Parts) (frame : OpenFrame)
-    → whole_spelling parts ++ (opened_spelling (opened_of frame) ++ frame_number frame.dump.number ++ words_begun frame)
-    ≡ frame_begun parts frame ++ words_begun frame
-at_front parts frame =
-    sym (append_assoc (whole_spelling parts) (opened_spelling (opened_of frame) ++ frame_number frame.dump.number) (words_begun frame))
-    ∙ ap (λ (l : List ℕ). l ++ words_begun frame)
-    (sym (append_assoc (whole_spelling parts) (opened_spelling (opened_of frame)) (frame_number frame.dump.number)))
-
 -- a frame is left
 pub frame_taken : (parts : Parts) (frame : OpenFrame) → IsOpened parts (opened_of frame) → frame.dump.number < 2 ^ 40
     → AreBelow (opened_of frame) frame.dump.number → IsFrame frame.dump.coming → 1 ≤ frame.left - 1
-    → HasRead (frame_begun parts frame ++ words_begun frame) (λ rest fault. AtWords parts frame (words_begun frame ++ rest) fault)
+    → HasRead parts.form (frame_begun parts frame ++ words_begun frame) (λ rest fault. AtWords parts frame (words_begun frame ++ rest) fault)
     (Frame parts (grown frame) (Some frame.dump.number))
 frame_taken parts frame is_opened fits above are more = record {
+  form_is = refl;
   ready = (
     record {
       in_range = is_opened.in_range;
-      more_dumps = is_opened.more_dumps;
+      owner = subst (IsOwner parts frame.owner frame.dump.dump.applied) (sym (grown_count frame is_opened.some_left above)) is_opened.owner;
       applied = is_opened.applied;
       root = is_opened.root;
       numbers = grown_numbers frame is_opened.numbers fits above;
@@ -196,68 +214,166 @@ frame_taken parts frame is_opened fits above are more = record {
     },
     grown_below frame above,
   );
-  bytes_are = ap (λ (l : List ℕ). whole_spelling parts ++ l) (grown_spelled frame is_opened.some_left above) ∙ at_front parts frame;
+  bytes_are = grown_spelled parts frame is_opened.some_left above;
   faults = λ rest fault h. words_faults parts frame rest fault above are h;
 }
 
-no_frame : (replica index frames : ℕ) (last : Option ℕ) (Behind : List ℕ → Format → Type 0) (rest : List ℕ) (fault : Format) → frames ≡ 0 → Behind rest fault
-    → AtFrames replica index frames last Behind rest fault
+no_frame : (own : ℕ → Format) (index frames : ℕ) (last : Option ℕ) (Behind : List ℕ → Format → Type 0) (rest : List ℕ) (fault : Format)
+    → frames ≡ 0 → Behind rest fault → AtFrames own index frames last Behind rest fault
 unfolding AtFrames
-no_frame replica index frames last Behind rest fault none h = subst (λ (n : ℕ). AtFrames replica index n last Behind rest fault) (sym none) h
+no_frame own index frames last Behind rest fault none h = subst (λ (n : ℕ). AtFrames own index n last Behind rest fault) (sym none) h
 
-grown_is_image : (parts : Parts) (frame : OpenFrame) → IsOpened parts (opened_of frame) → frame.dump.number < 2 ^ 40
-    → AreBelow (opened_of frame) frame.dump.number → IsFrame frame.dump.coming → IsImage (grown frame).dump
-grown_is_image parts frame is_opened fits above are =
-    let count = len_more frame.dump.dump.frames frame.dump.number frame.dump.coming above in
-    record {
-      applied = is_opened.applied;
-      root = is_opened.root;
-      some_frame = omega (arith, count);
-      few_frames = omega (arith, count, is_opened.few_frames, is_opened.some_left);
-      numbers = grown_numbers frame is_opened.numbers fits above;
-      words = grown_words frame is_opened.words are above;
-    }
+least_one : (version : Version) → least_frames version ≤ 1
+least_one V1 = omega arith
+least_one V2 = omega arith
+least_one Segment = omega arith
 
--- no frame is left, and the dump goes after the others
-pub dump_taken : (parts : Parts) (held : Vec Image) (frame : OpenFrame) → IsOpened parts (opened_of frame) → frame.dump.number < 2 ^ 40
-    → AreBelow (opened_of frame) frame.dump.number → IsFrame frame.dump.coming → frame.left - 1 ≡ 0
-    → held.items ≡ parts.dumps.items ++ (grown frame).dump ∷ []
-    → HasRead (frame_begun parts frame ++ words_begun frame) (λ rest fault. AtWords parts frame (words_begun frame ++ rest) fault)
-    (Dumps (record parts { dumps = held }))
-dump_taken parts held frame is_opened fits above are none one_more =
-    let image = (grown frame).dump in
-    let count : length held.items ≡ length parts.dumps.items + 1 = ap length one_more ∙ length-append parts.dumps.items (image ∷ []) in
-    let front = whole_spelling parts in
-    record {
+-- a dump of which no frame is left is whole
+module _ (parts : Parts) (frame : OpenFrame) (is_opened : IsOpened parts (opened_of frame)) (fits : frame.dump.number < 2 ^ 40)
+    (above : AreBelow (opened_of frame) frame.dump.number) (are : IsFrame frame.dump.coming) (none : frame.left - 1 ≡ 0) where
+  grown_is_image : (version : Version) → finite.len frame.dump.dump.frames + frame.left ≤ most_frames version → IsImage version (grown frame).dump
+  grown_is_image version few =
+      let count = len_more frame.dump.dump.frames frame.dump.number frame.dump.coming above in
+      let least = least_one version in
+      record {
+        applied = is_opened.applied;
+        root = is_opened.root;
+        some_frame = omega (arith, count, least);
+        few_frames = omega (arith, count, few, is_opened.some_left);
+        nothing = λ empty. absurd (omega (arith, count, empty));
+        numbers = grown_numbers frame is_opened.numbers fits above;
+        words = grown_words frame is_opened.words are above;
+      }
+
+  belongs_to : (owner : Owner) → IsOwner parts owner frame.dump.dump.applied (finite.len frame.dump.dump.frames + frame.left)
+      → Belongs parts owner (grown frame).dump
+  belongs_to (owners.Start places events) is =
+      let count = len_more frame.dump.dump.frames frame.dump.number frame.dump.coming above in (
+        is.0,
+        is.1,
+        is.2,
+        record { image = grown_is_image Segment is_opened.few_frames; some_frame = omega (arith, count); applied = is.3 },
+        omega (arith, count, is.4, is_opened.some_left),
+      )
+  belongs_to owners.Replica is = (is.0, grown_is_image parts.version is.1)
+
+  pub grown_belongs : Belongs parts frame.owner (grown frame).dump
+  grown_belongs = belongs_to frame.owner is_opened.owner
+
+  -- the frame was the last one
+  pub dump_taken : (reader : Reader) → HasRead parts.form (opened_spelling parts (whole_of frame.owner (grown frame).dump)) (BehindFrames parts frame.owner) reader
+      → HasRead parts.form (frame_begun parts frame ++ words_begun frame) (λ rest fault. AtWords parts frame (words_begun frame ++ rest) fault) reader
+  dump_taken reader has =
+      let image = (grown frame).dump in
+      goes_on parts.form reader _ _ _ _ has
+      (ap (λ (n : ℕ). front_with parts frame.owner image (finite.len image.frames + n) ++ flat_map frame_bytes (finite.entries image.frames)) (sym none)
+      ∙ grown_spelled parts frame is_opened.some_left above)
+      (λ rest fault h. words_faults parts frame rest fault above are
+      (no_frame (own_fault parts frame.owner) (finite.len image.frames) (frame.left - 1) (Some frame.dump.number) (BehindFrames parts frame.owner)
+      rest fault none h))
+
+-- a dump goes after the others
+pub dump_put : (parts next : Parts) (held : Vec Image) (dump : Image) → next ≡ record parts { dumps = held }
+    → held.items ≡ parts.dumps.items ++ dump ∷ [] → AreInRange parts → length parts.dumps.items < parts.layout.replicas → IsImage parts.version dump
+    → HasRead parts.form (opened_spelling parts (whole_of owners.Replica dump)) (BehindDumps parts 1) (Dumps next)
+dump_put parts next held dump is one_more in_range one_left image =
+    let count : length held.items ≡ length parts.dumps.items + 1 = ap length one_more ∙ length-append parts.dumps.items (dump ∷ []) in
+    let front = front_of parts (length parts.log.items) (length parts.events.items) in
+    let whole = whole_spelling parts in
+    let made : HasRead parts.form (opened_spelling parts (whole_of owners.Replica dump)) (BehindDumps parts 1) (Dumps (record parts { dumps = held })) = record {
+      form_is = refl;
       ready = record {
-        layout = is_opened.in_range.layout;
-        depth = is_opened.in_range.depth;
-        few_places = is_opened.in_range.few_places;
-        log = is_opened.in_range.log;
-        few_events = is_opened.in_range.few_events;
-        events = is_opened.in_range.events;
-        few_dumps = omega (arith, count, is_opened.more_dumps);
-        dumps = subst (All IsImage) (sym one_more)
-            (All-push IsImage parts.dumps.items image is_opened.in_range.dumps (grown_is_image parts frame is_opened fits above are));
+        of_form = in_range.of_form;
+        follows = in_range.follows;
+        layout = in_range.layout;
+        depth = in_range.depth;
+        start = in_range.start;
+        few_start = in_range.few_start;
+        few_places = in_range.few_places;
+        log = in_range.log;
+        few_events = in_range.few_events;
+        events = in_range.events;
+        few_dumps = omega (arith, count, one_left);
+        dumps = subst (All (IsImage parts.version)) (sym one_more) (All-push (IsImage parts.version) parts.dumps.items dump in_range.dumps image);
       };
-      bytes_are = ap (spelling_of parts.version parts.config (length parts.log.items) (length parts.events.items) parts.log.items parts.events.items) one_more
-          ∙ more_dump parts.version parts.config (length parts.log.items) (length parts.events.items) parts.log.items parts.events.items parts.dumps.items image
-          ∙ ap (λ (n : ℕ). front ++ (dump_head (record { applied = image.applied; frames = n; root = image.root }) ++ flat_map frame_bytes
-          (finite.entries image.frames))) (let all : finite.len image.frames ≡ finite.len image.frames + (frame.left - 1) = omega (arith, none) in all)
-          ∙ ap (λ (l : List ℕ). front ++ l) (grown_spelled frame is_opened.some_left above)
-          ∙ at_front parts frame;
+      bytes_are = ap (spelling_of front parts.log.items parts.events.items) one_more
+          ∙ more_dump front parts.log.items parts.events.items parts.dumps.items dump
+          ∙ ap (λ (n : ℕ). whole ++ (dump_head (record { applied = dump.applied; frames = n; root = dump.root }) ++ frames dump))
+          (let all : finite.len dump.frames ≡ finite.len dump.frames + 0 = omega arith in all)
+          ∙ sym (append_assoc whole (dump_head (record { applied = dump.applied; frames = finite.len dump.frames + 0; root = dump.root })) (frames dump));
       faults = λ rest fault h.
           let place : length held.items + 0 ≡ length parts.dumps.items + 1 = omega (arith, count) in
-          words_faults parts frame rest fault above are
-          (no_frame (length parts.dumps.items) (finite.len image.frames) (frame.left - 1) (Some frame.dump.number) (BehindDumps parts 1) rest fault none
-          (subst (λ (n : ℕ). AtDumps n (parts.config.replicas - n) rest fault) place h));
-    }
+          subst (λ (n : ℕ). AtDumps parts.version n (parts.layout.replicas - n) rest fault) place h;
+    } in
+    subst (λ (p : Parts). HasRead parts.form (opened_spelling parts (whole_of owners.Replica dump)) (BehindDumps parts 1) (Dumps p)) (sym is) made
+
+-- the parts with their start are in range
+pub started_in_range : (parts : Parts) (start : Image) → AreInRange parts → IsStart start → finite.len start.frames ≤ most_start parts.version
+    → AreInRange (record parts { start = Some start })
+started_in_range parts start in_range is few = record {
+  of_form = in_range.of_form;
+  follows = in_range.follows;
+  layout = in_range.layout;
+  depth = in_range.depth;
+  start = is;
+  few_start = few;
+  few_places = in_range.few_places;
+  log = in_range.log;
+  few_events = in_range.few_events;
+  events = in_range.events;
+  few_dumps = in_range.few_dumps;
+  dumps = in_range.dumps;
+}
+
+-- nothing has come behind a start
+nothing_behind : (front : List ℕ) (log : List ℕ) (recorded : List Event) (dumps : List Image) → log ≡ [] → recorded ≡ [] → dumps ≡ []
+    → spelling_of front log recorded dumps ≡ front
+nothing_behind front log recorded dumps no_log no_events no_dumps =
+    ap (λ (l : List ℕ). front ++ flat_map log_word l ++ flat_map event recorded ++ flat_map dump dumps) no_log
+    ∙ ap (λ (es : List Event). front ++ [] ++ flat_map event es ++ flat_map dump dumps) no_events
+    ∙ ap (λ (ds : List Image). front ++ [] ++ [] ++ flat_map dump ds) no_dumps
+    ∙ append-nil (front ++ [] ++ []) ∙ append-nil (front ++ []) ∙ append-nil front
+
+pub start_put : (parts : Parts) (start : Image) (places events : ℕ) (reader : Reader) → IsEmpty parts
+    → HasRead parts.form (parts_spelling (length parts.log.items + places) events (record parts { start = Some start }))
+    (AtLog parts.version parts.layout places events) reader
+    → HasRead parts.form (opened_spelling parts (whole_of (owners.Start places events) start)) (AtLog parts.version parts.layout places events) reader
+start_put parts start places events reader empty has =
+    let next : Parts = record parts { start = Some start } in
+    let numbers : ℕ → ℕ → Counts = λ all n. numbers_of all n events parts in
+    let none : length parts.log.items + places ≡ places = omega (arith, ap length empty.no_log) in
+    let all : finite.len start.frames ≡ finite.len start.frames + 0 = omega arith in
+    goes_on parts.form reader _ _ _ _ has
+    (nothing_behind (front_of next (length parts.log.items + places) events) parts.log.items parts.events.items parts.dumps.items
+    empty.no_log empty.no_events empty.no_dumps
+    ∙ ap (λ (n : ℕ). header_units (numbers (finite.len start.frames) n) parts ++ (frame_number start.root ++ frames start)) none
+    ∙ ap (λ (n : ℕ). header_units (numbers n places) parts ++ (frame_number start.root ++ frames start)) all
+    ∙ sym (append_assoc (header_units (numbers (finite.len start.frames + 0) places) parts) (frame_number start.root) (frames start)))
+    (λ rest fault h. h)
+
+-- a start without frames is none
+pub no_start : (parts : Parts) (numbers : Counts) (reader : Reader) → IsEmpty parts → numbers.layout ≡ parts.layout → numbers.start ≡ 0
+    → HasRead parts.form (parts_spelling (length parts.log.items + numbers.places) numbers.events parts)
+    (AtLog parts.version parts.layout numbers.places numbers.events) reader
+    → HasRead parts.form (header_units numbers parts) (AtStart numbers.start (AtLog parts.version parts.layout numbers.places numbers.events)) reader
+no_start parts numbers reader empty layout none has =
+    let places = length parts.log.items + numbers.places in
+    let all : places ≡ numbers.places = omega (arith, ap length empty.no_log) in
+    let Behind : List ℕ → Format → Type 0 = AtLog parts.version parts.layout numbers.places numbers.events in
+    goes_on parts.form reader _ _ _ _ has
+    (nothing_behind (front_of parts places numbers.events) parts.log.items parts.events.items parts.dumps.items empty.no_log empty.no_events empty.no_dumps
+    ∙ ap (λ (s : Option Image). header_units (numbers_of (start_frames s) places numbers.events parts) parts ++ start_units s) empty.no_start
+    ∙ append-nil (header_units (numbers_of 0 places numbers.events parts) parts)
+    ∙ ap (λ (n : ℕ). header_units (numbers_of 0 n numbers.events parts) parts) all
+    ∙ ap (λ (n : ℕ). header_units (numbers_of n numbers.places numbers.events parts) parts) (sym none)
+    ∙ ap (λ (l : Layout). header_units (record { layout = l; places = numbers.places; events = numbers.events; start = numbers.start }) parts) (sym layout))
+    (λ rest fault h. subst (λ (n : ℕ). AtStart n Behind rest fault) (sym none) h)
 
 -- ---- some words of a frame
 
 -- the frame with the words of a run after those that had come
 abbrev pub filled : OpenFrame → OpenImage → OpenFrame
-filled frame dump = record { dump = record { dump = frame.dump.dump; number = frame.dump.number; coming = dump.coming }; left = frame.left }
+filled frame dump = record { dump = record { dump = frame.dump.dump; number = frame.dump.number; coming = dump.coming }; left = frame.left; owner = frame.owner }
 
 -- what is ahead of some words is ahead of the frame that they go into
 run_faults : (parts : Parts) (frame : OpenFrame) (dump : OpenImage) (run rest : List ℕ) (fault : Format) → HasWords frame.dump run dump
@@ -274,56 +390,57 @@ run_said parts frame dump run has =
 
 -- words are left
 pub run_taken : (parts : Parts) (frame next : OpenFrame) (run : List ℕ) → IsReady (Words parts frame) → HasWords frame.dump run next.dump
-    → next.left ≡ frame.left → length next.dump.coming < 512
-    → HasRead (said (Words parts frame) ++ run) (λ rest fault. Ahead (Words parts frame) (run ++ rest) fault) (Words parts next)
-run_taken parts frame next run ready has same few =
-    let made : HasRead (said (Words parts frame) ++ run) (λ rest fault. Ahead (Words parts frame) (run ++ rest) fault) (Words parts (filled frame next.dump)) =
+    → next.left ≡ frame.left → next.owner ≡ frame.owner → length next.dump.coming < 512
+    → HasRead parts.form (said (Words parts frame) ++ run) (λ rest fault. Ahead (Words parts frame) (run ++ rest) fault) (Words parts next)
+run_taken parts frame next run ready has same own few =
+    let made : HasRead parts.form (said (Words parts frame) ++ run) (λ rest fault. Ahead (Words parts frame) (run ++ rest) fault) (Words parts (filled frame next.dump)) =
     record {
+      form_is = refl;
       ready = (ready.0, ready.1, ready.2, has.fit ready.3, few);
       bytes_are = run_said parts frame next.dump run has;
       faults = λ rest fault h. run_faults parts frame next.dump run rest fault has h;
     } in
-    subst (λ (f : OpenFrame). HasRead (said (Words parts frame) ++ run) (λ rest fault. Ahead (Words parts frame) (run ++ rest) fault) (Words parts f))
-    (λ i. record { dump = (sym has.same) i; left = (sym same) i }) made
+    subst (λ (f : OpenFrame). HasRead parts.form (said (Words parts frame) ++ run) (λ rest fault. Ahead (Words parts frame) (run ++ rest) fault) (Words parts f))
+    (λ i. record { dump = (sym has.same) i; left = (sym same) i; owner = (sym own) i }) made
 
 -- no word is left
 pub words_taken : (parts : Parts) (frame next : OpenFrame) (run : List ℕ) (reader : Reader) → HasWords frame.dump run next.dump → next.left ≡ frame.left
-    → HasRead (frame_begun parts next ++ words_begun next) (λ rest fault. AtWords parts next (words_begun next ++ rest) fault) reader
-    → HasRead (said (Words parts frame) ++ run) (λ rest fault. Ahead (Words parts frame) (run ++ rest) fault) reader
-words_taken parts frame next run reader has same read =
-    let is : next ≡ filled frame next.dump = λ i. record { dump = has.same i; left = same i } in
-    let read_so : HasRead (frame_begun parts frame ++ words_begun (filled frame next.dump))
+    → next.owner ≡ frame.owner → HasRead parts.form (frame_begun parts next ++ words_begun next) (λ rest fault. AtWords parts next (words_begun next ++ rest) fault) reader
+    → HasRead parts.form (said (Words parts frame) ++ run) (λ rest fault. Ahead (Words parts frame) (run ++ rest) fault) reader
+words_taken parts frame next run reader has same own read =
+    let is : next ≡ filled frame next.dump = λ i. record { dump = has.same i; left = same i; owner = own i } in
+    let read_so : HasRead parts.form (frame_begun parts frame ++ words_begun (filled frame next.dump))
     (λ rest fault. AtWords parts (filled frame next.dump) (words_begun (filled frame next.dump) ++ rest) fault) reader =
-    subst (λ (f : OpenFrame). HasRead (frame_begun parts f ++ words_begun f) (λ rest fault. AtWords parts f (words_begun f ++ rest) fault) reader) is read in
-    goes_on reader _ _ _ _ read_so (run_said parts frame next.dump run has)
+    subst (λ (f : OpenFrame). HasRead parts.form (frame_begun parts f ++ words_begun f) (λ rest fault. AtWords parts f (words_begun f ++ rest) fault) reader) is read in
+    goes_on parts.form reader _ _ _ _ read_so (run_said parts frame next.dump run has)
     (λ rest fault h. run_faults parts frame next.dump run rest fault has h)
 
 -- ---- the head of a dump
 
-dump_passed : (replica dumps index behind left : ℕ) (head : DumpHead) (unit rest : List ℕ) (fault : Format) → index ≡ 0 → behind ≡ replica + 1
-    → left + 1 ≡ dumps → IsDumpHead head → unit ≡ dump_head head
-    → AtFrames replica index head.frames None (AtDumps behind left) rest fault → AtDumps replica dumps (unit ++ rest) fault
+dump_passed : (version : Version) (replica dumps index behind left : ℕ) (head : DumpHead) (unit rest : List ℕ) (fault : Format) → index ≡ 0 → behind ≡ replica + 1
+    → left + 1 ≡ dumps → IsDumpHead version head → unit ≡ dump_head head
+    → AtFrames (BadFrame replica) index head.frames None (AtDumps version behind left) rest fault → AtDumps version replica dumps (unit ++ rest) fault
 unfolding AtDumps
-dump_passed replica zero index behind left head unit rest fault first next one_less fits is h = absurd (omega arith)
-dump_passed replica (suc dumps) index behind left head unit rest fault first next one_less fits is h =
+dump_passed version replica zero index behind left head unit rest fault first next one_less fits is h = absurd (omega arith)
+dump_passed version replica (suc dumps) index behind left head unit rest fault first next one_less fits is h =
     let same : left ≡ dumps = omega arith in
-    passed 16 (Some BadCount) IsDumpHead dump_head (λ head. AtFrames replica 0 head.frames None (AtDumps (replica + 1) dumps)) fault unit rest head fits is
-    (subst (λ (n : ℕ). AtFrames replica 0 head.frames None (AtDumps (replica + 1) n) rest fault) same
-    (subst (λ (n : ℕ). AtFrames replica 0 head.frames None (AtDumps n left) rest fault) next
-    (subst (λ (n : ℕ). AtFrames replica n head.frames None (AtDumps behind left) rest fault) first h)))
+    passed 16 (Some BadCount) (IsDumpHead version) dump_head (λ head. AtFrames (BadFrame replica) 0 head.frames None (AtDumps version (replica + 1) dumps)) fault unit rest head fits is
+    (subst (λ (n : ℕ). AtFrames (BadFrame replica) 0 head.frames None (AtDumps version (replica + 1) n) rest fault) same
+    (subst (λ (n : ℕ). AtFrames (BadFrame replica) 0 head.frames None (AtDumps version n left) rest fault) next
+    (subst (λ (n : ℕ). AtFrames (BadFrame replica) n head.frames None (AtDumps version behind left) rest fault) first h)))
 
-dump_refused : (replica dumps : ℕ) (unit rest : List ℕ) → 1 ≤ dumps → length unit ≡ 16 → ((head : DumpHead) → IsDumpHead head → unit ≢ dump_head head)
-    → AtDumps replica dumps (unit ++ rest) BadCount
+dump_refused : (version : Version) (replica dumps : ℕ) (unit rest : List ℕ) → 1 ≤ dumps → length unit ≡ 16
+    → ((head : DumpHead) → IsDumpHead version head → unit ≢ dump_head head) → AtDumps version replica dumps (unit ++ rest) BadCount
 unfolding AtDumps
-dump_refused replica zero unit rest some whole none = absurd (omega arith)
-dump_refused replica (suc dumps) unit rest some whole none =
-    refused 16 (Some BadCount) IsDumpHead dump_head
-    (λ head. AtFrames replica 0 head.frames None (AtDumps (replica + 1) dumps)) BadCount unit rest whole refl none
+dump_refused version replica zero unit rest some whole none = absurd (omega arith)
+dump_refused version replica (suc dumps) unit rest some whole none =
+    refused 16 (Some BadCount) (IsDumpHead version) dump_head
+    (λ head. AtFrames (BadFrame replica) 0 head.frames None (AtDumps version (replica + 1) dumps)) BadCount unit rest whole refl none
 
-pub head_refused : (parts : Parts) (unit rest : List ℕ) → length parts.dumps.items < parts.config.replicas → length unit ≡ 16
-    → ((head : DumpHead) → SpellsHead unit head → ⊥) → Ahead (Dumps parts) (unit ++ rest) BadCount
+pub head_refused : (parts : Parts) (unit rest : List ℕ) → length parts.dumps.items < parts.layout.replicas → length unit ≡ 16
+    → ((head : DumpHead) → SpellsHead parts.version unit head → ⊥) → Ahead (Dumps parts) (unit ++ rest) BadCount
 head_refused parts unit rest one_left whole none =
-    dump_refused (length parts.dumps.items + 0) (parts.config.replicas - (length parts.dumps.items + 0)) unit rest (omega (arith, one_left)) whole
+    dump_refused parts.version (length parts.dumps.items + 0) (parts.layout.replicas - (length parts.dumps.items + 0)) unit rest (omega (arith, one_left)) whole
     (λ head fits e. none head (record { in_range = fits; spelled = e }))
 
 no_entries : finite.entries (finite.empty {X = List ℕ} {R = nat_cmp}) ≡ []
@@ -333,45 +450,127 @@ no_entries = nil_from_length (finite.entries (finite.empty {X = List ℕ} {R = n
 abbrev pub first_image : DumpHead → Image
 first_image head = record { applied = head.applied; root = head.root; frames = finite.empty }
 
+no_frames : finite.len (finite.empty {X = List ℕ} {R = nat_cmp}) ≡ 0
+no_frames = finite.len-empty nat_cmp (List ℕ)
+
+no_keys : finite.keys (finite.empty {X = List ℕ} {R = nat_cmp}) ≡ []
+no_keys = ap (map (λ (e : ℕ × List ℕ). e.0)) no_entries
+
+no_values : finite.values (finite.empty {X = List ℕ} {R = nat_cmp}) ≡ []
+no_values = ap (map (λ (e : ℕ × List ℕ). e.1)) no_entries
+
+-- a dump of which no frame has come yet
+none_come : (parts : Parts) (owner : Owner) (head : DumpHead) → AreInRange parts → IsOwner parts owner head.applied head.frames → head.applied < 2 ^ 32
+    → head.root < 2 ^ 64 → 1 ≤ head.frames → head.frames ≤ FRAMES
+    → IsReady (Frame parts (record { dump = first_image head; left = head.frames; owner = owner }) None)
+none_come parts owner head in_range is applied root some few = (
+  record {
+    in_range = in_range;
+    owner = let all : head.frames ≡ finite.len (finite.empty {X = List ℕ} {R = nat_cmp}) + head.frames = omega (arith, no_frames) in
+        subst (IsOwner parts owner head.applied) all is;
+    applied = applied;
+    root = root;
+    numbers = subst (All (λ n. n < 2 ^ 40)) (sym no_keys) (All-nil (λ n. n < 2 ^ 40));
+    words = subst (All IsFrame) (sym no_values) (All-nil IsFrame);
+    some_left = some;
+    few_frames = omega (arith, no_frames, few);
+  },
+  λ number next. subst (All (λ held. held < number)) (sym no_keys) (All-nil (λ held. held < number)),
+)
+
+none_spelled : (parts : Parts) (owner : Owner) (head : DumpHead)
+    → opened_spelling parts (record { dump = first_image head; left = head.frames; owner = owner })
+    ≡ front_with parts owner (first_image head) head.frames
+none_spelled parts owner head =
+    ap (λ (n : ℕ). front_with parts owner (first_image head) n ++ flat_map frame_bytes (finite.entries (finite.empty {X = List ℕ} {R = nat_cmp})))
+    (let all : finite.len (finite.empty {X = List ℕ} {R = nat_cmp}) + head.frames ≡ head.frames = omega (arith, no_frames) in all)
+    ∙ ap (λ (es : List (ℕ × List ℕ)). front_with parts owner (first_image head) head.frames ++ flat_map frame_bytes es) no_entries
+    ∙ append-nil (front_with parts owner (first_image head) head.frames)
+
+-- what is ahead of the head of a dump
+head_faults : (parts : Parts) (head : DumpHead) (unit rest : List ℕ) (fault : Format) → length parts.dumps.items < parts.layout.replicas
+    → SpellsHead parts.version unit head
+    → AtFrames (BadFrame (length parts.dumps.items)) 0 head.frames None (BehindDumps parts 1) rest fault
+    → Ahead (Dumps parts) (unit ++ rest) fault
+head_faults parts head unit rest fault one_left spells h =
+    let replica = length parts.dumps.items in
+    let same : replica ≡ replica + 0 = omega arith in
+    let left : parts.layout.replicas - (replica + 1) + 1 ≡ parts.layout.replicas - replica = omega (arith, one_left) in
+    subst (λ (n : ℕ). AtDumps parts.version n (parts.layout.replicas - n) (unit ++ rest) fault) same
+    (dump_passed parts.version replica (parts.layout.replicas - replica) 0 (replica + 1) (parts.layout.replicas - (replica + 1))
+    head unit rest fault refl refl left spells.in_range spells.spelled h)
+
 pub head_taken : (parts : Parts) (head : DumpHead) (image : Image) (unit : List ℕ) → image ≡ first_image head → AreInRange parts
-    → length parts.dumps.items < parts.config.replicas → SpellsHead unit head
-    → HasRead (said (Dumps parts) ++ unit) (λ rest fault. Ahead (Dumps parts) (unit ++ rest) fault)
-    (Frame parts (record { dump = image; left = head.frames }) None)
-head_taken parts head image unit begins in_range one_left spells =
-    let none : finite.len (finite.empty {X = List ℕ} {R = nat_cmp}) ≡ 0 = finite.len-empty nat_cmp (List ℕ) in
-    let no_keys : finite.keys (finite.empty {X = List ℕ} {R = nat_cmp}) ≡ [] = ap (map (λ (e : ℕ × List ℕ). e.0)) no_entries in
-    let no_values : finite.values (finite.empty {X = List ℕ} {R = nat_cmp}) ≡ [] = ap (map (λ (e : ℕ × List ℕ). e.1)) no_entries in
-    let front = whole_spelling parts in
-    let made : HasRead (said (Dumps parts) ++ unit) (λ rest fault. Ahead (Dumps parts) (unit ++ rest) fault)
-    (Frame parts (record { dump = first_image head; left = head.frames }) None) = record {
-      ready = (
-        record {
-          in_range = in_range;
-          more_dumps = one_left;
-          applied = spells.in_range.applied;
-          root = spells.in_range.root;
-          numbers = subst (All (λ n. n < 2 ^ 40)) (sym no_keys) (All-nil (λ n. n < 2 ^ 40));
-          words = subst (All IsFrame) (sym no_values) (All-nil IsFrame);
-          some_left = spells.in_range.some_frame;
-          few_frames = omega (arith, none, spells.in_range.few_frames);
-        },
-        λ number next. subst (All (λ held. held < number)) (sym no_keys) (All-nil (λ held. held < number)),
-      );
-      bytes_are = ap (λ (l : List ℕ). front ++ l)
-          (ap (λ (n : ℕ). dump_head (record { applied = head.applied; frames = n; root = head.root }) ++ flat_map frame_bytes
-          (finite.entries (finite.empty {X = List ℕ} {R = nat_cmp})))
-          (let all : finite.len (finite.empty {X = List ℕ} {R = nat_cmp}) + head.frames ≡ head.frames = omega (arith, none) in all)
-          ∙ ap (λ (es : List (ℕ × List ℕ)). dump_head head ++ flat_map frame_bytes es) no_entries
-          ∙ append-nil (dump_head head)
-          ∙ sym spells.spelled);
-      faults = λ rest fault h.
-          let replica = length parts.dumps.items in
-          let same : replica ≡ replica + 0 = omega arith in
-          let left : parts.config.replicas - (replica + 1) + 1 ≡ parts.config.replicas - replica = omega (arith, one_left) in
-          subst (λ (n : ℕ). AtDumps n (parts.config.replicas - n) (unit ++ rest) fault) same
-          (dump_passed replica (parts.config.replicas - replica) (finite.len (finite.empty {X = List ℕ} {R = nat_cmp})) (replica + 1)
-          (parts.config.replicas - (replica + 1))
-          head unit rest fault none refl left spells.in_range spells.spelled h);
+    → length parts.dumps.items < parts.layout.replicas → SpellsHead parts.version unit head → 1 ≤ head.frames
+    → HasRead parts.form (said (Dumps parts) ++ unit) (λ rest fault. Ahead (Dumps parts) (unit ++ rest) fault)
+    (Frame parts (record { dump = image; left = head.frames; owner = owners.Replica }) None)
+head_taken parts head image unit begins in_range one_left spells some =
+    let made : HasRead parts.form (said (Dumps parts) ++ unit) (λ rest fault. Ahead (Dumps parts) (unit ++ rest) fault)
+    (Frame parts (record { dump = first_image head; left = head.frames; owner = owners.Replica }) None) = record {
+      form_is = refl;
+      ready = none_come parts owners.Replica head in_range (one_left, spells.in_range.few_frames) spells.in_range.applied spells.in_range.root some
+          (omega (arith, spells.in_range.few_frames, few_of parts.version));
+      bytes_are = none_spelled parts owners.Replica head ∙ ap (λ (l : List ℕ). whole_spelling parts ++ l) (sym spells.spelled);
+      faults = λ rest fault h. head_faults parts head unit rest fault one_left spells
+          (subst (λ (n : ℕ). AtFrames (BadFrame (length parts.dumps.items)) n head.frames None (BehindDumps parts 1) rest fault) no_frames h);
     } in
-    subst (λ (d : Image). HasRead (said (Dumps parts) ++ unit) (λ rest fault. Ahead (Dumps parts) (unit ++ rest) fault)
-    (Frame parts (record { dump = d; left = head.frames }) None)) (sym begins) made
+    subst (λ (d : Image). HasRead parts.form (said (Dumps parts) ++ unit) (λ rest fault. Ahead (Dumps parts) (unit ++ rest) fault)
+    (Frame parts (record { dump = d; left = head.frames; owner = owners.Replica }) None)) (sym begins) made
+
+-- a dump without frames is whole
+pub head_belongs : (version : Version) (head : DumpHead) (image : Image) → image ≡ first_image head → IsDumpHead version head → head.frames ≡ 0
+    → IsImage version image
+head_belongs version head image begins fits none = subst (IsImage version) (sym begins) (record {
+  applied = fits.applied;
+  root = fits.root;
+  some_frame = omega (arith, no_frames, fits.some_frame, none);
+  few_frames = omega (arith, no_frames);
+  nothing = λ _. fits.nothing none;
+  numbers = subst (All (λ n. n < 2 ^ 40)) (sym no_keys) (All-nil (λ n. n < 2 ^ 40));
+  words = subst (All IsFrame) (sym no_values) (All-nil IsFrame);
+})
+
+pub head_whole : (parts : Parts) (head : DumpHead) (image : Image) (unit : List ℕ) (reader : Reader) → image ≡ first_image head
+    → length parts.dumps.items < parts.layout.replicas → SpellsHead parts.version unit head → head.frames ≡ 0
+    → HasRead parts.form (opened_spelling parts (whole_of owners.Replica image)) (BehindDumps parts 1) reader
+    → HasRead parts.form (said (Dumps parts) ++ unit) (λ rest fault. Ahead (Dumps parts) (unit ++ rest) fault) reader
+head_whole parts head image unit reader begins one_left spells none has =
+    let read : HasRead parts.form (opened_spelling parts (whole_of owners.Replica (first_image head))) (BehindDumps parts 1) reader =
+    subst (λ (d : Image). HasRead parts.form (opened_spelling parts (whole_of owners.Replica d)) (BehindDumps parts 1) reader) begins has in
+    goes_on parts.form reader _ _ _ _ read
+    (ap (λ (n : ℕ). opened_spelling parts (record { dump = first_image head; left = n; owner = owners.Replica })) (sym none)
+    ∙ none_spelled parts owners.Replica head ∙ ap (λ (l : List ℕ). whole_spelling parts ++ l) (sym spells.spelled))
+    (λ rest fault h. head_faults parts head unit rest fault one_left spells
+    (no_frame (BadFrame (length parts.dumps.items)) 0 head.frames None (BehindDumps parts 1) rest fault none h))
+
+-- the root of a start
+pub root_taken : (parts : Parts) (numbers : Counts) (image : Image) (root : ℕ) (unit : List ℕ)
+    → image ≡ first_image (record { applied = 0; frames = numbers.start; root = root }) → IsReady (Root parts numbers) → root < 2 ^ 64
+    → unit ≡ frame_number root
+    → HasRead parts.form (said (Root parts numbers) ++ unit) (λ rest fault. Ahead (Root parts numbers) (unit ++ rest) fault)
+    (Frame parts (record { dump = image; left = numbers.start; owner = owners.Start numbers.places numbers.events }) None)
+root_taken parts numbers image root unit begins ready fits is =
+    let owner = owners.Start numbers.places numbers.events in
+    let head : DumpHead = record { applied = 0; frames = numbers.start; root = root } in
+    let given = ready.2 in
+    let layout = ready.3 in
+    let behind = AtLog parts.version parts.layout numbers.places numbers.events in
+    let made : HasRead parts.form (said (Root parts numbers) ++ unit) (λ rest fault. Ahead (Root parts numbers) (unit ++ rest) fault)
+    (Frame parts (record { dump = first_image head; left = numbers.start; owner = owner }) None) = record {
+      form_is = refl;
+      ready = none_come parts owner head ready.0 (ready.1, given.few_places, given.few_events, refl, given.few_start) (omega arith) fits ready.4
+          (omega (arith, given.few_start, few_of_start parts.version));
+      bytes_are = none_spelled parts owner head
+          ∙ ap (λ (l : Layout). header_units (record { layout = l; places = numbers.places; events = numbers.events; start = numbers.start }) parts
+          ++ frame_number root) (sym layout)
+          ∙ ap (λ (l : List ℕ). header_units numbers parts ++ l) (sym is);
+      faults = λ rest fault h. root_passed numbers.start behind root unit rest fault ready.4 fits is
+          (subst (λ (n : ℕ). AtFrames BadStart n numbers.start None behind rest fault) no_frames h);
+    } in
+    subst (λ (d : Image). HasRead parts.form (said (Root parts numbers) ++ unit) (λ rest fault. Ahead (Root parts numbers) (unit ++ rest) fault)
+    (Frame parts (record { dump = d; left = numbers.start; owner = owner }) None)) (sym begins) made where
+      root_passed : (frames : ℕ) (Behind : List ℕ → Format → Type 0) (root : ℕ) (unit rest : List ℕ) (fault : Format) → 1 ≤ frames → root < 2 ^ 64
+          → unit ≡ frame_number root → AtFrames BadStart 0 frames None Behind rest fault → AtStart frames Behind (unit ++ rest) fault
+      root_passed zero Behind root unit rest fault some fits is h = absurd (omega arith)
+      root_passed (suc frames) Behind root unit rest fault some fits is h =
+          passed 8 None (λ root. root < 2 ^ 64) frame_number (λ _. AtFrames BadStart 0 (suc frames) None Behind) fault unit rest root fits is h

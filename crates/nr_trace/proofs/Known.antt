@@ -1,11 +1,11 @@
 -- What can be decided of every value: it is in range, or it is not.
-use Rattle.std.proofs.Common.{◌≡◌, ℕ, suc, ◌+◌, ◌%◌, ◌^◌, ◌<◌, ◌≤◌, ◌⊎◌, inl, inr, Bool, true, false, ltb, List, refl, arith, Option, Some, None}
+use Rattle.std.proofs.Common.{◌≡◌, ℕ, suc, ◌+◌, ◌%◌, ◌^◌, ◌<◌, ◌≤◌, ◌⊎◌, inl, inr, Bool, true, false, ltb, List, refl, ap, arith, Option, Some, None}
 use Rattle.std.specs.Prelude.{IsTrue, IfSome, ⊤}
 use Rattle.std.specs.Bool.{Decides}
 use Rattle.std.proofs.lemmas.Bool.{cases_eq}
 use Rattle.std.proofs.lemmas.Bool.Decides.{Decides-ltb, not_from_Decides}
 use Rattle.std.proofs.lemmas.Slice.Eq.{bytes_eq-Decides}
-use Rattle.vs_types.specs.Config.{Layout, IsLayout}
+use Rattle.vs_types.specs.Config.{Layout, IsLayoutWithin}
 use Rattle.vs_types.specs.Depth.{is_canonical}
 use Rattle.vs_types.specs.Operation.{IsBase}
 use Rattle.vs_types.specs.Page.{bytes_of, IsPage}
@@ -13,21 +13,23 @@ use Rattle.vs_types.specs.Query.{IsQuery}
 use Rattle.vs_types.specs.declared.depth.Depth.{Depth}
 use Rattle.vs_types.specs.declared.depth.Depth.TheVariants.{Four, Five}
 use Rattle.vs_types.specs.declared.page.Page.{Page}
-use Rattle.vs_types.specs.declared.limits.TheConstants.{REPLICAS, THREADS, TABLES, LOG_PLACES, CALLS}
+use Rattle.vs_types.specs.declared.limits.TheConstants.{REPLICAS, LOG_PLACES, CALLS}
 use Rattle.vs_types.specs.declared.op.Action.TheVariants.{Map, Unmap, Protect}
 use Rattle.vs_types.specs.declared.request.Query.{Query}
 use Rattle.vs_types.specs.declared.request.Query.TheVariants.{Update, Resolve, Access}
 use Rattle.vs_types.specs.declared.answer.Answer.{Answer}
 use Rattle.vs_types.specs.declared.answer.Answer.TheVariants.{Done, Overlap, Full, Removed, NotMapped, Inside, Changed, Mapped, Allowed, Fault}
-use Rattle.nr_trace.specs.Versions.{KnowsDepth, KnowsQuery, KnowsAnswer}
+use Rattle.nr_trace.specs.Versions.{KnowsDepth, KnowsQuery, KnowsAnswer, KnowsTouch, IsVersionOf, least_frames, most_frames, most_start, most_tables, most_threads}
 use Rattle.nr_trace.specs.Recording.{IsAnswer, IsEvent}
 use Rattle.nr_trace.specs.FirstFault.{IsCounts, IsDumpHead, IsNext}
 use Rattle.nr_trace.specs.declared.version.Version.{Version}
-use Rattle.nr_trace.specs.declared.version.Version.TheVariants.{V1, V2}
+use Rattle.nr_trace.specs.declared.version.Version.TheVariants.{V1, V2, Segment}
+use Rattle.nr_trace.specs.declared.version.Form.{Form}
+use Rattle.nr_trace.specs.declared.version.Form.TheVariants as forms
 use Rattle.nr_trace.specs.declared.fields.Counts.{Counts}
 use Rattle.nr_trace.specs.declared.fields.DumpHead.{DumpHead}
 use Rattle.nr_trace.specs.declared.event.Event.{Event}
-use Rattle.nr_trace.specs.declared.event.Event.TheVariants.{Call, Reply}
+use Rattle.nr_trace.specs.declared.event.Event.TheVariants.{Call, Reply, Touch}
 
 -- it holds, or it does not
 abbrev pub Known : Type 0 → Type 0
@@ -94,6 +96,12 @@ knows_query V1 (Update action) = always
 knows_query V1 (Resolve address) = always
 knows_query V1 (Access address mode access) = never
 knows_query V2 query = always
+knows_query Segment query = always
+
+knows_touch : (version : Version) → Known (KnowsTouch version)
+knows_touch V1 = never
+knows_touch V2 = never
+knows_touch Segment = always
 
 answer_known : (answer : Answer) → Known (IsAnswer answer)
 answer_known Done = always
@@ -119,20 +127,28 @@ knows_answer V1 (Mapped phys size rights) = always
 knows_answer V1 (Allowed phys) = never
 knows_answer V1 (Fault code) = never
 knows_answer V2 answer = always
+knows_answer Segment answer = always
 
 -- ---- units
 
-pub version_known : (version : Version) → Known ⊤
-version_known version = always
+pub version_known : (form : Form) (version : Version) → Known (IsVersionOf form version)
+version_known forms.Trace V1 = always
+version_known forms.Trace V2 = always
+version_known forms.Trace Segment = never
+version_known (forms.Segment before) V1 = never
+version_known (forms.Segment before) V2 = never
+version_known (forms.Segment before) Segment = always
 
 pub event_known : (version : Version) (layout : Layout) (recorded : Event) → Known (IsEvent version layout recorded)
 event_known version layout (Call replica thread request) =
     all_four (below replica layout.replicas) (below thread layout.threads) (query_known layout.depth request) (knows_query version request)
+event_known version layout (Touch replica thread address mode access) =
+    all_four (below replica layout.replicas) (below thread layout.threads) (query_known layout.depth (Access address mode access)) (knows_touch version)
 event_known version layout (Reply call at answer) =
     all_four (below call (2 ^ 32)) (below at (2 ^ 32)) (answer_known answer) (knows_answer version answer)
 
-layout_known : (layout : Layout) → Known (IsLayout layout)
-layout_known layout =
+pub layout_known : (threads tables : ℕ) (layout : Layout) → Known (IsLayoutWithin threads tables layout)
+layout_known threads tables layout =
     known_as (λ h. record {
       some_replica = h.0.0;
       few_replicas = h.0.1;
@@ -142,23 +158,36 @@ layout_known layout =
       few_tables = h.1.1;
     })
     (λ h. ((h.some_replica, h.few_replicas, h.some_thread, h.few_threads), (h.some_table, h.few_tables)))
-    (both (all_four (at_most 1 layout.replicas) (at_most layout.replicas REPLICAS) (at_most 1 layout.threads) (at_most layout.threads THREADS))
-    (both (at_most 1 layout.tables) (at_most layout.tables TABLES)))
+    (both (all_four (at_most 1 layout.replicas) (at_most layout.replicas REPLICAS) (at_most 1 layout.threads) (at_most layout.threads threads))
+    (both (at_most 1 layout.tables) (at_most layout.tables tables)))
 
 knows_depth : (version : Version) (depth : Depth) → Known (KnowsDepth version depth)
 knows_depth V1 Four = always
 knows_depth V1 Five = never
 knows_depth V2 depth = always
+knows_depth Segment depth = always
 
 pub counts_known : (version : Version) (numbers : Counts) → Known (IsCounts version numbers)
 counts_known version numbers =
-    known_as (λ h. record { layout = h.0; depth = h.1; few_places = h.2; few_events = h.3 }) (λ h. (h.layout, h.depth, h.few_places, h.few_events))
-    (all_four (layout_known numbers.layout) (knows_depth version numbers.layout.depth) (at_most numbers.places LOG_PLACES) (at_most numbers.events CALLS))
+    known_as (λ h. record { layout = h.0.0; depth = h.0.1; few_places = h.0.2; few_events = h.0.3; few_start = h.1 })
+    (λ h. ((h.layout, h.depth, h.few_places, h.few_events), h.few_start))
+    (both (all_four (layout_known (most_threads version) (most_tables version) numbers.layout) (knows_depth version numbers.layout.depth)
+    (at_most numbers.places LOG_PLACES) (at_most numbers.events CALLS)) (at_most numbers.start (most_start version)))
 
-pub head_known : (head : DumpHead) → Known (IsDumpHead head)
-head_known head =
-    known_as (λ h. record { applied = h.0; some_frame = h.1; few_frames = h.2; root = h.3 }) (λ h. (h.applied, h.some_frame, h.few_frames, h.root))
-    (all_four (below head.applied (2 ^ 32)) (at_most 1 head.frames) (at_most head.frames TABLES) (below head.root (2 ^ 64)))
+-- all is 0, where there are no frames
+nothing_known : (frames applied root : ℕ) → Known (frames ≡ 0 → (applied ≡ 0) × (root ≡ 0))
+nothing_known frames applied root = by_count (cases_eq frames 0) (both (cases_eq applied 0) (cases_eq root 0)) where
+  by_count : Known (frames ≡ 0) → Known ((applied ≡ 0) × (root ≡ 0)) → Known (frames ≡ 0 → (applied ≡ 0) × (root ≡ 0))
+  by_count (inl none) (inl all) = inl (λ _. all)
+  by_count (inl none) (inr some) = inr (λ h. some (h none))
+  by_count (inr some) all = inl (λ none. absurd (some none))
+
+pub head_known : (version : Version) (head : DumpHead) → Known (IsDumpHead version head)
+head_known version head =
+    known_as (λ h. record { applied = h.0.0; some_frame = h.0.1; few_frames = h.0.2; root = h.0.3; nothing = h.1 })
+    (λ h. ((h.applied, h.some_frame, h.few_frames, h.root), h.nothing))
+    (both (all_four (below head.applied (2 ^ 32)) (at_most (least_frames version) head.frames) (at_most head.frames (most_frames version))
+    (below head.root (2 ^ 64))) (nothing_known head.frames head.applied head.root))
 
 rises_known : (before : Option ℕ) (number : ℕ) → Known (IfSome before (λ last. last < number))
 rises_known None number = always
@@ -167,3 +196,16 @@ rises_known (Some last) number = below last number
 pub next_known : (before : Option ℕ) (number : ℕ) → Known (IsNext before number)
 next_known before number =
     known_as (λ h. record { rises = h.0; in_range = h.1 }) (λ h. (h.rises, h.in_range)) (both (rises_known before number) (below number (2 ^ 40)))
+
+-- whether two layouts are one
+same_depth : (d e : Depth) → Known (d ≡ e)
+same_depth Four Four = inl refl
+same_depth Four Five = inr (λ e. absurd cc)
+same_depth Five Four = inr (λ e. absurd cc)
+same_depth Five Five = inl refl
+
+pub same_layout : (a b : Layout) → Known (a ≡ b)
+same_layout a b =
+    known_as (λ h. λ i. record { depth = h.0 i; replicas = h.1 i; threads = h.2 i; tables = h.3 i })
+    (λ e. (ap (λ (l : Layout). l.depth) e, ap (λ (l : Layout). l.replicas) e, ap (λ (l : Layout). l.threads) e, ap (λ (l : Layout). l.tables) e))
+    (all_four (same_depth a.depth b.depth) (cases_eq a.replicas b.replicas) (cases_eq a.threads b.threads) (cases_eq a.tables b.tables))

@@ -5,20 +5,26 @@ use Rattle.std.specs.Prelude.{⊤}
 use Rattle.std.specs.List.{AllByRecursion}
 use Rattle.std.proofs.lemmas.List.{append-nil, take-append-drop, length-take-le}
 use Rattle.std.proofs.lemmas.List.Elements.{All-take, All-drop}
-use Rattle.vs_types.specs.Config.{Layout, IsLayout}
+use Rattle.vs_types.specs.Config.{Layout}
 use Rattle.vs_types.specs.Frame.{IsFrame}
 use Rattle.nr_trace.specs.Recording.{Recording, IsImage, IsEvent}
-use Rattle.nr_trace.specs.Spelling.{magic, version_word, counts, dump_head, Spells, log_word, event, dump, frame_number, frame_words}
-use Rattle.nr_trace.specs.FirstFault.{AtUnit, IsCounts, IsDumpHead, IsNext, AtFrames, AtDumps, AtEvents, AtLog, HasFormatFault}
+use Rattle.nr_trace.specs.Versions.{Follows, IsVersionOf}
+use Rattle.nr_trace.specs.Spelling.{version_word, counts, dump_head, Spells, log_word, event, dump, frame_number, frame_words}
+use Rattle.nr_trace.specs.FirstFault.{AtUnit, IsCounts, IsDumpHead, IsNext, AtFrames, AtDumps, AtEvents, AtLayout, AtLog, AtStart, HasFaultAs, HasFormatFault, HasSegmentFault, counts_bytes, magic_of}
 use Rattle.nr_trace.specs.declared.fault.Format.{Format}
-use Rattle.nr_trace.specs.declared.fault.Format.TheVariants.{Truncated, BadMagic, BadVersion, BadCount, BadEvent, BadFrame, Trailing}
+use Rattle.nr_trace.specs.declared.fault.Format.TheVariants.{Truncated, BadMagic, BadVersion, BadCount, BadChain, BadStart, BadEvent, BadFrame, Trailing}
 use Rattle.nr_trace.specs.declared.version.Version.{Version}
+use Rattle.nr_trace.specs.declared.version.Form.{Form}
+use Rattle.nr_trace.specs.declared.version.Form.TheVariants as forms
+use Rattle.nr_trace.specs.declared.fields.Counts.{Counts}
+use Rattle.std.proofs.lemmas.Option.{same_Some}
+use Rattle.nr_trace.proofs.LawsOfUnits.{IsWide, is_wide}
 use Rattle.nr_trace.proofs.LawsOfSpelling.{frame}
 use Rattle.nr_trace.proofs.LawsOfFormat.{BehindCounts, BehindVersion, BehindMagic, no_fault, one_fault}
 use Rattle.nr_trace.proofs.LawsOfFronts.{trailing_after}
-use Rattle.nr_trace.proofs.Assembled.{HasUnits, FramesFit, HasDumps, HasEvents, HasLog, HasTrace, no_unit, one_unit, one_frame, one_dump, one_trace}
-use Rattle.nr_trace.proofs.Known.{Known, below}
-use Rattle.nr_trace.proofs.UnitsOfBytes.{IsTold, AreBytes, magic_told, version_told, counts_told, event_told, head_told, number_told, place_told, words_told}
+use Rattle.nr_trace.proofs.Assembled.{HasUnits, FramesFit, HasDumps, HasEvents, HasLog, HasFrames, HasFront, HasStart, no_unit, one_unit, one_frame, one_dump, one_front}
+use Rattle.nr_trace.proofs.Known.{Known, below, same_layout}
+use Rattle.nr_trace.proofs.UnitsOfBytes.{IsTold, AreBytes, magic_told, version_told, counts_told, event_told, head_told, number_told, place_told, word_told, words_told}
 
 -- the property holds of the rest, or the rest has another fault by the relation than `Trailing`
 abbrev Either : (List ℕ → Type 0) → (List ℕ → Format → Type 0) → List ℕ → Type 0
@@ -81,46 +87,46 @@ at_unit {A} bytes own Fits spelled Behind Then other judged on rest from = by_so
 
 -- ---- the rest, from the end
 
-frames_or_fault : (replica index frames : ℕ) (before : Option ℕ) (Behind : List ℕ → Format → Type 0) (Then : List ℕ → Type 0)
-    → AlwaysEither Then Behind → AlwaysEither (HasUnits (FramesFit before) frame frames Then) (AtFrames replica index frames before Behind)
+frames_or_fault : (own : ℕ → Format) → ((index : ℕ) → own index ≢ Trailing) → (index frames : ℕ) (before : Option ℕ) (Behind : List ℕ → Format → Type 0) (Then : List ℕ → Type 0)
+    → AlwaysEither Then Behind → AlwaysEither (HasUnits (FramesFit before) frame frames Then) (AtFrames own index frames before Behind)
 unfolding AtFrames
-frames_or_fault replica index zero before Behind Then on rest from = either_as (no_unit (FramesFit before) frame Then rest (tt, tt)) (on rest from)
-frames_or_fault replica index (suc frames) before Behind Then on rest from =
+frames_or_fault own other index zero before Behind Then on rest from = either_as (no_unit (FramesFit before) frame Then rest (tt, tt)) (on rest from)
+frames_or_fault own other index (suc frames) before Behind Then on rest from =
     either_as (λ (number, middle, next, is, (words, behind, fits, also, has)).
     one_frame before frames Then number words rest middle behind next fits is also has)
-    (at_unit 8 (Some (BadFrame replica index)) (IsNext before) frame_number
-    (λ number. AtUnit 4096 None IsFrame frame_words (λ words. AtFrames replica (index + 1) frames (Some number) Behind))
+    (at_unit 8 (Some (own index)) (IsNext before) frame_number
+    (λ number. AtUnit 4096 None IsFrame frame_words (λ words. AtFrames own (index + 1) frames (Some number) Behind))
     (λ number. HasUnit IsFrame frame_words (λ words. HasUnits (FramesFit (Some number)) frame frames Then))
-    (λ e. absurd cc) (judged (number_told before))
-    (λ number next. at_unit 4096 None IsFrame frame_words (λ words. AtFrames replica (index + 1) frames (Some number) Behind)
+    (λ e. other index (same_Some (own index) Trailing e)) (judged (number_told before))
+    (λ number next. at_unit 4096 None IsFrame frame_words (λ words. AtFrames own (index + 1) frames (Some number) Behind)
     (λ words. HasUnits (FramesFit (Some number)) frame frames Then) (λ e. absurd cc) (λ unit bytes long. inl (words_told unit bytes long))
-    (λ words fits. frames_or_fault replica (index + 1) frames (Some number) Behind Then on)) rest from)
+    (λ words fits. frames_or_fault own other (index + 1) frames (Some number) Behind Then on)) rest from)
 
-dumps_or_fault : (replica dumps : ℕ) → AlwaysEither (HasDumps dumps) (AtDumps replica dumps)
+dumps_or_fault : (version : Version) (replica dumps : ℕ) → AlwaysEither (HasDumps version dumps) (AtDumps version replica dumps)
 unfolding AtDumps
-dumps_or_fault replica zero rest from = inl (no_unit (AllByRecursion IsImage) dump (λ _. ⊤) rest tt tt)
-dumps_or_fault replica (suc dumps) rest from =
-    either_as (λ (head, behind, fits, is, has). one_dump dumps head rest behind fits is has)
-    (at_unit 16 (Some BadCount) IsDumpHead dump_head (λ head. AtFrames replica 0 head.frames None (AtDumps (replica + 1) dumps))
-    (λ head. HasUnits (FramesFit None) frame head.frames (HasDumps dumps)) (λ e. absurd cc) (judged head_told)
-    (λ head fits. frames_or_fault replica 0 head.frames None (AtDumps (replica + 1) dumps) (HasDumps dumps)
-    (dumps_or_fault (replica + 1) dumps)) rest from)
+dumps_or_fault version replica zero rest from = inl (no_unit (AllByRecursion (IsImage version)) dump (λ _. ⊤) rest tt tt)
+dumps_or_fault version replica (suc dumps) rest from =
+    either_as (λ (head, behind, fits, is, has). one_dump version dumps head rest behind fits is has)
+    (at_unit 16 (Some BadCount) (IsDumpHead version) dump_head (λ head. AtFrames (BadFrame replica) 0 head.frames None (AtDumps version (replica + 1) dumps))
+    (λ head. HasUnits (FramesFit None) frame head.frames (HasDumps version dumps)) (λ e. absurd cc) (judged (head_told version))
+    (λ head fits. frames_or_fault (BadFrame replica) (λ index e. absurd cc) 0 head.frames None (AtDumps version (replica + 1) dumps) (HasDumps version dumps)
+    (dumps_or_fault version (replica + 1) dumps)) rest from)
 
-events_or_fault : (version : Version) (layout : Layout) → IsLayout layout → (index events : ℕ)
+events_or_fault : (version : Version) (layout : Layout) → IsWide layout → (index events : ℕ)
     → AlwaysEither (HasEvents version layout events) (AtEvents version layout index events)
 unfolding AtEvents
 events_or_fault version layout l index zero rest from =
-    either_as (no_unit (AllByRecursion (IsEvent version layout)) event (HasDumps layout.replicas) rest tt)
-    (dumps_or_fault 0 layout.replicas rest from)
+    either_as (no_unit (AllByRecursion (IsEvent version layout)) event (HasDumps version layout.replicas) rest tt)
+    (dumps_or_fault version 0 layout.replicas rest from)
 events_or_fault version layout l index (suc events) rest from =
     either_as (λ (one, behind, fits, is, has).
     one_unit (AllByRecursion (IsEvent version layout)) (AllByRecursion (IsEvent version layout)) event events
-    (HasDumps layout.replicas) one rest behind (λ es others. (fits, others)) is has)
+    (HasDumps version layout.replicas) one rest behind (λ es others. (fits, others)) is has)
     (at_unit 24 (Some (BadEvent index)) (IsEvent version layout) event (λ _. AtEvents version layout (index + 1) events)
     (λ _. HasEvents version layout events) (λ e. absurd cc) (judged (event_told version layout l))
     (λ _ _. events_or_fault version layout l (index + 1) events) rest from)
 
-log_or_fault : (version : Version) (layout : Layout) → IsLayout layout → (places events : ℕ)
+log_or_fault : (version : Version) (layout : Layout) → IsWide layout → (places events : ℕ)
     → AlwaysEither (HasLog version layout places events) (AtLog version layout places events)
 unfolding AtLog
 log_or_fault version layout l zero events rest from =
@@ -134,44 +140,90 @@ log_or_fault version layout l (suc places) events rest from =
     (λ _. HasLog version layout places events) (λ e. absurd cc) (λ unit bytes long. inl (place_told unit bytes long))
     (λ _ _. log_or_fault version layout l places events) rest from)
 
+start_or_fault : (version : Version) (numbers : Counts) (n : ℕ) → AlwaysEither (HasLog version numbers.layout numbers.places numbers.events)
+    (AtLog version numbers.layout numbers.places numbers.events) → numbers.start ≡ n
+    → AlwaysEither (HasStart version numbers n) (AtStart n (AtLog version numbers.layout numbers.places numbers.events))
+start_or_fault version numbers zero on is rest from = on rest from
+start_or_fault version numbers (suc n) on is rest from =
+    let behind = AtLog version numbers.layout numbers.places numbers.events in
+    let log = HasLog version numbers.layout numbers.places numbers.events in
+    either_as (λ (root, middle, fits, is_rest, has).
+    let there : HasFrames version numbers middle = subst (λ (k : ℕ). HasUnits (FramesFit None) frame k log middle) (sym is) has in
+    record { root = root; fits = fits; behind = middle; parts = is_rest; frames = there })
+    (at_unit 8 None (λ root. root < 2 ^ 64) frame_number (λ _. AtFrames BadStart 0 (suc n) None behind)
+    (λ _. HasUnits (FramesFit None) frame (suc n) log) (λ e. absurd cc) (λ unit bytes long. inl (word_told unit bytes long))
+    (λ root fits. frames_or_fault BadStart (λ index e. absurd cc) 0 (suc n) None behind log on) rest from)
+
+follows_known : (form : Form) (layout : Layout) → Known (Follows form layout)
+follows_known forms.Trace layout = inl tt
+follows_known (forms.Segment None) layout = inl tt
+follows_known (forms.Segment (Some before)) layout = same_layout before layout
+
+layout_or_fault : (form : Form) (layout : Layout) (Behind : List ℕ → Format → Type 0) (Then : List ℕ → Type 0) → AlwaysEither Then Behind
+    → AlwaysEither (λ rest. Follows form layout × Then rest) (AtLayout form layout Behind)
+layout_or_fault form layout Behind Then on rest from = by_known (follows_known form layout) where
+  by_rest : Follows form layout → Either Then Behind rest → Either (λ rest. Follows form layout × Then rest) (AtLayout form layout Behind) rest
+  by_rest follows (inl then) = inl (follows, then)
+  by_rest follows (inr (fault, another, h)) = inr (fault, another, inr (follows, h))
+
+  by_source : Follows form layout → AreBytes rest ⊎ AtLayout form layout Behind rest Trailing
+      → Either (λ rest. Follows form layout × Then rest) (AtLayout form layout Behind) rest
+  by_source follows (inl all) = by_rest follows (on rest (inl all))
+  by_source follows (inr (inl other)) = absurd (other.0 follows)
+  by_source follows (inr (inr h)) = by_rest follows (on rest (inr h.1))
+
+  by_known : Known (Follows form layout) → Either (λ rest. Follows form layout × Then rest) (AtLayout form layout Behind) rest
+  by_known (inl follows) = by_source follows from
+  by_known (inr other) = inr (BadChain, (λ e. absurd cc), inl (other, refl))
+
 -- ---- all bytes
 
-trace_or_fault : AlwaysEither HasTrace HasFormatFault
-trace_or_fault bytes from =
-    either_as (λ (_, middle, _, is_bytes, (version, behind, _, is_middle, (numbers, rest, fits, is_behind, has))).
-    one_trace version numbers bytes middle behind rest fits is_bytes is_middle is_behind has)
-    (at_unit {A = Unit {0}} 4 (Some BadMagic) (λ _. ⊤) (λ _. magic) (λ _. BehindMagic)
-    (λ _. HasUnit (λ version. ⊤) version_word HasCounts) (λ e. absurd cc) (judged magic_told)
-    (λ _ _. at_unit 2 (Some BadVersion) (λ version. ⊤) version_word BehindVersion HasCounts (λ e. absurd cc) (judged version_told)
-    (λ version _. at_unit 14 (Some BadCount) (IsCounts version) counts (BehindCounts version)
-    (λ numbers. HasLog version numbers.layout numbers.places numbers.events)
+front_or_fault : (form : Form) → AlwaysEither (HasFront form) (HasFaultAs form)
+front_or_fault form bytes from =
+    either_as (λ (_, middle, _, is_bytes, (version, behind, of, is_middle, (numbers, rest, fits, is_behind, has))).
+    one_front form version numbers bytes middle behind rest of has.0 fits is_bytes is_middle is_behind has.1)
+    (at_unit {A = Unit {0}} 4 (Some BadMagic) (λ _. ⊤) (λ _. magic_of form) (λ _. BehindMagic form)
+    (λ _. HasUnit (IsVersionOf form) version_word HasCounts) (λ e. absurd cc) (judged (magic_told form))
+    (λ _ _. at_unit 2 (Some BadVersion) (IsVersionOf form) version_word (BehindVersion form) HasCounts (λ e. absurd cc) (judged (version_told form))
+    (λ version _. at_unit (counts_bytes version) (Some BadCount) (IsCounts version) (counts version) (BehindCounts form version)
+    (λ numbers rest. Follows form numbers.layout × HasStart version numbers numbers.start rest)
     (λ e. absurd cc) (judged (counts_told version))
-    (λ numbers fits. log_or_fault version numbers.layout fits.layout numbers.places numbers.events))) bytes from) where
+    (λ numbers fits. layout_or_fault form numbers.layout _ _ (start_or_fault version numbers numbers.start
+    (log_or_fault version numbers.layout (is_wide version numbers.layout fits.layout) numbers.places numbers.events) refl)))) bytes from) where
       HasCounts : Version → List ℕ → Type 0
       HasCounts version =
-          HasUnit (IsCounts version) counts (λ numbers. HasLog version numbers.layout numbers.places numbers.events)
+          HasUnit (IsCounts version) (counts version) (λ numbers rest. Follows form numbers.layout × HasStart version numbers numbers.start rest)
 
 -- a trace at the front, and what comes after it
 by_end : (bytes front more : List ℕ) (trace : Recording) → bytes ≡ front ++ more → Spells front trace
     → ((whole : Recording) × Spells bytes whole) ⊎ ((more ≢ []) × HasFormatFault bytes Trailing)
-by_end bytes front [] trace is spells = inl (trace, record { in_range = spells.in_range; spelled = is ∙ append-nil front ∙ spells.spelled })
+by_end bytes front [] trace is spells = inl (trace, record { of_form = spells.of_form; follows = spells.follows; in_range = spells.in_range; spelled = is ∙ append-nil front ∙ spells.spelled })
 by_end bytes front (byte ∷ more) trace is spells =
     inr ((λ e. absurd cc), subst (λ (l : List ℕ). HasFormatFault l Trailing) (sym is) (trailing_after front (byte ∷ more) trace spells (λ e. absurd cc)))
 
 pub spelled_or_fault : (bytes : List ℕ) → AreBytes bytes → ((trace : Recording) × Spells bytes trace) ⊎ ((fault : Format) × HasFormatFault bytes fault)
-spelled_or_fault bytes all = by_trace (trace_or_fault bytes (inl all)) where
-  by_trace : Either HasTrace HasFormatFault bytes → ((trace : Recording) × Spells bytes trace) ⊎ ((fault : Format) × HasFormatFault bytes fault)
+spelled_or_fault bytes all = by_trace (front_or_fault forms.Trace bytes (inl all)) where
+  by_trace : Either (HasFront forms.Trace) HasFormatFault bytes → ((trace : Recording) × Spells bytes trace) ⊎ ((fault : Format) × HasFormatFault bytes fault)
   by_trace (inl (front, more, trace, is, spells)) = elim (by_end bytes front more trace is spells) [ inl whole ↦ inl whole | inr on ↦ inr (Trailing, on.1) ]
   by_trace (inr (fault, another, h)) = inr (fault, h)
 
 pub trailing_has_trace : (bytes : List ℕ) → HasFormatFault bytes Trailing
     → (front : List ℕ) × (more : List ℕ) × (trace : Recording) × (bytes ≡ front ++ more) × (more ≢ []) × Spells front trace
-trailing_has_trace bytes h = by_trace (trace_or_fault bytes (inr h)) where
-  by_trace : Either HasTrace HasFormatFault bytes
+trailing_has_trace bytes h = by_trace (front_or_fault forms.Trace bytes (inr h)) where
+  by_trace : Either (HasFront forms.Trace) HasFormatFault bytes
       → (front : List ℕ) × (more : List ℕ) × (trace : Recording) × (bytes ≡ front ++ more) × (more ≢ []) × Spells front trace
   by_trace (inl (front, more, trace, is, spells)) =
       elim (by_end bytes front more trace is spells) [
-        | inl whole ↦ absurd (no_fault bytes whole.0 Trailing whole.1 h)
+        | inl whole ↦ absurd (no_fault forms.Trace bytes whole.0 Trailing whole.1 h)
         | inr on ↦ (front, more, trace, is, on.0, spells)
       ]
-  by_trace (inr (fault, another, k)) = absurd (another (one_fault bytes fault Trailing k h))
+  by_trace (inr (fault, another, k)) = absurd (another (one_fault forms.Trace bytes fault Trailing k h))
+
+-- any bytes have a front that spells a segment, or a fault of one
+pub segment_or_fault : (before : Option Layout) (bytes : List ℕ) → AreBytes bytes
+    → HasFront (forms.Segment before) bytes ⊎ ((fault : Format) × HasSegmentFault before bytes fault)
+segment_or_fault before bytes all = by_front (front_or_fault (forms.Segment before) bytes (inl all)) where
+  by_front : Either (HasFront (forms.Segment before)) (HasFaultAs (forms.Segment before)) bytes
+      → HasFront (forms.Segment before) bytes ⊎ ((fault : Format) × HasSegmentFault before bytes fault)
+  by_front (inl front) = inl front
+  by_front (inr (fault, another, h)) = inr (fault, h)

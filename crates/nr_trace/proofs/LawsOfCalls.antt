@@ -7,11 +7,12 @@ use Rattle.std.proofs.lemmas.Option.{same_Some, none-some, slice_get_within}
 use Rattle.vs_types.specs.declared.request.Query.{Query}
 use Rattle.vs_types.specs.declared.request.Query.TheVariants.{Update, Resolve, Access}
 use Rattle.nr_trace.specs.Recording.{Recording}
-use Rattle.nr_trace.specs.Calls.{Invocation, made_by, call_of, operation_in, read_address, operation_of, IsCall, IsUpdate, IsRead, Response, reply_in, reply_of}
-use Rattle.nr_trace.specs.Calls.{reply_to, Answers}
+use Rattle.nr_trace.specs.Calls.{Invocation, made_by, call_of, operation_in, read_address, operation_of, touch_of, IsCall, IsUpdate, IsRead, IsTouch, IsOrdered}
+use Rattle.nr_trace.specs.Calls.{Response, reply_in, reply_of, reply_to, Answers}
 use Rattle.nr_trace.specs.Faults.{HasFault, StandsAfter}
 use Rattle.nr_trace.specs.Laws.{HasCleanLog}
 use Rattle.nr_trace.specs.declared.event.Event.{Event}
+use Rattle.nr_trace.specs.declared.event.Event.TheVariants.{Call, Reply, Touch}
 use Rattle.nr_trace.specs.declared.fault.Fault.TheVariants.{NoSuchCall}
 use Rattle.nr_trace.proofs.LawsOfLists.{first_given, given_first}
 
@@ -30,26 +31,64 @@ some_or_none (Some x) = inl refl
 
 -- ---- kinds of calls
 
+-- the address of a read, and the request of a touch
+abbrev read_in : Bool → Query → Option ℕ
+read_in touch request = if touch then None else read_address request
+
+abbrev touch_in : Bool → Query → Option Query
+touch_in touch request = if touch then Some request else None
+
 made_kinds : (o : Option Invocation) → IsSome o
-    → IsSome (option_and_then (λ made. operation_in made.request) o) ⊎ IsSome (option_and_then (λ made. read_address made.request) o)
+    → (IsSome (option_and_then (λ (made : Invocation). operation_in made.request) o)
+    ⊎ IsSome (option_and_then (λ (made : Invocation). read_in made.touch made.request) o))
+    ⊎ IsSome (option_and_then (λ (made : Invocation). touch_in made.touch made.request) o)
 made_kinds None h = absurd cc
-made_kinds (Some made) h = by_kind made.request where
-  by_kind : (request : Query) → IsSome (operation_in request) ⊎ IsSome (read_address request)
-  by_kind (Update action) = inl refl
-  by_kind (Resolve address) = inr refl
-  by_kind (Access address mode access) = inr refl
+made_kinds (Some made) h = by_kind made.touch made.request where
+  by_kind : (touch : Bool) (request : Query) → (IsSome (operation_in request) ⊎ IsSome (read_in touch request)) ⊎ IsSome (touch_in touch request)
+  by_kind true request = inr refl
+  by_kind false (Update action) = inl (inl refl)
+  by_kind false (Resolve address) = inl (inr refl)
+  by_kind false (Access address mode access) = inl (inr refl)
 
-pub update_or_read : (trace : Recording) (call : ℕ) → IsCall trace call → IsUpdate trace call ⊎ IsRead trace call
-update_or_read trace call h = made_kinds (call_of trace call) h
+pub ordered_or_touch : (trace : Recording) (call : ℕ) → IsCall trace call → IsOrdered trace call ⊎ IsTouch trace call
+ordered_or_touch trace call h = made_kinds (call_of trace call) h
 
-made_both : (o : Option Invocation) → IsSome (option_and_then (λ made. operation_in made.request) o)
-    → IsSome (option_and_then (λ made. read_address made.request) o) → ⊥
+-- a call that is no touch is an update or a read
+pub ordered_from_made : (trace : Recording) (call : ℕ) (made : Invocation) → call_of trace call ≡ Some made → made.touch ≡ false → IsOrdered trace call
+ordered_from_made trace call made is_made no_touch =
+    by_kind (ordered_or_touch trace call (is_some_from (call_of trace call) made is_made)) where
+      none : touch_of trace call ≡ None
+      none = rw (is_made, no_touch) refl
+
+      by_kind : IsOrdered trace call ⊎ IsTouch trace call → IsOrdered trace call
+      by_kind (inl h) = h
+      by_kind (inr h) = absurd (both_ways (is_some (touch_of trace call)) (ap is_some none) h)
+
+made_both : (o : Option Invocation) → IsSome (option_and_then (λ (made : Invocation). operation_in made.request) o)
+    → IsSome (option_and_then (λ (made : Invocation). read_in made.touch made.request) o) → ⊥
 made_both None h k = cc
-made_both (Some made) h k = by_kind made.request h k where
-  by_kind : (request : Query) → IsSome (operation_in request) → IsSome (read_address request) → ⊥
-  by_kind (Update action) h k = cc
-  by_kind (Resolve address) h k = cc
-  by_kind (Access address mode access) h k = cc
+made_both (Some made) h k = by_kind made.touch made.request h k where
+  by_kind : (touch : Bool) (request : Query) → IsSome (operation_in request) → IsSome (read_in touch request) → ⊥
+  by_kind true request h k = cc
+  by_kind false (Update action) h k = cc
+  by_kind false (Resolve address) h k = cc
+  by_kind false (Access address mode access) h k = cc
+
+read_or_touch : (o : Option Invocation) → IsSome (option_and_then (λ (made : Invocation). read_in made.touch made.request) o)
+    → IsSome (option_and_then (λ (made : Invocation). touch_in made.touch made.request) o) → ⊥
+read_or_touch None h k = cc
+read_or_touch (Some made) h k = by_kind made.touch made.request h k where
+  by_kind : (touch : Bool) (request : Query) → IsSome (read_in touch request) → IsSome (touch_in touch request) → ⊥
+  by_kind true request h k = cc
+  by_kind false request h k = cc
+
+-- only an access is a touch
+touch_or_update : (o : Option Event) → IsSome (option_and_then (λ (made : Invocation). operation_in made.request) (option_and_then made_by o))
+    → IsSome (option_and_then (λ (made : Invocation). touch_in made.touch made.request) (option_and_then made_by o)) → ⊥
+touch_or_update None h k = cc
+touch_or_update (Some (Call replica thread request)) h k = cc
+touch_or_update (Some (Touch replica thread address mode access)) h k = cc
+touch_or_update (Some (Reply call at answer)) h k = cc
 
 pub not_both : (trace : Recording) (call : ℕ) → IsUpdate trace call → IsRead trace call → ⊥
 not_both trace call h k = made_both (call_of trace call) h k
@@ -62,7 +101,11 @@ pub update_is_call : (trace : Recording) (call : ℕ) → IsUpdate trace call �
 update_is_call trace call h = then_some (λ (made : Invocation). operation_in made.request) (call_of trace call) h
 
 pub read_is_call : (trace : Recording) (call : ℕ) → IsRead trace call → IsCall trace call
-read_is_call trace call h = then_some (λ (made : Invocation). read_address made.request) (call_of trace call) h
+read_is_call trace call h = then_some (λ (made : Invocation). read_in made.touch made.request) (call_of trace call) h
+
+pub ordered_is_call : (trace : Recording) (call : ℕ) → IsOrdered trace call → IsCall trace call
+ordered_is_call trace call (inl h) = update_is_call trace call h
+ordered_is_call trace call (inr h) = read_is_call trace call h
 
 pub call_within : (trace : Recording) (call : ℕ) → IsCall trace call → call < length trace.events
 call_within trace call h =
@@ -75,6 +118,11 @@ none_from_not_some (Some x) h = absurd (h refl)
 
 pub no_operation : (trace : Recording) (call : ℕ) → IsRead trace call → operation_of trace call ≡ None
 no_operation trace call h = none_from_not_some (operation_of trace call) (λ k. not_both trace call k h)
+
+-- an update or a read is no touch
+pub ordered_no_touch : (trace : Recording) (call : ℕ) → IsOrdered trace call → touch_of trace call ≡ None
+ordered_no_touch trace call (inl h) = none_from_not_some (touch_of trace call) (λ k. touch_or_update (slice_get trace.events call) h k)
+ordered_no_touch trace call (inr h) = none_from_not_some (touch_of trace call) (λ k. read_or_touch (call_of trace call) h k)
 
 pub update_from_not_not : (trace : Recording) (call : ℕ) → ((IsUpdate trace call → ⊥) → ⊥) → IsUpdate trace call
 update_from_not_not trace call h = by_case (some_or_none (operation_of trace call)) where
@@ -164,17 +212,14 @@ same_option (Some m) n h = by_order (cases_eq m n) where
   by_order (inl e) = ap Some e
   by_order (inr k) = absurd (h (λ e. k (same_Some m n e)))
 
--- an answered call comes after as many entries as its reply says
-pub answered_stands : (trace : Recording) (call : ℕ) (reply : Response) → HasCleanLog trace → reply_to trace call ≡ Some reply
+-- an answered update or read comes after as many entries as its reply says
+pub answered_stands : (trace : Recording) (call : ℕ) (reply : Response) → HasCleanLog trace → IsOrdered trace call → reply_to trace call ≡ Some reply
     → StandsAfter trace call reply.at × (reply.at ≤ length trace.log)
-answered_stands trace call reply clean e = by_kind (update_or_read trace call is_call) where
+answered_stands trace call reply clean ordered e = by_kind ordered where
   event : (index : ℕ) × (reply_of trace index ≡ Some reply) × (reply.call ≡ call)
   event = reply_event trace call reply e
 
-  is_call : IsCall trace call
-  is_call = subst (IsCall trace) event.2 (reply_behind_call trace event.0 reply clean event.1).1
-
-  by_kind : IsUpdate trace call ⊎ IsRead trace call → StandsAfter trace call reply.at × (reply.at ≤ length trace.log)
+  by_kind : IsOrdered trace call → StandsAfter trace call reply.at × (reply.at ≤ length trace.log)
   by_kind (inl u) =
       let placed : slice_get trace.log reply.at ≡ Some reply.call =
       same_option (slice_get trace.log reply.at) reply.call

@@ -8,7 +8,12 @@ use Rattle.vs_walk.specs.Dump.{Image}
 use Rattle.vs_walk.specs.Walk.{walk, as_walk, TranslatesAs}
 use Rattle.vs_walk.specs.declared.walk.Walk.{Walk}
 use Rattle.vs_walk.specs.declared.walk.Walk.TheVariants as walks
-use Rattle.nr_trace.specs.Recording.{Recording}
+use Rattle.nr_trace.specs.Recording.{Recording, IsImage, IsRecording, IsThere}
+use Rattle.nr_trace.specs.Versions.{IsVersionOf}
+use Rattle.nr_trace.specs.declared.version.Version.{Version}
+use Rattle.nr_trace.specs.declared.version.Version.TheVariants.{V1, V2, Segment}
+use Rattle.nr_trace.specs.declared.version.Form.TheVariants as forms
+use Rattle.std.proofs.lemmas.Option.{slice_get_within, get_or_from_slice_get}
 use Rattle.vs_types.specs.Codes.{size_code, rights_code}
 use Rattle.nr_trace.specs.declared.fields.AnswerFields.{AnswerFields}
 use Rattle.nr_trace.specs.Calls.{Invocation, call_of, IsUpdate, IsRead, Response, reply_of, reply_to}
@@ -150,12 +155,23 @@ earlier_update trace dump call earlier reply clean r is_reply g l within u i =
       by_side at_most (inr j) = absurd
           (not_both trace earlier u (read_from_saw trace reply.at earlier (in_filter (saw trace reply.at) earlier (below call) j).1).0)
 
+-- each dump of a trace is there
+pub dump_is_there : (trace : Recording) (replica : ℕ) (dump : Image) → IsVersionOf forms.Trace trace.version → IsRecording trace
+    → slice_get trace.dumps replica ≡ Some dump → IsThere dump
+dump_is_there trace replica dump of range is =
+    some_frame trace.version of (subst (IsImage trace.version) (get_or_from_slice_get trace.dumps replica dump dump is)
+    (range.dumps replica dump (slice_get_within trace.dumps replica dump is))) where
+      some_frame : (version : Version) → IsVersionOf forms.Trace version → IsImage version dump → IsThere dump
+      some_frame V1 of image = image.some_frame
+      some_frame V2 of image = image.some_frame
+      some_frame Segment of image = absurd of
+
 pub fits_if_faultless : (start : Space) (trace : Recording) (replica : ℕ) (dump : Image) → IsFaultlessFrom start trace
-    → slice_get trace.dumps replica ≡ Some dump → FitsFrom start trace (recorded_order trace) replica dump
-fits_if_faultless start trace replica dump faultless is = record {
+    → slice_get trace.dumps replica ≡ Some dump → IsThere dump → FitsFrom start trace (recorded_order trace) replica dump
+fits_if_faultless start trace replica dump faultless is there = record {
   enough = subst (λ (log : List ℕ). dump.applied ≤ length log) (sym log_is) (by_order (cases_lt (length trace.log) dump.applied));
   translates = subst (λ (log : List ℕ). TranslatesAs trace.layout.depth dump.frames dump.root (space_from start trace (take dump.applied log))) (sym log_is)
-      (dump_translates start trace dump (λ address h. faultless (Differs replica address) (dump, is, h)));
+      (dump_translates start trace dump (λ address h. faultless (Differs replica address) (dump, is, there, h)));
   own_updates = λ call made is_made here u answered. in_log call (of_update call made is_made here u (the_some (reply_to trace call) answered));
   own_reads = λ call earlier made is_made here r answered u i. in_log earlier
       (of_read call earlier made is_made here r (the_some (reply_to trace call) answered) u i);
@@ -167,11 +183,11 @@ fits_if_faultless start trace replica dump faultless is = record {
   log_is = updates_of_order trace clean
 
   by_order : (length trace.log < dump.applied) ⊎ (dump.applied ≤ length trace.log) → dump.applied ≤ length trace.log
-  by_order (inl l) = absurd (faultless (PrefixPastLog replica) (dump, is, l))
+  by_order (inl l) = absurd (faultless (PrefixPastLog replica) (dump, is, there, l))
   by_order (inr l) = l
 
   no_more : RestsOnMore trace replica dump → ⊥
-  no_more h = faultless (PrefixShort replica) (dump, is, h)
+  no_more h = faultless (PrefixShort replica) (dump, is, there, h)
 
   in_log : (call : ℕ) → Applied trace dump call → Contains (take dump.applied (updates trace (recorded_order trace))) call
   in_log call h = subst (λ (log : List ℕ). Contains (take dump.applied log) call) (sym log_is) h
@@ -180,12 +196,12 @@ fits_if_faultless start trace replica dump faultless is = record {
       → (reply : Response) × (reply_to trace call ≡ Some reply) → Applied trace dump call
   of_update call made is_made here u (reply, e) =
       let known = known_applied trace replica dump call made reply no_more is_made here e in
-      own_update trace dump call reply u known.1 known.0 (answered_stands trace call reply clean e).0
+      own_update trace dump call reply u known.1 known.0 (answered_stands trace call reply clean (inl u) e).0
 
   of_read : (call earlier : ℕ) (made : Invocation) → call_of trace call ≡ Some made → made.replica ≡ replica → IsRead trace call
       → (reply : Response) × (reply_to trace call ≡ Some reply) → IsUpdate trace earlier
       → Contains (before call (recorded_order trace)) earlier → Applied trace dump earlier
   of_read call earlier made is_made here r (reply, e) u i =
       let known = known_applied trace replica dump call made reply no_more is_made here e in
-      earlier_update trace dump call earlier reply clean r e known.1 known.0 (answered_stands trace call reply clean e).1 u
+      earlier_update trace dump call earlier reply clean r e known.1 known.0 (answered_stands trace call reply clean (inr r) e).1 u
       (in_from_Contains earlier (before call (recorded_order trace)) i)

@@ -26,10 +26,11 @@ use Rattle.nr_trace.specs.declared.fault.Fault.TheVariants.{Format, ThreadOpen, 
 use Rattle.nr_trace.specs.declared.fault.Fault.TheVariants.{WrongAnswer, PrefixPastLog, PrefixShort, MissingFrame, SharedFrame, ReservedBit, StrayFrame}
 use Rattle.nr_trace.specs.declared.fault.Fault.TheVariants.{Differs}
 use Rattle.nr_trace.proofs.LawsOfLists.{In, earlier_member, member_before, in_from_Contains, Contains-from_in, same_place}
-use Rattle.nr_trace.proofs.LawsOfCalls.{answered_stands, call_within, is_some_from, reply_in_event}
+use Rattle.nr_trace.proofs.LawsOfCalls.{answered_stands, call_within, is_some_from, ordered_from_made, reply_in_event}
 use Rattle.nr_trace.proofs.LawsOfOrder.{standing_is_member}
 use Rattle.nr_trace.proofs.LawsOfSpelling.{one_trace}
 use Rattle.nr_trace.proofs.LawsOfFormat.{one_fault, no_fault}
+use Rattle.nr_trace.specs.declared.version.Form.TheVariants as forms
 
 abbrev second : List ℕ → ℕ
 second ns = get_or ns 1 0
@@ -49,7 +50,7 @@ one_least P m n h k = by_order (cases_order m n) where
 -- what holds of a replica's dump holds of one dump
 of_one_dump : (trace : Recording) (replica other : ℕ) (P Q : Image → Type 0) {C : Type 0} → replica ≡ other → HasDump trace replica P → HasDump trace other Q
     → ((dump : Image) → P dump → Q dump → C) → C
-of_one_dump trace replica other P Q e (dump, is, h) (image, also, k) f =
+of_one_dump trace replica other P Q e (dump, is, there, h) (image, also, here, k) f =
     let same = same_Some dump image (sym is ∙ ap (slice_get trace.dumps) e ∙ also) in
     f dump h (subst Q (sym same) k)
 
@@ -170,14 +171,14 @@ pub placed_within : (trace : Recording) (place : ℕ) (P : ℕ → Type 0) → H
 placed_within trace place P (call, e, h) = slice_get_within trace.log place call e
 
 pub dump_within : (trace : Recording) (replica : ℕ) (P : Image → Type 0) → HasDump trace replica P → replica < length trace.dumps
-dump_within trace replica P (dump, e, h) = slice_get_within trace.dumps replica dump e
+dump_within trace replica P (dump, e, there, h) = slice_get_within trace.dumps replica dump e
 
 pub made_within : (trace : Recording) (call : ℕ) (made : Invocation) → call_of trace call ≡ Some made → call < length trace.events
 made_within trace call made e = call_within trace call (is_some_from (call_of trace call) made e)
 
 pub wrong_is_member : (start : Space) (trace : Recording) (call : ℕ) → HasCleanLog trace → IsWrongFrom start trace call → Contains (recorded_order trace) call
 wrong_is_member start trace call clean wrong =
-    let both = answered_stands trace call wrong.reply clean wrong.is_reply in
+    let both = answered_stands trace call wrong.reply clean (ordered_from_made trace call wrong.made wrong.is_made wrong.no_touch) wrong.is_reply in
     Contains-from_in call (recorded_order trace) (standing_is_member trace wrong.reply.at call both.1 both.0)
 
 -- a wrong answer that is earlier than another one is of a call that comes before the other's
@@ -241,9 +242,9 @@ by_side bytes f h = inr h
 pub one_first_of : (bytes : List ℕ) (f g : Fault) → IsFirstOf bytes f → IsFirstOf bytes g → f ≡ g
 one_first_of bytes f g x y = by_sides (by_side bytes f x) (by_side bytes g y) where
   by_sides : OfFormat bytes f ⊎ OfTrace bytes f → OfFormat bytes g ⊎ OfTrace bytes g → f ≡ g
-  by_sides (inl (a, e, h)) (inl (b, d, k)) = e ∙ ap Format (one_fault bytes a b h k) ∙ sym d
-  by_sides (inl (a, e, h)) (inr (trace, spells, first)) = absurd (no_fault bytes trace a spells h)
-  by_sides (inr (trace, spells, first)) (inl (b, d, k)) = absurd (no_fault bytes trace b spells k)
+  by_sides (inl (a, e, h)) (inl (b, d, k)) = e ∙ ap Format (one_fault forms.Trace bytes a b h k) ∙ sym d
+  by_sides (inl (a, e, h)) (inr (trace, spells, first)) = absurd (no_fault forms.Trace bytes trace a spells h)
+  by_sides (inr (trace, spells, first)) (inl (b, d, k)) = absurd (no_fault forms.Trace bytes trace b spells k)
   by_sides (inr (s, spells, first)) (inr (t, also, other)) =
       let e = one_trace bytes s t spells also in
       one_first no_pages t f g (subst (λ trace. IsFirst trace f) e first) other

@@ -8,23 +8,29 @@ use Rattle.std.specs.FinMap.Entries as kept
 use Rattle.std.specs.Ordering.{nat_cmp, is_lt}
 use Rattle.std.specs.declared.cmp.Ordering.TheVariants.{Less, Equal, Greater}
 use Rattle.std.proofs.lemmas.Bool.{ltb-true}
-use Rattle.std.proofs.lemmas.List.{append_assoc, append_cancel_left, length-append, take_at}
+use Rattle.std.proofs.lemmas.List.{append_assoc, append_cancel_left, append-nil, length-append, take_at}
 use Rattle.std.proofs.lemmas.List.Elements.{recursion_from_All}
 use Rattle.std.proofs.lemmas.Option.{same_Some}
-use Rattle.vs_types.specs.Config.{Layout, IsLayout}
+use Rattle.vs_types.specs.Config.{Layout}
 use Rattle.vs_walk.specs.Dump.{Image}
 use Rattle.vs_types.specs.Frame.{IsFrame}
-use Rattle.nr_trace.specs.Recording.{Recording, IsRecording, IsImage, IsEvent}
-use Rattle.nr_trace.specs.Spelling.{magic, version_word, counts, counts_of, dump_head, head_of, Spells, log_word, event, dump, frame_number, frame_words}
-use Rattle.nr_trace.specs.FirstFault.{AtUnit, IsCounts, IsDumpHead, IsNext, AtFrames, AtDumps, AtEvents, AtLog, HasFormatFault}
+use Rattle.nr_trace.specs.Recording.{Recording, IsRecording, IsImage, IsStart, IsEvent, start_frames}
+use Rattle.nr_trace.specs.Versions.{Follows, IsVersionOf}
+use Rattle.nr_trace.specs.Spelling.{version_word, counts, counts_of, dump_head, head_of, start_units, SpellsAs, SpellsSegment, log_word, event, dump, frame_number}
+use Rattle.nr_trace.specs.Spelling.{frame_words}
+use Rattle.nr_trace.specs.FirstFault.{AtUnit, IsCounts, IsDumpHead, IsNext, AtEnd, AtFrames, AtDumps, AtEvents, AtLayout, AtLog, AtStart, HasFaultAs, HasSegmentFault, counts_bytes}
+use Rattle.nr_trace.specs.FirstFault.{magic_of}
 use Rattle.nr_trace.specs.declared.fault.Format.{Format}
-use Rattle.nr_trace.specs.declared.fault.Format.TheVariants.{BadMagic, BadVersion, BadCount, BadEvent, BadFrame}
+use Rattle.nr_trace.specs.declared.fault.Format.TheVariants.{BadMagic, BadVersion, BadCount, BadEvent, BadFrame, BadStart}
 use Rattle.nr_trace.specs.declared.event.Event.{Event}
 use Rattle.nr_trace.specs.declared.version.Version.{Version}
+use Rattle.nr_trace.specs.declared.version.Version.TheVariants.{V1, V2, Segment}
+use Rattle.nr_trace.specs.declared.version.Form.{Form}
+use Rattle.nr_trace.specs.declared.version.Form.TheVariants as forms
 use Rattle.nr_trace.specs.declared.fields.Counts.{Counts}
 use Rattle.nr_trace.proofs.LawsOfSpelling.{Frame, FrameFits, frame, image_frames_fit, head_fits, frames_of, counts_fit, logs, events, dumps, numbered}
-use Rattle.nr_trace.proofs.LawsOfSpelling.{versioned, spelling_behind_magic}
-use Rattle.nr_trace.proofs.LawsOfUnits.{ToldApart, versions_apart, counts_apart, length-counts, heads_apart, length-head, frame_numbers_apart, words_apart}
+use Rattle.nr_trace.proofs.LawsOfSpelling.{counted, magic_is, spelling_is, versioned}
+use Rattle.nr_trace.proofs.LawsOfUnits.{IsWide, ToldApart, is_wide, number_64, versions_apart, counts_apart, length-counts, heads_apart, length-head, frame_numbers_apart, words_apart}
 use Rattle.nr_trace.proofs.LawsOfUnits.{length-frame_words, log_words_apart, events_apart, length-event}
 
 -- ---- one unit
@@ -84,35 +90,41 @@ next_apart before a b us vs h k e = frame_numbers_apart a b us vs h.in_range k.i
 abbrev OneBehind : (List ℕ → Format → Type 0) → Type 0
 OneBehind Behind = (rest : List ℕ) (f g : Format) → Behind rest f → Behind rest g → f ≡ g
 
-frames_one : (replica index frames : ℕ) (before : Option ℕ) (Behind : List ℕ → Format → Type 0) → OneBehind Behind
-    → OneBehind (AtFrames replica index frames before Behind)
+frames_one : (own : ℕ → Format) (index frames : ℕ) (before : Option ℕ) (Behind : List ℕ → Format → Type 0) → OneBehind Behind
+    → OneBehind (AtFrames own index frames before Behind)
 unfolding AtFrames
-frames_one replica index zero before Behind one rest f g x y = one rest f g x y
-frames_one replica index (suc frames) before Behind one rest f g x y =
-    unit_one 8 (Some (BadFrame replica index)) (IsNext before) frame_number
-    (λ number. AtUnit 4096 None IsFrame frame_words (λ words. AtFrames replica (index + 1) frames (Some number) Behind))
+frames_one own index zero before Behind one rest f g x y = one rest f g x y
+frames_one own index (suc frames) before Behind one rest f g x y =
+    unit_one 8 (Some (own index)) (IsNext before) frame_number
+    (λ number. AtUnit 4096 None IsFrame frame_words (λ words. AtFrames own (index + 1) frames (Some number) Behind))
     (next_apart before) (λ n h. refl)
-    (λ number rest f g h. unit_one 4096 None IsFrame frame_words (λ words. AtFrames replica (index + 1) frames (Some number) Behind)
-    words_apart length-frame_words (λ words rest f g h. frames_one replica (index + 1) frames (Some number) Behind one rest f g) rest f g)
+    (λ number rest f g h. unit_one 4096 None IsFrame frame_words (λ words. AtFrames own (index + 1) frames (Some number) Behind)
+    words_apart length-frame_words (λ words rest f g h. frames_one own (index + 1) frames (Some number) Behind one rest f g) rest f g)
     rest f g x y
 
-dumps_one : (replica dumps : ℕ) → OneBehind (AtDumps replica dumps)
-unfolding AtDumps
-dumps_one replica zero rest f g x y = x.1 ∙ sym y.1
-dumps_one replica (suc dumps) rest f g x y =
-    unit_one 16 (Some BadCount) IsDumpHead dump_head (λ head. AtFrames replica 0 head.frames None (AtDumps (replica + 1) dumps)) heads_apart
-    (λ head h. length-head head)
-    (λ head rest f g h. frames_one replica 0 head.frames None (AtDumps (replica + 1) dumps) (dumps_one (replica + 1) dumps) rest f g) rest f g x y
+end_one : (version : Version) → OneBehind (AtEnd version)
+end_one V1 rest f g x y = x.1 ∙ sym y.1
+end_one V2 rest f g x y = x.1 ∙ sym y.1
+end_one Segment rest f g x y = absurd x
 
-events_one : (version : Version) (layout : Layout) (index events : ℕ) → IsLayout layout → OneBehind (AtEvents version layout index events)
+dumps_one : (version : Version) (replica dumps : ℕ) → OneBehind (AtDumps version replica dumps)
+unfolding AtDumps
+dumps_one version replica zero rest f g x y = end_one version rest f g x y
+dumps_one version replica (suc dumps) rest f g x y =
+    unit_one 16 (Some BadCount) (IsDumpHead version) dump_head (λ head. AtFrames (BadFrame replica) 0 head.frames None (AtDumps version (replica + 1) dumps))
+    (heads_apart version) (λ head h. length-head head)
+    (λ head rest f g h. frames_one (BadFrame replica) 0 head.frames None (AtDumps version (replica + 1) dumps) (dumps_one version (replica + 1) dumps)
+    rest f g) rest f g x y
+
+events_one : (version : Version) (layout : Layout) (index events : ℕ) → IsWide layout → OneBehind (AtEvents version layout index events)
 unfolding AtEvents
-events_one version layout index zero l rest f g x y = dumps_one 0 layout.replicas rest f g x y
+events_one version layout index zero l rest f g x y = dumps_one version 0 layout.replicas rest f g x y
 events_one version layout index (suc events) l rest f g x y =
     unit_one 24 (Some (BadEvent index)) (IsEvent version layout) event (λ _. AtEvents version layout (index + 1) events) (events_apart version layout l)
     (λ e h. length-event e)
     (λ e rest f g h. events_one version layout (index + 1) events l rest f g) rest f g x y
 
-log_one : (version : Version) (layout : Layout) (places events : ℕ) → IsLayout layout → OneBehind (AtLog version layout places events)
+log_one : (version : Version) (layout : Layout) (places events : ℕ) → IsWide layout → OneBehind (AtLog version layout places events)
 unfolding AtLog
 log_one version layout zero events l rest f g x y = events_one version layout 0 events l rest f g x y
 log_one version layout (suc places) events l rest f g x y =
@@ -122,30 +134,54 @@ log_one version layout (suc places) events l rest f g x y =
 abbrev fixed_apart : List ℕ → Type 0
 fixed_apart bytes = ToldApart {A = Unit {0}} (λ _. ⊤) (λ _. bytes)
 
-pub magic_apart : fixed_apart magic
-magic_apart a b us vs h k e = (refl, append_cancel_left magic us vs e)
+pub magic_apart : (form : Form) → fixed_apart (magic_of form)
+magic_apart form a b us vs h k e = (refl, append_cancel_left (magic_of form) us vs e)
 
-abbrev pub BehindCounts : Version → Counts → List ℕ → Format → Type 0
-BehindCounts version numbers = AtLog version numbers.layout numbers.places numbers.events
+root_apart : ToldApart (λ root. root < 2 ^ 64) frame_number
+root_apart = number_64
 
-abbrev pub BehindVersion : Version → List ℕ → Format → Type 0
-BehindVersion version = AtUnit 14 (Some BadCount) (IsCounts version) counts (BehindCounts version)
+start_one : (frames : ℕ) (Behind : List ℕ → Format → Type 0) → OneBehind Behind → OneBehind (AtStart frames Behind)
+start_one zero Behind one rest f g x y = one rest f g x y
+start_one (suc frames) Behind one rest f g x y =
+    unit_one 8 None (λ root. root < 2 ^ 64) frame_number (λ _. AtFrames BadStart 0 (suc frames) None Behind) root_apart (λ n h. refl)
+    (λ root rest f g h. frames_one BadStart 0 (suc frames) None Behind one rest f g) rest f g x y
 
-abbrev pub BehindMagic : List ℕ → Format → Type 0
-BehindMagic = AtUnit 2 (Some BadVersion) (λ version. ⊤) version_word BehindVersion
+layout_one : (form : Form) (layout : Layout) (Behind : List ℕ → Format → Type 0) → OneBehind Behind → OneBehind (AtLayout form layout Behind)
+layout_one form layout Behind one rest f g (inl x) (inl y) = x.1 ∙ sym y.1
+layout_one form layout Behind one rest f g (inl x) (inr y) = absurd (x.0 y.0)
+layout_one form layout Behind one rest f g (inr x) (inl y) = absurd (y.0 x.0)
+layout_one form layout Behind one rest f g (inr x) (inr y) = one rest f g x.1 y.1
 
-version_one : (version : Version) → OneBehind (BehindVersion version)
-version_one version rest f g =
-    unit_one 14 (Some BadCount) (IsCounts version) counts (BehindCounts version) (counts_apart version) (λ numbers h. length-counts numbers)
-    (λ numbers rest f g h. log_one version numbers.layout numbers.places numbers.events h.layout rest f g) rest f g
+abbrev pub BehindCounts : Form → Version → Counts → List ℕ → Format → Type 0
+BehindCounts form version numbers =
+    AtLayout form numbers.layout (AtStart numbers.start (AtLog version numbers.layout numbers.places numbers.events))
 
-magic_one : OneBehind BehindMagic
-magic_one rest f g = unit_one 2 (Some BadVersion) (λ version. ⊤) version_word BehindVersion versions_apart (λ _ _. refl)
-    (λ version rest f g h. version_one version rest f g) rest f g
+abbrev pub BehindVersion : Form → Version → List ℕ → Format → Type 0
+BehindVersion form version = AtUnit (counts_bytes version) (Some BadCount) (IsCounts version) (counts version) (BehindCounts form version)
 
-pub one_fault : (bytes : List ℕ) (f g : Format) → HasFormatFault bytes f → HasFormatFault bytes g → f ≡ g
-one_fault bytes f g = unit_one {A =
-    Unit {0}} 4 (Some BadMagic) (λ _. ⊤) (λ _. magic) (λ _. BehindMagic) magic_apart (λ _ _. refl) (λ _ rest f g h. magic_one rest f g) bytes f g
+abbrev pub BehindMagic : Form → List ℕ → Format → Type 0
+BehindMagic form = AtUnit 2 (Some BadVersion) (IsVersionOf form) version_word (BehindVersion form)
+
+version_one : (form : Form) (version : Version) → OneBehind (BehindVersion form version)
+version_one form version rest f g =
+    unit_one (counts_bytes version) (Some BadCount) (IsCounts version) (counts version) (BehindCounts form version) (counts_apart version)
+    (λ numbers h. length-counts version numbers)
+    (λ numbers rest f g h.
+    layout_one form numbers.layout _ (start_one numbers.start _
+    (log_one version numbers.layout numbers.places numbers.events (is_wide version numbers.layout h.layout))) rest f g) rest f g
+
+magic_one : (form : Form) → OneBehind (BehindMagic form)
+magic_one form rest f g = unit_one 2 (Some BadVersion) (IsVersionOf form) version_word (BehindVersion form) (versions_apart form) (λ _ _. refl)
+    (λ version rest f g h. version_one form version rest f g) rest f g
+
+pub length-magic : (form : Form) → length (magic_of form) ≡ 4
+length-magic forms.Trace = refl
+length-magic (forms.Segment before) = refl
+
+pub one_fault : (form : Form) (bytes : List ℕ) (f g : Format) → HasFaultAs form bytes f → HasFaultAs form bytes g → f ≡ g
+one_fault form bytes f g = unit_one {A =
+    Unit {0}} 4 (Some BadMagic) (λ _. ⊤) (λ _. magic_of form) (λ _. BehindMagic form) (magic_apart form) (λ _ _. length-magic form)
+    (λ _ rest f g h. magic_one form rest f g) bytes f g
 
 -- ---- no fault of a spelling
 
@@ -179,75 +215,139 @@ pub rising_from_none : (fs : List Frame) → T (kept.is_sorted nat_cmp fs) → R
 rising_from_none [] h = tt
 rising_from_none (f ∷ fs) h = (tt, rising f fs h)
 
-frames_none : (replica index : ℕ) (frames : List Frame) (before : Option ℕ) (Behind : List ℕ → Format → Type 0) (more : List ℕ) (fault : Format)
+frames_none : (own : ℕ → Format) (index : ℕ) (frames : List Frame) (before : Option ℕ) (Behind : List ℕ → Format → Type 0) (more : List ℕ) (fault : Format)
     → AllByRecursion FrameFits frames → RisesFrom before frames → (Behind more fault → ⊥)
-    → (rest : List ℕ) → rest ≡ flat_map frame frames ++ more → AtFrames replica index (length frames) before Behind rest fault → ⊥
+    → (rest : List ℕ) → rest ≡ flat_map frame frames ++ more → AtFrames own index (length frames) before Behind rest fault → ⊥
 unfolding AtFrames
-frames_none replica index [] before Behind more fault fit rise none rest is x = none (subst (λ (ys : List ℕ). Behind ys fault) is x)
-frames_none replica index (f ∷ fs) before Behind more fault fit rise none rest is x =
-    unit_none 8 (Some (BadFrame replica index)) (IsNext before) frame_number
-    (λ number. AtUnit 4096 None IsFrame frame_words (λ words. AtFrames replica (index + 1) (length fs) (Some number) Behind))
+frames_none own index [] before Behind more fault fit rise none rest is x = none (subst (λ (ys : List ℕ). Behind ys fault) is x)
+frames_none own index (f ∷ fs) before Behind more fault fit rise none rest is x =
+    unit_none 8 (Some (own index)) (IsNext before) frame_number
+    (λ number. AtUnit 4096 None IsFrame frame_words (λ words. AtFrames own (index + 1) (length fs) (Some number) Behind))
     (next_apart before) f.0 (frame_words f.1 ++ (flat_map frame fs ++ more)) fault refl (record { rises = rise.0; in_range = fit.0.0 })
-    (unit_none 4096 None IsFrame frame_words (λ words. AtFrames replica (index + 1) (length fs) (Some f.0) Behind)
+    (unit_none 4096 None IsFrame frame_words (λ words. AtFrames own (index + 1) (length fs) (Some f.0) Behind)
     words_apart f.1 (flat_map frame fs ++ more) fault (length-frame_words f.1 fit.0.1) fit.0.1
-    (frames_none replica (index + 1) fs (Some f.0) Behind more fault fit.1 rise.1 none (flat_map frame fs ++ more) refl)
+    (frames_none own (index + 1) fs (Some f.0) Behind more fault fit.1 rise.1 none (flat_map frame fs ++ more) refl)
     (frame_words f.1 ++ (flat_map frame fs ++ more)) refl)
     rest (is ∙ append_assoc (frame f) (flat_map frame fs) more ∙ append_assoc (frame_number f.0) (frame_words f.1) (flat_map frame fs ++ more)) x
 
-dumps_none : (replica : ℕ) (images : List Image) (fault : Format) → AllByRecursion IsImage images
-    → (rest : List ℕ) → rest ≡ flat_map dump images → AtDumps replica (length images) rest fault → ⊥
+-- nothing is wrong at the end: nothing comes after a trace, and what comes after a segment is not of it
+end_none : (version : Version) (fault : Format) → AtEnd version [] fault → ⊥
+end_none V1 fault x = x.0 refl
+end_none V2 fault x = x.0 refl
+end_none Segment fault x = x
+
+end_of_segment : (before : Option Layout) (version : Version) (more : List ℕ) (fault : Format) → IsVersionOf (forms.Segment before) version
+    → AtEnd version more fault → ⊥
+end_of_segment before V1 more fault of x = of
+end_of_segment before V2 more fault of x = of
+end_of_segment before Segment more fault of x = x
+
+dumps_none : (version : Version) (replica : ℕ) (images : List Image) (more : List ℕ) (fault : Format) → AllByRecursion (IsImage version) images
+    → (AtEnd version more fault → ⊥) → (rest : List ℕ) → rest ≡ flat_map dump images ++ more → AtDumps version replica (length images) rest fault → ⊥
 unfolding AtDumps
-dumps_none replica [] fault fit rest is x = x.0 is
-dumps_none replica (image ∷ images) fault fit rest is x =
-    unit_none 16 (Some BadCount) IsDumpHead dump_head (λ head. AtFrames replica 0 head.frames None (AtDumps (replica + 1) (length images)))
-    heads_apart (head_of image) (frames_of image ++ flat_map dump images) fault refl (head_fits image fit.0)
-    (λ y. frames_none replica 0 (finite.entries image.frames) None (AtDumps (replica + 1) (length images)) (flat_map dump images) fault
-    (image_frames_fit image fit.0) (rising_from_none (finite.entries image.frames) (finite.entries_sorted image.frames))
-    (dumps_none (replica + 1) images fault fit.1 (flat_map dump images) refl)
-    (frames_of image ++ flat_map dump images) refl
-    (subst (λ (n : ℕ). AtFrames replica 0 n None (AtDumps (replica + 1) (length images)) (frames_of image ++ flat_map dump images) fault)
+dumps_none version replica [] more fault fit none rest is x = none (subst (λ (ys : List ℕ). AtEnd version ys fault) is x)
+dumps_none version replica (image ∷ images) more fault fit none rest is x =
+    unit_none 16 (Some BadCount) (IsDumpHead version) dump_head
+    (λ head. AtFrames (BadFrame replica) 0 head.frames None (AtDumps version (replica + 1) (length images)))
+    (heads_apart version) (head_of image) (frames_of image ++ (flat_map dump images ++ more)) fault refl (head_fits version image fit.0)
+    (λ y. frames_none (BadFrame replica) 0 (finite.entries image.frames) None (AtDumps version (replica + 1) (length images))
+    (flat_map dump images ++ more) fault
+    (image_frames_fit version image fit.0) (rising_from_none (finite.entries image.frames) (finite.entries_sorted image.frames))
+    (dumps_none version (replica + 1) images more fault fit.1 none (flat_map dump images ++ more) refl)
+    (frames_of image ++ (flat_map dump images ++ more)) refl
+    (subst (λ (n : ℕ). AtFrames (BadFrame replica) 0 n None (AtDumps version (replica + 1) (length images))
+    (frames_of image ++ (flat_map dump images ++ more)) fault)
     (finite.len-entries image.frames) y))
-    rest (is ∙ append_assoc (dump_head (head_of image)) (frames_of image) (flat_map dump images)) x
+    rest (is ∙ append_assoc (dump image) (flat_map dump images) more
+    ∙ append_assoc (dump_head (head_of image)) (frames_of image) (flat_map dump images ++ more)) x
 
-events_none : (version : Version) (layout : Layout) (index : ℕ) (es : List Event) (images : List Image) (fault : Format) → IsLayout layout
-    → AllByRecursion (IsEvent version layout) es → AllByRecursion IsImage images → length images ≡ layout.replicas
-    → (rest : List ℕ) → rest ≡ flat_map event es ++ flat_map dump images → AtEvents version layout index (length es) rest fault → ⊥
+events_none : (version : Version) (layout : Layout) (index : ℕ) (es : List Event) (more : List ℕ) (fault : Format) → IsWide layout
+    → AllByRecursion (IsEvent version layout) es → (AtDumps version 0 layout.replicas more fault → ⊥)
+    → (rest : List ℕ) → rest ≡ flat_map event es ++ more → AtEvents version layout index (length es) rest fault → ⊥
 unfolding AtEvents
-events_none version layout index [] images fault l fit images_fit each rest is x =
-    dumps_none 0 images fault images_fit rest is (subst (λ (n : ℕ). AtDumps 0 n rest fault) (sym each) x)
-events_none version layout index (e ∷ es) images fault l fit images_fit each rest is x =
+events_none version layout index [] more fault l fit none rest is x =
+    none (subst (λ (ys : List ℕ). AtDumps version 0 layout.replicas ys fault) is x)
+events_none version layout index (e ∷ es) more fault l fit none rest is x =
     unit_none 24 (Some (BadEvent index)) (IsEvent version layout) event (λ _. AtEvents version layout (index + 1) (length es))
-    (events_apart version layout l) e (flat_map event es ++ flat_map dump images) fault (length-event e) fit.0
-    (events_none version layout (index + 1) es images fault l fit.1 images_fit each (flat_map event es ++ flat_map dump images) refl)
-    rest (is ∙ append_assoc (event e) (flat_map event es) (flat_map dump images)) x
+    (events_apart version layout l) e (flat_map event es ++ more) fault (length-event e) fit.0
+    (events_none version layout (index + 1) es more fault l fit.1 none (flat_map event es ++ more) refl)
+    rest (is ∙ append_assoc (event e) (flat_map event es) more) x
 
-log_none : (version : Version) (layout : Layout) (calls : List ℕ) (es : List Event) (images : List Image) (fault : Format) → IsLayout layout
-    → AllByRecursion (λ call. call < 2 ^ 32) calls → AllByRecursion (IsEvent version layout) es → AllByRecursion IsImage images
-    → length images ≡ layout.replicas
-    → (rest : List ℕ) → rest ≡ flat_map log_word calls ++ (flat_map event es ++ flat_map dump images)
-    → AtLog version layout (length calls) (length es) rest fault → ⊥
+log_none : (version : Version) (layout : Layout) (calls : List ℕ) (events : ℕ) (more : List ℕ) (fault : Format)
+    → AllByRecursion (λ call. call < 2 ^ 32) calls → (AtEvents version layout 0 events more fault → ⊥)
+    → (rest : List ℕ) → rest ≡ flat_map log_word calls ++ more → AtLog version layout (length calls) events rest fault → ⊥
 unfolding AtLog
-log_none version layout [] es images fault l fit events_fit images_fit each rest is x =
-    events_none version layout 0 es images fault l events_fit images_fit each rest is x
-log_none version layout (call ∷ calls) es images fault l fit events_fit images_fit each rest is x =
-    unit_none 4 None (λ call. call < 2 ^ 32) log_word (λ _. AtLog version layout (length calls) (length es)) log_words_apart call
-    (flat_map log_word calls ++ (flat_map event es ++ flat_map dump images)) fault refl fit.0
-    (log_none version layout calls es images fault l fit.1 events_fit images_fit each
-    (flat_map log_word calls ++ (flat_map event es ++ flat_map dump images)) refl)
-    rest (is ∙ append_assoc (log_word call) (flat_map log_word calls) (flat_map event es ++ flat_map dump images)) x
+log_none version layout [] events more fault fit none rest is x =
+    none (subst (λ (ys : List ℕ). AtEvents version layout 0 events ys fault) is x)
+log_none version layout (call ∷ calls) events more fault fit none rest is x =
+    unit_none 4 None (λ call. call < 2 ^ 32) log_word (λ _. AtLog version layout (length calls) events) log_words_apart call
+    (flat_map log_word calls ++ more) fault refl fit.0
+    (log_none version layout calls events more fault fit.1 none (flat_map log_word calls ++ more) refl)
+    rest (is ∙ append_assoc (log_word call) (flat_map log_word calls) more) x
 
-numbered_none : (trace : Recording) (fault : Format) → IsRecording trace → BehindVersion trace.version (numbered trace) fault → ⊥
-numbered_none trace fault h =
-    unit_none 14 (Some BadCount) (IsCounts trace.version) counts (BehindCounts trace.version) (counts_apart trace.version) (counts_of trace)
-    (logs trace ++ (events trace ++ dumps trace)) fault refl (counts_fit trace h)
-    (log_none trace.version trace.layout trace.log trace.events trace.dumps fault h.layout (recursion_from_All _ _ h.log)
-    (recursion_from_All (IsEvent trace.version trace.layout) trace.events h.events) (recursion_from_All _ _ h.dumps) h.one_dump_each
-    (logs trace ++ (events trace ++ dumps trace)) refl)
-    (numbered trace) refl
+start_none : (start : Option Image) (Behind : List ℕ → Format → Type 0) (more : List ℕ) (fault : Format) → IfSome start IsStart
+    → (Behind more fault → ⊥) → (rest : List ℕ) → rest ≡ start_units start ++ more → AtStart (start_frames start) Behind rest fault → ⊥
+start_none None Behind more fault fit none rest is x = none (subst (λ (ys : List ℕ). Behind ys fault) is x)
+start_none (Some start) Behind more fault fit none rest is x =
+    by_count (finite.len start.frames) refl fit.some_frame x where
+      by_count : (n : ℕ) → finite.len start.frames ≡ n → 1 ≤ n → AtStart n Behind rest fault → ⊥
+      by_count zero count some x = omega arith
+      by_count (suc n) count some x =
+          unit_none 8 None (λ root. root < 2 ^ 64) frame_number (λ _. AtFrames BadStart 0 (suc n) None Behind) root_apart start.root (frames_of start ++ more)
+          fault refl fit.image.root
+          (λ y. frames_none BadStart 0 (finite.entries start.frames) None Behind more fault (image_frames_fit Segment start fit.image)
+          (rising_from_none (finite.entries start.frames) (finite.entries_sorted start.frames)) none (frames_of start ++ more) refl
+          (subst (λ (k : ℕ). AtFrames BadStart 0 k None Behind (frames_of start ++ more) fault) (sym count ∙ finite.len-entries start.frames) y))
+          rest (is ∙ append_assoc (frame_number start.root) (frames_of start) more) x
 
-pub no_fault : (bytes : List ℕ) (trace : Recording) (fault : Format) → Spells bytes trace → HasFormatFault bytes fault → ⊥
-no_fault bytes trace fault spells =
-    unit_none {A = Unit {0}} 4 (Some BadMagic) (λ _. ⊤) (λ _. magic) (λ _. BehindMagic) magic_apart tt (versioned trace) fault refl tt
-    (unit_none 2 (Some BadVersion) (λ version. ⊤) version_word BehindVersion versions_apart trace.version (numbered trace) fault refl tt
-    (numbered_none trace fault spells.in_range) (versioned trace) refl)
-    bytes (spells.spelled ∙ ap (λ rest. magic ++ rest) (spelling_behind_magic trace))
+layout_none : (form : Form) (layout : Layout) (Behind : List ℕ → Format → Type 0) (rest : List ℕ) (fault : Format) → Follows form layout
+    → (Behind rest fault → ⊥) → AtLayout form layout Behind rest fault → ⊥
+layout_none form layout Behind rest fault follows none (inl x) = x.0 follows
+layout_none form layout Behind rest fault follows none (inr x) = none x.1
+
+counted_then : (a b c d e : List ℕ) → (a ++ (b ++ (c ++ d))) ++ e ≡ a ++ (b ++ (c ++ (d ++ e)))
+counted_then a b c d e = simp append_assoc
+
+numbered_none : (form : Form) (trace : Recording) (more : List ℕ) (fault : Format) → Follows form trace.layout → IsRecording trace
+    → (AtEnd trace.version more fault → ⊥) → BehindVersion form trace.version (numbered trace ++ more) fault → ⊥
+numbered_none form trace more fault follows h none =
+    let behind = AtLog trace.version trace.layout (length trace.log) (length trace.events) in
+    let images = dumps trace ++ more in
+    let calls = events trace ++ images in
+    let rest = logs trace ++ calls in
+    unit_none (counts_bytes trace.version) (Some BadCount) (IsCounts trace.version) (counts trace.version) (BehindCounts form trace.version)
+    (counts_apart trace.version) (counts_of trace) (counted trace ++ more) fault (length-counts trace.version (counts_of trace)) (counts_fit trace h)
+    (λ x. layout_none form trace.layout (AtStart (start_frames trace.start) behind) (counted trace ++ more) fault follows
+    (λ y. start_none trace.start behind rest fault h.start
+    (log_none trace.version trace.layout trace.log (length trace.events) calls fault (recursion_from_All _ _ h.log)
+    (events_none trace.version trace.layout 0 trace.events images fault (is_wide trace.version trace.layout h.layout)
+    (recursion_from_All (IsEvent trace.version trace.layout) trace.events h.events)
+    (λ z. dumps_none trace.version 0 trace.dumps more fault (recursion_from_All _ _ h.dumps) none images refl
+    (subst (λ (n : ℕ). AtDumps trace.version 0 n images fault) (sym h.one_dump_each) z)) calls refl) rest refl)
+    (counted trace ++ more) (counted_then (start_units trace.start) (logs trace) (events trace) (dumps trace) more) y) x)
+    (numbered trace ++ more) (append_assoc (counts trace.version (counts_of trace)) (counted trace) more)
+
+-- nothing is wrong with a spelling and what comes after it, where that isn't wrong at the end
+no_fault_ahead : (form : Form) (bytes more : List ℕ) (trace : Recording) (fault : Format) → SpellsAs form bytes trace
+    → (AtEnd trace.version more fault → ⊥) → HasFaultAs form (bytes ++ more) fault → ⊥
+no_fault_ahead form bytes more trace fault spells none =
+    unit_none {A = Unit {0}} 4 (Some BadMagic) (λ _. ⊤) (λ _. magic_of form) (λ _. BehindMagic form) (magic_apart form) tt (versioned trace ++ more) fault
+    (length-magic form) tt
+    (unit_none 2 (Some BadVersion) (IsVersionOf form) version_word (BehindVersion form) (versions_apart form) trace.version (numbered trace ++ more) fault
+    refl spells.of_form (numbered_none form trace more fault spells.follows spells.in_range none) (versioned trace ++ more)
+    (append_assoc (version_word trace.version) (numbered trace) more))
+    (bytes ++ more)
+    (ap (λ (l : List ℕ). l ++ more)
+    (spells.spelled ∙ spelling_is trace ∙ ap (λ (l : List ℕ). l ++ versioned trace) (magic_is form trace.version spells.of_form))
+    ∙ append_assoc (magic_of form) (versioned trace) more)
+
+pub no_fault : (form : Form) (bytes : List ℕ) (trace : Recording) (fault : Format) → SpellsAs form bytes trace → HasFaultAs form bytes fault → ⊥
+no_fault form bytes trace fault spells h =
+    no_fault_ahead form bytes [] trace fault spells (end_none trace.version fault)
+    (subst (λ (l : List ℕ). HasFaultAs form l fault) (sym (append-nil bytes)) h)
+
+-- and bytes that begin with a segment have no fault as one
+pub no_fault_of_segment : (before : Option Layout) (bytes more : List ℕ) (segment : Recording) (fault : Format) → SpellsSegment before bytes segment
+    → HasSegmentFault before (bytes ++ more) fault → ⊥
+no_fault_of_segment before bytes more segment fault spells =
+    no_fault_ahead (forms.Segment before) bytes more segment fault spells (end_of_segment before segment.version more fault spells.of_form)

@@ -14,7 +14,7 @@ use Rattle.vs_types.specs.Space.{Space}
 use Rattle.vs_types.specs.declared.answer.Answer.{Answer}
 use Rattle.nr_trace.specs.Recording.{Recording}
 use Rattle.nr_trace.specs.Spelling.{answer_fields}
-use Rattle.nr_trace.specs.Calls.{Invocation, call_of, operation_of, address_of, IsCall, IsUpdate, IsRead, Response, reply_to, IsAnswered}
+use Rattle.nr_trace.specs.Calls.{Invocation, call_of, operation_of, address_of, IsOrdered, IsUpdate, IsRead, Response, reply_to, IsAnswered}
 use Rattle.nr_trace.specs.Orders.{below, before, updates, operations, space_from, answer_in, reads_at, recorded_order}
 use Rattle.nr_trace.specs.Faults.{HasFaultFrom, StandsAfter}
 use Rattle.nr_trace.specs.Laws.{HasCleanLog, IsSerialFrom}
@@ -23,7 +23,7 @@ use Rattle.nr_trace.proofs.LawsOfUnits.{answer_apart}
 use Rattle.nr_trace.proofs.LawsOfLists.{In, Contains-from_in, in_from_Contains, in_left, in_right, in_either, in_filter, in_filtered, in_flat_map}
 use Rattle.nr_trace.proofs.LawsOfLists.{in_flat_mapped, in_below, below_in, below_split, distinct_append, distinct_filter, option_distinct, below_distinct}
 use Rattle.nr_trace.proofs.LawsOfLists.{flat_map_distinct, flat_map_next, before_split, option_parts, take-next}
-use Rattle.nr_trace.proofs.LawsOfCalls.{the_some, is_some_from, not_both, update_is_call, read_is_call, call_within, no_operation, answered_stands}
+use Rattle.nr_trace.proofs.LawsOfCalls.{the_some, is_some_from, not_both, read_is_call, call_within, no_operation, answered_stands}
 use Rattle.nr_trace.proofs.LawsOfCalls.{placed_is_update, stands_once}
 
 -- ---- the reads and the update of a place
@@ -99,9 +99,9 @@ member_stands trace call clean i =
 pub standing_is_member : (trace : Recording) (n call : ℕ) → n ≤ length trace.log → StandsAfter trace call n → In call (recorded_order trace)
 standing_is_member trace n call l h = blocks_in trace n (length trace.log + 1) call (omega arith) h
 
-stands_as_call : (trace : Recording) (call n : ℕ) → StandsAfter trace call n → IsCall trace call
-stands_as_call trace call n (inl (u, e)) = update_is_call trace call u
-stands_as_call trace call n (inr h) = read_is_call trace call h.0
+pub stands_ordered : (trace : Recording) (call n : ℕ) → StandsAfter trace call n → IsOrdered trace call
+stands_ordered trace call n (inl (u, e)) = inl u
+stands_ordered trace call n (inr h) = inr h.0
 
 stands_answered : (trace : Recording) (call n : ℕ) → StandsAfter trace call n → IsAnswered trace call ⊎ IsUpdate trace call
 stands_answered trace call n (inl (u, e)) = inr u
@@ -273,34 +273,34 @@ same_or_not a b =
       by_parts (inl c) (inl s) (inl r) (inr n) = inr (λ e. n (ap (λ x. (answer_fields x).value) e))
 
 pub right_answer : (start : Space) (trace : Recording) → ((call : ℕ) → HasFaultFrom start trace (WrongAnswer call) → ⊥) → (call : ℕ) (made : Invocation) (reply : Response)
-    → call_of trace call ≡ Some made → reply_to trace call ≡ Some reply
+    → call_of trace call ≡ Some made → made.touch ≡ false → reply_to trace call ≡ Some reply
     → reply.answer ≡ answer_in trace.layout (space_from start trace (before call (recorded_order trace))) made.request
-right_answer start trace right call made reply e f =
+right_answer start trace right call made reply e no_touch f =
     by_case (same_or_not reply.answer (answer_in trace.layout (space_from start trace (before call (recorded_order trace))) made.request)) where
       by_case : (reply.answer ≡ answer_in trace.layout (space_from start trace (before call (recorded_order trace))) made.request) ⊎
           (reply.answer ≢ answer_in trace.layout (space_from start trace (before call (recorded_order trace))) made.request)
           → reply.answer ≡ answer_in trace.layout (space_from start trace (before call (recorded_order trace))) made.request
       by_case (inl h) = h
-      by_case (inr n) = absurd (right call (record { made = made; is_made = e; reply = reply; is_reply = f; differs = n }))
+      by_case (inr n) = absurd (right call (record { made = made; is_made = e; no_touch = no_touch; reply = reply; is_reply = f; differs = n }))
 
 pub legal_but_precedence : (start : Space) (trace : Recording) → HasCleanLog trace → ((call : ℕ) → HasFaultFrom start trace (WrongAnswer call) → ⊥)
     → IsSerialFrom start trace (recorded_order trace)
 legal_but_precedence start trace clean right = record {
   members = record {
     once = order_distinct trace clean;
-    calls = λ call m. is_call call (member_stands trace call clean (in_from_Contains call (recorded_order trace) m));
-    answered = λ call c a. stands call (the_some (reply_to trace call) a);
+    calls = λ call m. ordered call (member_stands trace call clean (in_from_Contains call (recorded_order trace) m));
+    answered = λ call c a. stands call c (the_some (reply_to trace call) a);
     others = λ call m. kind call (member_stands trace call clean (in_from_Contains call (recorded_order trace) m));
   };
   answers = right_answer start trace right;
 } where
-  is_call : (call : ℕ) → (n : ℕ) × (n ≤ length trace.log) × StandsAfter trace call n → IsCall trace call
-  is_call call (n, l, h) = stands_as_call trace call n h
+  ordered : (call : ℕ) → (n : ℕ) × (n ≤ length trace.log) × StandsAfter trace call n → IsOrdered trace call
+  ordered call (n, l, h) = stands_ordered trace call n h
 
   kind : (call : ℕ) → (n : ℕ) × (n ≤ length trace.log) × StandsAfter trace call n → IsAnswered trace call ⊎ IsUpdate trace call
   kind call (n, l, h) = stands_answered trace call n h
 
-  stands : (call : ℕ) → (reply : Response) × (reply_to trace call ≡ Some reply) → Contains (recorded_order trace) call
-  stands call (reply, e) =
-      let both = answered_stands trace call reply clean e in
+  stands : (call : ℕ) → IsOrdered trace call → (reply : Response) × (reply_to trace call ≡ Some reply) → Contains (recorded_order trace) call
+  stands call is_ordered (reply, e) =
+      let both = answered_stands trace call reply clean is_ordered e in
       Contains-from_in call (recorded_order trace) (standing_is_member trace reply.at call both.1 both.0)

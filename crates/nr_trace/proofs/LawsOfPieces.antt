@@ -15,6 +15,7 @@ use Rattle.nr_trace.specs.declared.fault.Format.TheVariants.{Truncated}
 use Rattle.nr_trace.proofs.LawsOfFormat.{no_fault, one_fault}
 use Rattle.nr_trace.proofs.LawsOfSpelling.{one_trace}
 use Rattle.nr_trace.proofs.OnlySpelled.{settled_now}
+use Rattle.nr_trace.specs.declared.version.Form.TheVariants as forms
 
 -- what a feed has come to is that of these bytes
 abbrev IsOf : List ℕ → Fed → Type 0
@@ -53,8 +54,8 @@ pub one_reading : (bytes : List ℕ) (first second : Result Recording (Fail Form
     → first ≢ Err Memory → second ≢ Err Memory → first ≡ second
 one_reading bytes (Ok one) (Ok other) h k m n = ap Ok (one_trace bytes one other h k)
 one_reading bytes (Ok one) (Err Memory) h k m n = absurd (n refl)
-one_reading bytes (Ok one) (Err (Refused fault)) h k m n = absurd (no_fault bytes one fault h k)
+one_reading bytes (Ok one) (Err (Refused fault)) h k m n = absurd (no_fault forms.Trace bytes one fault h k)
 one_reading bytes (Err Memory) second h k m n = absurd (m refl)
-one_reading bytes (Err (Refused fault)) (Ok other) h k m n = absurd (no_fault bytes other fault k h)
+one_reading bytes (Err (Refused fault)) (Ok other) h k m n = absurd (no_fault forms.Trace bytes other fault k h)
 one_reading bytes (Err (Refused fault)) (Err Memory) h k m n = absurd (n refl)
-one_reading bytes (Err (Refused fault)) (Err (Refused other)) h k m n = ap (λ f. Err (Refused f)) (one_fault bytes fault other h k)
+one_reading bytes (Err (Refused fault)) (Err (Refused other)) h k m n = ap (λ f. Err (Refused f)) (one_fault forms.Trace bytes fault other h k)

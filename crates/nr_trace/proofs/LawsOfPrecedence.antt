@@ -7,16 +7,16 @@ use Rattle.std.proofs.lemmas.Bool.{cases_order, cases_lt}
 use Rattle.std.proofs.lemmas.Option.{same_Some, none-some}
 use Rattle.vs_types.specs.Space.{Space}
 use Rattle.nr_trace.specs.Recording.{Recording}
-use Rattle.nr_trace.specs.Calls.{operation_of, IsCall, IsUpdate, IsRead, Response, reply_in, reply_of, reply_to, Precedes}
+use Rattle.nr_trace.specs.Calls.{operation_of, IsOrdered, IsUpdate, IsRead, Response, reply_in, reply_of, reply_to, Precedes}
 use Rattle.nr_trace.specs.Orders.{below, before, reads_at, recorded_order, known_by, floor, IsLegalFrom}
 use Rattle.nr_trace.specs.Faults.{HasFault, HasFaultFrom, StandsAfter}
 use Rattle.nr_trace.specs.Laws.{HasCleanLog}
 use Rattle.nr_trace.specs.declared.fault.Fault.TheVariants.{Early, WrongAnswer}
 use Rattle.nr_trace.proofs.LawsOfLists.{In, Contains-from_in, in_from_Contains, in_left, in_right, in_filtered, below_in}
-use Rattle.nr_trace.proofs.LawsOfCalls.{update_or_read, reply_in_event, reply_that_answers, reply_is_first, reply_behind_call, answered_stands, no_operation}
+use Rattle.nr_trace.proofs.LawsOfCalls.{reply_in_event, reply_that_answers, reply_is_first, reply_behind_call, answered_stands, no_operation, ordered_no_touch}
 use Rattle.nr_trace.proofs.LawsOfCalls.{the_some}
 use Rattle.nr_trace.proofs.LawsOfOrder.{saw, saw_from_read, reads_at_in, blocks, blocks_in, earlier_reads, before_update, before_read, member_stands}
-use Rattle.nr_trace.proofs.LawsOfOrder.{legal_but_precedence}
+use Rattle.nr_trace.proofs.LawsOfOrder.{legal_but_precedence, stands_ordered}
 
 -- ---- floors
 
@@ -67,7 +67,8 @@ known_of_update trace reply u =
 pub known_of_read : (trace : Recording) (reply : Response) → IsRead trace reply.call → known_by trace reply ≡ reply.at
 known_of_read trace reply r =
     let e = no_operation trace reply.call r in
-    rw e refl
+    let f = ordered_no_touch trace reply.call (inr r) in
+    rw (e, f) refl
 
 -- ---- precedence
 
@@ -91,18 +92,18 @@ read_in_front trace n first second reply clean k l r f g (inr s) =
 -- a reply known before the second call was made, to a first call that comes after `reply.at` entries
 first_in_front : (trace : Recording) (first second n : ℕ) (reply : Response) → HasCleanLog trace → n ≤ length trace.log
     → StandsAfter trace second n → first < second
-    → reply_to trace first ≡ Some reply → reply.call ≡ first → known_by trace reply ≤ n → IsUpdate trace first ⊎ IsRead trace first
+    → reply_to trace first ≡ Some reply → reply.call ≡ first → known_by trace reply ≤ n → IsOrdered trace first
     → In first (before second (recorded_order trace))
 first_in_front trace first second n reply clean k h l f g known (inl u) =
     let is = known_of_update trace reply (subst (IsUpdate trace) (sym g) u) in
-    in_front_of trace reply.at n first second clean (omega arith) k (answered_stands trace first reply clean f).0 h
+    in_front_of trace reply.at n first second clean (omega arith) k (answered_stands trace first reply clean (inl u) f).0 h
 first_in_front trace first second n reply clean k h l f g known (inr r) =
     let is = known_of_read trace reply (subst (IsRead trace) (sym g) r) in
     let at_most : reply.at ≤ n = omega arith in
     by_order at_most (cases_order reply.at n) where
       by_order : reply.at ≤ n → (reply.at ≡ n) ⊎ ((reply.at < n) ⊎ (n < reply.at)) → In first (before second (recorded_order trace))
       by_order m (inl e) = read_in_front trace n first second reply clean k l r f e h
-      by_order m (inr (inl less)) = in_front_of trace reply.at n first second clean less k (answered_stands trace first reply clean f).0 h
+      by_order m (inr (inl less)) = in_front_of trace reply.at n first second clean less k (answered_stands trace first reply clean (inr r) f).0 h
       by_order m (inr (inr more)) = absurd (omega arith)
 
 floor_kept : (trace : Recording) → ((call : ℕ) → HasFault trace (Early call) → ⊥) → (call n : ℕ) → StandsAfter trace call n → floor trace call ≤ n
@@ -112,19 +113,18 @@ floor_kept trace in_time call n h = by_order (cases_lt n (floor trace call)) whe
   by_order (inr l) = l
 
 pub keeps_precedence : (trace : Recording) → HasCleanLog trace → ((call : ℕ) → HasFault trace (Early call) → ⊥) → (first second n : ℕ) → n ≤ length trace.log
-    → StandsAfter trace second n → Precedes trace first second
+    → StandsAfter trace second n → IsOrdered trace first → Precedes trace first second
     → In first (before second (recorded_order trace))
-keeps_precedence trace clean in_time first second n k h precedes =
+keeps_precedence trace clean in_time first second n k h ordered precedes =
     let (reply, e, g) = reply_that_answers trace precedes.1 first precedes.3 in
     let behind = reply_behind_call trace precedes.1 reply clean e in
-    let made : IsCall trace first = subst (IsCall trace) g behind.1 in
     let known = known_below_floor trace precedes.1 second reply precedes.2 e in
     let kept = floor_kept trace in_time second n h in
     let earlier : reply.call < precedes.1 = behind.0 in
     let later : precedes.1 < second = precedes.2 in
     let l : first < second = omega arith in
     let f : reply_to trace first ≡ Some reply = ap (reply_to trace) (sym g) ∙ reply_is_first trace precedes.1 reply clean e in
-    first_in_front trace first second n reply clean k h l f g (omega arith) (update_or_read trace first made)
+    first_in_front trace first second n reply clean k h l f g (omega arith) ordered
 
 pub legal : (start : Space) (trace : Recording) → HasCleanLog trace → ((call : ℕ) → HasFault trace (Early call) → ⊥)
     → ((call : ℕ) → HasFaultFrom start trace (WrongAnswer call) → ⊥) → IsLegalFrom start trace (recorded_order trace)
@@ -132,10 +132,14 @@ legal start trace clean in_time right =
     let but = legal_but_precedence start trace clean right in
     record {
       members = but.members;
-      precedence = λ first second a b p. in_front first second (member_stands trace second clean (in_from_Contains second (recorded_order trace) b)) p;
+      precedence = λ first second a b p. in_front first second (ordered first (member_stands trace first clean (in_from_Contains first (recorded_order trace) a)))
+          (member_stands trace second clean (in_from_Contains second (recorded_order trace) b)) p;
       answers = but.answers;
     } where
-      in_front : (first second : ℕ) → (n : ℕ) × (n ≤ length trace.log) × StandsAfter trace second n → Precedes trace first second
+      ordered : (call : ℕ) → (n : ℕ) × (n ≤ length trace.log) × StandsAfter trace call n → IsOrdered trace call
+      ordered call (n, l, h) = stands_ordered trace call n h
+
+      in_front : (first second : ℕ) → IsOrdered trace first → (n : ℕ) × (n ≤ length trace.log) × StandsAfter trace second n → Precedes trace first second
           → Contains (before second (recorded_order trace)) first
-      in_front first second (n, l, h) p =
-          Contains-from_in first (before second (recorded_order trace)) (keeps_precedence trace clean in_time first second n l h p)
+      in_front first second o (n, l, h) p =
+          Contains-from_in first (before second (recorded_order trace)) (keeps_precedence trace clean in_time first second n l h o p)

@@ -1,12 +1,13 @@
 -- Each unit's spelling has a fixed length, and what fits is distinguished by its spelling, whatever comes after it.
-use Rattle.std.proofs.Common.{◌≡◌, ℕ, zero, suc, ◌*◌, ◌<◌, ◌^◌, ◌%◌, Bool, true, false, List, [], ◌∷◌, ◌++◌, length, refl, ap, ap₂, sym, ◌∙◌, arith}
-use Rattle.std.specs.Prelude.{flat_map, ⊤}
+use Rattle.std.proofs.Common.{◌≡◌, ℕ, zero, suc, ◌*◌, ◌<◌, ◌≤◌, ◌^◌, ◌%◌, Bool, true, false, List, [], ◌∷◌, ◌++◌, length, refl, ap, ap₂, sym, ◌∙◌, arith}
+use Rattle.std.specs.Prelude.{flat_map}
 use Rattle.std.specs.List.{AllByRecursion}
 use Rattle.std.specs.Int.{w8, w16, w32, w64, to_be_bytes, from_be_bytes}
 use Rattle.std.proofs.lemmas.Nat.{from_be_bytes-to_be_bytes_2, from_be_bytes-to_be_bytes_4, from_be_bytes-to_be_bytes_8}
 use Rattle.std.proofs.lemmas.List.{append_assoc, length-append}
 use Rattle.std.proofs.lemmas.List.Elements.{recursion_from_All}
-use Rattle.vs_types.specs.Config.{Layout, IsLayout}
+use Rattle.vs_types.specs.Config.{Layout, IsLayoutWithin}
+use Rattle.vs_types.specs.declared.limits.TheConstants.{FRAMES}
 use Rattle.vs_types.specs.Depth.{levels}
 use Rattle.vs_types.specs.Codes.{size_code, rights_code, mode_code, access_code}
 use Rattle.vs_types.specs.Fields.{request_fields}
@@ -30,15 +31,18 @@ use Rattle.vs_types.specs.declared.answer.Answer.TheVariants.{Done, Overlap, Ful
 use Rattle.vs_types.proofs.Pages.{canonical_fits}
 use Rattle.vs_types.proofs.LogWords.{size_code_low, rights_code_low}
 use Rattle.nr_trace.specs.Recording.{IsAnswer, IsEvent}
-use Rattle.nr_trace.specs.Spelling.{answer_fields, version_word, counts, log_word, event, dump_head, frame_number, frame_words}
-use Rattle.nr_trace.specs.FirstFault.{IsCounts, IsDumpHead}
+use Rattle.nr_trace.specs.Spelling.{answer_fields, touch_fields, version_word, counts, start_count, log_word, event, dump_head, frame_number, frame_words}
+use Rattle.nr_trace.specs.Versions.{IsVersionOf, most_frames, most_start, most_tables, most_threads}
+use Rattle.nr_trace.specs.FirstFault.{IsCounts, IsDumpHead, counts_bytes}
 use Rattle.nr_trace.specs.declared.fields.AnswerFields.{AnswerFields}
 use Rattle.nr_trace.specs.declared.fields.Counts.{Counts}
 use Rattle.nr_trace.specs.declared.fields.DumpHead.{DumpHead}
 use Rattle.nr_trace.specs.declared.version.Version.{Version}
-use Rattle.nr_trace.specs.declared.version.Version.TheVariants.{V1, V2}
+use Rattle.nr_trace.specs.declared.version.Version.TheVariants.{V1, V2, Segment}
+use Rattle.nr_trace.specs.declared.version.Form.{Form}
+use Rattle.nr_trace.specs.declared.version.Form.TheVariants as forms
 use Rattle.nr_trace.specs.declared.event.Event.{Event}
-use Rattle.nr_trace.specs.declared.event.Event.TheVariants.{Call, Reply}
+use Rattle.nr_trace.specs.declared.event.Event.TheVariants.{Call, Reply, Touch}
 
 -- two values that fit are one if their spellings begin one list, and then what comes after is one too
 abbrev pub ToldApart : {A : Type 0} → (A → Type 0) → (A → List ℕ) → Type 0
@@ -161,6 +165,12 @@ request_back (Access address mode access) = ap₂ (Access address) (mode_back mo
 
 pub request_apart : (a b : Query) → request_fields a ≡ request_fields b → a ≡ b
 request_apart a b e = sym (request_back a) ∙ ap request_from e ∙ request_back b
+
+pub touch_back : (address : ℕ) (mode : Mode) (access : accesses.Access) → request_from (touch_fields address mode access) ≡ Access address mode access
+touch_back address mode access = ap₂ (Access address) (mode_back mode) (access_back access)
+
+pub touch_apart : (a b : ℕ) (m n : Mode) (c d : accesses.Access) → touch_fields a m c ≡ touch_fields b n d → Access a m c ≡ Access b n d
+touch_apart a b m n c d e = sym (touch_back a m c) ∙ ap request_from e ∙ touch_back b n d
 
 abbrev answer_of_code : ℕ → AnswerFields → Answer
 answer_of_code zero f = Done
@@ -340,7 +350,28 @@ replies_apart c d e f g h u v us vs x y is =
       rest = r7.1;
     }
 
-pub call_fits : (version : Version) (layout : Layout) (replica thread : ℕ) (request : Query) → IsLayout layout
+-- the layout of any version is within these ranges
+abbrev pub IsWide : Layout → Type 0
+IsWide layout = IsLayoutWithin FRAMES FRAMES layout
+
+most_wide : (version : Version) → (most_threads version ≤ FRAMES) × (most_tables version ≤ FRAMES)
+most_wide V1 = (omega arith, omega arith)
+most_wide V2 = (omega arith, omega arith)
+most_wide Segment = (omega arith, omega arith)
+
+pub is_wide : (version : Version) (layout : Layout) → IsLayoutWithin (most_threads version) (most_tables version) layout → IsWide layout
+is_wide version layout l =
+    let most = most_wide version in
+    record {
+      some_replica = l.some_replica;
+      few_replicas = l.few_replicas;
+      some_thread = l.some_thread;
+      few_threads = omega (arith, l.few_threads, most.0);
+      some_table = l.some_table;
+      few_tables = omega (arith, l.few_tables, most.1);
+    }
+
+pub call_fits : (version : Version) (layout : Layout) (replica thread : ℕ) (request : Query) → IsWide layout
     → IsEvent version layout (Call replica thread request)
     → CallFits replica thread (request_fields request) 0
 call_fits version layout replica thread request l h =
@@ -351,6 +382,23 @@ call_fits version layout replica thread request l h =
       replica_fits = omega (arith, l.few_replicas);
       thread_fits = omega (arith, l.few_threads);
       kind = omega (arith, fits.kind);
+      size = omega (arith, fits.size);
+      rights = omega (arith, fits.rights);
+      unused_fits = omega arith;
+      address = fits.address;
+      physical = fits.physical;
+    }
+
+pub touch_fits : (version : Version) (layout : Layout) (replica thread address : ℕ) (mode : Mode) (access : accesses.Access) → IsWide layout
+    → IsEvent version layout (Touch replica thread address mode access) → CallFits replica thread (touch_fields address mode access) 0
+touch_fits version layout replica thread address mode access l h =
+    let r : replica < layout.replicas = h.0 in
+    let t : thread < layout.threads = h.1 in
+    let fits = request_fits layout.depth (Access address mode access) h.2 in
+    record {
+      replica_fits = omega (arith, l.few_replicas);
+      thread_fits = omega (arith, l.few_threads);
+      kind = omega arith;
       size = omega (arith, fits.size);
       rights = omega (arith, fits.rights);
       unused_fits = omega arith;
@@ -375,20 +423,52 @@ reply_fits version layout call at answer h =
 tags_differ : (us vs : List ℕ) → to_be_bytes w8 0 ++ us ≡ to_be_bytes w8 1 ++ vs → ⊥
 tags_differ us vs e =
     let r = number_8 0 1 us vs (omega arith) (omega arith) e in
-    let h : 0 ≡ 1 = r.0 in
+    let h : zero ≡ suc zero = r.0 in
     omega arith
 
 pub length-event : (e : Event) → length (event e) ≡ 24
 length-event (Call replica thread request) = refl
+length-event (Touch replica thread address mode access) = refl
 length-event (Reply call at answer) = refl
 
-pub events_apart : (version : Version) (layout : Layout) → IsLayout layout → ToldApart (IsEvent version layout) event
+-- no request has the fields of a touch
+no_touch : (depth : Depth) (request : Query) (address : ℕ) (mode : Mode) (access : accesses.Access) → IsQuery depth request
+    → request_fields request ≡ touch_fields address mode access → ⊥
+no_touch depth request address mode access is e =
+    let fits = request_fits depth request is in
+    let kind : (request_fields request).kind ≡ 5 = ap (λ (f : RequestFields). f.kind) e in
+    omega (arith, fits.kind, kind)
+
+-- the touch of an access
+abbrev touch_as : ℕ → ℕ → Query → Event
+touch_as replica thread (Access address mode access) = Touch replica thread address mode access
+touch_as replica thread request = Call replica thread request
+
+pub events_apart : (version : Version) (layout : Layout) → IsWide layout → ToldApart (IsEvent version layout) event
 events_apart version layout l (Call r t q) (Call s u p) us vs h k e =
     let rest = number_8 0 0 (call_bytes r t (request_fields q) 0 ++ us) (call_bytes s u (request_fields p) 0 ++ vs) (omega arith) (omega arith) e in
     let same = calls_apart r s t u (request_fields q) (request_fields p) 0 0 us vs (call_fits version layout r t q l h)
     (call_fits version layout s u p l k) rest.1 in
     let request = request_apart q p same.fields in
     (λ i. Call (same.replica i) (same.thread i) (request i), same.rest)
+events_apart version layout l (Call r t q) (Touch s u b n d) us vs h k e =
+    let rest = number_8 0 0 (call_bytes r t (request_fields q) 0 ++ us) (call_bytes s u (touch_fields b n d) 0 ++ vs) (omega arith) (omega arith) e in
+    let same = calls_apart r s t u (request_fields q) (touch_fields b n d) 0 0 us vs (call_fits version layout r t q l h)
+    (touch_fits version layout s u b n d l k) rest.1 in
+    absurd (no_touch layout.depth q b n d h.2 same.fields)
+events_apart version layout l (Touch r t a m c) (Call s u p) us vs h k e =
+    let rest = number_8 0 0 (call_bytes r t (touch_fields a m c) 0 ++ us) (call_bytes s u (request_fields p) 0 ++ vs) (omega arith) (omega arith) e in
+    let same = calls_apart r s t u (touch_fields a m c) (request_fields p) 0 0 us vs (touch_fits version layout r t a m c l h)
+    (call_fits version layout s u p l k) rest.1 in
+    absurd (no_touch layout.depth p a m c k.2 (sym same.fields))
+events_apart version layout l (Touch r t a m c) (Touch s u b n d) us vs h k e =
+    let rest = number_8 0 0 (call_bytes r t (touch_fields a m c) 0 ++ us) (call_bytes s u (touch_fields b n d) 0 ++ vs) (omega arith) (omega arith) e in
+    let same = calls_apart r s t u (touch_fields a m c) (touch_fields b n d) 0 0 us vs (touch_fits version layout r t a m c l h)
+    (touch_fits version layout s u b n d l k) rest.1 in
+    let access = touch_apart a b m n c d same.fields in
+    (λ i. touch_as (same.replica i) (same.thread i) (access i), same.rest)
+events_apart version layout l (Touch r t a m c) (Reply d b y) us vs h k e = absurd (tags_differ _ _ e)
+events_apart version layout l (Reply c a x) (Touch s u b n d) us vs h k e = absurd (tags_differ _ _ (sym e))
 events_apart version layout l (Call r t q) (Reply d b y) us vs h k e = absurd (tags_differ _ _ e)
 events_apart version layout l (Reply c a x) (Call s u p) us vs h k e = absurd (tags_differ _ _ (sym e))
 events_apart version layout l (Reply c a x) (Reply d b y) us vs h k e =
@@ -410,25 +490,61 @@ levels_few : (d : Depth) → levels d < 2 ^ 8
 levels_few Four = omega arith
 levels_few Five = omega arith
 
-pub length-counts : (numbers : Counts) → length (counts numbers) ≡ 14
-length-counts numbers = refl
+pub length-counts : (version : Version) (numbers : Counts) → length (counts version numbers) ≡ counts_bytes version
+length-counts V1 numbers = refl
+length-counts V2 numbers = refl
+length-counts Segment numbers = refl
 
-pub counts_apart : (version : Version) → ToldApart (IsCounts version) counts
+pub few_of_start : (version : Version) → most_start version ≤ FRAMES
+few_of_start V1 = omega arith
+few_of_start V2 = omega arith
+few_of_start Segment = omega arith
+
+pub few_of : (version : Version) → most_frames version ≤ FRAMES
+few_of V1 = omega arith
+few_of V2 = omega arith
+few_of Segment = omega arith
+
+starts_apart : (version : Version) (m n : ℕ) (us vs : List ℕ) → m ≤ most_start version → n ≤ most_start version
+    → start_count version m ++ us ≡ start_count version n ++ vs → (m ≡ n) × (us ≡ vs)
+starts_apart V1 m n us vs h k e = (omega arith, e)
+starts_apart V2 m n us vs h k e = (omega arith, e)
+starts_apart Segment m n us vs h k e = number_32 m n us vs (omega arith) (omega arith) e
+
+pub counts_apart : (version : Version) → ToldApart (IsCounts version) (counts version)
 counts_apart version a b us vs h k e =
+    let wide = is_wide version a.layout h.layout in
+    let also = is_wide version b.layout k.layout in
     let r1 = number_8 (levels a.layout.depth) (levels b.layout.depth) _ _ (levels_few a.layout.depth) (levels_few b.layout.depth) e in
-    let r2 = number_8 a.layout.replicas b.layout.replicas _ _ (omega (arith, h.layout.few_replicas)) (omega (arith, k.layout.few_replicas)) r1.1 in
-    let r3 = number_16 a.layout.threads b.layout.threads _ _ (omega (arith, h.layout.few_threads)) (omega (arith, k.layout.few_threads)) r2.1 in
-    let r4 = number_16 a.layout.tables b.layout.tables _ _ (omega (arith, h.layout.few_tables)) (omega (arith, k.layout.few_tables)) r3.1 in
+    let r2 = number_8 a.layout.replicas b.layout.replicas _ _ (omega (arith, wide.few_replicas)) (omega (arith, also.few_replicas)) r1.1 in
+    let r3 = number_16 a.layout.threads b.layout.threads _ _ (omega (arith, wide.few_threads)) (omega (arith, also.few_threads)) r2.1 in
+    let r4 = number_16 a.layout.tables b.layout.tables _ _ (omega (arith, wide.few_tables)) (omega (arith, also.few_tables)) r3.1 in
     let r5 = number_32 a.places b.places _ _ (omega (arith, h.few_places)) (omega (arith, k.few_places)) r4.1 in
-    let r6 = number_32 a.events b.events us vs (omega (arith, h.few_events)) (omega (arith, k.few_events)) r5.1 in
-    let depth = levels_apart a.layout.depth b.layout.depth r1.0 in
-    (λ i. record { layout = record { depth = depth i; replicas = r2.0 i; threads = r3.0 i; tables = r4.0 i }; places = r5.0 i; events = r6.0 i }, r6.1)
+    let r6 = number_32 a.events b.events _ _ (omega (arith, h.few_events)) (omega (arith, k.few_events)) r5.1 in
+    let r7 = starts_apart version a.start b.start us vs h.few_start k.few_start r6.1 in
+    let depth = levels_apart a.layout.depth b.layout.depth r1.0 in (
+      λ i. record {
+        layout = record { depth = depth i; replicas = r2.0 i; threads = r3.0 i; tables = r4.0 i };
+        places = r5.0 i;
+        events = r6.0 i;
+        start = r7.0 i;
+      },
+      r7.1,
+    )
 
-pub versions_apart : ToldApart (λ version. ⊤) version_word
-versions_apart V1 V1 us vs h k e = (refl, (number_16 1 1 us vs (omega arith) (omega arith) e).1)
-versions_apart V1 V2 us vs h k e = absurd (omega (arith, (number_16 1 2 us vs (omega arith) (omega arith) e).0))
-versions_apart V2 V1 us vs h k e = absurd (omega (arith, (number_16 2 1 us vs (omega arith) (omega arith) e).0))
-versions_apart V2 V2 us vs h k e = (refl, (number_16 2 2 us vs (omega arith) (omega arith) e).1)
+pub versions_apart : (form : Form) → ToldApart (IsVersionOf form) version_word
+versions_apart forms.Trace V1 V1 us vs h k e = (refl, (number_16 1 1 us vs (omega arith) (omega arith) e).1)
+versions_apart forms.Trace V1 V2 us vs h k e = absurd (omega (arith, (number_16 1 2 us vs (omega arith) (omega arith) e).0))
+versions_apart forms.Trace V2 V1 us vs h k e = absurd (omega (arith, (number_16 2 1 us vs (omega arith) (omega arith) e).0))
+versions_apart forms.Trace V2 V2 us vs h k e = (refl, (number_16 2 2 us vs (omega arith) (omega arith) e).1)
+versions_apart forms.Trace Segment b us vs h k e = absurd h
+versions_apart forms.Trace V1 Segment us vs h k e = absurd k
+versions_apart forms.Trace V2 Segment us vs h k e = absurd k
+versions_apart (forms.Segment before) Segment Segment us vs h k e = (refl, (number_16 1 1 us vs (omega arith) (omega arith) e).1)
+versions_apart (forms.Segment before) V1 b us vs h k e = absurd h
+versions_apart (forms.Segment before) V2 b us vs h k e = absurd h
+versions_apart (forms.Segment before) Segment V1 us vs h k e = absurd k
+versions_apart (forms.Segment before) Segment V2 us vs h k e = absurd k
 
 pub log_words_apart : ToldApart (λ call. call < 2 ^ 32) log_word
 log_words_apart = number_32
@@ -436,10 +552,11 @@ log_words_apart = number_32
 pub length-head : (head : DumpHead) → length (dump_head head) ≡ 16
 length-head head = refl
 
-pub heads_apart : ToldApart IsDumpHead dump_head
-heads_apart a b us vs h k e =
+pub heads_apart : (version : Version) → ToldApart (IsDumpHead version) dump_head
+heads_apart version a b us vs h k e =
+    let few = few_of version in
     let r1 = number_32 a.applied b.applied _ _ h.applied k.applied e in
-    let r2 = number_32 a.frames b.frames _ _ (omega (arith, h.few_frames)) (omega (arith, k.few_frames)) r1.1 in
+    let r2 = number_32 a.frames b.frames _ _ (omega (arith, h.few_frames, few)) (omega (arith, k.few_frames, few)) r1.1 in
     let r3 = number_64 a.root b.root us vs h.root k.root r2.1 in
     (λ i. record { applied = r1.0 i; frames = r2.0 i; root = r3.0 i }, r3.1)
 

@@ -1,6 +1,7 @@
 pub mod Events
 pub mod Words
 pub mod Counts
+pub mod Touches
 pub mod Units
 pub mod Spelled
 pub mod Taken
@@ -13,6 +14,7 @@ pub mod ExamplesOfFaults
 mod ExamplesOfDumps
 mod ExamplesOfFormats
 pub mod ExamplesOfRanges
+mod ExamplesOfSegments
 pub mod LawsOfUnits
 pub mod LawsOfSpelling
 pub mod LawsOfLength
@@ -36,4 +38,5 @@ pub mod Images
 pub mod Written
 pub mod Framed
 pub mod Feeding
+pub mod FeedingSegments
 pub mod WholeParts

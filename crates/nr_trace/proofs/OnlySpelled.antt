@@ -10,6 +10,7 @@ use Rattle.nr_trace.specs.Feed.{Fed, HasLastingFault, Feeds, Ends}
 use Rattle.nr_trace.specs.Feed.Fed.{Taken}
 use Rattle.vs_types.specs.Refusal.{IfRefused}
 use Rattle.nr_trace.specs.declared.fault.Format.{Format}
+use Rattle.nr_trace.specs.declared.version.Form.TheVariants as forms
 use Rattle.nr_trace.specs.declared.fault.Format.TheVariants.{Truncated}
 use Rattle.nr_trace.proofs.LawsOfFormat.{no_fault}
 use Rattle.nr_trace.proofs.LawsOfSpelling.{one_trace}
@@ -28,7 +29,7 @@ first_refused bytes old new fail first h =
 
 pub only_memory : (bytes : List ℕ) (fail : Fail Format) (trace : Recording) → IfRefused (HasFormatFault bytes) fail → Spells bytes trace → fail ≡ Memory
 only_memory bytes Memory trace h spells = refl
-only_memory bytes (Refused fault) trace h spells = absurd (no_fault bytes trace fault spells h)
+only_memory bytes (Refused fault) trace h spells = absurd (no_fault forms.Trace bytes trace fault spells h)
 
 -- a first piece that was taken
 pub first_taken : (bytes : List ℕ) (old new : Fed) → old ≡ Taken [] → Feeds old bytes new (Ok tt) → new ≡ Taken bytes
@@ -39,4 +40,4 @@ first_taken bytes old new first h =
 pub only_spelled : (bytes : List ℕ) (result : Result Recording (Fail Format)) (trace : Recording) → Ends (Taken bytes) result → Spells bytes trace
     → MatchResult result (λ given. given ≡ trace) (λ fail. fail ≡ Memory)
 only_spelled bytes (Ok given) trace h spells = one_trace bytes given trace h spells
-only_spelled bytes (Err fail) trace h spells = absurd (no_fault bytes trace Truncated spells h.1)
+only_spelled bytes (Err fail) trace h spells = absurd (no_fault forms.Trace bytes trace Truncated spells h.1)

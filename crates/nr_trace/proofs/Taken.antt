@@ -22,6 +22,7 @@ use Rattle.nr_trace.specs.declared.fault.Format.TheVariants.{BadEvent}
 use Rattle.nr_trace.specs.declared.reading.reader.Parts.{Parts}
 use Rattle.nr_trace.specs.declared.reading.reader.Reader.{Reader}
 use Rattle.nr_trace.specs.declared.version.Version.{Version}
+use Rattle.nr_trace.specs.declared.version.Form.{Form}
 use Rattle.nr_trace.proofs.LawsOfUnits.{length-event, length_of_units}
 use Rattle.nr_trace.proofs.Spelled.{spelling_of, more_places, more_events}
 use Rattle.nr_trace.proofs.Units.{goes_on, place_passed, event_passed, event_refused}
@@ -56,20 +57,20 @@ length-places calls = length_of_units log_word 4 (λ n. refl) calls
 pub as_many_places : (before run after : List ℕ) (count : ℕ) (placed : ArePlaced before run after) → length run ≡ 4 * count → length placed.calls ≡ count
 as_many_places before run after count placed all = omega (arith, all, ap length placed.spelled, length-places placed.calls)
 
-pub places_taken : (version : Version) (layout : Layout) (places events : ℕ) (log more : List ℕ) (recorded : List Event) (dumps : List Image)
-    (run : List ℕ) (count : ℕ) (reader : Reader)
+pub places_taken : (form : Form) (version : Version) (layout : Layout) (front : ℕ → List ℕ) (places events : ℕ) (log more : List ℕ)
+    (recorded : List Event) (dumps : List Image) (run : List ℕ) (count : ℕ) (reader : Reader)
     → count ≤ places → length run ≡ 4 * count → recorded ≡ [] → dumps ≡ [] → ArePlaced log run more
-    → HasRead (spelling_of version layout (length more + (places - count)) events more recorded dumps) (AtLog version layout (places - count) events) reader
-    → HasRead (spelling_of version layout (length log + places) events log recorded dumps ++ run)
+    → HasRead form (spelling_of (front (length more + (places - count))) more recorded dumps) (AtLog version layout (places - count) events) reader
+    → HasRead form (spelling_of (front (length log + places)) log recorded dumps ++ run)
     (λ rest fault. AtLog version layout places events (run ++ rest) fault) reader
-places_taken version layout places events log more recorded dumps run count reader few all no_events no_dumps placed has =
+places_taken form version layout front places events log more recorded dumps run count reader few all no_events no_dumps placed has =
     let as_many = as_many_places log run more count placed all in
     let long : length more + (places - count) ≡ length log + places = omega (arith, few, ap length placed.added, length-append log placed.calls, as_many) in
-    goes_on reader _ _ _ _ has
-    (ap (λ (n : ℕ). spelling_of version layout n events more recorded dumps) long
-    ∙ ap (λ (l : List ℕ). spelling_of version layout (length log + places) events l recorded dumps) placed.added
-    ∙ more_places version layout (length log + places) events log placed.calls recorded dumps no_events no_dumps
-    ∙ ap (λ (l : List ℕ). spelling_of version layout (length log + places) events log recorded dumps ++ l) (sym placed.spelled))
+    goes_on form reader _ _ _ _ has
+    (ap (λ (n : ℕ). spelling_of (front n) more recorded dumps) long
+    ∙ ap (λ (l : List ℕ). spelling_of (front (length log + places)) l recorded dumps) placed.added
+    ∙ more_places (front (length log + places)) log placed.calls recorded dumps no_events no_dumps
+    ∙ ap (λ (l : List ℕ). spelling_of (front (length log + places)) log recorded dumps ++ l) (sym placed.spelled))
     (λ rest fault h. subst (λ (l : List ℕ). AtLog version layout places events (l ++ rest) fault) (sym placed.spelled)
     (places_passed version layout places events placed.calls rest fault (omega (arith, few, as_many)) placed.fit
     (subst (λ (n : ℕ). AtLog version layout (places - n) events rest fault) (sym as_many) h)))
@@ -77,8 +78,12 @@ places_taken version layout places events log more recorded dumps run count read
 pub places_in_range : (parts : Parts) (held : Vec ℕ) (run : List ℕ) (count : ℕ) → AreInRange parts → ArePlaced parts.log.items run held.items
     → length run ≡ 4 * count → length parts.log.items + count ≤ LOG_PLACES → AreInRange (record parts { log = held })
 places_in_range parts held run count in_range placed all few = record {
+  of_form = in_range.of_form;
+  follows = in_range.follows;
   layout = in_range.layout;
   depth = in_range.depth;
+  start = in_range.start;
+  few_start = in_range.few_start;
   few_places = omega (
     arith,
     few,
@@ -163,33 +168,37 @@ pub as_many_events : (version : Version) (layout : Layout) (before : List Event)
     (are : AreRecorded version layout before run after) → length run ≡ 24 * count → length are.recorded ≡ count
 as_many_events version layout before run after count are all = omega (arith, all, ap length are.spelled, length-events are.recorded)
 
-pub events_taken : (version : Version) (layout : Layout) (events : ℕ) (log : List ℕ) (recorded more : List Event) (dumps : List Image)
-    (run : List ℕ) (count : ℕ) (reader : Reader)
+pub events_taken : (form : Form) (version : Version) (layout : Layout) (front : ℕ → List ℕ) (events : ℕ) (log : List ℕ)
+    (recorded more : List Event) (dumps : List Image) (run : List ℕ) (count : ℕ) (reader : Reader)
     → count ≤ events → length run ≡ 24 * count → dumps ≡ [] → AreRecorded version layout recorded run more
-    → HasRead (spelling_of version layout (length log) (length more + (events - count)) log more dumps)
+    → HasRead form (spelling_of (front (length more + (events - count))) log more dumps)
     (AtEvents version layout (length more) (events - count)) reader
-    → HasRead (spelling_of version layout (length log) (length recorded + events) log recorded dumps ++ run)
+    → HasRead form (spelling_of (front (length recorded + events)) log recorded dumps ++ run)
     (λ rest fault. AtEvents version layout (length recorded) events (run ++ rest) fault) reader
-events_taken version layout events log recorded more dumps run count reader few whole no_dumps are has =
+events_taken form version layout front events log recorded more dumps run count reader few whole no_dumps are has =
     let as_many = as_many_events version layout recorded run more count are whole in
     let long : length more ≡ length recorded + length are.recorded = ap length are.added ∙ length-append recorded are.recorded in
     let all : length more + (events - count) ≡ length recorded + events = omega (arith, few, long, as_many) in
-    goes_on reader _ _ _ _ has
-    (ap (λ (n : ℕ). spelling_of version layout (length log) n log more dumps) all
-    ∙ ap (λ (l : List Event). spelling_of version layout (length log) (length recorded + events) log l dumps) are.added
-    ∙ more_events version layout (length log) (length recorded + events) log recorded are.recorded dumps no_dumps
-    ∙ ap (λ (l : List ℕ). spelling_of version layout (length log) (length recorded + events) log recorded dumps ++ l) (sym are.spelled))
+    goes_on form reader _ _ _ _ has
+    (ap (λ (n : ℕ). spelling_of (front n) log more dumps) all
+    ∙ ap (λ (l : List Event). spelling_of (front (length recorded + events)) log l dumps) are.added
+    ∙ more_events (front (length recorded + events)) log recorded are.recorded dumps no_dumps
+    ∙ ap (λ (l : List ℕ). spelling_of (front (length recorded + events)) log recorded dumps ++ l) (sym are.spelled))
     (λ rest fault h. subst (λ (l : List ℕ). AtEvents version layout (length recorded) events (l ++ rest) fault) (sym are.spelled)
     (events_passed version layout (length recorded) events are.recorded rest fault (omega (arith, few, as_many)) are.fit
     (subst (λ (n : ℕ). AtEvents version layout (length recorded + length are.recorded) (events - n) rest fault) (sym as_many)
     (subst (λ (n : ℕ). AtEvents version layout n (events - count) rest fault) long h))))
 
 pub events_in_range : (parts : Parts) (held : Vec Event) (run : List ℕ) (count : ℕ) → AreInRange parts
-    → AreRecorded parts.version parts.config parts.events.items run held.items
+    → AreRecorded parts.version parts.layout parts.events.items run held.items
     → length run ≡ 24 * count → length parts.events.items + count ≤ CALLS → AreInRange (record parts { events = held })
 events_in_range parts held run count in_range are all few = record {
+  of_form = in_range.of_form;
+  follows = in_range.follows;
   layout = in_range.layout;
   depth = in_range.depth;
+  start = in_range.start;
+  few_start = in_range.few_start;
   few_places = in_range.few_places;
   log = in_range.log;
   few_events = omega (
@@ -197,10 +206,10 @@ events_in_range parts held run count in_range are all few = record {
     few,
     ap length are.added,
     length-append parts.events.items are.recorded,
-    as_many_events parts.version parts.config parts.events.items run held.items count are all,
+    as_many_events parts.version parts.layout parts.events.items run held.items count are all,
   );
-  events = subst (All (IsEvent parts.version parts.config)) (sym are.added)
-      (All-append (IsEvent parts.version parts.config) parts.events.items are.recorded in_range.events are.fit);
+  events = subst (All (IsEvent parts.version parts.layout)) (sym are.added)
+      (All-append (IsEvent parts.version parts.layout) parts.events.items are.recorded in_range.events are.fit);
   few_dumps = in_range.few_dumps;
   dumps = in_range.dumps;
 }

@@ -12,6 +12,7 @@ use Rattle.nr_trace.specs.declared.fault.Format.{Format}
 use Rattle.nr_trace.specs.declared.fault.Format.TheVariants.{BadEvent}
 use Rattle.nr_trace.specs.declared.reading.reader.Reader.{Reader}
 use Rattle.nr_trace.specs.declared.version.Version.{Version}
+use Rattle.nr_trace.specs.declared.version.Form.{Form}
 
 -- the unit spells nothing that fits
 pub refused : {A : Type 0} (bytes : ℕ) (own : Option Format) (Fits : A → Type 0) (spelled : A → List ℕ) (Behind : A → List ℕ → Format
@@ -27,10 +28,10 @@ pub passed : {A : Type 0} (bytes : ℕ) (own : Option Format) (Fits : A → Type
 passed bytes own Fits spelled Behind fault unit rest value fits e behind = inr (inr (value, rest, fits, ap (λ (l : List ℕ). l ++ rest) e, behind))
 
 -- what has been read may be said in other words, and its faults go into others
-pub goes_on : (reader : Reader) (bytes more : List ℕ) (Behind Before : List ℕ → Format → Type 0) → HasRead bytes Behind reader → bytes ≡ more
-    → ((rest : List ℕ) (fault : Format) → Behind rest fault → Before rest fault) → HasRead more Before reader
-goes_on reader bytes more Behind Before has e into =
-    record { ready = has.ready; bytes_are = has.bytes_are ∙ e; faults = λ rest fault h. into rest fault (has.faults rest fault h) }
+pub goes_on : (form : Form) (reader : Reader) (bytes more : List ℕ) (Behind Before : List ℕ → Format → Type 0) → HasRead form bytes Behind reader → bytes ≡ more
+    → ((rest : List ℕ) (fault : Format) → Behind rest fault → Before rest fault) → HasRead form more Before reader
+goes_on form reader bytes more Behind Before has e into =
+    record { form_is = has.form_is; ready = has.ready; bytes_are = has.bytes_are ∙ e; faults = λ rest fault h. into rest fault (has.faults rest fault h) }
 
 pub place_passed : (version : Version) (layout : Layout) (places events call : ℕ) (unit rest : List ℕ) (fault : Format) → 1 ≤ places → call < 2 ^ 32
     → unit ≡ log_word call → AtLog version layout (places - 1) events rest fault → AtLog version layout places events (unit ++ rest) fault

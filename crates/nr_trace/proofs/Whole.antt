@@ -3,19 +3,25 @@ use Rattle.std.proofs.Common.{◌≡◌, ◌≢◌, ℕ, zero, suc, ◌+◌, ◌
 use Rattle.std.proofs.Common.{subst, arith, inl}
 use Rattle.std.specs.Prelude.{nat_lt, if◌then◌else◌, MatchOption}
 use Rattle.std.proofs.lemmas.Bool.{ltb-true, ltb-false}
+use Rattle.std.proofs.Math.Nat.{mul-le-mul_left}
 use Rattle.std.proofs.lemmas.List.{length-append}
 use Rattle.std.specs.Int.{w64, to_be_bytes}
 use Rattle.vs_types.specs.Config.{Layout}
 use Rattle.nr_trace.specs.Recording.{Recording}
-use Rattle.nr_trace.specs.Spelling.{Spells}
-use Rattle.nr_trace.specs.FirstFault.{AtFrames, AtDumps, AtEvents, AtLog}
-use Rattle.nr_trace.specs.inside.Progress.{unit_bytes, said, words_begun, Ahead, IsReady, IsRun}
+use Rattle.nr_trace.specs.Spelling.{SpellsAs}
+use Rattle.nr_trace.specs.Versions.{IsVersionOf}
+use Rattle.nr_trace.specs.FirstFault.{AtEnd, AtFrames, AtDumps, AtEvents, AtLog, AtStart, counts_bytes}
+use Rattle.nr_trace.specs.inside.Progress.{form_of, own_fault, unit_bytes, said, whole_spelling, words_begun, Ahead, AreInRange, AreUnits, IsReady, IsRun}
 use Rattle.nr_trace.specs.declared.fault.Format.{Format}
 use Rattle.nr_trace.specs.declared.fault.Format.TheVariants.{Truncated, Trailing}
 use Rattle.nr_trace.specs.declared.reading.reader.OpenFrame.{OpenFrame}
+use Rattle.nr_trace.specs.declared.reading.reader.Parts.{Parts}
 use Rattle.nr_trace.specs.declared.reading.reader.Reader.{Reader}
-use Rattle.nr_trace.specs.declared.reading.reader.Reader.TheVariants.{Magic, Version, Header, Log, Events, Dumps, Frame, Words}
+use Rattle.nr_trace.specs.declared.reading.reader.Reader.TheVariants.{Magic, Version, Header, Root, Log, Events, Dumps, Frame, Words}
 use Rattle.nr_trace.specs.declared.version.Version as versions
+use Rattle.nr_trace.specs.declared.version.Version.TheVariants.{V1, V2, Segment}
+use Rattle.nr_trace.specs.declared.version.Form.{Form}
+use Rattle.nr_trace.specs.declared.version.Form.TheVariants as forms
 use Rattle.nr_trace.proofs.LawsOfUnits.{length_of_units}
 
 -- ---- the rest is shorter than the next unit
@@ -43,88 +49,126 @@ unfolding AtEvents
 short_event version layout index zero rest some short = absurd (omega arith)
 short_event version layout index (suc events) rest some short = inl (short, refl)
 
-short_head : (replica dumps : ℕ) (rest : List ℕ) → 1 ≤ dumps → length rest < 16 → AtDumps replica dumps rest Truncated
+short_head : (version : versions.Version) (replica dumps : ℕ) (rest : List ℕ) → 1 ≤ dumps → length rest < 16 → AtDumps version replica dumps rest Truncated
 unfolding AtDumps
-short_head replica zero rest some short = absurd (omega arith)
-short_head replica (suc dumps) rest some short = inl (short, refl)
+short_head version replica zero rest some short = absurd (omega arith)
+short_head version replica (suc dumps) rest some short = inl (short, refl)
 
-short_frame : (replica index frames : ℕ) (last : Option ℕ) (Behind : List ℕ → Format → Type 0) (rest : List ℕ) → 1 ≤ frames → length rest < 8
-    → AtFrames replica index frames last Behind rest Truncated
+short_frame : (own : ℕ → Format) (index frames : ℕ) (last : Option ℕ) (Behind : List ℕ → Format → Type 0) (rest : List ℕ) → 1 ≤ frames → length rest < 8
+    → AtFrames own index frames last Behind rest Truncated
 unfolding AtFrames
-short_frame replica index zero last Behind rest some short = absurd (omega arith)
-short_frame replica index (suc frames) last Behind rest some short = inl (short, refl)
+short_frame own index zero last Behind rest some short = absurd (omega arith)
+short_frame own index (suc frames) last Behind rest some short = inl (short, refl)
+
+short_start : (frames : ℕ) (Behind : List ℕ → Format → Type 0) (rest : List ℕ) → 1 ≤ frames → length rest < 8 → AtStart frames Behind rest Truncated
+short_start zero Behind rest some short = absurd (omega arith)
+short_start (suc frames) Behind rest some short = inl (short, refl)
 
 length_begun : (frame : OpenFrame) → length (words_begun frame) ≡ 8 * length frame.dump.coming
 length_begun frame = length_of_units (to_be_bytes w64) 8 (λ n. refl) frame.dump.coming
 
 pub too_short : (reader : Reader) (len : ℕ) (rest : List ℕ) → IsReady reader → unit_bytes reader ≡ Some len → length rest < len → Ahead reader rest Truncated
-too_short (Magic alloc) len rest ready is short = inl (omega (arith, some_is 4 len is), refl)
-too_short (Version alloc) len rest ready is short = inl (omega (arith, some_is 2 len is), refl)
-too_short (Header alloc version) len rest ready is short = inl (omega (arith, some_is 14 len is), refl)
-too_short (Log parts places events) len rest ready is short = short_log parts.version parts.config places events rest ready.1 (omega (arith, some_is 4 len is))
+too_short (Magic alloc form) len rest ready is short = inl (omega (arith, some_is 4 len is), refl)
+too_short (Version alloc form) len rest ready is short = inl (omega (arith, some_is 2 len is), refl)
+too_short (Header alloc form version) len rest ready is short = inl (omega (arith, some_is (counts_bytes version) len is), refl)
+too_short (Root parts numbers) len rest ready is short = short_start numbers.start _ rest ready.4 (omega (arith, some_is 8 len is))
+too_short (Log parts places events) len rest ready is short = short_log parts.version parts.layout places events rest ready.1 (omega (arith, some_is 4 len is))
 too_short (Events parts events) len rest ready is short =
-    short_event parts.version parts.config (length parts.events.items) events rest ready.1 (omega (arith, some_is 24 len is))
+    short_event parts.version parts.layout (length parts.events.items) events rest ready.1 (omega (arith, some_is 24 len is))
 too_short (Dumps parts) len rest ready is short =
-    let given = chosen (nat_lt (length parts.dumps.items) parts.config.replicas) 16 len is in
-    let one_left : length parts.dumps.items < parts.config.replicas = ltb-true _ _ given.0 in
-    short_head (length parts.dumps.items + 0) (parts.config.replicas - (length parts.dumps.items + 0)) rest (omega arith) (omega (arith, given.1))
+    let given = chosen (nat_lt (length parts.dumps.items) parts.layout.replicas) 16 len is in
+    let one_left : length parts.dumps.items < parts.layout.replicas = ltb-true _ _ given.0 in
+    short_head parts.version (length parts.dumps.items + 0) (parts.layout.replicas - (length parts.dumps.items + 0)) rest (omega arith) (omega (arith, given.1))
 too_short (Frame parts opened last) len rest ready is short =
-    short_frame (length parts.dumps.items) _ opened.left last _ rest ready.0.some_left (omega (arith, some_is 8 len is))
+    short_frame (own_fault parts opened.owner) _ opened.left last _ rest ready.0.some_left (omega (arith, some_is 8 len is))
 too_short (Words parts frame) len rest ready is short =
     inl (omega (arith, some_is 8 len is, ready.4, length-append (words_begun frame) rest, length_begun frame), refl)
 
 -- ---- no unit is left
 
-at_end : (replica dumps : ℕ) (rest : List ℕ) → dumps ≡ 0 → rest ≢ [] → AtDumps replica dumps rest Trailing
-unfolding AtDumps
-at_end replica dumps rest none more = subst (λ (n : ℕ). AtDumps replica n rest Trailing) (sym none) (more, refl)
+behind_end : (form : Form) (version : versions.Version) (rest : List ℕ) → form ≡ forms.Trace → IsVersionOf form version → rest ≢ []
+    → AtEnd version rest Trailing
+behind_end form V1 rest is of more = (more, refl)
+behind_end form V2 rest is of more = (more, refl)
+behind_end form Segment rest is of more = absurd (subst (λ (f : Form). IsVersionOf f Segment) is of)
 
-pub too_long : (reader : Reader) (rest : List ℕ) → unit_bytes reader ≡ None → rest ≢ [] → Ahead reader rest Trailing
-too_long (Magic alloc) rest is more = absurd cc
-too_long (Version alloc) rest is more = absurd cc
-too_long (Header alloc version) rest is more = absurd cc
-too_long (Log parts places events) rest is more = absurd cc
-too_long (Events parts events) rest is more = absurd cc
-too_long (Dumps parts) rest is more =
-    let all : parts.config.replicas ≤ length parts.dumps.items = ltb-false _ _ (not_chosen (nat_lt (length parts.dumps.items) parts.config.replicas) 16 is) in
-    at_end (length parts.dumps.items + 0) (parts.config.replicas - (length parts.dumps.items + 0)) rest (omega arith) more
-too_long (Frame parts opened last) rest is more = absurd cc
-too_long (Words parts frame) rest is more = absurd cc
+at_end : (version : versions.Version) (replica dumps : ℕ) (rest : List ℕ) → dumps ≡ 0 → AtEnd version rest Trailing → AtDumps version replica dumps rest Trailing
+unfolding AtDumps
+at_end version replica dumps rest none end = subst (λ (n : ℕ). AtDumps version replica n rest Trailing) (sym none) end
+
+-- a trace has nothing behind its end
+pub too_long : (reader : Reader) (rest : List ℕ) → IsReady reader → form_of reader ≡ forms.Trace → unit_bytes reader ≡ None → rest ≢ []
+    → Ahead reader rest Trailing
+too_long (Magic alloc form) rest ready form_is is more = absurd cc
+too_long (Version alloc form) rest ready form_is is more = absurd cc
+too_long (Header alloc form version) rest ready form_is is more = absurd cc
+too_long (Root parts numbers) rest ready form_is is more = absurd cc
+too_long (Log parts places events) rest ready form_is is more = absurd cc
+too_long (Events parts events) rest ready form_is is more = absurd cc
+too_long (Dumps parts) rest ready form_is is more =
+    let all : parts.layout.replicas ≤ length parts.dumps.items = ltb-false _ _ (not_chosen (nat_lt (length parts.dumps.items) parts.layout.replicas) 16 is) in
+    at_end parts.version (length parts.dumps.items + 0) (parts.layout.replicas - (length parts.dumps.items + 0)) rest (omega arith)
+    (behind_end parts.form parts.version rest form_is ready.of_form more)
+too_long (Frame parts opened last) rest ready form_is is more = absurd cc
+too_long (Words parts frame) rest ready form_is is more = absurd cc
+
+some_count : (version : versions.Version) → 1 ≤ counts_bytes version
+some_count V1 = omega arith
+some_count V2 = omega arith
+some_count Segment = omega arith
 
 pub some_bytes : (reader : Reader) (len : ℕ) → unit_bytes reader ≡ Some len → 1 ≤ len
-some_bytes (Magic alloc) len is = omega (arith, some_is 4 len is)
-some_bytes (Version alloc) len is = omega (arith, some_is 2 len is)
-some_bytes (Header alloc version) len is = omega (arith, some_is 14 len is)
+some_bytes (Magic alloc form) len is = omega (arith, some_is 4 len is)
+some_bytes (Version alloc form) len is = omega (arith, some_is 2 len is)
+some_bytes (Header alloc form version) len is = subst (λ n. 1 ≤ n) (some_is (counts_bytes version) len is) (some_count version)
+some_bytes (Root parts numbers) len is = omega (arith, some_is 8 len is)
 some_bytes (Log parts places events) len is = omega (arith, some_is 4 len is)
 some_bytes (Events parts events) len is = omega (arith, some_is 24 len is)
-some_bytes (Dumps parts) len is = omega (arith, (chosen (nat_lt (length parts.dumps.items) parts.config.replicas) 16 len is).1)
+some_bytes (Dumps parts) len is = omega (arith, (chosen (nat_lt (length parts.dumps.items) parts.layout.replicas) 16 len is).1)
 some_bytes (Frame parts opened last) len is = omega (arith, some_is 8 len is)
 some_bytes (Words parts frame) len is = omega (arith, some_is 8 len is)
 
--- a reader of which no unit is left has read a trace
-pub ready_to_end : (reader : Reader) → IsReady reader → unit_bytes reader ≡ None → (trace : Recording) × Spells (said reader) trace
-ready_to_end (Magic alloc) ready is = absurd cc
-ready_to_end (Version alloc) ready is = absurd cc
-ready_to_end (Header alloc version) ready is = absurd cc
+-- what the parts say
+abbrev pub recording_of : Parts → Recording
+recording_of parts = record {
+  version = parts.version;
+  layout = parts.layout;
+  start = parts.start;
+  log = parts.log.items;
+  events = parts.events.items;
+  dumps = parts.dumps.items;
+}
+
+pub dumps_end : (parts : Parts) → AreInRange parts → unit_bytes (Dumps parts) ≡ None → SpellsAs parts.form (whole_spelling parts) (recording_of parts)
+dumps_end parts ready is =
+    let all : parts.layout.replicas ≤ length parts.dumps.items = ltb-false _ _ (not_chosen (nat_lt (length parts.dumps.items) parts.layout.replicas) 16 is) in
+    record {
+      of_form = ready.of_form;
+      follows = ready.follows;
+      in_range = record {
+        layout = ready.layout;
+        depth = ready.depth;
+        start = ready.start;
+        few_start = ready.few_start;
+        few_places = ready.few_places;
+        log = ready.log;
+        few_events = ready.few_events;
+        events = ready.events;
+        one_dump_each = omega (arith, ready.few_dumps, all);
+        dumps = ready.dumps;
+      };
+      spelled = refl;
+    }
+
+-- a reader of which no unit is left has read a trace, or a segment
+pub ready_to_end : (reader : Reader) → IsReady reader → unit_bytes reader ≡ None → (trace : Recording) × SpellsAs (form_of reader) (said reader) trace
+ready_to_end (Magic alloc form) ready is = absurd cc
+ready_to_end (Version alloc form) ready is = absurd cc
+ready_to_end (Header alloc form version) ready is = absurd cc
+ready_to_end (Root parts numbers) ready is = absurd cc
 ready_to_end (Log parts places events) ready is = absurd cc
 ready_to_end (Events parts events) ready is = absurd cc
-ready_to_end (Dumps parts) ready is =
-    let all : parts.config.replicas ≤ length parts.dumps.items = ltb-false _ _ (not_chosen (nat_lt (length parts.dumps.items) parts.config.replicas) 16 is) in (
-      record { version = parts.version; layout = parts.config; log = parts.log.items; events = parts.events.items; dumps = parts.dumps.items },
-      record {
-        in_range = record {
-          layout = ready.layout;
-          depth = ready.depth;
-          few_places = ready.few_places;
-          log = ready.log;
-          few_events = ready.few_events;
-          events = ready.events;
-          one_dump_each = omega (arith, ready.few_dumps, all);
-          dumps = ready.dumps;
-        };
-        spelled = refl;
-      },
-    )
+ready_to_end (Dumps parts) ready is = (recording_of parts, dumps_end parts ready is)
 ready_to_end (Frame parts opened last) ready is = absurd cc
 ready_to_end (Words parts frame) ready is = absurd cc
 
@@ -132,9 +176,10 @@ ready_to_end (Words parts frame) ready is = absurd cc
 
 -- one unit is a run
 pub one_unit : (reader : Reader) (len : ℕ) → IsReady reader → unit_bytes reader ≡ Some len → IsRun reader len
-one_unit (Magic alloc) len ready is = sym (some_is 4 len is)
-one_unit (Version alloc) len ready is = sym (some_is 2 len is)
-one_unit (Header alloc version) len ready is = sym (some_is 14 len is)
+one_unit (Magic alloc form) len ready is = sym (some_is 4 len is)
+one_unit (Version alloc form) len ready is = sym (some_is 2 len is)
+one_unit (Header alloc form version) len ready is = sym (some_is (counts_bytes version) len is)
+one_unit (Root parts numbers) len ready is = sym (some_is 8 len is)
 one_unit (Log parts places events) len ready is = record {
   count = 1;
   some = omega arith;
@@ -148,7 +193,7 @@ one_unit (Events parts events) len ready is = record {
   all = omega (arith, some_is 24 len is);
 }
 one_unit (Dumps parts) len ready is =
-    let given = chosen (nat_lt (length parts.dumps.items) parts.config.replicas) 16 len is in
+    let given = chosen (nat_lt (length parts.dumps.items) parts.layout.replicas) 16 len is in
     (ltb-true _ _ given.0, sym given.1)
 one_unit (Frame parts opened last) len ready is = sym (some_is 8 len is)
 one_unit (Words parts frame) len ready is = record {
@@ -162,3 +207,18 @@ pub alone : (reader : Reader) (have : ℕ) (next : Option ℕ) → IsReady reade
     → MatchOption next (unit_bytes reader ≡ None) (λ len. IsRun reader len × (have < len → unit_bytes reader ≡ Some len))
 alone reader have None ready is = sym is
 alone reader have (Some len) ready is = (one_unit reader len ready (sym is), λ _. sym is)
+
+-- a run has a byte
+units_some : (unit most bytes : ℕ) → 1 ≤ unit → AreUnits unit most bytes → 1 ≤ bytes
+units_some unit most bytes some are = omega (arith, are.all, mul-le-mul_left unit are.some)
+
+pub run_some : (reader : Reader) (len : ℕ) → IsRun reader len → 1 ≤ len
+run_some (Magic alloc form) len run = omega (arith, run)
+run_some (Version alloc form) len run = omega (arith, run)
+run_some (Header alloc form version) len run = subst (λ n. 1 ≤ n) (sym run) (some_count version)
+run_some (Root parts numbers) len run = omega (arith, run)
+run_some (Log parts places events) len run = units_some 4 places len (omega arith) run
+run_some (Events parts events) len run = units_some 24 events len (omega arith) run
+run_some (Dumps parts) len run = omega (arith, run.1)
+run_some (Frame parts opened last) len run = omega (arith, run)
+run_some (Words parts frame) len run = units_some 8 (512 - length frame.dump.coming) len (omega arith) run

@@ -1,21 +1,24 @@
 -- The calls of a trace: what they ask, how they are answered, and which was answered before another was made.
-use Rattle.std.specs.Prelude.{◌≡◌, ℕ, ◌<◌, ◌==◌, slice_get, filter_map, Option, Some, None, option_and_then, IsSome, if◌then◌else◌}
+use Rattle.std.specs.Prelude.{◌≡◌, ℕ, ◌<◌, ◌==◌, ◌⊎◌, slice_get, filter_map, Bool, true, false, Option, Some, None, option_and_then, IsSome, if◌then◌else◌}
 use Rattle.vs_types.specs.declared.answer.Answer.{Answer}
 use Rattle.vs_types.specs.declared.op.Action.{Action}
 use Rattle.vs_types.specs.declared.request.Query.{Query}
 use Rattle.vs_types.specs.declared.request.Query.TheVariants.{Update, Resolve, Access}
 use Rattle.nr_trace.specs.Recording.{Recording}
 use Rattle.nr_trace.specs.declared.event.Event.{Event}
-use Rattle.nr_trace.specs.declared.event.Event.TheVariants.{Call, Reply}
+use Rattle.nr_trace.specs.declared.event.Event.TheVariants.{Call, Reply, Touch}
 
--- who makes a call, where, and what it asks
+-- who makes a call, where, and what it asks; and whether it is a touch, an access that a processor made through its TLB
 pub record Invocation : Type 0 where
   pub replica : ℕ
   pub thread : ℕ
   pub request : Query
+  pub touch : Bool
 
 abbrev pub made_by : Event → Option Invocation
-made_by (Call replica thread request) = Some (record { replica = replica; thread = thread; request = request })
+made_by (Call replica thread request) = Some (record { replica = replica; thread = thread; request = request; touch = false })
+made_by (Touch replica thread address mode access) =
+    Some (record { replica = replica; thread = thread; request = Access address mode access; touch = true })
 made_by (Reply call at answer) = None
 
 -- the call of this number
@@ -32,12 +35,15 @@ read_address (Update action) = None
 read_address (Resolve address) = Some address
 read_address (Access address mode access) = Some address
 
--- the operation of an update, and the address of a read: a call that asks for a resolve or an access
+-- the operation of an update, and the address of a read: a call that asks for a resolve or an access, and is no touch
 abbrev pub operation_of : Recording → ℕ → Option Action
 operation_of trace call = option_and_then (λ made. operation_in made.request) (call_of trace call)
 
 abbrev pub address_of : Recording → ℕ → Option ℕ
-address_of trace call = option_and_then (λ made. read_address made.request) (call_of trace call)
+address_of trace call = option_and_then (λ made. if made.touch then None else read_address made.request) (call_of trace call)
+
+abbrev pub touch_of : Recording → ℕ → Option Query
+touch_of trace call = option_and_then (λ made. if made.touch then Some made.request else None) (call_of trace call)
 
 abbrev pub IsCall : Recording → ℕ → Type 0
 IsCall trace call = IsSome (call_of trace call)
@@ -48,6 +54,13 @@ IsUpdate trace call = IsSome (operation_of trace call)
 abbrev pub IsRead : Recording → ℕ → Type 0
 IsRead trace call = IsSome (address_of trace call)
 
+abbrev pub IsTouch : Recording → ℕ → Type 0
+IsTouch trace call = IsSome (touch_of trace call)
+
+-- a call that has a place in an order: an update or a read
+abbrev pub IsOrdered : Recording → ℕ → Type 0
+IsOrdered trace call = IsUpdate trace call ⊎ IsRead trace call
+
 -- what a reply says of its call
 pub record Response : Type 0 where
   pub call : ℕ
@@ -56,6 +69,7 @@ pub record Response : Type 0 where
 
 abbrev pub reply_in : Event → Option Response
 reply_in (Call replica thread request) = None
+reply_in (Touch replica thread address mode access) = None
 reply_in (Reply call at answer) = Some (record { call = call; at = at; answer = answer })
 
 -- the reply that the event of this index is

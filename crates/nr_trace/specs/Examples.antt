@@ -1,5 +1,5 @@
 -- The recordings of the worked examples.
-use Rattle.std.specs.Prelude.{ℕ, ◌-◌, ◌++◌, List, [], ◌∷◌, replicate}
+use Rattle.std.specs.Prelude.{ℕ, ◌-◌, ◌++◌, List, [], ◌∷◌, None, replicate}
 use Rattle.std.specs.FinMap as finite
 use Rattle.vs_types.specs.declared.depth.Depth.TheVariants.{Four}
 use Rattle.vs_types.specs.declared.page.Size.TheVariants.{K4}
@@ -16,9 +16,9 @@ use Rattle.vs_walk.specs.Memory.{Memory}
 use Rattle.vs_walk.specs.Walk.{all_rights}
 use Rattle.vs_walk.specs.Dump.{Image}
 use Rattle.nr_trace.specs.Recording.{Recording}
-use Rattle.nr_trace.specs.declared.version.Version.TheVariants.{V1, V2}
+use Rattle.nr_trace.specs.declared.version.Version.TheVariants.{V1, V2, Segment}
 use Rattle.nr_trace.specs.declared.event.Event.{Event}
-use Rattle.nr_trace.specs.declared.event.Event.TheVariants.{Call, Reply}
+use Rattle.nr_trace.specs.declared.event.Event.TheVariants.{Call, Reply, Touch}
 
 -- a frame with this word at this index, and else zeros
 abbrev pub frame_with : ℕ → ℕ → List ℕ
@@ -49,6 +49,7 @@ abbrev pub map_then_resolve : Recording
 map_then_resolve = record {
   version = V1;
   layout = record { depth = Four; replicas = 1; threads = 1; tables = 4 };
+  start = None;
   log = 0 ∷ [];
   events = Call 0 0 map_it ∷ Reply 0 0 Done ∷ Call 0 0 resolve_it ∷ Reply 2 1 looks_mapped ∷ [];
   dumps = dump_of_page ∷ [];
@@ -76,6 +77,7 @@ abbrev pub read_before_and_after : Recording
 read_before_and_after = record {
   version = V1;
   layout = record { depth = Four; replicas = 1; threads = 3; tables = 4096 };
+  start = None;
   log = 0 ∷ [];
   events = Call 0 0 map_it ∷ Call 0 1 resolve_it ∷ Call 0 2 resolve_it ∷ Reply 0 0 Done ∷ Reply 1 1 looks_mapped ∷ Reply 2 0 NotMapped ∷ [];
   dumps = dump_of_page ∷ [];
@@ -86,6 +88,7 @@ abbrev pub stale_read : Recording
 stale_read = record {
   version = V1;
   layout = record { depth = Four; replicas = 2; threads = 3; tables = 4096 };
+  start = None;
   log = 0 ∷ [];
   events = Call 0 0 map_it ∷ Call 0 1 resolve_it ∷ Reply 1 1 looks_mapped ∷ Call 1 2 resolve_it ∷ Reply 3 0 NotMapped ∷ [];
   dumps = dump_of_page ∷ dump_of_page ∷ [];
@@ -96,6 +99,7 @@ abbrev pub unanswered_too_early : Recording
 unanswered_too_early = record {
   version = V1;
   layout = record { depth = Four; replicas = 1; threads = 2; tables = 4096 };
+  start = None;
   log = 2 ∷ 0 ∷ [];
   events = Call 0 0 map_it ∷ Reply 0 1 Done ∷ Call 0 1 (Update (Unmap 0x500000)) ∷ [];
   dumps = dump_of_page ∷ [];
@@ -106,6 +110,7 @@ abbrev pub unanswered_left_out : Recording
 unanswered_left_out = record {
   version = V1;
   layout = record { depth = Four; replicas = 1; threads = 3; tables = 4096 };
+  start = None;
   log = 0 ∷ [];
   events = Call 0 0 map_it ∷ Call 0 1 resolve_it ∷ Call 0 2 (Update (Unmap 0x400000)) ∷ Reply 1 1 looks_mapped ∷ [];
   dumps = dump_of_page ∷ [];
@@ -158,6 +163,7 @@ abbrev pub nothing_with : Memory → Recording
 nothing_with frames = record {
   version = V1;
   layout = record { depth = Four; replicas = 1; threads = 1; tables = 1 };
+  start = None;
   log = [];
   events = [];
   dumps = dump_of frames ∷ [];
@@ -189,3 +195,34 @@ empty_dump = dump_of one_empty_frame
 
 abbrev pub nothing_recorded : Recording
 nothing_recorded = nothing_with one_empty_frame
+
+-- a segment: a page is mapped, and then a processor touches it; what its reply says of a place means nothing, and no dump is there
+abbrev pub no_dump : Image
+no_dump = record { applied = 0; root = 0; frames = finite.from_sorted [] }
+
+abbrev pub map_then_touch : Recording
+map_then_touch = record {
+  version = Segment;
+  layout = record { depth = Four; replicas = 1; threads = 2; tables = 4 };
+  start = None;
+  log = 0 ∷ [];
+  events = Call 0 0 map_it ∷ Reply 0 0 Done ∷ Touch 0 1 0x400123 User Write ∷ Reply 2 9 (Allowed 0x1123) ∷ [];
+  dumps = no_dump ∷ [];
+}
+
+-- how it is spelled: magic, version, counts, log, four events, and the head of a dump that is not there
+abbrev pub map_then_touch_bytes : List ℕ
+map_then_touch_bytes =
+    (0x4e ∷ 0x52 ∷ 0x56 ∷ 0x53 ∷ [])
+    ++ (0x00 ∷ 0x01 ∷ [])
+    ++ (0x04 ∷ 0x01 ∷ 0x00 ∷ 0x02 ∷ 0x00 ∷ 0x04 ∷ 0x00 ∷ 0x00 ∷ 0x00 ∷ 0x01 ∷ 0x00 ∷ 0x00 ∷ 0x00 ∷ 0x04 ∷ 0x00 ∷ 0x00 ∷ 0x00 ∷ 0x00 ∷ [])
+    ++ (0x00 ∷ 0x00 ∷ 0x00 ∷ 0x00 ∷ [])
+    ++ (0x00 ∷ 0x00 ∷ 0x00 ∷ 0x00 ∷ 0x00 ∷ 0x00 ∷ 0x07 ∷ 0x00 ∷ 0x00 ∷ 0x00 ∷ 0x00 ∷ 0x00 ∷ 0x00 ∷ 0x40 ∷ 0x00 ∷ 0x00 ∷ 0x00 ∷ 0x00 ∷ 0x00 ∷ 0x00 ∷ 0x00
+    ∷ 0x00 ∷ 0x10 ∷ 0x00 ∷ [])
+    ++ (0x01 ∷ 0x00 ∷ 0x00 ∷ 0x00 ∷ 0x00 ∷ 0x00 ∷ 0x00 ∷ 0x00 ∷ 0x00 ∷ 0x00 ∷ 0x00 ∷ 0x00 ∷ 0x00 ∷ 0x00 ∷ 0x00 ∷ 0x00 ∷ 0x00 ∷ 0x00 ∷ 0x00 ∷ 0x00 ∷ 0x00
+    ∷ 0x00 ∷ 0x00 ∷ 0x00 ∷ [])
+    ++ (0x00 ∷ 0x00 ∷ 0x00 ∷ 0x01 ∷ 0x05 ∷ 0x01 ∷ 0x01 ∷ 0x00 ∷ 0x00 ∷ 0x00 ∷ 0x00 ∷ 0x00 ∷ 0x00 ∷ 0x40 ∷ 0x01 ∷ 0x23 ∷ 0x00 ∷ 0x00 ∷ 0x00 ∷ 0x00 ∷ 0x00
+    ∷ 0x00 ∷ 0x00 ∷ 0x00 ∷ [])
+    ++ (0x01 ∷ 0x08 ∷ 0x00 ∷ 0x00 ∷ 0x00 ∷ 0x00 ∷ 0x00 ∷ 0x02 ∷ 0x00 ∷ 0x00 ∷ 0x00 ∷ 0x09 ∷ 0x00 ∷ 0x00 ∷ 0x00 ∷ 0x00 ∷ 0x00 ∷ 0x00 ∷ 0x00 ∷ 0x00 ∷ 0x00
+    ∷ 0x00 ∷ 0x11 ∷ 0x23 ∷ [])
+    ++ (0x00 ∷ 0x00 ∷ 0x00 ∷ 0x00 ∷ 0x00 ∷ 0x00 ∷ 0x00 ∷ 0x00 ∷ 0x00 ∷ 0x00 ∷ 0x00 ∷ 0x00 ∷ 0x00 ∷ 0x00 ∷ 0x00 ∷ 0x00 ∷ [])

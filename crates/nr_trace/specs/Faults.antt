@@ -1,12 +1,12 @@
 -- The faults of a trace, as statements, and which comes first.
-use Rattle.std.specs.Prelude.{◌≡◌, ◌≢◌, ℕ, ◌<◌, ◌⊎◌, List, [], ◌∷◌, length, take, slice_get, Some}
+use Rattle.std.specs.Prelude.{◌≡◌, ◌≢◌, ℕ, ◌<◌, ◌⊎◌, List, [], ◌∷◌, length, take, slice_get, Some, false}
 use Rattle.std.specs.Ordering.{nat_cmp}
 use Rattle.std.specs.Cmp.Lexicographic.{slice_cmp}
 use Rattle.std.specs.declared.cmp.Ordering.TheVariants.{Less}
 use Rattle.vs_types.specs.Space.{Space, no_pages}
 use Rattle.vs_walk.specs.Differences.{HasMissingFrame, HasSharedFrame, HasReservedBit, HasStrayFrame, HasDifference}
 use Rattle.vs_walk.specs.Dump.{Image}
-use Rattle.nr_trace.specs.Recording.{Recording}
+use Rattle.nr_trace.specs.Recording.{Recording, IsThere}
 use Rattle.nr_trace.specs.Spelling.{Spells}
 use Rattle.nr_trace.specs.FirstFault.{HasFormatFault}
 use Rattle.nr_trace.specs.Calls.{Invocation, call_of, Response, reply_of, reply_to, Answers, IsCall, IsUpdate, IsRead}
@@ -41,10 +41,11 @@ StandsAfter trace call entries =
     (IsUpdate trace call × (slice_get trace.log entries ≡ Some call))
     ⊎ (IsRead trace call × (reply : Response) × (reply_to trace call ≡ Some reply) × (reply.at ≡ entries))
 
--- an answered call whose answer the space does not give in the recorded order
+-- an answered call, no touch, whose answer the space does not give in the recorded order
 pub record IsWrongFrom (start : Space) (trace : Recording) (call : ℕ) : Type 0 where
   pub made : Invocation
   pub is_made : call_of trace call ≡ Some made
+  pub no_touch : made.touch ≡ false
   pub reply : Response
   pub is_reply : reply_to trace call ≡ Some reply
   pub differs : reply.answer ≢ answer_in trace.layout (space_from start trace (before call (recorded_order trace))) made.request
@@ -59,9 +60,9 @@ pub record RestsOnMore (trace : Recording) (replica : ℕ) (dump : Image) : Type
   pub here : made.replica ≡ replica
   pub more : dump.applied < known_by trace reply
 
--- the replica has a dump with the property
+-- the replica has a dump that is there, with the property
 abbrev pub HasDump : Recording → ℕ → (Image → Type 0) → Type 0
-HasDump trace replica P = (dump : Image) × (slice_get trace.dumps replica ≡ Some dump) × P dump
+HasDump trace replica P = (dump : Image) × (slice_get trace.dumps replica ≡ Some dump) × IsThere dump × P dump
 
 -- what each fault but that of the format says of a trace, from a start on
 abbrev pub HasFaultFrom : Space → Recording → Fault → Type 0

@@ -1,12 +1,15 @@
--- A trace that comes in pieces: what a feed has come to, and what a piece and the end make of it.
-use Rattle.std.specs.Prelude.{◌≡◌, ◌++◌, ℕ, List, [], ◌∷◌, Result, Ok, Err, MatchResult}
+-- A trace or a segment that comes in pieces: what a feed has come to, and what a piece and the end make of it.
+use Rattle.std.specs.Prelude.{◌≡◌, ◌<◌, ◌≤◌, ◌⊎◌, ◌++◌, ℕ, List, [], ◌∷◌, length, take, Option, Result, Ok, Err, MatchResult}
+use Rattle.vs_types.specs.Config.{Layout}
 use Rattle.vs_types.specs.Refusal.{IfRefused}
 use Rattle.vs_types.specs.declared.refusal.Fail.{Fail}
 use Rattle.vs_types.specs.declared.refusal.Fail.TheVariants.{Refused}
 use Rattle.nr_trace.specs.Recording.{Recording}
-use Rattle.nr_trace.specs.Spelling.{Spells}
-use Rattle.nr_trace.specs.FirstFault.{HasFormatFault}
+use Rattle.nr_trace.specs.Spelling.{Spells, SpellsAs}
+use Rattle.nr_trace.specs.FirstFault.{HasFaultAs, HasFormatFault}
 use Rattle.nr_trace.specs.declared.fault.Format.{Format}
+use Rattle.nr_trace.specs.declared.version.Form.{Form}
+use Rattle.nr_trace.specs.declared.version.Form.TheVariants as forms
 use Rattle.nr_trace.specs.declared.fault.Format.TheVariants.{Truncated}
 
 -- the bytes of all pieces so far, or why no more are taken
@@ -14,13 +17,19 @@ pub data Fed : Type 0 where
   Taken : List ℕ → Fed
   Stopped : Fail Format → Fed
 
--- the bytes have the fault, whatever comes after them
+-- as bytes of this form they have the fault, whatever comes after them
+abbrev pub LastsAs : Form → List ℕ → Format → Type 0
+LastsAs form bytes fault = (rest : List ℕ) → HasFaultAs form (bytes ++ rest) fault
+
 abbrev pub HasLastingFault : List ℕ → Format → Type 0
-HasLastingFault bytes fault = (rest : List ℕ) → HasFormatFault (bytes ++ rest) fault
+HasLastingFault bytes fault = LastsAs forms.Trace bytes fault
 
 -- nothing is wrong with the bytes yet, but that there may be too few
+abbrev pub IsFaultlessYet : Form → List ℕ → Type 0
+IsFaultlessYet form bytes = (fault : Format) → HasFaultAs form bytes fault → fault ≡ Truncated
+
 abbrev pub HasNoFaultYet : List ℕ → Type 0
-HasNoFaultYet bytes = (fault : Format) → HasFormatFault bytes fault → fault ≡ Truncated
+HasNoFaultYet bytes = IsFaultlessYet forms.Trace bytes
 
 -- the piece is taken; or the bytes with it are refused, and then all that comes after; or that has come before
 abbrev pub Feeds : Fed → List ℕ → Fed → Result (Unit {0}) (Fail Format) → Type 0
@@ -41,3 +50,36 @@ FeedsAll old (piece ∷ more) new = (next : Fed) × (result : Result (Unit {0}) 
 -- what a reading of the bytes may give: a trace that they spell, a fault that they have, or out of memory
 abbrev pub Reads : List ℕ → Result Recording (Fail Format) → Type 0
 Reads bytes result = MatchResult result (Spells bytes) (IfRefused (HasFormatFault bytes))
+
+-- what a feed of a segment has come to, where the segment before has this layout
+pub record FedSegment : Type 0 where
+  pub before : Option Layout
+  pub pieces : Fed
+
+-- the bytes spell the segment
+abbrev pub IsWhole : FedSegment → Type 0
+IsWhole feed = of feed.pieces where
+  of : Fed → Type 0
+  of (Taken bytes) = (segment : Recording) × SpellsAs (forms.Segment feed.before) bytes segment
+  of (Stopped fail) = ⊥
+
+-- so many bytes at the front of the piece are taken: all of it, or so many that the segment is whole then, and else there are too few; or the
+-- bytes with it are refused
+abbrev pub FeedsSegment : FedSegment → List ℕ → FedSegment → Result ℕ (Fail Format) → Type 0
+FeedsSegment old piece new result = (new.before ≡ old.before) × of old.pieces result where
+  of : Fed → Result ℕ (Fail Format) → Type 0
+  of (Taken bytes) (Ok count) =
+      (count ≤ length piece) × (new.pieces ≡ Taken (bytes ++ take count piece)) × IsFaultlessYet (forms.Segment old.before) (bytes ++ take count piece)
+      × (count < length piece → IsWhole new)
+      × (IsWhole new ⊎ HasFaultAs (forms.Segment old.before) (bytes ++ take count piece) Truncated)
+  of (Taken bytes) (Err fail) = (new.pieces ≡ Stopped fail) × IfRefused (LastsAs (forms.Segment old.before) (bytes ++ piece)) fail
+  of (Stopped fail) answer = (new.pieces ≡ Stopped fail) × (answer ≡ Err fail)
+
+-- the bytes spell the segment, or there are too few; or what was answered before is answered again
+abbrev pub EndsSegment : FedSegment → Result Recording (Fail Format) → Type 0
+EndsSegment feed result = of feed.pieces where
+  of : Fed → Type 0
+  of (Taken bytes) =
+      MatchResult result (SpellsAs (forms.Segment feed.before) bytes)
+      (λ fail. (fail ≡ Refused Truncated) × HasFaultAs (forms.Segment feed.before) bytes Truncated)
+  of (Stopped fail) = result ≡ Err fail

@@ -13,7 +13,8 @@ use Rattle.vs_types.specs.declared.request.Query.TheVariants.{Update, Resolve, A
 use Rattle.vs_walk.specs.Walk.{TranslatesAs}
 use Rattle.vs_walk.specs.Dump.{Image}
 use Rattle.nr_trace.specs.Recording.{Recording}
-use Rattle.nr_trace.specs.Calls.{Invocation, call_of, operation_of, address_of, IsCall, IsUpdate, IsRead, Response, reply_in, reply_to, IsAnswered, Precedes}
+use Rattle.nr_trace.specs.Calls.{Invocation, call_of, operation_of, address_of, touch_of, IsOrdered, IsUpdate, IsRead, Response, reply_in, reply_to, IsAnswered}
+use Rattle.nr_trace.specs.Calls.{Precedes}
 
 -- the members of an order that come before a call
 abbrev pub before : ℕ → List ℕ → List ℕ
@@ -40,11 +41,11 @@ answer_in layout space (Update action) = (step layout.depth layout.tables space 
 answer_in layout space (Resolve address) = look space address
 answer_in layout space (Access address mode access) = allow space address mode access
 
--- the order has distinct calls, all answered ones and some unanswered updates
+-- the order has distinct updates and reads: all that are answered, and some unanswered updates
 pub record HasItsCalls (trace : Recording) (order : List ℕ) : Type 0 where
   pub once : IsDistinct nat_eq order
-  pub calls : (call : ℕ) → Contains order call → IsCall trace call
-  pub answered : (call : ℕ) → IsCall trace call → IsAnswered trace call → Contains order call
+  pub calls : (call : ℕ) → Contains order call → IsOrdered trace call
+  pub answered : (call : ℕ) → IsOrdered trace call → IsAnswered trace call → Contains order call
   pub others : (call : ℕ) → Contains order call → IsAnswered trace call ⊎ IsUpdate trace call
 
 -- of two members, one that was answered before the other was made comes first
@@ -52,9 +53,10 @@ abbrev pub KeepsPrecedence : Recording → List ℕ → Type 0
 KeepsPrecedence trace order = (first second : ℕ) → Contains order first → Contains order second → Precedes trace first second
     → Contains (before second order) first
 
--- each answer is what the space gives after the updates that come before
+-- each answer but that to a touch is what the space gives after the updates that come before
 abbrev pub HasAnswersFrom : Space → Recording → List ℕ → Type 0
-HasAnswersFrom start trace order = (call : ℕ) (made : Invocation) (reply : Response) → call_of trace call ≡ Some made → reply_to trace call ≡ Some reply
+HasAnswersFrom start trace order = (call : ℕ) (made : Invocation) (reply : Response) → call_of trace call ≡ Some made → made.touch ≡ false
+    → reply_to trace call ≡ Some reply
     → reply.answer ≡ answer_in trace.layout (space_from start trace (before call order)) made.request
 
 abbrev pub HasTheAnswers : Recording → List ℕ → Type 0
@@ -96,9 +98,10 @@ reads_at trace n = filter (λ call. is_some (address_of trace call) && option_ma
 abbrev pub recorded_order : Recording → List ℕ
 recorded_order trace = flat_map (λ n. reads_at trace n ++ option_to_list (slice_get trace.log n)) (below (length trace.log + 1))
 
--- how many entries are known by a reply: those up to the update's own, or those that the read saw
+-- how many entries are known by a reply: those up to the update's own, or those that the read saw; by one to a touch none
 abbrev pub known_by : Recording → Response → ℕ
-known_by trace reply = option_map_or (λ action. reply.at + 1) (operation_of trace reply.call) reply.at
+known_by trace reply =
+    option_map_or (λ action. reply.at + 1) (operation_of trace reply.call) (option_map_or (λ touch. 0) (touch_of trace reply.call) reply.at)
 
 -- the floor of a call: the most entries that are known by a reply before it was made
 abbrev pub floor : Recording → ℕ → ℕ

@@ -1,23 +1,26 @@
 -- What a trace says, and the ranges of its numbers.
-use Rattle.std.specs.Prelude.{◌≡◌, ℕ, ◌<◌, ◌≤◌, ◌^◌, List, length, All}
+use Rattle.std.specs.Prelude.{◌≡◌, ℕ, ◌<◌, ◌≤◌, ◌^◌, List, length, All, Option, None, Some, IfSome}
 use Rattle.std.specs.FinMap as finite
-use Rattle.vs_types.specs.Config.{Layout, IsLayout}
+use Rattle.vs_types.specs.Config.{Layout, IsLayoutWithin}
 use Rattle.vs_types.specs.Frame.{IsFrame}
-use Rattle.vs_types.specs.declared.limits.TheConstants.{LOG_PLACES, CALLS, TABLES}
+use Rattle.vs_types.specs.declared.limits.TheConstants.{LOG_PLACES, CALLS}
 use Rattle.vs_types.specs.Query.{IsQuery}
+use Rattle.vs_types.specs.declared.request.Query.TheVariants.{Access}
 use Rattle.vs_types.specs.declared.answer.Answer.{Answer}
 use Rattle.vs_types.specs.declared.answer.Answer.TheVariants.{Done, Overlap, Full, Removed, NotMapped, Inside, Changed, Mapped, Allowed, Fault}
 use Rattle.vs_walk.specs.Dump.{Image}
-use Rattle.nr_trace.specs.Versions.{KnowsDepth, KnowsQuery, KnowsAnswer}
+use Rattle.nr_trace.specs.Versions.{KnowsDepth, KnowsQuery, KnowsAnswer, KnowsTouch, least_frames, most_frames, most_start, most_tables, most_threads}
 use Rattle.nr_trace.specs.declared.version.Version.{Version}
+use Rattle.nr_trace.specs.declared.version.Version.TheVariants.{Segment}
 use Rattle.nr_trace.specs.declared.event.Event.{Event}
-use Rattle.nr_trace.specs.declared.event.Event.TheVariants.{Call, Reply}
+use Rattle.nr_trace.specs.declared.event.Event.TheVariants.{Call, Reply, Touch}
 
--- the version of the format, the layout of the service, the call number at each place of the log, the events in order, and
--- a dump of each replica
+-- the version of the format, the layout of the service, the page table with which the run begins where that is answered, the call number at
+-- each place of the log, the events in order, and a dump of each replica
 pub record Recording : Type 0 where
   pub version : Version
   pub layout : Layout
+  pub start : Option Image
   pub log : List ℕ
   pub events : List Event
   pub dumps : List Image
@@ -40,23 +43,43 @@ abbrev pub IsEvent : Version → Layout → Event → Type 0
 IsEvent version layout (Call replica thread request) =
     (replica < layout.replicas) × (thread < layout.threads) × IsQuery layout.depth request × KnowsQuery version request
 IsEvent version layout (Reply call at answer) = (call < 2 ^ 32) × (at < 2 ^ 32) × IsAnswer answer × KnowsAnswer version answer
+IsEvent version layout (Touch replica thread address mode access) =
+    (replica < layout.replicas) × (thread < layout.threads) × IsQuery layout.depth (Access address mode access) × KnowsTouch version
 
--- 1 to 4,096 frames with numbers below 2 ^ 40; the root may have any number
-pub record IsImage (dump : Image) : Type 0 where
+-- as many frames as the version has, with numbers below 2 ^ 40; the root may have any number; without frames all is 0
+pub record IsImage (version : Version) (dump : Image) : Type 0 where
   pub applied : dump.applied < 2 ^ 32
   pub root : dump.root < 2 ^ 64
-  pub some_frame : 1 ≤ finite.len dump.frames
-  pub few_frames : finite.len dump.frames ≤ TABLES
+  pub some_frame : least_frames version ≤ finite.len dump.frames
+  pub few_frames : finite.len dump.frames ≤ most_frames version
+  pub nothing : finite.len dump.frames ≡ 0 → (dump.applied ≡ 0) × (dump.root ≡ 0)
   pub numbers : All (λ number. number < 2 ^ 40) (finite.keys dump.frames)
   pub words : All IsFrame (finite.values dump.frames)
 
+-- a dump is there where it has a frame: in a segment some may be left out
+abbrev pub IsThere : Image → Type 0
+IsThere dump = 1 ≤ finite.len dump.frames
+
+-- a start has a frame, and comes before all entries
+pub record IsStart (start : Image) : Type 0 where
+  pub image : IsImage Segment start
+  pub some_frame : 1 ≤ finite.len start.frames
+  pub applied : start.applied ≡ 0
+
+-- how many frames a start has, where there is one
+abbrev pub start_frames : Option Image → ℕ
+start_frames None = 0
+start_frames (Some start) = finite.len start.frames
+
 -- at most 65,536 places and 131,072 events, and one dump for each replica
 pub record IsRecording (trace : Recording) : Type 0 where
-  pub layout : IsLayout trace.layout
+  pub layout : IsLayoutWithin (most_threads trace.version) (most_tables trace.version) trace.layout
   pub depth : KnowsDepth trace.version trace.layout.depth
+  pub start : IfSome trace.start IsStart
+  pub few_start : start_frames trace.start ≤ most_start trace.version
   pub few_places : length trace.log ≤ LOG_PLACES
   pub log : All (λ call. call < 2 ^ 32) trace.log
   pub few_events : length trace.events ≤ CALLS
   pub events : All (IsEvent trace.version trace.layout) trace.events
   pub one_dump_each : length trace.dumps ≡ trace.layout.replicas
-  pub dumps : All IsImage trace.dumps
+  pub dumps : All (IsImage trace.version) trace.dumps

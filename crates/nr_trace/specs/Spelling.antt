@@ -1,7 +1,8 @@
--- How a trace is spelled, unit by unit. All numbers are big-endian, and a field that is not used is 0.
-use Rattle.std.specs.Prelude.{◌≡◌, ℕ, ◌++◌, List, length, codes, flat_map}
+-- How a trace or a segment is spelled, unit by unit. All numbers are big-endian, and a field that is not used is 0.
+use Rattle.std.specs.Prelude.{◌≡◌, ℕ, ◌++◌, List, [], length, codes, flat_map, Option, None, Some}
 use Rattle.std.specs.Int.{w8, w16, w32, w64, to_be_bytes}
 use Rattle.std.specs.FinMap as finite
+use Rattle.vs_types.specs.Config.{Layout}
 use Rattle.vs_types.specs.Depth.{levels}
 use Rattle.vs_types.specs.Codes.{size_code, rights_code, answer_code}
 use Rattle.vs_types.specs.Fields.{request_fields}
@@ -10,29 +11,44 @@ use Rattle.vs_types.specs.declared.page.Rights.{Rights}
 use Rattle.vs_types.specs.declared.answer.Answer.{Answer}
 use Rattle.vs_types.specs.declared.answer.Answer.TheVariants.{Done, Overlap, Full, Removed, NotMapped, Inside, Changed, Mapped, Allowed, Fault}
 use Rattle.vs_walk.specs.Dump.{Image}
-use Rattle.nr_trace.specs.Versions.{version_code}
-use Rattle.nr_trace.specs.Recording.{Recording, IsRecording}
+use Rattle.nr_trace.specs.Versions.{version_code, Follows, IsVersionOf}
+use Rattle.nr_trace.specs.Recording.{Recording, IsRecording, start_frames}
 use Rattle.nr_trace.specs.declared.version.Version.{Version}
+use Rattle.nr_trace.specs.declared.version.Version.TheVariants.{Segment}
+use Rattle.nr_trace.specs.declared.version.Form.{Form}
+use Rattle.nr_trace.specs.declared.version.Form.TheVariants as forms
+use Rattle.vs_types.specs.declared.access.Access.{Access}
+use Rattle.vs_types.specs.declared.access.Mode.{Mode}
+use Rattle.vs_types.specs.declared.fields.RequestFields.{RequestFields}
+use Rattle.vs_types.specs.declared.request.Query.TheVariants as queries
 use Rattle.nr_trace.specs.declared.fields.Counts.{Counts}
 use Rattle.nr_trace.specs.declared.fields.DumpHead.{DumpHead}
 use Rattle.nr_trace.specs.declared.fields.AnswerFields.{AnswerFields}
 use Rattle.nr_trace.specs.declared.event.Event.{Event}
-use Rattle.nr_trace.specs.declared.event.Event.TheVariants.{Call, Reply}
+use Rattle.nr_trace.specs.declared.event.Event.TheVariants.{Call, Reply, Touch}
 
 -- 4 bytes
-abbrev pub magic : List ℕ
-magic = codes "NRVT"
+abbrev pub magic : Version → List ℕ
+magic Segment = codes "NRVS"
+magic version = codes "NRVT"
 
 -- 2 bytes
 abbrev pub version_word : Version → List ℕ
 version_word version = to_be_bytes w16 (version_code version)
 
--- 14 bytes: levels, replicas, threads, tables, places, events
-abbrev pub counts : Counts → List ℕ
-counts numbers =
+-- 14 bytes: levels, replicas, threads, tables, places, events; and 4 of a segment: frames of the start
+abbrev pub start_count : Version → ℕ → List ℕ
+start_count Segment start = to_be_bytes w32 start
+start_count version start = []
+
+abbrev pub counts_front : Counts → List ℕ
+counts_front numbers =
     let layout = numbers.layout in
     to_be_bytes w8 (levels layout.depth) ++ to_be_bytes w8 layout.replicas ++ to_be_bytes w16 layout.threads ++ to_be_bytes w16 layout.tables
     ++ to_be_bytes w32 numbers.places ++ to_be_bytes w32 numbers.events
+
+abbrev pub counts : Version → Counts → List ℕ
+counts version numbers = counts_front numbers ++ start_count version numbers.start
 
 -- 4 bytes for a place of the log: its call
 abbrev pub log_word : ℕ → List ℕ
@@ -57,13 +73,20 @@ answer_fields (Mapped phys size rights) = page_fields (Mapped phys size rights) 
 answer_fields (Allowed phys) = value_fields (Allowed phys) phys
 answer_fields (Fault code) = value_fields (Fault code) code
 
--- 24 bytes: tag 0, replica, thread, kind, size, rights, a 0, address, physical address; or
--- tag 1, answer, size, rights, call, at, four 0, value
-abbrev pub event : Event → List ℕ
-event (Call replica thread request) =
-    let fields = request_fields request in
+-- the fields of a touch are those of an access, but for the kind
+abbrev pub touch_fields : ℕ → Mode → Access → RequestFields
+touch_fields address mode access = record (request_fields (queries.Access address mode access)) { kind = 5 }
+
+-- tag 0, replica, thread, kind, size, rights, a 0, address, physical address
+abbrev pub asked : ℕ → ℕ → RequestFields → List ℕ
+asked replica thread fields =
     to_be_bytes w8 0 ++ to_be_bytes w8 replica ++ to_be_bytes w16 thread ++ to_be_bytes w8 fields.kind ++ to_be_bytes w8 fields.size
     ++ to_be_bytes w8 fields.rights ++ to_be_bytes w8 0 ++ to_be_bytes w64 fields.address ++ to_be_bytes w64 fields.physical
+
+-- 24 bytes: what is asked; or tag 1, answer, size, rights, call, at, four 0, value
+abbrev pub event : Event → List ℕ
+event (Call replica thread request) = asked replica thread (request_fields request)
+event (Touch replica thread address mode access) = asked replica thread (touch_fields address mode access)
 event (Reply call at answer) =
     let fields = answer_fields answer in
     to_be_bytes w8 1 ++ to_be_bytes w8 fields.code ++ to_be_bytes w8 fields.size ++ to_be_bytes w8 fields.rights
@@ -85,22 +108,40 @@ frame_words words = flat_map (to_be_bytes w64) words
 abbrev pub head_of : Image → DumpHead
 head_of image = record { applied = image.applied; frames = finite.len image.frames; root = image.root }
 
--- a head, and then each frame by rising number
+-- each frame by rising number
+abbrev pub frames : Image → List ℕ
+frames image = flat_map (λ frame. frame_number frame.0 ++ frame_words frame.1) (finite.entries image.frames)
+
+-- a head, and then the frames
 abbrev pub dump : Image → List ℕ
-dump image =
-    dump_head (head_of image)
-    ++ flat_map (λ frame. frame_number frame.0 ++ frame_words frame.1) (finite.entries image.frames)
+dump image = dump_head (head_of image) ++ frames image
+
+-- the root of a start, 8 bytes, and then its frames
+abbrev pub start_units : Option Image → List ℕ
+start_units None = []
+start_units (Some start) = frame_number start.root ++ frames start
 
 -- the numbers of the counts unit
 abbrev pub counts_of : Recording → Counts
-counts_of trace = record { layout = trace.layout; places = length trace.log; events = length trace.events }
+counts_of trace =
+    record { layout = trace.layout; places = length trace.log; events = length trace.events; start = start_frames trace.start }
 
 abbrev pub spelling : Recording → List ℕ
 spelling trace =
-    magic ++ version_word trace.version ++ counts (counts_of trace)
+    magic trace.version ++ version_word trace.version ++ counts trace.version (counts_of trace) ++ start_units trace.start
     ++ flat_map log_word trace.log ++ flat_map event trace.events ++ flat_map dump trace.dumps
 
--- the bytes spell the trace: it keeps the ranges, and they are its spelling
-pub record Spells (bytes : List ℕ) (trace : Recording) : Type 0 where
+-- the bytes spell what has this form: it is of a version of that, a further segment is laid out as the one before it, all is in range, and
+-- they are its spelling
+pub record SpellsAs (form : Form) (bytes : List ℕ) (trace : Recording) : Type 0 where
+  pub of_form : IsVersionOf form trace.version
+  pub follows : Follows form trace.layout
   pub in_range : IsRecording trace
   pub spelled : bytes ≡ spelling trace
+
+-- the bytes spell the trace; or the segment, where the one before it has this layout
+abbrev pub Spells : List ℕ → Recording → Type 0
+Spells bytes trace = SpellsAs forms.Trace bytes trace
+
+abbrev pub SpellsSegment : Option Layout → List ℕ → Recording → Type 0
+SpellsSegment before bytes segment = SpellsAs (forms.Segment before) bytes segment

@@ -1,4 +1,4 @@
-use vs_types::{Answer, Request};
+use vs_types::{Access, Answer, Mode, Request};
 
 /// What was recorded.
 #[derive(Clone, Copy, Debug, PartialEq, Eq)]
@@ -9,7 +9,15 @@ pub enum Event {
         thread: u16,
         request: Request,
     },
-    /// A call is answered. `at` is the place of an update, and for a read how many entries its replica had applied.
+    /// A processor makes an access of an address through its TLB, on a thread of a replica. Its number is the index of this event too.
+    Touch {
+        replica: u8,
+        thread: u16,
+        address: u64,
+        mode: Mode,
+        access: Access,
+    },
+    /// A call is answered. `at` is the place of an update, for a read how many entries its replica had applied, and for a touch nothing.
     Reply {
         call: u32,
         at: u32,

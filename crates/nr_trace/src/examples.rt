@@ -1,18 +1,19 @@
 //! Worked examples: what the definitions say of short recordings. Each function does nothing: the prover computes.
 
-ghost use Rattle.std.specs.Prelude.{◌≡◌, [], ◌∷◌, ◌++◌, take, drop, length};
+ghost use Rattle.std.specs.Prelude.{◌≡◌, [], ◌∷◌, ◌++◌, None, Some, take, drop, length};
 ghost use Rattle.nr_trace.specs.Examples.{empty_dump, missing_frame, nothing_recorded, reserved_bit, shared_frame, stray_frame, unmapped_page};
-ghost use Rattle.nr_trace.specs.FirstFault.{HasFormatFault};
+ghost use Rattle.nr_trace.specs.FirstFault.{HasFormatFault, HasSegmentFault};
 ghost use Rattle.nr_trace.specs.Laws.{IsFaultless};
-ghost use Rattle.nr_trace.specs.declared.fault.Format.TheVariants.{BadMagic, BadVersion, Trailing, Truncated};
+ghost use Rattle.nr_trace.specs.declared.fault.Format.TheVariants.{BadChain, BadMagic, BadVersion, Trailing, Truncated};
 ghost use Rattle.nr_trace.specs.Calls.{IsWellFormedHistory};
 ghost use Rattle.nr_trace.specs.Examples.{access_it, access_refused, answered_again, as_version_2, looks_mapped, map_it, map_then_access, map_then_resolve};
+ghost use Rattle.nr_trace.specs.Examples.{map_then_touch, map_then_touch_bytes};
 ghost use Rattle.nr_trace.specs.Examples.{map_then_resolve_bytes, read_before_and_after, resolve_it, stale_read, unanswered_left_out, unanswered_too_early};
 ghost use Rattle.nr_trace.specs.Examples.{with_applied, with_log, with_replies, without_first_reply};
 ghost use Rattle.nr_trace.specs.Faults.{HasFault};
 ghost use Rattle.nr_trace.specs.Orders.{answer_in, before, floor, recorded_order, space_after, FitsOrder, IsLegalOrder};
 ghost use Rattle.nr_trace.specs.Recording.{IsEvent};
-ghost use Rattle.nr_trace.specs.Spelling.{spelling, Spells};
+ghost use Rattle.nr_trace.specs.Spelling.{spelling, Spells, SpellsSegment};
 ghost use Rattle.nr_trace.specs.Versions.{KnowsDepth};
 ghost use Rattle.nr_trace.specs.declared.event.Event.TheVariants.{Call, Reply};
 ghost use Rattle.nr_trace.specs.declared.version.Version.TheVariants.{V1, V2};
@@ -139,4 +140,18 @@ pub fn faults_of_the_format()
     ensures version { HasFormatFault (0x4e ∷ 0x52 ∷ 0x56 ∷ 0x54 ∷ 0 ∷ 3 ∷ []) BadVersion }
     ensures less { HasFormatFault (take 16551 (spelling map_then_resolve)) Truncated }
     ensures more { HasFormatFault (spelling map_then_resolve ++ 0 ∷ []) Trailing }
+{}
+
+/// A segment that maps a page and touches it: a touch has no place in the order, and what its reply says of a place makes
+/// nothing known and is no fault. Its bytes spell it where it is the first segment or is laid out as the one before it; laid
+/// out otherwise they have the fault `BadChain`, and they are no trace.
+pub fn map_then_touch_is_a_segment()
+    ensures order { recorded_order map_then_touch ≡ 0 ∷ [] }
+    ensures floor { floor map_then_touch 4 ≡ 1 }
+    ensures within { HasFault map_then_touch (PastLog 3) → ⊥ }
+    ensures first { SpellsSegment None map_then_touch_bytes map_then_touch }
+    ensures further { SpellsSegment (Some map_then_touch.layout) map_then_touch_bytes
+        map_then_touch }
+    ensures otherwise { HasSegmentFault (Some map_then_resolve.layout) map_then_touch_bytes BadChain }
+    ensures no_trace { HasFormatFault map_then_touch_bytes BadMagic }
 {}

@@ -9,6 +9,10 @@ pub enum Format {
     BadVersion,
     /// A number of levels, replicas, threads, tables, places, events or frames is out of its range.
     BadCount,
+    /// The segment is not laid out as the one before it.
+    BadChain,
+    /// In the start the number of the frame of this index does not rise, or is out of its range.
+    BadStart(u32),
     /// The event of this index is none, or is out of its range.
     BadEvent(u32),
     /// In the dump of this replica the number of the frame of this index does not rise, or is out of its range.

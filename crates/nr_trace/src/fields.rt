@@ -5,14 +5,17 @@ ghost use Rattle.vs_types.specs.Finds.{Finds};
 ghost use Rattle.nr_trace.specs.Spelling.{answer_fields, page_fields, value_fields};
 ghost use Rattle.nr_trace.specs.inside.Reading.{HasAnswerFields};
 
-use vs_types::{Answer, Config, Rights, Size};
+use crate::layout::TraceLayout;
+use vs_types::{Answer, Rights, Size};
 
-/// How a service is laid out, and how many places and events a trace of it has.
+/// How a service is laid out, and how many places, events and frames of its start a recording of it has.
 #[derive(Clone, Copy)]
 pub(crate) struct Counts {
-    pub(crate) layout: Config,
+    pub(crate) layout: TraceLayout,
     pub(crate) places: u32,
     pub(crate) events: u32,
+    /// How many frames the start has: 0 where there is none.
+    pub(crate) start: u32,
 }
 
 /// How a dump begins.

@@ -2,7 +2,7 @@
 //! recordings.
 
 ghost use Rattle.std.specs.Prelude.{◌≡◌, ◌≢◌, ◌<◌, ◌≤◌, ◌++◌, ◌+◌, ℕ, max, ◌⊎◌, ◌↔◌, length, slice_get, take, All, Contains, List, []};
-ghost use Rattle.std.specs.Prelude.{None, Some, Result, Err};
+ghost use Rattle.std.specs.Prelude.{None, Some, Option, Result, Err};
 ghost use Rattle.std.specs.List.{concat};
 ghost use Rattle.vs_walk.specs.Dump.{Image};
 ghost use Rattle.vs_types.specs.declared.refusal.Fail.{Fail};
@@ -10,15 +10,16 @@ ghost use Rattle.vs_types.specs.declared.refusal.Fail.TheVariants.{Memory};
 ghost use Rattle.vs_types.specs.Space.{Space};
 ghost use Rattle.vs_types.specs.Step.{step};
 ghost use Rattle.vs_types.specs.declared.op.Action.{Action};
-ghost use Rattle.nr_trace.specs.Calls.{operation_of, reply_of, reply_to, IsWellFormedHistory, Response};
-ghost use Rattle.nr_trace.specs.FirstFault.{HasFormatFault};
+ghost use Rattle.nr_trace.specs.Calls.{operation_of, reply_of, reply_to, IsOrdered, IsWellFormedHistory, Response};
+ghost use Rattle.vs_types.specs.Config.{Layout};
+ghost use Rattle.nr_trace.specs.FirstFault.{HasFormatFault, HasSegmentFault};
 ghost use Rattle.nr_trace.specs.Feed.{Ends, Fed, FeedsAll, Reads};
 ghost use Rattle.nr_trace.specs.Feed.Fed.{Taken};
 ghost use Rattle.nr_trace.specs.Faults.{Earlier, HasFault, HasFaultFrom, IsFirstFrom, IsFirstOf, StandsAfter};
 ghost use Rattle.nr_trace.specs.Laws.{HasCleanLog, HasRank, IsFaultlessFrom, IsSerialFrom, Stands};
 ghost use Rattle.nr_trace.specs.Orders.{before, floor, known_by, recorded_order, space_from, updates, FitsFrom, IsLegalFrom};
-ghost use Rattle.nr_trace.specs.Recording.{Recording};
-ghost use Rattle.nr_trace.specs.Spelling.{Spells};
+ghost use Rattle.nr_trace.specs.Recording.{IsThere, Recording};
+ghost use Rattle.nr_trace.specs.Spelling.{Spells, SpellsSegment};
 ghost use Rattle.nr_trace.specs.declared.fault.Fault.{Fault};
 ghost use Rattle.nr_trace.specs.declared.fault.Fault.TheVariants.{AnsweredTwice, Early, NoSuchCall, ThreadOpen, WrongAnswer};
 ghost use Rattle.nr_trace.specs.declared.fault.Format.{Format};
@@ -102,14 +103,14 @@ pub fn one_first_fault_of_bytes()
 {}
 
 /// Where no fault holds of a recording from a start on, its history is well formed, the recorded order is legal, and each
-/// dump fits it.
+/// dump that is there fits it.
 pub fn faultless_recordings_have_an_order()
     ensures history { (start : Space) (trace : Recording) → IsFaultlessFrom start trace
         → IsWellFormedHistory trace }
     ensures legal { (start : Space) (trace : Recording) → IsFaultlessFrom start trace
         → IsLegalFrom start trace (recorded_order trace) }
     ensures fits { (start : Space) (trace : Recording) (replica : ℕ) (dump : Image)
-        → IsFaultlessFrom start trace → slice_get trace.dumps replica ≡ Some dump
+        → IsFaultlessFrom start trace → slice_get trace.dumps replica ≡ Some dump → IsThere dump
         → FitsFrom start trace (recorded_order trace) replica dump }
 {}
 
@@ -121,7 +122,7 @@ pub fn recorded_order_by_entries()
     ensures once { (trace : Recording) (call m n : ℕ) → HasCleanLog trace → StandsAfter trace call m
         → StandsAfter trace call n → m ≡ n }
     ensures answered { (trace : Recording) (call : ℕ) (reply : Response) → HasCleanLog trace
-        → reply_to trace call ≡ Some reply
+        → IsOrdered trace call → reply_to trace call ≡ Some reply
         → StandsAfter trace call reply.at × (reply.at ≤ length trace.log) }
     ensures first { (trace : Recording) (index : ℕ) (reply : Response) → HasCleanLog trace
         → reply_of trace index ≡ Some reply
@@ -181,4 +182,42 @@ pub fn bytes_spell_a_trace_or_have_a_fault()
     ensures { (bytes : List ℕ) → All (λ byte. byte < 256) bytes
         → ((trace : Recording) × Spells bytes trace) ⊎
         ((fault : Format) × HasFormatFault bytes fault) }
+{}
+
+/// Bytes spell at most one segment, and no front of them spells another one.
+pub fn bytes_begin_with_one_segment()
+    ensures spell { (before : Option Layout) (bytes : List ℕ) (first second : Recording)
+        → SpellsSegment before bytes first → SpellsSegment before bytes second → first ≡ second }
+    ensures begin { (before : Option Layout) (front other more rest : List ℕ)
+        (first second : Recording) → SpellsSegment before front first
+        → SpellsSegment before other second → front ++ more ≡ other ++ rest
+        → (front ≡ other) × (first ≡ second) }
+{}
+
+/// Bytes have at most one fault as a segment.
+pub fn one_segment_fault()
+    ensures { (before : Option Layout) (bytes : List ℕ) (first second : Format)
+        → HasSegmentFault before bytes first → HasSegmentFault before bytes second
+        → first ≡ second }
+{}
+
+/// Bytes that begin with a segment have no fault as one, whatever comes after it.
+pub fn no_fault_of_a_segment()
+    ensures { (before : Option Layout) (bytes more : List ℕ) (segment : Recording) (fault : Format)
+        → SpellsSegment before bytes segment → HasSegmentFault before (bytes ++ more) fault → ⊥ }
+{}
+
+/// Where bytes spell a segment, each front of them that lacks some has the fault `Truncated`.
+pub fn fronts_of_a_segment_are_truncated()
+    ensures { (before : Option Layout) (front more : List ℕ) (segment : Recording)
+        → SpellsSegment before (front ++ more) segment → more ≢ []
+        → HasSegmentFault before front Truncated }
+{}
+
+/// Any bytes begin with a segment, or have a fault as one.
+pub fn bytes_begin_with_a_segment_or_have_a_fault()
+    ensures { (before : Option Layout) (bytes : List ℕ) → All (λ byte. byte < 256) bytes
+        → ((front : List ℕ) × (more : List ℕ) × (segment : Recording) × (bytes ≡ front ++ more)
+        × SpellsSegment before front segment) ⊎
+        ((fault : Format) × HasSegmentFault before bytes fault) }
 {}

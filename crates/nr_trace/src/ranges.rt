@@ -1,18 +1,19 @@
 //! Which events and dumps are in the ranges of a trace.
 
-ghost use Rattle.std.specs.Prelude.{◌≡◌, ◌↔◌, IsTrue, IsFalse, All, Any, MatchOption};
+ghost use Rattle.std.specs.Prelude.{◌≡◌, ◌≤◌, ◌↔◌, IsTrue, IsFalse, All, Any, IfSome, MatchOption};
 ghost use Rattle.vs_walk.specs.Dump.{IsDump};
-ghost use Rattle.nr_trace.specs.Recording.{IsEvent, IsImage};
+ghost use Rattle.nr_trace.specs.Recording.{start_frames, IsEvent, IsImage, IsStart};
+ghost use Rattle.nr_trace.specs.Versions.{most_start};
 ghost use Rattle.nr_trace.specs.Parts.{HasFrames, IsFirstOut, LacksFrames};
 
 use crate::event::Event;
+use crate::layout::TraceLayout;
 use crate::recorded::Recorded;
 use crate::version::Version;
-use vs_types::{Config, TABLES};
 use vs_walk::Dump;
 
-fn is_in_range(version: Version, config: Config, event: Event) -> bool
-    ensures { IsTrue result ↔ IsEvent version config event }
+fn is_in_range(version: Version, layout: TraceLayout, event: Event) -> bool
+    ensures { IsTrue result ↔ IsEvent version layout event }
 {
     match event {
         Event::Call {
@@ -20,11 +21,22 @@ fn is_in_range(version: Version, config: Config, event: Event) -> bool
             thread,
             request,
         } => {
-            let depth = config.depth();
-            replica < config.replicas()
-                && thread < config.threads()
+            let depth = layout.depth();
+            replica < layout.replicas()
+                && thread < layout.threads()
                 && request.fits(depth)
                 && version.knows_query(request.query())
+        }
+        Event::Touch {
+            replica,
+            thread,
+            address,
+            ..
+        } => {
+            replica < layout.replicas()
+                && thread < layout.threads()
+                && layout.depth().is_canonical(address)
+                && version.knows_touch()
         }
         Event::Reply { answer, .. } => version.knows_answer(answer),
     }
@@ -33,38 +45,55 @@ fn is_in_range(version: Version, config: Config, event: Event) -> bool
 /// The index of the first event that is none of a service laid out so, or that the version does not know.
 pub(crate) fn first_out_of_range(
     version: Version,
-    config: Config,
+    layout: TraceLayout,
     events: &[Recorded],
 ) -> Option<usize>
-    ensures { MatchOption result (All (IsEvent version config) events.now)
-        (IsFirstOut version config events.now) }
+    ensures { MatchOption result (All (IsEvent version layout) events.now)
+        (IsFirstOut version layout events.now) }
 {
     for (index, event) in events.iter().enumerate() {
-        if !is_in_range(version, config, event.event()) {
+        if !is_in_range(version, layout, event.event()) {
             return Some(index);
         }
     }
     None
 }
 
-/// Whether the dump has 1 to 4,096 frames.
-fn has_frames(dump: &Dump) -> bool
-    ensures count { IsTrue result ↔ HasFrames dump.now }
+/// Whether the dump has as many frames as the version allows, and nothing without frames.
+fn has_frames(version: Version, dump: &Dump) -> bool
+    ensures count { IsTrue result ↔ HasFrames version dump.now }
     ensures is_dump { IsDump dump.now }
 {
     let frames = dump.count();
-    frames >= 1 && frames <= usize::from(TABLES)
+    let is_empty = dump.applied() == 0 && dump.root() == 0;
+    frames >= usize::from(version.least_frames())
+        && frames <= usize::from(version.most_frames())
+        && (frames > 0 || is_empty)
 }
 
-/// Whether each dump has 1 to 4,096 frames.
-pub(crate) fn all_have_frames(dumps: &[Dump]) -> bool
-    ensures yes { IsTrue result → All IsImage dumps.now }
-    ensures no { IsFalse result → Any LacksFrames dumps.now }
+/// Whether each dump has as many frames as the version allows.
+pub(crate) fn all_have_frames(version: Version, dumps: &[Dump]) -> bool
+    ensures yes { IsTrue result → All (IsImage version) dumps.now }
+    ensures no { IsFalse result → Any (LacksFrames version) dumps.now }
 {
     for dump in dumps {
-        if !has_frames(dump) {
+        if !has_frames(version, dump) {
             return false;
         }
     }
     true
+}
+
+/// Whether the start is one of the version: none of a trace.
+pub(crate) fn is_start(version: Version, start: &Option<Dump>) -> bool
+    ensures { IsTrue result ↔ IfSome start.now IsStart
+        × (start_frames start.now ≤ most_start version) }
+{
+    match start {
+        Some(start) => {
+            let frames = start.count();
+            frames >= 1 && frames <= usize::from(version.most_start()) && start.applied() == 0
+        }
+        None => true,
+    }
 }

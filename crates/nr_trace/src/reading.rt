@@ -11,5 +11,5 @@ mod room;
 mod whole;
 mod words;
 
-pub use feed::Feed;
+pub use feed::{Feed, SegmentFeed};
 pub use whole::read;

@@ -25,6 +25,8 @@ enum Kept {
     Resolve(u8, u16, u64),
     /// Replica, thread, mode, access, address.
     Access(u8, u16, Mode, Access, u64),
+    /// Replica, thread, mode, access, address.
+    Touch(u8, u16, Mode, Access, u64),
     /// Call, `at`.
     Done(u32, u32),
     /// Call, `at`, base.
@@ -173,6 +175,15 @@ impl Recorded {
             } => Recorded {
                 kept: Kept::call(replica, thread, request),
             },
+            Event::Touch {
+                replica,
+                thread,
+                address,
+                mode,
+                access,
+            } => Recorded {
+                kept: Kept::Touch(replica, thread, mode, access, address),
+            },
             Event::Reply { call, at, answer } => Recorded {
                 kept: Kept::reply(call, at, answer),
             },
@@ -204,6 +215,13 @@ impl Recorded {
             Kept::Access(replica, thread, mode, access, address) => {
                 call_of(replica, thread, Query::Access(address, mode, access))
             }
+            Kept::Touch(replica, thread, mode, access, address) => Event::Touch {
+                replica,
+                thread,
+                address,
+                mode,
+                access,
+            },
             Kept::Done(call, at) => reply_of(call, at, Answer::Done),
             Kept::Overlap(call, at, base) => reply_of(call, at, Answer::Overlap(base)),
             Kept::Full(call, at, need) => reply_of(call, at, Answer::Full(need)),

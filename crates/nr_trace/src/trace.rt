@@ -1,29 +1,31 @@
-ghost use Rattle.std.specs.Prelude.{◌≡◌, MatchResult};
+ghost use Rattle.std.specs.Prelude.{◌≡◌, MatchResult, option_copied};
 
 use crate::fault::Format;
-use crate::ranges::{all_have_frames, first_out_of_range};
+use crate::layout::TraceLayout;
+use crate::ranges::{all_have_frames, first_out_of_range, is_start};
 use crate::recorded::Recorded;
 use crate::version::Version;
 use std::marker::Model;
-use vs_types::{CALLS, Config, LOG_PLACES};
+use vs_types::{CALLS, LOG_PLACES};
 use vs_walk::Dump;
 
-/// A recorded run, within the ranges of its version of the format: its layout, the call at each place of the log, the events in order,
-/// and a dump of each replica. Contracts see its recording.
+/// A recorded run, within the ranges of its version of the format: its layout, the page table with which it begins where that is answered, the
+/// call at each place of the log, the events in order, and a dump of each replica. Contracts see its recording.
 #[derive(Debug, Drop)]
 pub struct Trace {
     version: Version,
-    config: Config,
+    layout: TraceLayout,
+    start: Option<Dump>,
     log: Vec<u32>,
     events: Vec<Recorded>,
     dumps: Vec<Dump>,
 }
 
 impl Model for Trace {
-    ghost use Rattle.std.specs.Prelude.{ℕ, List, refl};
-    ghost use Rattle.std.specs.Coded.{code_by, coded×, coded_ℕ, coded_list};
+    ghost use Rattle.std.specs.Prelude.{ℕ, List, Option, refl};
+    ghost use Rattle.std.specs.Coded.{code_by, coded×, coded_ℕ, coded_list, coded_option};
     ghost use Rattle.vs_types.specs.Config.{Layout};
-    ghost use Rattle.vs_types.specs.contracts.config.Config as config_contract;
+    ghost use Rattle.nr_trace.specs.contracts.layout.TraceLayout as layout_contract;
     ghost use Rattle.vs_walk.specs.Dump.{Image, image_code};
     ghost use Rattle.nr_trace.specs.declared.version.Version.{Version};
     ghost use Rattle.nr_trace.specs.contracts.version.Version as version_contract;
@@ -33,24 +35,26 @@ impl Model for Trace {
 
     ghost Value = { Recording };
 
-    ghost coded = { code_by (Version × (Layout × (List ℕ × (List Event × List Image))))
-        (coded× version_contract.the_row.coded (coded× config_contract.the_row.coded
-        (coded× (coded_list coded_ℕ)
-        (coded× (coded_list event_contract.the_row.coded) (coded_list image_code)))))
-        (λ t. (t.version, (t.layout, (t.log, (t.events, t.dumps)))))
+    ghost coded = { code_by (Version × (Layout × (Option Image × (List ℕ × (List Event × List Image)))))
+        (coded× version_contract.the_row.coded (coded× layout_contract.the_row.coded
+        (coded× (coded_option image_code) (coded× (coded_list coded_ℕ)
+        (coded× (coded_list event_contract.the_row.coded) (coded_list image_code))))))
+        (λ t. (t.version, (t.layout, (t.start, (t.log, (t.events, t.dumps))))))
         (λ p.
         record {
           version = p.0;
           layout = p.1.0;
-          log = p.1.1.0;
-          events = p.1.1.1.0;
-          dumps = p.1.1.1.1;
+          start = p.1.1.0;
+          log = p.1.1.1.0;
+          events = p.1.1.1.1.0;
+          dumps = p.1.1.1.1.1;
         }) (λ _. refl) };
 
     ghost view = { λ t.
         record {
           version = t.version;
-          layout = t.config;
+          layout = t.layout;
+          start = t.start;
           log = t.log.items;
           events = t.events.items;
           dumps = t.dumps.items;
@@ -59,7 +63,8 @@ impl Model for Trace {
     ghost invariant = { λ t. IsRecording
         (record {
           version = t.version;
-          layout = t.config;
+          layout = t.layout;
+          start = t.start;
           log = t.log.items;
           events = t.events.items;
           dumps = t.dumps.items;
@@ -75,11 +80,12 @@ impl Trace {
     ///
     /// # Errors
     ///
-    /// `BadCount` for a depth that the version does not know, for a number of places, events or dumps, or for a dump without
-    /// frames or with more than 4,096; `BadEvent` for the first event that is out of its range or that the version does not know.
+    /// `BadCount` for a layout or a start that the version does not know, for a number of places, events or dumps, or for a number of a
+    /// dump's frames; `BadEvent` for the first event that is out of its range or that the version does not know.
     pub fn new(
         version: Version,
-        config: Config,
+        layout: TraceLayout,
+        start: Option<Dump>,
         log: Vec<u32>,
         events: Vec<Recorded>,
         dumps: Vec<Dump>,
@@ -87,14 +93,21 @@ impl Trace {
         ensures { let parts : Recording =
             record {
               version = version;
-              layout = config;
+              layout = layout;
+              start = start;
               log = log.items;
               events = events.items;
               dumps = dumps.items;
             } in
             MatchResult result (λ trace. (trace ≡ parts) × IsRecording parts) (IsPartsFault parts) }
     {
-        if !version.knows_depth(config.depth()) {
+        if !layout.is_in(version) {
+            return Err(Format::BadCount);
+        }
+        if !version.knows_depth(layout.depth()) {
+            return Err(Format::BadCount);
+        }
+        if !is_start(version, &start) {
             return Err(Format::BadCount);
         }
         if log.len() > LOG_PLACES as usize {
@@ -103,22 +116,23 @@ impl Trace {
         if events.len() > CALLS as usize {
             return Err(Format::BadCount);
         }
-        if dumps.len() != config.replicas() as usize {
+        if dumps.len() != layout.replicas() as usize {
             return Err(Format::BadCount);
         }
-        if let Some(index) = first_out_of_range(version, config, &events) {
+        if let Some(index) = first_out_of_range(version, layout, &events) {
             return Err(Format::BadEvent(index as u32));
         }
-        if !all_have_frames(&dumps) {
+        if !all_have_frames(version, &dumps) {
             return Err(Format::BadCount);
         }
-        Ok(Trace::of(version, config, log, events, dumps))
+        Ok(Trace::of(version, layout, start, log, events, dumps))
     }
 
     /// A trace of these parts.
     pub(crate) fn of(
         version: Version,
-        config: Config,
+        layout: TraceLayout,
+        start: Option<Dump>,
         log: Vec<u32>,
         events: Vec<Recorded>,
         dumps: Vec<Dump>,
@@ -126,7 +140,8 @@ impl Trace {
         requires { IsRecording
             (record {
               version = version;
-              layout = config;
+              layout = layout;
+              start = start;
               log = log.items;
               events = events.items;
               dumps = dumps.items;
@@ -134,7 +149,8 @@ impl Trace {
         ensures { result
             ≡ record {
               version = version;
-              layout = config;
+              layout = layout;
+              start = start;
               log = log.items;
               events = events.items;
               dumps = dumps.items;
@@ -142,7 +158,8 @@ impl Trace {
     {
         Trace {
             version,
-            config,
+            layout,
+            start,
             log,
             events,
             dumps,
@@ -158,11 +175,19 @@ impl Trace {
     }
 
     /// How the service was laid out.
-    pub fn config(&self) -> Config
+    pub fn layout(&self) -> TraceLayout
         ensures reads { result ≡ self.now.layout }
         ensures in_range { IsRecording self.now }
     {
-        self.config
+        self.layout
+    }
+
+    /// The page table with which the run begins, where that is answered: not of a trace.
+    pub fn start(&self) -> Option<&Dump>
+        ensures reads { option_copied result ≡ self.now.start }
+        ensures in_range { IsRecording self.now }
+    {
+        self.start.as_ref()
     }
 
     /// The call at each place of the log: at most `LOG_PLACES` of them.

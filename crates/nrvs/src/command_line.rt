@@ -1,66 +1,20 @@
 //! The words that the program knows.
 ghost use Rattle.std.specs.Prelude.{◌≡◌, false, IfOk};
 ghost use Rattle.clap.specs.Words.{app_of, rule_of};
-ghost use Rattle.nrvs.specs.CommandLine.{command_line, explain_app, number_option, resolve_app, run_app, simulate_app, IsLocal};
+ghost use Rattle.nr_commands.specs.Words.{IsLocal};
+ghost use Rattle.nrvs.specs.CommandLine.{command_line, number_option, run_app, simulate_app};
 
 use clap::builder::ValueParser;
-use clap::{Arg, ArgAction, Command, value_parser};
+use clap::{Arg, ArgAction, Command};
+use nr_commands::{VERSION, audit, explain, resolve};
 use std::alloc::{AllocError, Global};
-
-/// The version that `--version` prints.
-const VERSION: &str = "0.1.0";
 
 /// What `--help` prints after the commands.
 const AFTER_HELP: &str = "\
-A trace is the record of a run. A script, which simulate and run read, has lines such as:
-  0 map 4K 0x400000 0x1000 wux
-  1 resolve 0x400123
-
-What is printed:
-  yes       The trace is right, and the order that follows shows it
-  no        It is not, and its first fault follows
-  verified  The trace of the run is right, and the answers printed are those in it
-  refused   It is not, and its first fault follows
-
-Exit status:
-  0  The trace or the run is right, or an answer or help was printed
-  1  The trace or the run is not right
-  2  Words, input or output are unusable, or a thread could not be started
-  3  Memory ran out";
-
-fn explain<'a>(alloc: Global) -> Result<Command<'a>, AllocError>
-    ensures app { IfOk result (λ command. app_of command ≡ explain_app) }
-    ensures local { IfOk result IsLocal }
-{
-    let json = Arg::new(alloc, "json")
-        .long("json")
-        .action(ArgAction::SetTrue)
-        .help("Prints one JSON object");
-    Command::new(alloc, "explain")
-        .about(
-            "Reads a trace from standard input and prints whether it is right, and what shows a fault",
-        )
-        .arg(json)
-}
-
-fn resolve<'a>(alloc: Global) -> Result<Command<'a>, AllocError>
-    ensures app { IfOk result (λ command. app_of command ≡ resolve_app) }
-    ensures local { IfOk result IsLocal }
-{
-    let address = Arg::new(alloc, "address")
-        .long("address")
-        .required(true)
-        .help("A canonical address: 0x and 1 to 16 hexadecimal digits");
-    let replica = Arg::new(alloc, "replica")
-        .long("replica")
-        .value_parser(value_parser!(u8))
-        .default_value("0")
-        .help("The number of the replica whose dump is looked into");
-    Command::new(alloc, "resolve")
-        .about("Reads a trace from standard input and prints where an address leads in a dump")
-        .arg(address)?
-        .arg(replica)
-}
+yes, verified  The run is right: one address space gives each answer, in an order that fits the log (status 0)
+no, refused    The record of the run is not right, and its first fault is printed (status 1)
+Status 2       Words, input or output are unusable, or a thread could not be started
+Status 3       Memory ran out";
 
 /// An option whose value is read so.
 fn number<'a>(alloc: Global, id: &'a str, parser: ValueParser<'a>, default: &'a str) -> Arg<'a>
@@ -92,7 +46,7 @@ fn simulate<'a>(alloc: Global) -> Result<Command<'a>, AllocError>
         .help("Prints the trace itself, and doesn't judge it");
     Command::new(alloc, "simulate")
         .about(
-            "Reads a script from standard input, takes its steps, and prints whether the trace is right",
+            "Takes the steps of a script on standard input, and prints whether their trace is right",
         )
         .arg(levels)?
         .arg(replicas)?
@@ -126,7 +80,7 @@ fn run<'a>(alloc: Global) -> Result<Command<'a>, AllocError>
         .help("Prints the trace of the run instead of the answers");
     Command::new(alloc, "run")
         .about(
-            "Reads a script from standard input, runs its threads on the replicas, and prints the answers and whether the run is verified",
+            "Runs the threads of a script on standard input, and prints the answers and whether the run is verified",
         )
         .arg(levels)?
         .arg(replicas)?
@@ -143,9 +97,7 @@ fn run<'a>(alloc: Global) -> Result<Command<'a>, AllocError>
 pub fn command_line<'a>(alloc: Global) -> Result<Command<'a>, AllocError>
     ensures app { IfOk result (λ command. app_of command ≡ command_line) }
 {
-    let audit = Command::new(alloc, "audit").about(
-        "Reads a trace from standard input and prints whether it is right",
-    );
+    let audit = audit(alloc)?;
     let explain = explain(alloc)?;
     let resolve = resolve(alloc)?;
     let simulate = simulate(alloc)?;

@@ -2,16 +2,18 @@
 //! address leads in one of its dumps, `nrvs simulate` takes the steps of a script, and `nrvs run` runs the threads of one.
 #![tactic(auto)]
 
+mod command;
 mod command_line;
 mod program;
 mod words;
 
+use nr_commands::program_words;
 use std::io;
 use std::process::ExitCode;
 
 fn main(rt: HostRuntime) -> ExitCode {
     let alloc = rt.alloc();
-    let words = words::program_words(&rt);
+    let words = program_words(&rt);
     let asked = words::read_program_words(alloc, &words);
     let mut output = io::writer(&rt);
     let status = program::run(

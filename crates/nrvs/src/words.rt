@@ -2,33 +2,17 @@ ghost use Rattle.std.specs.Prelude.{◌≡◌, ◌≤◌, ◌∷◌, [], false, 
 ghost use Rattle.vs_types.specs.declared.limits.TheConstants.{MOST_LEVELS};
 ghost use Rattle.vs_types.specs.Depth.{levels};
 ghost use Rattle.clap.specs.Words.{fault_of, found_of, kind_of, one_text, rows_of, subcommand_of, HasKind};
-ghost use Rattle.nrvs.specs.CommandLine.{command_line, kinds_of_no_words, Asks, IsNumber, IsSetup, IsTurns};
+ghost use Rattle.nr_commands.specs.Words.{kinds_of_no_words};
+ghost use Rattle.nrvs.specs.CommandLine.{command_line, Asks, IsNumber, IsSetup, IsTurns};
 
+use crate::command::Command;
 use crate::command_line::command_line;
 use clap::error::ErrorKind;
 use clap::{ArgMatches, Error};
-use nr_engines::{Command, Setup};
+use nr_commands::{NoWords, read_audit, read_explain, read_resolve};
+use nr_run_engines::Setup;
 use std::alloc::{AllocError, Global};
-use std::{env, io};
 use vs_types::Depth;
-
-/// Why the program doesn't know its own words.
-#[derive(Debug, Drop)]
-pub enum NoWords {
-    /// There was no memory for them.
-    Memory,
-    /// One of them is no text in UTF-8.
-    NotText,
-}
-
-/// The program's own words, the first of which is its name.
-pub fn program_words(rt: &HostRuntime) -> Result<Vec<String>, NoWords> {
-    match env::args(rt) {
-        Ok(words) => words.collect(rt.alloc()).map_err(|_| NoWords::Memory),
-        Err(error) if error.kind() == io::ErrorKind::InvalidData => Err(NoWords::NotText),
-        Err(_) => Err(NoWords::Memory),
-    }
-}
 
 /// The number that was given, which lies within its limits since clap has tested it; or the default.
 fn read_number(given: &ArgMatches<'_>, id: &str, least: u16, most: u16, default: u16) -> u16
@@ -90,16 +74,9 @@ fn read_words<'a>(alloc: Global, words: &'a [String]) -> Result<Command<'a>, Err
     let mut line = command_line(alloc)?;
     let matches = line.try_get_matches_from_mut(words)?;
     match matches.subcommand() {
-        Some(("audit", _)) => Ok(Command::Audit),
-        Some(("explain", given)) => {
-            let as_json = given.get_flag("json");
-            Ok(Command::Explain(as_json))
-        }
-        Some(("resolve", given)) => {
-            let address = given.get_str("address").unwrap_or("");
-            let replica = given.get_one::<u8>("replica").unwrap_or(0);
-            Ok(Command::Resolve(address, replica))
-        }
+        Some(("audit", given)) => Ok(Command::Inspect(read_audit(alloc, given)?)),
+        Some(("explain", given)) => Ok(Command::Inspect(read_explain(given))),
+        Some(("resolve", given)) => Ok(Command::Inspect(read_resolve(given))),
         Some(("simulate", given)) => {
             let setup = read_setup(given);
             let as_trace = given.get_flag("trace");

@@ -77,6 +77,8 @@ impl Finding {
             Format::BadEvent(event) => Finding::with_format(5, 0, event),
             Format::BadFrame(replica, index) => Finding::with_format(6, replica, index),
             Format::Trailing => Finding::with_format(7, 0, 0),
+            Format::BadChain => Finding::with_format(8, 0, 0),
+            Format::BadStart(index) => Finding::with_format(9, 0, index),
         }
     }
 

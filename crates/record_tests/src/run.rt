@@ -2,10 +2,11 @@ ghost use Rattle.std.specs.Prelude.{◌≡◌, ◌≤◌, [], ◌∷◌, IfOk};
 ghost use Rattle.vs_types.specs.Query.{IsQuery};
 ghost use Rattle.vs_types.specs.declared.limits.TheConstants.{LOG_PLACES};
 ghost use Rattle.nr_trace.specs.Parts.{HasFrames};
+ghost use Rattle.nr_trace.specs.declared.version.Version.TheVariants.{V1};
 ghost use Rattle.nr_record.specs.Pen.{AreAllPens, new_pen};
 
 use nr_record::{Clock, Pen, finish, pens};
-use nr_trace::{Event, Trace, Version};
+use nr_trace::{Event, Trace, TraceLayout, Version};
 use std::alloc::Global;
 use std::process::Abort;
 use std::test::Fail;
@@ -14,7 +15,7 @@ use vs_walk::Dump;
 
 /// A dump with one frame, its root, which is empty.
 fn empty_dump(alloc: Global) -> Result<Dump, Memory>
-    ensures { IfOk result HasFrames }
+    ensures { IfOk result (HasFrames V1) }
 {
     let mut dump = Dump::new(alloc, 0, 1);
     dump.push(1, &[0; 512])?;
@@ -128,7 +129,7 @@ fn two_pens_one_thread(rt: HostRuntime) -> Result<(), Fail> {
         reply(0, 6, Answer::Done),
     ];
     assert_eq!(rt; trace.version(), Version::V1);
-    assert_eq!(rt; trace.config(), config);
+    assert_eq!(rt; trace.layout(), TraceLayout::of(config));
     assert_eq!(rt; trace.log(), [7u32].as_slice());
     assert_eq!(rt; trace.dumps().len(), 2);
     assert_eq!(rt; trace.events().len(), 4);

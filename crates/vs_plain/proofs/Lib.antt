@@ -1,3 +1,4 @@
+pub mod FewTables
 pub mod Listed
 pub mod Neighbours
 pub mod Tables

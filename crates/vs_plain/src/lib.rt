@@ -1,6 +1,6 @@
 //! The plain address space: the pages in an ordered map by base, with the table count kept beside them.
 //!
-//! Numbers are bytes unless a name says otherwise. `PlainSpace::apply` and `PlainSpace::pages` allocate memory.
+//! Numbers are bytes unless a name says otherwise. `PlainSpace::apply`, `PlainSpace::add` and `PlainSpace::pages` allocate memory.
 #![tactic(auto)]
 
 mod byte_aligned;

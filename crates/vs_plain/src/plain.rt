@@ -1,4 +1,4 @@
-ghost use Rattle.std.specs.Prelude.{◌≡◌, map, None, IfOk, OnErr};
+ghost use Rattle.std.specs.Prelude.{◌≡◌, map, None, IfOk, OnOk, OnErr};
 ghost use Rattle.std.specs.FinMap as finite;
 ghost use Rattle.std.specs.List.Sorted.{IsStrictlyIncreasing};
 ghost use Rattle.vs_types.specs.Page.{IsPage};
@@ -152,6 +152,7 @@ impl PlainSpace {
         ensures for_a_page { OnErr result
             ((step self.old.depth self.old.limit self.old.space (Action.Map page)).answer
             ≡ Answer.Done) }
+        ensures apart { IsSpace self.old.depth self.old.space }
     {
         let below = match self.place_of(page.base) {
             Place::Covered(other) => return Ok(Answer::Overlap(other.base)),
@@ -169,6 +170,26 @@ impl PlainSpace {
         Ok(Answer::Done)
     }
 
+    /// Adds a page that overlaps none, whatever the limit of tables: a space whose pages were there before may have more tables
+    /// than its limit, and a map then answers `Full`. Allocates memory.
+    ///
+    /// # Errors
+    ///
+    /// `Memory` where the growth was refused; the space is then unchanged.
+    pub fn add(&mut self, page: Page) -> Result<(), Memory>
+        requires well_formed { IsPage self.old.depth page }
+        requires free { least_overlapped self.old.space page ≡ None }
+        ensures ok { OnOk result (self.new
+            ≡ record self.old { space = finite.insert self.old.space page.base page }) }
+        ensures err { OnErr result (self.new ≡ self.old) }
+    {
+        let below = self.page_map.last_up_to(page.base);
+        let more = self.page_map.new_tables(self.depth, page, below);
+        self.page_map.insert(page)?;
+        self.tables += more;
+        Ok(())
+    }
+
     /// What a call is answered that names a base at which no page begins.
     fn no_page(&self, base: u64) -> Answer
         requires { finite.get self.now.space base ≡ None }
@@ -181,7 +202,8 @@ impl PlainSpace {
     }
 
     fn unmap(&mut self, base: u64) -> Answer
-        ensures { IsPlainStep self.old (Action.Unmap base) result self.new }
+        ensures step { IsPlainStep self.old (Action.Unmap base) result self.new }
+        ensures apart { IsSpace self.old.depth self.old.space }
     {
         let Some(page) = self.page_map.remove(base) else {
             return self.no_page(base);
@@ -192,7 +214,8 @@ impl PlainSpace {
     }
 
     fn protect(&mut self, base: u64, rights: Rights) -> Answer
-        ensures { IsPlainStep self.old (Action.Protect base rights) result self.new }
+        ensures step { IsPlainStep self.old (Action.Protect base rights) result self.new }
+        ensures apart { IsSpace self.old.depth self.old.space }
     {
         match self.page_map.protect(base, rights) {
             None => self.no_page(base),
@@ -211,6 +234,7 @@ impl PlainSpace {
         ensures err { OnErr result (self.new ≡ self.old) }
         ensures for_a_page { OnErr result
             ((step self.old.depth self.old.limit self.old.space op).answer ≡ Answer.Done) }
+        ensures apart { IsSpace self.old.depth self.old.space }
     {
         match op.action() {
             Action::Map(page) => self.map(page),

@@ -3,6 +3,7 @@
  *
  *     workload live SEED ROUNDS PART..     has its own address space watched, from exec to the mark at its end
  *     workload die SEED ROUNDS PART..      .. to its exit, where nothing is mapped any more
+ *     workload here SEED ROUNDS PART..     .. from a mark on, when it has a few thousand pages, to the mark at its end
  *     workload fork SEED PAGES             has the address space watched that fork makes of one with so many pages
  *     workload exec PROGRAM WORD..         has another program's watched, from exec to exit
  *     workload later N PROGRAM WORD..      .. the one that is made when N others were made from that exec on, to its end
@@ -24,7 +25,7 @@
 #include <unistd.h>
 
 #define MARKS ((volatile uint64_t *)0x6e7276730000)
-enum mark { MARK_NEXT = 1, MARK_END = 2, MARK_WHEN_EMPTY = 3, MARK_LATER = 0x100 };
+enum mark { MARK_NEXT = 1, MARK_END = 2, MARK_WHEN_EMPTY = 3, MARK_HERE = 4, MARK_LATER = 0x100 };
 
 static void report(const char *what, pid_t child)
 {
@@ -114,6 +115,11 @@ int main(int count, char **words)
 		return monitor_watched(!strcmp(what, "logged"), words + 4);
 	if (!strcmp(what, "fork") && count > 3)
 		return fork_watched(rounds);
+	if (!strcmp(what, "here") && count > 3) {
+		touch(map_at(0x40000000, 3000 * PAGE, READ_WRITE, PRIVATE, -1), 3000 * PAGE);
+		*MARKS = MARK_HERE;
+		return run_parts(1, words + 4);
+	}
 	if (!strncmp(what, "watched-", 8) && count > 3)
 		return run_parts(!strcmp(what, "watched-live"), words + 4);
 	if ((!strcmp(what, "live") || !strcmp(what, "die")) && count > 3) {

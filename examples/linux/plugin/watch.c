@@ -40,7 +40,7 @@
 #include <unistd.h>
 
 #define MARKS 0x6e7276730000u /* the page of marks: what the guest stores there is a word to the plugin */
-enum mark { MARK_NEXT = 1, MARK_END = 2, MARK_WHEN_EMPTY = 3, MARK_LATER = 0x100 };
+enum mark { MARK_NEXT = 1, MARK_END = 2, MARK_WHEN_EMPTY = 3, MARK_HERE = 4, MARK_LATER = 0x100 };
 #define NESTED_CODE 0x100000u /* the guest in the guest runs below, and nothing else does */
 #define NESTED_ROOT 0xb0      /* of the page that controls it (AMD's VMCB): the address of its nested tables */
 #define FRAME 0x000ffffffffff000u
@@ -82,11 +82,12 @@ static int is_birth(uint64_t address, uint64_t pc)
 	return pc == guest.birth && (!earlier || !earlier--);
 }
 
+/* An address space that is born by a store there, or, where there is none, the one that a processor has loaded: its tables are logged. */
 static void begin(unsigned cpu, uint64_t address)
 {
 	uint64_t root;
 
-	space = guest.nested ? guest_loaded(cpu) : address - guest.pgd;
+	space = guest.nested || !address ? guest_loaded(cpu) : address - guest.pgd;
 	guest_enter(space);
 	root = guest.nested ? (guest_word(guest_direct(address)) & FRAME) >> 12 : guest_root();
 	seen_begin();
@@ -191,6 +192,8 @@ static void marked(unsigned cpu, qemu_plugin_meminfo_t info, uint64_t address)
 		state = ARMED;
 		earlier = value == MARK_NEXT ? 0 : value - MARK_LATER;
 	}
+	if (value == MARK_HERE && state == WAITING)
+		begin(cpu, 0);
 	if (value == MARK_WHEN_EMPTY)
 		ends_when_empty = 1;
 	if (value == MARK_END && state == WATCHING && guest_loaded(cpu) == space)

@@ -26,7 +26,7 @@ use Rattle.nr_core.proofs.reached.RightAnswers.{space_of_log}
 abbrev AreDumps : State → List Image → Type 0
 AreDumps state dumps = AllZip (IsDumpOfReplica state.layout.depth) state.replicas dumps
 
-the_replica : (state : State) (dumps : List Image) (r : ℕ) (dump : Image) → AreDumps state dumps → At dumps r dump
+pub the_replica : (state : State) (dumps : List Image) (r : ℕ) (dump : Image) → AreDumps state dumps → At dumps r dump
     → (replica : Replica) × At state.replicas r replica × IsDumpOfReplica state.layout.depth replica dump
 the_replica state dumps r dump are at =
     in_some (slice_get state.replicas r) refl
@@ -40,7 +40,7 @@ the_replica state dumps r dump are at =
 
 pub none_past_log : (state : State) (version : Version) (dumps : List Image) (r : ℕ) → IsReached state → AreDumps state dumps
     → HasFault (recording state version dumps) (PrefixPastLog r) → ⊥
-none_past_log state version dumps r reached are (dump, at, past) =
+none_past_log state version dumps r reached are (dump, at, is_there, past) =
     let (replica, there, is) = the_replica state dumps r dump are at in
     let of_replica = reached.replicas r replica there in
     beyond replica.applied replica.local is.applied of_replica.fetched of_replica.known reached.completed
@@ -51,7 +51,7 @@ none_past_log state version dumps r reached are (dump, at, past) =
 
 pub none_short : (state : State) (version : Version) (dumps : List Image) (r : ℕ) → IsReached state → AreDumps state dumps
     → HasFault (recording state version dumps) (PrefixShort r) → ⊥
-none_short state version dumps r reached are (dump, at, rests) =
+none_short state version dumps r reached are (dump, at, is_there, rests) =
     let (replica, there, is) = the_replica state dumps r dump are at in
     let (made, before, is_made, right) = reached.replies rests.index rests.reply rests.is_reply in
     let one : made ≡ rests.made = same_Some made rests.made (sym is_made ∙ rests.is_made) in
@@ -67,31 +67,31 @@ no_fault dump replica state fault is e = none-some fault (sym is.faultless ∙ e
 
 pub none_missing : (state : State) (version : Version) (dumps : List Image) (r number : ℕ) → AreDumps state dumps
     → HasFault (recording state version dumps) (MissingFrame r number) → ⊥
-none_missing state version dumps r number are (dump, at, h) =
+none_missing state version dumps r number are (dump, at, is_there, h) =
     let (replica, there, is) = the_replica state dumps r dump are at in
     no_fault dump replica state _ is h
 
 pub none_shared : (state : State) (version : Version) (dumps : List Image) (r number : ℕ) → AreDumps state dumps
     → HasFault (recording state version dumps) (SharedFrame r number) → ⊥
-none_shared state version dumps r number are (dump, at, h) =
+none_shared state version dumps r number are (dump, at, is_there, h) =
     let (replica, there, is) = the_replica state dumps r dump are at in
     no_fault dump replica state _ is h
 
 pub none_reserved : (state : State) (version : Version) (dumps : List Image) (r number index : ℕ) → AreDumps state dumps
     → HasFault (recording state version dumps) (ReservedBit r number index) → ⊥
-none_reserved state version dumps r number index are (dump, at, h) =
+none_reserved state version dumps r number index are (dump, at, is_there, h) =
     let (replica, there, is) = the_replica state dumps r dump are at in
     no_fault dump replica state _ is h
 
 pub none_stray : (state : State) (version : Version) (dumps : List Image) (r number : ℕ) → AreDumps state dumps
     → HasFault (recording state version dumps) (StrayFrame r number) → ⊥
-none_stray state version dumps r number are (dump, at, h) =
+none_stray state version dumps r number are (dump, at, is_there, h) =
     let (replica, there, is) = the_replica state dumps r dump are at in
     is.none_stray number h.0
 
 pub none_differs : (state : State) (version : Version) (dumps : List Image) (r address : ℕ) → IsReached state → AreDumps state dumps
     → HasFault (recording state version dumps) (Differs r address) → ⊥
-none_differs state version dumps r address reached are (dump, at, h) =
+none_differs state version dumps r address reached are (dump, at, is_there, h) =
     let (replica, there, is) = the_replica state dumps r dump are at in
     let same : replica.space ≡ space_after (recording state version dumps) (take dump.applied (calls_of state.log)) =
     (reached.replicas r replica there).space ∙ sym (space_of_log state version dumps replica.applied reached)

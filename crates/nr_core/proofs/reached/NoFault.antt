@@ -20,6 +20,7 @@ use Rattle.nr_core.proofs.reached.InTime.{none_early}
 use Rattle.nr_core.proofs.reached.RightAnswers.{none_wrong}
 use Rattle.nr_core.proofs.reached.Recorded.{of_recording}
 use Rattle.nr_core.proofs.reached.Runs.{reached_by_steps}
+use Rattle.nr_trace.specs.declared.version.Form.TheVariants as forms
 
 pub well_formed : (state : State) (trace : Recording) → IsReached state → IsRecordingOf state trace → HasCleanLog trace
 well_formed state trace reached is = of_recording HasCleanLog state trace is (λ version dumps are. clean_log state version dumps reached)
@@ -89,7 +90,7 @@ none_of_steps trace (state, reachable, is) = faultless state trace (reached_by_s
 
 -- no fault is the first of the bytes of such a recording
 none_of_spelled : (bytes : List ℕ) (trace : Recording) (fault : Fault) → Spells bytes trace → IsFaultless trace → IsFirstOf bytes fault → ⊥
-none_of_spelled bytes trace (Format fault) spells none first = no_fault bytes trace fault spells first
+none_of_spelled bytes trace (Format fault) spells none first = no_fault forms.Trace bytes trace fault spells first
 none_of_spelled bytes trace fault spells none (other, also, first) =
     none fault (subst (λ t. HasFault t fault) (one_trace bytes other trace also spells) first.holds)
 

@@ -1,9 +1,11 @@
 -- The recording of a state, by the state's parts.
-use Rattle.std.proofs.Common.{◌≡◌, ℕ, zero, suc, ◌<◌, ◌≤◌, List, [], ◌∷◌, length, map, slice_get, nat_eq, Option, Some, None, IsSome, option_and_then, refl, ap, sym, ◌∙◌, subst, arith}
+use Rattle.std.proofs.Common.{◌≡◌, ℕ, zero, suc, ◌+◌, ◌<◌, ◌≤◌, Bool, true, false, List, [], ◌∷◌, length, map, slice_get, nat_eq, Option, Some, None, IsSome, option_and_then, refl, ap, sym, ◌∙◌, subst, arith}
+use Rattle.std.specs.Prelude.{if◌then◌else◌}
 use Rattle.std.specs.List.{IsDistinct, AllZip}
 use Rattle.std.specs.Option.{option_map_or}
 use Rattle.std.proofs.lemmas.Option.{same_Some, none-some}
 use Rattle.vs_types.specs.declared.op.Action.{Action}
+use Rattle.vs_types.specs.declared.request.Query.{Query}
 use Rattle.vs_walk.specs.Dump.{Image}
 use Rattle.nr_trace.specs.Recording.{Recording}
 use Rattle.nr_trace.specs.Calls.{Invocation, operation_in, Response, Answers}
@@ -20,6 +22,7 @@ abbrev pub recording : State → Version → List Image → Recording
 recording state version dumps = record {
   version = version;
   layout = state.layout;
+  start = None;
   log = calls_of state.log;
   events = state.events;
   dumps = dumps;
@@ -33,6 +36,7 @@ of_recording P state trace is h = subst P same (h trace.version trace.dumps is.d
   same = λ i. record {
     version = trace.version;
     layout = sym is.layout i;
+    start = sym is.start i;
     log = sym is.log i;
     events = sym is.events i;
     dumps = trace.dumps;
@@ -63,8 +67,22 @@ distinct_apart (y ∷ xs) i zero x h l e f = absurd (omega arith)
 distinct_apart (y ∷ xs) zero (suc j) x h l e f = absent_not_in y xs h.0 (subst (λ z. Rattle.nr_trace.proofs.LawsOfLists.In z xs) (sym (same_Some y x e)) (in_at xs j x f))
 distinct_apart (y ∷ xs) (suc i) (suc j) x h l e f = distinct_apart xs i j x h.1 (omega arith) e f
 
--- what is known by a reply is what its answer reaches
+-- no more is known by a reply than what its answer reaches; by one to a touch nothing is
+known_by_call : (made : Invocation) (at : ℕ)
+    → option_map_or (λ (action : Action). at + 1) (operation_in made.request)
+    (option_map_or (λ (touch : Query). 0) (if made.touch then Some made.request else None) at) ≤ reach made.request at
+known_by_call made at = by_kind (operation_in made.request) made.touch where
+  by_kind : (operation : Option Action) (touch : Bool)
+      → option_map_or (λ (action : Action). at + 1) operation (option_map_or (λ (touch : Query). 0) (if touch then Some made.request else None) at)
+      ≤ option_map_or (λ (action : Action). at + 1) operation at
+  by_kind (Some action) touch = omega arith
+  by_kind None true = omega arith
+  by_kind None false = omega arith
+
 pub known_is_reach : (state : State) (version : Version) (dumps : List Image) (reply : Response) (made : Invocation) → call_at state.events reply.call ≡ Some made
-    → known_by (recording state version dumps) reply ≡ reach made.request reply.at
-known_is_reach state version dumps reply made e = ap (λ (o : Option Invocation).
-    option_map_or (λ (action : Action). Rattle.std.proofs.Common.◌+◌ reply.at 1) (option_and_then (λ (m : Invocation). operation_in m.request) o) reply.at) e
+    → known_by (recording state version dumps) reply ≤ reach made.request reply.at
+known_is_reach state version dumps reply made e =
+    let given : (o : Option Invocation) → ℕ = λ o. option_map_or (λ (action : Action). reply.at + 1) (option_and_then (λ (m : Invocation). operation_in m.request) o)
+    (option_map_or (λ (touch : Query). 0) (option_and_then (λ (m : Invocation). if m.touch then Some m.request else None) o) reply.at) in
+    let same : known_by (recording state version dumps) reply ≡ given (Some made) = ap given e in
+    subst (λ (n : ℕ). n ≤ reach made.request reply.at) (sym same) (known_by_call made reply.at)

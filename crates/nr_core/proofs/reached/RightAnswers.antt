@@ -11,7 +11,7 @@ use Rattle.nr_trace.specs.Orders.{before, space_after, operations, answer_in, re
 use Rattle.nr_trace.specs.Faults.{HasFault}
 use Rattle.nr_trace.specs.declared.version.Version.{Version}
 use Rattle.nr_trace.specs.declared.fault.Fault.TheVariants.{WrongAnswer}
-use Rattle.nr_trace.proofs.LawsOfCalls.{reply_event, answered_stands}
+use Rattle.nr_trace.proofs.LawsOfCalls.{reply_event, answered_stands, ordered_from_made}
 use Rattle.nr_trace.proofs.LawsOfLists.{In}
 use Rattle.nr_trace.proofs.LawsOfOrder.{space_before}
 use Rattle.nr_core.specs.State.{State}
@@ -57,7 +57,8 @@ none_wrong state version dumps call reached h = h.differs (is_right (reply_event
   is_right (index, e, same) =
       let (made, earlier, is, right) = reached.replies index h.reply e in
       let one : made ≡ h.made = same_Some made h.made (sym is ∙ ap (call_at state.events) same ∙ h.is_made) in
-      let stands = answered_stands trace call h.reply (clean_log state version dumps reached) h.is_reply in
+      let stands = answered_stands trace call h.reply (clean_log state version dumps reached)
+      (ordered_from_made trace call h.made h.is_made h.no_touch) h.is_reply in
       right.answered
       ∙ ap (λ (m : Invocation). answer_in state.layout (space_at state.layout state.log h.reply.at) m.request) one
       ∙ ap (λ space. answer_in state.layout space h.made.request)

@@ -38,7 +38,7 @@ RepliesTo events index call = (reply : Response) × (reply_at events index ≡ S
 
 -- the call of a thread with this request
 abbrev pub made_of : Layout → ℕ → Query → Invocation
-made_of layout t request = record { replica = t % layout.replicas; thread = t; request = request }
+made_of layout t request = record { replica = t % layout.replicas; thread = t; request = request; touch = false }
 
 -- how many entries are known by an answer that is at a place: up to the update's own, or those that the read saw
 abbrev pub reach : Query → ℕ → ℕ

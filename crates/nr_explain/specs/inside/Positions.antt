@@ -1,14 +1,16 @@
 -- How far a reading by units has come: which unit comes next, and what would be wrong with the bytes ahead. No public clause cites this file.
 use Rattle.std.specs.Prelude.{◌≡◌, ◌⊎◌, ℕ, suc, ◌+◌, ◌*◌, ◌<◌, ◌≤◌, ◌++◌, nat_lt, List, [], length, take, Option, Some, None, if◌then◌else◌}
-use Rattle.nr_trace.specs.Spelling.{magic, version_word, counts, frame_words}
-use Rattle.nr_trace.specs.FirstFault.{AtUnit, AtFrames, AtDumps, AtEvents, AtLog, HasFormatFault, IsCounts}
+use Rattle.nr_trace.specs.Spelling.{version_word, counts, frame_words}
+use Rattle.nr_trace.specs.FirstFault.{magic_of, AtUnit, AtFrames, AtDumps, AtEvents, AtLog, HasFormatFault, IsCounts}
+use Rattle.nr_trace.specs.Versions.{IsVersionOf}
 use Rattle.nr_trace.specs.Feed.{Fed, HasNoFaultYet, HasLastingFault}
 use Rattle.nr_trace.specs.Feed.Fed.{Taken, Stopped}
 use Rattle.vs_types.specs.Frame.{IsFrame}
+use Rattle.nr_trace.specs.declared.version.Form.TheVariants as forms
 use Rattle.nr_trace.specs.declared.version.Version.{Version}
 use Rattle.nr_trace.specs.declared.fault.Format.{Format}
-use Rattle.nr_trace.specs.declared.fault.Format.TheVariants.{BadEvent, Truncated}
-use Rattle.nr_explain.specs.Units.{size, Numbers, HasHeader, IsHeadOf, HasDumps, GoesOn}
+use Rattle.nr_trace.specs.declared.fault.Format.TheVariants.{BadEvent, BadFrame, Truncated}
+use Rattle.nr_explain.specs.Units.{size, as_counts, Numbers, HasHeader, IsHeadOf, HasDumps, GoesOn}
 use Rattle.nr_explain.specs.declared.units.TraceUnit.{TraceUnit}
 use Rattle.nr_explain.specs.declared.units.TraceUnit.TheVariants.{Magic, Version as VersionWord, Counts, Place, Event, DumpHead, FrameNumber, FrameWords, Behind}
 use Rattle.nr_explain.specs.declared.positions.Lengths.{Lengths}
@@ -18,9 +20,8 @@ use Rattle.nr_explain.specs.declared.unit_feed.Units.{Units}
 
 -- the lengths are those of the counts that the bytes spell, if they do
 abbrev pub AreNumbers : List ℕ → Lengths → Type 0
-AreNumbers bytes lengths = (version : Version) (numbers : Numbers)
-    → IsCounts version (record { layout = numbers.layout; places = numbers.places; events = numbers.events })
-    → bytes ≡ counts (record { layout = numbers.layout; places = numbers.places; events = numbers.events })
+AreNumbers bytes lengths = (version : Version) (numbers : Numbers) → IsVersionOf forms.Trace version → IsCounts version (as_counts numbers)
+    → bytes ≡ counts version (as_counts numbers)
     → lengths ≡ record { places = numbers.places; events = numbers.events; replicas = numbers.layout.replicas; frames = 0 }
 
 -- ---- which unit comes next
@@ -81,7 +82,7 @@ pub record OnDumps (lengths : Lengths) (replica : ℕ) (front : List ℕ) : Type
   pub dumps : HasDumps numbers behind replica []
   pub left : ℕ
   pub count : replica + left ≡ numbers.layout.replicas
-  pub ahead : IsAhead (AtDumps replica left) front
+  pub ahead : IsAhead (AtDumps version replica left) front
 
 -- the head of the dump is read, and of its frames this many bytes
 pub record HasBegun (lengths : Lengths) (replica come : ℕ) (version : Version) (numbers : Numbers) (front behind : List ℕ) : Type 0 where
@@ -103,7 +104,7 @@ pub record OnFrames (lengths : Lengths) (replica index : ℕ) (front : List ℕ)
   pub more : ℕ
   pub dumps_left : replica + suc more ≡ numbers.layout.replicas
   pub before : Option ℕ
-  pub ahead : IsAhead (AtFrames replica index left before (AtDumps (replica + 1) more)) front
+  pub ahead : IsAhead (AtFrames (BadFrame replica) index left before (AtDumps version (replica + 1) more)) front
 
 -- the number of this frame is read too
 pub record OnWords (lengths : Lengths) (replica index : ℕ) (front : List ℕ) : Type 0 where
@@ -116,13 +117,14 @@ pub record OnWords (lengths : Lengths) (replica index : ℕ) (front : List ℕ) 
   pub more : ℕ
   pub dumps_left : replica + suc more ≡ numbers.layout.replicas
   pub number : ℕ
-  pub ahead : IsAhead (AtUnit 4096 None IsFrame frame_words (λ words. AtFrames replica (index + 1) left (Some number) (AtDumps (replica + 1) more))) front
+  pub ahead : IsAhead (AtUnit 4096 None IsFrame frame_words
+      (λ words. AtFrames (BadFrame replica) (index + 1) left (Some number) (AtDumps version (replica + 1) more))) front
 
 -- all before the unit is read
 abbrev pub IsAt : TraceUnit → Lengths → List ℕ → Type 0
 IsAt Magic lengths front = front ≡ []
-IsAt VersionWord lengths front = front ≡ magic
-IsAt Counts lengths front = (version : Version) × (front ≡ magic ++ version_word version)
+IsAt VersionWord lengths front = front ≡ magic_of forms.Trace
+IsAt Counts lengths front = (version : Version) × IsVersionOf forms.Trace version × (front ≡ magic_of forms.Trace ++ version_word version)
 IsAt (Place place) lengths front = (place < lengths.places) × OnLog lengths place front
 IsAt (Event index) lengths front = (index < lengths.events) × OnEvents lengths index front
 IsAt (DumpHead replica) lengths front = (replica < lengths.replicas) × OnDumps lengths replica front

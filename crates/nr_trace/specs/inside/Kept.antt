@@ -6,7 +6,7 @@ use Rattle.vs_types.specs.declared.op.Action.TheVariants.{Map, Unmap, Protect}
 use Rattle.vs_types.specs.declared.request.Query.TheVariants.{Update, Resolve, Access}
 use Rattle.vs_types.specs.declared.answer.Answer.TheVariants.{Done, Overlap, Full, Removed, NotMapped, Inside, Changed, Mapped, Allowed, Fault}
 use Rattle.nr_trace.specs.declared.event.Event.{Event}
-use Rattle.nr_trace.specs.declared.event.Event.TheVariants.{Call, Reply}
+use Rattle.nr_trace.specs.declared.event.Event.TheVariants.{Call, Reply, Touch}
 use Rattle.nr_trace.specs.declared.recorded.Kept.{Kept}
 use Rattle.nr_trace.specs.declared.recorded.Kept.TheVariants as kept
 use Rattle.nr_trace.specs.declared.recorded.Recorded.TheInside as of_recorded
@@ -18,6 +18,7 @@ event_of (kept.Unmap replica thread base) = Call replica thread (Update (Unmap b
 event_of (kept.Protect replica thread rights base) = Call replica thread (Update (Protect base rights))
 event_of (kept.Resolve replica thread address) = Call replica thread (Resolve address)
 event_of (kept.Access replica thread mode access address) = Call replica thread (Access address mode access)
+event_of (kept.Touch replica thread mode access address) = Touch replica thread address mode access
 event_of (kept.Done call at) = Reply call at Done
 event_of (kept.Overlap call at base) = Reply call at (Overlap base)
 event_of (kept.Full call at need) = Reply call at (Full need)
@@ -35,6 +36,7 @@ kept_of (Call replica thread (Update (Unmap base))) = kept.Unmap replica thread 
 kept_of (Call replica thread (Update (Protect base rights))) = kept.Protect replica thread rights base
 kept_of (Call replica thread (Resolve address)) = kept.Resolve replica thread address
 kept_of (Call replica thread (Access address mode access)) = kept.Access replica thread mode access address
+kept_of (Touch replica thread address mode access) = kept.Touch replica thread mode access address
 kept_of (Reply call at Done) = kept.Done call at
 kept_of (Reply call at (Overlap base)) = kept.Overlap call at base
 kept_of (Reply call at (Full need)) = kept.Full call at need
@@ -49,6 +51,7 @@ kept_of (Reply call at (Fault code)) = kept.Fault call at code
 -- the request of a call is well formed at some depth
 abbrev pub IsKept : Event → Type 0
 IsKept (Call replica thread request) = IsSomeQuery request
+IsKept (Touch replica thread address mode access) = ⊤
 IsKept (Reply call at answer) = ⊤
 
 same : (k : Kept) → kept_of (event_of k) ≡ k
@@ -57,6 +60,7 @@ same (kept.Unmap replica thread base) = refl
 same (kept.Protect replica thread rights base) = refl
 same (kept.Resolve replica thread address) = refl
 same (kept.Access replica thread mode access address) = refl
+same (kept.Touch replica thread mode access address) = refl
 same (kept.Done call at) = refl
 same (kept.Overlap call at base) = refl
 same (kept.Full call at need) = refl

@@ -1,21 +1,28 @@
 -- What the parts of the reader find.
 use Rattle.std.specs.Prelude.{◌≡◌, ◌≢◌, ℕ, ◌+◌, ◌^◌, ◌<◌, ◌++◌, List, length, flat_map, All}
 use Rattle.vs_types.specs.Config.{Layout}
-use Rattle.vs_types.specs.Fields.{HasFields}
+use Rattle.vs_types.specs.Fields.{HasFields, request_fields}
+use Rattle.vs_types.specs.Query.{IsQuery}
+use Rattle.vs_types.specs.declared.access.Mode.{Mode}
+use Rattle.vs_types.specs.declared.access.Access.{Access as AccessKind}
 use Rattle.vs_types.specs.declared.depth.Depth.{Depth}
 use Rattle.vs_types.specs.declared.fields.RequestFields.{RequestFields}
 use Rattle.vs_types.specs.declared.request.Query.{Query}
+use Rattle.vs_types.specs.declared.request.Query.TheVariants.{Access}
 use Rattle.vs_types.specs.declared.answer.Answer.{Answer}
 use Rattle.vs_walk.specs.Dump.{OpenImage}
-use Rattle.nr_trace.specs.Versions.{KnowsQuery, KnowsAnswer}
+use Rattle.nr_trace.specs.Versions.{KnowsQuery, KnowsAnswer, KnowsTouch}
 use Rattle.nr_trace.specs.Recording.{IsAnswer, IsEvent}
-use Rattle.nr_trace.specs.Spelling.{answer_fields, counts, log_word, event, dump_head, frame_words}
+use Rattle.nr_trace.specs.Spelling.{answer_fields, touch_fields, counts, log_word, event, dump_head, frame_words}
 use Rattle.nr_trace.specs.FirstFault.{IsCounts, IsDumpHead}
 use Rattle.nr_trace.specs.declared.version.Version.{Version}
 use Rattle.nr_trace.specs.declared.fields.AnswerFields.{AnswerFields}
 use Rattle.nr_trace.specs.declared.fields.Counts.{Counts}
 use Rattle.nr_trace.specs.declared.fields.DumpHead.{DumpHead}
 use Rattle.nr_trace.specs.declared.event.Event.{Event}
+use Rattle.nr_trace.specs.declared.event.Event.TheVariants.{Call, Touch}
+use Rattle.nr_trace.specs.declared.reading.event.Asked.{Asked}
+use Rattle.nr_trace.specs.declared.reading.event.Asked.TheVariants as askeds
 use Rattle.nr_trace.specs.declared.fault.Format.{Format}
 use Rattle.nr_trace.specs.declared.fault.Format.TheVariants.{BadEvent}
 
@@ -29,6 +36,32 @@ pub record IsRequestIn (version : Version) (depth : Depth) (fields : RequestFiel
   pub has : HasFields depth fields request
   pub known : KnowsQuery version request
 
+-- what is asked by a call or a touch, and the event that a thread asks it at a replica
+abbrev pub asked_by : ℕ → ℕ → Asked → Event
+asked_by replica thread (askeds.Request request) = Call replica thread request
+asked_by replica thread (askeds.Touch address mode access) = Touch replica thread address mode access
+
+abbrev pub asked_fields : Asked → RequestFields
+asked_fields (askeds.Request request) = request_fields request
+asked_fields (askeds.Touch address mode access) = touch_fields address mode access
+
+abbrev pub IsAsked : Version → Depth → Asked → Type 0
+IsAsked version depth (askeds.Request request) = IsQuery depth request × KnowsQuery version request
+IsAsked version depth (askeds.Touch address mode access) = IsQuery depth (Access address mode access) × KnowsTouch version
+
+pub record IsAskedIn (version : Version) (depth : Depth) (fields : RequestFields) (asked : Asked) : Type 0 where
+  pub in_range : IsAsked version depth asked
+  pub fields_are : fields ≡ asked_fields asked
+
+-- a touch with these fields
+pub record IsTouchWith (depth : Depth) (fields : RequestFields) (asked : Asked) : Type 0 where
+  pub address : ℕ
+  pub mode : Mode
+  pub access : AccessKind
+  pub asked_is : asked ≡ askeds.Touch address mode access
+  pub in_range : IsQuery depth (Access address mode access)
+  pub fields_are : fields ≡ touch_fields address mode access
+
 pub record IsAnswerIn (version : Version) (fields : AnswerFields) (answer : Answer) : Type 0 where
   pub has : HasAnswerFields fields answer
   pub known : KnowsAnswer version answer
@@ -36,11 +69,11 @@ pub record IsAnswerIn (version : Version) (fields : AnswerFields) (answer : Answ
 -- what the counts unit says, in range and spelled by the bytes
 pub record SpellsCounts (version : Version) (bytes : List ℕ) (numbers : Counts) : Type 0 where
   pub in_range : IsCounts version numbers
-  pub spelled : bytes ≡ counts numbers
+  pub spelled : bytes ≡ counts version numbers
 
 -- what the head of a dump says, in range and spelled by the bytes
-pub record SpellsHead (bytes : List ℕ) (head : DumpHead) : Type 0 where
-  pub in_range : IsDumpHead head
+pub record SpellsHead (version : Version) (bytes : List ℕ) (head : DumpHead) : Type 0 where
+  pub in_range : IsDumpHead version head
   pub spelled : bytes ≡ dump_head head
 
 -- an event in range that the bytes spell

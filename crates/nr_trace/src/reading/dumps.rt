@@ -1,32 +1,72 @@
-//! The units of a dump: its head, and each frame's number and words.
+//! The units of a dump: its head, and each frame's number and words, which are those of a start too.
 
-ghost use Rattle.std.specs.Prelude.{◌≡◌, ◌<◌, ◌-◌, ◌^◌, ◌++◌, ◌↔◌, IsTrue, IfOk, length};
+ghost use Rattle.std.specs.Prelude.{◌≡◌, ◌<◌, ◌-◌, ◌^◌, ◌++◌, ◌∷◌, [], ◌↔◌, IsTrue, IfOk, length};
 ghost use Rattle.std.specs.FinMap as finite;
-ghost use Rattle.vs_types.specs.declared.limits.TheConstants.{TABLES};
+ghost use Rattle.vs_types.specs.declared.limits.TheConstants.{FRAMES};
 ghost use Rattle.vs_types.specs.Frame.{IsFrame};
 ghost use Rattle.nr_trace.specs.FirstFault.{IsNext};
-ghost use Rattle.nr_trace.specs.inside.Progress.{AreBelow, AreUnits, AtWords, begun, frame_begun, HasRead, IsOpened, IsReady, opened_of, Takes, words_begun};
+ghost use Rattle.nr_trace.specs.inside.Progress.{AreBelow, AreInRange, AreUnits, AtWords, BehindFrames, Belongs, HasRead, IsOpened, IsReady, Takes};
+ghost use Rattle.nr_trace.specs.inside.Progress.{begun, frame_begun, opened_of, opened_spelling, own_fault, whole_of, words_begun};
+ghost use Rattle.vs_walk.specs.Dump.{Image};
+ghost use Rattle.std.specs.Global.{Vec};
 
 use crate::fault::Format;
+use crate::reading::events::at_log;
 use crate::reading::header::dump_head_of;
 use crate::reading::numbers::take_u64;
-use crate::reading::reader::{OpenFrame, Opened, Parts, Reader};
+use crate::reading::reader::{OpenFrame, Opened, Owner, Parts, Reader};
 use crate::reading::room::{make_room, room_step};
 use crate::reading::words::push_words;
 use vs_types::{FRAME_WORDS, Fail, Memory};
 use vs_walk::Dump;
 
+/// The parts with the next replica's dump. It allocates memory for the list of dumps.
+fn with_dump(mut parts: Parts, dump: Dump) -> Result<Parts, Memory>
+    ensures { IfOk result (λ made. (held : Vec Image) × (made ≡ record parts { dumps = held })
+        × (held.items ≡ parts.dumps.items ++ dump ∷ [])) }
+{
+    let replicas = parts.layout.replicas() as usize;
+    make_room(&mut parts.dumps, 1, replicas)?;
+    parts.dumps.push(dump)?;
+    Ok(parts)
+}
+
+/// The dump is whole. It allocates memory for the list of dumps.
+fn put_dump(mut parts: Parts, owner: Owner, dump: Dump) -> Result<Reader, Memory>
+    requires in_range { AreInRange parts }
+    requires belongs { Belongs parts owner dump }
+    ensures { IfOk result (HasRead parts.form (opened_spelling parts (whole_of owner dump))
+        (BehindFrames parts owner)) }
+{
+    match owner {
+        Owner::Start(places, events) => {
+            parts.start = Some(dump);
+            Ok(at_log(parts, places, events))
+        }
+        Owner::Replica => {
+            let parts = with_dump(parts, dump)?;
+            Ok(Reader::Dumps(parts))
+        }
+    }
+}
+
 pub(crate) fn take_dump_head(parts: Parts, unit: &[u8]) -> Result<Reader, Fail<Format>>
     requires ready { IsReady (Reader.Dumps parts) }
-    requires one_left { length parts.dumps.items < parts.config.replicas }
+    requires one_left { length parts.dumps.items < parts.layout.replicas }
     requires whole { length unit.now ≡ 16 }
     ensures { Takes (Reader.Dumps parts) unit.now result }
 {
-    match dump_head_of(unit) {
+    match dump_head_of(parts.version, unit) {
         Some(head) => {
+            let dump = Dump::new(parts.alloc, head.applied, head.root);
+            if head.frames == 0 {
+                let reader = put_dump(parts, Owner::Replica, dump)?;
+                return Ok(reader);
+            }
             let opened = Opened {
-                dump: Dump::new(parts.alloc, head.applied, head.root),
+                dump,
                 left: head.frames,
+                owner: Owner::Replica,
             };
             Ok(Reader::Frame(parts, opened, None))
         }
@@ -43,17 +83,32 @@ fn is_next(last: Option<u64>, number: u64) -> bool
     }
 }
 
+/// That the number of the frame of an index is wrong.
+fn bad_frame(parts: &Parts, owner: Owner, index: u32) -> Format
+    requires { AreInRange parts.now }
+    ensures { result ≡ own_fault parts.now owner index }
+{
+    match owner {
+        Owner::Start(_, _) => Format::BadStart(index),
+        Owner::Replica => Format::BadFrame(parts.dumps.len() as u8, index),
+    }
+}
+
 /// The dump with a frame of this number coming, where so many frames are left. It allocates memory for its frames.
 fn begin_frame(opened: Opened, number: u64) -> Result<OpenFrame, Memory>
     requires above { AreBelow opened number }
     requires in_range { number < 2 ^ 40 }
-    requires room { finite.len opened.dump.frames < TABLES }
+    requires room { finite.len opened.dump.frames < FRAMES }
     ensures { IfOk result (λ frame. frame ≡ begun opened number) }
 {
-    let Opened { mut dump, left } = opened;
+    let Opened {
+        mut dump,
+        left,
+        owner,
+    } = opened;
     dump.make_room(room_step(dump.count(), 1, left as usize))?;
     let dump = dump.begin_frame(number)?;
-    Ok(OpenFrame { dump, left })
+    Ok(OpenFrame { dump, left, owner })
 }
 
 pub(crate) fn take_frame_number(
@@ -71,32 +126,30 @@ pub(crate) fn take_frame_number(
         let frame = begin_frame(opened, number)?;
         return Ok(Reader::Words(parts, frame));
     }
-    let replica = parts.dumps.len() as u8;
     let index = opened.dump.count() as u32;
-    Err(Fail::Refused(Format::BadFrame(replica, index)))
+    Err(Fail::Refused(bad_frame(&parts, opened.owner, index)))
 }
 
-/// The frame is whole, and so is its dump where it was the last one, which then goes to the others. It allocates memory for
+/// The frame is whole, and so is its dump where it was the last one, which then goes where it belongs. It allocates memory for
 /// the list of dumps.
-fn end_frame(mut parts: Parts, frame: OpenFrame) -> Result<Reader, Memory>
+fn end_frame(parts: Parts, frame: OpenFrame) -> Result<Reader, Memory>
     requires opened { IsOpened parts (opened_of frame) }
     requires in_range { frame.dump.number < 2 ^ 40 }
     requires above { AreBelow (opened_of frame) frame.dump.number }
     requires whole { IsFrame frame.dump.coming }
-    ensures { IfOk result (HasRead (frame_begun parts frame ++ words_begun frame)
+    ensures { IfOk result (HasRead parts.form (frame_begun parts frame ++ words_begun frame)
         (λ rest fault. AtWords parts frame (words_begun frame ++ rest) fault)) }
 {
-    let OpenFrame { dump, left } = frame;
+    let OpenFrame { dump, left, owner } = frame;
     let number = dump.number();
     let dump = dump.end_frame();
     let left = left - 1;
     if left == 0 {
-        let replicas = parts.config.replicas() as usize;
-        make_room(&mut parts.dumps, 1, replicas)?;
-        parts.dumps.push(dump)?;
-        return Ok(Reader::Dumps(parts));
+        let reader = put_dump(parts, owner, dump)?;
+        return Ok(reader);
     }
-    Ok(Reader::Frame(parts, Opened { dump, left }, Some(number)))
+    let opened = Opened { dump, left, owner };
+    Ok(Reader::Frame(parts, opened, Some(number)))
 }
 
 pub(crate) fn take_words(

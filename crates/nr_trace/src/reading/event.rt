@@ -5,14 +5,15 @@ ghost use Rattle.vs_types.specs.Config.{Layout};
 ghost use Rattle.vs_types.specs.Finds.{Finds};
 ghost use Rattle.nr_trace.specs.Recording.{IsEvent};
 ghost use Rattle.nr_trace.specs.Spelling.{event};
-ghost use Rattle.nr_trace.specs.inside.Reading.{IsAnswerIn, IsRequestIn, SpellsEvent};
+ghost use Rattle.nr_trace.specs.inside.Reading.{asked_by, IsAnswerIn, IsAskedIn, IsRequestIn, IsTouchWith, SpellsEvent};
 
 use crate::event::Event;
 use crate::fields::AnswerFields;
+use crate::layout::TraceLayout;
 use crate::reading::numbers::{take_u8, take_u16, take_u32, take_u64};
 use crate::recorded::Recorded;
 use crate::version::Version;
-use vs_types::{Answer, Config, Depth, Request, RequestFields};
+use vs_types::{Access, Answer, Depth, Mode, Query, Request, RequestFields};
 
 /// The request that has the fields, if the version knows it.
 fn request_of(version: Version, depth: Depth, fields: RequestFields) -> Option<Request>
@@ -23,6 +24,66 @@ fn request_of(version: Version, depth: Depth, fields: RequestFields) -> Option<R
         Some(request)
     } else {
         None
+    }
+}
+
+/// The kind of a touch.
+const TOUCH: u8 = 5;
+
+/// What a call asks.
+#[derive(Clone, Copy)]
+enum Asked {
+    Request(Request),
+    Touch(u64, Mode, Access),
+}
+
+impl Asked {
+    /// The event that a thread asks it at a replica.
+    fn by(self, replica: u8, thread: u16) -> Event
+        ensures { result ≡ asked_by replica thread self }
+    {
+        match self {
+            Asked::Request(request) => Event::Call {
+                replica,
+                thread,
+                request,
+            },
+            Asked::Touch(address, mode, access) => Event::Touch {
+                replica,
+                thread,
+                address,
+                mode,
+                access,
+            },
+        }
+    }
+}
+
+/// The touch that has the fields: those of an access, but for the kind.
+fn touch_of(depth: Depth, fields: RequestFields) -> Option<Asked>
+    requires { fields.kind ≡ TOUCH }
+    ensures { Finds (IsTouchWith depth fields) result }
+{
+    let request = Request::of_fields(depth, RequestFields { kind: 4, ..fields })?;
+    match request.query() {
+        Query::Access(address, mode, access) => Some(Asked::Touch(address, mode, access)),
+        _ => None,
+    }
+}
+
+/// What has the fields, if the version knows it.
+fn asked_of(version: Version, depth: Depth, fields: RequestFields) -> Option<Asked>
+    ensures { Finds (IsAskedIn version depth fields) result }
+{
+    if fields.kind == TOUCH {
+        if version.knows_touch() {
+            touch_of(depth, fields)
+        } else {
+            None
+        }
+    } else {
+        let request = request_of(version, depth, fields)?;
+        Some(Asked::Request(request))
     }
 }
 
@@ -38,9 +99,9 @@ fn answer_of(version: Version, fields: AnswerFields) -> Option<Answer>
     }
 }
 
-fn call_of(version: Version, config: Config, bytes: &[u8]) -> Option<Recorded>
+fn call_of(version: Version, layout: TraceLayout, bytes: &[u8]) -> Option<Recorded>
     requires { length bytes.now ≡ 23 }
-    ensures { Finds (SpellsEvent version config (0 ∷ bytes.now)) result }
+    ensures { Finds (SpellsEvent version layout (0 ∷ bytes.now)) result }
 {
     let (replica, rest) = take_u8(bytes);
     let (thread, rest) = take_u16(rest);
@@ -50,7 +111,7 @@ fn call_of(version: Version, config: Config, bytes: &[u8]) -> Option<Recorded>
     let (unused, rest) = take_u8(rest);
     let (address, rest) = take_u64(rest);
     let (physical, _) = take_u64(rest);
-    if replica >= config.replicas() || thread >= config.threads() || unused != 0 {
+    if replica >= layout.replicas() || thread >= layout.threads() || unused != 0 {
         return None;
     }
     let fields = RequestFields {
@@ -60,17 +121,13 @@ fn call_of(version: Version, config: Config, bytes: &[u8]) -> Option<Recorded>
         address,
         physical,
     };
-    let request = request_of(version, config.depth(), fields)?;
-    Some(Recorded::of(Event::Call {
-        replica,
-        thread,
-        request,
-    }))
+    let asked = asked_of(version, layout.depth(), fields)?;
+    Some(Recorded::of(asked.by(replica, thread)))
 }
 
-fn reply_of(version: Version, config: Config, bytes: &[u8]) -> Option<Recorded>
+fn reply_of(version: Version, layout: TraceLayout, bytes: &[u8]) -> Option<Recorded>
     requires { length bytes.now ≡ 23 }
-    ensures { Finds (SpellsEvent version config (1 ∷ bytes.now)) result }
+    ensures { Finds (SpellsEvent version layout (1 ∷ bytes.now)) result }
 {
     let (code, rest) = take_u8(bytes);
     let (size, rest) = take_u8(rest);
@@ -93,14 +150,14 @@ fn reply_of(version: Version, config: Config, bytes: &[u8]) -> Option<Recorded>
 }
 
 /// The event that the 24 bytes spell, if it is one of a service laid out so, and the version knows it.
-pub(crate) fn event_of(version: Version, config: Config, unit: &[u8]) -> Option<Recorded>
+pub(crate) fn event_of(version: Version, layout: TraceLayout, unit: &[u8]) -> Option<Recorded>
     requires { length unit.now ≡ 24 }
-    ensures { Finds (SpellsEvent version config unit.now) result }
+    ensures { Finds (SpellsEvent version layout unit.now) result }
 {
     let (tag, rest) = take_u8(unit);
     match tag {
-        0 => call_of(version, config, rest),
-        1 => reply_of(version, config, rest),
+        0 => call_of(version, layout, rest),
+        1 => reply_of(version, layout, rest),
         _ => None,
     }
 }

@@ -1,30 +1,35 @@
-//! The units of the header, of the log and of the events.
+//! The units of the header, of a start's root, of the log and of the events.
 
 ghost use Rattle.std.specs.Prelude.{◌≡◌, ◌+◌, ◌*◌, ◌≤◌, ℕ, [], length, MatchResult, OnOk};
 ghost use Rattle.vs_types.specs.declared.limits.TheConstants.{LOG_PLACES, CALLS};
 ghost use Rattle.vs_types.specs.Refusal.{IfRefused};
-ghost use Rattle.nr_trace.specs.FirstFault.{AtLog, AtEvents};
+ghost use Rattle.vs_types.specs.Finds.{Finds};
+ghost use Rattle.nr_trace.specs.FirstFault.{counts_bytes, AtEvents, AtLog, AtStart, IsCounts, magic_of};
+ghost use Rattle.nr_trace.specs.Versions.{version_code, IsVersionOf};
 ghost use Rattle.nr_trace.specs.inside.Reading.{ArePlaced, AreRecorded, IsBadEvent};
-ghost use Rattle.nr_trace.specs.inside.Progress.{AreInRange, AreUnits, HasRead, IsReady, Takes, parts_spelling};
+ghost use Rattle.nr_trace.specs.inside.Progress.{header_units, parts_spelling, AreInRange, AreUnits, HasRead, IsEmpty, IsReady, Takes};
 
 use crate::fault::Format;
+use crate::fields::Counts;
+use crate::layout::TraceLayout;
 use crate::reading::event::event_of;
 use crate::reading::header::counts_of;
-use crate::reading::numbers::{take_u16, take_u32};
-use crate::reading::reader::{Parts, Reader};
+use crate::reading::numbers::{take_u16, take_u32, take_u64};
+use crate::reading::reader::{Opened, Owner, Parts, Reader};
 use crate::reading::room::make_room;
 use crate::recorded::Recorded;
-use crate::version::Version;
+use crate::version::{Form, Version};
 use std::alloc::Global;
-use vs_types::{Config, Fail, Memory};
+use vs_types::{Fail, Memory};
+use vs_walk::Dump;
 
 fn at_events(parts: Parts, events: u32) -> Reader
     requires in_range { AreInRange parts }
     requires few_events { length parts.events.items + events ≤ CALLS }
     requires no_dumps { parts.dumps.items ≡ [] }
-    ensures { HasRead
+    ensures { HasRead parts.form
         (parts_spelling (length parts.log.items) (length parts.events.items + events) parts)
-        (AtEvents parts.version parts.config (length parts.events.items) events) result }
+        (AtEvents parts.version parts.layout (length parts.events.items) events) result }
 {
     if events == 0 {
         Reader::Dumps(parts)
@@ -33,14 +38,14 @@ fn at_events(parts: Parts, events: u32) -> Reader
     }
 }
 
-fn at_log(parts: Parts, places: u32, events: u32) -> Reader
+pub(crate) fn at_log(parts: Parts, places: u32, events: u32) -> Reader
     requires in_range { AreInRange parts }
     requires few_places { length parts.log.items + places ≤ LOG_PLACES }
     requires few_events { events ≤ CALLS }
     requires no_events { parts.events.items ≡ [] }
     requires no_dumps { parts.dumps.items ≡ [] }
-    ensures { HasRead (parts_spelling (length parts.log.items + places) events parts)
-        (AtLog parts.version parts.config places events) result }
+    ensures { HasRead parts.form (parts_spelling (length parts.log.items + places) events parts)
+        (AtLog parts.version parts.layout places events) result }
 {
     if places == 0 {
         at_events(parts, events)
@@ -49,48 +54,114 @@ fn at_log(parts: Parts, places: u32, events: u32) -> Reader
     }
 }
 
-pub(crate) fn take_magic(alloc: Global, unit: &[u8]) -> Result<Reader, Fail<Format>>
-    requires { length unit.now ≡ 4 }
-    ensures { Takes (Reader.Magic alloc) unit.now result }
+/// The units after the counts: those of the start, where it has frames, and else those of the log.
+fn at_start(parts: Parts, numbers: Counts) -> Reader
+    requires in_range { AreInRange parts }
+    requires empty { IsEmpty parts }
+    requires numbers { IsCounts parts.version numbers }
+    requires layout { numbers.layout ≡ parts.layout }
+    ensures { HasRead parts.form (header_units numbers parts) (AtStart numbers.start
+        (AtLog parts.version parts.layout numbers.places numbers.events)) result }
 {
-    if unit == b"NRVT".as_slice() {
-        Ok(Reader::Version(alloc))
+    if numbers.start == 0 {
+        at_log(parts, numbers.places, numbers.events)
+    } else {
+        Reader::Root(parts, numbers)
+    }
+}
+
+pub(crate) fn take_root(parts: Parts, numbers: Counts, unit: &[u8]) -> Result<Reader, Fail<Format>>
+    requires ready { IsReady (Reader.Root parts numbers) }
+    requires whole { length unit.now ≡ 8 }
+    ensures { Takes (Reader.Root parts numbers) unit.now result }
+{
+    let (root, _) = take_u64(unit);
+    let dump = Dump::new(parts.alloc, 0, root);
+    let opened = Opened {
+        dump,
+        left: numbers.start,
+        owner: Owner::Start(numbers.places, numbers.events),
+    };
+    Ok(Reader::Frame(parts, opened, None))
+}
+
+/// What the bytes begin with.
+fn magic_of(form: &Form) -> [u8; 4]
+    ensures { result ≡ magic_of form.now }
+{
+    match form {
+        Form::Trace => *b"NRVT",
+        Form::Segment(_) => *b"NRVS",
+    }
+}
+
+pub(crate) fn take_magic(alloc: Global, form: Form, unit: &[u8]) -> Result<Reader, Fail<Format>>
+    requires { length unit.now ≡ 4 }
+    ensures { Takes (Reader.Magic alloc form) unit.now result }
+{
+    let wanted = magic_of(&form);
+    if unit == wanted.as_slice() {
+        Ok(Reader::Version(alloc, form))
     } else {
         Err(Fail::Refused(Format::BadMagic))
     }
 }
 
-pub(crate) fn take_version(alloc: Global, unit: &[u8]) -> Result<Reader, Fail<Format>>
+/// The version of this number in what has the form.
+fn version_of(form: &Form, code: u16) -> Option<Version>
+    ensures { Finds (λ version. IsVersionOf form.now version × (code ≡ version_code version)) result }
+{
+    match form {
+        Form::Trace => match code {
+            1 => Some(Version::V1),
+            2 => Some(Version::V2),
+            _ => None,
+        },
+        Form::Segment(_) => match code {
+            1 => Some(Version::Segment),
+            _ => None,
+        },
+    }
+}
+
+pub(crate) fn take_version(alloc: Global, form: Form, unit: &[u8]) -> Result<Reader, Fail<Format>>
     requires { length unit.now ≡ 2 }
-    ensures { Takes (Reader.Version alloc) unit.now result }
+    ensures { Takes (Reader.Version alloc form) unit.now result }
 {
     let (code, _) = take_u16(unit);
-    match code {
-        1 => Ok(Reader::Header(alloc, Version::V1)),
-        2 => Ok(Reader::Header(alloc, Version::V2)),
-        _ => Err(Fail::Refused(Format::BadVersion)),
+    match version_of(&form, code) {
+        Some(version) => Ok(Reader::Header(alloc, form, version)),
+        None => Err(Fail::Refused(Format::BadVersion)),
     }
 }
 
 pub(crate) fn take_header(
     alloc: Global,
+    form: Form,
     version: Version,
     unit: &[u8],
 ) -> Result<Reader, Fail<Format>>
-    requires { length unit.now ≡ 14 }
-    ensures { Takes (Reader.Header alloc version) unit.now result }
+    requires ready { IsVersionOf form version }
+    requires whole { length unit.now ≡ counts_bytes version }
+    ensures { Takes (Reader.Header alloc form version) unit.now result }
 {
     match counts_of(version, unit) {
         Some(counts) => {
+            let layout = counts.layout;
+            if !form.follows(&layout) {
+                return Err(Fail::Refused(Format::BadChain));
+            }
             let parts = Parts {
                 alloc,
+                form,
                 version,
-                config: counts.layout,
+                layout,
+                start: None,
                 log: Vec::new(alloc),
                 events: Vec::new(alloc),
                 dumps: Vec::new(alloc),
             };
-            Ok(at_log(parts, counts.places, counts.events))
+            Ok(at_start(parts, counts))
         }
         None => Err(Fail::Refused(Format::BadCount)),
     }
@@ -130,19 +201,19 @@ pub(crate) fn take_places(
 /// for them.
 fn push_events(
     version: Version,
-    config: Config,
+    layout: TraceLayout,
     events: &mut Vec<Recorded>,
     bytes: &[u8],
 ) -> Result<(), Fail<Format>>
     requires whole { (n : ℕ) × (length bytes.now ≡ 24 * n) × (length events.old.items + n ≤ CALLS) }
     ensures { MatchResult result
-        (λ done. AreRecorded version config events.old.items bytes.now events.new.items)
-        (IfRefused (IsBadEvent version config (length events.old.items) bytes.now)) }
+        (λ done. AreRecorded version layout events.old.items bytes.now events.new.items)
+        (IfRefused (IsBadEvent version layout (length events.old.items) bytes.now)) }
 {
     let mut rest = bytes;
     for k in 0..bytes.len() / 24 {
         let (unit, behind) = rest.split_at(24);
-        match event_of(version, config, unit) {
+        match event_of(version, layout, unit) {
             Some(event) => events.push(event)?,
             None => {
                 let index = events.len() as u32;
@@ -161,6 +232,6 @@ pub(crate) fn take_events(mut parts: Parts, events: u32, run: &[u8]) -> Result<R
 {
     let count = run.len() / 24;
     make_room(&mut parts.events, count, events as usize)?;
-    push_events(parts.version, parts.config, &mut parts.events, run)?;
+    push_events(parts.version, parts.layout, &mut parts.events, run)?;
     Ok(at_events(parts, events - count as u32))
 }

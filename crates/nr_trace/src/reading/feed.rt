@@ -1,15 +1,18 @@
-//! A trace that comes in pieces.
+//! A trace or a segment that comes in pieces.
 
-ghost use Rattle.std.specs.Prelude.{◌≡◌, ◌++◌, [], IfErr, MatchResult};
+ghost use Rattle.std.specs.Prelude.{◌≡◌, ◌++◌, ◌↔◌, [], IfErr, IsNone, IsSome, IsTrue, MatchResult};
 ghost use Rattle.vs_types.specs.Refusal.{IfRefused};
-ghost use Rattle.nr_trace.specs.Feed.{Ends, Feeds, HasLastingFault};
+ghost use Rattle.nr_trace.specs.Feed.{Ends, EndsSegment, Feeds, FeedsSegment, HasLastingFault, IsWhole, LastsAs};
+ghost use Rattle.nr_trace.specs.Spelling.{SpellsAs};
 ghost use Rattle.nr_trace.specs.Feed.Fed.{Taken};
-ghost use Rattle.nr_trace.specs.inside.Progress.{said, unit_bytes};
-ghost use Rattle.nr_trace.specs.inside.Feeding.{AreFewer, HasCome, IsCut, IsSound};
+ghost use Rattle.nr_trace.specs.inside.Progress.{form_of, said, unit_bytes};
+ghost use Rattle.nr_trace.specs.inside.Feeding.{AreFewer, HasCome, HasTaken, IsCut, IsSound};
 
 use crate::fault::Format;
+use crate::layout::TraceLayout;
 use crate::reading::reader::Reader;
 use crate::trace::Trace;
+use crate::version::Form;
 use std::alloc::Global;
 use std::marker::Model;
 use std::mem::replace;
@@ -23,11 +26,12 @@ pub(crate) enum State {
     Stopped(Fail<Format>),
 }
 
-/// Takes all whole units at the front of the bytes, by runs, and gives what is left.
+/// Takes all whole units at the front of the bytes, by runs, and gives what is left: the beginning of the next unit, or what is
+/// behind the last one.
 fn take_units(reader: Reader, bytes: &[u8]) -> Result<(Reader, &[u8]), Fail<Format>>
     requires { IsSound reader }
-    ensures { MatchResult result (λ left. IsCut (said reader ++ bytes.now) left.0 left.1.now)
-        (IfRefused (HasLastingFault (said reader ++ bytes.now))) }
+    ensures { MatchResult result (λ left. IsCut (form_of reader) (said reader) bytes.now left.0 left.1.now)
+        (IfRefused (LastsAs (form_of reader) (said reader ++ bytes.now))) }
 {
     let mut reader = reader;
     let mut rest = bytes;
@@ -39,45 +43,86 @@ fn take_units(reader: Reader, bytes: &[u8]) -> Result<(Reader, &[u8]), Fail<Form
         reader = reader.take_run(run)?;
         rest = behind;
     }
-    if !rest.is_empty() {
-        return Err(Fail::Refused(Format::Trailing));
-    }
     Ok((reader, rest))
 }
 
-/// Takes all whole units at the front of the bytes, and keeps the beginning of the next one.
-fn take_bytes(reader: Reader, mut begun: Vec<u8>, bytes: &[u8]) -> Result<State, Fail<Format>>
+/// Takes all whole units at the front of the bytes, and keeps the beginning of the next one. Gives how many bytes that were: all,
+/// unless no unit is left.
+fn take_bytes(
+    reader: Reader,
+    mut begun: Vec<u8>,
+    bytes: &[u8],
+) -> Result<(State, usize), Fail<Format>>
     requires sound { IsSound reader }
     requires between { begun.items ≡ [] }
-    ensures { MatchResult result (HasCome (said reader ++ bytes.now))
-        (IfRefused (HasLastingFault (said reader ++ bytes.now))) }
+    ensures { MatchResult result
+        (λ taken. HasTaken (form_of reader) (said reader) bytes.now taken.0 taken.1)
+        (IfRefused (LastsAs (form_of reader) (said reader ++ bytes.now))) }
 {
     let (reader, rest) = take_units(reader, bytes)?;
-    begun.extend_from_slice(rest)?;
-    Ok(State::Open(reader, begun))
+    match reader.unit_len() {
+        None => Ok((State::Open(reader, begun), bytes.len() - rest.len())),
+        Some(_) => {
+            begun.extend_from_slice(rest)?;
+            Ok((State::Open(reader, begun), bytes.len()))
+        }
+    }
 }
 
-/// Completes the unit that has begun, and goes on after it.
-fn take_piece(reader: Reader, mut begun: Vec<u8>, piece: &[u8]) -> Result<State, Fail<Format>>
+/// Completes the unit that has begun, and goes on after it. Gives how many bytes of the piece are taken: all, unless no unit is left.
+fn take_piece(
+    reader: Reader,
+    mut begun: Vec<u8>,
+    piece: &[u8],
+) -> Result<(State, usize), Fail<Format>>
     requires sound { IsSound reader }
     requires fewer { AreFewer (unit_bytes reader) begun.items }
-    ensures { MatchResult result (HasCome (said reader ++ begun.items ++ piece.now))
-        (IfRefused (HasLastingFault (said reader ++ begun.items ++ piece.now))) }
+    ensures { MatchResult result
+        (λ taken. HasTaken (form_of reader) (said reader ++ begun.items) piece.now taken.0 taken.1)
+        (IfRefused (LastsAs (form_of reader) (said reader ++ begun.items ++ piece.now))) }
 {
     match reader.unit_len() {
         Some(len) if !begun.is_empty() => {
             let missing = len - begun.len();
             if piece.len() < missing {
                 begun.extend_from_slice(piece)?;
-                return Ok(State::Open(reader, begun));
+                return Ok((State::Open(reader, begun), piece.len()));
             }
             let (front, behind) = piece.split_at(missing);
             begun.extend_from_slice(front)?;
             let reader = reader.take_run(&begun)?;
             begun.clear();
-            take_bytes(reader, begun, behind)
+            let (state, count) = take_bytes(reader, begun, behind)?;
+            Ok((state, missing + count))
         }
         _ => take_bytes(reader, begun, piece),
+    }
+}
+
+/// The next piece of a trace, of which nothing may be left.
+fn take_all(reader: Reader, begun: Vec<u8>, piece: &[u8]) -> Result<State, Fail<Format>>
+    requires sound { (form_of reader ≡ Form.Trace) × IsSound reader }
+    requires fewer { AreFewer (unit_bytes reader) begun.items }
+    ensures { MatchResult result (HasCome Form.Trace (said reader ++ begun.items ++ piece.now))
+        (IfRefused (HasLastingFault (said reader ++ begun.items ++ piece.now))) }
+{
+    let (state, count) = take_piece(reader, begun, piece)?;
+    if count < piece.len() {
+        return Err(Fail::Refused(Format::Trailing));
+    }
+    Ok(state)
+}
+
+/// What a reader has read, where no unit is left.
+fn ended(reader: Reader) -> Result<Trace, Fail<Format>>
+    requires { IsSound reader }
+    ensures { MatchResult result
+        (λ trace. IsNone (unit_bytes reader) × SpellsAs (form_of reader) (said reader) trace)
+        (λ fail. (fail ≡ Fail.Refused Format.Truncated) × IsSome (unit_bytes reader)) }
+{
+    match reader.unit_len() {
+        Some(_) => Err(Fail::Refused(Format::Truncated)),
+        None => Ok(reader.finish()),
     }
 }
 
@@ -94,10 +139,11 @@ impl Model for Feed {
     ghost Value = { Fed };
 
     ghost use Rattle.nr_trace.specs.inside.Feeding.{IsFeeding, fed};
+    ghost use Rattle.nr_trace.specs.declared.version.Form.TheVariants as forms;
 
     ghost view = { λ f. fed f.state };
 
-    ghost invariant = { λ f. IsFeeding f.state };
+    ghost invariant = { λ f. IsFeeding forms.Trace f.state };
 }
 
 impl Feed {
@@ -106,7 +152,7 @@ impl Feed {
         ensures { result ≡ Taken [] }
     {
         Feed {
-            state: State::Open(Reader::new(alloc), Vec::new(alloc)),
+            state: State::Open(Reader::new(alloc, Form::Trace), Vec::new(alloc)),
         }
     }
 
@@ -122,7 +168,7 @@ impl Feed {
     {
         let state = replace(&mut self.state, State::Stopped(Fail::Memory));
         let next = match state {
-            State::Open(reader, begun) => take_piece(reader, begun, piece),
+            State::Open(reader, begun) => take_all(reader, begun, piece),
             State::Stopped(fail) => Err(fail),
         };
         match next {
@@ -147,10 +193,93 @@ impl Feed {
     {
         let Feed { state } = self;
         match state {
-            State::Open(reader, _) => match reader.unit_len() {
-                Some(_) => Err(Fail::Refused(Format::Truncated)),
-                None => Ok(reader.finish()),
-            },
+            State::Open(reader, _) => ended(reader),
+            State::Stopped(fail) => Err(fail),
+        }
+    }
+}
+
+/// A reader of a segment of a chain that comes in pieces, cut anywhere. It keeps what the whole units so far say, and the beginning of
+/// one unit. Contracts see the bytes that it was fed, or why it takes no more, and how the segment before is laid out.
+#[derive(Drop)]
+pub struct SegmentFeed {
+    before: Option<TraceLayout>,
+    state: State,
+}
+
+impl Model for SegmentFeed {
+    ghost use Rattle.nr_trace.specs.Feed.{FedSegment};
+
+    ghost Value = { FedSegment };
+
+    ghost use Rattle.nr_trace.specs.inside.Feeding.{IsFeeding, fed};
+    ghost use Rattle.nr_trace.specs.declared.version.Form.TheVariants as forms;
+
+    ghost view = { λ f. record { before = f.before; pieces = fed f.state } };
+
+    ghost invariant = { λ f. IsFeeding (forms.Segment f.before) f.state };
+}
+
+impl SegmentFeed {
+    /// A feed that nothing was given yet, of a segment that comes after one that is laid out so, or of the first one. It allocates no memory.
+    pub fn new(alloc: Global, before: Option<TraceLayout>) -> SegmentFeed
+        ensures { result ≡ record { before = before; pieces = Taken [] } }
+    {
+        let layout = before;
+        SegmentFeed {
+            before,
+            state: State::Open(Reader::new(alloc, Form::Segment(layout)), Vec::new(alloc)),
+        }
+    }
+
+    /// Takes bytes at the front of the next piece, and gives how many: all of them, unless the segment is whole before its end; what is
+    /// left belongs to the next segment. A feed that has refused answers the same from then on.
+    ///
+    /// # Errors
+    ///
+    /// The first fault of the bytes so far, as soon as a whole unit has one: no later piece can mend it. A unit that has only begun is
+    /// not looked into. And `Memory` where a growth of memory was refused.
+    pub fn feed(&mut self, piece: &[u8]) -> Result<usize, Fail<Format>>
+        ensures { FeedsSegment self.old piece.now self.new result }
+    {
+        let state = replace(&mut self.state, State::Stopped(Fail::Memory));
+        let next = match state {
+            State::Open(reader, begun) => take_piece(reader, begun, piece),
+            State::Stopped(fail) => Err(fail),
+        };
+        match next {
+            Ok((state, count)) => {
+                self.state = state;
+                Ok(count)
+            }
+            Err(fault) => {
+                self.state = State::Stopped(fault);
+                Err(fault)
+            }
+        }
+    }
+
+    /// Whether the bytes so far spell a segment.
+    pub fn is_whole(&self) -> bool
+        ensures { IsTrue result ↔ IsWhole self.now }
+    {
+        match &self.state {
+            State::Open(reader, _) => reader.unit_len().is_none(),
+            State::Stopped(_) => false,
+        }
+    }
+
+    /// The segment that the bytes spell. It allocates no memory.
+    ///
+    /// # Errors
+    ///
+    /// What `feed` has refused with, or `Truncated`.
+    pub fn end(self) -> Result<Trace, Fail<Format>>
+        ensures { EndsSegment self result }
+    {
+        let SegmentFeed { before: _, state } = self;
+        match state {
+            State::Open(reader, _) => ended(reader),
             State::Stopped(fail) => Err(fail),
         }
     }

@@ -3,25 +3,40 @@
 ghost use Rattle.std.specs.Prelude.{◌≡◌, ◌≤◌, ◌<◌, ◌++◌, [], length, None, Some, MatchOption};
 
 use crate::fault::Format;
+use crate::fields::Counts;
+use crate::layout::TraceLayout;
 use crate::reading::dumps::{take_dump_head, take_frame_number, take_words};
-use crate::reading::events::{take_events, take_header, take_magic, take_places, take_version};
+use crate::reading::events::{
+    take_events, take_header, take_magic, take_places, take_root, take_version,
+};
 use crate::recorded::Recorded;
 use crate::trace::Trace;
-use crate::version::Version;
+use crate::version::{Form, Version};
 use std::alloc::Global;
 use std::cmp::{max, min};
-use vs_types::{Config, FRAME_WORDS, Fail};
+use vs_types::{FRAME_WORDS, Fail};
 use vs_walk::{Dump, OpenDump};
 
 /// What is read of a trace after its header.
 #[derive(Drop)]
 pub(crate) struct Parts {
     pub(crate) alloc: Global,
+    pub(crate) form: Form,
     pub(crate) version: Version,
-    pub(crate) config: Config,
+    pub(crate) layout: TraceLayout,
+    pub(crate) start: Option<Dump>,
     pub(crate) log: Vec<u32>,
     pub(crate) events: Vec<Recorded>,
     pub(crate) dumps: Vec<Dump>,
+}
+
+/// Whose dump is coming.
+#[derive(Clone, Copy)]
+pub(crate) enum Owner {
+    /// It is the start; so many places and events come after it.
+    Start(u32, u32),
+    /// It is that of the next replica.
+    Replica,
 }
 
 /// A dump that lacks its last frames, and how many.
@@ -29,6 +44,7 @@ pub(crate) struct Parts {
 pub(crate) struct Opened {
     pub(crate) dump: Dump,
     pub(crate) left: u32,
+    pub(crate) owner: Owner,
 }
 
 /// A dump of which a frame is coming, and how many frames it lacks, this one among them.
@@ -36,6 +52,7 @@ pub(crate) struct Opened {
 pub(crate) struct OpenFrame {
     pub(crate) dump: OpenDump,
     pub(crate) left: u32,
+    pub(crate) owner: Owner,
 }
 
 /// How many units a run has, where this many are whole and there are at most so many: all of these, but at least one.
@@ -52,9 +69,11 @@ fn units_of(whole: usize, most: usize) -> usize
 /// unit, or some places of the log, events or words of a frame, a unit each.
 #[derive(Drop)]
 pub(crate) enum Reader {
-    Magic(Global),
-    Version(Global),
-    Header(Global, Version),
+    Magic(Global, Form),
+    Version(Global, Form),
+    Header(Global, Form, Version),
+    /// The root of the start.
+    Root(Parts, Counts),
     /// So many places are left, and then so many events.
     Log(Parts, u32, u32),
     /// So many events are left.
@@ -68,15 +87,15 @@ pub(crate) enum Reader {
 }
 
 impl Reader {
-    ghost use Rattle.nr_trace.specs.Spelling.{Spells};
-    ghost use Rattle.nr_trace.specs.FirstFault.{HasFormatFault};
-    ghost use Rattle.nr_trace.specs.inside.Progress.{unit_bytes, said, HasRead, IsReady, IsRun, Takes};
+    ghost use Rattle.nr_trace.specs.Spelling.{SpellsAs};
+    ghost use Rattle.nr_trace.specs.FirstFault.{HasFaultAs};
+    ghost use Rattle.nr_trace.specs.inside.Progress.{form_of, said, unit_bytes, HasRead, IsReady, IsRun, Takes};
 
-    /// A reader at the beginning of a trace. It allocates no memory.
-    pub(crate) fn new(alloc: Global) -> Reader
-        ensures { HasRead [] HasFormatFault result }
+    /// A reader at the beginning of what is to have the form. It allocates no memory.
+    pub(crate) fn new(alloc: Global, form: Form) -> Reader
+        ensures { HasRead form [] (HasFaultAs form) result }
     {
-        Reader::Magic(alloc)
+        Reader::Magic(alloc, form)
     }
 
     /// How many bytes the next unit has; `None` at the end.
@@ -84,13 +103,14 @@ impl Reader {
         ensures { result ≡ unit_bytes self.now }
     {
         match self {
-            Reader::Magic(_) => Some(4),
-            Reader::Version(_) => Some(2),
-            Reader::Header(_, _) => Some(14),
+            Reader::Magic(_, _) => Some(4),
+            Reader::Version(_, _) => Some(2),
+            Reader::Header(_, _, version) => Some(version.counts_len()),
+            Reader::Root(_, _) => Some(8),
             Reader::Log(_, _, _) => Some(4),
             Reader::Events(_, _) => Some(24),
             Reader::Dumps(parts) => {
-                if parts.dumps.len() < parts.config.replicas() as usize {
+                if parts.dumps.len() < parts.layout.replicas() as usize {
                     Some(16)
                 } else {
                     None
@@ -127,9 +147,10 @@ impl Reader {
         ensures { Takes self run.now result }
     {
         match self {
-            Reader::Magic(alloc) => take_magic(alloc, run),
-            Reader::Version(alloc) => take_version(alloc, run),
-            Reader::Header(alloc, version) => take_header(alloc, version, run),
+            Reader::Magic(alloc, form) => take_magic(alloc, form, run),
+            Reader::Version(alloc, form) => take_version(alloc, form, run),
+            Reader::Header(alloc, form, version) => take_header(alloc, form, version, run),
+            Reader::Root(parts, numbers) => take_root(parts, numbers, run),
             Reader::Log(parts, places, events) => take_places(parts, places, events, run),
             Reader::Events(parts, events) => take_events(parts, events, run),
             Reader::Dumps(parts) => take_dump_head(parts, run),
@@ -138,17 +159,18 @@ impl Reader {
         }
     }
 
-    /// The trace, where no unit is left.
+    /// The recording, where no unit is left.
     pub(crate) fn finish(self) -> Trace
         requires ready { IsReady self }
         requires ended { unit_bytes self ≡ None }
-        ensures { Spells (said self) result }
+        ensures { SpellsAs (form_of self) (said self) result }
     {
         match self {
             Reader::Dumps(parts) => {
                 Trace::of(
                     parts.version,
-                    parts.config,
+                    parts.layout,
+                    parts.start,
                     parts.log,
                     parts.events,
                     parts.dumps,

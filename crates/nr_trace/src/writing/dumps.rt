@@ -1,7 +1,7 @@
 //! The units of the dumps.
 
-ghost use Rattle.std.specs.Prelude.{◌≡◌, ◌<◌, ◌++◌, OnOk, flat_map};
-ghost use Rattle.nr_trace.specs.Spelling.{dump_head, frame_number, frame_words, dump};
+ghost use Rattle.std.specs.Prelude.{◌≡◌, ◌<◌, ◌++◌, OnOk, flat_map, option_copied};
+ghost use Rattle.nr_trace.specs.Spelling.{dump, dump_head, frame_number, frame_words, frames, start_units};
 
 use crate::fields::DumpHead;
 use crate::writing::lists::put_words;
@@ -27,6 +27,18 @@ fn put_frame(out: &mut Vec<u8>, number: u64, words: &FrameWords<'_>) -> Result<(
     Ok(())
 }
 
+fn put_frames(out: &mut Vec<u8>, held: &Dump) -> Result<(), Memory>
+    ensures { OnOk result (out.new.items ≡ out.old.items ++ frames held.now) }
+{
+    let frames = held.count();
+    for k in 0..frames {
+        let number = held.number(k);
+        let words = held.words(number).unwrap();
+        put_frame(out, number, &words)?;
+    }
+    Ok(())
+}
+
 fn put_dump(out: &mut Vec<u8>, held: &Dump) -> Result<(), Memory>
     ensures { OnOk result (out.new.items ≡ out.old.items ++ dump held.now) }
 {
@@ -37,10 +49,17 @@ fn put_dump(out: &mut Vec<u8>, held: &Dump) -> Result<(), Memory>
         root: held.root(),
     };
     put_dump_head(out, head)?;
-    for k in 0..frames {
-        let number = held.number(k);
-        let words = held.words(number).unwrap();
-        put_frame(out, number, &words)?;
+    put_frames(out, held)?;
+    Ok(())
+}
+
+/// The root of a start, and its frames, where there is one.
+pub(crate) fn put_start(out: &mut Vec<u8>, start: Option<&Dump>) -> Result<(), Memory>
+    ensures { OnOk result (out.new.items ≡ out.old.items ++ start_units (option_copied start.entry)) }
+{
+    if let Some(start) = start {
+        put_u64(out, start.root())?;
+        put_frames(out, start)?;
     }
     Ok(())
 }

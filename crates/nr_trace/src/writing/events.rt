@@ -1,16 +1,28 @@
 //! An event as 24 bytes.
 
 ghost use Rattle.std.specs.Prelude.{◌≡◌, ◌++◌, OnOk};
-ghost use Rattle.nr_trace.specs.Spelling.{event};
+ghost use Rattle.nr_trace.specs.Spelling.{asked, event, touch_fields};
 
 use crate::event::Event;
 use crate::fields::AnswerFields;
-use vs_types::{Answer, Memory, Request};
+use vs_types::{Access, Answer, Memory, Mode, Request, RequestFields};
 
-fn call_bytes(replica: u8, thread: u16, request: Request) -> [u8; 24]
-    ensures { result ≡ event (Event.Call replica thread request) }
+/// The fields of a touch.
+fn touch_fields(address: u64, mode: Mode, access: Access) -> RequestFields
+    ensures { result ≡ touch_fields address mode access }
 {
-    let fields = request.fields();
+    RequestFields {
+        kind: 5,
+        size: access.code(),
+        rights: mode.code(),
+        address,
+        physical: 0,
+    }
+}
+
+fn asked_bytes(replica: u8, thread: u16, fields: RequestFields) -> [u8; 24]
+    ensures { result ≡ asked replica thread fields }
+{
     let [t0, t1] = thread.to_be_bytes();
     let [a0, a1, a2, a3, a4, a5, a6, a7] = fields.address.to_be_bytes();
     let [p0, p1, p2, p3, p4, p5, p6, p7] = fields.physical.to_be_bytes();
@@ -43,7 +55,14 @@ fn event_bytes(recorded: Event) -> [u8; 24]
             replica,
             thread,
             request,
-        } => call_bytes(replica, thread, request),
+        } => asked_bytes(replica, thread, request.fields()),
+        Event::Touch {
+            replica,
+            thread,
+            address,
+            mode,
+            access,
+        } => asked_bytes(replica, thread, touch_fields(address, mode, access)),
         Event::Reply { call, at, answer } => reply_bytes(call, at, answer),
     }
 }

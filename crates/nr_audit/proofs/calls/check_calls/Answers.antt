@@ -4,19 +4,20 @@ use Rattle.std.proofs.lemmas.List.{get_or_read}
 use Rattle.nr_trace.specs.declared.fault.Fault.TheVariants.{ThreadOpen, NoSuchCall, AnsweredTwice}
 use Rattle.nr_audit.specs.inside.Search.{HasNone}
 use Rattle.nr_audit.specs.inside.Passes.{IsCallFaultAt}
-use Rattle.nr_audit.proofs.CallsAndReplies.{read_event, read_gone, read_some, thread_in_layout, told_call, if_some, open_call, no_open_call}
+use Rattle.nr_audit.proofs.CallsAndReplies.{read_event, read_gone, read_some, call_on, no_event, told_call, if_some, open_call, no_open_call}
 use Rattle.nr_audit.proofs.Ranks.{more_of}
 use Rattle.nr_audit.proofs.CallFaults.{HasFound, known_at_start, known_after_call, none_at_call, first_open, first_no_call, first_twice, none_at_reply}
 use Rattle.nr_audit.proofs.CallFaults.{known_after_reply, first_call_fault, no_call_fault, table_at_end}
 use Rattle.nr_audit.proofs.calls.check_calls.Goals as goal
-use Rattle.nr_audit.proofs.calls.check_calls.Goals.{in-Call+else-is_open, in-Reply+else-call-index+else-not-is_call+else-is_some}
+use Rattle.nr_audit.proofs.calls.check_calls.Goals.{in-Reply+else-call-index+else-not-is_call+else-is_some, in_default+in-Some+else-is_open}
+use Rattle.nr_audit.proofs.calls.check_calls.Goals.{in_default+in_default-thread_of}
 use Rattle.nr_audit.proofs.calls.check_calls.Goals.{then-call-index-via-then-call-index, then-call-index-via-else-call-index+then-not-is_call}
 
 -- src/calls.rt:28:5
 pub loop-index-init : goal.loop-index-init
 loop-index-init c = record {
   known = known_at_start c.args.trace.now c.in_ok-last.last.items c.in_ok-replies.replies.items
-      (c.in_ok-last.ensures ∙ ap (λ n. replicate {A = Option ℕ} n None) (c.threads.ensures.reads ∙ ap (λ l. l.threads) c.config.ensures.reads))
+      (c.in_ok-last.ensures ∙ ap (λ n. replicate {A = Option ℕ} n None) (c.threads.ensures.reads ∙ ap (λ l. l.threads) c.layout.ensures.reads))
       (c.in_ok-replies.ensures ∙ ap (λ n. replicate {A = Option ℕ} n None) (ap length c.events-events.ensures.reads));
   none = λ lower lt. absurd (omega arith);
 }
@@ -25,27 +26,29 @@ loop-index-init c = record {
 pub is_open-requires : goal.is_open-requires
 is_open-requires c =
     let known = c.loop-index.invariant.known in
-    let few = thread_in_layout c.args.trace.now c.events-events.result.now c.loop-index.index _ _ _ _ c.events-events.ensures.in_range
-    c.events-events.ensures.reads c.loop-index-test.true c.index-events-index.is (sym c.event.ensures ∙ c.in-Call.is) in
-    let read = get_or_read c.loop-index.last.items c.in-Call.thread c.index.result.now (omega (arith, known.threads)) c.index.ensures None in
-    if_some c.index.result.now (λ call. call < length c.deref.result.now) (λ call is.
-    let earlier = (known.last_made c.in-Call.thread call (sym read ∙ is)).1 in
+    let own = call_on c.args.trace.now c.events-events.result.now c.loop-index.index _ _ c.in-Some.thread c.events-events.ensures.in_range
+    c.events-events.ensures.reads c.loop-index-test.true c.index-events-index.is c.event-event.ensures c.in_default.not-Reply
+    (sym c.in-Some.is ∙ c.thread_of.ensures) in
+    let read = get_or_read c.loop-index.last.items c.in-Some.thread c.index-in-Some.result.now (omega (arith, known.threads, own.few)) c.index-in-Some.ensures
+    None in
+    if_some c.index-in-Some.result.now (λ call. call < length c.deref.result.now) (λ call is.
+    let earlier = (known.last_made c.in-Some.thread call (sym read ∙ is)).1 in
     omega (arith, known.one_each, ap length c.deref.ensures.value, ap length c.events-events.ensures.reads))
 
 -- src/calls.rt:44:21
 pub returns-then-is_open-clause-first : goal.returns-then-is_open-clause-first
 returns-then-is_open-clause-first c =
     let known = c.loop-index.invariant.known in
-    let few = thread_in_layout c.args.trace.now c.events-events.result.now c.loop-index.index _ _ _ _ c.events-events.ensures.in_range
-    c.events-events.ensures.reads c.loop-index-test.true c.index-events-index.is (sym c.event.ensures ∙ c.in-Call.is) in
-    let read = get_or_read c.loop-index.last.items c.in-Call.thread c.index.result.now (omega (arith, known.threads)) c.index.ensures None in
-    let it = open_call c.index.result.now _ c.deref.result.now c.loop-index.replies.items read c.deref.ensures.value (c.is_open.ensures.0 c.if-is_open.true) in
+    let own = call_on c.args.trace.now c.events-events.result.now c.loop-index.index _ _ c.in-Some.thread c.events-events.ensures.in_range
+    c.events-events.ensures.reads c.loop-index-test.true c.index-events-index.is c.event-event.ensures c.in_default.not-Reply
+    (sym c.in-Some.is ∙ c.thread_of.ensures) in
+    let read = get_or_read c.loop-index.last.items c.in-Some.thread c.index-in-Some.result.now (omega (arith, known.threads, own.few)) c.index-in-Some.ensures
+    None in
+    let it = open_call c.index-in-Some.result.now _ c.deref.result.now c.loop-index.replies.items read c.deref.ensures.value
+    (c.is_open.ensures.0 c.if-is_open.true) in
     first_call_fault c.args.trace.now c.loop-index.index (ThreadOpen c.loop-index.index) c.loop-index.invariant.none
     (first_open c.args.trace.now c.loop-index.index c.loop-index.last.items c.loop-index.replies.items known
-    (omega (arith, ap length c.events-events.ensures.reads)) _ c.in-Call.thread _
-    (read_event c.args.trace.now c.events-events.result.now c.loop-index.index _ _ c.events-events.ensures.reads c.loop-index-test.true
-    c.index-events-index.is (sym c.event.ensures ∙ c.in-Call.is))
-    it.0 it.1 it.2)
+    (omega (arith, ap length c.events-events.ensures.reads)) own.made c.in-Some.thread own.on own.is own.no_reply it.0 it.1 it.2)
 
 -- src/calls.rt:40:21
 pub returns-then-call-index-clause-first : goal.returns-then-call-index-clause-first
@@ -55,7 +58,7 @@ returns-then-call-index-clause-first c =
     (first_no_call c.args.trace.now c.loop-index.index c.loop-index.last.items c.loop-index.replies.items known
     (omega (arith, ap length c.events-events.ensures.reads)) _ _ _
     (read_event c.args.trace.now c.events-events.result.now c.loop-index.index _ _ c.events-events.ensures.reads c.loop-index-test.true
-    c.index-events-index.is (sym c.event.ensures ∙ c.in-Reply.is))
+    c.index-events-index.is (sym c.event-event.ensures ∙ c.in-Reply.is))
     (λ such. elim c.then-call-index.branch [
       | then-call-index-via-then-call-index w ↦ (let below = such.0 in let above = w.if-call-index.true in omega arith)
       | then-call-index-via-else-call-index+then-not-is_call w ↦
@@ -72,13 +75,13 @@ returns-then-is_some-clause-first c =
     let low : c.in-Reply.call < c.loop-index.index = c.if-call-index.false in
     let told = told_call c.args.trace.now c.events-events.result.now c.in-Reply.call _ c.is_call.result c.events-events.ensures.reads (let here =
     c.loop-index-test.true in omega arith) c.index-events-call.is c.is_call.ensures in
-    let read = get_or_read c.loop-index.replies.items c.in-Reply.call c.index-in-Reply.result.now
-    (omega (arith, known.one_each, ap length c.events-events.ensures.reads)) c.index-in-Reply.ensures None in
+    let read = get_or_read c.loop-index.replies.items c.in-Reply.call c.index.result.now
+    (omega (arith, known.one_each, ap length c.events-events.ensures.reads)) c.index.ensures None in
     first_call_fault c.args.trace.now c.loop-index.index (AnsweredTwice c.loop-index.index) c.loop-index.invariant.none
     (first_twice c.args.trace.now c.loop-index.index c.loop-index.last.items c.loop-index.replies.items known
     (omega (arith, ap length c.events-events.ensures.reads)) _ _ _
     (read_event c.args.trace.now c.events-events.result.now c.loop-index.index _ _ c.events-events.ensures.reads c.loop-index-test.true
-    c.index-events-index.is (sym c.event.ensures ∙ c.in-Reply.is))
+    c.index-events-index.is (sym c.event-event.ensures ∙ c.in-Reply.is))
     low (sym told ∙ c.if-not-is_call.false) (read_some _ _ _ (c.get.ensures ∙ read) (sym c.is_some.ensures) c.if-is_some.true))
 
 -- src/calls.rt:28:5
@@ -87,46 +90,49 @@ loop-index-preserved c =
     let known = c.loop-index.invariant.known in
     let within : c.loop-index.index < length c.args.trace.now.events = omega (arith, ap length c.events-events.ensures.reads) in
     elim c.match-event.branch [
-      | in-Call+else-is_open w ↦
-          let few = thread_in_layout c.args.trace.now c.events-events.result.now c.loop-index.index _ _ _ _ c.events-events.ensures.in_range
-          c.events-events.ensures.reads c.loop-index-test.true c.index-events-index.is (sym c.event.ensures ∙ w.in-Call.is) in
-          let read = get_or_read c.loop-index.last.items w.in-Call.thread w.index.result.now (omega (arith, known.threads)) w.index.ensures None in
-          let is = read_event c.args.trace.now c.events-events.result.now c.loop-index.index _ _ c.events-events.ensures.reads c.loop-index-test.true
-          c.index-events-index.is (sym c.event.ensures ∙ w.in-Call.is) in
-          let idle = no_open_call w.index.result.now _ w.deref.result.now c.loop-index.replies.items read w.deref.ensures.value
-          (iff_false w.is_open.ensures w.if-is_open.false) in
-          record {
-            known = subst (λ (v : Vec (Option ℕ) Global). HasFound c.args.trace.now
-                (c.loop-index.index + 1) v.items c.match-event.replies.items) (sym w.last-is)
-                (subst (λ (v : Vec (Option ℕ) Global). HasFound c.args.trace.now (c.loop-index.index + 1)
-                (set c.loop-index.last.items w.in-Call.thread w.of.result) v.items) (sym w.replies-is)
-                (subst (λ o. HasFound c.args.trace.now (c.loop-index.index + 1)
-                (set c.loop-index.last.items w.in-Call.thread o) c.loop-index.replies.items) (sym w.of.ensures)
-                (known_after_call c.args.trace.now c.loop-index.index c.loop-index.last.items c.loop-index.replies.items known within _
-                w.in-Call.thread _ is few idle)));
-            none = more_of IsCallFaultAt c.args.trace.now c.loop-index.index c.loop-index.invariant.none
-                (none_at_call c.args.trace.now c.loop-index.index c.loop-index.last.items c.loop-index.replies.items known within _ w.in-Call.thread _ is idle);
-          }
       | in-Reply+else-call-index+else-not-is_call+else-is_some w ↦
           let low : w.in-Reply.call < c.loop-index.index = w.if-call-index.false in
           let told = told_call c.args.trace.now c.events-events.result.now w.in-Reply.call _ w.is_call.result c.events-events.ensures.reads (let here =
           c.loop-index-test.true in omega arith) w.index-events-call.is w.is_call.ensures in
           let called = sym told ∙ w.if-not-is_call.false in
-          let read = get_or_read c.loop-index.replies.items w.in-Reply.call w.index-in-Reply.result.now
-          (omega (arith, known.one_each)) w.index-in-Reply.ensures None in
+          let read = get_or_read c.loop-index.replies.items w.in-Reply.call w.index.result.now
+          (omega (arith, known.one_each)) w.index.ensures None in
           let none = read_gone _ _ _ (w.get.ensures ∙ read) (sym w.is_some.ensures) w.if-is_some.false in
           let is = read_event c.args.trace.now c.events-events.result.now c.loop-index.index _ _ c.events-events.ensures.reads c.loop-index-test.true
-          c.index-events-index.is (sym c.event.ensures ∙ w.in-Reply.is) in
+          c.index-events-index.is (sym c.event-event.ensures ∙ w.in-Reply.is) in
           record {
             known = subst (λ (v : Vec (Option ℕ) Global). HasFound c.args.trace.now
                 (c.loop-index.index + 1) v.items c.match-event.replies.items) (sym w.last-is)
                 (subst (λ (v : Vec (Option ℕ) Global). HasFound c.args.trace.now (c.loop-index.index + 1) c.loop-index.last.items v.items) (sym w.replies-is)
                 (subst (λ o. HasFound c.args.trace.now (c.loop-index.index + 1) c.loop-index.last.items (set c.loop-index.replies.items w.in-Reply.call o))
-                (sym w.of-in-Reply.ensures)
+                (sym w.of.ensures)
                 (known_after_reply c.args.trace.now c.loop-index.index c.loop-index.last.items c.loop-index.replies.items known within _ _ _ is low none)));
             none = more_of IsCallFaultAt c.args.trace.now c.loop-index.index c.loop-index.invariant.none
                 (none_at_reply c.args.trace.now c.loop-index.index c.loop-index.last.items c.loop-index.replies.items known within _ _ _ is low called none);
           }
+      | in_default+in-Some+else-is_open w ↦
+          let own = call_on c.args.trace.now c.events-events.result.now c.loop-index.index _ _ w.in-Some.thread c.events-events.ensures.in_range
+          c.events-events.ensures.reads c.loop-index-test.true c.index-events-index.is c.event-event.ensures w.in_default.not-Reply
+          (sym w.in-Some.is ∙ w.thread_of.ensures) in
+          let read = get_or_read c.loop-index.last.items w.in-Some.thread w.index-in-Some.result.now (omega (arith, known.threads, own.few))
+          w.index-in-Some.ensures None in
+          let idle = no_open_call w.index-in-Some.result.now _ w.deref.result.now c.loop-index.replies.items read w.deref.ensures.value
+          (iff_false w.is_open.ensures w.if-is_open.false) in
+          record {
+            known = subst (λ (v : Vec (Option ℕ) Global). HasFound c.args.trace.now
+                (c.loop-index.index + 1) v.items c.match-event.replies.items) (sym w.last-is)
+                (subst (λ (v : Vec (Option ℕ) Global). HasFound c.args.trace.now (c.loop-index.index + 1)
+                (set c.loop-index.last.items w.in-Some.thread w.of-in-Some.result) v.items) (sym w.replies-is)
+                (subst (λ o. HasFound c.args.trace.now (c.loop-index.index + 1)
+                (set c.loop-index.last.items w.in-Some.thread o) c.loop-index.replies.items) (sym w.of-in-Some.ensures)
+                (known_after_call c.args.trace.now c.loop-index.index c.loop-index.last.items c.loop-index.replies.items known within own.made
+                w.in-Some.thread own.on own.is own.no_reply own.few idle)));
+            none = more_of IsCallFaultAt c.args.trace.now c.loop-index.index c.loop-index.invariant.none
+                (none_at_call c.args.trace.now c.loop-index.index c.loop-index.last.items c.loop-index.replies.items known within own.made w.in-Some.thread
+                own.on own.is own.no_reply idle);
+          }
+      | in_default+in_default-thread_of w ↦ absurd
+          (no_event c.event-event.result w.thread_of.result w.in_default.not-Reply w.thread_of.ensures w.in_default-thread_of.not-Some)
     ]
 
 -- src/calls.rt:20:1

@@ -9,16 +9,16 @@ use Rattle.nr_trace.specs.declared.fault.Fault.TheVariants.{Early}
 use Rattle.nr_audit.specs.inside.Search.{FindsEarly, HasNone, IsFirstAmong}
 use Rattle.nr_audit.specs.inside.Passes.{IsFloorFault, IsFloorFaultAt, IsPositionFault, IsPositionFaultAt}
 use Rattle.nr_audit.specs.inside.Prefixes.{AreNeeds, with_known}
-use Rattle.nr_audit.proofs.CallsAndReplies.{read_event, reply_here, no_reply_at_call, no_call_at_reply}
+use Rattle.nr_audit.proofs.CallsAndReplies.{read_event, reply_here, no_reply_there, no_reply_unless, no_call_at_reply}
 use Rattle.nr_audit.proofs.Ranks.{more_of}
 use Rattle.nr_audit.proofs.FloorFaults.{early_at_other, none_at_call, none_at_other, no_floor_fault}
 use Rattle.nr_audit.proofs.FirstOfPasses.{after_log, after_positions, clean_after_positions, first_from_any, first_of_pass, floor_faults, position_faults}
 use Rattle.nr_audit.proofs.PositionFaults.{first_position_fault, no_position_fault, none_without_reply}
-use Rattle.nr_audit.proofs.NeededEntries.{needs_stay, no_reply_at, needs_after_reply}
+use Rattle.nr_audit.proofs.NeededEntries.{greater_is, needs_stay, no_reply_at, needs_after_reply}
 use Rattle.nr_audit.proofs.RecordedOrder.{passed_as, passed_by}
 use Rattle.nr_audit.proofs.RepliesByTable.{no_call_saw_nothing}
 use Rattle.nr_audit.proofs.floors.check_replies.Goals as goal
-use Rattle.nr_audit.proofs.floors.check_replies.Goals.{in-Call+in-Some, in-Call+in_default, in-Reply+in_default-position_fault}
+use Rattle.nr_audit.proofs.floors.check_replies.Goals.{in-Reply+in_default-position_fault, in_default+in-Some-pass_call, in_default+in_default-pass_call}
 
 pub loop-index-preserved : goal.loop-index-preserved
 loop-index-preserved c =
@@ -27,36 +27,38 @@ loop-index-preserved c =
     let old = c.loop-index.invariant in
     let needed = c.loop-index.needed in
     elim c.match-event.branch [
-      | in-Call+in-Some w ↦
-          let is = read_event trace c.events-event-items.result.now index _ _ c.events-event-items.ensures.reads c.loop-index-test.true
-          c.event-item.is (sym c.event.ensures ∙ w.in-Call.is) in
+      | in_default+in-Some-pass_call w ↦
+          let none = no_reply_there trace index c.event.result
+          (read_event trace c.events-event-items.result.now index _ _ c.events-event-items.ensures.reads c.loop-index-test.true
+          c.event-item.is (sym c.event.ensures)) (no_reply_unless c.event.result w.in_default.not-Reply) in
           record {
             few = omega (arith, w.count-is, old.few);
-            floor = w.floor-is ∙ old.floor ∙ sym (floor_after_other trace index (no_reply_at_call trace index _ _ _ is));
-            positions = more_of IsPositionFaultAt trace index old.positions (none_without_reply trace index (no_reply_at_call trace index _ _ _ is));
+            floor = w.floor-is ∙ old.floor ∙ sym (floor_after_other trace index none);
+            positions = more_of IsPositionFaultAt trace index old.positions (none_without_reply trace index none);
             early = λ clean. subst (λ o. FindsEarly trace (index + 1) o) (sym w.early-is) (w.early_call-early.ensures clean (old.early clean));
             passed = passed_as trace (index + 1) _ _ _ _ (ap (λ (v : Vec (Option ℕ) Global). v.items) w.lasts-is)
                 (ap (λ (v : Vec (Option ℕ) Global). v.items) w.rows-is) w.pass_call.ensures.passed;
             needs = subst (λ (needs : List ℕ). AreNeeds trace (index + 1) needs) (sym w.needed-is)
                 (needs_stay trace index needed
-                (λ replica other. no_reply_at trace index replica other (no_reply_at_call trace index _ _ _ is)) old.needs);
+                (λ replica other. no_reply_at trace index replica other none) old.needs);
           }
-      | in-Call+in_default w ↦
-          let is = read_event trace c.events-event-items.result.now index _ _ c.events-event-items.ensures.reads c.loop-index-test.true
-          c.event-item.is (sym c.event.ensures ∙ w.in-Call.is) in
+      | in_default+in_default-pass_call w ↦
+          let none = no_reply_there trace index c.event.result
+          (read_event trace c.events-event-items.result.now index _ _ c.events-event-items.ensures.reads c.loop-index-test.true
+          c.event-item.is (sym c.event.ensures)) (no_reply_unless c.event.result w.in_default.not-Reply) in
           record {
             few = omega (arith, w.count-is, old.few);
-            floor = w.floor-is ∙ old.floor ∙ sym (floor_after_other trace index (no_reply_at_call trace index _ _ _ is));
-            positions = more_of IsPositionFaultAt trace index old.positions (none_without_reply trace index (no_reply_at_call trace index _ _ _ is));
+            floor = w.floor-is ∙ old.floor ∙ sym (floor_after_other trace index none);
+            positions = more_of IsPositionFaultAt trace index old.positions (none_without_reply trace index none);
             early = λ clean. subst (λ o. FindsEarly trace (index + 1) o) (sym w.early-is)
                 (early_at_other trace index c.loop-index.early
                 (none_at_call trace index w.pass_call.result clean w.pass_call.ensures.stands
-                (λ entries there. absurd (w.in_default.not-Some entries there))) (old.early clean));
+                (λ entries there. absurd (w.in_default-pass_call.not-Some entries there))) (old.early clean));
             passed = passed_as trace (index + 1) _ _ _ _ (ap (λ (v : Vec (Option ℕ) Global). v.items) w.lasts-is)
                 (ap (λ (v : Vec (Option ℕ) Global). v.items) w.rows-is) w.pass_call.ensures.passed;
             needs = subst (λ (needs : List ℕ). AreNeeds trace (index + 1) needs) (sym w.needed-is)
                 (needs_stay trace index needed
-                (λ replica other. no_reply_at trace index replica other (no_reply_at_call trace index _ _ _ is)) old.needs);
+                (λ replica other. no_reply_at trace index replica other none) old.needs);
           }
       | in-Reply+in_default-position_fault w ↦
           let is = read_event trace c.events-event-items.result.now index _ _ c.events-event-items.ensures.reads c.loop-index-test.true
@@ -65,7 +67,7 @@ loop-index-preserved c =
           let known = w.entries_known-known.ensures w.in-Reply.answer in
           record {
             few = omega (arith, w.count-is, old.few);
-            floor = w.floor-is ∙ w.max-floor.ensures ∙ ap (λ n. max n w.entries_known-known.result) old.floor
+            floor = w.floor-is ∙ w.max-floor.ensures ∙ greater_is c.loop-index.floor w.entries_known-known.result ∙ ap (λ n. max n w.entries_known-known.result) old.floor
                 ∙ ap (λ n. max (floor trace index) n) known
                 ∙ sym (floor_after_reply trace index reply (reply_here trace index _ _ _ is));
             positions = more_of IsPositionFaultAt trace index old.positions
@@ -109,14 +111,14 @@ returns-in-Some-early-clause-first c =
     first_from_any trace (Early c.in-Some-early.call) (lit< tt) (first_of_pass no_pages 5 IsFloorFault trace (Early c.in-Some-early.call) floor_faults before
     (subst (λ o. FindsEarly trace c.loop-index.index o) c.in-Some-early.is (c.loop-index.invariant.early (clean_after_positions trace before))))
 
-pub returns-in-Some-position_fault-clause-first : goal.returns-in-Some-position_fault-clause-first
-returns-in-Some-position_fault-clause-first c =
+pub returns-in-Some-clause-first : goal.returns-in-Some-clause-first
+returns-in-Some-clause-first c =
     let trace = c.args.history.now in
     let index = c.loop-index.index in
     let is = read_event trace c.events-event-items.result.now index _ _ c.events-event-items.ensures.reads c.loop-index-test.true
     c.event-item.is (sym c.event.ensures ∙ c.in-Reply.is) in
-    let first = first_position_fault trace index c.in-Some-position_fault.fault c.loop-index.invariant.positions
-    (c.in-Some-position_fault.ensures c.in-Reply.answer is) in
-    let own = position_faults.only c.in-Some-position_fault.fault first.is_among in
-    first_from_any trace c.in-Some-position_fault.fault (omega arith)
-    (first_of_pass no_pages 4 IsPositionFault trace c.in-Some-position_fault.fault position_faults (after_log trace c.requires.calls c.requires.log) first)
+    let first = first_position_fault trace index c.in-Some.fault c.loop-index.invariant.positions
+    (c.in-Some.ensures c.in-Reply.answer is) in
+    let own = position_faults.only c.in-Some.fault first.is_among in
+    first_from_any trace c.in-Some.fault (omega arith)
+    (first_of_pass no_pages 4 IsPositionFault trace c.in-Some.fault position_faults (after_log trace c.requires.calls c.requires.log) first)

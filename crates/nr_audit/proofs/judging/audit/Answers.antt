@@ -1,11 +1,12 @@
 use Rattle.std.proofs.Common.{◌≡◌}
 use Rattle.std.proofs.lemmas.Result.{IfOk-weaker}
 use Rattle.nr_trace.specs.Calls.{IsWellFormedHistory}
-use Rattle.nr_trace.specs.Orders.{recorded_order, HasTheAnswers, KeepsPrecedence}
-use Rattle.nr_audit.specs.Headline.{IsSpelledWith}
+use Rattle.nr_trace.specs.Orders.{recorded_order, HasItsCalls, HasTheAnswers, KeepsPrecedence}
+use Rattle.nr_trace.specs.Recording.{Recording}
+use Rattle.nr_audit.specs.Headline.{HasFittingDumps, IsSpelledWith, SpellsAlone}
 use Rattle.nr_audit.specs.Verdict.{IfYes, IsVerdictOf}
 use Rattle.nr_audit.specs.declared.verdict.Verdict.TheVariants.{Yes, No}
-use Rattle.nr_audit.proofs.PartsOfVerdicts.{read_so, yes_of, no_of, events_of, precedence_of, answers_of}
+use Rattle.nr_audit.proofs.PartsOfVerdicts.{read_so, yes_of, no_of, one_trace_of, events_of, members_of, precedence_of, answers_of, dumps_of}
 use Rattle.nr_audit.proofs.judging.audit.Goals as goal
 
 pub returns-clause-yes : goal.returns-clause-yes
@@ -41,4 +42,25 @@ returns-clause-answers c =
     let bytes = c.args.bytes.now in
     IfOk-weaker c.judge_read.result (IsVerdictOf bytes) (IfYes (λ order. IsSpelledWith bytes (λ trace. HasTheAnswers trace order)))
     (λ verdict is. answers_of bytes verdict is)
+    (c.judge_read.ensures.verdict bytes (read_so bytes c.read.result c.read.ensures.spelled c.read.ensures.refused))
+
+pub returns-clause-one_trace : goal.returns-clause-one_trace
+returns-clause-one_trace c =
+    let bytes = c.args.bytes.now in
+    IfOk-weaker c.judge_read.result (IsVerdictOf bytes) (IfYes (λ order. (trace : Recording) × SpellsAlone bytes trace))
+    (λ verdict is. one_trace_of bytes verdict is)
+    (c.judge_read.ensures.verdict bytes (read_so bytes c.read.result c.read.ensures.spelled c.read.ensures.refused))
+
+pub returns-clause-members : goal.returns-clause-members
+returns-clause-members c =
+    let bytes = c.args.bytes.now in
+    IfOk-weaker c.judge_read.result (IsVerdictOf bytes) (IfYes (λ order. IsSpelledWith bytes (λ trace. HasItsCalls trace order)))
+    (λ verdict is. members_of bytes verdict is)
+    (c.judge_read.ensures.verdict bytes (read_so bytes c.read.result c.read.ensures.spelled c.read.ensures.refused))
+
+pub returns-clause-dumps : goal.returns-clause-dumps
+returns-clause-dumps c =
+    let bytes = c.args.bytes.now in
+    IfOk-weaker c.judge_read.result (IsVerdictOf bytes) (IfYes (λ order. IsSpelledWith bytes (λ trace. HasFittingDumps trace order)))
+    (λ verdict is. dumps_of bytes verdict is)
     (c.judge_read.ensures.verdict bytes (read_so bytes c.read.result c.read.ensures.spelled c.read.ensures.refused))

@@ -1,6 +1,7 @@
 use Rattle.std.proofs.Common.{◌≡◌, ◌++◌, [], ◌∷◌, rules}
 use Rattle.std.proofs.lemmas.List.Elements.{All-push}
 use Rattle.nr_trace.specs.Parts.{HasFrames}
+use Rattle.nr_trace.specs.declared.version.Version.TheVariants.{V1}
 use Rattle.nr_core.specs.Run.{IsDumpOfReplica}
 use Rattle.nr_core.specs.inside.Parts.{replica_in}
 use Rattle.nr_core.proofs.Lists.{zipped_more}
@@ -14,5 +15,5 @@ loop-replica-preserved c =
     rw pushed (
       zipped_more (IsDumpOfReplica c.args.config.depth) replica_in c.args.replicas.now xs c.loop-replica.replica-index c.replica-item.result y c.loop-replica-test.true (search rules)
           c.loop-replica.invariant.0 c.in_ok-dump_of.ensures.is,
-      All-push HasFrames xs y c.loop-replica.invariant.1 c.in_ok-dump_of.ensures.frames,
+      All-push (HasFrames V1) xs y c.loop-replica.invariant.1 c.in_ok-dump_of.ensures.frames,
     )

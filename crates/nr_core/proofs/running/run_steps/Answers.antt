@@ -1,6 +1,7 @@
 use Rattle.std.proofs.Common.{map, refl}
 use Rattle.nr_trace.proofs.LawsOfFormat.{no_fault}
 use Rattle.nr_trace.specs.Spelling.{spelling}
+use Rattle.nr_trace.specs.declared.version.Form.TheVariants as forms
 use Rattle.nr_trace.specs.declared.fault.Fault.TheVariants.{Early, WrongAnswer, PrefixPastLog, PrefixShort, MissingFrame, SharedFrame, ReservedBit, StrayFrame, Differs}
 use Rattle.nr_core.specs.State.{start}
 use Rattle.nr_core.proofs.InTurn.{is_after_all, is_of_steps, stepped_more}
@@ -22,7 +23,8 @@ returns-clause-in_range c = c.in_ok-trace.ensures.in_range
 
 pub returns-clause-spelled : goal.returns-clause-spelled
 returns-clause-spelled c = λ fault.
-    no_fault (spelling c.in_ok-trace.trace) c.in_ok-trace.trace fault (record { in_range = c.in_ok-trace.ensures.in_range; spelled = refl })
+    no_fault forms.Trace (spelling c.in_ok-trace.trace) c.in_ok-trace.trace fault
+    (record { of_form = c.in_ok-trace.ensures.recording.of_trace; follows = tt; in_range = c.in_ok-trace.ensures.in_range; spelled = refl })
 
 pub returns-clause-well_formed : goal.returns-clause-well_formed
 returns-clause-well_formed c =

@@ -10,7 +10,7 @@ use Rattle.nr_engines.proofs.resolve.resolve_read.Goals as goal
 
 pub returns-in_ok-text-in-Ok : goal.returns-in_ok-text-in-Ok
 returns-in_ok-text-in-Ok c = λ bytes h.
-    let depth_is : c.depth-depth.result ≡ c.in-Ok.trace.layout.depth = c.depth-depth.ensures ∙ ap (λ (l : Layout). l.depth) c.config.ensures.reads in
+    let depth_is : c.depth-depth.result ≡ c.in-Ok.trace.layout.depth = c.depth-depth.ensures ∙ ap (λ (l : Layout). l.depth) c.layout.ensures.reads in
     let walk_is = c.translate-walk.ensures ∙ ap₂ (λ (d : Depth) (root : ℕ). walk d c.in-Some.dump.now.frames root c.args.address) depth_is c.root.ensures in
     inl record {
       trace = c.in-Ok.trace;

@@ -1,9 +1,11 @@
-use Rattle.std.proofs.Common.{◌≡◌, ℕ, ◌≤◌, length, ap, sym, ◌∙◌, arith}
+use Rattle.std.proofs.Common.{◌≡◌, ℕ, ◌≤◌, length, ap, sym, subst, ◌∙◌, arith}
 use Rattle.vs_types.specs.Config.{Layout}
+use Rattle.vs_types.specs.Depth.{levels}
 use Rattle.vs_types.specs.declared.depth.Depth.{Depth}
 use Rattle.vs_walk.specs.Dump.{Image}
 use Rattle.vs_walk.specs.Walk.{as_walk, walk}
-use Rattle.nr_explain.specs.Facts.{looks_after}
+use Rattle.nr_trace.specs.Recording.{IsThere}
+use Rattle.nr_explain.specs.Facts.{entries_read, looks_after}
 use Rattle.nr_explain.proofs.Dumped.{dump_read, one_dump}
 use Rattle.nr_explain.proofs.FirstFaults.{calls_before_differs, few_before_differs}
 use Rattle.nr_explain.proofs.dumps.difference.Goals as goal
@@ -30,8 +32,8 @@ returns-clause-is c =
     let one = one_dump trace c.args.replica dump holds.0 there holds.1 in
     let address = c.args.address in
     let depth = trace.layout.depth in
-    let given = c.depth.ensures ∙ ap (λ (l : Layout). l.depth) c.config.ensures.reads in
-    let differs = holds.2.0 in
+    let given = c.depth-depth.ensures ∙ ap (λ (l : Layout). l.depth) c.layout.ensures.reads in
+    let differs = holds.3.0 in
     let walked = ap (λ (d : Image). walk depth d.frames d.root address) one in
     let found : c.translate-found.result ≡ walk depth dump.frames dump.root address = c.translate-found.ensures
     ∙ ap (λ (d : Depth). walk d dump.frames c.root.result address) given ∙ ap (λ (r : ℕ). walk depth dump.frames r address) c.root.ensures in
@@ -40,10 +42,12 @@ returns-clause-is c =
     let looks = ap (looks_after trace address) (applied ∙ sym (ap (λ (d : Image). d.applied) one)) in (
       dump,
       there,
+      subst IsThere one holds.2,
       record {
         applied = applied;
         canonical = differs.0;
         found = found;
+        path = c.in_ok-path.ensures ∙ ap (λ (d : Depth). entries_read dump.frames (levels d) dump.root address) given;
         wanted = wanted;
         differs = λ same. differs.1 (walked ∙ sym found ∙ same ∙ ap as_walk (wanted ∙ looks));
         changed = c.in_ok-wanted.ensures.changed;

@@ -5,6 +5,7 @@ use Rattle.vs_walk.specs.Dump.{Image}
 use Rattle.vs_walk.specs.Traversal.{walk_fault}
 use Rattle.vs_walk.specs.declared.walk.WalkFault.TheVariants as walks
 use Rattle.vs_walk.proofs.LawsOfTraversals.{missing_reached}
+use Rattle.nr_trace.specs.Recording.{IsThere}
 use Rattle.nr_explain.specs.declared.evidence.Step.{Step}
 use Rattle.nr_explain.specs.declared.paths.Target.{Target}
 use Rattle.nr_explain.proofs.Dumped.{IsSought, dump_read, found_from, frame_is_found, one_dump}
@@ -19,8 +20,8 @@ unreachable-requires c =
     let one = one_dump trace c.args.replica dump holds.0 there holds.1 in
     let depth = trace.layout.depth in
     let target : Target = record { frame = c.args.frame; reserved = None; other = None } in
-    let given = c.depth.ensures ∙ ap (λ (l : Layout). l.depth) c.config.ensures.reads in
-    let fault = subst (λ (d : Image). walk_fault depth d.frames d.root ≡ Some (walks.Missing c.args.frame)) one holds.2 in
+    let given = c.depth.ensures ∙ ap (λ (l : Layout). l.depth) c.layout.ensures.reads in
+    let fault = subst (λ (d : Image). walk_fault depth d.frames d.root ≡ Some (walks.Missing c.args.frame)) one holds.3 in
     let nowhere = subst (λ (o : Option (Vec Step Global)). IsSought dump target (levels c.depth.result) o) c.in-None.is c.in_ok-path.ensures in
     frame_is_found depth c.depth.result dump c.args.frame target given refl (missing_reached depth dump.frames dump.root c.args.frame fault).0
     (λ end way. record { reserved = tt; other = tt }) nowhere
@@ -34,8 +35,8 @@ returns-clause-is c =
     let one = one_dump trace c.args.replica dump holds.0 there holds.1 in
     let depth = trace.layout.depth in
     let target : Target = record { frame = c.args.frame; reserved = None; other = None } in
-    let given = c.depth.ensures ∙ ap (λ (l : Layout). l.depth) c.config.ensures.reads in
-    let fault = subst (λ (d : Image). walk_fault depth d.frames d.root ≡ Some (walks.Missing c.args.frame)) one holds.2 in
+    let given = c.depth.ensures ∙ ap (λ (l : Layout). l.depth) c.layout.ensures.reads in
+    let fault = subst (λ (d : Image). walk_fault depth d.frames d.root ≡ Some (walks.Missing c.args.frame)) one holds.3 in
     let sought = subst (λ (o : Option (Vec Step Global)). IsSought dump target (levels c.depth.result) o) c.in-Some.is c.in_ok-path.ensures in
     let found = found_from depth c.depth.result dump target c.in-Some.path.items given sought in
-    (dump, there, ((missing_reached depth dump.frames dump.root c.args.frame fault).1, (found.end, found.leads)))
+    (dump, there, subst IsThere one holds.2, ((missing_reached depth dump.frames dump.root c.args.frame fault).1, (found.end, found.leads)))

@@ -6,6 +6,7 @@ use Rattle.vs_walk.specs.Dump.{Image}
 use Rattle.vs_walk.specs.Traversal.{walk_fault}
 use Rattle.vs_walk.specs.declared.walk.WalkFault.TheVariants as walks
 use Rattle.vs_walk.proofs.LawsOfTraversals.{reserved_met}
+use Rattle.nr_trace.specs.Recording.{IsThere}
 use Rattle.nr_explain.specs.Facts.{IsPath}
 use Rattle.nr_explain.specs.inside.Ways.{IsReservedAt}
 use Rattle.nr_explain.specs.declared.evidence.Step.{Step}
@@ -22,8 +23,8 @@ unreachable-requires c =
     let one = one_dump trace c.args.replica dump holds.0 there holds.1 in
     let depth = trace.layout.depth in
     let target : Target = record { frame = c.args.frame; reserved = Some c.args.index; other = None } in
-    let given = c.depth-depth.ensures ∙ ap (λ (l : Layout). l.depth) c.config.ensures.reads in
-    let fault = subst (λ (d : Image). walk_fault depth d.frames d.root ≡ Some (walks.Reserved c.args.frame c.args.index)) one holds.2 in
+    let given = c.depth-depth.ensures ∙ ap (λ (l : Layout). l.depth) c.layout.ensures.reads in
+    let fault = subst (λ (d : Image). walk_fault depth d.frames d.root ≡ Some (walks.Reserved c.args.frame c.args.index)) one holds.3 in
     let nowhere = subst (λ (o : Option (Vec Step Global)). IsSought dump target (levels c.depth-depth.result) o) c.in_default.is c.in_ok-path.ensures in
     word_is_found depth c.depth-depth.result dump c.args.frame c.args.index target given refl
     (reserved_met depth dump.frames dump.root c.args.frame c.args.index fault)
@@ -38,13 +39,13 @@ found_in depth given dump frame index found path same is sought =
 
 pub overflow_cast-len : goal.overflow_cast-len
 overflow_cast-len c =
-    let given = c.depth-depth.ensures ∙ ap (λ (l : Layout). l.depth) c.config.ensures.reads in
+    let given = c.depth-depth.ensures ∙ ap (λ (l : Layout). l.depth) c.layout.ensures.reads in
     let found = found_in _ _ c.index-dumps-replica.result c.args.frame c.args.index c.in_ok-path.field-0 c.in-Some.path given c.in-Some.is c.in_ok-path.ensures in
     omega (arith, found.down, found.few, c.len.ensures, c.in-Some.path.ok.0)
 
 pub overflow_sub-levels : goal.overflow_sub-levels
 overflow_sub-levels c =
-    let given = c.depth-depth.ensures ∙ ap (λ (l : Layout). l.depth) c.config.ensures.reads in
+    let given = c.depth-depth.ensures ∙ ap (λ (l : Layout). l.depth) c.layout.ensures.reads in
     let found = found_in _ _ c.index-dumps-replica.result c.args.frame c.args.index c.in_ok-path.field-0 c.in-Some.path given c.in-Some.is c.in_ok-path.ensures in
     let high = c.levels.ensures ∙ ap levels given in
     omega (arith, found.down, high, c.len.ensures, c.in-Some.path.ok.0)
@@ -52,11 +53,21 @@ overflow_sub-levels c =
 pub entry_at-entry-requires : goal.entry_at-entry-requires
 entry_at-entry-requires c =
     let dump = c.index-dumps-replica.result in
-    let given = c.depth-depth.ensures ∙ ap (λ (l : Layout). l.depth) c.config.ensures.reads in
+    let given = c.depth-depth.ensures ∙ ap (λ (l : Layout). l.depth) c.layout.ensures.reads in
     let found = found_in _ _ dump c.args.frame c.args.index c.in_ok-path.field-0 c.in-Some.path given c.in-Some.is c.in_ok-path.ensures in
     let high = c.levels.ensures ∙ ap levels given in
     let level : found.end ≡ c.levels.result - c.len.result = omega (arith, found.down, high, c.len.ensures, c.in-Some.path.ok.0) in
     subst (λ (l : ℕ). IsReservedAt dump.frames l c.args.frame c.args.index) level found.met.reserved
+
+pub reserved_bit-requires-clause-few_levels : goal.reserved_bit-requires-clause-few_levels
+reserved_bit-requires-clause-few_levels c =
+    let given = c.depth-depth.ensures ∙ ap (λ (l : Layout). l.depth) c.layout.ensures.reads in
+    let found = found_in _ _ c.index-dumps-replica.result c.args.frame c.args.index c.in_ok-path.field-0 c.in-Some.path given c.in-Some.is c.in_ok-path.ensures in
+    let high = c.levels.ensures ∙ ap levels given in
+    omega (arith, found.down, found.few, high, c.entry_at-entry.ensures.level)
+
+pub reserved_bit-requires-clause-reserved : goal.reserved_bit-requires-clause-reserved
+reserved_bit-requires-clause-reserved c = c.entry_at-entry.ensures.reserved.reserved
 
 pub returns-clause-is : goal.returns-clause-is
 returns-clause-is c =
@@ -65,16 +76,18 @@ returns-clause-is c =
     let dump = c.index-dumps-replica.result in
     let there = dump_read trace c.dumps.result.now c.args.replica dump holds.0 c.dumps.ensures.reads holds.1 c.index-dumps-replica.is in
     let one = one_dump trace c.args.replica dump holds.0 there holds.1 in
-    let given = c.depth-depth.ensures ∙ ap (λ (l : Layout). l.depth) c.config.ensures.reads in
+    let given = c.depth-depth.ensures ∙ ap (λ (l : Layout). l.depth) c.layout.ensures.reads in
     let found = found_in _ _ dump c.args.frame c.args.index c.in_ok-path.field-0 c.in-Some.path given c.in-Some.is c.in_ok-path.ensures in
     let high = c.levels.ensures ∙ ap levels given in
     let entry = c.entry_at-entry in
     let level : found.end ≡ entry.result.level = omega (arith, found.down, high, c.len.ensures, c.in-Some.path.ok.0, entry.ensures.level) in (
       dump,
       there,
+      subst IsThere one holds.2,
       (
         subst (λ (n : ℕ). IsPath dump.frames (levels trace.layout.depth) dump.root entry.result.level n c.in-Some.path.items) (sym entry.ensures.frame)
             (subst (λ (l : ℕ). IsPath dump.frames (levels trace.layout.depth) dump.root l c.args.frame c.in-Some.path.items) level found.leads),
         entry.ensures.reserved,
+        c.reserved_bit.ensures,
       ),
     )

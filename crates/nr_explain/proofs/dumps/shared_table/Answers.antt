@@ -5,6 +5,7 @@ use Rattle.vs_types.specs.declared.depth.Depth.{Depth}
 use Rattle.vs_walk.specs.Dump.{Image}
 use Rattle.vs_walk.specs.Traversal.{walk_fault}
 use Rattle.vs_walk.specs.declared.walk.WalkFault.TheVariants as walks
+use Rattle.nr_trace.specs.Recording.{IsThere}
 use Rattle.nr_explain.specs.Evidence.{StepsLeadTo}
 use Rattle.nr_explain.specs.Facts.{IsPath}
 use Rattle.nr_explain.specs.inside.Ways.{HasTwoWays}
@@ -23,8 +24,8 @@ unreachable-requires c =
     let one = one_dump trace c.args.replica dump holds.0 there holds.1 in
     let depth = trace.layout.depth in
     let target : Target = record { frame = c.args.frame; reserved = None; other = None } in
-    let given = c.depth-depth.ensures ∙ ap (λ (l : Layout). l.depth) c.config.ensures.reads in
-    let fault = subst (λ (d : Image). walk_fault depth d.frames d.root ≡ Some (walks.Shared c.args.frame)) one holds.2 in
+    let given = c.depth-depth.ensures ∙ ap (λ (l : Layout). l.depth) c.layout.ensures.reads in
+    let fault = subst (λ (d : Image). walk_fault depth d.frames d.root ≡ Some (walks.Shared c.args.frame)) one holds.3 in
     let nowhere = subst (λ (o : Option (Vec Step Global)). IsSought dump target (levels c.depth-depth.result) o) c.in_default.is c.in_ok-first.ensures in
     frame_is_found depth c.depth-depth.result dump c.args.frame target given refl (shared_is_visited depth dump c.args.frame fault)
     (λ end way. record { reserved = tt; other = tt }) nowhere
@@ -38,13 +39,14 @@ returns-clause-is c =
     let one = one_dump trace c.args.replica dump holds.0 there holds.1 in
     let depth = trace.layout.depth in
     let target : Target = record { frame = c.args.frame; reserved = None; other = None } in
-    let given = c.depth-depth.ensures ∙ ap (λ (l : Layout). l.depth) c.config.ensures.reads in
+    let given = c.depth-depth.ensures ∙ ap (λ (l : Layout). l.depth) c.layout.ensures.reads in
     let sought = subst (λ (o : Option (Vec Step Global)). IsSought dump target (levels c.depth-depth.result) o) c.in-Some.is c.in_ok-first.ensures in
     let found = found_from depth c.depth-depth.result dump target c.in-Some.first.items given sought in
     let other = c.in_ok-first-2.ensures.second in
     let same = sym c.in_ok-first-2.ensures.first in (
       dump,
       there,
+      subst IsThere one holds.2,
       (
         subst (λ (v : Vec Step Global). StepsLeadTo trace dump c.args.frame v.items) same (found.end, found.leads),
         (other.0, subst (λ (d : Depth). IsPath dump.frames (levels d) dump.root other.0 c.args.frame c.in_ok-first-2.second.items) given other.1),
@@ -59,7 +61,7 @@ another_way-requires c =
     let dump = c.index-dumps-replica.result in
     let there = dump_read trace c.dumps.result.now c.args.replica dump holds.0 c.dumps.ensures.reads holds.1 c.index-dumps-replica.is in
     let one = one_dump trace c.args.replica dump holds.0 there holds.1 in
-    let given = c.depth-depth.ensures ∙ ap (λ (l : Layout). l.depth) c.config.ensures.reads in
-    let fault = subst (λ (d : Image). walk_fault trace.layout.depth d.frames d.root ≡ Some (walks.Shared c.args.frame)) one holds.2 in
+    let given = c.depth-depth.ensures ∙ ap (λ (l : Layout). l.depth) c.layout.ensures.reads in
+    let fault = subst (λ (d : Image). walk_fault trace.layout.depth d.frames d.root ≡ Some (walks.Shared c.args.frame)) one holds.3 in
     subst (λ (d : Depth). HasTwoWays dump.frames (levels d) dump.root c.args.frame) (sym given)
     (shared_has_two trace.layout.depth dump.frames dump.root c.args.frame fault)

@@ -3,6 +3,7 @@ use Rattle.nr_trace.specs.Faults.{StandsAfter}
 use Rattle.nr_trace.specs.Orders.{floor}
 use Rattle.nr_trace.proofs.LawsOfCalls.{stands_once}
 use Rattle.nr_trace.proofs.LawsOfPrecedence.{known_below_floor}
+use Rattle.nr_explain.specs.Facts.{IsFirstReplyTo}
 use Rattle.nr_explain.specs.inside.Searches.{IsBinding}
 use Rattle.nr_explain.specs.declared.evidence.RecordedReply.{RecordedReply}
 use Rattle.nr_explain.proofs.FirstFaults.{clean_before_early}
@@ -47,4 +48,5 @@ returns-clause-is c =
           omega arith;
       answered = c.call_at-in-Some.ensures.is;
       names = sym c.call_at-in-Some.ensures.event;
+      own = subst (λ (n : ℕ). IsFirstReplyTo trace n c.reply_to.result) (sym event) c.reply_to.ensures;
     }

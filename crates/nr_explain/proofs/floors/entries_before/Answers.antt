@@ -1,5 +1,6 @@
 use Rattle.std.proofs.Common.{ℕ, length, ap, subst, sym, ◌∙◌, inl, inr}
 use Rattle.std.proofs.lemmas.Bool.{true≢false}
+use Rattle.nr_trace.proofs.LawsOfOrder.{stands_ordered}
 use Rattle.nr_explain.specs.inside.Searches.{IsOpenBelow}
 use Rattle.nr_explain.proofs.Replies.{some_reply, stands_by_reply}
 use Rattle.nr_explain.proofs.floors.entries_before.Goals as goal
@@ -17,4 +18,6 @@ unreachable-requires-in-None-first_reply c =
 pub returns-in-Some-first_reply : goal.returns-in-Some-first_reply
 returns-in-Some-first_reply c =
     let is = c.in-Some-first_reply.ensures in
-    stands_by_reply c.args.trace.now c.args.call c.in-Some-first_reply.reply c.requires.clean is.0 is.1
+    let stands = c.requires.stands in
+    stands_by_reply c.args.trace.now c.args.call c.in-Some-first_reply.reply c.requires.clean (stands_ordered c.args.trace.now c.args.call stands.0 stands.1)
+    is.0 is.1

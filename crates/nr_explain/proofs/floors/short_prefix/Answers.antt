@@ -2,6 +2,7 @@ use Rattle.std.proofs.Common.{◌≡◌, ℕ, ◌<◌, ◌≤◌, Some, slice_ge
 use Rattle.std.proofs.lemmas.Option.{slice_get_within}
 use Rattle.vs_walk.specs.Dump.{Image}
 use Rattle.nr_trace.specs.Orders.{known_by}
+use Rattle.nr_trace.specs.Recording.{IsThere}
 use Rattle.nr_trace.proofs.LawsOfCalls.{reply_in_event}
 use Rattle.nr_explain.proofs.BindingReplies.{no_more_known}
 use Rattle.nr_explain.proofs.Dumped.{dump_read, one_dump}
@@ -11,7 +12,7 @@ pub unreachable-requires : goal.unreachable-requires
 unreachable-requires c =
     let trace = c.args.trace.now in
     let holds = c.requires.holds in
-    let rests = holds.2 in
+    let rests = holds.3 in
     let dump = c.index-dumps-replica.result in
     let there = dump_read trace c.dumps.result.now c.args.replica dump holds.0 c.dumps.ensures.reads holds.1 c.index-dumps-replica.is in
     let same : holds.0.applied ≡ dump.applied = ap (λ (d : Image). d.applied) (one_dump trace c.args.replica dump holds.0 there holds.1) in
@@ -38,6 +39,7 @@ returns-clause-is c =
       applied = (
         dump,
         subst (λ (r : ℕ). slice_get trace.dumps r ≡ Some dump) (sym found.replica_is) there,
+        subst IsThere (one_dump trace c.args.replica dump holds.0 there holds.1) holds.2,
         sym c.applied-applied.ensures ∙ sym found.applied_is,
       );
       reply = found.reply;

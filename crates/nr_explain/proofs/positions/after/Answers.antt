@@ -30,7 +30,7 @@ returns-in-Counts c = λ front at not_yet.
     let whole = subst (λ (u : TraceUnit). IsRun u l (length run)) c.in-Counts.is c.requires.run in
     let counted = c.lengths_of-counted.result in
     subst (λ (u : TraceUnit). IsAt u counted (front ++ run)) (sym c.place_unit.ensures)
-    (at_log counted 0 (front ++ run) (counts_after counted front run here.0 here.1 whole not_yet c.lengths_of-counted.ensures))
+    (at_log counted 0 (front ++ run) (counts_after counted front run here.0 here.1 here.2 whole not_yet c.lengths_of-counted.ensures))
 
 pub returns-in-Place : goal.returns-in-Place
 returns-in-Place c = λ front at not_yet.

@@ -1,11 +1,10 @@
 use Rattle.std.proofs.Common.{ℕ, List, take, get_or, sym, ap, subst, ◌∙◌}
-use Rattle.std.specs.Prelude.{option_map}
 use Rattle.vs_types.specs.Query.{IsQuery}
 use Rattle.vs_types.specs.Space.{no_pages}
 use Rattle.vs_plain.specs.Plain.{BoundedSpace}
-use Rattle.nr_trace.specs.Calls.{Invocation, call_of}
 use Rattle.nr_trace.specs.Orders.{space_after}
 use Rattle.nr_audit.specs.Verdict.{space_of}
+use Rattle.nr_audit.specs.inside.Replies.{asked_by}
 use Rattle.nr_audit.specs.inside.Steps.{Serves}
 use Rattle.nr_audit.proofs.AnswerFaults.{space_visits, space_stays, left}
 use Rattle.nr_explain.proofs.replay.apply_place.Goals as goal
@@ -18,7 +17,7 @@ returns-in_ok-serve c =
     let trace = c.args.trace.now in
     let log = trace.log in
     let asks = c.request_of.ensures.asks
-    ∙ ap (λ (xs : List ℕ). option_map (λ (made : Invocation). made.request) (call_of trace (get_or xs c.args.place 0))) c.log-log.ensures.reads in
+    ∙ ap (λ (xs : List ℕ). asked_by trace (get_or xs c.args.place 0)) c.log-log.ensures.reads in
     let serves = subst (λ (s : BoundedSpace). Serves s c.in-Some.request c.in_ok-serve.field-0 c.serve.new.space) c.requires.before c.in_ok-serve.ensures in
     left trace.layout (space_after trace (take c.args.place log)) c.in-Some.request _ c.serve.new.space serves
     ∙ ap (λ s. space_of trace.layout s) (space_visits no_pages trace log c.args.place 0 c.in-Some.request c.requires.within (sym c.in-Some.is ∙ asks))
@@ -27,5 +26,5 @@ pub returns-in_default : goal.returns-in_default
 returns-in_default c =
     let trace = c.args.trace.now in
     let asks = c.request_of.ensures.asks
-    ∙ ap (λ (xs : List ℕ). option_map (λ (made : Invocation). made.request) (call_of trace (get_or xs c.args.place 0))) c.log-log.ensures.reads in
+    ∙ ap (λ (xs : List ℕ). asked_by trace (get_or xs c.args.place 0)) c.log-log.ensures.reads in
     c.requires.before ∙ ap (λ s. space_of trace.layout s) (space_stays no_pages trace trace.log c.args.place 0 c.requires.within (sym asks ∙ c.in_default.is))

@@ -24,6 +24,15 @@ returns-clause-calls g c scripts served =
     (subst (λ (a : List (List Said)). IsSpelledWith c.in_ok-bytes.bytes.items (λ trace. AreAllCallsOf trace scripts a)) (sym parts.answers)
     (spelled_with c.in_ok-bytes.bytes.items written.trace (λ trace. AreAllCallsOf trace scripts (answers_of workers)) written.spelled all))
 
+-- one list of answers is shown for each worker
+pub returns-clause-answers : goal.returns-clause-answers
+returns-clause-answers g c =
+    let workers = c.args.workers.items in
+    let parts = c.in_ok-pens.ensures in
+    let Q : List (List Said) → List ℕ → List Known → Type 0 = λ a t p. length a ≡ length workers in
+    shown_with c.judged.result _ _ _ Q c.judged.ensures.answers c.judged.ensures.bytes c.judged.ensures.passes
+    (ap (λ (a : List (List Said)). length a) parts.answers ∙ length-map workers (λ (w : WorkerState). w.said))
+
 -- the passes that are shown are those that were handed back
 pub returns-clause-passes : goal.returns-clause-passes
 returns-clause-passes g c =

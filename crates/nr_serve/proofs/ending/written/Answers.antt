@@ -4,6 +4,7 @@ use Rattle.std.proofs.lemmas.Result.{IfOk-weaker}
 use Rattle.vs_types.specs.declared.log_entry.LogEntry.{LogEntry}
 use Rattle.nr_ring.specs.LogHistory.{log_after}
 use Rattle.nr_ring.proofs.Histories.{history_fits}
+use Rattle.nr_trace.specs.declared.version.Form.TheVariants as forms
 use Rattle.nr_serve.specs.Run.{IsLogOf}
 use Rattle.nr_serve.proofs.ending.written.Goals as goal
 
@@ -36,4 +37,4 @@ returns-clause-written g c =
       recorded = record { stamps = made.stamps; rising = made.rising; noted = made.events; own = made.threads };
       log = log;
     })
-    c.write.ensures.spells
+    (c.write.ensures.spells forms.Trace made.of_trace tt)

@@ -9,4 +9,4 @@ pub returns-clause-legal : goal.returns-clause-legal
 returns-clause-legal c = λ start trace faultless. legal_if_faultless start trace faultless
 
 pub returns-clause-fits : goal.returns-clause-fits
-returns-clause-fits c = λ start trace replica dump faultless is. fits_if_faultless start trace replica dump faultless is
+returns-clause-fits c = λ start trace replica dump faultless is there. fits_if_faultless start trace replica dump faultless is there

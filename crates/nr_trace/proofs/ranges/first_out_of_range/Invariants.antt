@@ -3,4 +3,4 @@ use Rattle.nr_trace.specs.Recording.{IsEvent}
 use Rattle.nr_trace.proofs.ranges.first_out_of_range.Given as goal
 
 abbrev pub invariant-loop-index : goal.invariant-loop-index
-invariant-loop-index l = All (IsEvent l.version l.config) (take l.index l.events)
+invariant-loop-index l = All (IsEvent l.version l.layout) (take l.index l.events)

@@ -1,11 +1,12 @@
-use Rattle.std.proofs.Common.{◌≡◌, ◌∙◌, [], ◌∷◌, List, ℕ, map, string_bytes, ap, refl, subst, Some, codes, sym, Bor}
-use Rattle.clap.specs.Words.{App, app_of, rows_of, found_of, subcommand_of, subcommand_rows_of, is_simple, first_of, one_text, HasKind}
+use Rattle.std.proofs.Common.{◌≡◌, ◌∙◌, [], ◌∷◌, List, ℕ, map, string_bytes, ap, inl, inr, refl, subst, Some, codes, sym}
+use Rattle.std.proofs.lemmas.Result.{IfOk-weaker}
+use Rattle.clap.specs.Words.{App, app_of, rows_of, found_of, subcommand_of, subcommand_rows_of, is_simple, HasKind}
 use Rattle.clap.specs.declared.error.kind.ErrorKind.TheVariants.{MissingSubcommand}
 use Rattle.clap.specs.Faults.{fault_of, is_simple_and_free}
-use Rattle.std.specs.Str.Parse.{ParsesUnsigned, ExplainsUnsignedError, HasUnsignedDigitsIfOk}
-use Rattle.clap.proofs.WalkLemmas.{first_value-rows, one_text-rows}
-use Rattle.nrvs.specs.CommandLine.{command_line, IsReplica, IsTurns}
-use Rattle.nrvs.proofs.CommandLines.{one_more, same_error, entered, text_or_none, replica_read, asks_audit, asks_explain, asks_resolve, asks_run, asks_simulate, flag_of}
+use Rattle.clap.proofs.WalkLemmas.{one_text-rows}
+use Rattle.nr_commands.proofs.CommandLines.{one_more, same_error, entered, flag_of}
+use Rattle.nrvs.specs.CommandLine.{command_line, IsTurns}
+use Rattle.nrvs.proofs.CommandLines.{asks_inspection, asks_run, asks_simulate}
 use Rattle.nrvs.proofs.words.read_words.Goals as goal
 
 pub returns-in_err-matches-clause-fault : goal.returns-in_err-matches-clause-fault
@@ -28,10 +29,13 @@ pub returns-in-Some-audit-default-clause-asks : goal.returns-in-Some-audit-defau
 returns-in-Some-audit-default-clause-asks c =
     let app_is : app_of c.in_ok-line.line ≡ command_line = c.in_ok-line.ensures.app in
     let arm = c.in-Some-audit-default in
+    let found = found_of arm.given.now in
     let texts = map (λ word. string_bytes word) c.args.words.now in
     let parsed : subcommand_rows_of c.in_ok-matches.matches ≡ subcommand_of command_line texts =
     (c.in_ok-matches.ensures.ok.2 (ap is_simple app_is)).1 ∙ ap (λ (a : App). subcommand_of a texts) app_is in
-    asks_audit _ _ parsed (ap Some (sym arm.is-audit) ∙ arm.ensures.name)
+    let name_is = ap Some (sym arm.is-audit) ∙ arm.ensures.name in
+    let sub_is = sym parsed ∙ entered _ (codes "audit") (rows_of found) name_is arm.ensures.rows in
+    asks_inspection _ (codes "audit", rows_of found) c.in_ok-read_audit-in-Some-audit-default.field-0 sub_is (inl (refl, c.in_ok-read_audit-in-Some-audit-default.ensures))
 
 pub returns-in-Some-explain-default-clause-faultless : goal.returns-in-Some-explain-default-clause-faultless
 returns-in-Some-explain-default-clause-faultless c =
@@ -49,9 +53,7 @@ returns-in-Some-explain-default-clause-asks c =
     (c.in_ok-matches.ensures.ok.2 (ap is_simple app_is)).1 ∙ ap (λ (a : App). subcommand_of a texts) app_is in
     let name_is = ap Some (sym arm.is-explain) ∙ arm.ensures.name in
     let sub_is = sym parsed ∙ entered _ (codes "explain") (rows_of found) name_is arm.ensures.rows in
-    let flag = c.get_flag-as_json.ensures in
-    asks_explain _ (rows_of found) c.get_flag-as_json.result sub_is
-    (flag_of _ _ _ (one_text-rows found (codes "json")) flag.none flag.value flag.other)
+    asks_inspection _ (codes "explain", rows_of found) c.read_explain.result sub_is (inr (inl (refl, c.read_explain.ensures)))
 
 pub returns-in-Some-resolve-default-clause-faultless : goal.returns-in-Some-resolve-default-clause-faultless
 returns-in-Some-resolve-default-clause-faultless c =
@@ -69,14 +71,7 @@ returns-in-Some-resolve-default-clause-asks c =
     (c.in_ok-matches.ensures.ok.2 (ap is_simple app_is)).1 ∙ ap (λ (a : App). subcommand_of a texts) app_is in
     let name_is = ap Some (sym arm.is-resolve) ∙ arm.ensures.name in
     let sub_is = sym parsed ∙ entered _ (codes "resolve") (rows_of found) name_is arm.ensures.rows in
-    let address_is = text_or_none c.get_str.result _ (first_of (codes "address") (rows_of found)) (c.get_str.ensures
-    ∙ first_value-rows found (codes "address")) refl
-    ∙ ap (λ (s : Bor (List ℕ)). s.now) (sym c.unwrap_or-address.ensures) in
-    let replica_is = replica_read (λ text r. ParsesUnsigned 8 10 text r × ExplainsUnsignedError 10 text r × HasUnsignedDigitsIfOk text r) (λ text r h. h.0)
-    (one_text found (codes "replica")) c.get_one.result c.get_one.ensures.none c.get_one.ensures.value in
-    asks_resolve _ (rows_of found) c.unwrap_or-address.result c.unwrap_or-replica.result sub_is address_is
-    (subst (λ t. IsReplica t c.unwrap_or-replica.result) (one_text-rows found (codes "replica"))
-    (subst (IsReplica (one_text found (codes "replica"))) (sym c.unwrap_or-replica.ensures) replica_is))
+    asks_inspection _ (codes "resolve", rows_of found) c.read_resolve.result sub_is (inr (inr (refl, c.read_resolve.ensures)))
 
 pub returns-in-Some-simulate-default-clause-faultless : goal.returns-in-Some-simulate-default-clause-faultless
 returns-in-Some-simulate-default-clause-faultless c =

@@ -2,7 +2,7 @@ use Rattle.std.proofs.Common.{Contains, get_or, sym, subst, ◌∙◌, arith}
 use Rattle.std.proofs.lemmas.List.Elements.{Contains-get_or}
 use Rattle.vs_walk.specs.Traversal.{traversal, reached}
 use Rattle.vs_walk.proofs.Gathered.{reached_few}
-use Rattle.nr_core.proofs.Dumped.{has_frames, is_dump, same_reached}
+use Rattle.nr_core.proofs.Dumped.{IsGathered, has_frames, is_dump, same_reached}
 use Rattle.nr_core.proofs.table.Table.dump.Goals as goal
 
 pub gather-requires-clause-few : goal.gather-requires-clause-few
@@ -24,8 +24,7 @@ returns-in-Ok-clause-is c replica applied space =
     let pages = c.args.self.now.pages in
     let all = c.root-root.ensures in
     let made = c.in-Ok.ensures in
-    is_dump pages c.args.self.now.of.0 replica c.depth-depth.result c.root-root.result c.in-Ok.dump c.args.self.now.of.1 space (made.applied ∙ sym applied) all.faultless
-    (record {
+    let gathered : IsGathered pages c.depth-depth.result c.root-root.result c.in-Ok.dump = record {
       depth_is = c.depth-depth.ensures;
       root_is = all.reads;
       in_use = all.in_use;
@@ -33,7 +32,12 @@ returns-in-Ok-clause-is c replica applied space =
       dump_root = made.root;
       held = made.held;
       only = made.only;
-    })
+    } in
+    let frames = has_frames pages c.args.self.now.of.0 c.depth-depth.result c.root-root.result c.tables-tables.result c.in-Ok.dump gathered
+    c.tables-tables.ensures.reads (c.tables-tables.ensures.counts c.args.self.now.of.0 c.args.self.now.of.1)
+    (omega (arith, c.tables-tables.ensures.reads, c.tables-tables.ensures.at_most, c.requires)) in
+    is_dump pages c.args.self.now.of.0 replica c.depth-depth.result c.root-root.result c.in-Ok.dump c.args.self.now.of.1 space frames.0
+    (made.applied ∙ sym applied) all.faultless gathered
 
 pub returns-in-Ok-clause-frames : goal.returns-in-Ok-clause-frames
 returns-in-Ok-clause-frames c =

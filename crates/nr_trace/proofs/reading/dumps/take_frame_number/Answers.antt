@@ -1,11 +1,10 @@
-use Rattle.std.proofs.Common.{◌≡◌, ℕ, ◌++◌, [], length, true, sym, subst, ◌∙◌, arith}
+use Rattle.std.proofs.Common.{◌≡◌, ℕ, ◌++◌, [], true, sym, ap, subst, ◌∙◌, arith}
 use Rattle.std.specs.FinMap as finite
 use Rattle.nr_trace.specs.FirstFault.{AtFrames, IsNext}
 use Rattle.nr_trace.specs.Spelling.{frame_number}
-use Rattle.nr_trace.specs.inside.Progress.{Ahead, BehindDumps, HasRead, said}
+use Rattle.nr_trace.specs.inside.Progress.{Ahead, BehindFrames, HasRead, own_fault, said}
 use Rattle.nr_trace.specs.declared.reading.reader.OpenFrame.{OpenFrame}
 use Rattle.nr_trace.specs.declared.reading.reader.Reader.TheVariants.{Frame, Words}
-use Rattle.nr_trace.specs.declared.fault.Format.TheVariants.{BadFrame}
 use Rattle.nr_trace.proofs.LawsOfUnits.{number_64}
 use Rattle.nr_trace.proofs.Frames.{number_taken, number_refused}
 use Rattle.nr_trace.proofs.Taken.{only_front}
@@ -17,7 +16,7 @@ returns-then-is_next c =
     let opened = c.args.opened in
     let last = c.args.last in
     let unit = c.args.unit.now in
-    subst (λ (f : OpenFrame). HasRead (said (Frame parts opened last) ++ unit) (λ rest fault. Ahead (Frame parts opened last) (unit ++ rest) fault)
+    subst (λ (f : OpenFrame). HasRead parts.form (said (Frame parts opened last) ++ unit) (λ rest fault. Ahead (Frame parts opened last) (unit ++ rest) fault)
     (Words parts f)) (sym c.in_ok-frame.ensures)
     (number_taken parts opened last c.take_u64-number.result.0 unit c.requires.ready.0 c.requires.ready.1 (c.is_next.ensures.0 c.if-is_next.true)
     (only_front unit _ _ c.take_u64-number.ensures c.requires.whole))
@@ -25,15 +24,15 @@ returns-then-is_next c =
 pub returns : goal.returns
 returns c = λ rest.
     let parts = c.args.parts in
-    let index = finite.len c.args.opened.dump.frames in
+    let opened = c.args.opened in
+    let own = own_fault parts opened.owner in
+    let index = finite.len opened.dump.frames in
+    let Behind = BehindFrames parts opened.owner in
     let is = only_front c.args.unit.now _ _ c.take_u64-number.ensures c.requires.whole in
     let none : (number : ℕ) → IsNext c.args.last number → c.args.unit.now ≡ frame_number number → ⊥ = λ number next e.
     let same = number_64 c.take_u64-number.result.0 number [] [] (omega arith) (omega (arith, next.in_range)) (sym is ∙ e) in
     let yes : c.is_next.result ≡ true = c.is_next.ensures.1 (subst (IsNext c.args.last) (sym same.0) next) in
     absurd cc in
-    subst (λ i. AtFrames (length parts.dumps.items) index c.args.opened.left c.args.last (BehindDumps parts 1) (c.args.unit.now ++ rest)
-    (BadFrame i c.count-index.result)) (sym (c.len-replica.ensures ∙ parts.dumps.ok.0))
-    (subst (λ i. AtFrames (length parts.dumps.items) index c.args.opened.left c.args.last (BehindDumps parts 1) (c.args.unit.now ++ rest)
-    (BadFrame (length parts.dumps.items) i)) (sym c.count-index.ensures.reads)
-    (number_refused (length parts.dumps.items) index c.args.opened.left c.args.last
-    (BehindDumps parts 1) c.args.unit.now rest c.requires.ready.0.some_left c.requires.whole none))
+    subst (λ f. AtFrames own index opened.left c.args.last Behind (c.args.unit.now ++ rest) f)
+    (sym (c.bad_frame.ensures ∙ ap own c.count-index.ensures.reads))
+    (number_refused own index opened.left c.args.last Behind c.args.unit.now rest c.requires.ready.0.some_left c.requires.whole none)

@@ -25,5 +25,5 @@ returns-in_err-answer c =
       unused_fits = omega arith;
       value = omega arith;
     } in
-    subst (Finds (SpellsEvent c.args.version c.args.config (1 ∷ c.args.bytes.now))) (sym c.from_residual.ensures)
-    (no_reply c.args.version c.args.config c.args.bytes.now _ _ _ fields _ parts fits c.in_err-answer.ensures)
+    subst (Finds (SpellsEvent c.args.version c.args.layout (1 ∷ c.args.bytes.now))) (sym c.from_residual.ensures)
+    (no_reply c.args.version c.args.layout c.args.bytes.now _ _ _ fields _ parts fits c.in_err-answer.ensures)

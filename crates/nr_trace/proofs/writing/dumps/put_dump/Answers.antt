@@ -1,23 +1,11 @@
-use Rattle.std.proofs.Common.{sym, ◌∙◌, arith}
-use Rattle.nr_trace.proofs.Framed.{is_some, frame_put, dump_put, few_fit}
+use Rattle.std.proofs.Common.{arith}
+use Rattle.nr_trace.proofs.Framed.{dump_put, few_fit}
 use Rattle.nr_trace.proofs.writing.dumps.put_dump.Goals as goal
 
 pub overflow_cast-head : goal.overflow_cast-head
 overflow_cast-head c = omega (arith, few_fit c.args.held.now c.count-frames.result c.count-frames.ensures.is_dump c.count-frames.ensures.reads)
 
-pub unwrap-words-requires : goal.unwrap-words-requires
-unwrap-words-requires c =
-    is_some c.args.held.now c.loop-k.k c.number-number.result c.words.result c.count-frames.ensures.is_dump
-    (omega (arith, c.loop-k-test.true, c.count-frames.ensures.reads)) c.number-number.ensures c.words.ensures
-
-pub loop-k-preserved : goal.loop-k-preserved
-loop-k-preserved c =
-    frame_put c.args.held.now c.loop-k.k c.number-number.result c.unwrap-words.result _ c.loop-k.out.items _ c.count-frames.ensures.is_dump
-    (omega (arith, c.loop-k-test.true, c.count-frames.ensures.reads)) c.number-number.ensures
-    (sym c.words.ensures ∙ c.unwrap-words.ensures) c.loop-k.invariant c.in_ok-put_frame.ensures
-
 pub returns : goal.returns
 returns c =
-    dump_put c.args.held.now c.applied.result c.count-frames.result c.root.result c.loop-k.k c.args.out.now.items
-    c.put_dump_head.new.out.items c.loop-k.out.items
-    c.count-frames.ensures.reads c.applied.ensures c.root.ensures c.loop-k-test.false c.in_ok-put_dump_head.ensures c.loop-k.invariant
+    dump_put c.args.held.now c.applied.result c.count-frames.result c.root.result c.args.out.now.items c.put_dump_head.new.out.items
+    c.put_frames.new.out.items c.count-frames.ensures.reads c.applied.ensures c.root.ensures c.in_ok-put_dump_head.ensures c.in_ok-put_frames.ensures

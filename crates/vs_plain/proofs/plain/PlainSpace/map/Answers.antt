@@ -1,10 +1,16 @@
-use Rattle.std.proofs.Common.{◌≡◌, None, refl, sym, subst, arith}
+use Rattle.std.proofs.Common.{◌≡◌, ◌^◌, ◌<◌, None, refl, sym, subst, arith}
 use Rattle.vs_types.proofs.Overlaps.{overlapped_below}
 use Rattle.vs_types.specs.Page.{IsPage}
 use Rattle.vs_types.specs.Space.{least_overlapped}
 use Rattle.vs_plain.specs.Plain.{BoundedSpace}
+use Rattle.vs_plain.proofs.FewTables.{few_levels, few_tables}
 use Rattle.vs_plain.proofs.Tables.{is_with}
 use Rattle.vs_plain.proofs.plain.PlainSpace.map.Goals as goal
+
+pub overflow_add-need : goal.overflow_add-need
+overflow_add-need c =
+    let few : c.self.inside.tables < 2 ^ 46 = subst (λ n. n < 2 ^ 46) (sym c.self.invariant.counted) (few_tables c.self.invariant.is_space) in
+    omega (arith, few, c.new_tables.ensures.few, few_levels c.self.inside.depth)
 
 pub invariant_of-self-2 : goal.invariant_of-self-2
 invariant_of-self-2 c =
@@ -14,7 +20,6 @@ invariant_of-self-2 c =
     rw c.in_ok-insert.ensures.ok record {
       is_space = is_with c.self.invariant.is_space c.args.page good (sym free);
       counted = omega (arith, c.self.invariant.counted, c.new_tables.ensures.more);
-      few = omega (arith, c.from.ensures);
     }
 
 pub returns-in-Covered-clause-ok : goal.returns-in-Covered-clause-ok

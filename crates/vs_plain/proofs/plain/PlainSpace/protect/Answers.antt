@@ -20,21 +20,26 @@ invariant_of-self-in-Some c =
     rw left record {
       is_space = protect_space c.self.invariant.is_space p c.args.rights held;
       counted = c.self.invariant.counted ∙ sym (rights_tables c.self.invariant.is_space p c.args.rights held);
-      few = c.self.invariant.few;
     }
 
-pub returns-in-None : goal.returns-in-None
-returns-in-None c =
+pub returns-in-None-clause-step : goal.returns-in-None-clause-step
+returns-in-None-clause-step c =
     let old : BoundedSpace = record { depth = c.self.inside.depth; limit = c.self.inside.limit; space = c.self.inside.page_map } in
     rw (← c.self.view_is) (plain_step old (Protect c.args.base c.args.rights) c.no_page.result c.protect.new.self _
     (protect_of_none c.self.invariant.is_space c.self.inside.limit c.args.base c.args.rights (sym c.in-None.ensures.was))
     (c.no_page.ensures ∙ ap (λ s. no_page (page_at s c.args.base)) c.in-None.ensures.unchanged)
     c.in-None.ensures.unchanged)
 
-pub returns-in-Some : goal.returns-in-Some
-returns-in-Some c =
+pub returns-in-Some-clause-step : goal.returns-in-Some-clause-step
+returns-in-Some-clause-step c =
     let old : BoundedSpace = record { depth = c.self.inside.depth; limit = c.self.inside.limit; space = c.self.inside.page_map } in
     rw (← c.self.view_is) (plain_step old (Protect c.args.base c.args.rights) (Changed c.in-Some.page.rights) c.protect.new.self _
     (protect_of_page c.self.invariant.is_space c.self.inside.limit c.args.base c.args.rights c.in-Some.page c.in-Some.ensures.was)
     refl
     c.in-Some.ensures.changed)
+
+pub returns-in-None-clause-apart : goal.returns-in-None-clause-apart
+returns-in-None-clause-apart c = rw (← c.self.view_is) c.self.invariant.is_space
+
+pub returns-in-Some-clause-apart : goal.returns-in-Some-clause-apart
+returns-in-Some-clause-apart c = rw (← c.self.view_is) c.self.invariant.is_space

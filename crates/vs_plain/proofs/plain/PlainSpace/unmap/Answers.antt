@@ -30,21 +30,26 @@ invariant_of-self-2 c =
     record {
       is_space = left.0;
       counted = omega (arith, all);
-      few = omega (arith, c.self.invariant.few);
     }
 
-pub returns-in_default : goal.returns-in_default
-returns-in_default c =
+pub returns-in_default-clause-step : goal.returns-in_default-clause-step
+returns-in_default-clause-step c =
     let old : BoundedSpace = record { depth = c.self.inside.depth; limit = c.self.inside.limit; space = c.self.inside.page_map } in
     rw (← c.self.view_is) (plain_step old (Unmap c.args.base) c.no_page.result c.remove.new.self _
     (unmap_of_none c.self.invariant.is_space c.self.inside.limit c.args.base (sym c.in_default.ensures.was))
     (c.no_page.ensures ∙ ap (λ s. no_page (page_at s c.args.base)) c.in_default.ensures.unchanged)
     c.in_default.ensures.unchanged)
 
-pub returns : goal.returns
-returns c =
+pub returns-clause-step : goal.returns-clause-step
+returns-clause-step c =
     let old : BoundedSpace = record { depth = c.self.inside.depth; limit = c.self.inside.limit; space = c.self.inside.page_map } in
     rw (← c.self.view_is) (plain_step old (Unmap c.args.base) (Removed c.in-Some.page.phys c.in-Some.page.size c.in-Some.page.rights) c.remove.new.self _
     (unmap_of_page c.self.invariant.is_space c.self.inside.limit c.args.base c.in-Some.page c.in-Some.ensures.was)
     refl
     c.remove.ensures.removed)
+
+pub returns-in_default-clause-apart : goal.returns-in_default-clause-apart
+returns-in_default-clause-apart c = rw (← c.self.view_is) c.self.invariant.is_space
+
+pub returns-clause-apart : goal.returns-clause-apart
+returns-clause-apart c = rw (← c.self.view_is) c.self.invariant.is_space

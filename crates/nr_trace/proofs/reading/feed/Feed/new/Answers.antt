@@ -1,4 +1,5 @@
 use Rattle.std.proofs.Common.{List, ℕ, subst, sym}
+use Rattle.nr_trace.specs.declared.version.Form.TheVariants as forms
 use Rattle.nr_trace.specs.inside.Progress.{unit_bytes}
 use Rattle.nr_trace.specs.inside.Feeding.{AreFewer}
 use Rattle.nr_trace.proofs.Feeding.{sound_from, nothing_begun}
@@ -6,6 +7,7 @@ use Rattle.nr_trace.proofs.reading.feed.Feed.new.Goals as goal
 
 pub invariant_of-result : goal.invariant_of-result
 invariant_of-result c = (
-  sound_from c.new.result c.new.ensures,
+  c.new.ensures.form_is,
+  sound_from forms.Trace c.new.result c.new.ensures,
   subst (λ (l : List ℕ). AreFewer (unit_bytes c.new.result) l) (sym c.new-2.ensures.items) (nothing_begun c.new.result),
 )

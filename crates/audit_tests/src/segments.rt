@@ -1,0 +1,187 @@
+//! Segments of chains, read in pieces and written.
+ghost use Rattle.std.specs.Prelude.{◌<◌};
+
+use crate::bytes::changed;
+use crate::trace::is_spelled;
+use nr_trace::{Event, Format, SegmentFeed, Trace, TraceLayout, Version, read};
+use std::alloc::Global;
+use std::process::Abort;
+use std::test::Fail;
+use vs_types::{Access, Depth, Mode};
+
+/// One replica, one thread and four tables; and nothing else.
+static NOTHING: [u8; 40] = [
+    0x4e, 0x52, 0x56, 0x53, 0, 0x01, 0x04, 0x01, 0, 0x01, 0, 0x04, 0, 0, 0, 0, 0, 0, 0, 0, 0, 0, 0,
+    0, 0, 0, 0, 0, 0, 0, 0, 0, 0, 0, 0, 0, 0, 0, 0, 0,
+];
+
+/// A user's write of 0x400123 through a TLB by thread 9, and its reply: no page is there.
+static TOUCHES_NOTHING: [u8; 88] = [
+    0x4e, 0x52, 0x56, 0x53, 0, 0x01, 0x04, 0x01, 0xff, 0xff, 0xff, 0xff, 0, 0, 0, 0, 0, 0, 0, 0x02,
+    0, 0, 0, 0, 0, 0, 0, 0x09, 0x05, 0x01, 0x01, 0, 0, 0, 0, 0, 0, 0x40, 0x01, 0x23, 0, 0, 0, 0, 0,
+    0, 0, 0, 0x01, 0x09, 0, 0, 0, 0, 0, 0, 0, 0, 0, 0, 0, 0, 0, 0, 0, 0, 0, 0, 0, 0, 0, 0x06, 0, 0,
+    0, 0, 0, 0, 0, 0, 0, 0, 0, 0, 0, 0, 0, 0,
+];
+
+/// A read of it by a supervisor was allowed, and a page was mapped there later.
+static FORESEES_A_MAP: [u8; 140] = [
+    0x4e, 0x52, 0x56, 0x53, 0, 0x01, 0x04, 0x01, 0xff, 0xff, 0xff, 0xff, 0, 0, 0, 0x01, 0, 0, 0,
+    0x04, 0, 0, 0, 0, 0, 0, 0, 0x02, 0, 0, 0, 0x01, 0x05, 0, 0, 0, 0, 0, 0, 0, 0, 0x40, 0x01, 0x23,
+    0, 0, 0, 0, 0, 0, 0, 0, 0x01, 0x08, 0, 0, 0, 0, 0, 0, 0, 0, 0, 0, 0, 0, 0, 0, 0, 0, 0, 0, 0, 0,
+    0x11, 0x23, 0, 0, 0, 0, 0, 0, 0x07, 0, 0, 0, 0, 0, 0, 0x40, 0, 0, 0, 0, 0, 0, 0, 0, 0x10, 0,
+    0x01, 0, 0, 0, 0, 0, 0, 0x02, 0, 0, 0, 0, 0, 0, 0, 0, 0, 0, 0, 0, 0, 0, 0, 0, 0, 0, 0, 0, 0, 0,
+    0, 0, 0, 0, 0, 0, 0, 0, 0, 0,
+];
+
+type Bytes = &'static [u8];
+
+/// At indexes, other bytes.
+type Changes = &'static [(usize, u8)];
+
+/// The first segment of the bytes, in pieces of this length.
+fn segment_of(rt: &impl Abort, alloc: Global, bytes: &[u8], len: usize) -> Result<Trace, Fail>
+    requires { 0 < len }
+{
+    let mut feed = SegmentFeed::new(alloc, None);
+    for piece in bytes.chunks(len) {
+        assert!(rt; !feed.is_whole());
+        assert_eq!(rt; feed.feed(piece)?, piece.len());
+    }
+    assert!(rt; feed.is_whole());
+    Ok(feed.end()?)
+}
+
+#[test]
+fn segments_are_read_in_pieces_and_written(rt: HostRuntime) -> Result<(), Fail> {
+    let alloc = rt.alloc();
+    let segments: [Bytes; 3] = [&NOTHING, &TOUCHES_NOTHING, &FORESEES_A_MAP];
+    for bytes in segments {
+        for len in [1, 7, 4096] {
+            assert!(rt; len > 0);
+            let segment = segment_of(&rt, alloc, bytes, len)?;
+            assert_eq!(rt; segment.version(), Version::Segment);
+            assert!(rt; segment.start().is_none());
+            assert!(rt; is_spelled(alloc, &segment, bytes)?, "{len}");
+        }
+    }
+    Ok(())
+}
+
+#[test]
+fn a_touch_is_an_access(rt: HostRuntime) -> Result<(), Fail> {
+    let segment = segment_of(&rt, rt.alloc(), &TOUCHES_NOTHING, 4096)?;
+    assert_eq!(rt; segment.layout().threads(), 65_535);
+    assert_eq!(rt; segment.layout().tables(), 65_535);
+    let touch = Event::Touch {
+        replica: 0,
+        thread: 9,
+        address: 0x400123,
+        mode: Mode::User,
+        access: Access::Write,
+    };
+    assert_eq!(rt;
+        segment.events().first().map(|recorded| recorded.event()),
+        Some(touch)
+    );
+    Ok(())
+}
+
+/// What comes after a segment is not taken.
+#[test]
+fn a_feed_stops_behind_a_segment(rt: HostRuntime) -> Result<(), Fail> {
+    let alloc = rt.alloc();
+    let mut bytes = Vec::new(alloc);
+    bytes.extend_from_slice(&NOTHING)?;
+    bytes.extend_from_slice(&NOTHING)?;
+    let mut feed = SegmentFeed::new(alloc, None);
+    assert_eq!(rt; feed.feed(&bytes), Ok(40));
+    assert!(rt; feed.is_whole());
+    assert_eq!(rt; feed.feed(&bytes), Ok(0));
+    let segment = feed.end()?;
+    assert!(rt; is_spelled(alloc, &segment, &NOTHING)?);
+    let mut next = SegmentFeed::new(alloc, Some(segment.layout()));
+    assert_eq!(rt; next.feed(&bytes), Ok(40));
+    assert!(rt; next.is_whole());
+    Ok(())
+}
+
+/// Bytes with these changes have this fault as a segment.
+const FAULTS: [(Bytes, Changes, Format); 10] = [
+    (&NOTHING, &[(3, 0x54)], Format::BadMagic),
+    (&NOTHING, &[(5, 2)], Format::BadVersion),
+    // No thread.
+    (&NOTHING, &[(9, 0)], Format::BadCount),
+    // A start of 65,536 frames.
+    (&NOTHING, &[(21, 1)], Format::BadCount),
+    // No dump, but one that has applied an entry, or has a root.
+    (&NOTHING, &[(27, 1)], Format::BadCount),
+    (&NOTHING, &[(39, 1)], Format::BadCount),
+    // Kind 6, and a touch with a physical address, or by thread 65,535.
+    (&TOUCHES_NOTHING, &[(28, 6)], Format::BadEvent(0)),
+    (&TOUCHES_NOTHING, &[(47, 1)], Format::BadEvent(0)),
+    (
+        &FORESEES_A_MAP,
+        &[(30, 0xff), (31, 0xff)],
+        Format::BadEvent(0),
+    ),
+    // The last dump lacks a byte.
+    (&NOTHING, &[], Format::Truncated),
+];
+
+/// The fault of the bytes as a segment after one that is laid out so, or as the first one.
+fn fault_of(
+    alloc: Global,
+    before: Option<TraceLayout>,
+    bytes: &[u8],
+) -> Option<vs_types::Fail<Format>> {
+    let mut feed = SegmentFeed::new(alloc, before);
+    if let Err(fault) = feed.feed(bytes) {
+        return Some(fault);
+    }
+    feed.end().err()
+}
+
+#[test]
+fn faults_of_segments(rt: HostRuntime) -> Result<(), Fail> {
+    let alloc = rt.alloc();
+    for (bytes, changes, fault) in FAULTS {
+        let mut other = changed(alloc, bytes, changes)?;
+        if changes.is_empty() {
+            other.pop();
+        }
+        assert_eq!(rt;
+            fault_of(alloc, None, &other),
+            Some(vs_types::Fail::Refused(fault))
+        );
+    }
+    Ok(())
+}
+
+#[test]
+fn a_further_segment_is_laid_out_alike(rt: HostRuntime) -> Result<(), Fail> {
+    let alloc = rt.alloc();
+    let chain = Some(vs_types::Fail::Refused(Format::BadChain));
+    for (depth, replicas, threads, tables, fault) in [
+        (Depth::Four, 1, 1, 4, None),
+        (Depth::Five, 1, 1, 4, chain),
+        (Depth::Four, 2, 1, 4, chain),
+        (Depth::Four, 1, 2, 4, chain),
+        (Depth::Four, 1, 1, 5, chain),
+    ] {
+        let before = TraceLayout::new(Version::Segment, depth, replicas, threads, tables);
+        assert!(rt; before.is_some());
+        assert_eq!(rt; fault_of(alloc, before, &NOTHING), fault);
+    }
+    Ok(())
+}
+
+#[test]
+fn a_segment_is_no_trace(rt: HostRuntime) -> Result<(), Fail> {
+    let alloc = rt.alloc();
+    let magic = Some(vs_types::Fail::Refused(Format::BadMagic));
+    assert_eq!(rt; read(alloc, &NOTHING).err(), magic);
+    let third = changed(alloc, &NOTHING, &[(3, 0x54), (5, 3)])?;
+    let version = Some(vs_types::Fail::Refused(Format::BadVersion));
+    assert_eq!(rt; read(alloc, &third).err(), version);
+    Ok(())
+}

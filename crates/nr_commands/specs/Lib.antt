@@ -1,0 +1,6 @@
+pub mod Words
+pub mod Tasks
+pub use Rattle.nr_engines.specs.Answers
+pub use Rattle.nr_engines.specs.Explained
+pub use Rattle.nr_engines.specs.Refusals
+pub use Rattle.clap.specs.Words as ClapWords

@@ -1,0 +1,45 @@
+use nr_engines::{ProgFault, audit_io, explain_io, resolve_io};
+use std::alloc::Global;
+use std::io::{Read, Write};
+
+/// What can be asked of one trace.
+#[derive(Debug, Drop)]
+pub enum Task<'a> {
+    /// Judge it.
+    Audit,
+    /// Judge it, and show the evidence of its fault; and as JSON.
+    Explain(bool),
+    /// Walk at this address, as the command line spells it, in the dump of this replica.
+    Resolve(&'a str, u8),
+}
+
+impl Task<'_> {
+    ghost use Rattle.std.specs.Prelude.{IfOk, IfErr};
+    ghost use Rattle.nr_engines.specs.Answers.{HasReadFew, WritesReport};
+    ghost use Rattle.nr_engines.specs.Refusals.{WritesAnswersAlone};
+    ghost use Rattle.nr_commands.specs.Tasks.{IsTaskFault, IsTaskReport};
+
+    /// Does the task on the input, and gives the exit status.
+    ///
+    /// # Errors
+    ///
+    /// Those of `audit_io`, of `explain_io`, or of `resolve_io`.
+    pub fn run<R: Read, W: Write>(
+        self,
+        alloc: Global,
+        reader: &mut R,
+        writer: &mut W,
+    ) -> Result<u8, ProgFault>
+        ensures ok { IfOk result (WritesReport (IsTaskReport self.entry) (R.remaining reader.old)
+            (W.contents writer.old) (W.contents writer.new)) }
+        ensures err { IfErr result (IsTaskFault self.entry (R.remaining reader.old)) }
+        ensures alone { WritesAnswersAlone writer.old writer.new result }
+        ensures few { HasReadFew (R.remaining reader.old) (R.remaining reader.new) }
+    {
+        match self {
+            Task::Audit => audit_io(alloc, reader, writer),
+            Task::Explain(as_json) => explain_io(alloc, reader, writer, as_json),
+            Task::Resolve(address, replica) => resolve_io(alloc, reader, writer, address, replica),
+        }
+    }
+}

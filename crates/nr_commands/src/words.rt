@@ -1,0 +1,82 @@
+//! The words of the commands.
+ghost use Rattle.std.specs.Prelude.{◌≡◌, false, IfOk};
+ghost use Rattle.clap.specs.Words.{app_of, rule_of};
+ghost use Rattle.nr_commands.specs.Words.{audit_app, explain_app, file_argument, resolve_app, IsLocal};
+
+use clap::{Arg, ArgAction, Command, value_parser};
+use std::alloc::{AllocError, Global};
+
+/// The version that `--version` prints.
+pub const VERSION: &str = "0.1.0";
+
+/// The file that is read in place of standard input.
+fn file<'a>(alloc: Global) -> Arg<'a>
+    ensures rule { rule_of result ≡ file_argument }
+    ensures local { result.global ≡ false }
+{
+    Arg::new(alloc, "file")
+        .value_name("FILE")
+        .help("The trace; standard input where it is - or not given")
+}
+
+/// The words of `audit`.
+///
+/// # Errors
+///
+/// Out of memory.
+pub fn audit<'a>(alloc: Global) -> Result<Command<'a>, AllocError>
+    ensures app { IfOk result (λ command. app_of command ≡ audit_app) }
+    ensures local { IfOk result IsLocal }
+{
+    let files = Arg::new(alloc, "file")
+        .value_name("FILE")
+        .action(ArgAction::Append)
+        .help("The traces, of several a line each; standard input where it is - or none is given");
+    Command::new(alloc, "audit")
+        .about("Prints whether a trace is right")
+        .arg(files)
+}
+
+/// The words of `explain`.
+///
+/// # Errors
+///
+/// Out of memory.
+pub fn explain<'a>(alloc: Global) -> Result<Command<'a>, AllocError>
+    ensures app { IfOk result (λ command. app_of command ≡ explain_app) }
+    ensures local { IfOk result IsLocal }
+{
+    let json = Arg::new(alloc, "json")
+        .long("json")
+        .action(ArgAction::SetTrue)
+        .help("Prints one JSON object");
+    Command::new(alloc, "explain")
+        .about("Prints whether a trace is right, and what shows a fault")
+        .arg(json)?
+        .arg(file(alloc))
+}
+
+/// The words of `resolve`.
+///
+/// # Errors
+///
+/// Out of memory.
+pub fn resolve<'a>(alloc: Global) -> Result<Command<'a>, AllocError>
+    ensures app { IfOk result (λ command. app_of command ≡ resolve_app) }
+    ensures local { IfOk result IsLocal }
+{
+    let address = Arg::new(alloc, "address")
+        .long("address")
+        .required(true)
+        .help("A canonical address: 0x and 1 to 16 hexadecimal digits");
+    let replica = Arg::new(alloc, "replica")
+        .long("replica")
+        .value_parser(value_parser!(u8))
+        .default_value("0")
+        .help("The number of the replica whose dump is looked into");
+    Command::new(alloc, "resolve")
+        .about("Prints where an address leads in a dump of a trace")
+        .arg(address)?
+        .arg(replica)?
+        .arg(file(alloc))
+}

@@ -1,0 +1,73 @@
+-- Reserved bits that are set.
+use Rattle.std.proofs.Common.{◌≡◌, ℕ, true, zero, suc, ◌+◌, ◌-◌, ◌*◌, ◌/◌, ◌%◌, ◌^◌, ◌<◌, ◌≤◌, refl, sym, ap, subst, ◌∙◌, ⊎_elim, arith}
+use Rattle.std.specs.Prelude.{MatchBool}
+use Rattle.std.specs.Int.{bit_at, w64, trailing_zeros}
+use Rattle.std.proofs.lemmas.Nat.Bits.{bit_at-trailing_zeros, bit_at_above, bit_at_cat_high, bit_at_cat_low}
+use Rattle.std.proofs.lemmas.Bool.{cases_lt}
+use Rattle.vs_types.specs.Depth.{entry_bytes}
+use Rattle.vs_types.specs.Entry.{is_leaf, meaning}
+use Rattle.vs_types.specs.declared.entry.Meaning.TheVariants as entry
+use Rattle.nr_explain.specs.Facts.{IsReservedBit}
+
+-- the lowest of some bits of a word, from 13 to below k, where one is set
+pub record IsLowest (word k : ℕ) (bit : ℕ) : Type 0 where
+  pub set : bit_at word bit ≡ 1
+  pub above : 13 ≤ bit
+  pub below : bit < k
+
+pub lowest : (word k j part : ℕ) → part ≡ word % 2 ^ k / 2 ^ 13 → k ≡ 13 + j → 0 < part → part < 2 ^ j → part < 2 ^ 64 → 0 < 2 ^ k
+    → IsLowest word k (13 + trailing_zeros w64 part)
+lowest word k j part is same some few fits more =
+    let found = bit_at-trailing_zeros w64 part some fits in
+    let place : ℕ = trailing_zeros w64 part in
+    let low : place < j = ⊎_elim (λ h. h) (λ h. absurd (omega (arith, found.1, bit_at_above part j place few h))) (cases_lt place j) in
+    let cut : word ≡ word / 2 ^ k * 2 ^ k + word % 2 ^ k = omega arith in
+    let high : word % 2 ^ k ≡ part * 2 ^ 13 + word % 2 ^ k % 2 ^ 13 = omega arith in
+    record {
+      set = ap (λ w. bit_at w (13 + place)) cut ∙ bit_at_cat_low (word / 2 ^ k) k (word % 2 ^ k) (13 + place) (omega arith)
+          ∙ ap (λ w. bit_at w (13 + place)) high ∙ bit_at_cat_high part 13 (word % 2 ^ k % 2 ^ 13) (13 + place) (omega arith) (omega arith)
+          ∙ ap (bit_at part) (back place) ∙ found.1;
+      above = omega arith;
+      below = omega arith;
+    } where
+      back : (place : ℕ) → 13 + place - 13 ≡ place
+      back place = omega arith
+
+-- at the levels where a page can be large the word maps one
+leaf_of_two : (word : ℕ) → meaning 2 word ≡ entry.Reserved → (is_leaf 2 word ≡ true) × (0 < word % 2 ^ 21 / 2 ^ 13)
+leaf_of_two word is = grind arith
+
+leaf_of_three : (word : ℕ) → meaning 3 word ≡ entry.Reserved → (is_leaf 3 word ≡ true) × (0 < word % 2 ^ 30 / 2 ^ 13)
+leaf_of_three word is = grind arith
+
+none_of_one : (word : ℕ) → meaning 1 word ≡ entry.Reserved → ⊥
+none_of_one word is = grind arith
+
+none_of_zero : (word : ℕ) → meaning 0 word ≡ entry.Reserved → ⊥
+none_of_zero word is = grind arith
+
+from_lowest : (level word bit : ℕ) → is_leaf level word ≡ true → IsLowest word (3 + 9 * level) bit → IsReservedBit level word bit
+from_lowest level word bit leaf low = record {
+  set = low.set;
+  reserved = subst (λ b. MatchBool b ((13 ≤ bit) × (bit < 3 + 9 * level)) (bit ≡ 7)) (sym leaf) (low.above, low.below);
+}
+
+pub low_reserved : (level word part : ℕ) → level ≤ 3 → meaning level word ≡ entry.Reserved → part ≡ word % entry_bytes level / 2 ^ 13
+    → IsReservedBit level word (13 + trailing_zeros w64 part)
+low_reserved zero word part few is same = absurd (none_of_zero word is)
+low_reserved (suc zero) word part few is same = absurd (none_of_one word is)
+low_reserved (suc (suc zero)) word part few is same =
+    let leaf = leaf_of_two word is in
+    from_lowest 2 word (13 + trailing_zeros w64 part) leaf.0 (lowest word 21 8 part same refl (omega (arith, leaf.1)) (omega arith) (omega arith) (omega arith))
+low_reserved (suc (suc (suc zero))) word part few is same =
+    let leaf = leaf_of_three word is in
+    from_lowest 3 word (13 + trailing_zeros w64 part) leaf.0 (lowest word 30 17 part same refl (omega (arith, leaf.1)) (omega arith) (omega arith) (omega arith))
+low_reserved (suc (suc (suc (suc level)))) word part few is same = absurd (omega arith)
+
+-- the bytes of an entry, as they are shifted
+pub shift_is : (level : ℕ) → level ≤ 3 → 1 * 2 ^ (3 + 9 * level) % 18446744073709551616 ≡ entry_bytes level
+shift_is zero few = refl
+shift_is (suc zero) few = refl
+shift_is (suc (suc zero)) few = refl
+shift_is (suc (suc (suc zero))) few = refl
+shift_is (suc (suc (suc (suc level)))) few = absurd (omega arith)

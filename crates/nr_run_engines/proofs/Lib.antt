@@ -1,0 +1,4 @@
+pub mod WholeInput
+pub mod Simulations
+pub mod ServedRuns
+pub mod RunTexts

@@ -1,0 +1,155 @@
+-- What a step of a space changes: one page, or no address looks otherwise.
+use Rattle.std.proofs.Common.{◌≡◌, ◌≢◌, ℕ, ◌+◌, ◌-◌, cond, true, false, ◌⊎◌, inl, inr, Option, Some, None, IsTrue, refl, sym, ap, ◌∙◌, subst, arith}
+use Rattle.std.proofs.lemmas.Option.{same_Some}
+use Rattle.std.specs.FinMap as finite
+use Rattle.vs_types.specs.declared.depth.Depth.{Depth}
+use Rattle.vs_types.specs.declared.page.Page.{Page}
+use Rattle.vs_types.specs.declared.page.Rights.{Rights}
+use Rattle.vs_types.specs.declared.op.Action.TheVariants.{Map, Unmap, Protect}
+use Rattle.vs_types.specs.declared.answer.Answer.{Answer}
+use Rattle.vs_types.specs.declared.answer.Answer.TheVariants.{Done, Removed, Changed, Mapped}
+use Rattle.vs_types.specs.Page.{covers, IsPage}
+use Rattle.vs_types.specs.Space.{Space, Holds, IsSpace, page_at, least_overlapped}
+use Rattle.vs_types.specs.Step.{step, look, look_in_page}
+use Rattle.vs_types.proofs.Pages.{covers_base}
+use Rattle.vs_types.proofs.Spaces.{page_at_means, page_at_after_insert, page_at_after_remove}
+use Rattle.vs_types.proofs.Steps.{map_cases, unmap_cases, protect_cases, alone, protect_space, step_space}
+use Rattle.nr_touch.specs.inside.Changes.{IsPageChange, IsChange}
+use Rattle.nr_touch.specs.declared.change.Change.{Change}
+use Rattle.nr_touch.proofs.QuietPages.{page_or_not}
+
+abbrev fresh : Page → Change
+fresh page = record { page = page; was_mapped = false }
+
+abbrev there : Page → Change
+there page = record { page = page; was_mapped = true }
+
+module _ {depth : Depth} (limit : ℕ) {space : Space} (is : IsSpace depth space) where
+  unchanged : (after : Space) (result : Option Change) → after ≡ space → result ≡ None → IsChange depth space after result
+  unchanged after result same none = subst (IsChange depth space after) (sym none) (λ a. ap (λ s. page_at s a) (sym same))
+
+  -- ---- a map
+
+  nothing : (page : Page) → least_overlapped space page ≡ None → (a : ℕ) → IsTrue (covers page a) → page_at space a ≡ None
+  nothing page e a covered = elim (page_at space a) as (λ o. page_at space a ≡ o → o ≡ None) [
+    | None ↦ λ at. refl
+    | Some q ↦ λ at. let found = (page_at_means is a q).0 at in absurd (alone is page e q a found.0 found.1 covered)
+  ] refl
+
+  added : (page : Page) → IsPage depth page → least_overlapped space page ≡ None → IsSpace depth (finite.insert space page.base page)
+      → IsPageChange depth space (finite.insert space page.base page) (fresh page)
+  added page good e new = record {
+    well_formed = good;
+    was = λ a covered. nothing page e a covered;
+    differs = λ a covered same.
+        let gone = nothing page e a covered in
+        let here : page_at (finite.insert space page.base page) a ≡ Some page =
+        at a ∙ ap (λ b. cond b (Some page) (page_at space a)) covered in
+        cc;
+    others = λ a uncovered. sym (at a ∙ ap (λ b. cond b (Some page) (page_at space a)) uncovered);
+  } where
+    meets : (q : Page) → Holds space q → q.base ≡ page.base → ⊥
+    meets q holds same = alone is page e q page.base holds (subst (λ z. IsTrue (covers q z)) same (covers_base q)) (covers_base page)
+
+    at : (a : ℕ) → page_at (finite.insert space page.base page) a ≡ cond (covers page a) (Some page) (page_at space a)
+    at a = page_at_after_insert is page new (λ q holds same. absurd (meets q holds same)) a
+
+  pub map_change : (page : Page) → IsPage depth page → (answer : Answer) (after : Space) (result : Option Change)
+      → (answer ≡ Done → result ≡ Some (fresh page)) → (answer ≢ Done → result ≡ None)
+      → answer ≡ (step depth limit space (Map page)).answer → after ≡ (step depth limit space (Map page)).space
+      → IsChange depth space after result
+  map_change page good answer after result found none =
+      map_cases (λ s. IsSpace depth s.space → answer ≡ s.answer → after ≡ s.space → IsChange depth space after result) depth limit space page
+      (λ e t new told same. subst (IsChange depth space after) (sym (found told))
+      (subst (λ s. IsPageChange depth space s (fresh page)) (sym same) (added page good e new)))
+      (λ base e new told same. unchanged after result same (none (λ done. cc)))
+      (λ e t new told same. unchanged after result same (none (λ done. cc)))
+      (step_space limit is (Map page) good)
+
+  -- ---- an unmap
+
+  gone : (page : Page) → Holds space page → IsPageChange depth space (finite.remove space page.base) (there page)
+  gone page holds = record {
+    well_formed = is.well_formed page holds;
+    was = λ a covered. (page_at_means is a page).1 (holds, covered);
+    differs = λ a covered same.
+        let was = (page_at_means is a page).1 (holds, covered) in
+        let here : page_at (finite.remove space page.base) a ≡ None =
+        page_at_after_remove is page holds a ∙ ap (λ b. cond b None (page_at space a)) covered in
+        cc;
+    others = λ a uncovered. sym (page_at_after_remove is page holds a ∙ ap (λ b. cond b None (page_at space a)) uncovered);
+  }
+
+  pub unmap_change : (base : ℕ) (answer : Answer) (after : Space) (result : Option Change)
+      → ((page : Page) → page.base ≡ base → answer ≡ Removed page.phys page.size page.rights → result ≡ Some (there page))
+      → (((page : Page) → answer ≢ Removed page.phys page.size page.rights) → result ≡ None)
+      → answer ≡ (step depth limit space (Unmap base)).answer → after ≡ (step depth limit space (Unmap base)).space
+      → IsChange depth space after result
+  unmap_change base answer after result found none =
+      unmap_cases (λ s. answer ≡ s.answer → after ≡ s.space → IsChange depth space after result) depth limit space base
+      (λ e told same. unchanged after result same (none (λ page removed. cc)))
+      (λ page e begins told same. subst (IsChange depth space after) (sym (found page begins told))
+      (subst (λ s. IsPageChange depth space s (there page)) (sym (same ∙ ap (finite.remove space) (sym begins)))
+      (gone page ((page_at_means is base page).0 e).0)))
+      (λ page e differs told same. unchanged after result same (none (λ page removed. cc)))
+
+  -- ---- a protect
+
+  module _ (page : Page) (holds : Holds space page) (rights : Rights) where
+    abbrev other : Page
+    other = record page { rights = rights }
+
+    one : (q : Page) → Holds space q → q.base ≡ page.base → q ≡ page
+    one q h same = let at : finite.get space page.base ≡ Some q = subst (λ z. finite.get space z ≡ Some q) same h in cc
+
+    at : (a : ℕ) → page_at (finite.insert space page.base other) a ≡ cond (covers page a) (Some other) (page_at space a)
+    at a = page_at_after_insert is other (protect_space is page rights holds) (λ q h same. ap (λ (z : Page). z.size) (one q h same)) a
+
+    protected : page ≢ other → IsPageChange depth space (finite.insert space page.base other) (there page)
+    protected apart = record {
+      well_formed = is.well_formed page holds;
+      was = λ a covered. (page_at_means is a page).1 (holds, covered);
+      differs = λ a covered same.
+          apart (same_Some page other (sym ((page_at_means is a page).1 (holds, covered)) ∙ same
+          ∙ at a ∙ ap (λ b. cond b (Some other) (page_at space a)) covered));
+      others = λ a uncovered. sym (at a ∙ ap (λ b. cond b (Some other) (page_at space a)) uncovered);
+    }
+
+    kept : page ≡ other → (a : ℕ) → page_at space a ≡ page_at (finite.insert space page.base other) a
+    kept same a = elim (covers page a) as (λ b. covers page a ≡ b → page_at space a ≡ page_at (finite.insert space page.base other) a) [
+      | true ↦ λ t. (page_at_means is a page).1 (holds, t) ∙ ap Some same ∙ sym (at a ∙ ap (λ b. cond b (Some other) (page_at space a)) t)
+      | false ↦ λ t. sym (at a ∙ ap (λ b. cond b (Some other) (page_at space a)) t)
+    ] refl
+
+    looks : (base : ℕ) → page.base ≡ base → look (finite.insert space page.base other) base ≡ Mapped page.phys page.size rights
+    looks base begins =
+        let offset : page.phys + (base - page.base) ≡ page.phys = omega arith in
+        let covered : covers page base ≡ true = subst (λ a. covers page a ≡ true) begins (covers_base page) in
+        ap (look_in_page base) (at base ∙ ap (λ b. cond b (Some other) (page_at space base)) covered)
+        ∙ ap (λ n. Mapped n page.size rights) offset
+
+  pub protect_change : (base : ℕ) (rights : Rights) (answer : Answer) (after : Space) (result : Option Change)
+      → ((page : Page) → page.base ≡ base → page.rights ≢ rights → answer ≡ Changed page.rights
+      → look after base ≡ Mapped page.phys page.size rights → result ≡ Some (there page))
+      → (answer ≡ Changed rights → result ≡ None)
+      → (((old : Rights) → answer ≢ Changed old) → result ≡ None)
+      → answer ≡ (step depth limit space (Protect base rights)).answer → after ≡ (step depth limit space (Protect base rights)).space
+      → IsChange depth space after result
+  protect_change base rights answer after result found same none =
+      protect_cases (λ s. answer ≡ s.answer → after ≡ s.space → IsChange depth space after result) depth limit space base rights
+      (λ e told left. unchanged after result left (none (λ old changed. cc)))
+      (λ page e begins told left. by_rights page ((page_at_means is base page).0 e).0 begins told left (page_or_not page (record page { rights = rights })))
+      (λ page e differs told left. unchanged after result left (none (λ old changed. cc)))
+    where
+      by_rights : (page : Page) → Holds space page → page.base ≡ base → answer ≡ Changed page.rights
+          → after ≡ finite.insert space page.base (record page { rights = rights })
+          → (page ≡ record page { rights = rights }) ⊎ (page ≢ record page { rights = rights }) → IsChange depth space after result
+      by_rights page holds begins told left (inl as_before) =
+          subst (IsChange depth space after) (sym (same (told ∙ ap (λ (p : Page). Changed p.rights) as_before)))
+          (λ a. kept page holds rights as_before a ∙ ap (λ s. page_at s a) (sym left))
+      by_rights page holds begins told left (inr apart) =
+          let differs : page.rights ≢ rights = λ e. apart (λ i. record page { rights = e i }) in
+          let seen : look after base ≡ Mapped page.phys page.size rights =
+          ap (λ s. look s base) left ∙ looks page holds rights base begins in
+          subst (IsChange depth space after) (sym (found page begins differs told seen))
+          (subst (λ s. IsPageChange depth space s (there page)) (sym left) (protected page holds rights apart))

@@ -1,0 +1,164 @@
+-- The walk of a touch through the states of its address that are allowed.
+use Rattle.std.proofs.Common.{◌≡◌, ℕ, zero, suc, ◌+◌, ◌-◌, ◌<◌, ◌≤◌, ◌^◌, ◌↔◌, inl, inr, Bool, true, false, List, get_or, length, take, slice_get, Option, Some, None, IsTrue}
+use Rattle.std.proofs.Common.{sym, ap, ◌∙◌, subst, arith}
+use Rattle.std.proofs.Math.Seq.{take-length}
+use Rattle.std.specs.List.Sorted.{IsPermutation}
+use Rattle.std.proofs.lemmas.List.Sorted.{IsPermutation-sym, Contains-permutation}
+use Rattle.std.proofs.lemmas.Option.{same_Some, slice_get_within, slice_get-get_or}
+use Rattle.std.proofs.lemmas.Bool.{cases_lt, false≢true}
+use Rattle.nr_touch.specs.Stale.{AreRightBelow, FindsStale}
+use Rattle.vs_types.specs.Space.{Space, page_at}
+use Rattle.vs_types.specs.Step.{allow}
+use Rattle.vs_types.specs.declared.limits.TheConstants.{LOG_PLACES}
+use Rattle.nr_trace.specs.Recording.{Recording}
+use Rattle.nr_trace.specs.Calls.{Answers}
+use Rattle.nr_trace.specs.Orders.{space_from}
+use Rattle.nr_touch.specs.Touches.{page_after, ChangesLook, IsAllowedPrefix, IsAnsweredAt, IsRightTouch}
+use Rattle.nr_touch.specs.inside.Changes.{AreChanges, IsPlaced}
+use Rattle.nr_touch.specs.inside.Columns.{Covers, IsPast, IsAhead, IsNext, IsNumbered}
+use Rattle.nr_touch.specs.inside.Walk.{shown}
+use Rattle.nr_touch.specs.declared.change.PlacedChange.{PlacedChange}
+use Rattle.nr_touch.specs.declared.touch.Touch.{Touch}
+use Rattle.nr_touch.proofs.QuietPages.{same_look}
+
+-- so many places are not past the next change
+abbrev pub UpToNext : ℕ → Option PlacedChange → Type 0
+UpToNext n None = Unit {0}
+UpToNext n (Some next) = n ≤ next.place
+
+module _ (start : Space) (trace : Recording) (changes : List PlacedChange) (are : AreChanges start trace changes) where
+  -- ---- which prefixes are allowed
+
+  module _ (touch : Touch) (first last n : ℕ) (fits : touch.made < 2 ^ 32)
+      (past : IsPast changes (λ c. Covers touch.address c × (c.answered < touch.made)) first)
+      (ahead : IsAhead changes (λ c. Covers touch.address c × (touch.answered < c.made)) (length trace.log) last) where
+    pub last_within : last ≤ length trace.log
+    last_within = elim ahead.some [
+      | inl all ↦ omega (arith, all)
+      | inr (c, has, is, at) ↦ let below = (are.each c has).1 in omega (arith, at, below)
+    ]
+
+    pub allowed : first ≤ n → n ≤ last → IsAllowedPrefix start trace touch n
+    allowed low high = record {
+      within = let most = last_within in omega (arith, most, high);
+      flushed = λ place looks (call, placed, (reply, before, answers)).
+          let (c, has, at, covered) = are.all place touch.address (slice_get_within trace.log place call placed) looks in
+          let known = (are.each c has).0 in
+          let one : c.made ≡ call = same_Some c.made call (sym known.made ∙ ap (slice_get trace.log) at ∙ placed) in
+          let early : c.answered < touch.made =
+          (known.answered touch.made fits).1 (reply, before, subst (λ k. Answers trace reply k) (sym one) answers) in
+          let less = past.all c has (covered, early) in
+          omega (arith, less, at, low);
+      not_foreseen = λ place looks (call, placed, late).
+          let (c, has, at, covered) = are.all place touch.address (slice_get_within trace.log place call placed) looks in
+          let known = (are.each c has).0 in
+          let one : c.made ≡ call = same_Some c.made call (sym known.made ∙ ap (slice_get trace.log) at ∙ placed) in
+          let least = ahead.all c has (covered, subst (λ k. touch.answered < k) (sym one) late) in
+          omega (arith, least, at, high);
+    }
+
+    pub allowed_from : IsAllowedPrefix start trace touch n → first ≤ n
+    allowed_from is = elim past.some [
+      | inl none ↦ omega (arith, none)
+      | inr (c, has, (covered, early), at) ↦
+          let known = (are.each c has).0 in
+          let told = (known.answered touch.made fits).0 early in
+          let less = is.flushed c.place (known.differs touch.address covered) (c.made, known.made, told) in
+          omega (arith, less, at)
+    ]
+
+    pub allowed_to : IsAllowedPrefix start trace touch n → n ≤ last
+    allowed_to is = elim ahead.some [
+      | inl all ↦ let w = is.within in omega (arith, all, w)
+      | inr (c, has, (covered, late), at) ↦
+          let known = (are.each c has).0 in
+          let less = is.not_foreseen c.place (known.differs touch.address covered) (c.made, known.made, late) in
+          omega (arith, less, at)
+    ]
+
+  -- ---- how an address looks until its next change
+
+  up_to : (a n k : ℕ) → ((p : ℕ) → n ≤ p → p < n + k → ChangesLook start trace a p → ⊥)
+      → page_after start trace a n ≡ page_after start trace a (n + k)
+  up_to a n zero none = ap (page_after start trace a) (let it : n ≡ n + zero = omega arith in it)
+  up_to a n (suc k) none =
+      up_to a n k (λ p low high looks. none p low (omega (arith, high)) looks)
+      ∙ same_look (page_after start trace a (n + k)) (page_after start trace a ((n + k) + 1)) (λ looks. none (n + k) (omega arith) (omega arith) looks)
+      ∙ ap (page_after start trace a) (let it : (n + k) + 1 ≡ n + suc k = omega arith in it)
+
+  same_until : (a m end : ℕ) → m ≤ end → ((p : ℕ) → m ≤ p → p < end → ChangesLook start trace a p → ⊥)
+      → page_after start trace a m ≡ page_after start trace a end
+  same_until a m end l none =
+      let it : m + (end - m) ≡ end = omega (arith, l) in
+      up_to a m (end - m) (λ p low high looks. none p low (omega (arith, high, it)) looks) ∙ ap (page_after start trace a) it
+
+  pub shown_from : (a n m : ℕ) (next : Option PlacedChange) (end : Space) → IsNext changes (Covers a) n next → end ≡ space_from start trace trace.log
+      → n ≤ m → m ≤ length trace.log → UpToNext m next → page_after start trace a m ≡ shown next end a
+  shown_from a n m None end is whole low high up =
+      same_until a m (length trace.log) high (λ p from to looks.
+      let (c, has, at, covered) = are.all p a to looks in
+      let less = is c has covered in
+      omega (arith, less, at, from, low))
+      ∙ ap (λ calls. page_at (space_from start trace calls) a) (take-length trace.log)
+      ∙ ap (λ s. page_at s a) (sym whole)
+  shown_from a n m (Some next) end is whole low high up =
+      same_until a m next.place up (λ p from to looks.
+      let below = (are.each next is.0).1 in
+      let (c, has, at, covered) = are.all p a (omega (arith, below, to)) looks in
+      let least = is.3 c has covered (omega (arith, at, from, low)) in
+      omega (arith, least, at, to))
+      ∙ (are.each next is.0).0.was a is.1
+
+  pub not_from : (touch : Touch) (n m : ℕ) (next : Option PlacedChange) (end : Space) → IsNext changes (Covers touch.address) n next
+      → end ≡ space_from start trace trace.log → n ≤ m → m ≤ length trace.log → UpToNext m next
+      → ((now : Space) → page_at now touch.address ≡ shown next end touch.address → touch.answer ≡ allow now touch.address touch.mode touch.access → ⊥)
+      → IsAnsweredAt start trace touch m → ⊥
+  not_from touch n m next end is whole low high up never answered =
+      never (space_from start trace (take m trace.log)) (shown_from touch.address n m next end is whole low high up) answered
+
+-- the next change is from the place on
+pub next_up : (changes : List PlacedChange) (P : PlacedChange → Type 0) (n : ℕ) (next : Option PlacedChange) → IsNext changes P n next → UpToNext n next
+next_up changes P n None is = tt
+next_up changes P n (Some next) is = is.2
+
+-- ---- the changes in another order
+
+pub permuted : (start : Space) (trace : Recording) (xs ys : List PlacedChange) → IsPermutation xs ys → AreChanges start trace xs → AreChanges start trace ys
+permuted start trace xs ys same are = record {
+  each = λ c has. are.each c (Contains-permutation ys xs c (IsPermutation-sym xs ys same) has);
+  all = λ place address l looks.
+      let (c, has, at, covered) = are.all place address l looks in
+      (c, Contains-permutation xs ys c same has, at, covered);
+}
+
+pub placed_numbered : (start : Space) (trace : Recording) (c : PlacedChange) → IsPlaced start trace c → c.place < length trace.log
+    → length trace.log ≤ LOG_PLACES → IsNumbered c
+placed_numbered start trace c is within few = record {
+  number = is.number;
+  aligned = is.well_formed.aligned;
+  low = let range = is.well_formed.phys_range in omega (arith, range);
+  few = omega (arith, within, few);
+}
+
+-- ---- touch by touch
+
+module _ (start : Space) (trace : Recording) (touches : List Touch) (index : ℕ) (d : Touch) (r : Bool) (l : index < length touches)
+    (judged : IsTrue r ↔ IsRightTouch start trace (get_or touches index d)) (right : AreRightBelow start trace touches index) where
+  pub stale_at : r ≡ false → FindsStale start trace touches (Some index)
+  stale_at wrong =
+      (get_or touches index d, slice_get-get_or touches index d l, (λ is. let yes = judged.1 is in false≢true (sym wrong ∙ yes)), right)
+
+  pub right_to : r ≡ true → AreRightBelow start trace touches (index + 1)
+  right_to judged_right k touch low at = elim (cases_lt k index) [
+    | inl before ↦ right k touch before at
+    | inr past ↦
+        let same : k ≡ index = omega (arith, low, past) in
+        let one : get_or touches index d ≡ touch =
+        same_Some (get_or touches index d) touch (sym (slice_get-get_or touches index d l) ∙ ap (slice_get touches) (sym same) ∙ at) in
+        subst (IsRightTouch start trace) one (judged.0 judged_right)
+  ]
+
+pub none_stale : (start : Space) (trace : Recording) (touches : List Touch) (end : ℕ) → length touches ≤ end → AreRightBelow start trace touches end
+    → FindsStale start trace touches None
+none_stale start trace touches end all right index touch at =
+    right index touch (let low = slice_get_within touches index touch at in omega (arith, low, all)) at

@@ -1,0 +1,5 @@
+-- The insides of the search: no public clause cites them.
+pub mod Bounds
+pub mod Changes
+pub mod Columns
+pub mod Walk

@@ -1,0 +1,104 @@
+//! The search for the first touch that is stale.
+
+ghost use Rattle.std.specs.Prelude.{◌≡◌, ◌↔◌, ◌<◌, ◌^◌, false, length, IfOk, IfSome, IsTrue};
+ghost use Rattle.vs_types.specs.Space.{Space, page_at};
+ghost use Rattle.vs_types.specs.Step.{look, allow};
+ghost use Rattle.nr_trace.specs.Laws.{HasCleanLog};
+ghost use Rattle.nr_trace.specs.Orders.{space_from};
+ghost use Rattle.nr_trace.specs.Recording.{Recording};
+ghost use Rattle.nr_touch.specs.Touches.{IsRightTouch};
+ghost use Rattle.nr_touch.specs.Stale.{FindsStale};
+ghost use Rattle.nr_touch.specs.inside.Changes.{AreChanges};
+ghost use Rattle.nr_touch.specs.inside.Columns.{AreColumns, Covers, IsNumbered};
+ghost use Rattle.nr_touch.specs.inside.Walk.{shown};
+
+use crate::change::PlacedChange;
+use crate::history::History;
+use crate::replay::replay;
+use crate::touch::Touch;
+use nr_trace::Trace;
+use std::alloc::Global;
+use vs_plain::PlainSpace;
+use vs_types::{Answer, Memory};
+
+fn is_same(recorded: Answer, given: Answer) -> bool
+    ensures { IsTrue result ↔ (recorded ≡ given) }
+{
+    recorded == given
+}
+
+/// How an address looks before its next change, or else after the whole log.
+fn look_until(next: Option<PlacedChange>, space: &PlainSpace, address: u64) -> Answer
+    requires numbered { IfSome next IsNumbered }
+    requires covers { IfSome next (Covers address) }
+    ensures { (now : Space) → page_at now address ≡ shown next space.now.space address
+        → result ≡ look now address }
+{
+    match next {
+        Some(next) => next.change.look_before(address),
+        None => space.resolve(address),
+    }
+}
+
+/// Whether an address that looks so answers the touch as it was answered.
+fn answers(seen: Answer, touch: &Touch) -> bool
+    ensures { (now : Space) → seen ≡ look now touch.now.address
+        → IsTrue result ↔ (touch.now.answer ≡ allow now touch.now.address touch.now.mode touch.now.access) }
+{
+    is_same(touch.answer, seen.accessed(touch.mode, touch.access))
+}
+
+/// Whether the touch is answered as its address was after some entries that are allowed: a search or two in the changes of each
+/// page that may have the address, and as many again for each change of it that is open beside the touch.
+fn is_right(history: &History, space: &PlainSpace, places: u32, touch: &Touch) -> bool
+    requires { AreColumns history.now }
+    ensures { (start : Space) (trace : Recording) → AreChanges start trace history.now.changes.items
+        → space.now.space ≡ space_from start trace trace.log → places ≡ length trace.log
+        → IsTrue result ↔ IsRightTouch start trace touch.now }
+{
+    let last = history.last_allowed(touch.address, touch.answered, places);
+    let mut entries = history.first_allowed(touch.address, touch.made);
+    while entries <= last {
+        let next = history.next(touch.address, entries);
+        if answers(look_until(next, space, touch.address), touch) {
+            return true;
+        }
+        entries = match next {
+            Some(change) => change.place + 1,
+            None => return false,
+        };
+    }
+    false
+}
+
+/// The index of the first touch that isn't answered as its address was at a moment that is still allowed: after the first entries
+/// of the log, so many that they have each update that changes how the address looks and was answered before the touch was made,
+/// and none that changes it and was made after the touch was answered. `None` where each touch is right.
+///
+/// The touches lie in the trace, whose log is clean; its space begins with this start. Allocates a table of four bytes for each
+/// event, and 76 bytes for each update that changes the space, with 56 more while it sorts.
+///
+/// # Errors
+///
+/// `Memory` where a growth of memory was refused.
+pub fn first_stale(
+    alloc: Global,
+    trace: &Trace,
+    start: PlainSpace,
+    touches: &[Touch],
+) -> Result<Option<usize>, Memory>
+    requires depth { start.depth ≡ trace.now.layout.depth }
+    requires limit { start.limit ≡ trace.now.layout.tables }
+    requires clean { HasCleanLog trace.now }
+    ensures { IfOk result (FindsStale start.space trace.now touches.now) }
+{
+    let places = trace.log().len() as u32;
+    let (changes, space) = replay(alloc, trace, start)?;
+    let history = History::of(alloc, changes)?;
+    for (index, touch) in touches.iter().enumerate() {
+        if !is_right(&history, &space, places, touch) {
+            return Ok(Some(index));
+        }
+    }
+    Ok(None)
+}

@@ -1,0 +1,27 @@
+//! The audit alone: `nrvs_audit audit` says whether a trace is right, `explain` what shows its fault, `resolve` where an address
+//! leads in one of its dumps, as `nrvs` does, over the audit's crates alone.
+#![tactic(auto)]
+
+mod command_line;
+mod program;
+mod words;
+
+use nr_commands::program_words;
+use std::io;
+use std::process::ExitCode;
+
+fn main(rt: HostRuntime) -> ExitCode {
+    let alloc = rt.alloc();
+    let words = program_words(&rt);
+    let asked = words::read_program_words(alloc, &words);
+    let mut output = io::writer(&rt);
+    let status = program::run(
+        &rt,
+        alloc,
+        asked,
+        rt.reader(),
+        &mut output,
+        &mut rt.stderr(),
+    );
+    ExitCode::from(status)
+}

@@ -1,0 +1,63 @@
+ghost use Rattle.std.specs.Prelude.{◌≡◌, ◌∷◌, [], IfOk, IfErr, IsSomeAnd, MatchResult, map, string_bytes};
+ghost use Rattle.clap.specs.Words.{fault_of, subcommand_of, HasKind};
+ghost use Rattle.nr_commands.specs.Words.{kinds_of_no_words, AsksInspection};
+ghost use Rattle.nrvs_audit.specs.CommandLine.{nrvs_audit_line};
+
+use crate::command_line::command_line;
+use clap::Error;
+use clap::error::ErrorKind;
+use nr_commands::{Inspection, NoWords, read_audit, read_explain, read_resolve};
+use std::alloc::{AllocError, Global};
+
+/// What the words ask for, or what clap answers to them.
+fn read_words<'a>(alloc: Global, words: &'a [String]) -> Result<Inspection<'a>, Error>
+    ensures asks { IfOk result (λ inspection. IsSomeAnd
+        (subcommand_of nrvs_audit_line (map (λ word. string_bytes word) words.entry.now))
+        (λ given. AsksInspection given inspection)) }
+    ensures faultless { IfOk result
+        (λ _. fault_of nrvs_audit_line (map (λ word. string_bytes word) words.entry.now) ≡ []) }
+    ensures fault { IfErr result
+        (HasKind
+        (ErrorKind.MissingSubcommand
+        ∷ fault_of nrvs_audit_line (map (λ word. string_bytes word) words.entry.now))) }
+{
+    let mut line = command_line(alloc)?;
+    let matches = line.try_get_matches_from_mut(words)?;
+    match matches.subcommand() {
+        Some(("audit", given)) => Ok(read_audit(alloc, given)?),
+        Some(("explain", given)) => Ok(read_explain(given)),
+        Some(("resolve", given)) => Ok(read_resolve(given)),
+        _ => Err(line.error(ErrorKind::MissingSubcommand, "a subcommand is required")?),
+    }
+}
+
+/// The same, where the words are known.
+pub fn read_program_words<'a>(
+    alloc: Global,
+    words: &'a Result<Vec<String>, NoWords>,
+) -> Result<Inspection<'a>, Error>
+    ensures asks { IfOk words.entry.now
+        (λ words_given. IfOk result (λ inspection. IsSomeAnd
+        (subcommand_of nrvs_audit_line (map (λ word. string_bytes word) words_given.items))
+        (λ given. AsksInspection given inspection))) }
+    ensures faultless { IfOk words.entry.now
+        (λ given.
+        IfOk result
+        (λ _. fault_of nrvs_audit_line (map (λ word. string_bytes word) given.items) ≡ [])) }
+    ensures fault { IfOk words.entry.now
+        (λ given. IfErr result
+        (HasKind
+        (ErrorKind.MissingSubcommand
+        ∷ fault_of nrvs_audit_line (map (λ word. string_bytes word) given.items)))) }
+    ensures no_words { IfErr words.entry.now
+        (λ why. MatchResult result (λ _. ⊥) (HasKind (kinds_of_no_words why))) }
+{
+    match words {
+        Ok(words) => read_words(alloc, words.as_slice()),
+        Err(NoWords::Memory) => Err(Error::from(AllocError)),
+        Err(NoWords::NotText) => {
+            let mut line = command_line(alloc)?;
+            Err(line.error(ErrorKind::ValueValidation, "a word is not UTF-8")?)
+        }
+    }
+}

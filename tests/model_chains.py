@@ -1,0 +1,206 @@
+#!/usr/bin/env python3
+"""A second auditor of chains, in plain Python: written from docs/FORMATS.md and docs/DEFINITIONS.md alone, to compare with.
+
+A chain is segments, one behind the other; what a segment shares with a trace is tests/model_auditor.py's.
+
+    model_chains.py [--quiet] <CHAIN        what `nrvs audit --chain` prints, with its status
+"""
+import bisect
+import collections
+import struct
+import sys
+
+import model_auditor as traces
+from model_auditor import Call, Dump, Fault, Reply, Space, Trace
+
+TOUCH = 5
+FAULTS = "StartMissing StartShared StartReserved StartStray StartBeyond StartDiffers Stale".split()  # 18 and on
+traces.FAULTS.extend(fault for fault in FAULTS if fault not in traces.FAULTS)
+
+Segment = collections.namedtuple("Segment", "trace start touches ends")  # ends: the index of the first byte behind it
+
+
+class Reader:
+    """The units of a chain, from left to right."""
+
+    def __init__(self, data, position):
+        self.data, self.position = data, position
+
+    def unit(self, length, form):
+        if self.position + length > len(self.data):
+            raise Fault("Format", "Truncated")
+        self.position += length
+        return struct.unpack_from(form, self.data, self.position - length)
+
+    def event(self, levels, replicas, threads):
+        unit = b"".join(self.unit(24, "24s"))
+        if unit[0] == 0 and unit[4] == TOUCH:
+            call = traces.event(unit[:4] + bytes([traces.ACCESS]) + unit[5:], 2, levels, replicas, threads)
+            return call and call._replace(kind=TOUCH)
+        return traces.event(unit, 2, levels, replicas, threads)
+
+    def frames(self, count, fault):
+        """So many frames by rising number."""
+        memory, last = {}, -1
+        for k in range(count):
+            number, = self.unit(8, ">Q")
+            expect(last < number < 1 << 40, *fault, k)
+            memory[number] = self.unit(4096, ">512Q")
+            last = number
+        return memory
+
+
+def expect(fits, *fault):
+    if not fits:
+        raise Fault("Format", *fault)
+
+
+def read_segment(data, position, before):
+    """The segment that begins there; `before` is the trace of the one before it, or None. Raises the first format fault."""
+    reader = Reader(data, position)
+    expect(reader.unit(4, "4s") == (b"NRVS",), "BadMagic")
+    expect(reader.unit(2, ">H") == (1,), "BadVersion")
+    levels, replicas, threads, tables, places, count, started = reader.unit(18, ">BBHHIII")
+    expect(levels in (4, 5) and 1 <= replicas <= 4 and 1 <= threads and 1 <= tables
+           and places <= 65536 and count <= 131072 and started <= 65535, "BadCount")
+    expect(before is None or (levels, replicas, threads, tables) == before[1:5], "BadChain")
+    start = None
+    if started:
+        root, = reader.unit(8, ">Q")
+        start = Dump(0, root, reader.frames(started, ["BadStart"]))
+    log = [reader.unit(4, ">I")[0] for _ in range(places)]
+    events = []
+    for i in range(count):
+        events.append(reader.event(levels, replicas, threads))
+        expect(events[-1], "BadEvent", i)
+    dumps = []
+    for r in range(replicas):
+        applied, frames, root = reader.unit(16, ">IIQ")
+        expect(frames <= 65535 and (frames > 0 or applied == root == 0), "BadCount")
+        dumps.append(Dump(applied, root, reader.frames(frames, ["BadFrame", r])) if frames else None)
+    trace = Trace(2, levels, replicas, threads, tables, log, events, dumps)
+    touches = {i for i, each in enumerate(events) if isinstance(each, Call) and each.kind == TOUCH}
+    return Segment(trace, start, touches, reader.position)
+
+
+def space_at_begin(segment, space):
+    """The space with which the segment begins; `space` is that after the one before, or None for the first. Raises its first fault."""
+    trace = segment.trace
+    if segment.start is None:
+        return Space(trace.levels, trace.tables) if space is None else space
+    try:
+        pages = traces.found_pages(trace, segment.start)
+    except traces.DumpFault as fault:
+        name, *what = fault.args
+        raise Fault("Start" + name, *what)
+    for base, size, phys, rights in pages:
+        if phys + traces.SIZES[size] > 1 << 51:
+            raise Fault("StartBeyond", hex(base))
+    if space is not None:
+        differs = traces.least_difference(pages, space.listed())
+        if differs is not None:
+            raise Fault("StartDiffers", hex(differs))
+    begun = Space(trace.levels, trace.tables)
+    for page in pages:
+        begun.add(*page)
+    return begun
+
+
+def without_touches(segment):
+    """The trace with neither touches nor replies to them, each event at its index."""
+    gone = segment.touches
+    events = [None if i in gone or isinstance(each, Reply) and each.call in gone else each for i, each in enumerate(segment.trace.events)]
+    return segment.trace._replace(events=events)
+
+
+def looks(space, address):
+    """How an address looks: the page that covers it."""
+    base = space.cover(address)
+    return None if base is None else (base,) + space.pages[base]
+
+
+def check_touches(segment, start):
+    """Each answered touch is answered as its address was after some entries of the log that are still allowed."""
+    trace = segment.trace
+    replied = {each.call: i for i, each in enumerate(trace.events) if isinstance(each, Reply)}
+    answered = sorted(segment.touches & replied.keys())
+    changes = changes_of(trace, start, sorted({trace.events[number].address for number in answered}))
+    for number in answered:
+        call, end = trace.events[number], replied[number]
+        places, seen = changes[call.address]           # how it looks before the first of these places, and after each
+        least = max([k + 1 for k, place in enumerate(places) if replied.get(trace.log[place], end) < number], default=0)
+        most = min([k for k, place in enumerate(places) if trace.log[place] > end], default=len(places))
+        if not any(allow(trace, page, call) == trace.events[end].answer for page in seen[least:most + 1]):
+            raise Fault("Stale", number)
+
+
+def changes_of(trace, start, addresses):
+    """Of each address the places of the updates that change how it looks, and how it looks at first and after each of them."""
+    changes = {address: ([], [looks(start, address)]) for address in addresses}
+    space = start.copy()
+    for place, number in enumerate(trace.log):
+        call = trace.events[number]
+        gone = looks(space, call.address)
+        space.apply(call)
+        page = gone or looks(space, call.address)
+        if page is None:
+            continue
+        low, high = (bisect.bisect_left(addresses, end) for end in (page[0], page[0] + traces.SIZES[page[1]]))
+        for address in addresses[low:high]:
+            places, seen = changes[address]
+            now = looks(space, address)
+            if now != seen[-1]:
+                places.append(place)
+                seen.append(now)
+    return changes
+
+
+def allow(trace, page, call):
+    """What an access is answered where this page covers its address, or none does."""
+    space = Space(trace.levels, trace.tables)
+    if page:
+        space.add(*page)
+    return space.look(call._replace(kind=traces.ACCESS))
+
+
+def check_segment(segment, space):
+    """The order, and the space after the whole log; raises the first fault."""
+    start = space_at_begin(segment, space)
+    traces.check_calls(segment.trace)
+    trace = without_touches(segment)
+    order, replies = traces.check_history(trace, start)
+    check_touches(segment, start)
+    for r in range(trace.replicas):
+        if trace.dumps[r]:
+            traces.check_replica(trace, r, replies, start)
+    for number in trace.log:
+        start.apply(trace.events[number])
+    return order, start
+
+
+def verdict(data, quiet=False):
+    """What `nrvs audit --chain` prints of the bytes, and its status."""
+    lines, position, number, before, space = [], 0, 0, None, None
+    while position < len(data) or number == 0:
+        try:
+            segment = read_segment(data, position, before)
+            order, space = check_segment(segment, space)
+        except Fault as fault:
+            return "\n".join(lines + [f"segment {number}", str(fault)]) + "\n", 1
+        if not quiet:
+            lines += [f"segment {number}", "yes", " ".join(["order"] + [str(call) for call in order])]
+        position, before, number = segment.ends, segment.trace, number + 1
+    return "\n".join(lines + [f"segments {number}"]) + "\n", 0
+
+
+def main(words):
+    if words not in ([], ["--quiet"]):
+        sys.stderr.write(__doc__)
+        return 2
+    text, status = verdict(sys.stdin.buffer.read(), bool(words))
+    sys.stdout.write(text)
+    return status
+
+
+if __name__ == "__main__":
+    sys.exit(main(sys.argv[1:]))
