@@ -1,16 +1,21 @@
 #!/usr/bin/env python3
-"""Writes a long chain: chain.py SEGMENTS >CHAIN; or what is one segment of it, as a trace: chain.py --trace >TRACE
+"""Writes a long chain: chain.py [--touches | --untouched] SEGMENTS >CHAIN; or one segment of it as a trace: chain.py --trace >TRACE
 
-A segment has as many events as there may be: 16,384 maps, 32,768 reads, and as many unmaps as maps, each answered. It begins and ends
-with no page, so that all segments are alike, and each is a right trace too.
+A segment has as many events as there may be. In one 16,384 maps, 32,768 reads, and as many unmaps as maps are each answered; it is a right
+trace too. With --touches 30,000 updates of 256 pages have 35,536 touches beside them: half of these are of a page whose update is open, and
+are answered as it was before; --untouched leaves them out. Each segment begins and ends with no page, so that all are alike.
 """
+import random
 import struct
 import sys
 
 from traces import Run                  # which also says where recording.py is
-from recording import dump, frames
+from recording import ALL, ALLOWED, DONE, FAULT, MAP, REMOVED, UNMAP, call, dump, frames, reply
 
 PAGES, READS, THREADS, TABLES = 16384, 32768, 64, 4096
+TOUCHED, UPDATES, TOUCHES = 256, 30000, 35536
+TOUCH, USER = 5, 1                      # a kind of call; the mode of an access
+NO_PAGE = 4                             # the error code of a user's read of no page
 
 
 def run():
@@ -24,6 +29,53 @@ def run():
     return made
 
 
+class Touched(Run):
+    """Updates by thread 0, each open while others touch pages, so many times in all."""
+
+    def __init__(self, touches):
+        super().__init__(1, THREADS)
+        self.draw, self.left, self.thread = random.Random(52), touches, 0
+
+    def touch(self, base):
+        """By the next thread, answered as the page is now."""
+        self.thread = self.thread % (THREADS - 1) + 1
+        number, page = len(self.events), self.pages.get(base)
+        answer, value = (ALLOWED, page[1] + 5) if page else (FAULT, NO_PAGE)
+        self.events += [call(0, self.thread, TOUCH, base + 5, rights=USER), reply(number, 0, answer, value=value)]
+
+    def touches(self, base, updates):
+        """Those that fall to an update of this page, which is open; so many updates are left, with it."""
+        count = -(-self.left // updates)
+        self.left -= count
+        for each in range(count):
+            self.touch(base if self.draw.random() < 0.5 else self.draw.randrange(TOUCHED) << 12)
+
+    def change(self, page, updates):
+        base, number = page << 12, len(self.events)
+        physical = base + (1 << 32)
+        is_there = base in self.pages
+        self.events.append(call(0, 0, *((UNMAP, base) if is_there else (MAP, base, 0, ALL, physical))))
+        self.touches(base, updates)
+        answer = (REMOVED, 0, ALL, physical) if is_there else (DONE,)
+        self.events.append(reply(number, len(self.log), *answer))
+        self.log.append(number)
+        if is_there:
+            del self.pages[base]
+        else:
+            self.pages[base] = (0, physical, ALL)
+
+
+def touched(touches):
+    made, left = Touched(touches), UPDATES
+    pages = list(range(TOUCHED))
+    for _ in range(UPDATES // 2 - TOUCHED):
+        pages += 2 * [made.draw.randrange(TOUCHED)]
+    for page in pages + list(range(TOUCHED)):
+        made.change(page, left)
+        left -= 1
+    return made
+
+
 def segment(made):
     counts = struct.pack(">HBBHHIII", 1, 4, 1, THREADS, TABLES, len(made.log), len(made.events), 0)
     places = struct.pack(f">{len(made.log)}I", *made.log)
@@ -31,11 +83,13 @@ def segment(made):
 
 
 def main(words):
+    makers = {"": run, "--touches": lambda: touched(TOUCHES), "--untouched": lambda: touched(0)}
+    how = "".join(words[:-1])
     if words == ["--trace"]:
         run().write(sys.stdout.buffer)
-    elif len(words) == 1 and words[0].isdigit():
-        bytes_of_one = segment(run())
-        for _ in range(int(words[0])):
+    elif words and words[-1].isdigit() and how in makers:
+        bytes_of_one = segment(makers[how]())
+        for _ in range(int(words[-1])):
             sys.stdout.buffer.write(bytes_of_one)
     else:
         sys.exit(__doc__)

@@ -4,8 +4,10 @@ docs/DEFINITIONS.md alone, to compare with. Nothing here is proved, and nothing 
 
     model_evidence.py <TRACE            what `nrvs explain` prints, with its status
     model_evidence.py --json <TRACE     what `nrvs explain --json` prints, with its status
+    model_evidence.py resolve A [R] <TRACE      what `nrvs resolve --steps --address A --replica R` prints, with its status
 """
 import json
+import struct
 import sys
 
 import model_auditor as model
@@ -284,8 +286,8 @@ def named_words(named, of_call):
     return "there is no such event" if named is None else of_call if "request" in named else "that event is a reply"
 
 
-def sentence_of(fault, shown):
-    """What is wrong, with its numbers. The facts are named as in the JSON."""
+def sentence_of(fault, shown, header):
+    """What is wrong, with its numbers, after this header. The facts are named as in the JSON."""
     of = {name: fact["event"] for name, fact in shown.items() if isinstance(fact, dict) and "event" in fact}
     told = {name: fact["answer"] for name, fact in shown.items() if isinstance(fact, dict) and "answer" in fact}
     reply, named = shown.get("reply") or {}, shown.get("named")
@@ -317,7 +319,7 @@ def sentence_of(fault, shown):
         "StrayFrame": lambda: f"{dump} holds {frame} as a table, and no table leads to it.",
         "Differs": lambda: f"At {shown['address']} the tables of {replica} say `{shown['found']}`, but after "
                            f"{many(shown['applied'], 'update')} the address space says `{wanted}`.",
-        "Format": lambda: f"These bytes are no trace: {reason_words(shown)}.",
+        "Format": lambda: f"These bytes are no trace: {reason_words(shown, header)}.",
     }[fault]()
 
 
@@ -327,7 +329,7 @@ def stands_words(shown):
     return f"was answered from {many(shown['entries'], 'entry')}" if reads else f"is at place {shown['entries']}"
 
 
-def reason_words(shown):
+def reason_words(shown, header):
     """Why bytes are no trace."""
     name, *numbers = shown["format"].split()
     return {
@@ -335,10 +337,54 @@ def reason_words(shown):
         "BadMagic": "they don't begin with NRVT",
         "BadVersion": "their version is 0x{read}, and not 1 or 2",
         "BadCount": "a number in {unit} is out of range",
-        "BadEvent": "event {0} is no call and no reply",
+        "BadEvent": "event {0} is no call and no reply, since {field}",
         "BadFrame": "frame {1} of dump {0} has a number that is not above the one before it, or too great",
         "Trailing": "more bytes follow the last unit",
-    }[name].format(*numbers, **shown)
+    }[name].format(*numbers, **shown, field=name == "BadEvent" and next(wrong_fields(header, bytes.fromhex(shown["read"]))))
+
+
+def wrong_fields(header, unit):
+    """Each field of 24 bytes that isn't what it may be after this header, in the order of the bytes."""
+    version, levels, replicas, threads = struct.unpack(">HBBH", header[4:10])
+    if unit[0] == 0:
+        _, replica, thread, kind, size, rights, unused, address, phys = struct.unpack(">BBHBBBBQQ", unit)
+        is_map, is_access = kind == model.MAP, kind == model.ACCESS
+        yield from below("replica is", replica, replicas)
+        yield from below("thread is", thread, threads)
+        yield from below("kind is", kind, 3 + version)
+        yield from below("access is" if is_access else "size is", size, 3 if is_map or is_access else 1)
+        yield from below("mode is" if is_access else "rights are", rights, 2 if is_access else 8 if is_map or kind == model.PROTECT else 1)
+        yield from below("unused bytes are", unused, 1)
+        if not model.is_canonical(levels, address):
+            yield f"its address is {address:#x}, which isn't canonical with {levels} levels"
+        step = model.SIZES[size] if is_map else 1 if is_access or kind == model.RESOLVE else 4096
+        yield from multiple("address", address, step)
+        if is_map:
+            yield from multiple("physical address", phys, step)
+            if phys + step > 1 << 51:
+                yield f"its physical address is {phys:#x}, and its page ends above {1 << 51:#x}"
+        else:
+            yield from below("physical address is", phys, 1, hex)
+    elif unit[0] == 1:
+        _, code, size, rights, _, _, unused, value = struct.unpack(">BBBBIIIQ", unit)
+        uses = model.ANSWER_USES.get(code, "")
+        yield from below("answer is", code, 8 if version == 1 else 10)
+        yield from below("size is", size, 3 if "size" in uses else 1)
+        yield from below("rights are", rights, 8 if "rights" in uses else 1)
+        yield from below("unused bytes are", unused, 1)
+        yield from below("value is", value, 1 << 64 if "value" in uses else 1, hex)
+    else:
+        yield f"its tag is {unit[0]}, and not below 2"
+
+
+def below(name, number, limit, words=str):
+    if number >= limit:
+        yield f"its {name} {words(number)}, and not {'0' if limit == 1 else f'below {limit}'}"
+
+
+def multiple(name, number, step):
+    if number % step:
+        yield f"its {name} is {number:#x}, which is no multiple of {step:#x}"
 
 
 # ---- the unit that shows a fault of the format ----
@@ -409,7 +455,7 @@ def explained(data):
     else:
         shown = OF_FAULT[fault](model.read(data), *(int(number, 0) for number in numbers))
         lines = lines_of(fault, shown)
-    said = sentence_of(fault, shown)
+    said = sentence_of(fault, shown, data[:20])
     return text, {"verdict": text.strip(), "sentence": said, "evidence": {"fault": fault, **shown}}, [said, *lines]
 
 
@@ -425,7 +471,25 @@ def explain_json(data):
     return json.dumps(whole, separators=(",", ":"), sort_keys=True) + "\n", int(text.startswith("no"))
 
 
+def resolve_in_steps(data, spelling, replica=0):
+    """What `nrvs resolve --steps` prints, what it says on standard error, and its status."""
+    text, error, status = model.resolve(data, spelling, replica)
+    if status:
+        return text, error, status
+    trace = model.read(data)
+    steps = entries_read(trace, trace.dumps[replica], int(spelling, 16))
+    return text + "".join(step_line(step) + "\n" for step in steps), error, status
+
+
+def main(words, data):
+    if words[:1] == ["resolve"]:
+        text, error, status = resolve_in_steps(data, words[1], *map(int, words[2:]))
+        sys.stderr.write(error)
+    else:
+        text, status = (explain_json if words == ["--json"] else explain)(data)
+    sys.stdout.write(text)
+    return status
+
+
 if __name__ == "__main__":
-    said, ended = (explain_json if sys.argv[1:] == ["--json"] else explain)(sys.stdin.buffer.read())
-    sys.stdout.write(said)
-    sys.exit(ended)
+    sys.exit(main(sys.argv[1:], sys.stdin.buffer.read()))

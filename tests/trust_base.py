@@ -1,7 +1,7 @@
 #!/usr/bin/env python3
 """Compares the words that a reader has to believe with docs/DEFINITIONS.md, which has each of them in words; and the public calls
 of the libraries and their preconditions with the promises of their crates' READMEs. Part 1 of DEFINITIONS.md has to have just the words
-of the headline, and just the types and constants of the code of which these speak, with their variants, fields and values as the code
+of the two headlines, and just the types and constants of the code of which these speak, with their variants, fields and values as the code
 declares them; and the crates of the audit depend on none of the replication. The tables of ARCHITECTURE.md list the crates of crates.txt.
 
 A word of the trust base is a definition of some specs/ folder that a clause of a public call cites, or that such a word
@@ -16,7 +16,7 @@ from pathlib import Path
 ROOT = Path(__file__).resolve().parent.parent
 NAME = re.compile(r"[A-Za-z_][\w'-]*(?:\.[A-Za-z_][\w'-]*)*")
 IMPORT = re.compile(r"^\s*(?:ghost |pub )?use Rattle\.(\w+)\.specs\.([\w.]+?)(?:\.\{([^}]*)\}| as (\w+))?;?$", re.M)
-DEFINES = re.compile(r"^(?:abbrev |unfoldable )*(?:pub )?(?:record |data )?([A-Za-z_][\w'-]*)(?= [^=]*:)")
+DEFINES = re.compile(r"^(?:abbrev |unfoldable )*(?:pub )?(?:record |data )?◌?([A-Za-z_][\w'-]*)◌?(?= [^=]*:)")
 CLAUSE = re.compile(r"\b(?:requires|ensures)\*?\s+(?:\w+\s+)?\{|\bghost (?:Value|\w+): \{|\bghost Value = \{")
 
 
@@ -120,7 +120,7 @@ def trust_base(words=None):
     return base, found
 
 
-HEADLINE = ("nr_audit.Headline", "AreRightWith")
+HEADLINES = (("nr_audit.Headline", "AreRightWith"), ("nr_chain.Headline", "IsRightChain"))    # of a trace, and of a chain
 MOST_LINES = 400
 DECLARED = "### What the code declares"
 
@@ -172,28 +172,28 @@ def undeclared(part, base, found):
             if number(rows[name].partition("|")[0]) != number(value):
                 yield f"part 1 has another value of {name} than the code: {value}"
     for name in sorted(rows.keys() - {name for name, _ in types | constants}):
-        yield f"part 1 declares what the headline does not rest on: {name}"
+        yield f"part 1 declares what no headline rests on: {name}"
 
 
 def first_part():
-    """What is wrong with part 1 of DEFINITIONS.md: it has just the words on which the headline rests, on few lines."""
+    """What is wrong with part 1 of DEFINITIONS.md: it has just the words on which the headlines rest, on few lines."""
     text = (ROOT / "docs/DEFINITIONS.md").read_text()
     part = "## 1." + text.partition("\n## 1.")[2].partition("\n## ")[0]
     lines = text.partition("\n## 2.")[0].count("\n")
-    base, found = trust_base([HEADLINE])
+    base, found = trust_base(HEADLINES)
     told = read_aloud(part)
     yield from undeclared(part, base, found)
     for place, name in sorted(base - {(place, name) for places, name in told for place in places}):
-        yield f"the headline rests on a word that part 1 lacks: {name} ({place})"
+        yield f"a headline rests on a word that part 1 lacks: {name} ({place})"
     for places, name in told:
         if not any((place, name) in base for place in places):
-            yield f"part 1 has a word on which the headline does not rest: {name}"
+            yield f"part 1 has a word on which no headline rests: {name}"
     if lines > MOST_LINES:
         yield f"part 1 ends after {lines} lines, of {MOST_LINES} at most"
 
 
-AUDIT = {"vs_types", "vs_walk", "vs_plain", "vs_text", "nr_trace", "nr_dump", "nr_audit", "nr_explain", "nr_engines",
-         "nr_commands", "nrvs_audit", "nrvs_audit_c"}
+AUDIT = {"vs_types", "vs_walk", "vs_plain", "vs_text", "nr_trace", "nr_dump", "nr_audit", "nr_explain", "nr_engines", "nr_touch", "nr_segment",
+         "nr_chain", "nr_chain_engines", "nr_commands", "nrvs_audit", "nrvs_audit_c"}
 
 
 def audit_alone():

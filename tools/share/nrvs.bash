@@ -10,9 +10,9 @@ _nrvs() {
     return
   fi
   case ${COMP_WORDS[1]} in
-    audit) options='' ;;
+    audit) options='--chain --quiet' ;;
     explain) options='--json' ;;
-    resolve) options='--address --replica' ;;
+    resolve) options='--address --replica --steps' ;;
     simulate) options='--levels --replicas --tables --trace' ;;
     run) options='--levels --replicas --tables --turns --trace' ;;
     help) COMPREPLY=($(compgen -W 'audit explain resolve simulate run' -- "$word")); return ;;

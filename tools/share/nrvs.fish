@@ -8,9 +8,12 @@ complete -c nrvs -n __fish_use_subcommand -f -a help -d 'Prints help, or that of
 complete -c nrvs -n __fish_use_subcommand -l version -d 'Prints the version'
 complete -c nrvs -l help -d 'Prints help'
 complete -c nrvs -n '__fish_seen_subcommand_from audit explain resolve' -F
+complete -c nrvs -n '__fish_seen_subcommand_from audit' -l chain -d 'The input is a chain'
+complete -c nrvs -n '__fish_seen_subcommand_from audit' -l quiet -d 'Prints nothing of right segments'
 complete -c nrvs -n '__fish_seen_subcommand_from explain' -l json -d 'Prints one JSON object'
 complete -c nrvs -n '__fish_seen_subcommand_from resolve' -l address -x -d 'A canonical address'
 complete -c nrvs -n '__fish_seen_subcommand_from resolve' -l replica -x -d 'The number of the replica'
+complete -c nrvs -n '__fish_seen_subcommand_from resolve' -l steps -d 'Prints the entries that the walk reads'
 complete -c nrvs -n '__fish_seen_subcommand_from simulate run' -l levels -x -a '4 5' -d 'The levels of paging'
 complete -c nrvs -n '__fish_seen_subcommand_from simulate run' -l replicas -x -d 'The number of replicas'
 complete -c nrvs -n '__fish_seen_subcommand_from simulate run' -l tables -x -d 'The most tables of each replica'

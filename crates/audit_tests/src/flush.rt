@@ -30,7 +30,7 @@ fn flush_that_fails(rt: HostRuntime) -> Result<(), Fail> {
     let root = [0; 4096];
     let tasks = [
         (Task::Audit, "yes\norder\n"),
-        (Task::Resolve("0x400123", 0), "not mapped\n"),
+        (Task::Resolve("0x400123", 0, false), "not mapped\n"),
     ];
     for (task, answer) in tasks {
         let mut output = FailsAtFlush(Vec::new(rt.alloc()));

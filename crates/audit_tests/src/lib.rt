@@ -9,6 +9,8 @@ mod audit_cases;
 #[cfg(test)]
 mod bytes;
 #[cfg(test)]
+mod chains;
+#[cfg(test)]
 mod dump;
 #[cfg(test)]
 mod dump_cases;
@@ -30,6 +32,8 @@ mod recorded;
 mod segments;
 #[cfg(test)]
 mod starts;
+#[cfg(test)]
+mod steps;
 #[cfg(test)]
 mod trace;
 #[cfg(test)]

@@ -3,7 +3,7 @@
 ghost use Rattle.std.specs.Prelude.{◌<◌};
 
 use crate::bytes::map_then_resolve;
-use nr_explain::{BadUnit, TraceUnit, UnitFeed, Unread};
+use nr_explain::{BadField, BadUnit, EventField, FieldFault, TraceUnit, UnitFeed, Unread};
 use nr_trace::{Format, Trace};
 use std::alloc::{AllocError, Global};
 use std::process::Abort;
@@ -143,4 +143,85 @@ fn what_stands_behind_the_last_unit(rt: HostRuntime) -> Result<(), Fail> {
         (Format::Trailing, TraceUnit::Behind),
         (16552, 1),
     )
+}
+
+/// Holds the field of an event that is named against what is expected, where one byte of a trace of version 1 is another.
+fn names(
+    rt: &impl Abort,
+    alloc: Global,
+    at: usize,
+    byte: u8,
+    wanted: BadField,
+) -> Result<(), Fail> {
+    let mut bytes = map_then_resolve(alloc)?;
+    if let Some(slot) = bytes.get_mut(at) {
+        *slot = byte;
+    }
+    let Err(bad) = read_in_units(alloc, &bytes, 7)? else {
+        panic!(rt; "{at}: no bad unit");
+    };
+    assert_eq!(rt; bad.field, Some(wanted), "{at}");
+    Ok(())
+}
+
+#[test]
+fn the_wrong_field_of_an_event_is_named(rt: HostRuntime) -> Result<(), Fail> {
+    let alloc = rt.alloc();
+    for (at, byte, field, value, fault) in [
+        (24, 2, EventField::Tag, 2, FieldFault::NotBelow(2)),
+        (25, 1, EventField::Replica, 1, FieldFault::NotBelow(1)),
+        (27, 4, EventField::Thread, 4, FieldFault::NotBelow(1)),
+        (28, 4, EventField::Kind, 4, FieldFault::NotBelow(4)),
+        (29, 3, EventField::Size, 3, FieldFault::NotBelow(3)),
+        (30, 8, EventField::Rights, 8, FieldFault::NotBelow(8)),
+        (31, 1, EventField::Unused, 1, FieldFault::NotBelow(1)),
+        (
+            34,
+            0x80,
+            EventField::Address,
+            0x8000_0040_0000,
+            FieldFault::NotCanonical(4),
+        ),
+        (
+            39,
+            1,
+            EventField::Address,
+            0x40_0001,
+            FieldFault::NotMultiple(4096),
+        ),
+        (
+            47,
+            1,
+            EventField::Physical,
+            0x1001,
+            FieldFault::NotMultiple(4096),
+        ),
+        (
+            41,
+            8,
+            EventField::Physical,
+            0x8_0000_0000_1000,
+            FieldFault::Beyond,
+        ),
+        (49, 8, EventField::Answer, 8, FieldFault::NotBelow(8)),
+        (50, 1, EventField::Size, 1, FieldFault::NotBelow(1)),
+        (51, 2, EventField::Rights, 2, FieldFault::NotBelow(1)),
+        (63, 5, EventField::Unused, 5, FieldFault::NotBelow(1)),
+        (71, 1, EventField::Value, 1, FieldFault::NotBelow(1)),
+        (78, 1, EventField::Rights, 1, FieldFault::NotBelow(1)),
+        (95, 1, EventField::Physical, 1, FieldFault::NotBelow(1)),
+    ] {
+        names(
+            &rt,
+            alloc,
+            at,
+            byte,
+            BadField {
+                field,
+                value,
+                fault,
+            },
+        )?;
+    }
+    Ok(())
 }

@@ -186,7 +186,7 @@ module _ (start : Space) (first second : Segment) (same_layout : second.trace.la
 
   -- ---- spaces
 
-  of_log : AreOf first.trace first.trace.log
+  pub of_log : AreOf first.trace first.trace.log
   of_log call i =
       of_first call (in_filter (λ (c : ℕ). is_some (operation_of first.trace c)) call first.order (subst (λ (calls : List ℕ). In call calls) (sym is_before.log) i)).0
 

@@ -1,24 +1,25 @@
 -- A run that is cut in several places, no call being open there.
-use Rattle.std.proofs.Common.{◌≡◌, ℕ, ◌+◌, ◌<◌, ◌⊎◌, inl, inr, List, [], ◌∷◌, ◌++◌, length, map, slice_get, Some, ap, ap₂, sym, ◌∙◌, subst, arith}
+use Rattle.std.proofs.Common.{◌≡◌, ℕ, ◌+◌, ◌<◌, ◌⊎◌, inl, inr, List, [], ◌∷◌, ◌++◌, length, slice_get, Some, ap₂, sym, ◌∙◌, subst, arith}
 use Rattle.std.specs.Prelude.{⊤}
+use Rattle.std.proofs.lemmas.Option.{slice_get-map}
 use Rattle.vs_types.specs.Config.{Layout}
 use Rattle.vs_types.specs.Space.{Space}
-use Rattle.vs_walk.specs.Dump.{Image}
-use Rattle.nr_trace.specs.Recording.{Recording}
+use Rattle.nr_trace.specs.Recording.{IsThere, Recording}
 use Rattle.nr_trace.specs.Calls.{IsCall, Answers}
 use Rattle.nr_trace.specs.Orders.{recorded_order}
 use Rattle.nr_trace.specs.Laws.{IsFaultlessFrom}
 use Rattle.nr_trace.proofs.LawsOfDumps.{clean_if_faultless}
-use Rattle.nr_chain.specs.Cut.{IsClosed, AreCut, AreRecorded, without_dumps}
+use Rattle.nr_chain.specs.Cut.{HasNoDumps, IsClosed, AreCut, AreRecorded}
 use Rattle.nr_chain.specs.Joined.{Segment, calls_behind, dump_behind, joined_traces, both, joined}
 use Rattle.nr_chain.specs.Run.{space_behind, AreFaultlessFrom}
-use Rattle.nr_chain.proofs.Lists.{split_at}
+use Rattle.nr_chain.proofs.Lists.{of_mapped, split_at}
 use Rattle.nr_chain.proofs.Orders.{space_both}
 use Rattle.nr_chain.proofs.Parts.{answers_to_left, answers_to_right, is_call_left, is_call_right}
 use Rattle.nr_chain.proofs.Places.{PlacedRight, placed_in}
 use Rattle.nr_chain.proofs.Recorded.{events_of_both, recorded_both}
 use Rattle.nr_chain.proofs.CutRest.{log_within}
 use Rattle.nr_chain.proofs.CutWhole.{cut}
+use Rattle.nr_chain.proofs.SameRuns.{faultless_without, without_faultless}
 
 -- two closed runs are closed as one
 module _ (first second : Recording) (before : IsClosed first) (behind : IsClosed second) where
@@ -46,27 +47,23 @@ module _ (first second : Recording) (before : IsClosed first) (behind : IsClosed
   pub closed_both : IsClosed (joined_traces first second)
   closed_both = record { answered = answered; own = own }
 
+-- no dump is there of two runs if none is of the second
+none_of_both : (first second : Recording) → HasNoDumps second → HasNoDumps (joined_traces first second)
+none_of_both first second none replica dump is there =
+    let (own, own_is, same) = of_mapped (dump_behind (length first.log)) (slice_get second.dumps replica) dump
+    (sym (slice_get-map (dump_behind (length first.log)) second.dumps replica) ∙ is) in
+    none replica own own_is (subst IsThere (sym same) there)
+
 pub cut_joined : (first next : Segment) (more : List Segment) → IsClosed first.trace → AreCut next more → AreCut (both first next) more
 cut_joined first next [] closed cuts = tt
-cut_joined first next (after ∷ more) closed (next_closed, none, cuts) = (
-  closed_both first.trace next.trace closed next_closed,
-  ap (map (dump_behind (length first.trace.log))) none,
-  cuts,
-)
-
--- a run that has no dumps
-faultless_without : (start : Space) (trace : Recording) → trace.dumps ≡ [] → IsFaultlessFrom start (without_dumps trace) → IsFaultlessFrom start trace
-faultless_without start trace none faultless =
-    subst (λ (dumps : List Image). IsFaultlessFrom start (record trace { dumps = dumps })) (sym none) faultless
-
-without_faultless : (start : Space) (trace : Recording) → trace.dumps ≡ [] → IsFaultlessFrom start trace → IsFaultlessFrom start (without_dumps trace)
-without_faultless start trace none faultless = subst (λ (dumps : List Image). IsFaultlessFrom start (record trace { dumps = dumps })) none faultless
+cut_joined first next (after ∷ more) closed (next_closed, none, cuts) =
+    (closed_both first.trace next.trace closed next_closed, none_of_both first.trace next.trace none, cuts)
 
 module _ (start : Space) (first next : Segment) (same_layout : next.trace.layout ≡ first.trace.layout) (closed : IsClosed first.trace)
-    (none : first.trace.dumps ≡ []) where
+    (none : HasNoDumps first.trace) where
   pub faultless_both : IsFaultlessFrom start first.trace → IsFaultlessFrom (space_behind start first) next.trace
       → IsFaultlessFrom start (joined_traces first.trace next.trace)
-  faultless_both front rest = (cut start first.trace next.trace same_layout closed).1 (without_faultless start first.trace none front, rest)
+  faultless_both front rest = (cut start first.trace next.trace same_layout closed).1 (without_faultless start first.trace front, rest)
 
   pub faultless_apart : IsFaultlessFrom start (joined_traces first.trace next.trace)
       → IsFaultlessFrom start first.trace × IsFaultlessFrom (space_behind start first) next.trace

@@ -14,3 +14,18 @@ pub mod CutWhole
 pub mod Cuts
 pub mod Meeting
 mod GoesOn
+pub mod Touched
+pub mod OneChain
+pub mod FoundChains
+pub mod Ends
+pub mod Pieces
+pub mod ChainSteps
+pub mod Betweens
+pub mod Judged
+pub mod Wholes
+pub mod Restarts
+pub mod ByteParts
+pub mod TouchesApart
+pub mod SameRuns
+pub mod CutVerdicts
+pub mod Exact

@@ -2,3 +2,9 @@ pub mod Joined
 pub mod Run
 pub mod Cut
 pub mod Examples
+pub mod Fed
+pub mod Bytes
+pub mod Headline
+pub mod Verdict
+pub mod Parts
+pub mod inside

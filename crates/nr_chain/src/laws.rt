@@ -79,7 +79,7 @@ pub fn a_cut_makes_no_difference()
         × IsFaultlessFrom (space_from start first first.log) second) }
 {}
 
-/// So it is with several cuts, where each segment but the last is closed and has no dump.
+/// So it is with several cuts, where each segment but the last is closed and no dump of it is there.
 pub fn cuts_make_no_difference()
     ensures whole { (start : Space) (layout : Layout) (first : Segment) (more : List Segment)
         → AreCut first more → AreFaultlessFrom start layout (first ∷ more)

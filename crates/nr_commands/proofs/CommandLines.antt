@@ -1,15 +1,22 @@
 -- What a parse by clap says of the inspection that is asked for.
-use Rattle.std.proofs.Common.{◌≡◌, ◌∙◌, ℕ, Bool, true, false, List, [], ◌∷◌, Option, Some, None, Result, Ok, Err, ap, inl, inr, sym, refl, subst, codes, option_map, unwrap_or}
+use Rattle.std.proofs.Common.{◌≡◌, ◌∙◌, ◌≤◌, ◌⊎◌, length, map, ℕ, Bool, true, false, List, [], ◌∷◌, Option, Some, None, Result, Ok, Err, ap, inl, inr, sym, refl, subst, codes, option_map, unwrap_or}
 use Rattle.std.proofs.Common.{Bor, Box, IfErr}
 use Rattle.std.specs.Result.{IsErrAnd}
 use Rattle.std.specs.Box.{box_value}
 use Rattle.std.specs.Str.Parse.{ParsesUnsigned}
-use Rattle.clap.specs.Words.{HasKind, Kinds, ReadsOne, Row, Text, subcommand_rows}
+use Rattle.clap.specs.Words.{HasKind, Kinds, ReadsOne, kind_of, Row, Text, all_of, subcommand_rows}
+use Rattle.clap.specs.Walk.{one_of}
+use Rattle.std.proofs.lemmas.List.{length-map}
 use Rattle.clap.specs.declared.error.Error.{Error}
 use Rattle.clap.specs.declared.error.kind.ErrorKind.{ErrorKind}
+use Rattle.clap.specs.declared.error.kind.ErrorKind.TheVariants.{OutOfMemory}
 use Rattle.clap.specs.declared.parser.matches.SubCommand.{SubCommand}
 use Rattle.clap.specs.declared.parser.matches.ArgMatches.TheViews.{out-SubCommand}
-use Rattle.nr_commands.specs.Words.{IsFlag, IsReplica}
+use Rattle.nr_commands.specs.Words.{AsksAudit, AsksTraces, HasSeveralFiles, IsFlag, IsMisuse, IsMisused, IsReplica}
+use Rattle.nr_commands.specs.declared.inspection.Inspection.{Inspection}
+use Rattle.nr_commands.specs.declared.inspection.Inspection.TheVariants.{One, Each, Chain}
+use Rattle.nr_commands.specs.declared.task.Task.{Task}
+use Rattle.nr_commands.specs.declared.task.Task.TheVariants.{Audit, Explain, Resolve}
 
 -- one kind more may come
 pub one_more : (k : ErrorKind) (kinds : Kinds) (e : Error) → HasKind kinds e → HasKind (k ∷ kinds) e
@@ -27,6 +34,21 @@ entered (Some b) name rows n r = cc
 pub same_error : {T : Type 0} (r : Result T Error) (e : Error) (kinds : Kinds) → IsErrAnd r (λ x. x ≡ e) → HasKind kinds e → IfErr r (HasKind kinds)
 same_error (Ok x) e kinds same h = tt
 same_error (Err x) e kinds same h = subst (HasKind kinds) (sym same) h
+
+pub passed_on : {T : Type 0} (r : Result T Error) (e : Error) (P : Error → Type 0) → IsErrAnd r (λ x. x ≡ e) → P e → IfErr r P
+passed_on (Ok x) e P same h = tt
+passed_on (Err x) e P same h = subst P (sym same) h
+
+-- an error of clap's, and no other
+pub of_clap : {T : Type 0} (r : Result T Error) (kinds : Kinds) (P : Error → Type 0) → IfErr r (HasKind kinds) → IfErr r (λ e. HasKind kinds e ⊎ P e)
+of_clap (Ok x) kinds P h = tt
+of_clap (Err e) kinds P h = inl h
+
+-- one of `audit`
+pub of_audit : (e : Error) (kinds : Kinds) (sub : Option (Text × List Row)) (rows : List Row) → sub ≡ Some (codes "audit", rows)
+    → (kind_of e ≡ OutOfMemory) ⊎ IsMisuse rows (kind_of e) → HasKind kinds e ⊎ IsMisused sub (kind_of e)
+of_audit e kinds sub rows is (inl memory) = inl (inl memory)
+of_audit e kinds sub rows is (inr misuse) = inr (subst (λ s. IsMisused s (kind_of e)) (sym is) (refl, misuse))
 
 -- the text of a value, or none
 pub text_or_none : (o : Option (Bor (List ℕ))) (d : Bor (List ℕ)) (t : Option Text) → option_map (λ s. s.now) o ≡ t → d.now ≡ []
@@ -46,3 +68,27 @@ replica_read gives weaker (Some text) None none value = let h = value text refl 
 pub flag_of : (t u : Option Text) (flag : Bool) → t ≡ u → (t ≡ None → flag ≡ false) → (t ≡ Some (codes "true") → flag ≡ true)
     → (t ≡ Some (codes "false") → flag ≡ false) → IsFlag u flag
 flag_of t u flag same absent set unset = record { none = λ e. absent (same ∙ e); yes = λ e. set (same ∙ e); no = λ e. unset (same ∙ e) }
+
+-- ---- what was given with `audit`
+
+-- an audit of traces
+pub asks_traces : (rows : List Row) (asked : Inspection) → IsFlag (one_of (codes "chain") rows) false → IsFlag (one_of (codes "quiet") rows) false
+    → AsksTraces rows asked → AsksAudit rows asked
+asks_traces rows (One task input) chain quiet asks = (chain, quiet, asks)
+asks_traces rows (Each names) chain quiet asks = (chain, quiet, asks)
+asks_traces rows (Chain still input) chain quiet asks = absurd asks
+
+-- of one chain
+pub asks_chain : (rows : List Row) (task : Task) (input : Option (Bor (List ℕ))) (quiet : Bool) → IsFlag (one_of (codes "chain") rows) true
+    → IsFlag (one_of (codes "quiet") rows) quiet → AsksTraces rows (One task input) → AsksAudit rows (Chain quiet input)
+asks_chain rows Audit input quiet chain still asks = (chain, still, asks)
+asks_chain rows (Explain as_json) input quiet chain still asks = absurd asks
+asks_chain rows (Resolve word replica with_steps) input quiet chain still asks = absurd asks
+
+-- several files
+pub several_files : (rows : List Row) (asked : Inspection) → AsksTraces rows asked
+    → ((task : Task) (input : Option (Bor (List ℕ))) → asked ≡ One task input → ⊥) → HasSeveralFiles rows
+several_files rows (One task input) asks none = absurd (none task input refl)
+several_files rows (Each names) asks none =
+    (map (λ name. name.now) names.items, asks.0, subst (λ (n : ℕ). 2 ≤ n) (sym (length-map names.items (λ (name : Bor (List ℕ)). name.now))) asks.1)
+several_files rows (Chain quiet input) asks none = absurd asks

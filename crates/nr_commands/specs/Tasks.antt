@@ -1,5 +1,5 @@
 -- What an inspection of one input answers, and of several files, and what the program does with what its words ask for.
-use Rattle.std.specs.Prelude.{◌≡◌, ◌⊎◌, ℕ, Bool, true, false, List, [], ◌∷◌, Option, Some, None, Result, Ok, Err, IfOk, MatchResult, map, max, ⊤}
+use Rattle.std.specs.Prelude.{◌≡◌, ◌≢◌, ◌⊎◌, ℕ, Bool, true, false, List, [], ◌∷◌, Option, Some, None, Result, Ok, Err, IfErr, IfOk, MatchResult, map, max, ⊤}
 use Rattle.std.specs.List.{All, concat}
 use Rattle.std.specs.Borrow.{Bor}
 use Rattle.std.specs.Io.KnownBytes.{Appends}
@@ -11,9 +11,10 @@ use Rattle.nr_engines.specs.Answers.{IsAudit, IsNamedAudit, IsReadOf, IsResolve,
 use Rattle.nr_engines.specs.Explained.{IsExplained}
 use Rattle.nr_engines.specs.Refusals.{IsEndFault, IsResolveFault, WritesAnswersAlone, exit_status, refusal_status}
 use Rattle.nr_engines.specs.declared.fault.ProgFault.{ProgFault}
+use Rattle.nr_chain_engines.specs.ChainAudit.{HasWrittenFirst, IsChainAudit}
 use Rattle.nr_engines.specs.declared.fault.ProgFault.TheVariants.{CannotRead, CannotWrite, Memory}
 use Rattle.nr_commands.specs.declared.inspection.Inspection.{Inspection}
-use Rattle.nr_commands.specs.declared.inspection.Inspection.TheVariants.{One, Each}
+use Rattle.nr_commands.specs.declared.inspection.Inspection.TheVariants.{One, Each, Chain}
 use Rattle.nr_commands.specs.declared.task.Task.{Task}
 use Rattle.nr_commands.specs.declared.task.Task.TheVariants.{Audit, Explain, Resolve}
 use Rattle.nr_commands.specs.Words.{named_file}
@@ -22,13 +23,13 @@ use Rattle.nr_commands.specs.Words.{named_file}
 abbrev pub IsTaskReport : Task → List ℕ → List ℕ → ℕ → Type 0
 IsTaskReport Audit = IsAudit
 IsTaskReport (Explain as_json) = IsExplained as_json
-IsTaskReport (Resolve word replica) = IsResolve word.now replica
+IsTaskReport (Resolve word replica with_steps) = IsResolve word.now replica with_steps
 
 -- the fault of the task, where the input is known
 abbrev pub IsTaskFault : Task → Option (List ℕ) → ProgFault → Type 0
 IsTaskFault Audit known = IsEndFault
 IsTaskFault (Explain as_json) known = IsEndFault
-IsTaskFault (Resolve word replica) known = IsResolveFault word.now replica known
+IsTaskFault (Resolve word replica with_steps) known = IsResolveFault word.now replica with_steps known
 
 -- the task's answer was written, or there is none, for a reason that is its own
 pub record RunsTask {W : Type 0} (task : Task) (known : Option (List ℕ)) (contents : W
@@ -89,6 +90,17 @@ pub record AuditsEach (file_bytes : List ℕ → Option (List ℕ)) (names : Lis
   pub written : Appends old new (concat (map (λ (line : FileLine). line.text) lines))
   pub status_is : status ≡ worst (map (λ (line : FileLine). line.status) lines)
 
+-- the audit of a chain was made of this input, where it is specified; where it has no answer, the lines of right segments were written
+pub record AuditsChain {W : Type 0} (quiet : Bool) (known : Option (List ℕ)) (contents : W
+    → Option (List ℕ)) (old new : W) (outcome : Result ℕ ProgFault) : Type 0 where
+  pub ends : MatchResult outcome (WritesReport (IsChainAudit quiet) known (contents old) (contents new)) IsEndFault
+  pub first : IfErr outcome (λ fault. fault ≢ CannotWrite
+      → (left : Option (List ℕ)) × HasWrittenFirst quiet known left (contents old) (contents new) fault)
+
+-- the same of a file's bytes; or it couldn't be opened
+abbrev pub AuditsChainOfFile : {W : Type 0} → Bool → Option (List ℕ) → (W → Option (List ℕ)) → W → W → Result ℕ ProgFault → Type 0
+AuditsChainOfFile quiet known contents old new outcome = AuditsChain quiet known contents old new outcome ⊎ ((outcome ≡ Err CannotRead) × (new ≡ old))
+
 -- the inspection was made: of files with these bytes, and of this standard input, where they are specified
 abbrev pub RunsInspection : {W : Type 0} → (List ℕ → Option (List ℕ)) → Inspection → Option (List ℕ) → (W
     → Option (List ℕ)) → W → W → Result ℕ ProgFault → Type 0
@@ -98,6 +110,9 @@ RunsInspection file_bytes (One task (Some name)) known contents old new outcome 
 RunsInspection file_bytes (Each names) known contents old new outcome =
     MatchResult outcome (AuditsEach file_bytes (map (λ (name : Bor (List ℕ)). name.now) names.items) (contents old) (contents new))
     (λ fault. fault ≡ CannotWrite)
+RunsInspection file_bytes (Chain quiet None) known contents old new outcome = AuditsChain quiet known contents old new outcome
+RunsInspection file_bytes (Chain quiet (Some name)) known contents old new outcome =
+    AuditsChainOfFile quiet (file_bytes name.now) contents old new outcome
 
 -- help or the version was asked for, which go to the output
 abbrev pub is_shown : ErrorKind → Bool

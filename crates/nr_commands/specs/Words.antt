@@ -1,5 +1,6 @@
 -- The words of the commands `audit`, `explain` and `resolve`, as clap's definitions read words, and what they ask for.
 use Rattle.std.specs.Prelude.{◌≡◌, ◌≤◌, ◌⊎◌, ℕ, Bool, true, false, List, [], ◌∷◌, Option, Some, None, IfSome, Ok, Err, codes, length, map, pos, unwrap_or, option_map, if◌then◌else◌}
+use Rattle.std.specs.Borrow.{Bor}
 use Rattle.std.specs.Str.{bytes_eq}
 use Rattle.std.specs.Str.Parse.{ParsesUnsigned}
 use Rattle.clap.specs.Words.{App, Kinds, Row, Rule, Text, all_of, first_of, new_app, new_rule, with_rule}
@@ -8,9 +9,10 @@ use Rattle.clap.specs.declared.builder.command.Command.{Command as ClapCommand}
 use Rattle.clap.specs.declared.builder.command.Command.TheViews.{out-Command}
 use Rattle.clap.specs.declared.builder.value_parser.ValueParser.TheVariants as parsers
 use Rattle.clap.specs.declared.builder.action.ArgAction.TheVariants.{Append, SetTrue}
+use Rattle.clap.specs.declared.error.kind.ErrorKind.{ErrorKind}
 use Rattle.clap.specs.declared.error.kind.ErrorKind.TheVariants as kind
 use Rattle.nr_commands.specs.declared.inspection.Inspection.{Inspection}
-use Rattle.nr_commands.specs.declared.inspection.Inspection.TheVariants.{One, Each}
+use Rattle.nr_commands.specs.declared.inspection.Inspection.TheVariants.{One, Each, Chain}
 use Rattle.nr_commands.specs.declared.task.Task.TheVariants.{Audit, Explain, Resolve}
 use Rattle.nr_commands.specs.declared.host_words.NoWords.{NoWords}
 use Rattle.nr_commands.specs.declared.host_words.NoWords.TheVariants.{Memory, NotText}
@@ -43,14 +45,26 @@ replica_option = record (new_rule (codes "replica")) {
 abbrev pub json_option : Rule
 json_option = record (new_rule (codes "json")) { long = Some (codes "json"); action = Some SetTrue }
 
+-- --chain and --quiet, which have no value
+abbrev pub chain_option : Rule
+chain_option = record (new_rule (codes "chain")) { long = Some (codes "chain"); action = Some SetTrue }
+
+abbrev pub quiet_option : Rule
+quiet_option = record (new_rule (codes "quiet")) { long = Some (codes "quiet"); action = Some SetTrue }
+
+-- --steps, which has no value
+abbrev pub steps_option : Rule
+steps_option = record (new_rule (codes "steps")) { long = Some (codes "steps"); action = Some SetTrue }
+
 abbrev pub audit_app : App
-audit_app = with_rule (new_app (codes "audit")) files_argument
+audit_app = with_rule (with_rule (with_rule (new_app (codes "audit")) chain_option) quiet_option) files_argument
 
 abbrev pub explain_app : App
 explain_app = with_rule (with_rule (new_app (codes "explain")) json_option) file_argument
 
 abbrev pub resolve_app : App
-resolve_app = with_rule (with_rule (with_rule (new_app (codes "resolve")) address_option) replica_option) file_argument
+resolve_app =
+    with_rule (with_rule (with_rule (with_rule (new_app (codes "resolve")) address_option) replica_option) steps_option) file_argument
 
 -- the file of this name, but standard input where it is `-` or there is none
 abbrev pub named_file : Text → Option Text
@@ -71,12 +85,38 @@ pub record IsFlag (given : Option Text) (flag : Bool) : Type 0 where
   pub yes : given ≡ Some (codes "true") → flag ≡ true
   pub no : given ≡ Some (codes "false") → flag ≡ false
 
--- what was given with `audit` asks for this: of more than one file, an audit of each
-abbrev pub AsksAudit : List Row → Inspection → Type 0
-AsksAudit rows (One Audit input) = IfSome (all_of (codes "file") rows) (λ names. length names ≤ 1)
+-- no more than one file was named, and this is the input
+abbrev pub HasOneInput : List Row → Option (Bor Text) → Type 0
+HasOneInput rows input = IfSome (all_of (codes "file") rows) (λ names. length names ≤ 1)
     × (option_map (λ name. name.now) input ≡ input_of (first_of (codes "file") rows))
-AsksAudit rows (Each names) = (all_of (codes "file") rows ≡ Some (map (λ name. name.now) names.items)) × (2 ≤ length names.items)
-AsksAudit rows _ = ⊥
+
+-- more than one was
+abbrev pub HasSeveralFiles : List Row → Type 0
+HasSeveralFiles rows = (names : List Text) × (all_of (codes "file") rows ≡ Some names) × (2 ≤ length names)
+
+-- the files that were named ask for an audit of one trace, or, where they are several, of each
+abbrev pub AsksTraces : List Row → Inspection → Type 0
+AsksTraces rows (One Audit input) = HasOneInput rows input
+AsksTraces rows (Each names) = (all_of (codes "file") rows ≡ Some (map (λ name. name.now) names.items)) × (2 ≤ length names.items)
+AsksTraces rows _ = ⊥
+
+-- what was given with `audit` asks for this: with --chain for an audit of one chain
+abbrev pub AsksAudit : List Row → Inspection → Type 0
+AsksAudit rows (Chain quiet input) =
+    IsFlag (one_of (codes "chain") rows) true × IsFlag (one_of (codes "quiet") rows) quiet × HasOneInput rows input
+AsksAudit rows inspection =
+    IsFlag (one_of (codes "chain") rows) false × IsFlag (one_of (codes "quiet") rows) false × AsksTraces rows inspection
+
+-- it is misused, though clap has nothing against it: more than one chain is named, or it is to be quiet of no chain
+abbrev pub IsMisuse : List Row → ErrorKind → Type 0
+IsMisuse rows kind.TooManyValues = IsFlag (one_of (codes "chain") rows) true × HasSeveralFiles rows
+IsMisuse rows kind.MissingRequiredArgument = IsFlag (one_of (codes "chain") rows) false × IsFlag (one_of (codes "quiet") rows) true
+IsMisuse rows _ = ⊥
+
+-- so a subcommand is with what was given with it
+abbrev pub IsMisused : Option (Text × List Row) → ErrorKind → Type 0
+IsMisused None fault = ⊥
+IsMisused (Some given) fault = (given.0 ≡ codes "audit") × IsMisuse given.1 fault
 
 -- with `explain`
 abbrev pub AsksExplain : List Row → Inspection → Type 0
@@ -86,8 +126,9 @@ AsksExplain rows _ = ⊥
 
 -- with `resolve`
 abbrev pub AsksResolve : List Row → Inspection → Type 0
-AsksResolve rows (One (Resolve address replica) input) = (unwrap_or (first_of (codes "address") rows) [] ≡ address.now)
-    × IsReplica (one_of (codes "replica") rows) replica × (option_map (λ name. name.now) input ≡ input_of (first_of (codes "file") rows))
+AsksResolve rows (One (Resolve address replica with_steps) input) = (unwrap_or (first_of (codes "address") rows) [] ≡ address.now)
+    × IsReplica (one_of (codes "replica") rows) replica × IsFlag (one_of (codes "steps") rows) with_steps
+    × (option_map (λ name. name.now) input ≡ input_of (first_of (codes "file") rows))
 AsksResolve rows _ = ⊥
 
 -- a subcommand and what was given with it ask for an inspection

@@ -1,9 +1,11 @@
-ghost use Rattle.std.specs.Prelude.{◌≡◌, IfOk, codes, option_map};
-ghost use Rattle.clap.specs.Words.{first_of, found_of, rows_of};
-ghost use Rattle.nr_commands.specs.Words.{AsksAudit, AsksExplain, AsksResolve, input_of, named_file};
+ghost use Rattle.std.specs.Prelude.{◌≡◌, ◌⊎◌, IfErr, IfOk, codes, option_map};
+ghost use Rattle.clap.specs.Words.{first_of, found_of, kind_of, rows_of};
+ghost use Rattle.nr_commands.specs.Words.{AsksAudit, AsksExplain, AsksResolve, AsksTraces, IsMisuse};
+ghost use Rattle.nr_commands.specs.Words.{input_of, named_file};
 
 use crate::task::Task;
-use clap::ArgMatches;
+use clap::error::ErrorKind;
+use clap::{ArgMatches, Command, Error};
 use std::alloc::{AllocError, Global};
 
 /// What the words of `audit`, `explain` or `resolve` ask for.
@@ -13,6 +15,8 @@ pub enum Inspection<'a> {
     One(Task<'a>, Option<&'a str>),
     /// An audit of each of these files, a line each; `-` is standard input.
     Each(Vec<&'a str>),
+    /// An audit of a chain, which prints nothing of right segments where it is quiet: of the file of this name, or of standard input.
+    Chain(bool, Option<&'a str>),
 }
 
 /// The file of this name, or none where it is `-`, which is standard input.
@@ -33,13 +37,9 @@ fn input_of<'a>(given: &ArgMatches<'a>) -> Option<&'a str>
     }
 }
 
-/// What was given with `audit` asks for.
-///
-/// # Errors
-///
-/// Out of memory.
-pub fn read_audit<'a>(alloc: Global, given: &ArgMatches<'a>) -> Result<Inspection<'a>, AllocError>
-    ensures { IfOk result (AsksAudit (rows_of (found_of given.now))) }
+/// The audit of one trace or of several that was asked for.
+fn read_traces<'a>(alloc: Global, given: &ArgMatches<'a>) -> Result<Inspection<'a>, AllocError>
+    ensures { IfOk result (AsksTraces (rows_of (found_of given.now))) }
 {
     match given.get_raw("file") {
         Some(names) => {
@@ -51,6 +51,44 @@ pub fn read_audit<'a>(alloc: Global, given: &ArgMatches<'a>) -> Result<Inspectio
         }
         None => Ok(Inspection::One(Task::Audit, input_of(given))),
     }
+}
+
+/// What was given with `audit` asks for. The line is that of the program, for what it says of its words.
+///
+/// # Errors
+///
+/// `TooManyValues` where several chains are named, `MissingRequiredArgument` where it is to be quiet of no chain; out of memory.
+pub fn read_audit<'a>(
+    alloc: Global,
+    line: &mut Command<'a>,
+    given: &ArgMatches<'a>,
+) -> Result<Inspection<'a>, Error>
+    ensures asks { IfOk result (AsksAudit (rows_of (found_of given.now))) }
+    ensures misused { IfErr result (λ error. (kind_of error ≡ ErrorKind.OutOfMemory)
+        ⊎ IsMisuse (rows_of (found_of given.now)) (kind_of error)) }
+{
+    let asked = read_traces(alloc, given)?;
+    let quiet = given.get_flag("quiet");
+    if given.get_flag("chain") {
+        match asked {
+            Inspection::One(_, input) => return Ok(Inspection::Chain(quiet, input)),
+            _ => {
+                let several = line.error(
+                    ErrorKind::TooManyValues,
+                    "one chain is audited at a time",
+                )?;
+                return Err(several);
+            }
+        }
+    }
+    if quiet {
+        let alone = line.error(
+            ErrorKind::MissingRequiredArgument,
+            "--quiet is for --chain alone",
+        )?;
+        return Err(alone);
+    }
+    Ok(asked)
 }
 
 /// What was given with `explain` asks for.
@@ -66,5 +104,6 @@ pub fn read_resolve<'a>(given: &ArgMatches<'a>) -> Inspection<'a>
 {
     let address = given.get_str("address").unwrap_or("");
     let replica = given.get_one::<u8>("replica").unwrap_or(0);
-    Inspection::One(Task::Resolve(address, replica), input_of(given))
+    let with_steps = given.get_flag("steps");
+    Inspection::One(Task::Resolve(address, replica, with_steps), input_of(given))
 }

@@ -1,10 +1,11 @@
 ghost use Rattle.std.specs.Prelude.{◌≡◌, IfErr, IfOk, map};
-ghost use Rattle.nr_commands.specs.Tasks.{AuditsEach, AuditsOne, RunsInspection, RunsTaskOnFile, WritesLine};
+ghost use Rattle.nr_commands.specs.Tasks.{AuditsChainOfFile, AuditsEach, AuditsOne, RunsInspection, RunsTaskOnFile, WritesLine};
 
 use crate::files::FilesByName;
 use crate::inspection::Inspection;
 use crate::refusal::{tell_name, tell_refused};
 use crate::task::Task;
+use nr_chain_engines::audit_chain_io;
 use nr_engines::{ProgFault, named_audit_io};
 use std::alloc::Global;
 use std::io::{Read, Write};
@@ -22,6 +23,23 @@ fn run_on_file<F: FilesByName, W: Write>(
 {
     match files.open(name) {
         Ok(mut file) => task.run(alloc, &mut file, output),
+        Err(_) => Err(ProgFault::CannotRead),
+    }
+}
+
+/// Audits the chain in the file of this name.
+fn audit_chain_of_file<F: FilesByName, W: Write>(
+    files: &F,
+    alloc: Global,
+    name: &str,
+    output: &mut W,
+    quiet: bool,
+) -> Result<u8, ProgFault>
+    ensures { AuditsChainOfFile quiet (F.file_bytes files.now name.now) W.contents output.old
+        output.new result }
+{
+    match files.open(name) {
+        Ok(mut file) => audit_chain_io(alloc, &mut file, output, quiet),
         Err(_) => Err(ProgFault::CannotRead),
     }
 }
@@ -113,6 +131,14 @@ pub fn run_inspection<F: FilesByName, R: Read, W: Write, E: Write>(
         }
         Inspection::Each(names) => {
             audit_each(files, alloc, names.as_slice(), reader, output, errors)
+        }
+        Inspection::Chain(quiet, None) => audit_chain_io(alloc, reader, output, quiet),
+        Inspection::Chain(quiet, Some(name)) => {
+            let outcome = audit_chain_of_file(files, alloc, name, output, quiet);
+            if let Err(fault) = &outcome {
+                tell_name(name, fault, errors);
+            }
+            outcome
         }
     }
 }

@@ -9,8 +9,8 @@ pub enum Task<'a> {
     Audit,
     /// Judge it, and show the evidence of its fault; and as JSON.
     Explain(bool),
-    /// Walk at this address, as the command line spells it, in the dump of this replica.
-    Resolve(&'a str, u8),
+    /// Walk at this address, as the command line spells it, in the dump of this replica; and list the entries that are read.
+    Resolve(&'a str, u8, bool),
 }
 
 impl Task<'_> {
@@ -39,7 +39,9 @@ impl Task<'_> {
         match self {
             Task::Audit => audit_io(alloc, reader, writer),
             Task::Explain(as_json) => explain_io(alloc, reader, writer, as_json),
-            Task::Resolve(address, replica) => resolve_io(alloc, reader, writer, address, replica),
+            Task::Resolve(address, replica, with_steps) => {
+                resolve_io(alloc, reader, writer, address, replica, with_steps)
+            }
         }
     }
 }

@@ -32,8 +32,20 @@ pub fn audit<'a>(alloc: Global) -> Result<Command<'a>, AllocError>
         .value_name("FILE")
         .action(ArgAction::Append)
         .help("The traces, of several a line each; standard input where it is - or none is given");
+    let chain = Arg::new(alloc, "chain")
+        .long("chain")
+        .action(ArgAction::SetTrue)
+        .help(
+            "The input is a chain: prints whether its segments are right, each as soon as it is read",
+        );
+    let quiet = Arg::new(alloc, "quiet")
+        .long("quiet")
+        .action(ArgAction::SetTrue)
+        .help("With --chain: prints nothing of the segments that are right");
     Command::new(alloc, "audit")
         .about("Prints whether a trace is right")
+        .arg(chain)?
+        .arg(quiet)?
         .arg(files)
 }
 
@@ -74,9 +86,14 @@ pub fn resolve<'a>(alloc: Global) -> Result<Command<'a>, AllocError>
         .value_parser(value_parser!(u8))
         .default_value("0")
         .help("The number of the replica whose dump is looked into");
+    let steps = Arg::new(alloc, "steps")
+        .long("steps")
+        .action(ArgAction::SetTrue)
+        .help("Prints the entries that the walk reads, too");
     Command::new(alloc, "resolve")
         .about("Prints where an address leads in a dump of a trace")
         .arg(address)?
         .arg(replica)?
+        .arg(steps)?
         .arg(file(alloc))
 }

@@ -1,7 +1,8 @@
 -- What the commands answer to bytes: a text and a status.
-use Rattle.std.specs.Prelude.{◌≡◌, ◌≤◌, ◌+◌, ◌⊎◌, ◌++◌, ℕ, List, codes, length, Option, Some, IfSome, Result, slice_get}
+use Rattle.std.specs.Prelude.{◌≡◌, ◌≤◌, ◌+◌, ◌⊎◌, ◌++◌, ℕ, Bool, true, false, List, codes, flat_map, length, Option, Some, IfSome, Result, slice_get}
 use Rattle.std.specs.Io.KnownBytes.{Appends, Consumes}
-use Rattle.vs_types.specs.Depth.{IsCanonical}
+use Rattle.vs_types.specs.Depth.{IsCanonical, levels}
+use Rattle.vs_types.specs.declared.depth.Depth.{Depth}
 use Rattle.vs_types.specs.declared.refusal.Fail.{Fail}
 use Rattle.vs_walk.specs.Walk.{walk}
 use Rattle.vs_walk.specs.Dump.{Image}
@@ -14,9 +15,11 @@ use Rattle.nr_trace.specs.declared.fault.Fault.TheVariants as faults
 use Rattle.nr_audit.specs.Headline.{AreRightWith}
 use Rattle.nr_audit.specs.Verdict.{IfYes, IsVerdictOf, verdict_status}
 use Rattle.nr_audit.specs.declared.verdict.Verdict.{Verdict}
+use Rattle.nr_explain.specs.Facts.{entries_read}
 use Rattle.nr_explain.specs.Units.{ReadsUnits}
 use Rattle.nr_explain.specs.declared.units.Unread.{Unread}
 use Rattle.nr_engines.specs.Text.{no_text, verdict_line, verdict_text, walk_text}
+use Rattle.nr_engines.specs.EvidenceText.{step_line}
 use Rattle.vs_text.specs.Words.{SpellsAddress}
 
 -- of `audit`: the text and the status are those of the verdict of these bytes; where it is yes they are right with its order
@@ -35,14 +38,20 @@ pub record IsNamedAudit (name bytes text : List ℕ) (status : ℕ) : Type 0 whe
   pub text_is : text ≡ name ++ (codes ": " ++ verdict_line verdict)
   pub status_is : status ≡ verdict_status verdict
 
--- the bytes spell a trace, at its depth the address is canonical, and the text is where its walk ends in the dump of the replica
-pub record IsWalkInDump (bytes : List ℕ) (address replica : ℕ) (text : List ℕ) (status : ℕ) : Type 0 where
+-- where the walk of an address ends in a dump, and with steps the entries that it reads
+abbrev pub walk_lines : Bool → Depth → Image → ℕ → List ℕ
+walk_lines false depth dump address = walk_text (walk depth dump.frames dump.root address)
+walk_lines true depth dump address =
+    walk_text (walk depth dump.frames dump.root address) ++ flat_map step_line (entries_read dump.frames (levels depth) dump.root address)
+
+-- the bytes spell a trace, at its depth the address is canonical, and the text is of its walk in the dump of the replica
+pub record IsWalkInDump (bytes : List ℕ) (address replica : ℕ) (with_steps : Bool) (text : List ℕ) (status : ℕ) : Type 0 where
   pub trace : Recording
   pub spelled : Spells bytes trace
   pub canonical : IsCanonical trace.layout.depth address
   pub dump : Image
   pub is_dump : slice_get trace.dumps replica ≡ Some dump
-  pub text_is : text ≡ walk_text (walk trace.layout.depth dump.frames dump.root address)
+  pub text_is : text ≡ walk_lines with_steps trace.layout.depth dump address
   pub status_is : status ≡ 0
 
 -- the bytes spell no trace, and the text is that of their first fault
@@ -53,8 +62,9 @@ pub record IsFormatRefusal (bytes text : List ℕ) (status : ℕ) : Type 0 where
   pub status_is : status ≡ 1
 
 -- where this address leads in the dump of this replica
-abbrev pub IsWalk : ℕ → ℕ → List ℕ → List ℕ → ℕ → Type 0
-IsWalk address replica bytes text status = IsWalkInDump bytes address replica text status ⊎ IsFormatRefusal bytes text status
+abbrev pub IsWalk : ℕ → ℕ → Bool → List ℕ → List ℕ → ℕ → Type 0
+IsWalk address replica with_steps bytes text status =
+    IsWalkInDump bytes address replica with_steps text status ⊎ IsFormatRefusal bytes text status
 
 -- the bytes spell a trace at whose depth the address is not canonical
 pub record IsOutOfItsDepth (bytes : List ℕ) (address : ℕ) : Type 0 where
@@ -70,10 +80,10 @@ pub record LacksReplica (bytes : List ℕ) (address replica : ℕ) : Type 0 wher
   pub lacking : trace.layout.replicas ≤ replica
 
 -- of `resolve`, where this word spells the address
-pub record IsResolve (word : List ℕ) (replica : ℕ) (bytes text : List ℕ) (status : ℕ) : Type 0 where
+pub record IsResolve (word : List ℕ) (replica : ℕ) (with_steps : Bool) (bytes text : List ℕ) (status : ℕ) : Type 0 where
   pub address : ℕ
   pub spelled : SpellsAddress word address
-  pub is_walk : IsWalk address replica bytes text status
+  pub is_walk : IsWalk address replica with_steps bytes text status
 
 -- the input is that of the reader, where the reader's contract specifies its bytes
 abbrev pub IsReadOf : Option (List ℕ) → List ℕ → Type 0

@@ -1,5 +1,6 @@
 pub mod Text
 pub mod EvidenceText
+pub mod FieldText
 pub mod Sentence
 pub mod EvidenceJson
 pub mod Explained

@@ -1,5 +1,5 @@
 -- The program ends with no answer: why, its exit status, and what it writes to standard error.
-use Rattle.std.specs.Prelude.{◌≡◌, ◌≢◌, ◌++◌, ℕ, List, codes, decimal, Option, Result, Ok, Err, IfErr, ⊤}
+use Rattle.std.specs.Prelude.{◌≡◌, ◌≢◌, ◌++◌, ℕ, Bool, List, codes, decimal, Option, Result, Ok, Err, IfErr, ⊤}
 use Rattle.vs_text.specs.Words.{SpellsAddress}
 use Rattle.nr_engines.specs.Text.{line_end}
 use Rattle.nr_engines.specs.Answers.{IsReadOf, IsOutOfItsDepth, IsResolve, LacksReplica}
@@ -53,17 +53,17 @@ IsWalkFault bytes address replica Memory = ⊤
 IsWalkFault bytes address replica _ = ⊥
 
 -- the fault of `resolve` on this word and replica, where the input is known; the word is tested first, and only an answer is written
-abbrev pub IsResolveFault : List ℕ → ℕ → Option (List ℕ) → ProgFault → Type 0
-IsResolveFault word replica known BadAddress = (address : ℕ) → SpellsAddress word address → ⊥
-IsResolveFault word replica known NotCanonical =
+abbrev pub IsResolveFault : List ℕ → ℕ → Bool → Option (List ℕ) → ProgFault → Type 0
+IsResolveFault word replica with_steps known BadAddress = (address : ℕ) → SpellsAddress word address → ⊥
+IsResolveFault word replica with_steps known NotCanonical =
     (address : ℕ) × SpellsAddress word address × ((input : List ℕ) × IsReadOf known input × IsOutOfItsDepth input address)
-IsResolveFault word replica known NoSuchReplica =
+IsResolveFault word replica with_steps known NoSuchReplica =
     (address : ℕ) × SpellsAddress word address × ((input : List ℕ) × IsReadOf known input × LacksReplica input address replica)
-IsResolveFault word replica known CannotWrite =
-    (input : List ℕ) × IsReadOf known input × ((text : List ℕ) × (status : ℕ) × IsResolve word replica input text status)
-IsResolveFault word replica known CannotRead = (address : ℕ) × SpellsAddress word address
-IsResolveFault word replica known Memory = (address : ℕ) × SpellsAddress word address
-IsResolveFault word replica known _ = ⊥
+IsResolveFault word replica with_steps known CannotWrite =
+    (input : List ℕ) × IsReadOf known input × ((text : List ℕ) × (status : ℕ) × IsResolve word replica with_steps input text status)
+IsResolveFault word replica with_steps known CannotRead = (address : ℕ) × SpellsAddress word address
+IsResolveFault word replica with_steps known Memory = (address : ℕ) × SpellsAddress word address
+IsResolveFault word replica with_steps known _ = ⊥
 
 -- where there is no answer, the writer is as it was, but where it could not be written to
 abbrev pub WritesAnswersAlone : {W : Type 0} → W → W → Result ℕ ProgFault → Type 0

@@ -10,6 +10,7 @@ use Rattle.nr_trace.specs.declared.fault.Format.{Format}
 use Rattle.nr_trace.specs.declared.fault.Format.TheVariants as formats
 use Rattle.nr_explain.specs.Units.{size}
 use Rattle.nr_explain.specs.declared.units.BadUnit.{BadUnit}
+use Rattle.nr_explain.specs.declared.fields.BadField.{BadField}
 use Rattle.nr_explain.specs.declared.evidence.Step.{Step}
 use Rattle.nr_explain.specs.declared.evidence.OpenCalls.{OpenCalls}
 use Rattle.nr_explain.specs.declared.evidence.StrayReply.{StrayReply}
@@ -31,6 +32,7 @@ use Rattle.nr_explain.specs.declared.evidence.Evidence.{Evidence}
 use Rattle.nr_explain.specs.declared.evidence.Evidence.TheVariants as evidence
 use Rattle.nr_explain.specs.declared.explaining.Explanation.{Explanation}
 use Rattle.nr_explain.specs.declared.explaining.Explanation.TheVariants.{Yes, No}
+use Rattle.nr_engines.specs.FieldText.{since_text}
 use Rattle.nr_engines.specs.Text.{answer_text, line_end, no_text, walk_words, yes_text}
 use Rattle.nr_engines.specs.EvidenceText.{bytes_text, counts_lines, evidence_text, unit_text}
 
@@ -57,9 +59,9 @@ cut_text bad = codes "they end in " ++ (unit_text bad.unit ++ (codes ", of whose
 abbrev pub version_text : BadUnit → List ℕ
 version_text bad = codes "their version is 0x" ++ (bytes_text bad.read.items ++ codes ", and not 1 or 2")
 
--- which event is none
-abbrev pub event_text : ℕ → List ℕ
-event_text index = codes "event " ++ (decimal index ++ codes " is no call and no reply")
+-- which event is none, and which of its fields is wrong
+abbrev pub event_text : ℕ → Option BadField → List ℕ
+event_text index found = codes "event " ++ (decimal index ++ (codes " is no call and no reply" ++ since_text found))
 
 -- which frame has a wrong number
 abbrev pub frame_text : ℕ → ℕ → List ℕ
@@ -79,7 +81,7 @@ reason_text bad formats.BadVersion = version_text bad
 reason_text bad formats.BadCount = codes "a number in " ++ (unit_text bad.unit ++ codes " is out of range")
 reason_text bad formats.BadChain = codes "they are not laid out as the segment before them"
 reason_text bad (formats.BadStart index) = start_text index
-reason_text bad (formats.BadEvent index) = event_text index
+reason_text bad (formats.BadEvent index) = event_text index bad.field
 reason_text bad (formats.BadFrame replica index) = frame_text replica index
 reason_text bad formats.Trailing = codes "more bytes follow the last unit"
 

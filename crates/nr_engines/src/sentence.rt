@@ -10,12 +10,13 @@ ghost use Rattle.nr_engines.specs.Sentence.{stands_text, stray_reply_sentence, s
 ghost use Rattle.nr_engines.specs.Sentence.{two_replies_sentence, unlogged_text, updates_text};
 
 use crate::answer::answer_text;
+use crate::field_text::since_text;
 use crate::text::walk_words;
 use crate::unit_text::{bytes_text, unit_text};
 use nr_explain::{
-    BadUnit, Difference, EarlyCall, Evidence, LongPrefix, Misplaced, MissingTable, NoUpdate,
-    OpenCalls, OtherAnswer, PastEnd, ReservedEntry, SharedTable, ShortPrefix, Step, StrayReply,
-    StrayTable, TwoPlaces, TwoReplies,
+    BadField, BadUnit, Difference, EarlyCall, Evidence, LongPrefix, Misplaced, MissingTable,
+    NoUpdate, OpenCalls, OtherAnswer, PastEnd, ReservedEntry, SharedTable, ShortPrefix, Step,
+    StrayReply, StrayTable, TwoPlaces, TwoReplies,
 };
 use nr_trace::{Event, Format};
 use std::alloc::{AllocError, Global};
@@ -61,11 +62,12 @@ fn version_text(alloc: Global, bad: &BadUnit) -> Result<String, AllocError>
     format!(in alloc; "their version is 0x{read}, and not 1 or 2")
 }
 
-/// Which event is none.
-fn event_text(alloc: Global, index: u32) -> Result<String, AllocError>
-    ensures { IfOk result (λ text. string_bytes text ≡ event_text index) }
+/// Which event is none, and which of its fields is wrong.
+fn event_text(alloc: Global, index: u32, found: Option<BadField>) -> Result<String, AllocError>
+    ensures { IfOk result (λ text. string_bytes text ≡ event_text index found) }
 {
-    format!(in alloc; "event {index} is no call and no reply")
+    let since = since_text(alloc, found)?;
+    format!(in alloc; "event {index} is no call and no reply{since}")
 }
 
 /// Which frame has a wrong number.
@@ -103,7 +105,7 @@ fn reason_text(alloc: Global, bad: &BadUnit, fault: Format) -> Result<String, Al
             String::from_str(alloc, "they are not laid out as the segment before them")
         }
         Format::BadStart(index) => start_text(alloc, index),
-        Format::BadEvent(index) => event_text(alloc, index),
+        Format::BadEvent(index) => event_text(alloc, index, bad.field),
         Format::BadFrame(replica, index) => frame_text(alloc, replica, index),
         Format::Trailing => String::from_str(alloc, "more bytes follow the last unit"),
     }

@@ -78,8 +78,12 @@ fn push_call(text: &mut String, call: u32) -> Result<(), AllocError>
     text.push_str(Buffer::new().format(call))
 }
 
-/// The lines that are printed of a right trace, with an order of its calls.
-pub(crate) fn yes_text(alloc: Global, order: &[u32]) -> Result<String, AllocError>
+/// The lines that are printed of a right trace, with an order of its calls. Allocates memory for the text.
+///
+/// # Errors
+///
+/// Out of memory.
+pub fn yes_text(alloc: Global, order: &[u32]) -> Result<String, AllocError>
     ensures { IfOk result (λ text. string_bytes text ≡ yes_text order.now) }
 {
     let mut text = String::from_str(alloc, "yes\norder")?;

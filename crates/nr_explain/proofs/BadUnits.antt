@@ -22,6 +22,7 @@ use Rattle.nr_explain.specs.inside.Positions.{IsAhead, IsAt, IsBadIn, IsWhich}
 use Rattle.nr_explain.specs.declared.units.TraceUnit.{TraceUnit}
 use Rattle.nr_explain.specs.declared.units.TraceUnit.TheVariants.{Magic, Version as VersionWord, Counts, Place, Event, DumpHead, FrameNumber, FrameWords, Behind}
 use Rattle.nr_explain.specs.declared.positions.Lengths.{Lengths}
+use Rattle.nr_explain.proofs.After.{length_header}
 use Rattle.nr_explain.proofs.Passing.{cut_off, not_yet_from}
 use Rattle.nr_explain.proofs.NextUnits.{trace_magic, at_start, at_version, at_counts, counts_of_trace, head_ahead, number_ahead, more_counted, BehindNumber, BehindWords}
 use Rattle.nr_explain.proofs.Runs.{place_ahead, event_ahead, pass_places, refused_events}
@@ -142,6 +143,7 @@ one_bad unit lengths front run fault at not_yet whole settled =
       no_fault_yet = subst HasNoFaultYet (sym (append-nil front)) not_yet;
       within = omega (arith, whole);
       settled = subst (λ (l : List ℕ). HasLastingFault (front ++ l) fault) (sym (ap (λ (n : ℕ). take n run) all ∙ take-length run)) settled;
+      behind_header = inl refl;
     }
 
 all_but_last : (run : List ℕ) (n : ℕ) → length run ≡ n → run ≡ take n run
@@ -178,6 +180,7 @@ bad_place place lengths front run fault before at bytes long few settled =
       ];
       within = omega (arith, long);
       settled = subst (λ (l : List ℕ). HasLastingFault (front ++ l) fault) end settled;
+      behind_header = inr (omega (arith, length_header on.version on.numbers front on.behind on.counted.header));
     }
 
 pub bad_event : (index : ℕ) (lengths : Lengths) (front run : List ℕ) (fault : Format) (count before : ℕ) → IsAt (Event index) lengths front
@@ -216,5 +219,6 @@ bad_event index lengths front run fault count before at long some few which sett
       ];
       within = omega (arith, long);
       settled = refused.settled;
+      behind_header = inr (omega (arith, length_header on.version on.numbers front on.behind on.counted.header));
     } in
     subst (λ (n : ℕ). IsBadIn front run fault (Event (index + n)) (24 * n)) (sym same) bad

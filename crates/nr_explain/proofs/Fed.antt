@@ -1,8 +1,9 @@
 -- A feed that takes runs of units, and what is known where it refuses one or ends.
-use Rattle.std.proofs.Common.{◌≡◌, ℕ, ◌+◌, ◌<◌, ◌≤◌, inl, inr, List, [], ◌++◌, length, take, drop, Ok, Err, refl, ap, sym, ◌∙◌, subst, arith, append_assoc}
+use Rattle.std.proofs.Common.{◌≡◌, ℕ, ◌+◌, ◌-◌, ◌<◌, ◌≤◌, ◌⊎◌, inl, inr, min, Option, None, List, [], ◌++◌, length, take, drop, Ok, Err, refl, ap, sym, ◌∙◌, subst, arith, append_assoc}
 use Rattle.std.specs.Global.{Vec}
-use Rattle.std.proofs.Math.Seq.{take-add}
-use Rattle.std.proofs.lemmas.List.{append-nil, length-append, length-take-le}
+use Rattle.std.proofs.Math.Seq.{take-add, take-append-add}
+use Rattle.std.proofs.lemmas.Bool.{cases_lt}
+use Rattle.std.proofs.lemmas.List.{append-nil, length-append, length-take-le, take_all, take_min, take-append-le}
 use Rattle.vs_types.specs.declared.refusal.Fail.TheVariants.{Refused}
 use Rattle.nr_trace.specs.Recording.{Recording}
 use Rattle.nr_trace.specs.Spelling.{Spells}
@@ -12,6 +13,9 @@ use Rattle.nr_trace.specs.Feed.Fed.{Taken}
 use Rattle.nr_trace.specs.declared.fault.Format.{Format}
 use Rattle.nr_trace.specs.declared.fault.Format.TheVariants.{Truncated}
 use Rattle.nr_trace.proofs.LawsOfFormat.{no_fault}
+use Rattle.nr_explain.specs.Fields.{field_fault}
+use Rattle.nr_explain.specs.declared.fields.BadField.{BadField}
+use Rattle.nr_explain.specs.declared.positions.TheConstants.{HEADER_BYTES}
 use Rattle.nr_explain.specs.Units.{size, IsBadUnit, IsBadFor, IfBad}
 use Rattle.nr_explain.specs.inside.Positions.{taken, IsAt, IsBadIn, IsSoundAt}
 use Rattle.nr_explain.specs.declared.units.TraceUnit.{TraceUnit}
@@ -51,13 +55,36 @@ run_settled feed new offset unit lengths run fault sound feeds =
     let here : Feeds (Taken (taken feed)) run new (Err (Refused fault)) = subst (λ (f : Fed). Feeds f run new (Err (Refused fault))) sound.fed feeds in
     here.1
 
+-- the first bytes of what was read, where a run is taken
+pub more_read : (taken run header : List ℕ) (most missing : ℕ) → header ≡ take most taken → missing ≡ min (most - length header) (length run)
+    → header ++ take missing run ≡ take most (taken ++ run)
+more_read taken run header most missing is few = elim (cases_lt (length taken) most) [
+  | inl short ↦ (
+      let whole : header ≡ taken = is ∙ take_all most taken (omega (arith, short)) in
+      let n = most - length taken in
+      let same : missing ≡ min n (length run) = few ∙ ap (λ (l : List ℕ). min (most - length l) (length run)) whole in
+      let all : length taken + n ≡ most = omega (arith, short) in
+      ap (λ (l : List ℕ). l ++ take missing run) whole ∙ ap (λ (k : ℕ). taken ++ take k run) same ∙ ap (λ (l : List ℕ). taken ++ l) (take_min n run)
+      ∙ sym (take-append-add taken run n) ∙ ap (λ (k : ℕ). take k (taken ++ run)) all)
+  | inr long ↦ (
+      let none : missing ≡ 0 = omega (arith, few, ap length is, length-take-le most taken long) in
+      ap (λ (k : ℕ). header ++ take k run) none ∙ append-nil header ∙ is ∙ sym (take-append-le most taken run long))
+]
+
+-- and before a unit of a refused run
+first_bytes : (front run : List ℕ) (before most : ℕ) → (before ≡ 0) ⊎ (most ≤ length front) → take most (front ++ take before run) ≡ take most front
+first_bytes front run before most (inl none) =
+    ap (λ (n : ℕ). take most (front ++ take n run)) none ∙ ap (take most) (append-nil front)
+first_bytes front run before most (inr long) = take-append-le most front (take before run) long
+
 pub run_refused : (feed new : Fed) (offset : ℕ) (unit : TraceUnit) (lengths : Lengths) (run : List ℕ) (fault : Format) (bad : TraceUnit) (before : ℕ)
-    (read : Vec ℕ)
+    (read : Vec ℕ) (header : List ℕ) (field : Option BadField)
     → IsSoundAt feed offset unit lengths → Feeds feed run new (Err (Refused fault))
     → ((front : List ℕ) → IsAt unit lengths front → HasNoFaultYet front → HasLastingFault (front ++ run) fault → IsBadIn front run fault bad before)
     → read.items ≡ take (size bad) (drop before run)
-    → IsBadFor (taken feed ++ run) (record { fault = fault; unit = bad; offset = offset + before; read = read })
-run_refused feed new offset unit lengths run fault bad before read sound feeds find is = λ rest.
+    → header ≡ take HEADER_BYTES (taken feed) → field ≡ field_fault fault header read.items
+    → IsBadFor (taken feed ++ run) (record { fault = fault; unit = bad; offset = offset + before; read = read; field = field })
+run_refused feed new offset unit lengths run fault bad before read header field sound feeds find is begins told = λ rest.
     let front = taken feed in
     let here : Feeds (Taken front) run new (Err (Refused fault)) = subst (λ (f : Fed). Feeds f run new (Err (Refused fault))) sound.fed feeds in
     let found = find front sound.at sound.no_fault_yet here.1 in
@@ -90,6 +117,8 @@ run_refused feed new offset unit lengths run fault bad before read sound feeds f
         ),
         subst (λ (l : List ℕ). HasLastingFault l fault) (sym unit_read) found.settled,
       );
+      field = told ∙ ap (λ (l : List ℕ). field_fault fault l read.items)
+          (begins ∙ sym (first_bytes front run before HEADER_BYTES found.behind_header));
     }
 
 -- what is bad for some bytes is bad for more
@@ -120,9 +149,14 @@ ends_spelled feed offset unit lengths begun trace sound short ends =
           (sym (ap (λ (l : List ℕ). taken feed ++ l) (none_behind begun unit is short) ∙ append-nil (taken feed))) here
     ]
 
+-- a unit that is cut off has no field that is wrong
+no_field : (fault : Format) (header read : List ℕ) → fault ≡ Truncated → field_fault fault header read ≡ None
+unfolding field_fault
+no_field fault header read is = ap (λ (f : Format). field_fault f header read) is
+
 pub ends_cut : (feed : Fed) (offset : ℕ) (unit : TraceUnit) (lengths : Lengths) (begun : Vec ℕ) (fault : Format) → IsSoundAt feed offset unit lengths
     → length begun.items < size unit → Ends feed (Err (Refused fault))
-    → IsBadUnit (taken feed ++ begun.items) (record { fault = fault; unit = unit; offset = offset; read = begun })
+    → IsBadUnit (taken feed ++ begun.items) (record { fault = fault; unit = unit; offset = offset; read = begun; field = None })
 ends_cut feed offset unit lengths begun fault sound short ends =
     let front = taken feed in
     let here : Ends (Taken front) (Err (Refused fault)) = subst (λ (f : Fed). Ends f (Err (Refused fault))) sound.fed ends in
@@ -141,4 +175,5 @@ ends_cut feed offset unit lengths begun fault sound short ends =
       unit = goes_on unit lengths front sound.at;
       no_fault_yet = sound.no_fault_yet;
       shows = inl (short, refl, is_fault);
+      field = sym (no_field fault (take HEADER_BYTES front) begun.items is_fault);
     }

@@ -22,3 +22,4 @@ pub mod UnitsApart
 pub mod OneBadUnit
 pub mod Walked
 pub mod ReservedBits
+pub mod BadFields

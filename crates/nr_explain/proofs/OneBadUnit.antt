@@ -19,6 +19,8 @@ use Rattle.nr_trace.specs.declared.fault.Format.{Format}
 use Rattle.nr_trace.specs.declared.fault.Format.TheVariants.{BadMagic, BadVersion, BadCount, BadEvent, BadFrame, Truncated}
 use Rattle.nr_trace.proofs.LawsOfFormat.{one_fault, BehindCounts, BehindVersion, BehindMagic}
 use Rattle.nr_trace.proofs.LawsOfUnits.{length-counts, length-event, length-frame_words, length-head}
+use Rattle.nr_explain.specs.Fields.{field_fault}
+use Rattle.nr_explain.specs.declared.positions.TheConstants.{HEADER_BYTES}
 use Rattle.nr_explain.specs.Units.{size, GoesOn, IsBadUnit, Shows}
 use Rattle.nr_explain.specs.declared.units.BadUnit.{BadUnit}
 use Rattle.nr_explain.proofs.NextUnits.{counts_of_trace, no_start}
@@ -224,3 +226,10 @@ one_read bytes a b g h = same_items a.read.items b.read.items g.behind h.behind 
   by_shows (inl (short, none, cut)) (inr (whole, settled)) = absurd (omega (arith, all, short, whole, ap length none, ap size there.0))
   by_shows (inr (whole, settled)) (inl (short, none, cut)) = absurd (omega (arith, all, short, whole, ap length none, ap size there.0))
   by_shows (inr (whole, settled)) (inr (full, also)) = whole ∙ ap size there.0 ∙ sym full
+
+pub one_field : (bytes : List ℕ) (a b : BadUnit) → IsBadUnit bytes a → IsBadUnit bytes b → a.field ≡ b.field
+one_field bytes a b g h =
+    let header : take HEADER_BYTES g.front ≡ take HEADER_BYTES h.front = ap (take HEADER_BYTES) (one_place bytes a b g h).1 in
+    let fault = one_format bytes a b g h in
+    let read = one_read bytes a b g h in
+    g.field ∙ (λ i. field_fault (fault i) (header i) (read i)) ∙ sym h.field

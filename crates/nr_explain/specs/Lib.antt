@@ -1,3 +1,4 @@
+pub mod Fields
 pub mod Units
 pub mod Facts
 pub mod Evidence

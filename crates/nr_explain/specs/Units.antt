@@ -1,5 +1,5 @@
 -- The unit that shows a fault of the format: where it begins, and what was read of it.
-use Rattle.std.specs.Prelude.{◌≡◌, ◌⊎◌, ℕ, ◌+◌, ◌*◌, ◌<◌, ◌++◌, List, [], length, All, Result, MatchResult, ⊤}
+use Rattle.std.specs.Prelude.{◌≡◌, ◌⊎◌, ℕ, ◌+◌, ◌*◌, ◌<◌, ◌++◌, List, [], length, take, All, Result, MatchResult, ⊤}
 use Rattle.std.specs.List.{concat}
 use Rattle.vs_types.specs.Config.{Layout}
 use Rattle.nr_trace.specs.Recording.{Recording}
@@ -12,6 +12,8 @@ use Rattle.nr_trace.specs.declared.version.Form.TheVariants as forms
 use Rattle.nr_trace.specs.declared.version.Version.{Version}
 use Rattle.nr_trace.specs.declared.version.Version.TheVariants.{V1}
 use Rattle.nr_trace.specs.declared.fault.Format.TheVariants.{Truncated}
+use Rattle.nr_explain.specs.Fields.{field_fault}
+use Rattle.nr_explain.specs.declared.positions.TheConstants.{HEADER_BYTES}
 use Rattle.nr_explain.specs.declared.units.TraceUnit.{TraceUnit}
 use Rattle.nr_explain.specs.declared.units.TraceUnit.TheVariants.{Magic, Version as VersionWord, Counts, Place, Event, DumpHead, FrameNumber, FrameWords, Behind}
 use Rattle.nr_explain.specs.declared.units.BadUnit.{BadUnit}
@@ -106,7 +108,8 @@ Shows bad front behind =
     ((length bad.read.items < size bad.unit) × (behind ≡ []) × (bad.fault ≡ Truncated))
     ⊎ ((length bad.read.items ≡ size bad.unit) × HasLastingFault (front ++ bad.read.items) bad.fault)
 
--- the bytes have the fault, nothing is wrong with what comes before the unit, and the unit shows the fault
+-- the bytes have the fault, nothing is wrong with what comes before the unit, and the unit shows the fault; of an event the field is the
+-- first that isn't what it may be after this header
 pub record IsBadUnit (bytes : List ℕ) (bad : BadUnit) : Type 0 where
   pub fault : HasFormatFault bytes bad.fault
   pub front : List ℕ
@@ -116,6 +119,7 @@ pub record IsBadUnit (bytes : List ℕ) (bad : BadUnit) : Type 0 where
   pub unit : GoesOn front bad.unit
   pub no_fault_yet : HasNoFaultYet front
   pub shows : Shows bad front behind
+  pub field : bad.field ≡ field_fault bad.fault (take HEADER_BYTES front) bad.read.items
 
 -- what holds of the bad unit, if memory did not run out
 abbrev pub IfBad : (BadUnit → Type 0) → Unread → Type 0

@@ -1,10 +1,16 @@
 //! Laws of the definitions in `specs/`. Each function does nothing: its clauses say what holds of all bytes.
 
-ghost use Rattle.std.specs.Prelude.{◌≡◌, ℕ, List};
-ghost use Rattle.nr_explain.specs.Units.{IsBadUnit};
+ghost use Rattle.std.specs.Prelude.{◌≡◌, ◌<◌, ℕ, All, List, None, length};
+ghost use Rattle.nr_trace.specs.Recording.{IsEvent};
+ghost use Rattle.nr_trace.specs.Spelling.{event};
+ghost use Rattle.nr_trace.specs.declared.event.Event.{Event};
+ghost use Rattle.nr_trace.specs.declared.version.Version.{Version};
+ghost use Rattle.nr_explain.specs.Fields.{event_fault};
+ghost use Rattle.nr_explain.specs.Units.{HasHeader, IsBadUnit, Numbers};
 ghost use Rattle.nr_explain.specs.declared.units.BadUnit.{BadUnit};
 
-/// Bytes have at most one bad unit: what it is, where it begins, what was read of it and which fault it shows are determined by them.
+/// Bytes have at most one bad unit: what it is, where it begins, what was read of it, which fault it shows and which field
+/// of an event is wrong are determined by them.
 pub fn one_bad_unit()
     ensures fault { (bytes : List ℕ) (first second : BadUnit) → IsBadUnit bytes first
         → IsBadUnit bytes second → first.fault ≡ second.fault }
@@ -14,4 +20,14 @@ pub fn one_bad_unit()
         → IsBadUnit bytes second → first.offset ≡ second.offset }
     ensures read { (bytes : List ℕ) (first second : BadUnit) → IsBadUnit bytes first
         → IsBadUnit bytes second → first.read.items ≡ second.read.items }
+    ensures field { (bytes : List ℕ) (first second : BadUnit) → IsBadUnit bytes first
+        → IsBadUnit bytes second → first.field ≡ second.field }
+{}
+
+/// Where no field of 24 bytes is wrong, they spell an event of a trace with this header: what is refused has such a field.
+pub fn refused_events_have_a_bad_field()
+    ensures { (version : Version) (numbers : Numbers) (header behind unit : List ℕ)
+        → HasHeader version numbers header behind → length unit ≡ 24 → All (λ byte. byte < 256) unit
+        → event_fault header unit ≡ None
+        → (one : Event) × IsEvent version numbers.layout one × (unit ≡ event one) }
 {}

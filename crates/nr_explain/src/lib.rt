@@ -7,6 +7,7 @@ mod counts;
 mod dumps;
 mod evidence;
 mod explaining;
+mod fields;
 mod floors;
 pub mod laws;
 mod log;
@@ -26,5 +27,7 @@ pub use evidence::{
     ShortPrefix, Step, StrayReply, StrayTable, TwoPlaces, TwoReplies,
 };
 pub use explaining::{Explanation, explain, explain_read};
+pub use fields::{BadField, EventField, FieldFault};
+pub use paths::entries_read;
 pub use unit_feed::UnitFeed;
 pub use units::{BadUnit, TraceUnit, Unread};

@@ -209,8 +209,13 @@ fn read_on(
     Ok(())
 }
 
-/// The entries that the walk of an address reads from the root of a dump on. Allocates them.
-pub(crate) fn entries_read(
+/// The entries that the walk of an address at this depth reads from the root of a dump on, in their order: at most one a level,
+/// and none where the dump lacks the root. The bits of the address above the translated ones are not read. Allocates the entries.
+///
+/// # Errors
+///
+/// `Memory` where a growth of memory was refused.
+pub fn entries_read(
     alloc: Global,
     dump: &Dump,
     depth: Depth,

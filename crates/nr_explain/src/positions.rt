@@ -10,6 +10,9 @@ use crate::units::TraceUnit;
 use nr_trace::Format;
 use std::cmp::min;
 
+/// How many bytes a header has: magic, version and counts.
+pub(crate) const HEADER_BYTES: usize = 20;
+
 /// How many places, events and replicas a trace has, and how many frames the dump that has begun.
 #[derive(Clone, Copy)]
 pub(crate) struct Lengths {

@@ -6,7 +6,8 @@ ghost use Rattle.nr_explain.specs.Units.{size, IfBad, IsBadFor, ReadsUnits};
 ghost use Rattle.nr_explain.specs.inside.Positions.{taken, IsRun, IsSound};
 ghost use Rattle.nr_explain.specs.declared.units.Unread.TheVariants as reasons;
 
-use crate::positions::{Lengths, after, bad_unit, run_len};
+use crate::fields::field_fault;
+use crate::positions::{HEADER_BYTES, Lengths, after, bad_unit, run_len};
 use crate::units::{BadUnit, TraceUnit, Unread};
 use nr_trace::{Feed, Trace};
 use std::alloc::Global;
@@ -23,6 +24,8 @@ pub(crate) struct Units {
     pub(crate) lengths: Lengths,
     /// How many bytes were read.
     pub(crate) offset: u64,
+    /// The first of them, no more than a header has.
+    pub(crate) header: Vec<u8>,
 }
 
 /// Takes the next run.
@@ -35,6 +38,8 @@ fn take_run(mut units: Units, run: &[u8]) -> Result<Units, Unread>
 {
     match units.feed.feed(run) {
         Ok(()) => {
+            let missing = (HEADER_BYTES - units.header.len()).min(run.len());
+            units.header.extend_from_slice(&run[..missing])?;
             let (next, lengths) = after(units.next, units.lengths, run);
             units.next = next;
             units.lengths = lengths;
@@ -46,11 +51,13 @@ fn take_run(mut units: Units, run: &[u8]) -> Result<Units, Unread>
             let (unit, before) = bad_unit(units.next, units.lengths, run, fault);
             let mut read = Vec::new(units.alloc);
             read.extend_from_slice(&run[before..before + unit.size()])?;
+            let field = field_fault(fault, &units.header, &read);
             Err(Unread::Bad(BadUnit {
                 fault,
                 unit,
                 offset: units.offset + before as u64,
                 read,
+                field,
             }))
         }
     }
@@ -120,6 +127,7 @@ impl UnitFeed {
                 next: TraceUnit::Magic,
                 lengths: Lengths::none(),
                 offset: 0,
+                header: Vec::new(alloc),
             },
             begun: Vec::new(alloc),
         }
@@ -170,6 +178,7 @@ impl UnitFeed {
                 unit: units.next,
                 offset: units.offset,
                 read: begun,
+                field: None,
             })),
         }
     }

@@ -4,6 +4,7 @@ ghost use Rattle.std.specs.Prelude.{◌≡◌};
 ghost use Rattle.nr_explain.specs.Units.{size};
 ghost use Rattle.nr_explain.specs.declared.units.Unread.TheVariants as reasons;
 
+use crate::fields::BadField;
 use nr_trace::Format;
 use std::alloc::{AllocError, AllocFailed};
 
@@ -52,6 +53,8 @@ pub struct BadUnit {
     pub offset: u64,
     /// Its bytes, or as many of them as there are.
     pub read: Vec<u8>,
+    /// Of an event that is no call and no reply the first field that isn't what it may be.
+    pub field: Option<BadField>,
 }
 
 /// Why bytes were not read as a trace.

@@ -1,8 +1,8 @@
-ghost use Rattle.std.specs.Prelude.{◌≡◌, ◌≤◌, ◌∷◌, [], false, IfOk, IfErr, MatchResult, codes, map, string_bytes};
+ghost use Rattle.std.specs.Prelude.{◌≡◌, ◌≤◌, ◌⊎◌, ◌∷◌, [], false, IfOk, IfErr, MatchResult, codes, map, string_bytes};
 ghost use Rattle.vs_types.specs.declared.limits.TheConstants.{MOST_LEVELS};
 ghost use Rattle.vs_types.specs.Depth.{levels};
 ghost use Rattle.clap.specs.Words.{fault_of, found_of, kind_of, one_text, rows_of, subcommand_of, HasKind};
-ghost use Rattle.nr_commands.specs.Words.{kinds_of_no_words};
+ghost use Rattle.nr_commands.specs.Words.{kinds_of_no_words, IsMisused};
 ghost use Rattle.nrvs.specs.CommandLine.{command_line, Asks, IsNumber, IsSetup, IsTurns};
 
 use crate::command::Command;
@@ -66,15 +66,16 @@ fn read_words<'a>(alloc: Global, words: &'a [String]) -> Result<Command<'a>, Err
         (Asks (subcommand_of command_line (map (λ word. string_bytes word) words.entry.now))) }
     ensures faultless { IfOk result
         (λ _. fault_of command_line (map (λ word. string_bytes word) words.entry.now) ≡ []) }
-    ensures fault { IfErr result
-        (HasKind
+    ensures fault { IfErr result (λ error. HasKind
         (ErrorKind.MissingSubcommand
-        ∷ fault_of command_line (map (λ word. string_bytes word) words.entry.now))) }
+        ∷ fault_of command_line (map (λ word. string_bytes word) words.entry.now)) error
+        ⊎ IsMisused
+        (subcommand_of command_line (map (λ word. string_bytes word) words.entry.now)) (kind_of error)) }
 {
     let mut line = command_line(alloc)?;
     let matches = line.try_get_matches_from_mut(words)?;
     match matches.subcommand() {
-        Some(("audit", given)) => Ok(Command::Inspect(read_audit(alloc, given)?)),
+        Some(("audit", given)) => Ok(Command::Inspect(read_audit(alloc, &mut line, given)?)),
         Some(("explain", given)) => Ok(Command::Inspect(read_explain(given))),
         Some(("resolve", given)) => Ok(Command::Inspect(read_resolve(given))),
         Some(("simulate", given)) => {
@@ -106,10 +107,11 @@ pub fn read_program_words<'a>(
         IfOk result
         (λ _. fault_of command_line (map (λ word. string_bytes word) given.items) ≡ [])) }
     ensures fault { IfOk words.entry.now
-        (λ given. IfErr result
-        (HasKind
+        (λ given. IfErr result (λ error. HasKind
         (ErrorKind.MissingSubcommand
-        ∷ fault_of command_line (map (λ word. string_bytes word) given.items)))) }
+        ∷ fault_of command_line (map (λ word. string_bytes word) given.items)) error
+        ⊎ IsMisused
+        (subcommand_of command_line (map (λ word. string_bytes word) given.items)) (kind_of error))) }
     ensures no_words { IfErr words.entry.now
         (λ why. MatchResult result (λ _. ⊥) (HasKind (kinds_of_no_words why))) }
 {

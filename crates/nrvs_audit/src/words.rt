@@ -1,6 +1,6 @@
-ghost use Rattle.std.specs.Prelude.{◌≡◌, ◌∷◌, [], IfOk, IfErr, IsSomeAnd, MatchResult, map, string_bytes};
-ghost use Rattle.clap.specs.Words.{fault_of, subcommand_of, HasKind};
-ghost use Rattle.nr_commands.specs.Words.{kinds_of_no_words, AsksInspection};
+ghost use Rattle.std.specs.Prelude.{◌≡◌, ◌⊎◌, ◌∷◌, [], IfOk, IfErr, IsSomeAnd, MatchResult, map, string_bytes};
+ghost use Rattle.clap.specs.Words.{fault_of, kind_of, subcommand_of, HasKind};
+ghost use Rattle.nr_commands.specs.Words.{kinds_of_no_words, AsksInspection, IsMisused};
 ghost use Rattle.nrvs_audit.specs.CommandLine.{nrvs_audit_line};
 
 use crate::command_line::command_line;
@@ -16,15 +16,16 @@ fn read_words<'a>(alloc: Global, words: &'a [String]) -> Result<Inspection<'a>, 
         (λ given. AsksInspection given inspection)) }
     ensures faultless { IfOk result
         (λ _. fault_of nrvs_audit_line (map (λ word. string_bytes word) words.entry.now) ≡ []) }
-    ensures fault { IfErr result
-        (HasKind
+    ensures fault { IfErr result (λ error. HasKind
         (ErrorKind.MissingSubcommand
-        ∷ fault_of nrvs_audit_line (map (λ word. string_bytes word) words.entry.now))) }
+        ∷ fault_of nrvs_audit_line (map (λ word. string_bytes word) words.entry.now)) error
+        ⊎ IsMisused
+        (subcommand_of nrvs_audit_line (map (λ word. string_bytes word) words.entry.now)) (kind_of error)) }
 {
     let mut line = command_line(alloc)?;
     let matches = line.try_get_matches_from_mut(words)?;
     match matches.subcommand() {
-        Some(("audit", given)) => Ok(read_audit(alloc, given)?),
+        Some(("audit", given)) => read_audit(alloc, &mut line, given),
         Some(("explain", given)) => Ok(read_explain(given)),
         Some(("resolve", given)) => Ok(read_resolve(given)),
         _ => Err(line.error(ErrorKind::MissingSubcommand, "a subcommand is required")?),
@@ -45,10 +46,11 @@ pub fn read_program_words<'a>(
         IfOk result
         (λ _. fault_of nrvs_audit_line (map (λ word. string_bytes word) given.items) ≡ [])) }
     ensures fault { IfOk words.entry.now
-        (λ given. IfErr result
-        (HasKind
+        (λ given. IfErr result (λ error. HasKind
         (ErrorKind.MissingSubcommand
-        ∷ fault_of nrvs_audit_line (map (λ word. string_bytes word) given.items)))) }
+        ∷ fault_of nrvs_audit_line (map (λ word. string_bytes word) given.items)) error
+        ⊎ IsMisused
+        (subcommand_of nrvs_audit_line (map (λ word. string_bytes word) given.items)) (kind_of error))) }
     ensures no_words { IfErr words.entry.now
         (λ why. MatchResult result (λ _. ⊥) (HasKind (kinds_of_no_words why))) }
 {

@@ -14,6 +14,7 @@ use Rattle.nr_explain.specs.Units.{size, as_counts, Numbers, HasHeader, IsHeadOf
 use Rattle.nr_explain.specs.declared.units.TraceUnit.{TraceUnit}
 use Rattle.nr_explain.specs.declared.units.TraceUnit.TheVariants.{Magic, Version as VersionWord, Counts, Place, Event, DumpHead, FrameNumber, FrameWords, Behind}
 use Rattle.nr_explain.specs.declared.positions.Lengths.{Lengths}
+use Rattle.nr_explain.specs.declared.positions.TheConstants.{HEADER_BYTES}
 use Rattle.nr_explain.specs.declared.unit_feed.Units.{Units}
 
 -- ---- the numbers of a header
@@ -158,6 +159,7 @@ pub record IsBadIn (front run : List ℕ) (fault : Format) (unit : TraceUnit) (b
   pub no_fault_yet : HasNoFaultYet (front ++ take before run)
   pub within : before + size unit ≤ length run
   pub settled : HasLastingFault (front ++ take (before + size unit) run) fault
+  pub behind_header : (before ≡ 0) ⊎ (HEADER_BYTES ≤ length front)
 
 -- ---- the reading
 
@@ -172,8 +174,10 @@ pub record IsSoundAt (feed : Fed) (offset : ℕ) (unit : TraceUnit) (lengths : L
   pub at : IsAt unit lengths (taken feed)
   pub no_fault_yet : HasNoFaultYet (taken feed)
 
+-- and the header is the first bytes that were read
 abbrev pub IsSound : Units → Type 0
-IsSound units = IsSoundAt units.feed units.offset units.next units.lengths
+IsSound units =
+    IsSoundAt units.feed units.offset units.next units.lengths × (units.header.items ≡ take HEADER_BYTES (taken units.feed))
 
 -- all whole units are read, and this is the beginning of the next one
 abbrev pub HasBegunUnit : Units → List ℕ → Type 0

@@ -1,39 +1,51 @@
-use Rattle.std.proofs.Common.{◌∙◌, ◌<◌, ◌≤◌, ap, arith, codes, length, map, Option, option_map, Some, subst, sym, List, ℕ, Bor}
-use Rattle.std.specs.Prelude.{IfSome}
-use Rattle.std.proofs.lemmas.List.{length-map}
-use Rattle.clap.specs.Words.{Text, all_of, found_of, rows_of}
-use Rattle.clap.proofs.WalkLemmas.{raw_values-rows}
+use Rattle.std.proofs.Common.{◌≡◌, Bool, true, false, Option, codes, inr, subst, sym}
+use Rattle.clap.specs.Words.{Text, found_of, rows_of}
+use Rattle.clap.specs.Walk.{one_of}
+use Rattle.clap.proofs.WalkLemmas.{one_text-rows}
+use Rattle.nr_commands.specs.Words.{AsksTraces, IsFlag, IsMisuse}
+use Rattle.nr_commands.proofs.CommandLines.{asks_chain, asks_traces, flag_of, several_files}
 use Rattle.nr_commands.proofs.inspection.read_audit.Goals as goal
 
-abbrev texts_of : List (Bor (List ℕ)) → List Text
-texts_of names = map (λ name. name.now) names
+pub returns-in-One-clause-asks : goal.returns-in-One-clause-asks
+returns-in-One-clause-asks c =
+    let found = found_of c.args.given.now in
+    let rows = rows_of found in
+    let chain = flag_of _ _ _ (one_text-rows found (codes "chain")) c.get_flag.ensures.none c.get_flag.ensures.value c.get_flag.ensures.other in
+    let quiet = flag_of _ _ _ (one_text-rows found (codes "quiet")) c.get_flag-quiet.ensures.none c.get_flag-quiet.ensures.value
+    c.get_flag-quiet.ensures.other in
+    asks_chain rows c.in-One.field-0 c.in-One.input c.get_flag-quiet.result
+    (subst (λ (flag : Bool). IsFlag (one_of (codes "chain") rows) flag) c.if-get_flag.true chain) quiet
+    (subst (AsksTraces rows) c.in-One.is c.in_ok-asked.ensures)
 
-abbrev has_few : Option (List Text) → Type 0
-has_few given = IfSome given (λ names. length names ≤ 1)
+pub returns-in_default : goal.returns-in_default
+returns-in_default c =
+    let found = found_of c.args.given.now in
+    let rows = rows_of found in
+    let chain = flag_of _ _ _ (one_text-rows found (codes "chain")) c.get_flag.ensures.none c.get_flag.ensures.value c.get_flag.ensures.other in
+    record {
+      asks = tt;
+      misused = inr (subst (IsMisuse rows) (sym c.in_ok-several-in_default.ensures.kind)
+          (subst (λ (flag : Bool). IsFlag (one_of (codes "chain") rows) flag) c.if-get_flag.true chain, several_files rows c.in_ok-asked.asked c.in_ok-asked.ensures c.in_default.not-One));
+    }
 
-few_texts : (names : List (Bor (List ℕ))) → length names ≤ 1 → has_few (Some (texts_of names))
-few_texts names few = subst (λ (n : ℕ). n ≤ 1) (sym (length-map names (λ (name : Bor (List ℕ)). name.now))) few
+pub returns-then-quiet-clause-misused : goal.returns-then-quiet-clause-misused
+returns-then-quiet-clause-misused c =
+    let found = found_of c.args.given.now in
+    let rows = rows_of found in
+    let chain = flag_of _ _ _ (one_text-rows found (codes "chain")) c.get_flag.ensures.none c.get_flag.ensures.value c.get_flag.ensures.other in
+    let quiet = flag_of _ _ _ (one_text-rows found (codes "quiet")) c.get_flag-quiet.ensures.none c.get_flag-quiet.ensures.value
+    c.get_flag-quiet.ensures.other in
+    inr (subst (IsMisuse rows) (sym c.in_ok-alone.ensures.kind) (
+      subst (λ (flag : Bool). IsFlag (one_of (codes "chain") rows) flag) c.if-get_flag.false chain,
+      subst (λ (flag : Bool). IsFlag (one_of (codes "quiet") rows) flag) c.if-quiet.true quiet,
+    ))
 
-many : (names : List (Bor (List ℕ))) → 1 < length names → 2 ≤ length names
-many names more = omega arith
-
-pub returns-then-names-gt1 : goal.returns-then-names-gt1
-returns-then-names-gt1 c =
-    let read = c.get_raw.ensures ∙ raw_values-rows (found_of c.args.given.now) (codes "file") in
-    let given_is = ap (option_map (λ (s : Bor (List (Bor (List ℕ)))). texts_of s.now)) (sym c.in-Some.is) ∙ read in
-    let items_are = sym c.in_ok-names-in-Some.ensures.items in (
-      sym given_is ∙ ap (λ (l : List (Bor (List ℕ))). Some (texts_of l)) items_are,
-      subst (λ (l : List (Bor (List ℕ))). 2 ≤ length l) items_are (many c.in-Some.names.now c.if-names-gt1.true),
-    )
-
-pub returns-else-names-gt1 : goal.returns-else-names-gt1
-returns-else-names-gt1 c =
-    let read = c.get_raw.ensures ∙ raw_values-rows (found_of c.args.given.now) (codes "file") in
-    let given_is = ap (option_map (λ (s : Bor (List (Bor (List ℕ)))). texts_of s.now)) (sym c.in-Some.is) ∙ read in
-    (subst has_few given_is (few_texts c.in-Some.names.now c.if-names-gt1.false), c.input_of.ensures)
-
-pub returns-in-None : goal.returns-in-None
-returns-in-None c =
-    let read = c.get_raw.ensures ∙ raw_values-rows (found_of c.args.given.now) (codes "file") in
-    let given_is = ap (option_map (λ (s : Bor (List (Bor (List ℕ)))). texts_of s.now)) (sym c.in-None.is) ∙ read in
-    (subst has_few given_is tt, c.input_of-in-None.ensures)
+pub returns-clause-asks : goal.returns-clause-asks
+returns-clause-asks c =
+    let found = found_of c.args.given.now in
+    let rows = rows_of found in
+    let chain = flag_of _ _ _ (one_text-rows found (codes "chain")) c.get_flag.ensures.none c.get_flag.ensures.value c.get_flag.ensures.other in
+    let quiet = flag_of _ _ _ (one_text-rows found (codes "quiet")) c.get_flag-quiet.ensures.none c.get_flag-quiet.ensures.value
+    c.get_flag-quiet.ensures.other in
+    asks_traces rows c.in_ok-asked.asked (subst (λ (flag : Bool). IsFlag (one_of (codes "chain") rows) flag) c.if-get_flag.false chain)
+    (subst (λ (flag : Bool). IsFlag (one_of (codes "quiet") rows) flag) c.if-quiet.false quiet) c.in_ok-asked.ensures

@@ -1,4 +1,4 @@
-use Rattle.nr_explain.proofs.OneBadUnit.{one_format, one_offset, one_read, one_unit}
+use Rattle.nr_explain.proofs.OneBadUnit.{one_field, one_format, one_offset, one_read, one_unit}
 use Rattle.nr_explain.proofs.laws.one_bad_unit.Goals as goal
 
 pub returns-clause-fault : goal.returns-clause-fault
@@ -12,3 +12,6 @@ returns-clause-offset c = one_offset
 
 pub returns-clause-read : goal.returns-clause-read
 returns-clause-read c = one_read
+
+pub returns-clause-field : goal.returns-clause-field
+returns-clause-field c = one_field

@@ -11,5 +11,5 @@ returns c =
     let has = c.in_ok-units.ensures in
     let items = c.in_ok-extend_from_slice.ensures.items ∙ ap (λ (l : List ℕ). l ++ rest) c.requires.between in (
       ap (λ (l : List ℕ). taken units.feed ++ l) items ∙ has.1,
-      subst HasNoFaultYet has.1 (may_go_on units.next units.lengths (taken units.feed) rest has.0.at has.0.no_fault_yet has.2),
+      subst HasNoFaultYet has.1 (may_go_on units.next units.lengths (taken units.feed) rest has.0.0.at has.0.0.no_fault_yet has.2),
     )

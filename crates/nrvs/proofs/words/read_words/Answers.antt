@@ -1,10 +1,11 @@
-use Rattle.std.proofs.Common.{◌≡◌, ◌∙◌, [], ◌∷◌, List, ℕ, map, string_bytes, ap, inl, inr, refl, subst, Some, codes, sym}
+use Rattle.std.proofs.Common.{◌≡◌, ◌∙◌, ◌⊎◌, [], ◌∷◌, List, ℕ, map, string_bytes, ap, inl, inr, refl, subst, Some, codes, sym}
 use Rattle.std.proofs.lemmas.Result.{IfOk-weaker}
-use Rattle.clap.specs.Words.{App, app_of, rows_of, found_of, subcommand_of, subcommand_rows_of, is_simple, HasKind}
+use Rattle.clap.specs.Words.{App, app_of, rows_of, found_of, subcommand_of, subcommand_rows_of, is_simple, kind_of, HasKind}
 use Rattle.clap.specs.declared.error.kind.ErrorKind.TheVariants.{MissingSubcommand}
 use Rattle.clap.specs.Faults.{fault_of, is_simple_and_free}
 use Rattle.clap.proofs.WalkLemmas.{one_text-rows}
-use Rattle.nr_commands.proofs.CommandLines.{one_more, same_error, entered, flag_of}
+use Rattle.nr_commands.proofs.CommandLines.{entered, flag_of, of_audit, of_clap, one_more, passed_on, same_error}
+use Rattle.nr_commands.specs.Words.{IsMisused}
 use Rattle.nrvs.specs.CommandLine.{command_line, IsTurns}
 use Rattle.nrvs.proofs.CommandLines.{asks_inspection, asks_run, asks_simulate}
 use Rattle.nrvs.proofs.words.read_words.Goals as goal
@@ -15,9 +16,11 @@ returns-in_err-matches-clause-fault c =
     let kinds = c.in_err-matches.ensures.kinds (ap is_simple_and_free app_is) in
     let texts = map (λ word. string_bytes word) c.args.words.now in
     let known = subst (λ (a : App). HasKind (fault_of a texts) c.in_err-matches.field-0.0) app_is kinds in
-    same_error c.from_residual-in_err-matches.result c.in_err-matches.field-0.0
+    of_clap c.from_residual-in_err-matches.result (MissingSubcommand ∷ fault_of command_line texts)
+    (λ e. IsMisused (subcommand_of command_line texts) (kind_of e))
+    (same_error c.from_residual-in_err-matches.result c.in_err-matches.field-0.0
     (MissingSubcommand ∷ fault_of command_line texts) c.from_residual-in_err-matches.ensures.1
-    (one_more MissingSubcommand (fault_of command_line texts) c.in_err-matches.field-0.0 known)
+    (one_more MissingSubcommand (fault_of command_line texts) c.in_err-matches.field-0.0 known))
 
 pub returns-in-Some-audit-default-clause-faultless : goal.returns-in-Some-audit-default-clause-faultless
 returns-in-Some-audit-default-clause-faultless c =
@@ -35,7 +38,24 @@ returns-in-Some-audit-default-clause-asks c =
     (c.in_ok-matches.ensures.ok.2 (ap is_simple app_is)).1 ∙ ap (λ (a : App). subcommand_of a texts) app_is in
     let name_is = ap Some (sym arm.is-audit) ∙ arm.ensures.name in
     let sub_is = sym parsed ∙ entered _ (codes "audit") (rows_of found) name_is arm.ensures.rows in
-    asks_inspection _ (codes "audit", rows_of found) c.in_ok-read_audit-in-Some-audit-default.field-0 sub_is (inl (refl, c.in_ok-read_audit-in-Some-audit-default.ensures))
+    asks_inspection _ (codes "audit", rows_of found) c.in_ok-read_audit-in-Some-audit-default.field-0 sub_is (inl (refl, c.in_ok-read_audit-in-Some-audit-default.ensures.asks))
+
+pub returns-in_err-read_audit-in-Some-audit-default-clause-fault : goal.returns-in_err-read_audit-in-Some-audit-default-clause-fault
+returns-in_err-read_audit-in-Some-audit-default-clause-fault c =
+    let app_is : app_of c.in_ok-line.line ≡ command_line = c.in_ok-line.ensures.app in
+    let arm = c.in-Some-audit-default in
+    let found = found_of arm.given.now in
+    let texts = map (λ word. string_bytes word) c.args.words.now in
+    let parsed : subcommand_rows_of c.in_ok-matches.matches ≡ subcommand_of command_line texts =
+    (c.in_ok-matches.ensures.ok.2 (ap is_simple app_is)).1 ∙ ap (λ (a : App). subcommand_of a texts) app_is in
+    let name_is = ap Some (sym arm.is-audit) ∙ arm.ensures.name in
+    let sub_is = sym parsed ∙ entered _ (codes "audit") (rows_of found) name_is arm.ensures.rows in
+    let kinds = MissingSubcommand ∷ fault_of command_line texts in
+    passed_on c.from_residual-in_err-read_audit-in-Some-audit-default.result c.in_err-read_audit-in-Some-audit-default.field-0.0
+    (λ e. HasKind kinds e ⊎ IsMisused (subcommand_of command_line texts) (kind_of e))
+    c.from_residual-in_err-read_audit-in-Some-audit-default.ensures.1
+    (of_audit c.in_err-read_audit-in-Some-audit-default.field-0.0 kinds (subcommand_of command_line texts) (rows_of found) sub_is
+    c.in_err-read_audit-in-Some-audit-default.ensures.misused)
 
 pub returns-in-Some-explain-default-clause-faultless : goal.returns-in-Some-explain-default-clause-faultless
 returns-in-Some-explain-default-clause-faultless c =

@@ -1,11 +1,11 @@
 use Rattle.std.proofs.Common.{◌≡◌, ◌∙◌, [], ◌∷◌, List, ℕ, map, string_bytes, ap, inl, inr, refl, subst, Some, codes, sym}
-use Rattle.std.proofs.lemmas.Result.{IfOk-weaker}
-use Rattle.clap.specs.Words.{App, app_of, rows_of, found_of, subcommand_of, subcommand_rows_of, is_simple, HasKind}
+use Rattle.std.proofs.lemmas.Result.{IfOk-weaker, IfErr-weaker}
+use Rattle.clap.specs.Words.{App, app_of, rows_of, found_of, subcommand_of, subcommand_rows_of, is_simple, kind_of, HasKind}
 use Rattle.clap.specs.declared.error.kind.ErrorKind.TheVariants.{MissingSubcommand}
 use Rattle.clap.specs.Faults.{fault_of, is_simple_and_free}
 use Rattle.std.specs.Prelude.{IsSomeAnd}
-use Rattle.nr_commands.specs.Words.{AsksInspection}
-use Rattle.nr_commands.proofs.CommandLines.{one_more, same_error, entered}
+use Rattle.nr_commands.specs.Words.{AsksInspection, IsMisused}
+use Rattle.nr_commands.proofs.CommandLines.{entered, of_audit, of_clap, one_more, same_error}
 use Rattle.nrvs_audit.specs.CommandLine.{nrvs_audit_line}
 use Rattle.nrvs_audit.proofs.words.read_words.Goals as goal
 
@@ -15,15 +15,18 @@ returns-in_err-matches-clause-fault c =
     let kinds = c.in_err-matches.ensures.kinds (ap is_simple_and_free app_is) in
     let texts = map (λ word. string_bytes word) c.args.words.now in
     let known = subst (λ (a : App). HasKind (fault_of a texts) c.in_err-matches.field-0.0) app_is kinds in
-    same_error c.from_residual-in_err-matches.result c.in_err-matches.field-0.0
+    of_clap c.from_residual-in_err-matches.result (MissingSubcommand ∷ fault_of nrvs_audit_line texts)
+    (λ e. IsMisused (subcommand_of nrvs_audit_line texts) (kind_of e))
+    (same_error c.from_residual-in_err-matches.result c.in_err-matches.field-0.0
     (MissingSubcommand ∷ fault_of nrvs_audit_line texts) c.from_residual-in_err-matches.ensures.1
-    (one_more MissingSubcommand (fault_of nrvs_audit_line texts) c.in_err-matches.field-0.0 known)
+    (one_more MissingSubcommand (fault_of nrvs_audit_line texts) c.in_err-matches.field-0.0 known))
 
 pub returns-in-Some-audit-default-clause-faultless : goal.returns-in-Some-audit-default-clause-faultless
 returns-in-Some-audit-default-clause-faultless c =
     let app_is : app_of c.in_ok-line.line ≡ nrvs_audit_line = c.in_ok-line.ensures.app in
-    subst (λ (a : App). fault_of a (map (λ word. string_bytes word) c.args.words.now) ≡ []) app_is
-    (c.in_ok-matches.ensures.kinds (ap is_simple_and_free app_is))
+    let none = subst (λ (a : App). fault_of a (map (λ word. string_bytes word) c.args.words.now) ≡ []) app_is
+    (c.in_ok-matches.ensures.kinds (ap is_simple_and_free app_is)) in
+    IfOk-weaker c.read_audit.result _ _ (λ inspection h. none) c.read_audit.ensures.asks
 
 pub returns-in-Some-audit-default-clause-asks : goal.returns-in-Some-audit-default-clause-asks
 returns-in-Some-audit-default-clause-asks c =
@@ -35,7 +38,23 @@ returns-in-Some-audit-default-clause-asks c =
     (c.in_ok-matches.ensures.ok.2 (ap is_simple app_is)).1 ∙ ap (λ (a : App). subcommand_of a texts) app_is in
     let name_is = ap Some (sym arm.is-audit) ∙ arm.ensures.name in
     let sub_is = sym parsed ∙ entered _ (codes "audit") (rows_of found) name_is arm.ensures.rows in
-    subst (λ s. IsSomeAnd s (λ given. AsksInspection given c.in_ok-read_audit-in-Some-audit-default.field-0)) (sym sub_is) (inl (refl, c.in_ok-read_audit-in-Some-audit-default.ensures))
+    IfOk-weaker c.read_audit.result _ _
+    (λ inspection h. subst (λ s. IsSomeAnd s (λ given. AsksInspection given inspection)) (sym sub_is) (inl (refl, h)))
+    c.read_audit.ensures.asks
+
+pub returns-in-Some-audit-default-clause-fault : goal.returns-in-Some-audit-default-clause-fault
+returns-in-Some-audit-default-clause-fault c =
+    let app_is : app_of c.in_ok-line.line ≡ nrvs_audit_line = c.in_ok-line.ensures.app in
+    let arm = c.in-Some-audit-default in
+    let found = found_of arm.given.now in
+    let texts = map (λ word. string_bytes word) c.args.words.now in
+    let parsed : subcommand_rows_of c.in_ok-matches.matches ≡ subcommand_of nrvs_audit_line texts =
+    (c.in_ok-matches.ensures.ok.2 (ap is_simple app_is)).1 ∙ ap (λ (a : App). subcommand_of a texts) app_is in
+    let name_is = ap Some (sym arm.is-audit) ∙ arm.ensures.name in
+    let sub_is = sym parsed ∙ entered _ (codes "audit") (rows_of found) name_is arm.ensures.rows in
+    IfErr-weaker c.read_audit.result _ _
+    (λ e h. of_audit e (MissingSubcommand ∷ fault_of nrvs_audit_line texts) (subcommand_of nrvs_audit_line texts) (rows_of found) sub_is h)
+    c.read_audit.ensures.misused
 
 pub returns-in-Some-explain-default-clause-faultless : goal.returns-in-Some-explain-default-clause-faultless
 returns-in-Some-explain-default-clause-faultless c =

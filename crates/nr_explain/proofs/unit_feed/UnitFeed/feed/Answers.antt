@@ -38,7 +38,7 @@ returns-then-piece-missing c =
       c.len.ensures,
       c.self.invariant.1,
     ) in
-    (same, subst HasNoFaultYet same (may_go_on units.next units.lengths fed now c.self.invariant.0.at c.self.invariant.0.no_fault_yet short))
+    (same, subst HasNoFaultYet same (may_go_on units.next units.lengths fed now c.self.invariant.0.0.at c.self.invariant.0.0.no_fault_yet short))
 
 pub take_run-requires-clause-run : goal.take_run-requires-clause-run
 take_run-requires-clause-run c =
@@ -54,7 +54,7 @@ take_run-requires-clause-run c =
       c.if-piece-missing.false,
       c.self.invariant.1,
     ) in
-    subst (λ (n : ℕ). IsRun units.next units.lengths n) whole (unit_is_run units.next units.lengths (taken units.feed) c.self.invariant.0.at)
+    subst (λ (n : ℕ). IsRun units.next units.lengths n) whole (unit_is_run units.next units.lengths (taken units.feed) c.self.invariant.0.0.at)
 
 pub returns-in_err-units : goal.returns-in_err-units
 returns-in_err-units c =

@@ -1,0 +1,57 @@
+#!/usr/bin/env python3
+"""chains.py PROGRAM RUNS SEGMENTS: a chain of so many segments beside its segments as traces, in one process each, run in turn; a chain of
+one of them; and three segments with touches, and the same without.
+
+Each line: what is audited, the least processor time of its runs, and the greatest peak of memory. Of the chain and the traces, which have
+the same events, the median of the ratios of neighbouring runs is printed too: how many times as fast the chain is.
+"""
+import os
+import statistics
+import subprocess
+import sys
+import tempfile
+
+SCRIPT = os.path.join(os.path.dirname(os.path.abspath(__file__)), "chain.py")
+
+
+def written(path, *words):
+    with open(path, "wb") as file:
+        subprocess.run([sys.executable, "-B", SCRIPT, *words], stdout=file, check=True)
+    return path
+
+
+def times(command):
+    """The processor time and the peak in kilobytes of a run that has to say that all is right, by GNU time."""
+    ran = subprocess.run(["/usr/bin/time", "-f", "%U %S %M", *command], capture_output=True, text=True)
+    if ran.returncode != 0:
+        sys.exit(f"{' '.join(command[:4])}: {ran.stdout[-100:]}{ran.stderr[-100:]}")
+    user, system, peak = ran.stderr.split()
+    return float(user) + float(system), int(peak)
+
+
+def show(name, runs):
+    print(f"{name:32} {min(seconds for seconds, _ in runs):8.2f} s {max(peak for _, peak in runs) / 1e3:8.1f} MB", flush=True)
+
+
+def main(program, runs, segments):
+    audit = [program, "audit", "--chain", "--quiet"]
+    with tempfile.TemporaryDirectory() as work:
+        trace = written(f"{work}/trace", "--trace")
+        long = audit + [written(f"{work}/chain", segments)]
+        one = audit + [written(f"{work}/one", "1")]
+        touched = audit + [written(f"{work}/touched", "--touches", "3")]
+        untouched = audit + [written(f"{work}/untouched", "--untouched", "3")]
+        pairs = [(times(long), times([program, "audit"] + [trace] * int(segments))) for _ in range(int(runs))]
+        for name, timed in ((f"a chain of {segments} segments", [pair[0] for pair in pairs]),
+                            (f"{segments} traces, in one process", [pair[1] for pair in pairs]),
+                            ("a chain of one of the segments", [times(one) for _ in range(int(runs))]),
+                            ("90,000 updates, 106,608 touches", [times(touched) for _ in range(int(runs))]),
+                            ("90,000 updates, no touches", [times(untouched) for _ in range(int(runs))])):
+            show(name, timed)
+        print(f"the chain is {statistics.median(other[0] / chain[0] for chain, other in pairs):.2f} times as fast as the traces")
+
+
+if __name__ == "__main__":
+    if len(sys.argv) != 4:
+        sys.exit(__doc__)
+    main(*sys.argv[1:])

@@ -1,0 +1,47 @@
+//! The entries that the walk of an address reads.
+
+use crate::bytes::map_then_resolve;
+use nr_explain::{Step, entries_read};
+use nr_trace::read;
+use std::test::Fail;
+use vs_types::Depth;
+
+/// The entries on the way to 0x400123, a root's first.
+const STEPS: [Step; 4] = [
+    Step {
+        level: 4,
+        frame: 1,
+        index: 0,
+        word: 0x2007,
+    },
+    Step {
+        level: 3,
+        frame: 2,
+        index: 0,
+        word: 0x3007,
+    },
+    Step {
+        level: 2,
+        frame: 3,
+        index: 2,
+        word: 0x4007,
+    },
+    Step {
+        level: 1,
+        frame: 4,
+        index: 0,
+        word: 0x1007,
+    },
+];
+
+#[test]
+fn entries_that_a_walk_reads(rt: HostRuntime) -> Result<(), Fail> {
+    let alloc = rt.alloc();
+    let bytes = map_then_resolve(alloc)?;
+    let trace = read(alloc, &bytes)?;
+    for dump in trace.dumps() {
+        let steps = entries_read(alloc, dump, Depth::Four, 0x400123)?;
+        assert_eq!(rt; steps.as_slice(), STEPS.as_slice());
+    }
+    Ok(())
+}

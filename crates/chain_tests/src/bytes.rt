@@ -1,0 +1,252 @@
+//! The worked chains.
+
+use nr_segment::{SegmentFault, StartFault};
+use nr_trace::{Fault, Format};
+use std::alloc::{AllocError, Global};
+
+/// Of each frame of a page table, numbered from 1, the index of the one word that is not 0, and the word.
+type Words = &'static [(usize, u64)];
+
+/// A part of the bytes of a chain: some bytes, or the frames of a start or a dump.
+#[derive(Clone, Copy)]
+enum Part {
+    Bytes(&'static [u8]),
+    Frames(Words),
+}
+
+use Part::{Bytes, Frames};
+
+/// A chain: its parts, the order of each segment that is right, and the fault of the one after those.
+pub struct Case {
+    pub name: &'static str,
+    parts: &'static [Part],
+    pub orders: &'static [&'static [u32]],
+    pub fault: Option<SegmentFault>,
+}
+
+/// A root without a page.
+const ROOT: Words = &[(0, 0)];
+
+/// The page table with the page at 0x400000, mapped to 0x1000; and with it mapped to 0x2000.
+const TABLES: Words = &[(0, 0x2007), (0, 0x3007), (2, 0x4007), (0, 0x1007)];
+
+const OTHER_TABLES: Words = &[(0, 0x2007), (0, 0x3007), (2, 0x4007), (0, 0x2007)];
+
+/// One replica, one thread and four tables: a map of the page, done, and a resolve of 0x400123; and a dump.
+const MAPS: Part = Bytes(&[
+    0x4e, 0x52, 0x56, 0x53, 0, 1, 4, 1, 0, 1, 0, 4, 0, 0, 0, 1, 0, 0, 0, 4, 0, 0, 0, 0, // counts
+    0, 0, 0, 0, // place
+    0, 0, 0, 0, 0, 0, 7, 0, 0, 0, 0, 0, 0, 0x40, 0, 0, 0, 0, 0, 0, 0, 0, 0x10, 0, // call
+    1, 0, 0, 0, 0, 0, 0, 0, 0, 0, 0, 0, 0, 0, 0, 0, 0, 0, 0, 0, 0, 0, 0, 0, // reply
+    0, 0, 0, 0, 3, 0, 0, 0, 0, 0, 0, 0, 0, 0x40, 1, 0x23, 0, 0, 0, 0, 0, 0, 0, 0, // call
+    1, 7, 0, 7, 0, 0, 0, 2, 0, 0, 0, 1, 0, 0, 0, 0, 0, 0, 0, 0, 0, 0, 0x11, 0x23, // reply
+    0, 0, 0, 1, 0, 0, 0, 4, 0, 0, 0, 0, 0, 0, 0, 1, // dump
+]);
+
+/// Laid out alike: an unmap of the page, and a dump.
+const UNMAPS: Part = Bytes(&[
+    0x4e, 0x52, 0x56, 0x53, 0, 1, 4, 1, 0, 1, 0, 4, 0, 0, 0, 1, 0, 0, 0, 2, 0, 0, 0, 0, // counts
+    0, 0, 0, 0, // place
+    0, 0, 0, 0, 1, 0, 0, 0, 0, 0, 0, 0, 0, 0x40, 0, 0, 0, 0, 0, 0, 0, 0, 0, 0, // call
+    1, 3, 0, 7, 0, 0, 0, 0, 0, 0, 0, 0, 0, 0, 0, 0, 0, 0, 0, 0, 0, 0, 0x10, 0, // reply
+    0, 0, 0, 1, 0, 0, 0, 1, 0, 0, 0, 0, 0, 0, 0, 1, // dump
+]);
+
+/// A resolve of 0x400123 finds no page.
+const FINDS_NOTHING: Part = Bytes(&[
+    0x4e, 0x52, 0x56, 0x53, 0, 1, 4, 1, 0, 1, 0, 4, 0, 0, 0, 0, 0, 0, 0, 2, 0, 0, 0, 0, // counts
+    0, 0, 0, 0, 3, 0, 0, 0, 0, 0, 0, 0, 0, 0x40, 1, 0x23, 0, 0, 0, 0, 0, 0, 0, 0, // call
+    1, 4, 0, 0, 0, 0, 0, 0, 0, 0, 0, 0, 0, 0, 0, 0, 0, 0, 0, 0, 0, 0, 0, 0, // reply
+    0, 0, 0, 0, 0, 0, 0, 0, 0, 0, 0, 0, 0, 0, 0, 0, // no dump
+]);
+
+/// A start of four frames, and a resolve of 0x400123 that finds the page.
+const STARTS: Part = Bytes(&[
+    0x4e, 0x52, 0x56, 0x53, 0, 1, 4, 1, 0, 1, 0, 4, 0, 0, 0, 0, 0, 0, 0, 2, 0, 0, 0, 4, // counts
+    0, 0, 0, 0, 0, 0, 0, 1, // root
+]);
+
+const FINDS_THE_PAGE: Part = Bytes(&[
+    0, 0, 0, 0, 3, 0, 0, 0, 0, 0, 0, 0, 0, 0x40, 1, 0x23, 0, 0, 0, 0, 0, 0, 0, 0, // call
+    1, 7, 0, 7, 0, 0, 0, 0, 0, 0, 0, 0, 0, 0, 0, 0, 0, 0, 0, 0, 0, 0, 0x11, 0x23, // reply
+    0, 0, 0, 0, 0, 0, 0, 0, 0, 0, 0, 0, 0, 0, 0, 0, // no dump
+]);
+
+/// Nothing is recorded, and all but the last byte of that.
+const NOTHING: Part = Bytes(&[
+    0x4e, 0x52, 0x56, 0x53, 0, 1, 4, 1, 0, 1, 0, 4, 0, 0, 0, 0, 0, 0, 0, 0, 0, 0, 0, 0, 0, 0, 0, 0,
+    0, 0, 0, 0, 0, 0, 0, 0, 0, 0, 0, 0,
+]);
+
+const NOTHING_CUT: Part = Bytes(&[
+    0x4e, 0x52, 0x56, 0x53, 0, 1, 4, 1, 0, 1, 0, 4, 0, 0, 0, 0, 0, 0, 0, 0, 0, 0, 0, 0, 0, 0, 0, 0,
+    0, 0, 0, 0, 0, 0, 0, 0, 0, 0, 0,
+]);
+
+/// Nine tables in place of four.
+const OTHER_LIMIT: Part = Bytes(&[
+    0x4e, 0x52, 0x56, 0x53, 0, 1, 4, 1, 0, 1, 0, 9, 0, 0, 0, 0, 0, 0, 0, 0, 0, 0, 0, 0, 0, 0, 0, 0,
+    0, 0, 0, 0, 0, 0, 0, 0, 0, 0, 0, 0,
+]);
+
+/// A reply to call 0, which this segment doesn't have.
+const REPLIES: Part = Bytes(&[
+    0x4e, 0x52, 0x56, 0x53, 0, 1, 4, 1, 0, 1, 0, 4, 0, 0, 0, 0, 0, 0, 0, 1, 0, 0, 0, 0, // counts
+    1, 0, 0, 0, 0, 0, 0, 0, 0, 0, 0, 0, 0, 0, 0, 0, 0, 0, 0, 0, 0, 0, 0, 0, // reply
+    0, 0, 0, 0, 0, 0, 0, 0, 0, 0, 0, 0, 0, 0, 0, 0, // no dump
+]);
+
+/// A user's write of 0x400123 through a TLB by thread 9 finds no page.
+const TOUCHES_NOTHING: Part = Bytes(&[
+    0x4e, 0x52, 0x56, 0x53, 0, 1, 4, 1, 0xff, 0xff, 0xff, 0xff, 0, 0, 0, 0, 0, 0, 0, 2, 0, 0, 0, 0, // counts
+    0, 0, 0, 9, 5, 1, 1, 0, 0, 0, 0, 0, 0, 0x40, 1, 0x23, 0, 0, 0, 0, 0, 0, 0, 0, // call
+    1, 9, 0, 0, 0, 0, 0, 0, 0, 0, 0, 0, 0, 0, 0, 0, 0, 0, 0, 0, 0, 0, 0, 6, // reply
+    0, 0, 0, 0, 0, 0, 0, 0, 0, 0, 0, 0, 0, 0, 0, 0, // no dump
+]);
+
+/// A read of it was allowed, and the page was mapped later.
+const FORESEES_A_MAP: Part = Bytes(&[
+    0x4e, 0x52, 0x56, 0x53, 0, 1, 4, 1, 0xff, 0xff, 0xff, 0xff, 0, 0, 0, 1, 0, 0, 0, 4, 0, 0, 0, 0, // counts
+    0, 0, 0, 2, // place
+    0, 0, 0, 1, 5, 0, 0, 0, 0, 0, 0, 0, 0, 0x40, 1, 0x23, 0, 0, 0, 0, 0, 0, 0, 0, // call
+    1, 8, 0, 0, 0, 0, 0, 0, 0, 0, 0, 0, 0, 0, 0, 0, 0, 0, 0, 0, 0, 0, 0x11, 0x23, // reply
+    0, 0, 0, 0, 0, 0, 7, 0, 0, 0, 0, 0, 0, 0x40, 0, 0, 0, 0, 0, 0, 0, 0, 0x10, 0, // call
+    1, 0, 0, 0, 0, 0, 0, 2, 0, 0, 0, 0, 0, 0, 0, 0, 0, 0, 0, 0, 0, 0, 0, 0, // reply
+    0, 0, 0, 0, 0, 0, 0, 0, 0, 0, 0, 0, 0, 0, 0, 0, // no dump
+]);
+
+const TRUNCATED: SegmentFault = SegmentFault::Within(Fault::Format(Format::Truncated));
+
+const BAD_MAGIC: SegmentFault = SegmentFault::Within(Fault::Format(Format::BadMagic));
+
+const BAD_VERSION: SegmentFault = SegmentFault::Within(Fault::Format(Format::BadVersion));
+
+const BAD_CHAIN: SegmentFault = SegmentFault::Within(Fault::Format(Format::BadChain));
+
+/// Each chain.
+pub static CASES: [Case; 15] = [
+    Case {
+        name: "two segments",
+        parts: &[MAPS, Frames(TABLES), UNMAPS, Frames(ROOT)],
+        orders: &[&[0, 2], &[0]],
+        fault: None,
+    },
+    Case {
+        name: "the second begins where the first ended",
+        parts: &[MAPS, Frames(TABLES), STARTS, Frames(TABLES), FINDS_THE_PAGE],
+        orders: &[&[0, 2], &[0]],
+        fault: None,
+    },
+    Case {
+        name: "the second begins anew",
+        parts: &[MAPS, Frames(TABLES), FINDS_NOTHING],
+        orders: &[&[0, 2]],
+        fault: Some(SegmentFault::Within(Fault::WrongAnswer(0))),
+    },
+    Case {
+        name: "the second begins elsewhere",
+        parts: &[
+            MAPS,
+            Frames(TABLES),
+            STARTS,
+            Frames(OTHER_TABLES),
+            FINDS_THE_PAGE,
+        ],
+        orders: &[&[0, 2]],
+        fault: Some(SegmentFault::Start(StartFault::Differs(0x400000))),
+    },
+    Case {
+        name: "begins with a page",
+        parts: &[STARTS, Frames(TABLES), FINDS_THE_PAGE],
+        orders: &[&[0]],
+        fault: None,
+    },
+    Case {
+        name: "a reply to a call of the segment before",
+        parts: &[MAPS, Frames(TABLES), REPLIES],
+        orders: &[&[0, 2]],
+        fault: Some(SegmentFault::Within(Fault::NoSuchCall(0))),
+    },
+    Case {
+        name: "other tables",
+        parts: &[MAPS, Frames(TABLES), OTHER_LIMIT],
+        orders: &[&[0, 2]],
+        fault: Some(BAD_CHAIN),
+    },
+    Case {
+        name: "cut in the second",
+        parts: &[MAPS, Frames(TABLES), NOTHING_CUT],
+        orders: &[&[0, 2]],
+        fault: Some(TRUNCATED),
+    },
+    Case {
+        name: "nothing at all",
+        parts: &[NOTHING],
+        orders: &[&[]],
+        fault: None,
+    },
+    Case {
+        name: "a byte behind it",
+        parts: &[NOTHING, Bytes(&[0])],
+        orders: &[&[]],
+        fault: Some(TRUNCATED),
+    },
+    Case {
+        name: "no bytes",
+        parts: &[],
+        orders: &[],
+        fault: Some(TRUNCATED),
+    },
+    Case {
+        name: "a touch of nothing",
+        parts: &[TOUCHES_NOTHING],
+        orders: &[&[]],
+        fault: None,
+    },
+    Case {
+        name: "a touch that foresees a map",
+        parts: &[FORESEES_A_MAP],
+        orders: &[],
+        fault: Some(SegmentFault::Stale(0)),
+    },
+    Case {
+        name: "version 2",
+        parts: &[Bytes(&[0x4e, 0x52, 0x56, 0x53, 0, 2, 4, 1, 0, 1, 0, 4])],
+        orders: &[],
+        fault: Some(BAD_VERSION),
+    },
+    Case {
+        name: "a fault before what is cut",
+        parts: &[MAPS, Frames(TABLES), Bytes(b"NRVT")],
+        orders: &[&[0, 2]],
+        fault: Some(BAD_MAGIC),
+    },
+];
+
+/// Adds a frame whose words are 0, but for one.
+fn push_frame(bytes: &mut Vec<u8>, number: u64, index: usize, word: u64) -> Result<(), AllocError> {
+    bytes.extend_from_slice(&number.to_be_bytes())?;
+    for place in 0..512usize {
+        let own = if place == index { word } else { 0 };
+        bytes.extend_from_slice(&own.to_be_bytes())?;
+    }
+    Ok(())
+}
+
+/// The bytes of a chain.
+pub fn bytes_of(alloc: Global, case: &Case) -> Result<Vec<u8>, AllocError> {
+    let mut bytes = Vec::new(alloc);
+    for part in case.parts {
+        match part {
+            Bytes(some) => bytes.extend_from_slice(some)?,
+            Frames(words) => {
+                let mut number = 0u64;
+                for (index, word) in *words {
+                    number = number.wrapping_add(1);
+                    push_frame(&mut bytes, number, *index, *word)?;
+                }
+            }
+        }
+    }
+    Ok(bytes)
+}

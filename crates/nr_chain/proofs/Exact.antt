@@ -1,0 +1,97 @@
+-- What is found of bytes is one thing.
+use Rattle.std.proofs.Common.{◌≡◌, ℕ, ◌⊎◌, inl, inr, List, [], ◌∷◌, Option, Some, None, refl, ap, ap₂, sym, ◌∙◌, subst}
+use Rattle.vs_types.specs.Config.{Layout}
+use Rattle.vs_types.specs.Space.{Space}
+use Rattle.nr_trace.specs.Recording.{Recording}
+use Rattle.nr_trace.specs.FirstFault.{HasSegmentFault}
+use Rattle.nr_trace.specs.Orders.{recorded_order}
+use Rattle.nr_trace.specs.declared.fault.Fault.TheVariants as faults
+use Rattle.nr_trace.specs.declared.fault.Format.{Format}
+use Rattle.nr_trace.specs.declared.version.Form.TheVariants as forms
+use Rattle.nr_trace.proofs.LawsOfFormat.{no_fault_of_segment, one_fault}
+use Rattle.nr_segment.specs.Faults.{IsFirstAfter, IsSoundAfter}
+use Rattle.nr_segment.specs.declared.fault.SegmentFault.{SegmentFault}
+use Rattle.nr_segment.specs.declared.fault.SegmentFault.TheVariants.{Start, Within, Stale}
+use Rattle.nr_chain.specs.Bytes.{kept_after, layout_before, space_before, BeginsWith, EndsWith, HasFirstNext, IsFirstNext, GoesOnSo}
+use Rattle.nr_chain.specs.Fed.{Kept}
+use Rattle.nr_chain.proofs.OneChain.{begins_some, one_front}
+
+-- the first fault of the next segment is of its format, or of what is spelled
+abbrev FirstOfEither : Option Kept → List ℕ → SegmentFault → Type 0
+FirstOfEither kept bytes fault =
+    ((own : Format) × (fault ≡ Within (faults.Format own)) × HasSegmentFault (layout_before kept) bytes own) ⊎ HasFirstNext kept bytes fault
+
+first_of_either : (kept : Option Kept) (bytes : List ℕ) (fault : SegmentFault) → IsFirstNext kept bytes fault → FirstOfEither kept bytes fault
+first_of_either kept bytes (Start fault) first = inr first
+first_of_either kept bytes (Within (faults.Format own)) first = inl (own, refl, first)
+first_of_either kept bytes (Within fault) first = inr first
+first_of_either kept bytes (Stale call) first = inr first
+
+-- what begins with a segment has no fault of the format
+no_fault_in_front : (before : Option Layout) (bytes : List ℕ) (segment : Recording) (rest : List ℕ) (fault : Format) → BeginsWith before bytes segment rest
+    → HasSegmentFault before bytes fault → ⊥
+no_fault_in_front before bytes segment rest fault begins h =
+    no_fault_of_segment before begins.own rest segment fault begins.spelled (subst (λ (b : List ℕ). HasSegmentFault before b fault) begins.is h)
+
+-- a segment that is sound has no first fault
+sound_or_first : (kept : Option Kept) (bytes : List ℕ) (segment : Recording) (rest : List ℕ) (fault : SegmentFault)
+    → BeginsWith (layout_before kept) bytes segment rest → IsSoundAfter (space_before kept) segment → FirstOfEither kept bytes fault → ⊥
+sound_or_first kept bytes segment rest fault begins sound (inl (own, is, h)) = no_fault_in_front (layout_before kept) bytes segment rest own begins h
+sound_or_first kept bytes segment rest fault begins sound (inr (other, last, starts, first)) =
+    let (same_rest, same) = one_front (layout_before kept) bytes other segment last rest starts begins in
+    sound.faultless fault (subst (λ (r : Recording). IsFirstAfter (space_before kept) r fault) same first).holds
+
+ends_or_sound : (kept : Option Kept) (bytes : List ℕ) (found : Option SegmentFault) (segment : Recording) (rest : List ℕ) → EndsWith kept bytes found
+    → BeginsWith (layout_before kept) bytes segment rest → IsSoundAfter (space_before kept) segment → ⊥
+ends_or_sound None bytes None segment rest ends begins sound = ends
+ends_or_sound None bytes (Some fault) segment rest ends begins sound =
+    sound_or_first None bytes segment rest fault begins sound (first_of_either None bytes fault ends)
+ends_or_sound (Some kept) [] found segment rest ends begins sound = begins_some (Some kept.layout) [] segment rest begins refl
+ends_or_sound (Some kept) (x ∷ bytes) None segment rest ends begins sound = ends
+ends_or_sound (Some kept) (x ∷ bytes) (Some fault) segment rest ends begins sound =
+    sound_or_first (Some kept) (x ∷ bytes) segment rest fault begins sound (first_of_either (Some kept) (x ∷ bytes) fault ends)
+
+module _ (one_first : (before : Option Space) (segment : Recording) (first second : SegmentFault) → IsFirstAfter before segment first
+    → IsFirstAfter before segment second → first ≡ second) where
+  one_of_either : (kept : Option Kept) (bytes : List ℕ) (first second : SegmentFault) → FirstOfEither kept bytes first → FirstOfEither kept bytes second
+      → first ≡ second
+  one_of_either kept bytes first second (inl (own, is, h)) (inl (other, other_is, k)) =
+      is ∙ ap (λ (f : Format). Within (faults.Format f)) (one_fault (forms.Segment (layout_before kept)) bytes own other h k) ∙ sym other_is
+  one_of_either kept bytes first second (inl (own, is, h)) (inr (segment, rest, begins, is_first)) =
+      absurd (no_fault_in_front (layout_before kept) bytes segment rest own begins h)
+  one_of_either kept bytes first second (inr (segment, rest, begins, is_first)) (inl (own, is, h)) =
+      absurd (no_fault_in_front (layout_before kept) bytes segment rest own begins h)
+  one_of_either kept bytes first second (inr (segment, rest, begins, is_first)) (inr (other, last, starts, other_first)) =
+      let (same_rest, same) = one_front (layout_before kept) bytes other segment last rest starts begins in
+      one_first (space_before kept) segment first second is_first
+      (subst (λ (r : Recording). IsFirstAfter (space_before kept) r second) same other_first)
+
+  one_next : (kept : Option Kept) (bytes : List ℕ) (first second : SegmentFault) → IsFirstNext kept bytes first → IsFirstNext kept bytes second → first ≡ second
+  one_next kept bytes first second h k =
+      one_of_either kept bytes first second (first_of_either kept bytes first h) (first_of_either kept bytes second k)
+
+  one_end : (kept : Option Kept) (bytes : List ℕ) (first second : Option SegmentFault) → EndsWith kept bytes first → EndsWith kept bytes second
+      → first ≡ second
+  one_end None bytes None second h k = absurd h
+  one_end None bytes (Some first) None h k = absurd k
+  one_end None bytes (Some first) (Some second) h k = ap Some (one_next None bytes first second h k)
+  one_end (Some kept) [] first second h k = h ∙ sym k
+  one_end (Some kept) (x ∷ bytes) None second h k = absurd h
+  one_end (Some kept) (x ∷ bytes) (Some first) None h k = absurd k
+  one_end (Some kept) (x ∷ bytes) (Some first) (Some second) h k = ap Some (one_next (Some kept) (x ∷ bytes) first second h k)
+
+  pub found_once : (kept : Option Kept) (bytes : List ℕ) (orders others : List (List ℕ)) (found other : Option SegmentFault)
+      → GoesOnSo kept bytes orders found → GoesOnSo kept bytes others other → (orders ≡ others) × (found ≡ other)
+  found_once kept bytes [] [] found other h k = (refl, one_end kept bytes found other h k)
+  found_once kept bytes [] (order ∷ more) found other h (segment, rest, begins, sound, same, next) =
+      absurd (ends_or_sound kept bytes found segment rest h begins sound)
+  found_once kept bytes (order ∷ more) [] found other (segment, rest, begins, sound, same, next) k =
+      absurd (ends_or_sound kept bytes other segment rest k begins sound)
+  found_once kept bytes (order ∷ more) (another ∷ others) found other (segment, rest, begins, sound, same, next) (own, last, starts, own_sound, own_same, own_next) =
+      let (is_rest, is) = one_front (layout_before kept) bytes own segment last rest starts begins in
+      let behind : GoesOnSo (Some (kept_after kept segment)) rest others other =
+      subst (λ (b : List ℕ). GoesOnSo (Some (kept_after kept segment)) b others other) is_rest
+      (subst (λ (r : Recording). GoesOnSo (Some (kept_after kept r)) last others other) is own_next) in
+      let (rests, founds) = found_once (Some (kept_after kept segment)) rest more others found other next behind in
+      let orders_same : order ≡ another = same ∙ sym (ap recorded_order is) ∙ sym own_same in
+      (ap₂ (λ (o : List ℕ) (os : List (List ℕ)). o ∷ os) orders_same rests, founds)

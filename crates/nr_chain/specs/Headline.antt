@@ -1,0 +1,40 @@
+-- What a chain is right with.
+use Rattle.std.specs.Prelude.{◌≡◌, ℕ, List, ◌∷◌, map, All, Option, None, Some}
+use Rattle.vs_types.specs.Space.{no_pages, IsSpace, Space}
+use Rattle.vs_types.specs.declared.depth.Depth.{Depth}
+use Rattle.vs_walk.specs.Dump.{Image}
+use Rattle.vs_walk.specs.Walk.{TranslatesAs}
+use Rattle.nr_trace.specs.Recording.{Recording}
+use Rattle.nr_trace.specs.Calls.{IsWellFormedHistory}
+use Rattle.nr_segment.specs.Touches.{HasRightTouches}
+use Rattle.nr_chain.specs.Bytes.{SpellsChain}
+use Rattle.nr_chain.specs.Joined.{Segment, joined}
+use Rattle.nr_chain.specs.Run.{IsRightRun}
+
+-- the recordings of some segments
+abbrev pub traces : List Segment → List Recording
+traces segments = map (λ segment. segment.trace) segments
+
+-- a run begins with the space as which its start translates, or with no pages where it has none
+abbrev pub BeginsIn : Depth → Option Image → Space → Type 0
+BeginsIn depth None space = space ≡ no_pages
+BeginsIn depth (Some start) space = TranslatesAs depth start.frames start.root space
+
+-- the bytes are right with these orders: they spell one chain of segments; all have one layout, and the events of each are a well-formed
+-- history; and of the one run that they are, from the space on in which the first begins: all answered updates and reads and some
+-- unanswered updates are in the orders, one after the other, each once; a call answered before another was made comes first; each answer
+-- is that of one sequential address space; each dump translates every address as that space does after all updates of the segments
+-- before its own and some of its own; and each answered touch was answered as its address was at a moment that no flush had ended before
+pub record IsRightChain (bytes : List ℕ) (orders : List (List ℕ)) : Type 0 where
+  pub first : Segment
+  pub more : List Segment
+  pub spelled : SpellsChain bytes first.trace (traces more)
+  pub no_other : (other : Recording) (others : List Recording) → SpellsChain bytes other others → other ∷ others ≡ traces (first ∷ more)
+  pub ordered : orders ≡ map (λ segment. segment.order) (first ∷ more)
+  pub layouts : All (λ segment. segment.trace.layout ≡ first.trace.layout) more
+  pub histories : All (λ segment. IsWellFormedHistory segment.trace) (first ∷ more)
+  pub start : Space
+  pub is_space : IsSpace first.trace.layout.depth start
+  pub begins : BeginsIn first.trace.layout.depth first.trace.start start
+  pub run : IsRightRun start first more
+  pub touches : HasRightTouches start (joined first more).trace

@@ -1,0 +1,29 @@
+-- What the judgement of a whole segment makes of a chain, and a piece that is refused. No public clause cites this file.
+use Rattle.std.specs.Prelude.{◌≡◌, ℕ, List, [], Option, Some}
+use Rattle.vs_types.specs.declared.refusal.Fail.{Fail}
+use Rattle.vs_types.specs.declared.refusal.Fail.TheVariants.{Memory, Refused}
+use Rattle.nr_trace.specs.Recording.{Recording}
+use Rattle.nr_trace.specs.Orders.{recorded_order}
+use Rattle.nr_trace.specs.Spelling.{SpellsSegment}
+use Rattle.nr_trace.specs.declared.fault.Format.{Format}
+use Rattle.nr_trace.specs.declared.fault.Fault.TheVariants as faults
+use Rattle.nr_segment.specs.declared.fault.SegmentFault.TheVariants.{Within}
+use Rattle.nr_segment.specs.Faults.{IsFirstAfter, IsSoundAfter}
+use Rattle.nr_chain.specs.Bytes.{kept_after, layout_before, space_before}
+use Rattle.nr_chain.specs.Fed.{Kept}
+use Rattle.nr_chain.specs.declared.chain.Step.{Step}
+use Rattle.nr_chain.specs.declared.chain.Step.TheVariants.{More, Right, Wrong}
+
+-- the bytes spell a segment, and it is right, with its order, and the next one begins; or it has this fault
+abbrev pub JudgesWhole : Option Kept → List ℕ → ℕ → Step → Type 0
+JudgesWhole kept bytes count (More new) = ⊥
+JudgesWhole kept bytes count (Right own order new) =
+    (own ≡ count) × (segment : Recording) × SpellsSegment (layout_before kept) bytes segment × IsSoundAfter (space_before kept) segment
+    × (order ≡ recorded_order segment) × (new ≡ record { kept = Some (kept_after kept segment); bytes = [] })
+JudgesWhole kept bytes count (Wrong fault) =
+    (segment : Recording) × SpellsSegment (layout_before kept) bytes segment × IsFirstAfter (space_before kept) segment fault
+
+-- the bytes are refused so, or memory is
+abbrev pub RefusesWith : Fail Format → Step → Type 0
+RefusesWith Memory step = ⊥
+RefusesWith (Refused fault) step = step ≡ Wrong (Within (faults.Format fault))

@@ -1,0 +1,204 @@
+//! A chain that comes in pieces: each segment is judged as soon as it is whole.
+
+ghost use Rattle.std.specs.Prelude.{◌≡◌, ◌⊎◌, [], IfOk, IfSome, Some, None, true, false, option_map};
+ghost use Rattle.nr_trace.specs.Feed.{IsWhole};
+ghost use Rattle.nr_segment.specs.Verdict.{pages_before, FitsLayout, IsVerdictAfter};
+ghost use Rattle.nr_chain.specs.Bytes.{layout_before, EndsWith};
+ghost use Rattle.nr_chain.specs.Verdict.{FeedsChain};
+ghost use Rattle.nr_chain.specs.inside.Between.{bytes_in, kept_by, FitsLast};
+ghost use Rattle.nr_chain.specs.inside.Steps.{JudgesWhole, RefusesWith};
+
+use nr_audit::Order;
+use nr_segment::{SegmentFault, SegmentVerdict, judge_segment};
+use nr_trace::{Fault, Format, SegmentFeed, Trace, TraceLayout};
+use std::alloc::Global;
+use std::marker::Model;
+use vs_plain::PlainSpace;
+use vs_types::{Fail, Memory};
+
+/// What the last segment has come to.
+#[derive(Drop)]
+struct Last {
+    layout: TraceLayout,
+    /// The space after its whole log.
+    space: PlainSpace,
+}
+
+/// A reader and judge of a chain that comes in pieces, cut anywhere. It keeps the space after the segments so far, and what the
+/// pieces say of the next one. Contracts see what the segments so far have come to, and the bytes of the next one.
+#[derive(Drop)]
+pub struct Chain {
+    last: Option<Last>,
+    /// Whether a byte of the next segment has come.
+    begun: bool,
+    feed: SegmentFeed,
+}
+
+impl Model for Chain {
+    ghost use Rattle.std.specs.Coded.{codes, coded_ℕ};
+    ghost use Rattle.std.specs.FinMap as finite;
+    ghost use Rattle.std.specs.Ordering.{nat_cmp};
+    ghost use Rattle.std.specs.Prelude.{option_map};
+    ghost use Rattle.vs_types.specs.contracts.page.Page as page_contract;
+    ghost use Rattle.nr_chain.specs.Fed.{ChainFed};
+    ghost use Rattle.nr_chain.specs.inside.Between.{bytes_in, kept_by, IsBetween};
+
+    ghost Value = { ChainFed };
+
+    ghost coded = { Prim.hlevel (codes, finite.code {R = nat_cmp} coded_ℕ page_contract.the_row.coded) };
+
+    ghost view = { λ c.
+        record { kept = option_map kept_by c.last; bytes = bytes_in c.feed.pieces } };
+
+    ghost invariant = { λ c. IsBetween c.last c.begun c.feed };
+}
+
+/// What a piece makes of a chain.
+#[derive(Drop)]
+pub enum Step {
+    /// The whole piece is taken, and too few bytes have come of the segment.
+    More(Chain),
+    /// So many bytes at the front of the piece end a segment, which is right with this order; what is left belongs to the next one.
+    Right(usize, Order, Chain),
+    /// The segment has this fault, its first: whatever comes after the piece.
+    Wrong(SegmentFault),
+}
+
+impl Chain {
+    ghost use Rattle.nr_chain.specs.Fed.{ChainFed};
+
+    /// A chain of which nothing has come yet. It allocates no memory.
+    pub fn new(alloc: Global) -> Chain
+        ensures { let nothing : ChainFed = record { kept = None; bytes = [] } in result ≡ nothing }
+    {
+        Chain {
+            last: None,
+            begun: false,
+            feed: SegmentFeed::new(alloc, None),
+        }
+    }
+
+    /// Takes bytes at the front of the next piece: all of them, or so many that a segment is whole, which is judged then. It
+    /// allocates what the segment says, and what its judgement takes.
+    ///
+    /// # Errors
+    ///
+    /// `Memory` where a growth of memory was refused.
+    pub fn feed(self, alloc: Global, piece: &[u8]) -> Result<Step, Memory>
+        ensures { IfOk result (FeedsChain self piece.now) }
+    {
+        let Chain {
+            last,
+            begun,
+            mut feed,
+        } = self;
+        match feed.feed(piece) {
+            Ok(count) => {
+                if feed.is_whole() {
+                    return judge_whole(alloc, last, feed, count);
+                }
+                let begun = has_begun(begun, piece);
+                let next = Chain { last, begun, feed };
+                Ok(Step::More(next))
+            }
+            Err(fail) => refused(fail),
+        }
+    }
+
+    /// How the chain ends where no piece comes any more: `None` behind a whole segment, else with the next one truncated.
+    pub fn end(self) -> Option<SegmentFault>
+        ensures { EndsWith self.kept self.bytes result }
+    {
+        let Chain {
+            last,
+            begun,
+            feed: _,
+        } = self;
+        end_of(last.is_some(), begun)
+    }
+}
+
+/// Whether a byte of the next segment has come, after this piece.
+fn has_begun(begun: bool, piece: &[u8]) -> bool
+    ensures none { result ≡ false → (begun ≡ false) × (piece.now ≡ []) }
+    ensures some { result ≡ true → (begun ≡ true) ⊎ (piece.now ≡ [] → ⊥) }
+{
+    begun || !piece.is_empty()
+}
+
+/// What a piece makes of a chain where it is refused.
+fn refused(fail: Fail<Format>) -> Result<Step, Memory>
+    ensures { IfOk result (RefusesWith fail) }
+{
+    match fail {
+        Fail::Memory => Err(Memory),
+        Fail::Refused(fault) => Ok(Step::Wrong(SegmentFault::Within(Fault::Format(fault)))),
+    }
+}
+
+/// How a chain ends, behind a segment or not, where a byte of the next one has come or not.
+fn end_of(is_behind: bool, begun: bool) -> Option<SegmentFault>
+    ensures well { is_behind ≡ true → begun ≡ false → result ≡ None }
+    ensures short { (is_behind ≡ true → begun ≡ true)
+        → result ≡ Some (SegmentFault.Within (Fault.Format Format.Truncated)) }
+{
+    if is_behind && !begun {
+        return None;
+    }
+    Some(SegmentFault::Within(Fault::Format(Format::Truncated)))
+}
+
+/// The space after the last segment, if there is one.
+fn space_after(last: Option<Last>) -> Option<PlainSpace>
+    ensures { result ≡ option_map (λ last. last.space) last }
+{
+    match last {
+        Some(last) => Some(last.space),
+        None => None,
+    }
+}
+
+/// Judges a segment, of which nothing is needed any more.
+fn judge_last(
+    alloc: Global,
+    segment: Trace,
+    before: Option<PlainSpace>,
+) -> Result<SegmentVerdict, Memory>
+    requires { IfSome before (FitsLayout segment.layout) }
+    ensures { IfOk result (IsVerdictAfter (pages_before before) segment) }
+{
+    judge_segment(alloc, &segment, before)
+}
+
+/// Judges the segment that is whole, of which so many bytes came last.
+fn judge_whole(
+    alloc: Global,
+    last: Option<Last>,
+    feed: SegmentFeed,
+    count: usize,
+) -> Result<Step, Memory>
+    requires whole { IsWhole feed }
+    requires behind { feed.before ≡ layout_before (option_map kept_by last) }
+    requires fits { IfSome last FitsLast }
+    ensures { IfOk result (JudgesWhole (option_map kept_by last) (bytes_in feed.pieces) count) }
+{
+    let segment = match feed.end() {
+        Ok(segment) => segment,
+        Err(_) => unreachable!(),
+    };
+    let layout = segment.layout();
+    let before = space_after(last);
+    match judge_last(alloc, segment, before)? {
+        SegmentVerdict::Right(order, space) => {
+            let last = Some(Last { layout, space });
+            let feed = SegmentFeed::new(alloc, Some(layout));
+            let next = Chain {
+                last,
+                begun: false,
+                feed,
+            };
+            Ok(Step::Right(count, order, next))
+        }
+        SegmentVerdict::Wrong(fault) => Ok(Step::Wrong(fault)),
+    }
+}

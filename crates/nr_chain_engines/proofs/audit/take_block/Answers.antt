@@ -1,0 +1,48 @@
+use Rattle.std.proofs.Common.{◌≡◌, ◌∙◌, ℕ, ◌-◌, ◌==◌, ◌⊎◌, true, false, List, length, take, drop, ap, sym, subst}
+use Rattle.std.proofs.Math.Seq.{take-length}
+use Rattle.std.proofs.lemmas.List.{length-drop}
+use Rattle.nr_chain.specs.Verdict.{FeedsChain}
+use Rattle.nr_chain_engines.specs.inside.Going.{TakesSome}
+use Rattle.nr_engines.specs.declared.fault.ProgFault.{ProgFault}
+use Rattle.nr_engines.specs.declared.fault.ProgFault.TheVariants.{CannotWrite, Memory}
+use Rattle.nr_chain_engines.proofs.Going.{block_begins, block_taken, block_wrong, next_segment, passed_on, unwritten_lines}
+use Rattle.nr_chain_engines.proofs.audit.take_block.Goals as goal
+
+left_behind : (count : ℕ) (rest : List ℕ) → take (length rest - count) (drop count rest) ≡ drop count rest
+left_behind count rest = ap (λ (n : ℕ). take n (drop count rest)) (sym (length-drop count rest)) ∙ take-length (drop count rest)
+
+pub returns-in-More-clause-ok : goal.returns-in-More-clause-ok
+returns-in-More-clause-ok g c =
+    block_taken c.args.quiet c.args.begun c.segments.chain c.in-More.next c.args.right c.segments.number c.args.block.now c.segments.rest.now _ _
+    c.segments.invariant (subst (FeedsChain c.segments.chain c.segments.rest.now) c.in-More.is c.in_ok-next.ensures)
+
+pub segments-preserved : goal.segments-preserved
+segments-preserved g c =
+    next_segment c.args.quiet c.args.begun c.segments.chain c.in-Right.next c.args.right c.segments.number c.in-Right.count c.args.block.now
+    c.segments.rest.now _ c.in-Right.order _ _ _ c.segments.invariant
+    (subst (FeedsChain c.segments.chain c.segments.rest.now) c.in-Right.is c.in_ok-next.ensures)
+    c.in_ok-write_right-in-Right.ensures.ok (left_behind c.in-Right.count c.segments.rest.now)
+
+pub returns-in-Wrong-clause-ok : goal.returns-in-Wrong-clause-ok
+returns-in-Wrong-clause-ok g c =
+    block_wrong c.args.quiet c.args.begun c.segments.chain c.args.right c.segments.number c.args.block.now c.segments.rest.now _ _ c.in-Wrong.fault
+    c.segments.invariant (subst (FeedsChain c.segments.chain c.segments.rest.now) c.in-Wrong.is c.in_ok-next.ensures)
+    (λ none. absurd (
+    let zero : length c.segments.rest.now ≡ 0 = ap length none in
+    let empty : c.is_empty.result ≡ true = c.is_empty.ensures ∙ ap (λ (n : ℕ). n == 0) zero in
+    let some : c.is_empty.result ≡ false = c.segments-test.true in cc))
+
+pub segments-init : goal.segments-init
+segments-init g c =
+    block_begins c.args.quiet c.args.begun c.args.right c.args.block.now (g.W.Write.contents c.args.writer.now) c.requires.short
+
+pub returns-in_err-write_right-in-Right-clause-err : goal.returns-in_err-write_right-in-Right-clause-err
+returns-in_err-write_right-in-Right-clause-err g c =
+    let contents = g.W.Write.contents in
+    passed_on c.from_residual-in_err-write_right-in-Right.result c.in_err-write_right-in-Right.field-0.0
+    (λ (fault : ProgFault). (fault ≡ CannotWrite) ⊎ ((fault ≡ Memory)
+    × TakesSome c.args.quiet c.args.begun c.args.right c.args.block.now (contents c.args.writer.now) (contents c.write_right.new.writer)))
+    c.from_residual-in_err-write_right-in-Right.ensures.1
+    (unwritten_lines c.args.quiet c.args.begun c.segments.chain c.args.right c.segments.number c.args.block.now c.segments.rest.now
+    (contents c.args.writer.now) contents c.segments.writer c.write_right.new.writer c.in_err-write_right-in-Right.field-0.0
+    c.segments.invariant c.in_err-write_right-in-Right.ensures.err)
