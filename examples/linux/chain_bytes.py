@@ -8,7 +8,7 @@ TABLES = 65535
 
 
 class Segment(Trace):
-    threads = 4096
+    threads = 65535
 
     def touch(self, thread: int, address: int, access: int, is_user: bool, answer: int, value: int) -> int:
         """An access through a TLB, and its answer."""

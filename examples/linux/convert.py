@@ -3,21 +3,23 @@
 
     convert.py [--no-intent] [--every-access | --chain N] [--most N] [--calls FILE] LOG >TRACE
 
+LOG is a file, or - for standard input. One that ends with .xz is unpacked.
 --no-intent: what mprotect and munmap promised is left to the tables.   --every-access: also those between a store and its flush.
 --chain: a chain of segments of some N updates each, with all accesses as touches; it may begin with tables that have pages.
 --most: stop after so many updates.   --calls: where each call comes from, a line each, parted by tabs: its number, the processor or
 the task, and the instructions, each an address and its place in the kernel: that of the store or the access, and those to which
-the calls return that led there.   A log that ends with .xz is unpacked.
+the calls return that led there.
 
 How, and why so, is in README.md. Nothing here is verified, and nothing depends on it.
 """
 import argparse
 import collections
 import lzma
+import os
 import sys
 from collections.abc import Callable, Iterable
 from dataclasses import dataclass, field
-from typing import NamedTuple
+from typing import NamedTuple, TextIO
 
 sys.dont_write_bytecode = True
 import log_lines
@@ -89,6 +91,7 @@ class Converter:
     notes: list[str] = field(default_factory=list)
     counts: collections.Counter[str] = field(default_factory=collections.Counter)
     is_over: bool = False
+    is_cut: bool = False
 
     def __post_init__(self) -> None:
         if self.options.chain:
@@ -300,20 +303,21 @@ class Converter:
         """A segment is long enough, and no update is under way."""
         return 0 < self.options.chain <= max(len(self.trace.log), len(self.trace.events) // 2) and not self.windows
 
-    def read(self, lines: Iterable[str]) -> None:
-        """Takes a whole log; of one that is too long, or ends in between, the tables as the stores made them are the dump."""
-        is_cut = False
-        for line in log_lines.parse(lines):
-            is_cut = is_cut or self.is_enough()
-            if self.options.chain and not self.tables.linked and isinstance(line, Store | Access | Fault):
-                self.begin()
-            if not is_cut or isinstance(line, Symbol):
-                self.take(line)
-            if self.is_cut_here():
-                self.end_segment()
+    def put(self, line: Line) -> None:
+        """Takes the next line of a log; of one that is too long, the first part of it."""
+        self.is_cut = self.is_cut or self.is_enough()
+        if self.options.chain and not self.tables.linked and isinstance(line, Store | Access | Fault):
+            self.begin()
+        if not self.is_cut or isinstance(line, Symbol):
+            self.take(line)
+        if self.is_cut_here():
+            self.end_segment()
+
+    def finish(self) -> None:
+        """The log is over; where it was cut, or ends in between, the tables as the stores made them are the dump."""
         for task in list(self.owed):
             self.close(task, 0, EVERYTHING)
-        if is_cut or not self.is_over:
+        if self.is_cut or not self.is_over:
             self.notes.append("the log is cut: the dump is that of the stores")
             self.dump = self.tables.frames()
 
@@ -338,14 +342,24 @@ class Converter:
         return "".join(rows)
 
 
+def open_lines(path: str) -> TextIO:
+    """A log's lines; those of standard input where it is -."""
+    if path == "-":
+        return sys.stdin
+    return lzma.open(path, "rt") if path.endswith(".xz") else open(path)
+
+
 def read_lines(path: str) -> list[str]:
-    with lzma.open(path, "rt") if path.endswith(".xz") else open(path) as file:
+    with open_lines(path) as file:
         return file.readlines()
 
 
-def convert(lines: list[str], options: Options = Options()) -> Converter:
-    converter = Converter(options)
-    converter.read(lines)
+def convert(lines: Iterable[str], options: Options = Options(), put_segment: Callable[[bytes], object] | None = None) -> Converter:
+    """Takes all lines; of a chain each segment but the last goes where it belongs as soon as it is over."""
+    converter = Converter(options, put_segment=put_segment)
+    for line in log_lines.parse(lines):
+        converter.put(line)
+    converter.finish()
     return converter
 
 
@@ -358,8 +372,15 @@ def main() -> int:
     parser.add_argument("--calls")
     parser.add_argument("log")
     words = parser.parse_args()
-    converter = convert(read_lines(words.log), Options(not words.no_intent, words.every_access, words.most, words.chain))
-    sys.stdout.buffer.write(converter.spell())
+    options = Options(not words.no_intent, words.every_access, words.most, words.chain)
+    try:
+        with open_lines(words.log) as lines:
+            converter = convert(lines, options, sys.stdout.buffer.write)
+        sys.stdout.buffer.write(converter.spell())
+        sys.stdout.flush()
+    except BrokenPipeError:             # who reads has found a fault
+        os.dup2(os.open(os.devnull, os.O_WRONLY), sys.stdout.fileno())
+        return 0
     if words.calls:
         with open(words.calls, "w") as file:
             file.write(converter.calls())

@@ -135,7 +135,7 @@ PARSERS: dict[str, Callable[[list[str]], Line]] = {
 
 
 def parse(lines: Iterable[str]) -> Iterator[Line]:
-    """What the lines of a slim log say; others are passed over."""
+    """What lines of a slim log say; others are passed over."""
     for line in lines:
         words = line.split()
         if words and words[0] in PARSERS:
@@ -145,16 +145,18 @@ def parse(lines: Iterable[str]) -> Iterator[Line]:
 EXCEPTION = re.compile(r" *\d+: v=([0-9a-f]{2}) e=([0-9a-f]{4}) ")
 TASK_STATE = re.compile(r"TR =0040 (fffffe[0-9a-f]{10}) ")      # where the kernel has it: one behind the other, by processors
 CONTROL = re.compile(r"CR0=[0-9a-f]+ CR2=([0-9a-f]+) CR3=([0-9a-f]+) ")
+OF_EXCEPTIONS = frozenset(" 0123456789TC")       # with one of these a line begins that one of them may fit
 PAGE_FAULT = "0e"
 CALLERS = 6
 
 
 class Slimmer:
-    """Makes a slim log out of QEMU's: the lines of the plugin alone, each page fault as one, and the places of the kernel that they
-    name, for which `place` has symbol and offset."""
+    """Makes a slim log out of QEMU's: the lines of one plugin alone, which begin with `tag`, each page fault as one, and the places of
+    the kernel that they name, for which `place` has symbol and offset."""
 
-    def __init__(self, place: Callable[[int], tuple[str, int]]) -> None:
+    def __init__(self, place: Callable[[int], tuple[str, int]], tag: str = "@") -> None:
         self.place = place
+        self.tag = tag
         self.exception: tuple[str, str] = "", ""        # its number and error code; what follows are the registers
         self.task_state = ""
         self.task_states: set[str] = set()
@@ -214,11 +216,13 @@ class Slimmer:
                 yield f"@fault {sorted(self.task_states).index(self.task_state)} {code} {found.group(1)}\n"
             self.exception = "", ""
 
+    def of_line(self, line: str) -> Iterator[str]:
+        """What comes of one line; of one that is cut, since QEMU was ended while it wrote, nothing."""
+        if line[0] == self.tag and line.endswith("\n"):
+            yield from self.of_plugin("@" + line[1:])
+        elif line[0] in OF_EXCEPTIONS and line.endswith("\n"):
+            yield from self.of_qemu(line)
+
     def slim(self, lines: Iterable[str]) -> Iterator[str]:
         for line in lines:
-            if not line.endswith("\n"):      # QEMU was ended while it wrote
-                break
-            if line.startswith("@"):
-                yield from self.of_plugin(line)
-            else:
-                yield from self.of_qemu(line)
+            yield from self.of_line(line)

@@ -30,7 +30,10 @@ echo 1 >/proc/sys/kernel/printk
 $b poweroff -f
 """
 INSERT = "".join(f"$b insmod /bin/{os.path.basename(each)}.ko\n" for each in MODULES)
-UNUSED = shutil.ignore_patterns("share", "gconv")     # of Debian's packages
+UNUSED = shutil.ignore_patterns("doc", "man", "locale", "gconv", "info", "icons", "libLLVM*", "dri")      # of Debian's packages
+WORKLOAD = "workload"
+PLUGIN, SECOND = "watch.so", "watch-second.so"      # the second copy watches a process while the first watches nested tables
+TAG, SECOND_TAG = "@", "%"                          # with which their lines begin
 
 
 @dataclass(frozen=True)
@@ -41,10 +44,12 @@ class Guest:
     levels: int = 4
     isolated: bool = False
     rest: int = 0
-    memory: int = 1024              # MiB
+    memory: int = 1024              # MiB; below 3,584, where QEMU's machine has all of it from 0 on
     code: tuple[Replaced | Silenced, ...] = ()      # what is overwritten when the guest says so
     package: str = ""               # of Debian, unpacked in the guest with all that it depends on
     nested: bool = False            # KVM is there, and the nested tables of a guest's guest are watched
+    monitor: bool = False           # .. and a process too, by a second copy of the plugin
+    files: tuple[str, ...] = ()     # more files, for its /bin
     options: str = ""               # of the kernel's command line, with one before them
 
 
@@ -70,16 +75,19 @@ def pack(name: str, command: str, files: list[str], package: str = "") -> str:
     return path
 
 
-def compile_parts() -> tuple[str, str]:
-    """The plugin and the workload, built."""
+def is_newer(path: str, sources: list[str]) -> bool:
+    return os.path.exists(path) and all(os.path.getmtime(each) < os.path.getmtime(path) for each in sources)
+
+
+def compile_parts() -> None:
+    """The plugin, a second copy of it, and the workload, built where they aren't."""
     flags = ["-std=c11", "-D_DEFAULT_SOURCE", "-Wall", "-Wextra", "-Wpedantic", "-Werror"]
-    built = []
-    for name, folder, more in (("watch.so", "plugin", ["-O2", "-shared", "-fPIC", "-fvisibility=hidden"]),
-                               ("workload", "guest", ["-O1", "-static", "-pthread"])):
-        sources = sorted(f"{HERE}/{folder}/{each}" for each in os.listdir(f"{HERE}/{folder}") if each.endswith(".c"))
-        said("gcc", *flags, *more, "-o", f"{OUT}/{name}", *sources)
-        built.append(f"{OUT}/{name}")
-    return built[0], built[1]
+    for name, folder, more in ((PLUGIN, "plugin", ["-O2", "-shared", "-fPIC", "-fvisibility=hidden"]),
+                               (WORKLOAD, "guest", ["-O1", "-static", "-pthread"])):
+        sources = sorted(f"{HERE}/{folder}/{each}" for each in os.listdir(f"{HERE}/{folder}") if each.endswith((".c", ".h")))
+        if not is_newer(f"{OUT}/{name}", sources):
+            said("gcc", *flags, *more, "-o", f"{OUT}/{name}", *(each for each in sources if each.endswith(".c")))
+    shutil.copy(f"{OUT}/{PLUGIN}", f"{OUT}/{SECOND}")
 
 
 def plain_command(image: str, initrd: str) -> list[str]:
@@ -147,15 +155,22 @@ def plant(name: str, guest: Guest, kernel: Kernel, qemu: subprocess.Popen[bytes]
     line.sendall(b"\n")
 
 
-def command(name: str, guest: Guest, kernel: Kernel, plugin: str, initrd: str) -> list[str]:
+def plugins(memory: str, guest: Guest, kernel: Kernel) -> list[str]:
+    """The plugins, with what each gets to know."""
+    told = [f"memory={memory}", f"levels={guest.levels}", f"isolated={int(guest.isolated)}", f"rest={guest.rest}", *kernel.settings()]
+    words = ["-plugin", ",".join([f"{OUT}/{PLUGIN}", *told, *(kernel.nested_settings() if guest.nested else [])])]
+    if guest.monitor:
+        words += ["-plugin", ",".join([f"{OUT}/{SECOND}", *told, f"tag={SECOND_TAG}"])]
+    return words
+
+
+def command(name: str, guest: Guest, kernel: Kernel, initrd: str) -> list[str]:
     memory = f"{OUT}/{name}.memory"
-    told = [plugin, f"memory={memory}", f"levels={guest.levels}", f"isolated={int(guest.isolated)}", f"rest={guest.rest}"]
-    told += kernel.settings() + (kernel.nested_settings() if guest.nested else [])
     words = plain_command(kernel.image, initrd)
     words += ["-m", f"{guest.memory}M", "-smp", str(guest.processors), "-cpu", PROCESSOR + (",la57=off" if guest.levels == 4 else "")]
     words += ["-object", f"memory-backend-file,id=memory,size={guest.memory}M,mem-path={memory},share=on", "-machine",
               "pc,memory-backend=memory", "-append", COMMAND_LINE + (" pti=on" if guest.isolated else "") + guest.options, "-serial",
-              f"file:{OUT}/{name}.serial", "-plugin", ",".join(told), "-d", "int,plugin", "-D", f"{OUT}/{name}.raw"]
+              f"file:{OUT}/{name}.serial", "-d", "int,plugin", "-D", f"{OUT}/{name}.raw", *plugins(memory, guest, kernel)]
     if guest.code:
         words += ["-serial", f"unix:{OUT}/{name}.line,server,nowait", "-gdb", f"unix:{OUT}/{name}.debug,server,nowait"]
     return words
@@ -175,14 +190,14 @@ def hand_over(name: str, guest: Guest, kernel: Kernel, limit: int, qemu: subproc
 
 def record(name: str, guest: Guest, kernel: Kernel, limit: int = LIMIT, take: Callable[[Iterable[str]], None] | None = None) -> Recording:
     """Boots a guest, and waits until it is over; its log stays, or is taken while it runs."""
-    plugin, workload = compile_parts()
-    files = [workload, f"{HERE}/guest/script.py"] + (kernel.modules if guest.nested else [])
+    compile_parts()
+    files = [f"{OUT}/{WORKLOAD}", f"{HERE}/guest/script.py", *guest.files] + (kernel.modules if guest.nested else [])
     initrd = pack(name, (INSERT if guest.nested else "") + guest.command, files, guest.package)
     for ending in ("raw", "serial", "memory", "line", "debug"):
         remove(f"{OUT}/{name}.{ending}")
     if take:
         os.mkfifo(f"{OUT}/{name}.raw")
-    qemu = subprocess.Popen(command(name, guest, kernel, plugin, initrd))
+    qemu = subprocess.Popen(command(name, guest, kernel, initrd))
     try:
         if take:
             hand_over(name, guest, kernel, limit, qemu, take)

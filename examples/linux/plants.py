@@ -58,7 +58,7 @@ class Plant:
     rounds: int = 5
     processors: int = 1         # with one, nothing but the kernel's own flushes comes between a store and what the process does next
     tick: int = 0
-    nested: bool = False        # a monitor of KVM meets it
+    nested: str = ""            # a monitor of KVM meets it: what this does
 
 
 PLANTS = {
@@ -78,6 +78,9 @@ PLANTS = {
     "no-protect": Plant("mprotect changes nothing", (Replaced("change_protection", RETURN_NOTHING),), "threads shootdown", 10, 3, 50),
     "all-rights": Plant("a page that is mapped may be written, whatever was asked",
                         (Replaced("vm_get_page_prot", RETURN_WRITABLE),), "threads"),
-    "kvm-flush": Plant("KVM doesn't flush what it made read-only", (Replaced("kvm_flush_remote_tlbs", RETURN),), "", 100, 2, nested=True),
+    "kvm-flush": Plant("KVM doesn't flush what it made read-only", (Replaced("kvm_flush_remote_tlbs", RETURN),), "", 100, 2,
+                       nested="logged"),
+    "kvm-kick": Plant("KVM notes that its processors have to flush, and interrupts none",
+                      (Silenced("kvm_make_all_cpus_request_except", "smp_call_function_many"),), "", 60, 3, nested="pair"),
     "no-unmap": Plant("munmap leaves the pages mapped", (Replaced("unmap_page_range", RETURN),), "threads", 5),
 }

@@ -1,10 +1,13 @@
 """What the guest runs while it is watched."""
+from collections.abc import Callable
 from dataclasses import dataclass
 
-from machine import Guest
+import large_source
+from machine import HERE, LIMIT, OUT, Guest
 from plants import Plant
 
-WITHOUT_TICKS = " tsc=reliable nohz_full=1"      # on processor 1, while one task runs there: each tick would end a machine's run
+# But on processor 0, while one task runs there: each tick would end a machine's run. No processor that isn't there may be named.
+WITHOUT_TICKS = {2: " tsc=reliable nohz_full=1", 3: " tsc=reliable nohz_full=1-2"}
 PARTS = "threads shootdown cow huge moved files merged reclaimed emptied copied"
 
 
@@ -19,13 +22,18 @@ class Workload:
     isolated: bool = False
     package: str = ""
     nested: bool = False
+    monitor: bool = False
+    memory: int = 1024          # MiB
+    file: Callable[[], str] | None = None       # makes a file for its /bin: the path here
+    chain: int = 0              # it is too long for a trace, or has a start: updates in a segment of its chain
+    limit: int = LIMIT          # seconds
     options: str = ""
 
     def guest(self, seed: int, plant: Plant | None = None) -> Guest:
         command = f"/bin/workload {self.command.replace('SEED', str(seed))}"
         ticking = f"/bin/workload tick {self.tick} &\n" if self.tick else ""
-        return Guest(ticking + command, self.processors, self.levels, self.isolated, self.rest, code=plant.code if plant else (),
-                     package=self.package, nested=self.nested, options=self.options)
+        return Guest(ticking + command, self.processors, self.levels, self.isolated, self.rest, self.memory, plant.code if plant else (),
+                     self.package, self.nested, self.monitor, (self.file(),) if self.file else (), self.options)
 
 
 WORKLOADS = {
@@ -33,7 +41,8 @@ WORKLOADS = {
                       "live SEED 5 threads shootdown cow huge", 2, 50),
     "whole": Workload("all parts, from exec to exit, 1 processor", f"die SEED 5 {PARTS}"),
     "long": Workload("all parts, 3 processors", f"live SEED 10 {PARTS}", 3, 50),
-    "here": Workload("all parts, from when it has 3,000 pages on, 3 processors (for a chain)", f"here SEED 10 {PARTS}", 3, 50),
+    "here": Workload("all parts, from when it has 3,000 pages on, 3 processors", f"here SEED 10 {PARTS}", 3, 50, chain=1000),
+    "crowd": Workload("a hundred threads that map, protect and unmap, 4 processors", "live SEED 2 crowd", 4, 50, chain=1000),
     "five": Workload("five levels, 2 processors", "live SEED 5 threads shootdown cow huge moved files", 2, 50, levels=5),
     "isolated": Workload("the user's table of page-table isolation, 2 processors",
                          "live SEED 5 threads shootdown cow huge moved files", 2, 50, isolated=True),
@@ -46,14 +55,26 @@ WORKLOADS = {
     "stress-vm": Workload("stress-ng's process that maps, writes and unmaps (vm), from fork to exit, 3 processors",
                           "later 2 /usr/bin/stress-ng --vm 1 --vm-bytes 1M --vm-method flip --vm-ops 1000 --seed SEED", 3, 50,
                           package="stress-ng"),
-    "stress-long": Workload("the same for a minute (for a chain)",
+    "stress-long": Workload("the same for a minute",
                             "later 2 /usr/bin/stress-ng --vm 1 --vm-bytes 1M --vm-method flip --timeout 60 --seed SEED", 3, 50,
-                            package="stress-ng"),
+                            package="stress-ng", chain=10000),
+    "attached": Workload("the same when it has run for some seconds already",
+                         "attach 8 2 /usr/bin/stress-ng --vm 1 --vm-bytes 1M --vm-method flip --timeout 20 --seed SEED", 3, 50,
+                         package="stress-ng", chain=1000),
     "stress-tlb": Workload("stress-ng's process that has TLBs shot down (tlb-shootdown), from fork to exit, 3 processors",
                            "later 2 /usr/bin/stress-ng --tlb-shootdown 1 --tlb-shootdown-ops 4 --seed SEED", 3, 50, package="stress-ng"),
     "kvm": Workload("the nested tables of KVM's guest in the guest, 1 processor", "monitor SEED 100", nested=True),
     "kvm-log": Workload("the same of a guest whose writes KVM logs, 2 processors", "logged SEED 100", 2, nested=True,
-                        options=WITHOUT_TICKS),
+                        options=WITHOUT_TICKS[2]),
+    "kvm-pair": Workload("the nested tables of a guest with two processors, and its monitor's own, as two chains, 3 processors",
+                         "pair SEED 30", 3, nested=True, monitor=True, chain=1000, options=WITHOUT_TICKS[3]),
+    "cc1": Workload("gcc's compiler on 25,000 lines of C, from exec to exit, 2 processors",
+                    "exec /usr/lib/gcc/x86_64-linux-gnu/12/cc1 -quiet -w -fpreprocessed /bin/large.i -o /dev/null", 2, 50,
+                    package="cpp-12", memory=2048, file=lambda: large_source.path(OUT), chain=10000, limit=1800),
+    "browser": Workload("Chromium, which loads a page and runs its script, all in one process, from exec to exit, 2 processors",
+                        "exec /usr/lib/chromium/chromium-headless-shell --no-sandbox --single-process --disable-gpu --dump-dom "
+                        "file:///bin/page.html", 2, 50, package="chromium-headless-shell", memory=3072,
+                        file=lambda: f"{HERE}/guest/page.html", chain=10000, limit=3600),
     "race": Workload("rests between stores and their flushes, so that other processors' accesses fall there, 3 processors",
                      "live SEED 12 shootdown", 3, 50, rest=25),
 }
@@ -61,6 +82,6 @@ WORKLOADS = {
 
 def planted(plant: Plant) -> Workload:
     """The process that meets a planted bug; it waits for it when it runs already."""
-    how = "logged" if plant.nested else "live"
-    return Workload(plant.what, f"{how} SEED {plant.rounds} planted {plant.parts}", plant.processors, plant.tick, nested=plant.nested,
-                    options=WITHOUT_TICKS if plant.nested else "")
+    how, is_pair = plant.nested or "live", plant.nested == "pair"
+    return Workload(plant.what, f"{how} SEED {plant.rounds} planted {plant.parts}", plant.processors, plant.tick, nested=bool(plant.nested),
+                    monitor=is_pair, chain=1000 if is_pair else 0, options=WITHOUT_TICKS[plant.processors] if plant.nested else "")

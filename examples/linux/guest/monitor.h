@@ -12,4 +12,8 @@ int run_monitor(uint64_t random, unsigned rounds);
  * after each, a page may be written only when the processor has asked again. */
 int run_logged(unsigned rounds);
 
+/* The same of a machine with two processors, each of which reads and writes the same pages all the time, while so often its memory is
+ * changed: it is taken away, or its writes are logged, of which alone it is with `only_logs`. */
+int run_pair(uint64_t random, unsigned rounds, int only_logs);
+
 #endif

@@ -17,6 +17,7 @@
 #define MIB (1024 * KIB)
 #define READERS 2
 #define WORKERS 3
+#define CROWD 100
 
 uint64_t seed;
 unsigned rounds;
@@ -128,14 +129,24 @@ static void *work(void *which)
 }
 
 /* Each thread maps, protects and unmaps pages of its own. */
+static void work_together(unsigned count)
+{
+	pthread_t workers[CROWD];
+
+	for (uintptr_t k = 0; k < count; k++)
+		pthread_create(&workers[k], NULL, work, (void *)k);
+	for (unsigned k = 0; k < count; k++)
+		pthread_join(workers[k], NULL);
+}
+
 static void threads(void)
 {
-	pthread_t workers[WORKERS];
+	work_together(WORKERS);
+}
 
-	for (uintptr_t k = 0; k < WORKERS; k++)
-		pthread_create(&workers[k], NULL, work, (void *)k);
-	for (unsigned k = 0; k < WORKERS; k++)
-		pthread_join(workers[k], NULL);
+static void crowd(void)
+{
+	work_together(CROWD);
 }
 
 static struct {
@@ -422,8 +433,9 @@ static const struct {
 	const char *name;
 	void (*run)(void);
 } parts[] = {
-	{ "threads", threads }, { "shootdown", shootdown }, { "copied", copied }, { "cow", cow }, { "huge", huge }, { "moved", moved },
-	{ "files", files }, { "merged", merged }, { "reclaimed", reclaimed }, { "emptied", emptied }, { "planted", planted },
+	{ "threads", threads }, { "crowd", crowd }, { "shootdown", shootdown }, { "copied", copied }, { "cow", cow }, { "huge", huge },
+	{ "moved", moved }, { "files", files }, { "merged", merged }, { "reclaimed", reclaimed }, { "emptied", emptied },
+	{ "planted", planted },
 };
 
 void run_part(const char *name)

@@ -7,14 +7,18 @@
  *     workload fork SEED PAGES             has the address space watched that fork makes of one with so many pages
  *     workload exec PROGRAM WORD..         has another program's watched, from exec to exit
  *     workload later N PROGRAM WORD..      .. the one that is made when N others were made from that exec on, to its end
+ *     workload attach S N PROGRAM WORD..   .. the same, but only when it has run for S seconds already
  *     workload monitor SEED ROUNDS         has the nested tables watched of a virtual machine, whose monitor it is
  *     workload logged SEED ROUNDS PART..   .. of one that writes all the time, while the log of its writes is taken; after these parts
+ *     workload pair SEED ROUNDS PART..     .. of one with two processors that read and write all the time, while its memory is changed or,
+ *                                          after parts, the log of its writes is taken; its monitor is watched too
  *     workload tick MICROSECONDS           sleeps and wakes for ever: at each of these interrupts QEMU goes to the next processor
  *
  * A store to the page of marks is a word to the plugin (plugin/watch.c). A line WRONG says that the process saw something
  * that shouldn't be.
  */
 #include "monitor.h"
+#include "others.h"
 #include "parts.h"
 
 #include <errno.h>
@@ -25,7 +29,15 @@
 #include <unistd.h>
 
 #define MARKS ((volatile uint64_t *)0x6e7276730000)
-enum mark { MARK_NEXT = 1, MARK_END = 2, MARK_WHEN_EMPTY = 3, MARK_HERE = 4, MARK_LATER = 0x100 };
+enum mark { MARK_NEXT = 1, MARK_END = 2, MARK_WHEN_EMPTY = 3, MARK_HERE = 4, MARK_LATER = 0x100, MARK_CHOSEN = 0x200 };
+
+/* A word to the plugin, which follows no code until it is asked to: from the block on that comes after a nop of its own. */
+static void say(uint64_t value)
+{
+	__asm__ volatile(".byte 0x0f, 0x1f, 0x84, 0x00, 0x4e, 0x52, 0x56, 0x53");
+	getppid();
+	*MARKS = value;
+}
 
 static void report(const char *what, pid_t child)
 {
@@ -36,18 +48,36 @@ static void report(const char *what, pid_t child)
 }
 
 /* The next address space that is made is that of the program which the child becomes; `mark` says which is watched. */
-static int exec_watched(int until_empty, uint64_t mark, char **words)
+static pid_t begin_program(int until_empty, uint64_t mark, char **words)
 {
 	pid_t child = fork();
 
 	if (!child) {
 		if (until_empty)
-			*MARKS = MARK_WHEN_EMPTY;
-		*MARKS = mark;
+			say(MARK_WHEN_EMPTY);
+		say(mark);
 		execv(words[0], words);
 		printf("WRONG exec: %s\n", strerror(errno));
 		_exit(8);
 	}
+	return child;
+}
+
+static int exec_watched(int until_empty, uint64_t mark, char **words)
+{
+	report(words[0], begin_program(until_empty, mark, words));
+	return 0;
+}
+
+/* A program runs already when it is watched from here on; nothing of it is under way then. */
+static int attach(unsigned seconds, uint64_t mark, char **words)
+{
+	pid_t child = begin_program(1, mark, words);
+
+	sleep(seconds);
+	stop_others();
+	say(MARK_HERE);
+	let_others_run();
 	report(words[0], child);
 	return 0;
 }
@@ -59,8 +89,8 @@ static int fork_watched(uint64_t pages)
 
 	madvise(at, pages * PAGE, MADV_NOHUGEPAGE);
 	touch(at, pages * PAGE);
-	*MARKS = MARK_WHEN_EMPTY;
-	*MARKS = MARK_NEXT;
+	say(MARK_WHEN_EMPTY);
+	say(MARK_NEXT);
 	child = fork();
 	if (!child) {
 		touch(at, pages / 2 * PAGE);
@@ -72,16 +102,21 @@ static int fork_watched(uint64_t pages)
 	return 0;
 }
 
-static int monitor_watched(int is_logged, char **names)
+static int monitor_watched(const char *what, char **names)
 {
-	int others;
+	int others, is_planted = *names != NULL;
 
 	for (; *names; names++)
 		run_part(*names);
-	*MARKS = MARK_NEXT;
-	others = is_logged ? run_logged(rounds) : run_monitor(seed, rounds);
+	if (!strcmp(what, "pair"))
+		say(MARK_HERE);
+	say(MARK_NEXT);
+	if (!strcmp(what, "monitor"))
+		others = run_monitor(seed, rounds);
+	else
+		others = !strcmp(what, "logged") ? run_logged(rounds) : run_pair(seed, rounds, is_planted);
 	printf("DONE, %d wrong\n", others);
-	*MARKS = MARK_END;
+	say(MARK_END);
 	return others != 0;
 }
 
@@ -92,7 +127,7 @@ static int run_parts(int marks_end, char **names)
 		run_part(*names);
 	printf("DONE, %d wrong\n", wrong);
 	if (marks_end)
-		*MARKS = MARK_END;
+		say(MARK_END);
 	return wrong != 0;
 }
 
@@ -111,13 +146,15 @@ int main(int count, char **words)
 		return exec_watched(1, MARK_NEXT, words + 2);
 	if (!strcmp(what, "later") && count > 3)
 		return exec_watched(1, MARK_LATER + seed, words + 3);
-	if ((!strcmp(what, "monitor") || !strcmp(what, "logged")) && count > 3)
-		return monitor_watched(!strcmp(what, "logged"), words + 4);
+	if (!strcmp(what, "attach") && count > 4)
+		return attach((unsigned)seed, MARK_CHOSEN + rounds, words + 4);
+	if ((!strcmp(what, "monitor") || !strcmp(what, "logged") || !strcmp(what, "pair")) && count > 3)
+		return monitor_watched(what, words + 4);
 	if (!strcmp(what, "fork") && count > 3)
 		return fork_watched(rounds);
 	if (!strcmp(what, "here") && count > 3) {
 		touch(map_at(0x40000000, 3000 * PAGE, READ_WRITE, PRIVATE, -1), 3000 * PAGE);
-		*MARKS = MARK_HERE;
+		say(MARK_HERE);
 		return run_parts(1, words + 4);
 	}
 	if (!strncmp(what, "watched-", 8) && count > 3)

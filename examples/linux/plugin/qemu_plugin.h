@@ -22,10 +22,12 @@ struct qemu_plugin_hwaddr; /* where an access went */
 enum qemu_plugin_cb_flags { QEMU_PLUGIN_CB_NO_REGS };
 enum qemu_plugin_mem_rw { QEMU_PLUGIN_MEM_RW = 3 };
 
+typedef void qemu_plugin_simple(qemu_plugin_id_t id);
 typedef void qemu_plugin_translated(qemu_plugin_id_t id, struct qemu_plugin_tb *block);
 typedef void qemu_plugin_ran(unsigned cpu, void *data);
 typedef void qemu_plugin_accessed(unsigned cpu, qemu_plugin_meminfo_t info, uint64_t address, void *data);
 
+void qemu_plugin_reset(qemu_plugin_id_t id, qemu_plugin_simple *call);
 void qemu_plugin_register_vcpu_tb_trans_cb(qemu_plugin_id_t id, qemu_plugin_translated *call);
 void qemu_plugin_register_vcpu_tb_exec_cb(struct qemu_plugin_tb *block, qemu_plugin_ran *call, enum qemu_plugin_cb_flags flags,
 	void *data);

@@ -5,6 +5,14 @@
 #include <stdarg.h>
 #include <stdio.h>
 
+static char tag = '@';
+
+int say_tag(char character)
+{
+	tag = character;
+	return character > ' ';
+}
+
 void say(const char *form, ...)
 {
 	char text[1024];
@@ -13,5 +21,6 @@ void say(const char *form, ...)
 	va_start(rest, form);
 	vsnprintf(text, sizeof text, form, rest);
 	va_end(rest);
+	text[0] = tag;
 	qemu_plugin_outs(text);
 }

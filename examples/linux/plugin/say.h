@@ -2,6 +2,9 @@
 #ifndef SAY_H
 #define SAY_H
 
+/* All forms begin with @; from here on lines begin with this character instead. Whether it is one that can be seen. */
+int say_tag(char character);
+
 void say(const char *form, ...) __attribute__((format(printf, 1, 2)));
 
 #endif

@@ -5,7 +5,8 @@
  * host runs all processors, so that what is logged comes one at a time, in order.
  *
  * With the setting `nested` it is no process's address space but the memory of a guest in the guest, which the guest's KVM maps by nested
- * tables: stores to these are logged, accesses of that guest, and that the task that runs it has left the kernel.
+ * tables: stores to these are logged, accesses of that guest, and that the task that runs it has left the kernel. Two copies of the plugin
+ * watch both at once; with the setting `tag` the lines of one begin with another character than @.
  *
  * Lines, numbers in hexadecimal but for levels, processors and counts:
  *
@@ -40,8 +41,8 @@
 #include <unistd.h>
 
 #define MARKS 0x6e7276730000u /* the page of marks: what the guest stores there is a word to the plugin */
-enum mark { MARK_NEXT = 1, MARK_END = 2, MARK_WHEN_EMPTY = 3, MARK_HERE = 4, MARK_LATER = 0x100 };
-#define NESTED_CODE 0x100000u /* the guest in the guest runs below, and nothing else does */
+enum mark { MARK_NEXT = 1, MARK_END = 2, MARK_WHEN_EMPTY = 3, MARK_HERE = 4, MARK_LATER = 0x100, MARK_CHOSEN = 0x200 };
+#define NESTED_CODE 0x100000u /* the guest in the guest runs below, and no process does */
 #define NESTED_ROOT 0xb0      /* of the page that controls it (AMD's VMCB): the address of its nested tables */
 #define FRAME 0x000ffffffffff000u
 
@@ -57,8 +58,13 @@ EXPORTED int qemu_plugin_version = PLUGIN_VERSION;
 static enum { WAITING, ARMED, WATCHING, ENDED } state;
 static uint64_t space; /* its mm_struct */
 static int ends_when_empty;
-static uint64_t earlier; /* so many address spaces are made before the one that is watched */
+static uint64_t earlier; /* so many address spaces are made before the one that is watched, */
+static int is_later;     /* .. which isn't from its birth on, but from a mark on that comes later */
+static uint64_t chosen;  /* that address space, once it is born; 0: there is none */
 static uint64_t losses;
+
+static qemu_plugin_id_t plugin;
+static int follows; /* code is followed; else, as until the guest asks for it, it runs as without the plugin: so it boots faster */
 
 /* The functions that end with a flush, each from its first instruction to behind its last. */
 static struct {
@@ -82,24 +88,40 @@ static int is_birth(uint64_t address, uint64_t pc)
 	return pc == guest.birth && (!earlier || !earlier--);
 }
 
-/* An address space that is born by a store there, or, where there is none, the one that a processor has loaded: its tables are logged. */
-static void begin(unsigned cpu, uint64_t address)
+/* An address space is watched from here on: its tables are logged. */
+static void begin(uint64_t watched, uint64_t root)
 {
-	uint64_t root;
-
-	space = guest.nested || !address ? guest_loaded(cpu) : address - guest.pgd;
-	guest_enter(space);
-	root = guest.nested ? (guest_word(guest_direct(address)) & FRAME) >> 12 : guest_root();
+	space = watched;
 	seen_begin();
 	state = WATCHING;
 	say("@born %" PRIx64 " %" PRIx64 " %" PRIx64 "\n", space, root, guest.nested ? 0 : root - guest.isolated);
 	tables_begin(root);
 }
 
-/* By the tables that are watched; of nested ones all code of the guest in the guest does. */
+static void begin_process(uint64_t watched)
+{
+	guest_enter(watched);
+	begin(watched, guest_root());
+}
+
+/* An address space is born by a store there. */
+static void born(unsigned cpu, uint64_t address)
+{
+	if (guest.nested) {
+		guest_enter(guest_loaded(cpu));
+		begin(guest_loaded(cpu), (guest_word(guest_direct(address)) & FRAME) >> 12);
+	} else if (is_later) {
+		chosen = address - guest.pgd;
+		state = WAITING;
+	} else {
+		begin_process(address - guest.pgd);
+	}
+}
+
+/* By the tables that are watched: all code of the guest in the guest goes by nested ones, and no other code does. */
 static int is_access(uint64_t pc)
 {
-	return !guest.nested || pc < NESTED_CODE;
+	return (pc < NESTED_CODE) == (guest.nested != 0);
 }
 
 static int is_of_process(unsigned cpu)
@@ -166,6 +188,7 @@ static void kernel_stored(unsigned cpu, uint64_t physical, unsigned bytes, uint6
 static void process_accessed(unsigned cpu, qemu_plugin_meminfo_t info, uint64_t address, uint64_t pc)
 {
 	const struct qemu_plugin_hwaddr *where;
+	uint64_t physical;
 	int is_user = !HIGH_HALF(pc);
 	enum access access = qemu_plugin_mem_is_store(info) ? WRITE : READ;
 
@@ -178,8 +201,11 @@ static void process_accessed(unsigned cpu, qemu_plugin_meminfo_t info, uint64_t 
 	if ((address & 4095) + ((uint64_t)1 << qemu_plugin_mem_size_shift(info)) > 4096 || !seen_is_new(cpu, is_user, access, address))
 		return;
 	where = qemu_plugin_get_hwaddr(info, address);
-	if (where && !qemu_plugin_hwaddr_is_io(where))
-		tell_access(cpu, is_user, access, address, qemu_plugin_hwaddr_phys_addr(where), pc);
+	if (!where || qemu_plugin_hwaddr_is_io(where))
+		return;
+	physical = qemu_plugin_hwaddr_phys_addr(where);
+	if (is_user || physical != address) /* else VMRUN, VMSAVE and the like, whose addresses are physical */
+		tell_access(cpu, is_user, access, address, physical, pc);
 }
 
 static void marked(unsigned cpu, qemu_plugin_meminfo_t info, uint64_t address)
@@ -188,15 +214,16 @@ static void marked(unsigned cpu, qemu_plugin_meminfo_t info, uint64_t address)
 	uint64_t value = where ? guest_word(qemu_plugin_hwaddr_phys_addr(where)) : 0;
 
 	say("@marked %u %" PRIx64 " %" PRIx64 "\n", cpu, guest_task(cpu), value);
-	if ((value == MARK_NEXT || value > MARK_LATER) && state == WAITING) {
+	if ((value == MARK_NEXT || value >= MARK_LATER) && state == WAITING && !chosen) {
 		state = ARMED;
-		earlier = value == MARK_NEXT ? 0 : value - MARK_LATER;
+		is_later = value >= MARK_CHOSEN;
+		earlier = value == MARK_NEXT ? 0 : value & (MARK_LATER - 1);
 	}
-	if (value == MARK_HERE && state == WAITING)
-		begin(cpu, 0);
+	if (value == MARK_HERE && state == WAITING && !guest.nested)
+		begin_process(chosen ? chosen : guest_loaded(cpu));
 	if (value == MARK_WHEN_EMPTY)
 		ends_when_empty = 1;
-	if (value == MARK_END && state == WATCHING && guest_loaded(cpu) == space)
+	if (value == MARK_END && state == WATCHING && (guest_loaded(cpu) == space || chosen))
 		end("marked");
 }
 
@@ -232,7 +259,7 @@ static void on_kernel_memory(unsigned cpu, qemu_plugin_meminfo_t info, uint64_t 
 	int is_store = qemu_plugin_mem_is_store(info);
 
 	if (state == ARMED && is_store && is_birth(address, pc))
-		begin(cpu, address);
+		born(cpu, address);
 	if (state != WATCHING)
 		return;
 	if (pc == guest.leave && is_store) {
@@ -365,6 +392,35 @@ static void on_translate(qemu_plugin_id_t id, struct qemu_plugin_tb *block)
 	}
 }
 
+static void on_reset(qemu_plugin_id_t id)
+{
+	follows = 1;
+	qemu_plugin_register_vcpu_tb_trans_cb(id, on_translate);
+}
+
+/* QEMU drops what it has translated, before the next block runs. It must not have been asked for any access until then: its helpers may
+ * hold on to what was asked of the instruction that ran last, which is dropped too. */
+static void on_asked(unsigned cpu, void *unused)
+{
+	(void)cpu;
+	(void)unused;
+	if (!follows)
+		qemu_plugin_reset(plugin, on_reset);
+}
+
+static void on_translate_at_first(qemu_plugin_id_t id, struct qemu_plugin_tb *block)
+{
+	static const uint8_t asking[] = { 0x0f, 0x1f, 0x84, 0x00, 0x4e, 0x52, 0x56, 0x53 }; /* a nop with an operand that nobody uses */
+	struct qemu_plugin_insn *instruction;
+
+	(void)id;
+	for (size_t k = 0; k < qemu_plugin_tb_n_insns(block); k++) {
+		instruction = qemu_plugin_tb_get_insn(block, k);
+		if (qemu_plugin_insn_size(instruction) == sizeof asking && !memcmp(qemu_plugin_insn_data(instruction), asking, sizeof asking))
+			ask(instruction, on_asked);
+	}
+}
+
 /* ---- what the plugin gets to know ---- */
 
 static const struct {
@@ -383,6 +439,8 @@ static int set(const char *name, const char *value)
 
 	if (!strcmp(name, "memory"))
 		return snprintf(guest.memory, sizeof guest.memory, "%s", value) < (int)sizeof guest.memory;
+	if (!strcmp(name, "tag"))
+		return say_tag(value[0]);
 	if (!strcmp(name, "flusher") && flusher_count < FLUSHERS) {
 		flushers[flusher_count].begin = strtoull(value, &rest, 0);
 		flushers[flusher_count].end = *rest == '-' ? strtoull(rest + 1, NULL, 0) : 0;
@@ -410,6 +468,7 @@ EXPORTED int qemu_plugin_install(qemu_plugin_id_t id, const void *info, int coun
 			return 1;
 		}
 	}
-	qemu_plugin_register_vcpu_tb_trans_cb(id, on_translate);
+	plugin = id;
+	qemu_plugin_register_vcpu_tb_trans_cb(id, on_translate_at_first);
 	return 0;
 }

@@ -1,0 +1,84 @@
+"""Chains that are made of a guest's log, and judged, while the guest runs."""
+import collections
+import subprocess
+from collections.abc import Callable, Iterable
+from dataclasses import dataclass, field
+from typing import BinaryIO, TextIO
+
+import convert
+import explain
+import log_lines
+
+KEPT = 64           # the last segments: a fault is of one that the auditor has read, and a pipe holds few
+
+
+def reads_chains() -> bool:
+    """Whether the program does."""
+    return "--chain" in subprocess.run([explain.program(), "audit", "--help"], stdout=subprocess.PIPE).stdout.decode()
+
+
+@dataclass
+class Chain:
+    """One that is being made: what is recorded of one address space, with its auditor at the other end of a pipe."""
+    slimmer: log_lines.Slimmer
+    converter: convert.Converter
+    audit: subprocess.Popen[bytes]
+    calls: TextIO
+    kept: BinaryIO | None       # a file that gets all of it
+    segments: collections.deque[bytes] = field(default_factory=lambda: collections.deque(maxlen=KEPT))
+    is_read: bool = True        # the auditor reads on: it has found no fault
+    verdict: list[str] = field(default_factory=list)
+
+    def put(self, segment: bytes) -> None:
+        self.segments.append(segment)
+        if self.kept:
+            self.kept.write(segment)
+        try:
+            self.audit.stdin.write(segment)
+            self.audit.stdin.flush()
+        except BrokenPipeError:
+            self.is_read = False
+
+    def take(self, line: str) -> None:
+        if self.is_read:
+            for each in log_lines.parse(self.slimmer.of_line(line)):
+                self.converter.put(each)
+
+    def end(self) -> int:
+        """The last segment, and the auditor's status."""
+        if self.is_read:
+            self.converter.finish()
+            self.converter.end_segment()
+        self.calls.close()
+        if self.kept:
+            self.kept.close()
+        try:
+            self.audit.stdin.close()
+        except BrokenPipeError:
+            pass
+        self.verdict = self.audit.stdout.read().decode().splitlines()
+        return self.audit.wait()
+
+    def segment(self, number: int) -> bytes | None:
+        """One of those that are kept."""
+        at = number - (self.converter.ended - len(self.segments))
+        return self.segments[at] if 0 <= at < len(self.segments) else None
+
+
+def begin(path: str, place: Callable[[int], tuple[str, int]], tag: str, updates: int, keep: bool) -> Chain:
+    """A chain of segments of some so many updates. Who made its calls is written to PATH.calls and, to be kept, its bytes to PATH.chain."""
+    audit = subprocess.Popen([explain.program(), "audit", "--chain", "--quiet"], stdin=subprocess.PIPE, stdout=subprocess.PIPE)
+    converter = convert.Converter(convert.Options(chain=updates))
+    kept = open(f"{path}.chain", "wb") if keep else None
+    chain = Chain(log_lines.Slimmer(place, tag), converter, audit, open(f"{path}.calls", "w"), kept)
+    converter.put_segment, converter.put_calls = chain.put, chain.calls.write
+    return chain
+
+
+def feed(chains: list[Chain], lines: Iterable[str]) -> None:
+    """All lines of a log, until each chain has a fault."""
+    for line in lines:
+        for chain in chains:
+            chain.take(line)
+        if not any(chain.is_read for chain in chains):
+            break
