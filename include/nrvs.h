@@ -26,6 +26,25 @@
  *     map, which may take a frame that the unmap freed. That this is enough depends on what each call is proved to leave as it was
  *     (`kept` of `IsTableStep`): a map changes no word that isn't 0, and moves no table; an unmap clears words on the path of its address
  *     alone, and frees tables of that path alone; a protect changes one word, that of its page.
+ *
+ * What a kernel that runs on these tables has to keep beside (examples/kernel does, under QEMU, and says more):
+ *   - the processor's settings, on which the answers rest: CR0.WP and EFER.NXE are 1. CR4.SMEP, SMAP, PKE and PKS are 0: where one is 1
+ *     the processor refuses more than nrvs_table_access says. CR4.LA57 is 1 where the table has five levels, and 0 where it has four. The
+ *     processor has as many bits of physical address as the frames and pages need: nothing below 2^51 is refused here;
+ *   - XMM registers: the archive is built for x86-64-v2 and moves words by them. So CR0.EM and CR0.TS are 0 and CR4.OSFXSR is 1 before the
+ *     first call, and who calls from a handler, or preempts a call, saves them (FXSAVE; kernel_fpu_begin in Linux);
+ *   - the red zone: a call keeps words within 128 bytes below RSP. So interrupts and faults that may come during a call run on a stack of
+ *     their own (IST), or are off; -mno-red-zone for the kernel's own code changes nothing of that;
+ *   - the stack is aligned to 16 at the call, and has 1 KiB left: some 520 bytes were used at most, as measured;
+ *   - interrupts: a call may be interrupted and go on later; but a handler that may come during a call that changes a table makes no call
+ *     with that handle;
+ *   - flushing: after NRVS_REMOVED and NRVS_CHANGED, invlpg of the page on each processor that may have used it, and under each PCID with
+ *     which it did. An unmap frees emptied tables, and the next map may take them: so all processors have flushed before that map,
+ *     whichever page it is of;
+ *   - the frames that pages map: no call looks whether a page leads to the frames that are lent, or to other memory of the kernel's. Who
+ *     may write such a page writes the tables. Nor does a call know which pages the kernel needs itself: an unmap or a protect of those
+ *     takes effect like any other;
+ *   - linking: the archive asks for memcpy, memset and memmove at most. It has code and constants alone, which run at any address.
  */
 #ifndef NRVS_H
 #define NRVS_H
@@ -67,14 +86,25 @@ struct nrvs_reply {
 	uint64_t number;
 };
 
-/* Sizes of pages. */
-enum { NRVS_4K = 0, NRVS_2M = 1, NRVS_1G = 2 };
+/* Sizes of pages; nrvs_trace.h has the same. */
+#ifndef NRVS_SIZES
+#define NRVS_SIZES
+typedef enum nrvs_size { NRVS_4K = 0, NRVS_2M = 1, NRVS_1G = 2 } nrvs_size;
+#endif
 
-/* Rights, beside a supervisor's read, which is always allowed. */
-enum { NRVS_WRITE = 1, NRVS_USER = 2, NRVS_EXEC = 4 };
+/* Rights, beside a supervisor's read, which is always allowed; the same there. */
+#define NRVS_WRITE 1u
+#define NRVS_USER 2u
+#define NRVS_EXEC 4u
 
-/* Who makes an access, and what it does. */
-enum { NRVS_SUPERVISOR = 0, NRVS_USER_MODE = 1 };
+/* Who makes an access; the same there. */
+#ifndef NRVS_MODES
+#define NRVS_MODES
+typedef enum nrvs_mode { NRVS_SUPERVISOR_MODE = 0, NRVS_USER_MODE = 1 } nrvs_mode;
+#endif
+enum { NRVS_SUPERVISOR = 0 };
+
+/* What it does. */
 enum { NRVS_READ = 0, NRVS_STORE = 1, NRVS_FETCH = 2 };
 
 /* Codes of replies. */
@@ -93,7 +123,9 @@ enum {
 
 /* What a call returns. But for NRVS_OK it has changed nothing, and written no reply. */
 enum {
+#ifndef NRVS_OK /* the 0 of nrvs_trace.h */
 	NRVS_OK = 0,
+#endif
 	NRVS_NO_TABLE = 1,       /* nrvs_table_new never made the handle: it has no magic word, or a number that none has */
 	NRVS_BAD_LEVELS = 2,     /* neither 4 nor 5 */
 	NRVS_BAD_FRAMES = 3,     /* no frame, or more than 4,096; of a handle that was made, another number than it was made with */

@@ -7,8 +7,9 @@
  * many of the order's updates as the replica had applied (crates/nrvs_audit_c/README.md).
  *
  * Any bytes may be judged, and no argument is refused but for what a call can't test, which the caller has to keep:
- *   - pointers are not null, aligned as their types are, and to as many elements as is said, where that is 0 too; none overlaps
- *     another; nobody else writes what they point to, or reads `order` and `finding`, before the call returns;
+ *   - pointers are not null, aligned as their types are, and to as many elements as is said; none overlaps another; nobody else writes
+ *     what they point to, or reads `order` and `finding`, before the call returns. But `order` may be null where `room` is 0, and
+ *     `bytes` where `length` is: this is tested and not proved, since a proof speaks of no null pointer;
  *   - the heap that is linked with the archive does what `rattle_alloc`, `rattle_realloc` and `rattle_dealloc` are said to do below;
  *   - the call is not made from a signal handler, nor in the forked child of a process that has threads.
  * It allocates of that heap, frees all of it before it returns, keeps no pointer, and takes no lock.
@@ -54,13 +55,13 @@ enum {
 
 /* What can be wrong with the bytes. */
 enum {
-	NRVS_TRUNCATED = 1,
-	NRVS_BAD_MAGIC = 2,
-	NRVS_BAD_VERSION = 3,
-	NRVS_BAD_COUNT = 4,
-	NRVS_BAD_EVENT = 5, /* index: the event */
-	NRVS_BAD_FRAME = 6, /* replica; index: the frame of its dump */
-	NRVS_TRAILING = 7
+	NRVS_FORMAT_TRUNCATED = 1,
+	NRVS_FORMAT_MAGIC = 2,
+	NRVS_FORMAT_VERSION = 3,
+	NRVS_FORMAT_COUNT = 4,
+	NRVS_FORMAT_EVENT = 5, /* index: the event */
+	NRVS_FORMAT_FRAME = 6, /* replica; index: the frame of its dump */
+	NRVS_FORMAT_TRAILING = 7
 };
 
 /* A verdict in numbers; what it doesn't name is 0. */
@@ -80,7 +81,8 @@ uint32_t nrvs_audit(const uint8_t *bytes, size_t length, uint32_t *order, size_t
 
 /* The heap. The archive defines none: beside memcpy, memmove, memset and memcmp it asks whoever links it for these three functions. The
  * toolchain's liblibc_c.a has them over `malloc`, `realloc` and `free`, which are to be those of one allocator that aligns a block to
- * each power of two up to 16 that divides its size; a program may define its own in place of it.
+ * each power of two up to 16 that divides its size; a program may define its own in place of it, as examples/python/heap.c does in some
+ * lines. A call frees by `rattle_dealloc` each block that it took, whether it answers or runs out of memory.
  */
 
 /* A block: whether there is memory for it, and where. `at` isn't null, also where there is none. */

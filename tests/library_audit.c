@@ -1,5 +1,6 @@
 /* The audit for C, on traces whose verdicts are known from elsewhere: each fault and what it names, orders with and without room for
- * them, and each growth of memory refused in turn. Run from the top of the repository; linked with --wrap of malloc and realloc.
+ * them, and with no array, and each growth of memory refused in turn. Run from the top of the repository; linked with --wrap of malloc
+ * and realloc.
  */
 #include "nrvs_audit.h"
 
@@ -62,12 +63,12 @@ static const struct known KNOWN[] = {
 	{"tests/cases/read_before_and_after/input", 0, 0, 0, 0, 0, 3, {2, 0, 1}},
 	{"tests/cases/protect_changes_rights/input", 0, 0, 0, 0, 0, 4, {0, 2, 4, 6}},
 	{"tests/cases/five_levels_high_half/input", 0, 0, 0, 0, 0, 1, {0}},
-	{"tests/cases/malformed_without_the_last_byte/input", NRVS_FORMAT, NRVS_TRUNCATED, 0, 0, 0, 0, {0}},
-	{"tests/cases/malformed_magic/input", NRVS_FORMAT, NRVS_BAD_MAGIC, 0, 0, 0, 0, {0}},
-	{"tests/cases/malformed_version_3/input", NRVS_FORMAT, NRVS_BAD_VERSION, 0, 0, 0, 0, {0}},
-	{"tests/cases/malformed_log_length/input", NRVS_FORMAT, NRVS_BAD_COUNT, 0, 0, 0, 0, {0}},
-	{"tests/cases/malformed_access_3/input", NRVS_FORMAT, NRVS_BAD_EVENT, 2, 0, 0, 0, {0}},
-	{"tests/cases/malformed_with_a_byte_more/input", NRVS_FORMAT, NRVS_TRAILING, 0, 0, 0, 0, {0}},
+	{"tests/cases/malformed_without_the_last_byte/input", NRVS_FORMAT, NRVS_FORMAT_TRUNCATED, 0, 0, 0, 0, {0}},
+	{"tests/cases/malformed_magic/input", NRVS_FORMAT, NRVS_FORMAT_MAGIC, 0, 0, 0, 0, {0}},
+	{"tests/cases/malformed_version_3/input", NRVS_FORMAT, NRVS_FORMAT_VERSION, 0, 0, 0, 0, {0}},
+	{"tests/cases/malformed_log_length/input", NRVS_FORMAT, NRVS_FORMAT_COUNT, 0, 0, 0, 0, {0}},
+	{"tests/cases/malformed_access_3/input", NRVS_FORMAT, NRVS_FORMAT_EVENT, 2, 0, 0, 0, {0}},
+	{"tests/cases/malformed_with_a_byte_more/input", NRVS_FORMAT, NRVS_FORMAT_TRAILING, 0, 0, 0, 0, {0}},
 	{"tests/cases/one_fault_thread_open/input", NRVS_THREAD_OPEN, 0, 1, 0, 0, 0, {0}},
 	{"tests/cases/one_fault_no_such_call/input", NRVS_NO_SUCH_CALL, 0, 3, 0, 0, 0, {0}},
 	{"tests/cases/one_fault_answered_twice/input", NRVS_ANSWERED_TWICE, 0, 3, 0, 0, 0, {0}},
@@ -128,6 +129,16 @@ static void tells(const struct known *k, struct bytes b, size_t room)
 		is(order[i], i < written ? k->order[i] : (uint32_t)UNTOUCHED, k->trace, "order");
 }
 
+/* The same verdict comes where no order is wanted and there is no array. */
+static void tells_without_array(const struct known *k, struct bytes b)
+{
+	struct nrvs_finding f;
+	memset(&f, 0x55, sizeof f);
+	is(nrvs_audit(b.at, b.length, NULL, 0, &f), k->fault ? NRVS_WRONG : NRVS_RIGHT, k->trace, "status without an array");
+	is(f.fault, k->fault, k->trace, "fault without an array");
+	is(f.calls, k->calls, k->trace, "calls without an array");
+}
+
 /* Each growth of memory is refused in turn, until none is: what was there stays, and the next call answers. */
 static void refuses(const struct known *k, struct bytes b)
 {
@@ -154,11 +165,20 @@ static void refuses(const struct known *k, struct bytes b)
 /* The number of the second frame of the dump of a trace does not rise. */
 static void bad_frame(void)
 {
-	static const struct known k = {"a second frame of number 0", NRVS_FORMAT, NRVS_BAD_FRAME, 1, 0, 0, 0, {0}};
+	static const struct known k = {"a second frame of number 0", NRVS_FORMAT, NRVS_FORMAT_FRAME, 1, 0, 0, 0, {0}};
 	struct bytes b = bytes_of("examples/map_then_resolve.trace");
 	memset(b.at + 20 + 4 + 4 * 24 + 16 + 4104, 0, 8);
 	tells(&k, b, MOST);
 	free(b.at);
+}
+
+/* No bytes at all, with no array of them. */
+static void no_bytes(void)
+{
+	static const struct known k = {"no bytes", NRVS_FORMAT, NRVS_FORMAT_TRUNCATED, 0, 0, 0, 0, {0}};
+	static const struct bytes none = {NULL, 0};
+	tells(&k, none, MOST);
+	tells_without_array(&k, none);
 }
 
 int main(void)
@@ -168,10 +188,12 @@ int main(void)
 		struct bytes b = bytes_of(KNOWN[i].trace);
 		for (room = 0; room <= ROOM; room++)
 			tells(&KNOWN[i], b, room);
+		tells_without_array(&KNOWN[i], b);
 		refuses(&KNOWN[i], b);
 		free(b.at);
 	}
 	bad_frame();
+	no_bytes();
 	is(refusals > sizeof KNOWN / sizeof *KNOWN, 1, "all traces", "some refusals");
 	printf("%d passed, %d failed\n", passed, failed);
 	return failed != 0;

@@ -23,7 +23,7 @@
 //! let mut frames = vec![Frame::ZERO; 16];
 //! let mut marks = [Mark::default(); 16];
 //! let table = PageTable::new(Depth::Four, 0, &mut frames, &mut marks).unwrap();
-//! let first = frames[0].0[0]; // lent
+//! let first = frames[0].word(0); // lent
 //! table.tables();
 //! ```
 //!

@@ -1,4 +1,5 @@
 //! Pages, and the memory in which tables are.
+use core::sync::atomic::{AtomicU64, Ordering};
 
 /// How many levels of tables a translation goes through.
 #[derive(Clone, Copy, Debug, PartialEq, Eq)]
@@ -104,14 +105,54 @@ pub enum Access {
     Fetch = 2,
 }
 
-/// A frame: the 512 words of a table, aligned as a processor wants it.
-#[derive(Clone, Copy, Debug)]
+/// A frame: the 512 words of a table, aligned as a processor wants it. They are atomic, since a processor that walks a table sets flags
+/// in it by itself, whatever references there are.
+#[derive(Debug)]
 #[repr(C, align(4096))]
-pub struct Frame(pub [u64; 512]);
+pub struct Frame([AtomicU64; 512]);
 
 impl Frame {
     /// A frame of zeros. Frames that are lent may have any content.
-    pub const ZERO: Frame = Frame([0; 512]);
+    pub const ZERO: Frame = Frame([const { AtomicU64::new(0) }; 512]);
+
+    /// The word at an index below 512, as it is now, with the flags that a processor has set.
+    pub fn word(&self, index: usize) -> u64 {
+        self.0[index].load(Ordering::Relaxed)
+    }
+
+    /// All words, one after the other: each as it is when it is read.
+    pub fn words(&self) -> [u64; 512] {
+        core::array::from_fn(|index| self.word(index))
+    }
+
+    /// Clears the flags of the word at an index below 512, where that is present, and gives the word as it was.
+    pub(crate) fn clear_flags(&self, index: usize) -> u64 {
+        let cleared = |word| (word & PRESENT != 0).then_some(word & !(ACCESSED | DIRTY));
+        match self.0[index].fetch_update(Ordering::SeqCst, Ordering::Relaxed, cleared) {
+            Ok(was) | Err(was) => was,
+        }
+    }
+}
+
+/// The bit of an entry that says that there is one.
+const PRESENT: u64 = 1;
+
+/// The flag that a processor sets in each entry that it uses.
+const ACCESSED: u64 = 1 << 5;
+
+/// The flag that it sets in the entry of a page that it writes to.
+const DIRTY: u64 = 1 << 6;
+
+impl From<[u64; 512]> for Frame {
+    fn from(words: [u64; 512]) -> Frame {
+        Frame(words.map(AtomicU64::new))
+    }
+}
+
+impl Clone for Frame {
+    fn clone(&self) -> Frame {
+        Frame::from(self.words())
+    }
 }
 
 /// What the library keeps of a frame. It may have any content when it is lent.

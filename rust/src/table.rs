@@ -6,11 +6,13 @@ use crate::page::{Access, Depth, Frame, Mapping, Mark, Mode, Page, Rights, Size}
 /// A page table in frames that are lent to it. As it ends, the frames keep what is then in them.
 ///
 /// Frame number `base + i` is `frames[i]`: where the first frame lies at the physical address `base * 4096`, a processor walks the
-/// table from `root() * 4096` in CR3.
+/// table from `root() * 4096` in CR3, and may set its flags there between calls, and while calls run that only ask (what is said of a
+/// call during which a flag is set is in include/nrvs.h).
 #[derive(Debug)]
 pub struct PageTable<'a> {
     handle: ffi::Table,
-    frames: &'a mut [Frame],
+    /// Lent to this table alone; but a processor writes them, so that no `&mut` to them is kept.
+    frames: &'a [Frame],
     marks: &'a mut [Mark],
 }
 
@@ -60,6 +62,13 @@ impl<'a> PageTable<'a> {
     /// The frames as they are.
     pub fn frames(&self) -> &[Frame] {
         self.frames
+    }
+
+    /// Clears the accessed and the dirty flag (bits 5 and 6) of a word that is present, and gives the word as it was: the word at an index
+    /// below 512, of the frame at an index of `frames()`. No flag that a processor sets meanwhile is lost. What the processor keeps has
+    /// to be invalidated before it sets a flag again that it has set once.
+    pub fn clear_flags(&mut self, frame: usize, index: usize) -> u64 {
+        self.frames[frame].clear_flags(index)
     }
 
     /// Maps a page. No translation that was there changes.
@@ -224,9 +233,10 @@ impl<'a> PageTable<'a> {
         run: impl FnOnce(*mut ffi::Table, *mut Frame, usize, *mut Mark, usize, *mut Reply) -> u32,
     ) -> Result<Reply, BadRequest> {
         let mut reply = Reply::default();
+        // The frames are lent to this table alone, and their words may be written behind a `&`, since they are atomic.
         let status = run(
             &mut self.handle,
-            self.frames.as_mut_ptr(),
+            self.frames.as_ptr().cast_mut(),
             self.frames.len(),
             self.marks.as_mut_ptr(),
             self.marks.len(),

@@ -3,6 +3,7 @@ use nrvs::{
     Access, AccessError, BadMemory, BadRequest, ChangeError, Depth, Frame, MapError, Mapping, Mark,
     Mode, Page, PageTable, Rights, Size,
 };
+use std::sync::atomic::{AtomicU64, Ordering};
 
 const GIB: u64 = 1 << 30;
 const NONE: Rights = Rights {
@@ -15,7 +16,7 @@ const WRITE: Rights = Rights {
     ..NONE
 };
 const EXEC: Rights = Rights { exec: true, ..NONE };
-const DIRTY: Frame = Frame([0xABAB_ABAB_ABAB_ABAB; 512]);
+const ANY: u64 = 0xABAB_ABAB_ABAB_ABAB;
 
 fn page(base: u64, size: Size, phys: u64, rights: Rights) -> Page {
     Page {
@@ -26,12 +27,17 @@ fn page(base: u64, size: Size, phys: u64, rights: Rights) -> Page {
     }
 }
 
+/// Frames that had some use before.
+fn frames_of_any(count: usize) -> Vec<Frame> {
+    vec![Frame::from([ANY; 512]); count]
+}
+
 /// The word at the end of the path to an address, as a processor walks it.
 fn walk(table: &PageTable, depth: Depth, base: u64, address: u64) -> u64 {
     let (mut number, mut word) = (table.root(), 0);
     for level in (1..=depth as u32).rev() {
-        word =
-            table.frames()[(number - base) as usize].0[(address >> (3 + 9 * level) & 511) as usize];
+        word = table.frames()[(number - base) as usize]
+            .word((address >> (3 + 9 * level) & 511) as usize);
         if word & 1 == 0 || (level < 4 && level > 1 && word & 128 != 0) {
             return word;
         }
@@ -43,7 +49,7 @@ fn walk(table: &PageTable, depth: Depth, base: u64, address: u64) -> u64 {
 #[test]
 fn memory_that_cannot_be_lent() {
     let new = |base, frames: usize, marks: usize| {
-        let (mut frames, mut marks) = (vec![DIRTY; frames], vec![Mark::default(); marks]);
+        let (mut frames, mut marks) = (frames_of_any(frames), vec![Mark::default(); marks]);
         PageTable::new(Depth::Four, base, &mut frames, &mut marks).map(|table| table.root())
     };
     assert_eq!(new(0, 0, 8), Err(BadMemory::Frames));
@@ -57,7 +63,7 @@ fn memory_that_cannot_be_lent() {
 
 #[test]
 fn requests_that_are_refused() {
-    let (mut frames, mut marks) = (vec![DIRTY; 8], [Mark::default(); 8]);
+    let (mut frames, mut marks) = (frames_of_any(8), [Mark::default(); 8]);
     let mut table = PageTable::new(Depth::Four, 0, &mut frames, &mut marks).unwrap();
     let bad = |bad| Err(MapError::Refused(bad));
     assert_eq!(
@@ -97,7 +103,7 @@ fn requests_that_are_refused() {
 }
 
 fn answers(depth: Depth) {
-    let (mut frames, mut marks) = (vec![DIRTY; 16], [Mark::default(); 16]);
+    let (mut frames, mut marks) = (frames_of_any(16), [Mark::default(); 16]);
     let mut table = PageTable::new(depth, 1000, &mut frames, &mut marks).unwrap();
     let user = Rights {
         user: true,
@@ -179,7 +185,7 @@ fn answers_at_five_levels() {
 
 #[test]
 fn frames_run_out_and_come_back() {
-    let (mut frames, mut marks) = (vec![DIRTY; 32], [Mark::default(); 32]);
+    let (mut frames, mut marks) = (frames_of_any(32), [Mark::default(); 32]);
     let mut table = PageTable::new(Depth::Four, 0, &mut frames, &mut marks).unwrap();
     for _ in 0..2 {
         for i in 0..15 {
@@ -198,7 +204,7 @@ fn frames_run_out_and_come_back() {
 
 #[test]
 fn threads_ask_at_once() {
-    let (mut frames, mut marks) = (vec![DIRTY; 32], [Mark::default(); 32]);
+    let (mut frames, mut marks) = (frames_of_any(32), [Mark::default(); 32]);
     let mut table = PageTable::new(Depth::Four, 7, &mut frames, &mut marks).unwrap();
     for i in 0..8 {
         assert_eq!(table.map(page(i << 30, Size::K4, i << 12, WRITE)), Ok(()));
@@ -220,14 +226,43 @@ fn threads_ask_at_once() {
     });
 }
 
+/// Sets flags in a word, as a processor does that walks by it.
+fn set_flags(table: &PageTable, frame: usize, index: usize, flags: u64) {
+    let word = std::ptr::from_ref(&table.frames()[frame]).cast::<AtomicU64>();
+    // SAFETY: a frame is 512 such words.
+    unsafe { (*word.add(index)).fetch_or(flags, Ordering::SeqCst) };
+}
+
+#[test]
+fn a_processor_sets_flags() {
+    let (mut frames, mut marks) = (frames_of_any(4), [Mark::default(); 4]);
+    let mut table = PageTable::new(Depth::Four, 0, &mut frames, &mut marks).unwrap();
+    table.map(page(0x1000, Size::K4, 0x7000, WRITE)).unwrap();
+    for level in 0..4 {
+        set_flags(&table, level, usize::from(level == 3), 0x60);
+    }
+    assert_eq!(table.frames()[3].word(1), 0x8000_0000_0000_7063);
+    assert_eq!(table.frames()[3].words()[1], 0x8000_0000_0000_7063);
+    assert_eq!(
+        table.access(0x1008, Mode::Supervisor, Access::Write),
+        Ok(0x7008)
+    );
+    assert_eq!(table.clear_flags(3, 1), 0x8000_0000_0000_7063);
+    assert_eq!(table.frames()[3].word(1), 0x8000_0000_0000_7003);
+    assert_eq!(table.clear_flags(3, 0), 0);
+    set_flags(&table, 3, 1, 0x20);
+    assert_eq!(table.unmap(0x1000).map(|had| had.phys), Ok(0x7000));
+    assert_eq!(table.tables(), 1);
+}
+
 #[test]
 fn the_memory_comes_back() {
-    let (mut frames, mut marks) = (vec![DIRTY; 4], [Mark::default(); 4]);
+    let (mut frames, mut marks) = (frames_of_any(4), [Mark::default(); 4]);
     {
         let mut table = PageTable::new(Depth::Four, 0, &mut frames, &mut marks).unwrap();
         table.map(page(0, Size::G1, 0, WRITE)).unwrap();
     }
-    assert_eq!(frames[0].0[0], 0x1007);
-    assert_eq!(frames[1].0[0], 0x8000_0000_0000_0083);
-    assert_eq!(frames[3].0[0], DIRTY.0[0]);
+    assert_eq!(frames[0].word(0), 0x1007);
+    assert_eq!(frames[1].word(0), 0x8000_0000_0000_0083);
+    assert_eq!(frames[3].word(0), ANY);
 }
